@@ -1,0 +1,5 @@
+pub mod Numbers
+pub mod Spelled
+pub mod Edges
+pub mod Accepted
+pub mod Band

@@ -1,0 +1,15 @@
+-- The bounds of an accepted observation, in natural numbers.
+use Rattle.std.specs.Prelude.{◌+◌, ◌*◌, ◌^◌, ◌<◌, ◌≤◌}
+use Rattle.dada_model.specs.Observation.{Observation}
+
+pub record IsInRange (o : Observation) : Type 0 where
+  pub few_channels : 2 ≤ o.channels
+  pub many_channels : o.channels ≤ 4096
+  pub short_sample : 1 ≤ o.sample_ns
+  pub long_sample : o.sample_ns ≤ 2 ^ 30
+  pub low_centre : 1000 ≤ o.centre_hz
+  pub high_centre : o.centre_hz ≤ 16000000000
+  pub foot : o.width_hz + 2000 ≤ 2 * o.centre_hz
+  pub top : 2 * o.centre_hz + o.width_hz < 2000 * 16777217
+  pub wide : 1000 * o.channels ≤ o.width_hz
+  pub early : o.obs_offset ≤ 10 ^ 15

@@ -1,0 +1,6 @@
+pub mod Number
+pub mod Fields
+pub mod Observation
+pub mod Bounds
+pub mod Laws
+pub mod Worked

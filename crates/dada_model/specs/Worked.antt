@@ -1,0 +1,58 @@
+-- Worked values of the definitions, computed.
+use Rattle.std.specs.Prelude.{◌≡◌, ℕ, true, List, [], ◌∷◌, ◌++◌, Some, None, Ok, pos, neg_ℤ, codes, refl}
+use Rattle.dada_model.specs.Number.{number_value}
+use Rattle.dada_model.specs.Fields.{Field, fields_of, value_of}
+use Rattle.dada_model.specs.Observation.{Observation, signed_edge, edge, edges, dispersion_span, dm, observation_of, observation_in, number_of, refusal_at, refusals}
+
+minus_two_hundred : number_value 6 (codes "-200") ≡ Some (neg_ℤ (pos 200000000))
+unfolding number_value
+minus_two_hundred = refl
+
+half : number_value 3 (codes ".5") ≡ Some (pos 500)
+unfolding number_value
+half = refl
+
+exponent : number_value 3 (codes "6.4e1") ≡ None
+unfolding number_value
+exponent = refl
+
+abbrev lines : List (List ℕ) → List ℕ
+lines [] = []
+lines (line ∷ more) = line ++ (10 ∷ lines more)
+
+-- a comment, a repeated key, a keyword alone
+small : List ℕ
+small = lines (codes "# a header" ∷ codes "NCHAN 2 channels" ∷ codes "BW" ∷ codes "  NCHAN  3#4" ∷ [])
+
+small_fields : fields_of small ≡ record { keyword = codes "NCHAN"; value = codes "2" } ∷ record { keyword = codes "NCHAN"; value = codes "3" } ∷ []
+unfolding fields_of small
+small_fields = refl
+
+small_value : value_of (codes "NCHAN") (fields_of small) ≡ Some (codes "2")
+unfolding fields_of value_of small
+small_value = refl
+
+fields : List Field
+fields = fields_of (lines (codes "HDR_SIZE 4096" ∷ codes "NCHAN 2" ∷ codes "NBIT 8" ∷ codes "TSAMP 64" ∷ codes "FREQ 1400" ∷ codes "BW -200" ∷ []))
+
+abbrev two_channels : Observation
+two_channels = record { channels = 2; sample_ns = 64000; centre_hz = 1400000000; width_hz = 200000000; is_falling = true; obs_offset = 0 }
+
+accepted : observation_of fields ≡ Ok two_channels
+unfolding fields fields_of value_of number_value number_of observation_in signed_edge edge refusal_at refusals observation_of
+accepted = refl
+
+three_edges : edges two_channels ≡ 1500000 ∷ 1400000 ∷ 1300000 ∷ []
+unfolding edges edge signed_edge
+three_edges = refl
+
+dm_of_one : dm two_channels 1 ≡ 104
+unfolding dm dispersion_span edge signed_edge
+dm_of_one = refl
+
+abbrev thousand_channels : Observation
+thousand_channels = record { channels = 1024; sample_ns = 64000; centre_hz = 1382000000; width_hz = 400000000; is_falling = true; obs_offset = 0 }
+
+dm_of_many : dm thousand_channels 512 ≡ 24975
+unfolding dm dispersion_span edge signed_edge
+dm_of_many = refl

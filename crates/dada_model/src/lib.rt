@@ -1,0 +1,11 @@
+//! What a header in the DADA form says: number texts, header fields, and the observation of a header.
+//! The definitions are in `specs/`: `Number`, `Fields`, `Observation`, `Bounds`, and laws about them in `Laws`.
+#![tactic(auto)]
+
+mod key;
+mod laws;
+mod number;
+
+pub use key::Key;
+pub use laws::{dispersion_fits, edges_fall, numbers_are_spelled};
+pub use number::{negative_number, whole_number};

@@ -1,0 +1,6 @@
+pub mod Worked
+pub mod Ranges
+pub mod Splits
+pub mod Paths
+pub mod Cells
+pub mod Detection

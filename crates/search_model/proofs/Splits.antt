@@ -1,0 +1,33 @@
+-- Bounds on the split of a delay.
+use Rattle.std.proofs.Common.{◌≡◌, ℕ, ◌+◌, ◌-◌, ◌*◌, ◌/◌, ◌≤◌, ◌<◌, arith}
+use Rattle.std.proofs.lemmas.Nat.{mul-le, div_below}
+use Rattle.search_model.specs.Paths.{split, square}
+
+pub square_below : (a b : ℕ) → a < b → square a < square b
+square_below a b h = omega (arith, mul-le (a + 1) (a + 1) b b (omega arith) (omega arith))
+
+-- of numbers x + y + l > y + l > l, the two products that a split compares
+products : (x y l : ℕ) → 0 < x → 0 < y → x * l < (x + y) * (y + l)
+products x y l px py = omega (arith, mul-le 1 1 x y px py)
+
+-- a split's numerator is below its denominator
+pub part_below : (high mid low : ℕ) → low < mid → mid < high →
+    (square high - square mid) * square low < (square high - square low) * square mid
+part_below high mid low lm mh =
+    let b1 = square_below low mid lm in
+    let b2 = square_below mid high mh in
+    let p = products (square high - square mid) (square mid - square low) (square low) (omega arith) (omega arith) in
+    let e1 : square high - square mid + (square mid - square low) ≡ square high - square low = omega arith in
+    let e2 : square mid - square low + square low ≡ square mid = omega arith in
+    rw e1 at (rw e2 at p)
+
+-- a part p / q of d, with p below q, rounded to the nearest number, is at most d
+pub rounded : (p q d : ℕ) → p < q → (2 * d * p + q) / (2 * q) ≤ d
+rounded p q d h =
+    let more : 2 * d * p + q < (d + 1) * (2 * q) = omega (arith, mul-le d p d q (omega arith) (omega arith)) in
+    let small : (2 * d * p + q) / (2 * q) < d + 1 = div_below (2 * d * p + q) (2 * q) (d + 1) (omega arith) more in
+    omega arith
+
+-- the upper half gets no more than the delay
+pub split_le : (high mid low d : ℕ) → low < mid → mid < high → split high mid low d ≤ d
+split_le high mid low d lm mh = rounded _ _ d (part_below high mid low lm mh)

@@ -1,0 +1,10 @@
+pub mod Samples
+pub mod Paths
+pub mod Sums
+pub mod Folds
+pub mod Detection
+pub mod Search
+pub mod Candidates
+pub mod CandidateText
+pub mod Plan
+pub mod Laws

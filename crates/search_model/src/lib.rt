@@ -1,0 +1,25 @@
+//! Definitions of what a search prints: samples, delay paths, sums, folds, detection, the candidates and their text.
+//! They stand in `specs/`. The functions here carry laws about them and do nothing else.
+#![tactic(auto)]
+
+ghost use Rattle.search_model.specs.Laws.{HasOnePath, PathsRise, CellsAreCounted, TestsDetection};
+
+/// The delay path of the definition exists and is the only one.
+pub fn has_one_path()
+    ensures { HasOnePath }
+{}
+
+/// A pulse passes no channel before the one above it.
+pub fn paths_rise()
+    ensures { PathsRise }
+{}
+
+/// How many cells a path sum adds.
+pub fn cells_are_counted()
+    ensures { CellsAreCounted }
+{}
+
+/// The test of the candidate list is the detection rule.
+pub fn tests_detection()
+    ensures { TestsDetection }
+{}
