@@ -1,0 +1,96 @@
+-- From what the objects in memory answer exactly to what their traits say.
+use Rattle.std.proofs.Common.{◌≡◌, ℕ, ◌-◌, ◌≤◌, ◌<◌, List, [], ◌∷◌, ◌++◌, length, take, Option, Some, None, Result, Ok, Err, IfOk, OnOk, OnErr, IsSome, unwrap_or, ap, sym, subst, refl, ◌∙◌, arith}
+use Rattle.std.specs.Prelude.{Contains}
+use Rattle.std.specs.Option.{option_map, ForSome}
+use Rattle.std.proofs.lemmas.List.{take_all}
+use Rattle.psr_base.specs.Count.{CallCount, FailsNext, Rose, after_call, after_fault}
+use Rattle.psr_base.specs.Told.{Told, Reading, opened, moved_by, GivesNext}
+use Rattle.psr_base.specs.Written.{room_after}
+use Rattle.psr_base.specs.NamedFiles.{bytes_in, reading_of}
+use Rattle.psr_base.specs.InMemory.{room_where}
+use Rattle.psr_base.specs.declared.mem_inputs.MemFile.{MemFile}
+use Rattle.psr_base.specs.declared.mem_inputs.OpenFile.{OpenFile}
+
+-- an empty list contains nothing
+pub empty_contains : (n : ℕ) → Contains [] n → ⊥
+empty_contains n h = let lt : h.0 < 0 = h.1 in omega arith
+
+-- what was taken whole was written
+pub written_whole : {E : Type 0} (r : Result ℕ E) (old new bytes : List ℕ) → IfOk r (λ n. n ≡ length bytes) → OnOk r (new ≡ old ++ bytes) → IfOk r (λ n. Some new ≡ Some (old ++ take n bytes))
+written_whole (Ok n) old new bytes whole e = ap Some (e ∙ ap (λ (t : List ℕ). old ++ t) (sym (take_all n bytes (omega (arith, whole)))))
+written_whole (Err x) old new bytes whole e = tt
+
+-- the room that is told falls by what was taken
+pub room_where-taken : {E : Type 0} (r : Result ℕ E) (fail fail' : List ℕ) (room room' len : ℕ) → fail' ≡ fail → IfOk r (λ n. n ≡ len) → OnOk r (room' ≡ room - len) → IfOk r (λ n. room_where fail' room' ≡ room_after n (room_where fail room))
+room_where-taken (Ok n) fail fail' room room' len same whole falls = ap (λ (f : List ℕ). room_where f room') same ∙ by_fail fail
+  where
+    by_fail : (f : List ℕ) → room_where f room' ≡ room_after n (room_where f room)
+    by_fail [] = ap Some (omega (arith, whole, falls))
+    by_fail (x ∷ f) = refl
+room_where-taken (Err x) fail fail' room room' len same whole falls = tt
+
+-- the room that is told stays
+pub room_where-stays : {E : Type 0} (r : Result ℕ E) (fail fail' : List ℕ) (room room' : ℕ) → fail' ≡ fail → OnErr r (room' ≡ room) → OnErr r (room_where fail' room' ≡ room_where fail room)
+room_where-stays (Ok n) fail fail' room room' same stays = tt
+room_where-stays (Err x) fail fail' room room' same stays = ap (λ (f : List ℕ). room_where f room') same ∙ ap (room_where fail) stays
+
+-- where room is told, a piece that it holds is taken
+pub room_where-serves : {A : Type 0} (fail : List ℕ) (room number len x : ℕ) → ((len ≤ room) × ((Contains fail number) → ⊥) → A) → room_where fail room ≡ Some x → len ≤ x → A
+room_where-serves [] room number len x serves told fits = let same : room ≡ x = cc in serves (omega arith, empty_contains number)
+room_where-serves (n ∷ fail) room number len x serves told fits = absurd cc
+
+-- a failed call is counted
+pub Rose-failed : {T E : Type 0} (r : Result T E) (old new : CallCount) → OnErr r (new ≡ after_fault old) → OnErr r (Rose old.faults new.faults)
+Rose-failed (Ok x) old new failed = tt
+Rose-failed (Err x) old new failed = omega (arith, ap (λ (c : CallCount). c.faults) failed)
+
+-- which calls are to fail never changes
+pub fail-stays : {T E : Type 0} (r : Result T E) (old new : CallCount) → OnOk r (new ≡ after_call old) → OnErr r (new ≡ after_fault old) → new.fail ≡ old.fail
+fail-stays (Ok x) old new called failed = ap (λ (c : CallCount). c.fail) called
+fail-stays (Err x) old new called failed = ap (λ (c : CallCount). c.fail) failed
+
+-- an object that has no call to fail answers
+pub calm-serves : {A : Type 0} (calls : CallCount) → (((FailsNext calls) → ⊥) → A) → calls.fail ≡ [] → A
+calm-serves calls serves calm = serves (λ h. empty_contains calls.number (subst (λ (fail : List ℕ). Contains fail calls.number) calm h))
+
+-- the bytes under the names stay when a name is opened
+pub names-opened : {T E : Type 0} (r : Result T E) (name : List ℕ) (old new : Told) → OnOk r (new ≡ opened name old) → OnErr r (new ≡ old) → new.bytes_under ≡ old.bytes_under
+names-opened (Ok x) name old new ok err = ap (λ (t : Told). t.bytes_under) ok
+names-opened (Err x) name old new ok err = ap (λ (t : Told). t.bytes_under) err
+
+-- where a file is told, there is one
+IsSome-from_map : {A B : Type 0} (f : A → B) (o : Option A) (y : B) → option_map f o ≡ Some y → IsSome o
+IsSome-from_map f None y h = absurd cc
+IsSome-from_map f (Some x) y h = refl
+
+-- what files in memory tell
+abbrev told_by : List MemFile → Option OpenFile → Told
+told_by files reading = record { bytes_under = bytes_in files; reading = reading_of files reading }
+
+is_open-from_told : (files : List MemFile) (reading : Option OpenFile) (told : Told) (file : Reading) → told_by files reading ≡ told → told.reading ≡ Some file → IsSome reading
+is_open-from_told files reading told file same known = IsSome-from_map _ reading file (ap (λ (t : Told). t.reading) same ∙ known)
+
+-- a name that is told to be open is open
+pub is_open-opened : {T E : Type 0} (r : Result T E) (files : List MemFile) (reading : Option OpenFile) (name : List ℕ) (old : Told) → OnOk r (told_by files reading ≡ opened name old) → OnOk r (IsSome reading)
+is_open-opened (Ok x) files reading name old ok = is_open-from_told files reading (opened name old) _ ok refl
+is_open-opened (Err x) files reading name old ok = tt
+
+pub still_open : {T E : Type 0} (r : Result T E) (files files' : List MemFile) (reading reading' : Option OpenFile) → OnErr r (told_by files' reading' ≡ told_by files reading) → OnErr r (IsSome reading → IsSome reading')
+still_open (Ok x) files files' reading reading' err = tt
+still_open (Err x) files files' None reading' err = λ some. absurd cc
+still_open (Err x) files files' (Some file) reading' err = λ some. is_open-from_told files' reading' (told_by files (Some file)) _ err refl
+
+pub is_open-moved : {E : Type 0} (r : Result ℕ E) (files files' : List MemFile) (reading reading' : Option OpenFile) → IfOk r (λ n. told_by files' reading' ≡ moved_by n (told_by files reading)) → OnErr r (told_by files' reading' ≡ told_by files reading) → IsSome reading → IsSome reading'
+is_open-moved r files files' None reading' ok err some = absurd cc
+is_open-moved (Ok n) files files' (Some file) reading' ok err some = is_open-from_told files' reading' (moved_by n (told_by files (Some file))) _ ok refl
+is_open-moved (Err x) files files' (Some file) reading' ok err some = is_open-from_told files' reading' (told_by files (Some file)) _ err refl
+
+-- what holds of all bytes holds where they are told
+pub opened-told : {T E A : Type 0} (r : Result T E) (o : Option A) (P : Type 0) → OnOk r P → OnOk r (ForSome o (λ _. P))
+opened-told (Ok x) o P p = λ y known. p
+opened-told (Err x) o P p = tt
+
+-- the next bytes of what is told are the next bytes
+pub GivesNext-told : {E : Type 0} (r : Result ℕ E) (left : Option (List ℕ)) (buffer : List ℕ) → IfOk r (λ n. GivesNext (unwrap_or left []) n buffer) → IfOk r (λ n. ForSome left (λ bytes. GivesNext bytes n buffer))
+GivesNext-told (Ok n) left buffer next = λ bytes known. subst (λ (o : Option (List ℕ)). GivesNext (unwrap_or o []) n buffer) known next
+GivesNext-told (Err x) left buffer next = tt

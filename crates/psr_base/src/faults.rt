@@ -1,0 +1,22 @@
+// Answers that name a refusal and carry nothing else.
+use std::alloc::{AllocError, AllocFailed};
+
+/// An outside object failed. Its count of faults tells that it did.
+#[derive(Clone, Copy, Debug, PartialEq, Eq)]
+pub struct Failed;
+
+/// There was no memory.
+#[derive(Clone, Copy, Debug, PartialEq, Eq)]
+pub struct Memory;
+
+impl From<AllocError> for Memory {
+    fn from(_e: AllocError) -> Memory {
+        Memory
+    }
+}
+
+impl<T: Drop> From<AllocFailed<T>> for Memory {
+    fn from(_e: AllocFailed<T>) -> Memory {
+        Memory
+    }
+}

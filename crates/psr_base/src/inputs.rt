@@ -1,0 +1,59 @@
+// What a search reads from.
+ghost use Rattle.std.specs.Prelude.{◌≡◌, ◌≤◌, ◌<◌, ℕ, length, Ok, IfOk, OnOk, OnErr, IsOk, IsSome};
+ghost use Rattle.std.specs.Option.{ForSome};
+ghost use Rattle.psr_base.specs.Count.{Rose};
+ghost use Rattle.psr_base.specs.Told.{Told, left_to_read, opened, moved_by, GivesNext};
+
+use crate::faults::Failed;
+
+/// Files that are read by name, one at a time and from the front.
+///
+/// What an object tells of its files, it tells whole: the bytes under a name never change by
+/// these calls. A call that fails leaves what is told as it was.
+pub trait Inputs {
+    /// The bytes under each name, the open name and the place read to, where they are told.
+    ghost told: { Self → Told };
+
+    /// A name is open.
+    ghost is_open: { Self → Type 0 };
+
+    /// To open a name whose bytes are told, and to read, doesn't fail.
+    ghost is_calm: { Self → Type 0 };
+
+    /// How many calls have failed. It stays at the greatest u64.
+    ghost faults: { Self → ℕ };
+
+    /// Opens a name in place of the one that was open.
+    fn open(&mut self, name: &str) -> Result<(), Failed>
+        ensures opened { OnOk result (ForSome ((told self.old).bytes_under name.now)
+            (λ _. told self.new ≡ opened name.now (told self.old))) }
+        ensures names { (told self.new).bytes_under ≡ (told self.old).bytes_under }
+        ensures is_open { OnOk result (is_open self.new) }
+
+        ensures failed { OnErr result (Rose (faults self.old) (faults self.new)) }
+        ensures unchanged { OnErr result (told self.new ≡ told self.old) }
+        ensures still_open { OnErr result (is_open self.old → is_open self.new) }
+
+        ensures count { faults self.old ≤ faults self.new }
+        ensures calm { is_calm self.old → is_calm self.new }
+        ensures serves { is_calm self.old
+            → IsSome ((told self.old).bytes_under name.now) → IsOk result };
+
+    /// Puts the next bytes of the open file at the front of `into`, and answers how many they are:
+    /// 0 at the end alone. What stands in `into` after them is free.
+    fn read(&mut self, into: &mut [u8]) -> Result<usize, Failed>
+        requires room { 0 < length into.old }
+        requires is_open { is_open self.old }
+        ensures bound { IfOk result (λ n. n ≤ length into.new) }
+        ensures next { IfOk result (λ n. ForSome (left_to_read (told self.old))
+            (λ left. GivesNext left n into.new)) }
+        ensures moved { IfOk result (λ n. told self.new ≡ moved_by n (told self.old)) }
+        ensures is_open { is_open self.new }
+
+        ensures failed { OnErr result (Rose (faults self.old) (faults self.new)) }
+        ensures unchanged { OnErr result (told self.new ≡ told self.old) }
+
+        ensures count { faults self.old ≤ faults self.new }
+        ensures calm { is_calm self.old → is_calm self.new }
+        ensures serves { is_calm self.old → IsOk result };
+}

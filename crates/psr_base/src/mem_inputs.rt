@@ -1,0 +1,137 @@
+// Files in memory.
+ghost use Rattle.std.specs.Prelude.{◌≡◌, Some};
+ghost use Rattle.std.specs.Option.{ForSome};
+ghost use Rattle.psr_base.specs.NamedFiles.{place_in, name_at};
+
+use crate::calls::Calls;
+use crate::faults::{Failed, Memory};
+use crate::inputs::Inputs;
+use crate::lookup::{copy_from, place_of};
+use std::alloc::Global;
+
+#[derive(Drop)]
+pub(crate) struct MemFile {
+    pub(crate) name: String,
+    pub(crate) bytes: Vec<u8>,
+}
+
+// The file that is open, and the place that it was read to.
+#[derive(Clone, Copy)]
+struct OpenFile {
+    index: usize,
+    place: usize,
+}
+
+/// Files in memory, which fail where they are told to.
+#[derive(Drop)]
+pub struct MemInputs {
+    alloc: Global,
+    files: Vec<MemFile>,
+    reading: Option<OpenFile>,
+    calls: Calls,
+    ghost open_is_first: { ForSome reading (λ file.
+        place_in files.items (name_at files.items file.index) ≡ Some file.index) },
+}
+
+impl MemInputs {
+    ghost use Rattle.std.specs.Prelude.{◌≡◌, ◌≢◌, ℕ, List, [], None, Some, IfOk, OnOk, OnErr};
+    ghost use Rattle.psr_base.specs.InMemory.{told_of, calls_of};
+
+    /// No files. Of the calls of `open` and `read`, which are numbered together from 0, those
+    /// whose number is in `fail` fail.
+    pub fn open(alloc: Global, fail: &[u64]) -> Result<MemInputs, Memory>
+        ensures empty { IfOk result (λ inputs.
+            (name : List ℕ) → (told_of inputs).bytes_under name ≡ None) }
+        ensures closed { IfOk result (λ inputs. (told_of inputs).reading ≡ None) }
+        ensures calls { IfOk result (λ inputs.
+            calls_of inputs ≡ record { fail = fail.now; number = 0; faults = 0 }) }
+    {
+        Ok(MemInputs {
+            alloc,
+            files: Vec::new(alloc),
+            reading: None,
+            calls: Calls::none(alloc, fail)?,
+        })
+    }
+
+    /// Puts the bytes under the name, in place of those that stood there. The file that is open
+    /// stays open, at its place.
+    pub fn put(&mut self, name: &str, bytes: &[u8]) -> Result<(), Memory>
+        ensures put { OnOk result ((told_of self.new).bytes_under name.now ≡ Some bytes.now) }
+        ensures others { OnOk result ((other : List ℕ) → other ≢ name.now
+            → (told_of self.new).bytes_under other ≡ (told_of self.old).bytes_under other) }
+        ensures reading { (told_of self.new).reading ≡ (told_of self.old).reading }
+        ensures calls { calls_of self.new ≡ calls_of self.old }
+        ensures refused { OnErr result (told_of self.new ≡ told_of self.old) }
+    {
+        let bytes = Vec::from_slice(self.alloc, bytes)?;
+        match place_of(&self.files, name) {
+            Some(index) => self.files[index].bytes = bytes,
+            None => {
+                let name = String::from_str(self.alloc, name)?;
+                self.files.push(MemFile { name, bytes })?;
+            }
+        }
+        Ok(())
+    }
+}
+
+impl Inputs for MemInputs {
+    ghost use Rattle.std.specs.Prelude.{◌≡◌, ◌<◌, ◌≤◌, ◌-◌, ◌↔◌, min, length, [], None, Some, IsSome, IsOk, IfOk, OnOk, OnErr, unwrap_or};
+    ghost use Rattle.psr_base.specs.Count.{FailsNext, after_call, after_fault};
+    ghost use Rattle.psr_base.specs.Told.{opened, moved_by, left_to_read, GivesNext};
+    ghost use Rattle.psr_base.specs.InMemory.{told_of, calls_of, IsOpen};
+
+    ghost told = { told_of };
+
+    ghost is_open = { IsOpen };
+
+    ghost is_calm = { λ inputs. (calls_of inputs).fail ≡ [] };
+
+    ghost faults = { λ inputs. (calls_of inputs).faults };
+
+    fn open(&mut self, name: &str) -> Result<(), Failed>
+        ensures answer { IsOk result
+            ↔ (IsSome ((told_of self.old).bytes_under name.now) × ¬ FailsNext (calls_of self.old)) }
+        ensures opened { OnOk result (told_of self.new ≡ opened name.now (told_of self.old)) }
+        ensures is_open { OnOk result (IsOpen self.new) }
+        ensures called { OnOk result (calls_of self.new ≡ after_call (calls_of self.old)) }
+        ensures unchanged { OnErr result (told_of self.new ≡ told_of self.old) }
+        ensures failed { OnErr result (calls_of self.new ≡ after_fault (calls_of self.old)) }
+        ensures count { (calls_of self.old).faults ≤ (calls_of self.new).faults }
+    {
+        self.calls.begin()?;
+        match place_of(&self.files, name) {
+            Some(index) => {
+                self.reading = Some(OpenFile { index, place: 0 });
+                Ok(())
+            }
+            None => Err(self.calls.fault()),
+        }
+    }
+
+    fn read(&mut self, into: &mut [u8]) -> Result<usize, Failed>
+        requires room { 0 < length into.old }
+        requires is_open { IsOpen self.old }
+        ensures answer { IsOk result ↔ ¬ FailsNext (calls_of self.old) }
+        ensures whole { IfOk result (λ n.
+            n ≡ min (length (unwrap_or (left_to_read (told_of self.old)) [])) (length into.new)) }
+        ensures next { IfOk result (λ n.
+            GivesNext (unwrap_or (left_to_read (told_of self.old)) []) n into.new) }
+        ensures moved { IfOk result (λ n. told_of self.new ≡ moved_by n (told_of self.old)) }
+        ensures is_open { IsOpen self.new }
+        ensures called { OnOk result (calls_of self.new ≡ after_call (calls_of self.old)) }
+        ensures unchanged { OnErr result (told_of self.new ≡ told_of self.old) }
+        ensures failed { OnErr result (calls_of self.new ≡ after_fault (calls_of self.old)) }
+        ensures count { (calls_of self.old).faults ≤ (calls_of self.new).faults }
+    {
+        self.calls.begin()?;
+        let file = self.reading.unwrap();
+        let n = copy_from(self.files[file.index].bytes.as_slice(), file.place, into);
+        self.reading = Some(OpenFile {
+            index: file.index,
+            place: file.place + n,
+        });
+        Ok(n)
+    }
+}

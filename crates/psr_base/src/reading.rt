@@ -1,0 +1,117 @@
+// Reading from an open file more than one call gives.
+ghost use Rattle.std.specs.Prelude.{◌≡◌, ◌≢◌, ◌≤◌, ◌<◌, ℕ, List, length, drop, vec_len, Ok, Err, IfOk, OnOk, OnErr, IsOk};
+ghost use Rattle.std.specs.Option.{ForSome};
+ghost use Rattle.psr_base.specs.Count.{Rose};
+ghost use Rattle.psr_base.specs.Told.{Told, left_to_read, rest_after, moved_by, FillsFrom};
+
+use crate::faults::Failed;
+use crate::inputs::Inputs;
+use std::alloc::{AllocError, Global};
+
+/// Reads until `into` is full or the file ends, and answers how many bytes were read: fewer than
+/// fit at the end alone. What stands in `into` after them is free.
+///
+/// After a fault some of the next bytes may be lost.
+pub fn fill<I: Inputs>(inputs: &mut I, into: &mut [u8]) -> Result<usize, Failed>
+    requires { I.is_open inputs.old }
+    ensures bound { IfOk result (λ n. n ≤ length into.new) }
+    ensures filled { IfOk result (λ n. ForSome (left_to_read (I.told inputs.old))
+        (λ left. FillsFrom left n into.new)) }
+    ensures moved { IfOk result (λ n. I.told inputs.new ≡ moved_by n (I.told inputs.old)) }
+    ensures left { IfOk result (λ n. left_to_read (I.told inputs.new)
+        ≡ rest_after n (left_to_read (I.told inputs.old))) }
+
+    ensures failed { OnErr result (Rose (I.faults inputs.old) (I.faults inputs.new)) }
+    ensures lost { OnErr result ((k : ℕ) × (k < length into.new)
+        × (I.told inputs.new ≡ moved_by k (I.told inputs.old))) }
+
+    ensures names { (I.told inputs.new).bytes_under ≡ (I.told inputs.old).bytes_under }
+    ensures is_open { I.is_open inputs.new }
+    ensures count { I.faults inputs.old ≤ I.faults inputs.new }
+    ensures calm { I.is_calm inputs.old → I.is_calm inputs.new }
+    ensures serves { I.is_calm inputs.old → IsOk result }
+{
+    let mut filled = 0;
+    while filled < into.len() {
+        let n = inputs.read(&mut into[filled..])?;
+        if n == 0 {
+            break;
+        }
+        filled += n;
+    }
+    Ok(filled)
+}
+
+/// Why `read_to_end` gave no bytes.
+#[derive(Clone, Copy, Debug, PartialEq, Eq)]
+pub enum DataFault {
+    /// The inputs failed.
+    Failed,
+    /// There are more bytes than the limit.
+    TooLong,
+    /// There was no memory.
+    Memory,
+}
+
+impl From<Failed> for DataFault {
+    ghost use Rattle.psr_base.specs.declared.reading.DataFault.{DataFault};
+
+    ghost from_gives = { λ _ fault. fault ≡ DataFault.Failed };
+
+    fn from(_failed: Failed) -> DataFault {
+        DataFault::Failed
+    }
+}
+
+impl From<AllocError> for DataFault {
+    ghost use Rattle.psr_base.specs.declared.reading.DataFault.{DataFault};
+
+    ghost from_gives = { λ _ fault. fault ≡ DataFault.Memory };
+
+    fn from(_error: AllocError) -> DataFault {
+        DataFault::Memory
+    }
+}
+
+// The size of one read, in bytes.
+const PIECE: usize = 8192;
+
+/// Reads what is left of the open file, as long as it is at most `limit` bytes.
+///
+/// It stops as soon as more than `limit` bytes were read. After a fault some of the next bytes are
+/// lost.
+pub fn read_to_end<I: Inputs>(
+    alloc: Global,
+    inputs: &mut I,
+    limit: usize,
+) -> Result<Vec<u8>, DataFault>
+    requires { I.is_open inputs.old }
+    ensures whole { IfOk result (λ bytes. ForSome (left_to_read (I.told inputs.old))
+        (λ left. bytes.items ≡ left)) }
+    ensures within { IfOk result (λ bytes. vec_len bytes ≤ limit) }
+    ensures moved { IfOk result (λ bytes.
+        I.told inputs.new ≡ moved_by (vec_len bytes) (I.told inputs.old)) }
+
+    ensures too_long { result ≡ Err DataFault.TooLong
+        → ForSome (left_to_read (I.told inputs.old)) (λ left. limit < length left) }
+    ensures failed { result ≡ Err DataFault.Failed
+        → Rose (I.faults inputs.old) (I.faults inputs.new) }
+    ensures lost { OnErr result ((k : ℕ) × (I.told inputs.new ≡ moved_by k (I.told inputs.old))) }
+
+    ensures names { (I.told inputs.new).bytes_under ≡ (I.told inputs.old).bytes_under }
+    ensures is_open { I.is_open inputs.new }
+    ensures count { I.faults inputs.old ≤ I.faults inputs.new }
+    ensures calm { I.is_calm inputs.old → I.is_calm inputs.new }
+    ensures serves { I.is_calm inputs.old → result ≢ Err DataFault.Failed }
+{
+    let mut data = Vec::new(alloc);
+    let mut piece = [0u8; PIECE];
+    while data.len() <= limit {
+        let n = inputs.read(&mut piece)?;
+        if n == 0 {
+            return Ok(data);
+        }
+        data.extend_from_slice(&piece[..n])?;
+    }
+    Err(DataFault::TooLong)
+}

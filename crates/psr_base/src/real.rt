@@ -1,0 +1,141 @@
+// The system's files and streams. Nothing is told of what they hold.
+ghost use Rattle.std.specs.Prelude.{◌≡◌, ◌≤◌, length};
+
+use crate::calls::Faults;
+use crate::faults::Failed;
+use crate::inputs::Inputs;
+use crate::sink::Sink;
+use std::fs;
+use std::io::Read;
+use std::rt::Files;
+
+/// The files of the system. Each refusal of the system is a fault.
+#[derive(Drop)]
+pub struct RealInputs<'a, R: Files> {
+    rt: &'a R,
+    file: Option<R::File>,
+    faults: Faults,
+}
+
+impl<'a, R: Files> RealInputs<'a, R> {
+    /// No file is open, and no call has failed.
+    pub fn new(rt: &'a R) -> RealInputs<'a, R>
+        ensures { ⟦<RealInputs<'a, R> as Inputs>⟧.faults result ≡ 0 }
+    {
+        RealInputs {
+            rt,
+            file: None,
+            faults: Faults::none(),
+        }
+    }
+}
+
+impl<R: Files> Inputs for RealInputs<'_, R> {
+    ghost use Rattle.std.specs.Prelude.{IsSome};
+    ghost use Rattle.psr_base.specs.Told.{nothing_told};
+
+    ghost told = { λ _. nothing_told };
+
+    ghost is_open = { λ inputs. IsSome inputs.file };
+
+    ghost is_calm = { λ _. ⊥ };
+
+    ghost faults = { λ inputs. inputs.faults.count };
+
+    fn open(&mut self, name: &str) -> Result<(), Failed> {
+        match fs::open(self.rt, name) {
+            Ok(file) => {
+                self.file = Some(file);
+                Ok(())
+            }
+            Err(_) => Err(self.faults.fault()),
+        }
+    }
+
+    fn read(&mut self, into: &mut [u8]) -> Result<usize, Failed> {
+        let file = self.file.as_mut().unwrap();
+        match file.read(into) {
+            Ok(n) => Ok(n),
+            Err(_) => Err(self.faults.fault()),
+        }
+    }
+}
+
+#[derive(Clone, Copy, Debug, PartialEq, Eq)]
+enum Stream {
+    Output,
+    Notes,
+}
+
+/// A standard stream of the system. Each refusal of the system is a fault.
+#[derive(Drop)]
+pub struct RealSink<'a, R> {
+    rt: &'a R,
+    stream: Stream,
+    faults: Faults,
+}
+
+impl<'a, R: Print + Eprint> RealSink<'a, R> {
+    /// The standard output.
+    pub fn out(rt: &'a R) -> RealSink<'a, R>
+        ensures { ⟦<RealSink<'a, R> as Sink>⟧.faults result ≡ 0 }
+    {
+        RealSink {
+            rt,
+            stream: Stream::Output,
+            faults: Faults::none(),
+        }
+    }
+
+    /// The standard error, which takes text alone.
+    pub fn notes(rt: &'a R) -> RealSink<'a, R>
+        ensures { ⟦<RealSink<'a, R> as Sink>⟧.faults result ≡ 0 }
+    {
+        RealSink {
+            rt,
+            stream: Stream::Notes,
+            faults: Faults::none(),
+        }
+    }
+}
+
+impl<R: Print + Eprint> Sink for RealSink<'_, R> {
+    ghost use Rattle.std.specs.Prelude.{None};
+
+    ghost written = { λ _. None };
+
+    ghost room = { λ _. None };
+
+    ghost faults = { λ sink. sink.faults.count };
+
+    fn write(&mut self, bytes: &[u8]) -> Result<usize, Failed> {
+        if bytes.is_empty() {
+            return Ok(0);
+        }
+        let taken = match self.stream {
+            Stream::Output => print_bytes(self.rt, bytes),
+            Stream::Notes => print_text(self.rt, bytes),
+        };
+        match taken {
+            0 => Err(self.faults.fault()),
+            n => Ok(n),
+        }
+    }
+}
+
+// How many of the bytes the standard output took, where 0 stands for its refusal too.
+fn print_bytes(rt: &impl Print, bytes: &[u8]) -> usize
+    ensures { result ≤ length bytes.now }
+{
+    rt.write_some(bytes).unwrap_or(0)
+}
+
+// How many of the bytes the standard error took: all of a text, or none.
+fn print_text(rt: &impl Eprint, bytes: &[u8]) -> usize
+    ensures { result ≤ length bytes.now }
+{
+    match str::from_utf8(bytes) {
+        Ok(text) if rt.eprint(text).is_ok() => bytes.len(),
+        _ => 0,
+    }
+}
