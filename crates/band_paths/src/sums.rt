@@ -1,0 +1,54 @@
+// Sums of samples along a delay path.
+ghost use Rattle.std.specs.Prelude.{◌≡◌, ℕ, ◌+◌, ◌-◌, ◌*◌, ◌/◌, ◌^◌, ◌<◌, ◌≤◌, length, slice_index, true, All, sum};
+ghost use Rattle.search_model.specs.Samples.{filterbank, delayed};
+ghost use Rattle.search_model.specs.Sums.{channel_cells, path_sum_along};
+ghost use Rattle.band_paths.specs.Edges.{AreDelays};
+
+/// The sum of the samples on a path that ends at spectrum `u`, cell by cell. `samples` are spectra
+/// of `n` values, the highest channel first, where an incomplete last one is left out; `delays` are
+/// those of the path at the `n + 1` edges.
+pub fn path_sum(samples: &[u32], n: usize, delays: &[u32], u: usize) -> u64
+    requires least { 2 ≤ n }
+    requires most { n ≤ 4096 }
+    requires end { u < length samples.now / n }
+    requires delays { AreDelays n delays.now }
+    requires small { All (λ x. x ≤ 1048576) samples.now }
+    ensures { result ≡ path_sum_along (filterbank n true samples.now) delays.now (slice_index delays.now n) u }
+{
+    let mut total = 0;
+    for c in 0..n {
+        total += channel_sum(samples, n, c, delays, u);
+    }
+    total
+}
+
+// The sum of the cells of channel `c`.
+fn channel_sum(samples: &[u32], n: usize, c: usize, delays: &[u32], u: usize) -> u64
+    requires channel { c < n }
+    requires most { n ≤ 4096 }
+    requires end { u < length samples.now / n }
+    requires delays { AreDelays n delays.now }
+    requires small { All (λ x. x ≤ 1048576) samples.now }
+    ensures value { result ≡ sum (channel_cells (filterbank n true samples.now) delays.now (slice_index delays.now n) u c) }
+    ensures bound { result ≤ 1048576 * 8193 }
+{
+    let d = delays[n] as usize;
+    let first = delays[c] as usize;
+    let last = delays[c + 1] as usize;
+    let mut total = 0;
+    for k in first..last + 1 {
+        total += u64::from(cell(samples, n, c, u + k, d));
+    }
+    total
+}
+
+// What channel `c` holds in spectrum `s - d`, and 0 before the first spectrum.
+fn cell(samples: &[u32], n: usize, c: usize, s: usize, d: usize) -> u32
+    requires channel { c < n }
+    requires end { s < length samples.now / n + d }
+    requires small { All (λ x. x ≤ 1048576) samples.now }
+    ensures value { result ≡ delayed (filterbank n true samples.now) c s d }
+    ensures bound { result ≤ 1048576 }
+{
+    if s < d { 0 } else { samples[(s - d) * n + c] }
+}
