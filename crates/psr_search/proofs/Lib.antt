@@ -1,0 +1,11 @@
+pub mod EdgeLemmas
+pub mod BuiltLemmas
+pub mod Decimals
+pub mod Written
+pub mod Tracks
+pub mod Text
+pub mod Outcomes
+pub mod Ready
+pub mod TrackLists
+pub mod Files
+pub mod Loops

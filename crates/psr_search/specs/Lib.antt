@@ -1,0 +1,12 @@
+pub mod Built
+pub mod Pulse
+pub mod Observation
+pub mod Track
+pub mod Direct
+pub mod Searched
+pub mod Request
+pub mod Stop
+pub mod Outcome
+pub mod Loaded
+pub mod Ready
+pub mod Words
