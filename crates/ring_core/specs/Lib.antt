@@ -1,0 +1,5 @@
+pub mod Machine
+pub mod Sound
+pub mod Ring
+pub mod Kept
+pub mod Laws

@@ -1,0 +1,5 @@
+pub mod Text
+pub mod Events
+pub mod Trace
+pub mod Replay
+pub mod Run
