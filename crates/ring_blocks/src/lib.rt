@@ -1,0 +1,105 @@
+//! The blocks that a ring hands on: bytes in a space of fixed size, with a mark that says how the stream goes on.
+#![tactic(auto)]
+
+ghost use Rattle.std.specs.Prelude.{◌≡◌, ℕ, ◌<◌, ◌≤◌, ◌^◌, [], IfOk, length, take, drop, ◌++◌, vec_len};
+
+use std::alloc::{AllocError, Global};
+use std::collections::LinkedList;
+
+#[cfg(test)]
+mod tests;
+
+/// There was no memory.
+#[derive(Clone, Copy, PartialEq, Eq, Debug)]
+pub struct Memory;
+
+impl From<AllocError> for Memory {
+    fn from(_error: AllocError) -> Self {
+        Memory
+    }
+}
+
+/// How the stream goes on after a block.
+#[derive(Clone, Copy, PartialEq, Eq, Debug)]
+pub enum Mark {
+    /// More blocks follow.
+    More,
+    /// The data end here.
+    End,
+    /// The stream was given up before its end.
+    Cut,
+}
+
+/// What contracts see in a block. No value of it is made.
+pub struct Entry {
+    pub mark: Mark,
+    pub bytes: LinkedList<u8>,
+}
+
+/// A space for bytes, taken once, which is filled again and again.
+#[derive(Drop)]
+pub struct Block {
+    buffer: Vec<u8>,
+    used: u32,
+    mark: Mark,
+    ghost fits: { used ≤ length buffer.items },
+    ghost small: { length buffer.items < 2 ^ 32 },
+}
+
+impl Block {
+    ghost use Rattle.ring_blocks.specs.Contents.{room_of, entry_of};
+
+    /// An empty block with space for `size` bytes.
+    pub fn open(alloc: Global, size: u32) -> Result<Block, Memory>
+        ensures room { IfOk result (λ b. room_of b ≡ size) }
+        ensures empty { IfOk result (λ b. entry_of b ≡ record { mark = Mark.More; bytes = [] }) }
+    {
+        Ok(Block {
+            buffer: vec![in alloc; 0; size as usize]?,
+            used: 0,
+            mark: Mark::More,
+        })
+    }
+
+    /// The block then holds these bytes alone, with this mark.
+    pub fn fill(&mut self, bytes: &[u8], mark: Mark)
+        requires { length bytes.now ≤ room_of self.old }
+        ensures filled { entry_of self.new ≡ record { mark = mark; bytes = bytes.now } }
+        ensures room { room_of self.new ≡ room_of self.old }
+    {
+        put_front(self.buffer.as_mut_slice(), bytes);
+        self.used = bytes.len() as u32;
+        self.mark = mark;
+    }
+
+    /// Copies the bytes that it holds to the front of `into`, and answers how many there are.
+    pub fn copy_to(&self, into: &mut [u8]) -> u32
+        requires { length (entry_of self.now).bytes ≤ length into.old }
+        ensures count { result ≡ length (entry_of self.now).bytes }
+        ensures copied { into.new ≡ (entry_of self.now).bytes ++ drop result into.old }
+    {
+        put_front(into, &self.buffer.as_slice()[..self.used as usize]);
+        self.used
+    }
+
+    /// How many bytes it holds.
+    pub fn used(&self) -> u32
+        ensures { result ≡ length (entry_of self.now).bytes }
+    {
+        self.used
+    }
+
+    pub fn mark(&self) -> Mark
+        ensures { result ≡ (entry_of self.now).mark }
+    {
+        self.mark
+    }
+}
+
+// Overwrites the front.
+fn put_front(into: &mut [u8], bytes: &[u8])
+    requires { length bytes.now ≤ length into.old }
+    ensures { into.new ≡ bytes.now ++ drop (length bytes.now) into.old }
+{
+    into[..bytes.len()].copy_from_slice(bytes);
+}

@@ -1,0 +1,23 @@
+use crate::{Block, Mark};
+use std::test::Fail;
+
+#[test]
+fn a_block_is_filled_again_and_again(rt: HostRuntime) -> Result<(), Fail> {
+    let mut block = Block::open(rt.alloc(), 4)?;
+    let mut into = [9u8; 5];
+    assert!(rt; block.used() == 0);
+    let fills: [(&[u8], Mark, [u8; 5]); 4] = [
+        (b"abcd", Mark::More, *b"abcd\x09"),
+        (b"xy", Mark::End, *b"xycd\x09"),
+        (b"", Mark::Cut, *b"xycd\x09"),
+        (b"123", Mark::More, *b"123d\x09"),
+    ];
+    for (bytes, mark, after) in fills {
+        assert!(rt; bytes.len() <= 4);
+        block.fill(bytes, mark);
+        assert!(rt; block.used() as usize == bytes.len() && block.mark() == mark);
+        assert!(rt; block.copy_to(&mut into) as usize == bytes.len());
+        assert!(rt; into == after);
+    }
+    Ok(())
+}

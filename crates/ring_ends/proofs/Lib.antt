@@ -1,0 +1,4 @@
+pub mod Rows
+pub mod Opening
+pub mod Joining
+pub mod Ordered

@@ -1,0 +1,87 @@
+-- What a write and a read answer, and why.
+use Rattle.std.specs.Prelude.{◌≡◌, ◌≢◌, ℕ, ◌+◌, ◌*◌, ◌/◌, ◌%◌, ◌<◌, ◌≤◌, List, [], ◌∷◌, ◌++◌, drop, length, slice_index, Some}
+use Rattle.ring_blocks.specs.declared.Entry.{Entry}
+use Rattle.ring_blocks.specs.declared.Mark.{Mark}
+use Rattle.ring_blocks.specs.declared.Mark.TheVariants.{More, End, Cut}
+use Rattle.ring_words.specs.declared.views.ReaderView.{ReaderView}
+use Rattle.ring_words.specs.declared.views.WriterView.{WriterView}
+use Rattle.ring_words.specs.Views.{after_hit, after_miss, after_give}
+use Rattle.ring_words.specs.Seats.{home_word}
+use Rattle.ring_ends.specs.declared.answers.WriteStop.{WriteStop}
+use Rattle.ring_ends.specs.declared.answers.WriteStop.TheVariants.{Full, Spent}
+use Rattle.ring_ends.specs.declared.answers.ReadStop.{ReadStop}
+use Rattle.ring_ends.specs.declared.answers.ReadStop.TheVariants.{Empty, Busy}
+use Rattle.ring_ends.specs.declared.answers.Taken.{Taken}
+
+-- a block that is marked More is full, one that is marked End is shorter, and one that is marked Cut is empty
+abbrev pub FitsMark : ℕ → Mark → List ℕ → Type 0
+FitsMark size More bytes = length bytes ≡ size
+FitsMark size End bytes = length bytes < size
+FitsMark size Cut bytes = length bytes ≡ 0
+
+-- the writer's view w after looks, of which w' tells
+abbrev pub looked_as : WriterView → WriterView → WriterView
+looked_as w w' = record w { low = w'.low; looks = w'.looks; last_look = w'.last_look }
+
+-- looking at the first n readers in turn, the writer saw each past the block in the buffer of the next
+pub record IsSeenPast (w : WriterView) (n : ℕ) (w' : WriterView) : Type 0 where
+  pub seen : (i : ℕ) → i < n → length w.sealed < slice_index w'.low i + w.shape.buffers
+  pub looks : w'.looks ≡ w.looks + n
+  pub rest : w' ≡ looked_as w w'
+
+-- The block was sealed as number n. Each reader was seen past the block that lay in its buffer before
+pub record IsWritten (w : WriterView) (entry : Entry) (n : ℕ) (w' : WriterView) : Type 0 where
+  pub number : n ≡ length w.sealed
+  pub within : n < w.shape.max_blocks
+  pub sealed : w'.sealed ≡ w.sealed ++ entry ∷ []
+  pub seen : (i : ℕ) → i < w.shape.readers → n < slice_index w'.low i + w.shape.buffers
+  pub rest : w' ≡ record (looked_as w w') { sealed = w.sealed ++ entry ∷ [] }
+
+-- Nothing was sealed: looking at each reader in turn, the writer saw that reader i had cleared c blocks, and not the one in the buffer of the next
+pub record IsFull (w : WriterView) (i c : ℕ) (w' : WriterView) : Type 0 where
+  pub within : length w.sealed < w.shape.max_blocks
+  pub reader : i < w.shape.readers
+  pub looks : w'.looks ≡ w.looks + (i + 1)
+  pub last_look : w'.last_look ≡ Some (i, c)
+  pub late : c + w.shape.buffers ≤ length w.sealed
+  pub first : (j : ℕ) → j < i → length w.sealed < slice_index w'.low j + w.shape.buffers
+  pub rest : w' ≡ looked_as w w'
+
+-- why a write sealed nothing
+abbrev pub IsWriteStop : WriterView → WriteStop → WriterView → Type 0
+IsWriteStop w (Full i c) w' = IsFull w i c w'
+IsWriteStop w (Spent limit) w' = (limit ≡ w.shape.max_blocks) × (length w.sealed ≡ limit) × (w' ≡ w)
+
+-- The reader copied the block that comes after those it cleared to the front of `into`, which it then has as `into'`
+pub record IsRead (r : ReaderView) (into : List ℕ) (t : Taken) (r' : ReaderView) (into' : List ℕ) : Type 0 where
+  pub entry : Entry
+  pub rest : r' ≡ after_give (after_hit r (home_word (length r.cleared)) entry)
+  pub again : (e : Entry) → r.got ≡ Some e → e ≡ entry
+  pub block : t.block ≡ length r.cleared
+  pub within : t.block < r.shape.max_blocks
+  pub used : t.used ≡ length entry.bytes
+  pub fits : t.used ≤ r.shape.size
+  pub mark : t.mark ≡ entry.mark
+  pub bytes : into' ≡ entry.bytes ++ drop (length entry.bytes) into
+
+-- Why a read took nothing: its try found a word, whose first part is 1 more than the number of the block in that buffer, and 0 where there is none, and whose
+-- last part tells who had it. Empty: the block is an older one. Busy: it is the wanted one, and another reader had it
+pub record FoundOlder (r : ReaderView) (block seen : ℕ) (r' : ReaderView) : Type 0 where
+  pub word : ℕ
+  pub rest : r' ≡ after_miss r word
+  pub wanted : block ≡ length r.cleared
+  pub seen_is : seen ≡ word / 16
+  pub older : seen ≤ block
+
+pub record FoundTaken (r : ReaderView) (block reader : ℕ) (r' : ReaderView) : Type 0 where
+  pub word : ℕ
+  pub rest : r' ≡ after_miss r word
+  pub wanted : block ≡ length r.cleared
+  pub seen : word / 16 ≡ block + 1
+  pub holder : word % 16 ≡ reader + 1
+  pub near : reader < r.shape.readers
+  pub other : reader ≢ r.number
+
+abbrev pub IsReadStop : ReaderView → ReadStop → ReaderView → Type 0
+IsReadStop r (Empty block seen) r' = FoundOlder r block seen r'
+IsReadStop r (Busy block reader) r' = FoundTaken r block reader r'

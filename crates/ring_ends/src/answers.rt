@@ -1,0 +1,28 @@
+//! What a write and a read answer.
+use ring_blocks::Mark;
+
+/// Why a write sealed nothing.
+#[derive(Clone, Copy, PartialEq, Eq, Debug)]
+pub enum WriteStop {
+    /// This reader had cleared so many blocks, and not the one in the buffer of the next block. Later the write may go through.
+    Full { reader: u32, cleared: u64 },
+    /// So many blocks were sealed, as many as the ring may carry.
+    Spent { limit: u64 },
+}
+
+/// Why a read took nothing. Later it may go through.
+#[derive(Clone, Copy, PartialEq, Eq, Debug)]
+pub enum ReadStop {
+    /// The block with this number was not in its buffer, but an older one: `seen` is that one's number plus 1, or 0 where there was none.
+    Empty { block: u64, seen: u64 },
+    /// Another reader was copying the block.
+    Busy { block: u64, reader: u32 },
+}
+
+/// A block that was read: its number, how many bytes it has, and its mark.
+#[derive(Clone, Copy, PartialEq, Eq, Debug)]
+pub struct Taken {
+    pub block: u64,
+    pub used: u32,
+    pub mark: Mark,
+}

@@ -1,0 +1,19 @@
+//! The two ends of a ring: one writer hands blocks of bytes on to up to eight readers, each of which gets all of them, in order.
+//!
+//! A block's buffer is written again only after each registered reader cleared the block (PSRDADA manual). No call after `Ring::open` takes memory or waits.
+#![tactic(auto)]
+
+mod answers;
+mod finished;
+mod passes;
+mod ring;
+#[cfg(test)]
+mod tests;
+
+pub use answers::{ReadStop, Taken, WriteStop};
+pub use finished::Finished;
+pub use passes::{DetachedReader, EndedReader, ReaderPass, RetiredPass, WriterPass};
+pub use ring::Ring;
+pub use ring_blocks::Mark;
+pub use ring_core::Memory;
+pub use ring_words::{RingShape, ShapeFault};

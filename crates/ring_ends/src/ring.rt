@@ -1,0 +1,174 @@
+//! The ring that its threads share by reference.
+ghost use Rattle.std.specs.Prelude.{◌≡◌, All, IsSomeAnd, ℕ, ◌+◌, ◌<◌, ◌≤◌, true, false, length, slice_index, IfOk, MatchOption, MatchResult, OnOk, OnErr, EachIndex, IsTrue, ◌↔◌, ◌/◌, ◌%◌, ◌-◌, nat_le, if◌then◌else◌};
+
+use crate::answers::{ReadStop, Taken, WriteStop};
+use crate::passes::{ReaderPass, RetiredPass, WriterPass};
+use arrayvec::ArrayVec;
+use ring_blocks::Mark;
+use ring_core::Memory;
+use ring_words::{RingShape, Words};
+use std::alloc::Global;
+
+/// A ring of blocks.
+#[derive(Drop)]
+pub struct Ring {
+    pub(crate) words: Words,
+}
+
+impl Ring {
+    ghost use Rattle.ring_words.specs.Views.{after_clear, after_retire, seated_writer};
+    ghost use Rattle.ring_words.specs.Plays.{ReaderSettled};
+    ghost use Rattle.ring_words.specs.Shape.{IsRing};
+    ghost use Rattle.ring_ends.specs.Passes.{ring_shape, writer_knows, reader_knows, retired_knows, WritesTo, ReadsFrom, RetiredFrom, HasFreshPass};
+    ghost use Rattle.ring_ends.specs.Answers.{FitsMark, IsWritten, IsWriteStop, IsRead, IsReadStop, IsSeenPast, IsFull};
+
+    /// Opens a ring. The pass at place i is that of reader i.
+    pub fn open(
+        alloc: Global,
+        shape: RingShape,
+    ) -> Result<(Ring, WriterPass, ArrayVec<Option<ReaderPass>, 8>), Memory>
+        requires { IsRing shape }
+        ensures shape { IfOk result (λ r. ring_shape r.0 ≡ shape) }
+        ensures writer { IfOk result (λ r. WritesTo r.0 r.1 × (writer_knows r.1 ≡ seated_writer shape shape.readers)) }
+        ensures count { IfOk result (λ r. length r.2.items ≡ shape.readers) }
+        ensures readers { IfOk result (λ r. EachIndex r.2.items (λ i. HasFreshPass r.0 r.2.items i)) }
+        ensures passes { IfOk result (λ r. All (λ o. IsSomeAnd o (ReadsFrom r.0)) r.2.items) }
+    {
+        let (words, seat, mut seats) = Words::open(alloc, shape)?;
+        let ring = Ring { words };
+        let mut readers = ArrayVec::new();
+        for _number in 0..shape.readers {
+            let Some(seat) = seats.remove(0) else {
+                unreachable!()
+            };
+            readers.push(Some(ReaderPass {
+                seat,
+                has_read: false,
+            }));
+        }
+        Ok((ring, WriterPass { seat }, readers))
+    }
+
+    pub fn shape(&self) -> RingShape
+        ensures { result ≡ ring_shape self.now }
+    {
+        self.words.shape()
+    }
+
+    /// Fills the next block, seals it, and answers its number.
+    pub fn write(&self, pass: &mut WriterPass, bytes: &[u8], mark: Mark) -> Result<u64, WriteStop>
+        requires ring { WritesTo self.now pass.old }
+        requires fits { FitsMark (ring_shape self.now).size mark bytes.now }
+        ensures ring { WritesTo self.now pass.new }
+        ensures cases { MatchResult result
+            (λ n. IsWritten (writer_knows pass.old) (record { mark = mark; bytes = bytes.now }) n (writer_knows pass.new))
+            (λ stop. IsWriteStop (writer_knows pass.old) stop (writer_knows pass.new)) }
+    {
+        let limit = self.words.shape().max_blocks;
+        if pass.sealed() == limit {
+            return Err(WriteStop::Spent { limit });
+        }
+        if let Some((reader, cleared)) = self.first_late(pass) {
+            return Err(WriteStop::Full { reader, cleared });
+        }
+        self.words.writer_take(&mut pass.seat);
+        Ok(self.words.seal(&mut pass.seat, bytes, mark))
+    }
+
+    /// Copies the block that comes after those that the reader cleared to the front of `into`. Until it is cleared, the same block is read again.
+    pub fn read(&self, pass: &mut ReaderPass, into: &mut [u8]) -> Result<Taken, ReadStop>
+        requires ring { ReadsFrom self.now pass.old }
+        requires room { (ring_shape self.now).size ≤ length into.old }
+        ensures ring { ReadsFrom self.now pass.new }
+        ensures cases { MatchResult result
+            (λ taken. IsRead (reader_knows pass.old) into.old taken (reader_knows pass.new) into.new)
+            (λ stop. IsReadStop (reader_knows pass.old) stop (reader_knows pass.new)) }
+        ensures settled { ReaderSettled (reader_knows pass.new) }
+        ensures has_read { OnOk result (pass.new.has_read ≡ true) }
+        ensures kept { OnErr result ((pass.new.has_read ≡ pass.old.has_read) × (into.new ≡ into.old)) }
+    {
+        let block = pass.cleared();
+        match self.words.reader_take(&mut pass.seat) {
+            Ok(()) => {
+                let (used, mark) = self.words.give(&mut pass.seat, into);
+                pass.has_read = true;
+                Ok(Taken { block, used, mark })
+            }
+            Err(word) => Err(stop_of(block, word)),
+        }
+    }
+
+    /// Counts the block that was read as cleared, and answers the new count.
+    pub fn clear(&self, pass: &mut ReaderPass) -> u64
+        requires ring { ReadsFrom self.now pass.old }
+        requires read { pass.old.has_read ≡ true }
+        ensures ring { ReadsFrom self.now pass.new }
+        ensures cleared { reader_knows pass.new ≡ after_clear (reader_knows pass.old) }
+        ensures count { result ≡ length (reader_knows pass.new).cleared }
+        ensures settled { ReaderSettled (reader_knows pass.new) }
+        ensures unread { pass.new.has_read ≡ false }
+    {
+        pass.has_read = false;
+        self.words.clear(&mut pass.seat)
+    }
+
+    /// The writer no longer waits for this reader.
+    pub fn retire(&self, pass: ReaderPass) -> RetiredPass
+        requires { ReadsFrom self.now pass }
+        ensures ring { RetiredFrom self.now result }
+        ensures retired { retired_knows result ≡ after_retire (reader_knows pass) }
+    {
+        let ReaderPass {
+            mut seat,
+            has_read: _,
+        } = pass;
+        self.words.retire(&mut seat);
+        RetiredPass { seat }
+    }
+
+    // Looks at each reader in turn, up to the first that has not cleared the block in the buffer of the next, with the count that it saw.
+    fn first_late(&self, pass: &mut WriterPass) -> Option<(u32, u64)>
+        requires ring { WritesTo self.now pass.old }
+        requires within { length (writer_knows pass.old).sealed < (ring_shape self.now).max_blocks }
+        ensures ring { WritesTo self.now pass.new }
+        ensures cases { MatchOption result
+            (IsSeenPast (writer_knows pass.old) (ring_shape self.now).readers (writer_knows pass.new))
+            (λ late. IsFull (writer_knows pass.old) late.0 late.1 (writer_knows pass.new)) }
+    {
+        let shape = self.words.shape();
+        let sealed = pass.sealed();
+        for reader in 0..shape.readers {
+            let cleared = self.words.look(&mut pass.seat, reader);
+            if is_late(cleared, sealed, shape.buffers) {
+                return Some((reader, cleared));
+            }
+        }
+        None
+    }
+}
+
+// Whether a reader with this count may still need the block that the next one overwrites.
+fn is_late(cleared: u64, sealed: u64, buffers: u32) -> bool
+    ensures { IsTrue result ↔ (cleared + buffers ≤ sealed) }
+{
+    match sealed.checked_sub(buffers as u64) {
+        Some(last) => cleared <= last,
+        None => false,
+    }
+}
+
+// What the word says that was found in the buffer of this block.
+fn stop_of(block: u64, word: u64) -> ReadStop
+    requires { block < word / 16 → 0 < word % 16 }
+    ensures { result ≡ (if nat_le (word / 16) block then ReadStop.Empty block (word / 16) else ReadStop.Busy block (word % 16 - 1)) }
+{
+    let seen = word / 16;
+    if seen <= block {
+        ReadStop::Empty { block, seen }
+    } else {
+        ReadStop::Busy {
+            block,
+            reader: (word % 16) as u32 - 1,
+        }
+    }
+}

@@ -1,0 +1,10 @@
+pub mod Counts
+pub mod Frames
+pub mod Listed
+pub mod Shown
+pub mod WriterSteps
+pub mod ReaderSteps
+pub mod SeatSteps
+pub mod Moves
+pub mod Holding
+pub mod Opening

@@ -1,0 +1,6 @@
+pub mod Shape
+pub mod Views
+pub mod Ring
+pub mod Plays
+pub mod Hands
+pub mod Seats

@@ -1,0 +1,46 @@
+//! The measures of a ring.
+ghost use Rattle.std.specs.Prelude.{MatchResult};
+
+/// The measures of a ring, which never change.
+#[derive(Clone, Copy, PartialEq, Eq, Debug)]
+pub struct RingShape {
+    /// How many blocks the ring holds at once.
+    pub buffers: u32,
+    /// The space of each block in bytes.
+    pub size: u32,
+    pub readers: u32,
+    /// How many blocks are sealed at most, over the whole life of the ring.
+    pub max_blocks: u64,
+}
+
+/// The first measure that a ring cannot have.
+#[derive(Clone, Copy, PartialEq, Eq, Debug)]
+pub enum ShapeFault {
+    Buffers,
+    Size,
+    Readers,
+    Blocks,
+}
+
+impl RingShape {
+    ghost use Rattle.ring_words.specs.Shape.{IsRing, IsFirstFault};
+
+    /// Whether a ring can have these measures.
+    pub fn check(&self) -> Result<(), ShapeFault>
+        ensures { MatchResult result (λ _. IsRing self.now) (IsFirstFault self.now) }
+    {
+        if self.buffers < 2 || self.buffers > 64 {
+            return Err(ShapeFault::Buffers);
+        }
+        if self.size < 1 || self.size > 1 << 24 {
+            return Err(ShapeFault::Size);
+        }
+        if self.readers < 1 || self.readers > 8 {
+            return Err(ShapeFault::Readers);
+        }
+        if self.max_blocks < 1 || self.max_blocks >= 1 << 59 {
+            return Err(ShapeFault::Blocks);
+        }
+        Ok(())
+    }
+}
