@@ -51,8 +51,8 @@ fn slowest<R: Threads + Sync + AllocGlobal>(rt: &R, way: Way) -> Option<u64> {
 fn show<R: Threads + Sync + AllocGlobal + Print>(rt: &R, way: Way) -> io::Result<()> {
     let Way { size, readers, .. } = way;
     match slowest(rt, way) {
-        Some(blocks) => println!(rt; "{size} bytes, {readers} readers: {blocks} blocks"),
-        None => println!(rt; "{size} bytes, {readers} readers: no ring"),
+        Some(blocks) => println!(rt; "size {size}, readers {readers}: {blocks} blocks"),
+        None => println!(rt; "size {size}, readers {readers}: no ring"),
     }
 }
 
@@ -63,7 +63,7 @@ fn measure<R: Threads + Sync + AllocGlobal + Print + Clock>(rt: &R, way: Way) ->
     let micros = start.elapsed(rt)?.as_micros().max(1);
     let blocks = u128::from(way.blocks) * 1_000_000 / micros;
     let bytes = blocks * u128::from(way.size);
-    println!(rt; "{blocks} blocks, {bytes} bytes in a second")
+    println!(rt; "{blocks} blocks and {bytes} bytes in a second")
 }
 
 // The three numbers of the words, if there are three.

@@ -1,17 +1,15 @@
 -- The readers come back one by one.
-use Rattle.std.proofs.Common.{◌≡◌, ◌≢◌, ◌⊎◌, ℕ, zero, suc, ◌+◌, ◌<◌, ◌≤◌, List, [], ◌∷◌, ◌++◌, length, get_or, set, drop, take, remove, Option, Some, None, slice_get, unwrap_or, sym, refl, ap, ◌∙◌, subst, arith, length-set, get_or-set_same, get_or-set_other}
+use Rattle.std.proofs.Common.{◌≡◌, ◌≢◌, ℕ, ◌+◌, ◌<◌, ◌≤◌, List, ◌++◌, length, get_or, set, drop, remove, Option, Some, None, slice_get, unwrap_or, sym, ap, ◌∙◌, subst, arith, length-set, get_or-set_same, get_or-set_other}
 use Rattle.std.proofs.lemmas.Option.{slice_get_within}
 use Rattle.std.proofs.lemmas.List.{take-append-drop}
 use mathlib.Core.Logic.{dite}
 use native.Mathlib.Decide.{ℕ_discrete}
 use Rattle.ring_blocks.specs.declared.Entry.{Entry}
-use Rattle.ring_words.specs.declared.seats.WriterSeat.{WriterSeat}
 use Rattle.ring_words.specs.declared.views.WriterView.{WriterView}
 use Rattle.ring_words.specs.declared.views.ReaderView.{ReaderView}
 use Rattle.ring_words.specs.Ring.{Begins}
 use Rattle.ring_words.specs.Plays.{WriterSettled}
 use Rattle.ring_words.specs.Views.{parked_at, after_look, after_join}
-use Rattle.ring_words.specs.Seats.{writer_view}
 use Rattle.ring_ends.specs.declared.ring.Ring.{Ring}
 use Rattle.ring_ends.specs.declared.passes.EndedReader.{EndedReader}
 use Rattle.ring_ends.specs.Passes.{ring_shape, ended_knows, EndedFrom}

@@ -1,5 +1,5 @@
 -- What a write and a read answer, and why.
-use Rattle.std.specs.Prelude.{◌≡◌, ◌≢◌, ℕ, ◌+◌, ◌*◌, ◌/◌, ◌%◌, ◌<◌, ◌≤◌, List, [], ◌∷◌, ◌++◌, drop, length, slice_index, Some}
+use Rattle.std.specs.Prelude.{◌≡◌, ◌≢◌, ℕ, ◌+◌, ◌/◌, ◌%◌, ◌<◌, ◌≤◌, List, [], ◌∷◌, ◌++◌, drop, length, slice_index, Some}
 use Rattle.ring_blocks.specs.declared.Entry.{Entry}
 use Rattle.ring_blocks.specs.declared.Mark.{Mark}
 use Rattle.ring_blocks.specs.declared.Mark.TheVariants.{More, End, Cut}
@@ -35,6 +35,7 @@ pub record IsWritten (w : WriterView) (entry : Entry) (n : ℕ) (w' : WriterView
   pub within : n < w.shape.max_blocks
   pub sealed : w'.sealed ≡ w.sealed ++ entry ∷ []
   pub seen : (i : ℕ) → i < w.shape.readers → n < slice_index w'.low i + w.shape.buffers
+  pub looks : w'.looks ≤ w.looks + w.shape.readers
   pub rest : w' ≡ record (looked_as w w') { sealed = w.sealed ++ entry ∷ [] }
 
 -- Nothing was sealed: looking at each reader in turn, the writer saw that reader i had cleared c blocks, and not the one in the buffer of the next

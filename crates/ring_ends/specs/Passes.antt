@@ -1,12 +1,12 @@
 -- What clauses see of a ring and of the passes of its threads.
-use Rattle.std.specs.Prelude.{◌≡◌, ℕ, false, List, slice_get, Option, Some}
+use Rattle.std.specs.Prelude.{◌≡◌, ℕ, Bool, false, List, slice_get, Option, Some}
 use Rattle.atomic_table.specs.Seated.{TableId}
 use Rattle.ring_words.specs.declared.shape.RingShape.{RingShape}
 use Rattle.ring_words.specs.declared.views.ReaderView.{ReaderView}
 use Rattle.ring_words.specs.declared.views.WriterView.{WriterView}
 use Rattle.ring_words.specs.declared.seats.ReaderSeat.{ReaderSeat}
 use Rattle.ring_words.specs.Views.{fresh_reader}
-use Rattle.ring_words.specs.Seats.{shape_of, writer_view, reader_view, Writes, Reads}
+use Rattle.ring_words.specs.Seats.{shape_of, writer_view, reader_view, table_of, writer_table, reader_table, Writes, Reads}
 use Rattle.ring_ends.specs.declared.ring.Ring.{Ring}
 use Rattle.ring_ends.specs.declared.passes.WriterPass.{WriterPass}
 use Rattle.ring_ends.specs.declared.passes.ReaderPass.{ReaderPass}
@@ -26,6 +26,10 @@ writer_knows pass = writer_view pass.seat
 abbrev pub reader_knows : ReaderPass → ReaderView
 reader_knows pass = reader_view pass.seat
 
+-- whether it has read the block that comes after those it cleared
+abbrev pub is_read : ReaderPass → Bool
+is_read pass = pass.has_read
+
 abbrev pub detached_knows : DetachedReader → ReaderView
 detached_knows reader = reader_view reader.seat
 
@@ -42,17 +46,17 @@ ended_knows ended = reader_view (ended_seat ended)
 
 -- which ring it is
 abbrev pub ring_name : Ring → TableId
-ring_name ring = ring.words.table.shared.table_id
+ring_name ring = table_of ring.words
 
 -- which ring a pass is of
 abbrev pub ring_of_writer : WriterPass → TableId
-ring_of_writer pass = pass.seat.seat.table_id
+ring_of_writer pass = writer_table pass.seat
 
 abbrev pub ring_of_reader : ReaderPass → TableId
-ring_of_reader pass = pass.seat.seat.table_id
+ring_of_reader pass = reader_table pass.seat
 
 abbrev pub ring_of_detached : DetachedReader → TableId
-ring_of_detached reader = reader.seat.seat.table_id
+ring_of_detached reader = reader_table reader.seat
 
 -- the pass is one of this ring
 abbrev pub WritesTo : Ring → WriterPass → Type 0
@@ -72,4 +76,4 @@ EndedFrom ring ended = Reads ring.words (ended_seat ended)
 
 -- at place i is the pass of reader i, which has done nothing
 abbrev pub HasFreshPass : Ring → List (Option ReaderPass) → ℕ → Type 0
-HasFreshPass ring passes i = (p : ReaderPass) × (slice_get passes i ≡ Some (Some p)) × ReadsFrom ring p × (reader_knows p ≡ fresh_reader (ring_shape ring) i) × (p.has_read ≡ false)
+HasFreshPass ring passes i = (p : ReaderPass) × (slice_get passes i ≡ Some (Some p)) × ReadsFrom ring p × (reader_knows p ≡ fresh_reader (ring_shape ring) i) × (is_read p ≡ false)

@@ -1,5 +1,5 @@
 //! The end of a ring, when all passes are back.
-ghost use Rattle.std.specs.Prelude.{◌≡◌, ℕ, ◌<◌, ◌≤◌, Some, length, slice_index, slice_get};
+ghost use Rattle.std.specs.Prelude.{◌≡◌, ℕ, ◌<◌, ◌≤◌, All, Some, length, slice_index, slice_get};
 ghost use Rattle.ring_blocks.specs.declared.Entry.{Entry};
 ghost use Rattle.ring_words.specs.declared.views.ReaderView.{ReaderView};
 ghost use Rattle.ring_words.specs.Views.{parked_at};
@@ -39,6 +39,7 @@ impl Ring {
         ensures shape { finished_shape result ≡ ring_shape self }
         ensures sealed { sealed_at_end result ≡ (writer_knows writer).sealed }
         ensures readers { (j : ℕ) (e : EndedReader) → Gives readers.items j e → reader_at_end result (ended_knows e).number ≡ Some (ended_knows e) }
+        ensures sized { All (λ e. length e.bytes ≤ (ring_shape self).size) (sealed_at_end result) }
         ensures begins { (i : ℕ) → i < (ring_shape self).readers → Begins (cleared_at_end result i) (sealed_at_end result) }
         ensures next { (i : ℕ) (r : ReaderView) (e : Entry) → reader_at_end result i ≡ Some r → r.got ≡ Some e → slice_get (sealed_at_end result) (length r.cleared) ≡ Some e }
     {

@@ -71,7 +71,7 @@ impl WriterPass {
 }
 
 impl ReaderPass {
-    ghost use Rattle.ring_ends.specs.Passes.{reader_knows, detached_knows, ring_of_reader, ring_of_detached};
+    ghost use Rattle.ring_ends.specs.Passes.{reader_knows, is_read, detached_knows, ring_of_reader, ring_of_detached};
 
     pub fn number(&self) -> u32
         ensures { result ≡ (reader_knows self.now).number }
@@ -103,7 +103,7 @@ impl ReaderPass {
 
     /// Whether the reader has read the block that comes after those it cleared.
     pub fn has_read(&self) -> bool
-        ensures { result ≡ self.now.has_read }
+        ensures { result ≡ is_read self.now }
     {
         self.has_read
     }
@@ -119,13 +119,13 @@ impl ReaderPass {
 }
 
 impl DetachedReader {
-    ghost use Rattle.ring_ends.specs.Passes.{reader_knows, detached_knows, ring_of_reader, ring_of_detached};
+    ghost use Rattle.ring_ends.specs.Passes.{reader_knows, is_read, detached_knows, ring_of_reader, ring_of_detached};
 
     /// Goes on reading with the first block that was not cleared.
     pub fn attach(self) -> ReaderPass
         ensures same { reader_knows result ≡ detached_knows self }
         ensures ring { ring_of_reader result ≡ ring_of_detached self }
-        ensures unread { result.has_read ≡ false }
+        ensures unread { is_read result ≡ false }
     {
         let DetachedReader { seat } = self;
         ReaderPass {

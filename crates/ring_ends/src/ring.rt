@@ -19,7 +19,7 @@ impl Ring {
     ghost use Rattle.ring_words.specs.Views.{after_clear, after_retire, seated_writer};
     ghost use Rattle.ring_words.specs.Plays.{ReaderSettled};
     ghost use Rattle.ring_words.specs.Shape.{IsRing};
-    ghost use Rattle.ring_ends.specs.Passes.{ring_shape, writer_knows, reader_knows, retired_knows, WritesTo, ReadsFrom, RetiredFrom, HasFreshPass};
+    ghost use Rattle.ring_ends.specs.Passes.{ring_shape, writer_knows, reader_knows, is_read, retired_knows, WritesTo, ReadsFrom, RetiredFrom, HasFreshPass};
     ghost use Rattle.ring_ends.specs.Answers.{FitsMark, IsWritten, IsWriteStop, IsRead, IsReadStop, IsSeenPast, IsFull};
 
     /// Opens a ring. The pass at place i is that of reader i.
@@ -84,8 +84,8 @@ impl Ring {
             (λ taken. IsRead (reader_knows pass.old) into.old taken (reader_knows pass.new) into.new)
             (λ stop. IsReadStop (reader_knows pass.old) stop (reader_knows pass.new)) }
         ensures settled { ReaderSettled (reader_knows pass.new) }
-        ensures has_read { OnOk result (pass.new.has_read ≡ true) }
-        ensures kept { OnErr result ((pass.new.has_read ≡ pass.old.has_read) × (into.new ≡ into.old)) }
+        ensures has_read { OnOk result (is_read pass.new ≡ true) }
+        ensures kept { OnErr result ((is_read pass.new ≡ is_read pass.old) × (into.new ≡ into.old)) }
     {
         let block = pass.cleared();
         match self.words.reader_take(&mut pass.seat) {
@@ -101,12 +101,12 @@ impl Ring {
     /// Counts the block that was read as cleared, and answers the new count.
     pub fn clear(&self, pass: &mut ReaderPass) -> u64
         requires ring { ReadsFrom self.now pass.old }
-        requires read { pass.old.has_read ≡ true }
+        requires read { is_read pass.old ≡ true }
         ensures ring { ReadsFrom self.now pass.new }
         ensures cleared { reader_knows pass.new ≡ after_clear (reader_knows pass.old) }
         ensures count { result ≡ length (reader_knows pass.new).cleared }
         ensures settled { ReaderSettled (reader_knows pass.new) }
-        ensures unread { pass.new.has_read ≡ false }
+        ensures unread { is_read pass.new ≡ false }
     {
         pass.has_read = false;
         self.words.clear(&mut pass.seat)

@@ -3,6 +3,7 @@ ghost use Rattle.std.specs.Prelude.{◌≡◌};
 use crate::{RingShape, ShapeFault};
 use std::test::Fail;
 
+mod duo;
 mod pair;
 mod threads;
 

@@ -38,9 +38,6 @@ pub record AsWriter (shape : RingShape) (s : State Block View) (id : ℕ) (v : W
 pub live_count : (r : ReaderView) → r.retired ≡ false → count_word r ≡ length r.cleared
 live_count r is = ap (λ z. cond z greatest (length r.cleared)) is
 
-pub gone_count : (r : ReaderView) → r.retired ≡ true → count_word r ≡ greatest
-gone_count r is = ap (λ z. cond z greatest (length r.cleared)) is
-
 module _ (shape : RingShape) where
   pub as_writer : (s : State Block View) → Kept shape s → (id : ℕ) (v : WriterView) → get_elem? s.views id ≡ some (Writer v) → AsWriter shape s id v
   as_writer s kept id v at = let same = is_writer shape s kept.w kept.at kept.reader kept.place kept.turn kept.core id v at in record {

@@ -1,7 +1,5 @@
 -- What each step tells the seat that makes it, and which event of the ring as a machine it is.
 use Rattle.std.specs.Prelude.{◌≡◌, ◌≢◌, ℕ, ◌+◌, ◌-◌, ◌/◌, ◌%◌, ◌<◌, ◌≤◌, ◌⊎◌, List, [], ◌∷◌, ◌==◌, nat_le, All, length, take, slice_get, Some, if◌then◌else◌}
-use mathlib.Core.Option.{some}
-use lib.ListN.{get_elem?}
 use Rattle.atomic_table.specs.Table.{Me, Step, rest}
 use Rattle.ring_blocks.specs.declared.Block.{Block}
 use Rattle.ring_blocks.specs.declared.Entry.{Entry}

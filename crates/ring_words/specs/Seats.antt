@@ -1,5 +1,6 @@
 -- What clauses say of a ring's words and of the seats of its threads.
 use Rattle.std.specs.Prelude.{◌≡◌, ◌≢◌, ℕ, ◌+◌, ◌*◌, List, ◌++◌, drop, length, slice_get, Option, Some}
+use Rattle.atomic_table.specs.Seated.{TableId}
 use Rattle.ring_blocks.specs.declared.Entry.{Entry}
 use Rattle.ring_blocks.specs.declared.Mark.{Mark}
 use Rattle.ring_core.specs.Machine.{Event, Answer}
@@ -23,12 +24,22 @@ writer_view s = writer_of s.seat.me.0
 abbrev pub reader_view : ReaderSeat → ReaderView
 reader_view s = reader_of s.seat.me.0
 
+-- which ring these words are, and which ring a seat is of
+abbrev pub table_of : Words → TableId
+table_of words = words.table.shared.table_id
+
+abbrev pub writer_table : WriterSeat → TableId
+writer_table s = s.seat.table_id
+
+abbrev pub reader_table : ReaderSeat → TableId
+reader_table s = s.seat.table_id
+
 -- the seat is one of this ring
 abbrev pub Writes : Words → WriterSeat → Type 0
-Writes words s = (s.seat.table_id ≡ words.table.shared.table_id) × ((writer_view s).shape ≡ words.shape)
+Writes words s = (writer_table s ≡ table_of words) × ((writer_view s).shape ≡ words.shape)
 
 abbrev pub Reads : Words → ReaderSeat → Type 0
-Reads words s = (s.seat.table_id ≡ words.table.shared.table_id) × ((reader_view s).shape ≡ words.shape)
+Reads words s = (reader_table s ≡ table_of words) × ((reader_view s).shape ≡ words.shape)
 
 -- the word of a buffer that is at home with block number n
 abbrev pub home_word : ℕ → ℕ

@@ -9,11 +9,11 @@ use std::alloc::Global;
 use std::test::Fail;
 
 #[derive(Drop)]
-struct Pair {
-    ring: Ring,
-    writer: WriterPass,
-    reader: ReaderPass,
-    into: [u8; 8],
+pub(super) struct Pair {
+    pub(super) ring: Ring,
+    pub(super) writer: WriterPass,
+    pub(super) reader: ReaderPass,
+    pub(super) into: [u8; 8],
     ghost size: { (ring_shape ring).size ≡ 8 },
     ghost writes: { WritesTo ring writer },
     ghost reads: { ReadsFrom ring reader },
@@ -40,7 +40,7 @@ enum Seen {
     Nothing,
 }
 
-fn open(alloc: Global, shape: RingShape) -> Option<Pair>
+pub(super) fn open(alloc: Global, shape: RingShape) -> Option<Pair>
     requires ring { IsRing shape }
     requires one { shape.readers ≡ 1 }
     requires size { shape.size ≡ 8 }
@@ -160,6 +160,29 @@ fn a_full_ring_takes_a_block_after_a_clear(rt: HostRuntime) -> Result<(), Fail> 
     assert!(rt;
         pair.writer.sealed() == 3 && pair.reader.cleared() == 3 && pair.reader.number() == 0
     );
+    Ok(())
+}
+
+#[test]
+fn what_was_read_and_not_cleared_is_read_again(rt: HostRuntime) -> Result<(), Fail> {
+    let pair = open(rt.alloc(), shape(2, 1, 100)).ok_or("memory")?;
+    let steps = [
+        (Step::Write(7), Seen::Wrote(Ok(0))),
+        (Step::Write(8), Seen::Wrote(Ok(1))),
+        (Step::Read, took(0, 8, Mark::More, 7)),
+        (Step::Clear, Seen::Cleared(1)),
+        (Step::Read, took(1, 8, Mark::More, 8)),
+        (Step::Again, Seen::Nothing),
+        (Step::Clear, Seen::Nothing),
+        (Step::Read, took(1, 8, Mark::More, 8)),
+        (Step::Clear, Seen::Cleared(2)),
+        (
+            Step::Read,
+            Seen::Read(Err(ReadStop::Empty { block: 2, seen: 1 }), 8),
+        ),
+    ];
+    let (_pair, played) = play_all(pair, &steps);
+    assert_eq!(rt; played, 10);
     Ok(())
 }
 

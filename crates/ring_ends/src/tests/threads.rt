@@ -5,7 +5,8 @@ ghost use Rattle.ring_words.specs.Shape.{IsRing};
 ghost use Rattle.ring_ends.specs.Ended.{finished_shape};
 ghost use Rattle.ring_ends.specs.Passes.{ring_shape, writer_knows, reader_knows, retired_knows, ended_knows, WritesTo, ReadsFrom, RetiredFrom, EndedFrom};
 
-use super::shape;
+use super::pair::Pair;
+use super::{pair, shape};
 use crate::{EndedReader, Finished, Mark, ReaderPass, RetiredPass, Ring, RingShape, WriterPass};
 use arrayvec::ArrayVec;
 use std::alloc::Global;
@@ -253,5 +254,22 @@ fn each_reader_gets_its_blocks_in_order(rt: HostRuntime) -> Result<(), Fail> {
     assert!(rt;
         finished.cleared(0) == BLOCKS && finished.cleared(1) == 10 && finished.cleared(2) == BLOCKS
     );
+    Ok(())
+}
+
+#[test]
+fn one_reader_gets_its_blocks_in_order(rt: HostRuntime) -> Result<(), Fail> {
+    let Some(pair) = pair::open(rt.alloc(), shape(4, 1, 2000)) else {
+        return Err("memory")?;
+    };
+    let Pair {
+        ring,
+        writer,
+        reader,
+        into: _,
+    } = pair;
+    let (writer, (reader, right)) = write_and_read(&rt, &ring, writer, reader);
+    assert!(rt; right);
+    assert!(rt; writer.sealed() == BLOCKS && reader.cleared() == BLOCKS);
     Ok(())
 }

@@ -1,9 +1,7 @@
-use Rattle.std.proofs.Common.{◌≡◌, ◌<◌, ◌≤◌, ◌+◌, ℕ, length, Option, Some, unwrap_or, sym, ap, ◌∙◌, subst, arith}
+use Rattle.std.proofs.Common.{◌≡◌, ℕ, length, Option, unwrap_or, sym, ap, ◌∙◌, subst, arith}
 use Rattle.ring_words.specs.declared.shape.RingShape.{RingShape}
-use Rattle.ring_words.specs.declared.seats.ReaderSeat.{ReaderSeat}
 use Rattle.ring_words.specs.declared.views.ReaderView.{ReaderView}
-use Rattle.ring_words.specs.declared.views.WriterView.{WriterView}
-use Rattle.ring_words.specs.Views.{parked_at, after_join}
+use Rattle.ring_words.specs.Views.{after_join}
 use Rattle.ring_words.specs.Seats.{writer_view, reader_view, Reads}
 use Rattle.ring_ends.specs.declared.passes.EndedReader.{EndedReader}
 use Rattle.ring_ends.specs.Passes.{writer_knows, ended_knows, EndedFrom}

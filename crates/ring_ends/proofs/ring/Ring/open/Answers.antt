@@ -1,6 +1,6 @@
-use Rattle.std.proofs.Common.{◌≡◌, ◌<◌, ◌+◌, ℕ, true, false, List, [], ◌∷◌, length, length-append, Option, Some, IsSome, unwrap_or, refl, sym, ap, ◌∙◌, subst, arith}
+use Rattle.std.proofs.Common.{◌≡◌, ◌<◌, ◌+◌, ℕ, List, Option, Some, unwrap_or, refl, sym, ap, ◌∙◌, subst, arith}
 use Rattle.ring_words.specs.declared.seats.ReaderSeat.{ReaderSeat}
-use Rattle.ring_words.specs.Seats.{reader_view, Reads, IsFreshReader}
+use Rattle.ring_words.specs.Seats.{IsFreshReader}
 use Rattle.ring_ends.specs.declared.ring.Ring.{Ring}
 use Rattle.ring_ends.specs.declared.passes.ReaderPass.{ReaderPass}
 use Rattle.ring_ends.specs.Passes.{HasFreshPass}

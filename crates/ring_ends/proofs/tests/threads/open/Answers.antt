@@ -1,4 +1,4 @@
-use Rattle.std.proofs.Common.{◌≡◌, ℕ, List, drop, Option, Some, unwrap_or, refl, sym, subst, ap, ◌∙◌, arith}
+use Rattle.std.proofs.Common.{◌≡◌, List, drop, Option, Some, unwrap_or, refl, sym, subst, ap, ◌∙◌, arith}
 use Rattle.ring_words.specs.declared.shape.RingShape.{RingShape}
 use Rattle.ring_words.specs.declared.views.ReaderView.{ReaderView}
 use Rattle.ring_ends.specs.declared.passes.ReaderPass.{ReaderPass}
