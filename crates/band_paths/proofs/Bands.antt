@@ -1,26 +1,26 @@
 -- The edges of a band, and how the delays between two edges are filled in.
 use Rattle.std.proofs.Common.{◌≡◌, ◌≢◌, ℕ, ◌+◌, ◌-◌, ◌<◌, ◌≤◌, List, length, slice_index, slice_set, arith, zero, suc, ◌∙◌, get_or-set_same, get_or-set_other}
 use Rattle.search_model.specs.Paths.{middle, split_at, IsHalved, IsPath}
-use Rattle.search_model.proofs.Paths.{edge_below, middle_above, middle_below, halved_same, halved_join, path_rises}
+use Rattle.search_model.specs.Laws.{HalvesJoin, PathsRise}
 use Rattle.band_paths.specs.Edges.{IsEdges, channels_of, KeepsOutside, AreDelays}
 
 -- no edge is above the top
 pub edge_le : (edges : List ℕ) → IsEdges edges → (k : ℕ) → k < length edges → slice_index edges k ≤ 16777216
 edge_le edges is zero h = is.top
 edge_le edges is (suc k) h =
-    let below = edge_below edges (channels_of edges) is.band 0 (suc k) (omega arith) (omega arith) in
+    let below = is.band.falls 0 (suc k) (omega arith) (omega arith) in
     let top = is.top in
     omega arith
 
 -- the delays d0, with the middle set, then halved above it, then below it
-pub halved_twice : (edges : List ℕ) (lo hi v : ℕ) (d0 d2 d3 : List ℕ) → lo + 2 ≤ hi → hi < length d0 →
+pub halved_twice : HalvesJoin → (edges : List ℕ) (lo hi v : ℕ) (d0 d2 d3 : List ℕ) → lo + 2 ≤ hi → hi < length d0 →
     v ≡ slice_index d0 lo + split_at edges lo hi (slice_index d0 hi - slice_index d0 lo) →
     KeepsOutside lo (middle lo hi) (slice_set d0 (middle lo hi) v) d2 → IsHalved edges lo (middle lo hi) (λ k. slice_index d2 k) →
     KeepsOutside (middle lo hi) hi d2 d3 → IsHalved edges (middle lo hi) hi (λ k. slice_index d3 k) →
     IsHalved edges lo hi (λ k. slice_index d3 k) × (KeepsOutside lo hi d0 d3)
-halved_twice edges lo hi v d0 d2 d3 two within is keeps2 halved2 keeps3 halved3 =
-    let m_above = middle_above lo hi two in
-    let m_below = middle_below lo hi two in
+halved_twice halves edges lo hi v d0 d2 d3 two within is keeps2 halved2 keeps3 halved3 =
+    let m_above : lo < middle lo hi = omega arith in
+    let m_below : middle lo hi < hi = omega arith in
     let set : slice_index (slice_set d0 (middle lo hi) v) (middle lo hi) ≡ v = get_or-set_same d0 (middle lo hi) v 0 (omega arith) in
     let at_mid : slice_index d3 (middle lo hi) ≡ v = keeps3.below (middle lo hi) (omega arith) ∙ keeps2.above (middle lo hi) (omega arith) ∙ set in
     let below : (k : ℕ) → k ≤ lo → slice_index d3 k ≡ slice_index d0 k =
@@ -33,8 +33,8 @@ halved_twice edges lo hi v d0 d2 d3 two within is keeps2 halved2 keeps3 halved3 
     let at_hi = above hi (omega arith) in
     let law : slice_index d3 (middle lo hi) ≡ slice_index d3 lo + split_at edges lo hi (slice_index d3 hi - slice_index d3 lo) =
     rw at_lo (rw at_hi (at_mid ∙ is)) in (
-      halved_join edges lo hi (λ k. slice_index d3 k) two law
-          (halved_same edges lo (middle lo hi) (λ k. slice_index d2 k) (λ k. slice_index d3 k) (omega arith) (λ k from to. keeps3.below k to) halved2)
+      halves.join edges lo hi (λ k. slice_index d3 k) two law
+          (halves.same edges lo (middle lo hi) (λ k. slice_index d2 k) (λ k. slice_index d3 k) (omega arith) (λ k from to. keeps3.below k to) halved2)
           halved3,
       record { below = below; above = above },
     )
@@ -48,12 +48,12 @@ delay_le n delays is c (suc k) h =
     omega arith
 
 -- the delays of a path are such
-pub delays_are : (edges : List ℕ) (d : ℕ) (e : List ℕ) → IsEdges edges → d ≤ 8192 → IsPath edges (channels_of edges) d e → AreDelays (channels_of edges) e
-delays_are edges d e is h path =
+pub delays_are : PathsRise → (edges : List ℕ) (d : ℕ) (e : List ℕ) → IsEdges edges → d ≤ 8192 → IsPath edges (channels_of edges) d e → AreDelays (channels_of edges) e
+delays_are rises edges d e is h path =
     let least = is.least in
     record {
       entries = path.entries;
       first = path.first;
-      rise = path_rises edges (channels_of edges) d e is.band (omega arith) path;
+      rise = rises edges (channels_of edges) d e is.band (omega arith) path;
       last = rw path.last h;
     }

@@ -1,3 +1,4 @@
+-- What the edges of a band are, and the delays at them.
 use Rattle.std.specs.Prelude.{◌≡◌, ℕ, ◌+◌, ◌-◌, ◌≤◌, ◌<◌, List, length, slice_index}
 use Rattle.search_model.specs.Paths.{IsBand}
 

@@ -1,10 +1,12 @@
 // The delay of a pulse at each edge of the band.
 ghost use Rattle.std.specs.Prelude.{◌≡◌, ◌+◌, ◌-◌, ◌*◌, ◌/◌, ◌^◌, ◌<◌, ◌≤◌, length, IfOk, slice_index};
-ghost use Rattle.search_model.specs.Paths.{IsHalved, IsPath};
+ghost use Rattle.search_model.specs.Paths.{IsHalved, IsPath, path};
 ghost use Rattle.search_model.specs.Paths.{split as split_of, square as square_of};
-ghost use Rattle.band_paths.specs.Edges.{IsEdges, channels_of, KeepsOutside};
+ghost use Rattle.band_paths.specs.Edges.{IsEdges, AreDelays, channels_of, KeepsOutside};
 
 use psr_base::Memory;
+// Laws: they do nothing when they run, and the proofs use what they ensure.
+use search_model::{halves_join, has_one_path, paths_rise, splits_fit};
 use std::alloc::Global;
 
 // The square of a frequency in kHz.
@@ -40,6 +42,7 @@ fn share(high: u32, mid: u32, low: u32, d: u32) -> u32
     ensures value { result ≡ split_of high mid low d }
     ensures part { result ≤ d }
 {
+    splits_fit();
     let part = (square(high) - square(mid)) * square(low);
     let whole = (square(high) - square(low)) * square(mid);
     rounded(part, whole, d)
@@ -53,6 +56,7 @@ fn rounded(part: u128, whole: u128, d: u32) -> u32
     ensures value { result ≡ (2 * d * part + whole) / (2 * whole) }
     ensures part { result ≤ d }
 {
+    splits_fit();
     ((2 * u128::from(d) * part + whole) / (2 * whole)) as u32
 }
 
@@ -61,8 +65,12 @@ fn rounded(part: u128, whole: u128, d: u32) -> u32
 pub fn edge_delays(alloc: Global, edges: &[u32], d: u32) -> Result<Vec<u32>, Memory>
     requires edges { IsEdges edges.now }
     requires delay { d ≤ 8192 }
-    ensures { IfOk result (λ delays. IsPath edges.now (channels_of edges.now) d delays.items) }
+    ensures path { IfOk result (λ delays. IsPath edges.now (channels_of edges.now) d delays.items) }
+    ensures value { IfOk result (λ delays. delays.items ≡ path edges.now (channels_of edges.now) d) }
+    ensures delays { IfOk result (λ delays. AreDelays (channels_of edges.now) delays.items) }
 {
+    has_one_path();
+    paths_rise();
     let mut delays = vec![in alloc; 0u32; edges.len()]?;
     lay_path(edges, delays.as_mut_slice(), d);
     Ok(delays)
@@ -92,6 +100,7 @@ fn halve(edges: &[u32], delays: &mut [u32], lo: usize, hi: usize)
     ensures halved { IsHalved edges.now lo hi (λ k. slice_index delays.new k) }
     ensures kept { KeepsOutside lo hi delays.old delays.new }
 {
+    halves_join();
     if hi - lo < 2 {
         return;
     }

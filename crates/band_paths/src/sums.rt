@@ -13,7 +13,8 @@ pub fn path_sum(samples: &[u32], n: usize, delays: &[u32], u: usize) -> u64
     requires end { u < length samples.now / n }
     requires delays { AreDelays n delays.now }
     requires small { All (λ x. x ≤ 1048576) samples.now }
-    ensures { result ≡ path_sum_along (filterbank n true samples.now) delays.now (slice_index delays.now n) u }
+    ensures value { result ≡ path_sum_along (filterbank n true samples.now) delays.now (slice_index delays.now n) u }
+    ensures bound { (m : ℕ) → All (λ x. x ≤ m) samples.now → result ≤ m * (n + slice_index delays.now n) }
 {
     let mut total = 0;
     for c in 0..n {
@@ -30,7 +31,7 @@ fn channel_sum(samples: &[u32], n: usize, c: usize, delays: &[u32], u: usize) ->
     requires delays { AreDelays n delays.now }
     requires small { All (λ x. x ≤ 1048576) samples.now }
     ensures value { result ≡ sum (channel_cells (filterbank n true samples.now) delays.now (slice_index delays.now n) u c) }
-    ensures bound { result ≤ 1048576 * 8193 }
+    ensures bound { (m : ℕ) → All (λ x. x ≤ m) samples.now → result ≤ m * (slice_index delays.now (c + 1) + 1 - slice_index delays.now c) }
 {
     let d = delays[n] as usize;
     let first = delays[c] as usize;
@@ -48,7 +49,7 @@ fn cell(samples: &[u32], n: usize, c: usize, s: usize, d: usize) -> u32
     requires end { s < length samples.now / n + d }
     requires small { All (λ x. x ≤ 1048576) samples.now }
     ensures value { result ≡ delayed (filterbank n true samples.now) c s d }
-    ensures bound { result ≤ 1048576 }
+    ensures bound { (m : ℕ) → All (λ x. x ≤ m) samples.now → result ≤ m }
 {
     if s < d { 0 } else { samples[(s - d) * n + c] }
 }

@@ -1,5 +1,5 @@
 -- A plain header by the whole definition.
-use Rattle.std.proofs.Common.{◌≡◌, ℕ, ◌<◌, ◌≤◌, false, ltb, List, [], ◌∷◌, length, refl, ap, ◌∙◌, ◌⊎◌, inl, inr, arith, Option, Some, None, Ok}
+use Rattle.std.proofs.Common.{◌≡◌, ℕ, ◌<◌, ◌≤◌, false, ltb, List, [], ◌∷◌, length, take, length-take, refl, sym, ap, ◌∙◌, ◌⊎◌, inl, inr, arith, Option, Some, None, Ok}
 use Rattle.std.specs.Prelude.{All, IsUtf8, codes, slice_range}
 use Rattle.std.proofs.lemmas.Bool.Decides.{nat_tests}
 use Rattle.std.proofs.lemmas.List.Elements.{All-append, All-cons, All-head, All-tail, All-weaker}
@@ -51,3 +51,18 @@ header_of-kept bytes block text kept long cut before plain size same =
     let whole : text ≡ header_text 4096 bytes = before ∙ ap before_nul cut in
     let header : IsPlainHeader bytes = (rw whole at plain, rw whole at size) in
     (header, rw (same, whole) (header_of-plain bytes long header))
+
+-- a file that begins with the same 4096 bytes has the same header
+pub header_of-front : (bytes file kept : List ℕ) → take 4096 file ≡ take 4096 bytes → 4096 ≤ length bytes → IsPlainHeader bytes →
+    header_of bytes ≡ Ok (record { size = 4096; text = kept }) →
+    (4096 ≤ length file) × IsPlainHeader file × (header_of file ≡ Ok (record { size = 4096; text = kept }))
+header_of-front bytes file kept same long plain is =
+    let counts = ap length same in
+    let count_file = length-take 4096 file in
+    let count_bytes = length-take 4096 bytes in
+    let file_long : 4096 ≤ length file = omega arith in
+    let text : header_text 4096 bytes ≡ header_text 4096 file = ap before_nul (sym same) in
+    let file_plain : IsPlainHeader file = (rw text at plain.0, rw text at plain.1) in
+    let read = header_of-plain bytes long plain in
+    let whole : header_of file ≡ header_of bytes = rw (header_of-plain file file_long file_plain, read, text) refl in
+    (file_long, file_plain, whole ∙ is)

@@ -1,4 +1,5 @@
-ghost use Rattle.std.specs.Prelude.{◌≡◌, ℕ, List, Ok, IfOk, IfErr, IfSome, IfNone, option_copied, string_bytes, position, ◌==◌};
+// Headers that are read: 4096 bytes, of which the text ends at the first NUL.
+ghost use Rattle.std.specs.Prelude.{◌≡◌, ℕ, ◌≤◌, List, length, take, Ok, IfOk, IfErr, IfSome, IfNone, option_copied, string_bytes, position, ◌==◌};
 ghost use Rattle.dada_model.specs.Fields.{HeaderText, fields_of, value_of, before_nul, header_of};
 ghost use Rattle.dada_header.specs.Plain.{IsPlainText, HasPlainSize, IsPlainHeader};
 
@@ -43,12 +44,14 @@ impl Model for Header {
     ghost invariant = { λ header. IsPlainText (string_bytes header.text) };
 }
 
+// The place of the first NUL.
 fn first_nul(bytes: &[u8]) -> Option<usize>
     ensures { result ≡ position (λ byte. byte == 0) bytes.now }
 {
     bytes.iter().position(|byte| *byte == 0)
 }
 
+// The bytes before the first NUL, or all where there is none.
 fn before_nul_of(bytes: &[u8]) -> &[u8]
     ensures { result.now ≡ before_nul bytes.now }
 {
@@ -58,6 +61,7 @@ fn before_nul_of(bytes: &[u8]) -> &[u8]
     }
 }
 
+// The text of a block of 4096 bytes, if it is plain and HDR_SIZE, where it stands, is 4096.
 fn plain_text(block: &[u8]) -> Option<&str>
     ensures some { IfSome result (λ text. (text.now ≡ before_nul block.now) × IsPlainText text.now × HasPlainSize text.now) }
     ensures none { IfNone result (¬ (IsPlainText (before_nul block.now) × HasPlainSize (before_nul block.now))) }
@@ -77,9 +81,13 @@ fn plain_text(block: &[u8]) -> Option<&str>
 impl Header {
     ghost use Rattle.dada_header.specs.Faults.{Explains};
 
-    /// The header that stands at the beginning of `bytes`. Bytes past its 4096 are ignored.
+    /// The header that stands at the beginning of `bytes`. Bytes past its 4096 are ignored: it is the
+    /// header of each file that begins with the same 4096 bytes.
     pub fn read(alloc: Global, bytes: &[u8]) -> Result<Header, HeaderFault>
         ensures ok { IfOk result (λ header. IsPlainHeader bytes.now × (header_of bytes.now ≡ Ok header)) }
+        ensures size { IfOk result (λ header. header.size ≡ 4096) }
+        ensures front { IfOk result (λ header. (file : List ℕ) → take 4096 file ≡ take 4096 bytes.now
+            → (4096 ≤ length file) × IsPlainHeader file × (header_of file ≡ Ok header)) }
         ensures fault { IfErr result (λ fault. Explains bytes.now fault) }
     {
         let Some(block) = bytes.get(..SIZE) else {

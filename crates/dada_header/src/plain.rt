@@ -1,8 +1,10 @@
+// Plain texts, and the values in them.
 ghost use Rattle.std.specs.Prelude.{◌≡◌, ◌↔◌, IsTrue, option_copied};
 ghost use Rattle.dada_model.specs.Fields.{fields_of, value_of};
 ghost use Rattle.dada_header.specs.Plain.{IsPlainWord, IsPlainText};
 ghost use Rattle.dada_header.specs.Lines.{IsPlainLine};
 
+// Whether a word is graphic ASCII without '#', and not empty.
 #[tactic(auto, using(crate::proofs::PlainLines::plain_word_parts))]
 fn is_plain_word(word: &str) -> bool
     ensures { IsTrue result ↔ IsPlainWord word.now }
@@ -13,6 +15,7 @@ fn is_plain_word(word: &str) -> bool
             .all(|byte| byte.is_ascii_graphic() && byte != b'#')
 }
 
+// Whether a line is two plain words with one space between them.
 fn is_plain_line(line: &str) -> bool
     ensures { IsTrue result ↔ IsPlainLine line.now }
 {

@@ -1,3 +1,4 @@
+// Headers as files have them, with their values or their faults.
 use crate::{Header, HeaderFault};
 use std::alloc::{AllocError, Global};
 use std::test::Fail;

@@ -1,12 +1,12 @@
 -- What an accepted header's numbers are, and when a header is accepted.
-use Rattle.std.proofs.Common.{◌≡◌, ℕ, ◌≤◌, Bool, true, false, cond, List, [], ◌∷◌, ◌++◌, refl, sym, arith, Option, Some, None, Result, Ok, Err}
-use Rattle.std.specs.Prelude.{ℤ, pos, negsuc, filter_map, unsigned_abs}
+use Rattle.std.proofs.Common.{◌≡◌, Bool, true, false, cond, List, [], ◌∷◌, ◌++◌, refl, sym, Option, Some, None, Result, Ok, Err}
+use Rattle.std.specs.Prelude.{ℤ, filter_map}
 use Rattle.std.specs.List.{AllByRecursion, cons_option}
-use Rattle.std.proofs.lemmas.Bool.Decides.{nat_tests}
 use Rattle.dada_model.specs.declared.key.Key.{Key}
 use Rattle.dada_model.specs.declared.key.Key.TheVariants.{Nchan, Nbit, Npol, Ndim, Tsamp, Freq, Bw, ObsOffset}
 use Rattle.dada_model.specs.Fields.{Field}
-use Rattle.dada_model.specs.Observation.{Observation, Refusal, keys, number_of, observation_in, is_within, is_in_row, refusal_of_number, outside, refusal_at, too_narrow, refusals, unless_refused, observation_of}
+use Rattle.dada_model.specs.Laws.{HasNumberInRow}
+use Rattle.dada_model.specs.Observation.{Observation, Refusal, keys, number_of, observation_in, is_in_row, refusal_of_number, outside, refusal_at, too_narrow, refusals, unless_refused, observation_of}
 
 -- ---- the list of refusals
 
@@ -59,13 +59,6 @@ pub accepted_when : (fields : List Field) → ((key : Key) → refusal_at fields
 unfolding observation_of refusals
 accepted_when fields h wide = rw (all_none (refusal_at fields) keys h) (rw wide refl)
 
--- one key that is refused refuses the header
-pub refused : (fields : List Field) (key : Key) (r : Refusal) → refusal_at fields key ≡ Some r → (o : Observation) → observation_of fields ≡ Ok o → ⊥
-refused fields key r e o accepted = let none = accepted_at fields o accepted key in (cc)
-
-pub refused_narrow : (fields : List Field) (r : Refusal) → too_narrow (observation_in fields) ≡ r ∷ [] → (o : Observation) → observation_of fields ≡ Ok o → ⊥
-refused_narrow fields r e o accepted = let none = accepted_wide fields o accepted in (cc)
-
 -- ---- one key
 
 passed : (b : Bool) (r : Refusal) → cond b None (Some r) ≡ None → b ≡ true
@@ -79,14 +72,12 @@ number_if_none o key (Ok z) e = (z, refl, passed (is_in_row o key z) (outside ke
 none_if_number : (o : Observation) (key : Key) (z : ℤ) → is_in_row o key z ≡ true → refusal_of_number o key (Ok z) ≡ None
 none_if_number o key z e = rw e
 
-pub number_when : (fields : List Field) (key : Key) → refusal_at fields key ≡ None → (z : ℤ) × (number_of fields key ≡ Ok z) × (is_in_row (observation_in fields) key z ≡ true)
+pub number_when : (fields : List Field) (key : Key) → refusal_at fields key ≡ None → HasNumberInRow fields key
 unfolding refusal_at
-number_when fields key e = number_if_none (observation_in fields) key (number_of fields key) e
+number_when fields key e =
+    let found = number_if_none (observation_in fields) key (number_of fields key) e in
+    record { number = found.0; is = found.1; in_row = found.2 }
 
-pub none_when : (fields : List Field) (key : Key) (z : ℤ) → number_of fields key ≡ Ok z → is_in_row (observation_in fields) key z ≡ true → refusal_at fields key ≡ None
+pub none_when : (fields : List Field) (key : Key) → HasNumberInRow fields key → refusal_at fields key ≡ None
 unfolding refusal_at
-none_when fields key z e h = rw e (none_if_number (observation_in fields) key z h)
-
-pub within : (low high : ℕ) (z : ℤ) → is_within (pos low) (pos high) z ≡ true → (low ≤ unsigned_abs z) × (unsigned_abs z ≤ high)
-within low high (pos n) e = (grind (arith, nat_tests), grind (arith, nat_tests))
-within low high (negsuc n) e = (cc)
+none_when fields key h = rw h.is (none_if_number (observation_in fields) key h.number h.in_row)

@@ -8,12 +8,14 @@ use Rattle.std.proofs.lemmas.Bool.{cases_lt, and_parts}
 use Rattle.std.proofs.lemmas.Bool.Decides.{nat_tests}
 use Rattle.std.proofs.lemmas.Nat.{le-div, div_below}
 use Rattle.std.proofs.Math.Nat.{mul-le-mul_right, div-lt_iff_lt-mul, le-div_iff_mul-le, le_of_mul-le-mul_right, lt_of_mul-lt-mul_right}
+use Rattle.dada_model.specs.declared.key.Key.{Key}
 use Rattle.dada_model.specs.declared.key.Key.TheVariants.{Nchan, Tsamp, Freq, Bw, ObsOffset}
 use Rattle.dada_model.specs.Fields.{Field}
 use Rattle.dada_model.specs.Observation.{Observation, Refusal, TooNarrow, signed_edge, number_of, observation_in, is_within, is_in_row, too_narrow, observation_of}
-use Rattle.dada_model.specs.Bounds.{IsInRange}
+use Rattle.dada_model.specs.Bounds.{IsInRange, IsBandWidth}
+use Rattle.dada_model.specs.Laws.{HasNumberInRow, AcceptedByRows}
 use Rattle.dada_model.proofs.Edges.{difference}
-use Rattle.dada_model.proofs.Accepted.{accepted_is, accepted_at, accepted_wide, number_when, within}
+use Rattle.dada_model.proofs.Accepted.{accepted_is, accepted_at, accepted_wide, accepted_when, number_when, none_when}
 
 -- ---- a floor over numbers with sign, against its bounds
 
@@ -55,12 +57,6 @@ most_when a c d m positive low h =
 
 -- ---- the row of BW
 
--- a bandwidth that lies in its row: not 0, the foot of the band at 1 kHz at least, and its top at 16777216 kHz at most
-pub record IsBand (o : Observation) (width : ℕ) : Type 0 where
-  pub some : 0 < width
-  pub foot : o.width_hz + 2000 ≤ 2 * o.centre_hz
-  pub top : 2 * o.centre_hz + o.width_hz < 2000 * 16777217
-
 eqb_zero : (n : ℕ) → not (eqb n 0) ≡ true → 0 < n
 eqb_zero n e = grind (arith, nat_tests)
 
@@ -93,22 +89,26 @@ module _ (o : Observation) (positive : 0 < o.channels) where
       let whole : (2 * o.centre_hz + o.width_hz + 1) * o.channels ≤ 2000 * 16777217 * o.channels = mul-le-mul_right o.channels wider in
       most_when (2 * o.centre_hz * o.channels + o.width_hz * o.channels) (2 * o.width_hz * 0) (2000 * o.channels) 16777216 (omega arith) (omega arith) (omega arith)
 
-  pub band_from : (z : ℤ) → is_in_row o Bw z ≡ true → IsBand o (unsigned_abs z)
+  pub band_from : (z : ℤ) → is_in_row o Bw z ≡ true → IsBandWidth o (unsigned_abs z)
   band_from z e =
       let parts = and_parts (not (eqb (unsigned_abs z) 0)) (int_le (pos 1) (signed_edge o o.channels) && int_le (signed_edge o 0) (pos 16777216)) e in
       let ends = and_parts (int_le (pos 1) (signed_edge o o.channels)) (int_le (signed_edge o 0) (pos 16777216)) parts.1 in
       record { some = eqb_zero (unsigned_abs z) parts.0; foot = foot_from ends.0; top = top_from ends.1 }
 
-  pub band_when : (z : ℤ) → IsBand o (unsigned_abs z) → is_in_row o Bw z ≡ true
+  pub band_when : (z : ℤ) → IsBandWidth o (unsigned_abs z) → is_in_row o Bw z ≡ true
   band_when z band = rw (zero_eqb (unsigned_abs z) band.some, foot_when band.foot, top_when band.top) refl
 
 -- ---- the bounds of an accepted observation
 
-bounded : (low high : ℕ) (n : Result ℤ Refusal) → (z : ℤ) × (n ≡ Ok z) × (is_within (pos low) (pos high) z ≡ true) → (low ≤ unsigned_abs (result_unwrap_or n (pos 0))) × (unsigned_abs (result_unwrap_or n (pos 0)) ≤ high)
-bounded low high n (z, e, h) = rw e (within low high z h)
+within : (low high : ℕ) (z : ℤ) → is_within (pos low) (pos high) z ≡ true → (low ≤ unsigned_abs z) × (unsigned_abs z ≤ high)
+within low high (pos n) e = (grind (arith, nat_tests), grind (arith, nat_tests))
+within low high (negsuc n) e = (cc)
 
-band_of : (o : Observation) → 0 < o.channels → (n : Result ℤ Refusal) → (z : ℤ) × (n ≡ Ok z) × (is_in_row o Bw z ≡ true) → IsBand o (unsigned_abs (result_unwrap_or n (pos 0)))
-band_of o positive n (z, e, h) = rw e (band_from o positive z h)
+bounded : (low high : ℕ) (n : Result ℤ Refusal) (z : ℤ) → n ≡ Ok z → is_within (pos low) (pos high) z ≡ true → (low ≤ unsigned_abs (result_unwrap_or n (pos 0))) × (unsigned_abs (result_unwrap_or n (pos 0)) ≤ high)
+bounded low high n z e h = rw e (within low high z h)
+
+band_of : (o : Observation) → 0 < o.channels → (n : Result ℤ Refusal) (z : ℤ) → n ≡ Ok z → is_in_row o Bw z ≡ true → IsBandWidth o (unsigned_abs (result_unwrap_or n (pos 0)))
+band_of o positive n z e h = rw e (band_from o positive z h)
 
 lt_ltb : (a b : ℕ) → a < b → ltb a b ≡ true
 lt_ltb a b h = grind (arith, nat_tests)
@@ -123,29 +123,45 @@ wide_from o e =
       | inr h ↦ h
     ]
 
-pub wide_when : (o : Observation) → 1000 * o.channels ≤ o.width_hz → too_narrow o ≡ []
+wide_when : (o : Observation) → 1000 * o.channels ≤ o.width_hz → too_narrow o ≡ []
 wide_when o h = rw (le_ltb o.width_hz (1000 * o.channels) h) refl
 
-in_range : (fields : List Field) → (o : Observation) → observation_of fields ≡ Ok o → IsInRange (observation_in fields)
-unfolding observation_in
-in_range fields o accepted =
-    let channels = bounded 2 4096 (number_of fields Nchan) (number_when fields Nchan (accepted_at fields o accepted Nchan)) in
-    let sample = bounded 1 (2 ^ 30) (number_of fields Tsamp) (number_when fields Tsamp (accepted_at fields o accepted Tsamp)) in
-    let centre = bounded 1000 16000000000 (number_of fields Freq) (number_when fields Freq (accepted_at fields o accepted Freq)) in
-    let offset = bounded 0 (10 ^ 15) (number_of fields ObsOffset) (number_when fields ObsOffset (accepted_at fields o accepted ObsOffset)) in
-    let band = band_of (observation_in fields) (omega arith) (number_of fields Bw) (number_when fields Bw (accepted_at fields o accepted Bw)) in
-    record {
-      few_channels = channels.0;
-      many_channels = channels.1;
-      short_sample = sample.0;
-      long_sample = sample.1;
-      low_centre = centre.0;
-      high_centre = centre.1;
-      foot = band.foot;
-      top = band.top;
-      wide = wide_from (observation_in fields) (accepted_wide fields o accepted);
-      early = offset.1;
-    }
+-- each key's number, by its row
+module _ (fields : List Field) (o : Observation) (accepted : observation_of fields ≡ Ok o) where
+  pub in_row_of : (key : Key) → HasNumberInRow fields key
+  in_row_of key = number_when fields key (accepted_at fields o accepted key)
 
-pub IsInRange-accepted : (fields : List Field) (o : Observation) → observation_of fields ≡ Ok o → IsInRange o
-IsInRange-accepted fields o accepted = rw (accepted_is fields o accepted) (in_range fields o accepted)
+  in_range : IsInRange (observation_in fields)
+  unfolding observation_in
+  in_range =
+      let channels = bounded 2 4096 (number_of fields Nchan) _ (in_row_of Nchan).is (in_row_of Nchan).in_row in
+      let sample = bounded 1 (2 ^ 30) (number_of fields Tsamp) _ (in_row_of Tsamp).is (in_row_of Tsamp).in_row in
+      let centre = bounded 1000 16000000000 (number_of fields Freq) _ (in_row_of Freq).is (in_row_of Freq).in_row in
+      let offset = bounded 0 (10 ^ 15) (number_of fields ObsOffset) _ (in_row_of ObsOffset).is (in_row_of ObsOffset).in_row in
+      let band = band_of (observation_in fields) (omega arith) (number_of fields Bw) _ (in_row_of Bw).is (in_row_of Bw).in_row in
+      record {
+        few_channels = channels.0;
+        many_channels = channels.1;
+        short_sample = sample.0;
+        long_sample = sample.1;
+        low_centre = centre.0;
+        high_centre = centre.1;
+        foot = band.foot;
+        top = band.top;
+        wide = wide_from (observation_in fields) (accepted_wide fields o accepted);
+        early = offset.1;
+      }
+
+  pub IsInRange-accepted : IsInRange o
+  IsInRange-accepted = rw (accepted_is fields o accepted) in_range
+
+  pub wide_accepted : 1000 * o.channels ≤ o.width_hz
+  wide_accepted = let bounds = IsInRange-accepted in bounds.wide
+
+pub accepted_by_rows : AcceptedByRows
+accepted_by_rows fields o = (
+  λ accepted. (accepted_is fields o accepted, in_row_of fields o accepted, wide_accepted fields o accepted),
+  λ (same, rows, wide).
+      let room : 1000 * (observation_in fields).channels ≤ (observation_in fields).width_hz = rw same at wide in
+      rw same (accepted_when fields (λ key. none_when fields key (rows key)) (wide_when (observation_in fields) room)),
+)

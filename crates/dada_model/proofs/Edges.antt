@@ -1,10 +1,10 @@
 -- The edges of the channels of an accepted observation, and its dispersion measure.
-use Rattle.std.proofs.Common.{◌≡◌, ℕ, zero, suc, ◌+◌, ◌-◌, ◌*◌, ◌/◌, ◌^◌, ◌<◌, ◌≤◌, length, get_or, ap, ◌∙◌, arith}
+use Rattle.std.proofs.Common.{◌≡◌, ℕ, zero, suc, ◌+◌, ◌-◌, ◌*◌, ◌/◌, ◌^◌, ◌<◌, ◌≤◌, length, get_or, ap, arith}
 use Rattle.std.specs.Prelude.{pos, ◌-ℤ◌, unsigned_abs}
 use Rattle.std.proofs.lemmas.Int.{ints}
 use Rattle.std.proofs.lemmas.Nat.{le-div, div_below, mul-le}
 use Rattle.std.proofs.lemmas.List.FromFn.{length-map-range_with_len, get_or-map-range_with_len}
-use Rattle.std.proofs.Math.Nat.{mul-le-mul_left, mul-le-mul_right, div-mul-le_self, div-le_of_le-mul, pow-suc, pow-zero}
+use Rattle.std.proofs.Math.Nat.{mul-le-mul_left, mul-le-mul_right, div-mul-le_self, div-le_of_le-mul}
 use Rattle.dada_model.specs.Bounds.{IsInRange}
 use Rattle.dada_model.specs.Laws.{AreEdges}
 use Rattle.dada_model.specs.Observation.{Observation, signed_edge, edge, edges, dispersion_span}
@@ -65,6 +65,12 @@ module _ (o : Observation) (r : IsInRange o) where
       let next : i + suc j ≡ (i + j) + 1 = omega arith in
       rw next (omega (arith, edge_falls (i + j) (omega arith), edge_falls_by i j (omega arith)))
 
+  edge_above : (i k : ℕ) → i < k → k ≤ o.channels → edge o k < edge o i
+  edge_above i k below small =
+      let apart = edge_falls_by i (k - i) (omega arith) in
+      let same : i + (k - i) ≡ k = omega arith in
+      omega (arith, rw same at apart)
+
 -- the list of the edges
 pub length-edges : (o : Observation) → length (edges o) ≡ o.channels + 1
 unfolding edges
@@ -75,14 +81,6 @@ unfolding edges
 get_or-edges o k small = get_or-map-range_with_len (edge o) 0 (o.channels + 1) k k 0 (omega arith) (omega arith)
 
 -- ---- the dispersion measure
-
-square : (n : ℕ) → n ^ 2 ≡ n * n
-square n = pow-suc n 1 ∙ ap (λ x. x * n) (pow-suc n 0 ∙ ap (λ x. x * n) (pow-zero n) ∙ omega arith)
-
--- the span in products
-pub dispersion_span_is : (o : Observation) → dispersion_span o ≡ edge o 0 * edge o 0 * (edge o o.channels * edge o o.channels) / (edge o 0 * edge o 0 - edge o o.channels * edge o o.channels)
-unfolding dispersion_span
-dispersion_span_is o = rw (square (edge o 0), square (edge o o.channels))
 
 span_below : (top foot : ℕ) → foot + 2 ≤ top → top ≤ 2 ^ 24 → top * top * (foot * foot) / (top * top - foot * foot) ≤ 2 ^ 71
 span_below top foot apart low =
@@ -96,13 +94,14 @@ span_below top foot apart low =
     div-le_of_le-mul (top * top - foot * foot) (omega arith)
 
 module _ (o : Observation) (r : IsInRange o) where
-  pub dispersion_span_below : dispersion_span o ≤ 2 ^ 71
+  dispersion_span_below : dispersion_span o ≤ 2 ^ 71
+  unfolding dispersion_span
   dispersion_span_below =
       let falls = edge_falls_by o r 0 o.channels (omega arith) in
       let some = r.few_channels in
       let whole : 0 + o.channels ≡ o.channels = omega arith in
       let apart : edge o o.channels + 2 ≤ edge o 0 = omega (arith, rw whole at falls) in
-      rw (dispersion_span_is o) (span_below (edge o 0) (edge o o.channels) apart (edge_below o r 0 (omega arith)))
+      span_below (edge o 0) (edge o o.channels) apart (edge_below o r 0 (omega arith))
 
   -- no number in the dispersion measure reaches 2^122
   pub dm_fits : (d : ℕ) → d ≤ 8192 → d * o.sample_ns * 241 * dispersion_span o < 2 ^ 122
@@ -115,6 +114,6 @@ pub AreEdges-edges : (o : Observation) → IsInRange o → AreEdges o.channels (
 AreEdges-edges o r = record {
   count = length-edges o;
   top = rw (get_or-edges o 0 (omega arith)) (edge_below o r 0 (omega arith));
-  falls = λ k small. rw (get_or-edges o (k + 1) (omega arith), get_or-edges o k (omega arith)) (edge_falls o r k small);
+  falls = λ i k below small. rw (get_or-edges o k small, get_or-edges o i (omega arith)) (edge_above o r i k below small);
   positive = λ k small. rw (get_or-edges o k small) (edge_positive o r k small);
 }

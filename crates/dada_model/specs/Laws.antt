@@ -1,26 +1,60 @@
 -- Laws of the definitions; the functions of this crate carry them.
-use Rattle.std.specs.Prelude.{◌≡◌, ℕ, ◌+◌, ◌*◌, ◌/◌, ◌^◌, ◌<◌, ◌≤◌, ◌⊎◌, ◌↔◌, Bool, true, false, if◌then◌else◌, List, [], ◌∷◌, ◌++◌, All, length, slice_index, Some, Ok, ℤ, pos, neg_ℤ, codes}
+use Rattle.std.specs.Prelude.{◌≡◌, ℕ, ◌+◌, ◌-◌, ◌*◌, ◌/◌, ◌^◌, ◌<◌, ◌≤◌, ◌⊎◌, ◌↔◌, Bool, true, false, if◌then◌else◌, List, [], ◌∷◌, ◌++◌, All, length, slice_index, Some, Ok, ℤ, pos, neg_ℤ, unsigned_abs, codes}
 use Rattle.std.specs.Char.{IsAsciiDigit}
 use Rattle.std.specs.Str.Parse.{digits_value}
+use Rattle.dada_model.specs.declared.key.Key.{Key}
+use Rattle.dada_model.specs.declared.key.Key.TheVariants.{Bw}
 use Rattle.dada_model.specs.Number.{number_value}
 use Rattle.dada_model.specs.Fields.{Field}
-use Rattle.dada_model.specs.Observation.{Observation, observation_of, edges, dispersion_span}
+use Rattle.dada_model.specs.Observation.{Observation, number_of, observation_in, is_in_row, observation_of, edge, edges, dispersion_span}
+use Rattle.dada_model.specs.Bounds.{IsInRange, IsBandWidth}
+
+-- ---- observations
+
+-- a header has a number for a key, and it lies in the key's row
+pub record HasNumberInRow (fields : List Field) (key : Key) : Type 0 where
+  pub number : ℤ
+  pub is : number_of fields key ≡ Ok number
+  pub in_row : is_in_row (observation_in fields) key number ≡ true
+
+-- a header is accepted exactly where each key has a number in its row and each channel 1 kHz at least; its observation is
+-- that of its numbers
+abbrev pub AcceptedByRows : Type 0
+AcceptedByRows = (fields : List Field) (o : Observation) →
+    (observation_of fields ≡ Ok o)
+    ↔ ((o ≡ observation_in fields) × ((key : Key) → HasNumberInRow fields key) × (1000 * o.channels ≤ o.width_hz))
+
+-- an accepted observation lies within its bounds
+abbrev pub AcceptedIsInRange : Type 0
+AcceptedIsInRange = (fields : List Field) (o : Observation) → observation_of fields ≡ Ok o → IsInRange o
+
+-- the row of BW in natural numbers
+abbrev pub BandsInRow : Type 0
+BandsInRow = (o : Observation) (z : ℤ) → 0 < o.channels → (is_in_row o Bw z ≡ true) ↔ IsBandWidth o (unsigned_abs z)
+
+-- ---- edges
 
 -- what holds of the edges of n channels in kHz, from the top of the band down to its foot
 pub record AreEdges (n : ℕ) (edges : List ℕ) : Type 0 where
   pub count : length edges ≡ n + 1
   pub top : slice_index edges 0 ≤ 2 ^ 24
-  pub falls : (k : ℕ) → k < n → slice_index edges (k + 1) < slice_index edges k
+  pub falls : (i k : ℕ) → i < k → k ≤ n → slice_index edges k < slice_index edges i
   pub positive : (k : ℕ) → k ≤ n → 0 < slice_index edges k
 
--- an accepted observation has such edges
+-- an observation within its bounds has such edges
 abbrev pub EdgesFall : Type 0
-EdgesFall = (fields : List Field) (o : Observation) → observation_of fields ≡ Ok o → AreEdges o.channels (edges o)
+EdgesFall = (o : Observation) → IsInRange o → AreEdges o.channels (edges o)
+
+-- its edge k in natural numbers
+abbrev pub EdgesAreQuotients : Type 0
+EdgesAreQuotients = (o : Observation) (k : ℕ) → IsInRange o → k ≤ o.channels →
+    edge o k ≡ (2 * o.centre_hz * o.channels + o.width_hz * o.channels - 2 * o.width_hz * k) / (2000 * o.channels)
 
 -- no number in its dispersion measure reaches 2^122, up to the greatest delay
 abbrev pub DispersionFits : Type 0
-DispersionFits = (fields : List Field) (o : Observation) (d : ℕ) → observation_of fields ≡ Ok o → d ≤ 8192 →
-    d * o.sample_ns * 241 * dispersion_span o < 2 ^ 122
+DispersionFits = (o : Observation) (d : ℕ) → IsInRange o → d ≤ 8192 → d * o.sample_ns * 241 * dispersion_span o < 2 ^ 122
+
+-- ---- number texts
 
 -- a minus; or a plus or nothing
 abbrev pub IsSign : Bool → List ℕ → Type 0

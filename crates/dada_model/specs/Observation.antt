@@ -145,11 +145,14 @@ observation_of fields = unless_refused (observation_in fields) (refusals fields)
 
 -- ---- the dispersion measure
 
+abbrev pub square : ℕ → ℕ
+square x = x * x
+
 -- 1 / (1/F_n^2 - 1/F_0^2) in kHz^2, where F_0 is the top and F_n the foot of the band, rounded down
 unfoldable pub dispersion_span : Observation → ℕ
 dispersion_span o =
-    let top = edge o 0 ^ 2 in
-    let foot = edge o o.channels ^ 2 in
+    let top = square (edge o 0) in
+    let foot = square (edge o o.channels) in
     top * foot / (top - foot)
 
 -- the dispersion measure, in thousandths of pc/cm^3, of a delay of d samples across the band (the

@@ -1,3 +1,4 @@
+// The keys of an observation.
 ghost use Rattle.std.specs.Prelude.{◌≡◌};
 
 /// A header's keyword that an observation is read from, in the order in which the keywords are judged.

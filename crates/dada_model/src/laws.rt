@@ -1,14 +1,36 @@
-// Laws of the definitions, which the contracts of functions that do nothing carry.
-ghost use Rattle.dada_model.specs.Laws.{NumbersAreSpelled, EdgesFall, DispersionFits};
+// Laws of the definitions, which the contracts of functions that do nothing carry. A caller whose proof
+// needs a law calls its function.
+ghost use Rattle.dada_model.specs.Laws.{NumbersAreSpelled, AcceptedByRows, AcceptedIsInRange, BandsInRow, EdgesFall, EdgesAreQuotients, DispersionFits};
 
 /// A text has a value exactly where it is a sign, digits, and optionally a point and digits.
 pub fn numbers_are_spelled()
     ensures { NumbersAreSpelled }
 {}
 
-/// The edges of an accepted observation are positive, fall strictly, and are at most 2^24 kHz.
+/// A header is accepted exactly where the number of each key lies in its row and each channel has
+/// 1 kHz or more.
+pub fn accepted_by_rows()
+    ensures { AcceptedByRows }
+{}
+
+/// An accepted observation lies within its bounds.
+pub fn accepted_is_in_range()
+    ensures { AcceptedIsInRange }
+{}
+
+/// BW lies in its row exactly where it isn't 0 and the band lies within 1 kHz and 2^24 kHz.
+pub fn bands_in_row()
+    ensures { BandsInRow }
+{}
+
+/// The edges of an observation within its bounds are positive, fall strictly, and are at most 2^24 kHz.
 pub fn edges_fall()
     ensures { EdgesFall }
+{}
+
+/// Each edge of an observation within its bounds is a quotient of natural numbers.
+pub fn edges_are_quotients()
+    ensures { EdgesAreQuotients }
 {}
 
 /// The numbers of a dispersion measure fit 122 bits.

@@ -7,5 +7,8 @@ mod laws;
 mod number;
 
 pub use key::Key;
-pub use laws::{dispersion_fits, edges_fall, numbers_are_spelled};
+pub use laws::{
+    accepted_by_rows, accepted_is_in_range, bands_in_row, dispersion_fits, edges_are_quotients,
+    edges_fall, numbers_are_spelled,
+};
 pub use number::{negative_number, whole_number};

@@ -1,3 +1,4 @@
+-- The numbers of a rule, as the detection rule has them.
 use Rattle.search_model.specs.Detection.{Noise}
 use Rattle.detect_rule.specs.declared.Rule.{Rule}
 

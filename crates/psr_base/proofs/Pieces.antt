@@ -3,7 +3,7 @@ use Rattle.std.proofs.Common.{◌≡◌, ℕ, ◌+◌, ◌-◌, ◌≤◌, List,
 use Rattle.std.proofs.Math.Seq.{take-add, take-append-add}
 use Rattle.std.proofs.lemmas.List.{take-append-le, length-take-le, take_rest}
 use Rattle.psr_base.specs.Told.{Told, moved_by}
-use Rattle.psr_base.specs.Laws.{moved_by-moved_by}
+use Rattle.psr_base.proofs.Laws.{moved_by-moved_by}
 use borrow.Rule.Slice.PartMut.{put_mid, post_of}
 
 -- after f bytes of a list, the next n were put at place f

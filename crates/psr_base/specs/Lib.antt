@@ -1,7 +1,6 @@
--- What the outside objects tell, what their calls do to it, and laws of both.
+-- What the outside objects tell, and what their calls do to it.
 pub mod Count
 pub mod Told
 pub mod Written
 pub mod NamedFiles
 pub mod InMemory
-pub mod Laws

@@ -1,8 +1,7 @@
 -- What the numbers of a header's fields are, and when they are taken.
 use Rattle.std.proofs.Common.{◌≡◌, ◌≢◌, ℕ, zero, suc, ◌+◌, ◌*◌, ◌^◌, ◌<◌, ◌≤◌, true, leb, List, refl, sym, ◌∙◌, arith, Option, Some, None, Result, Ok, Err}
-use Rattle.std.specs.Prelude.{ℤ, pos, neg_ℤ, IfSome, IfNone, MatchOption, unsigned_abs}
+use Rattle.std.specs.Prelude.{◌↔◌, ℤ, pos, neg_ℤ, IfSome, IfNone, MatchOption, unsigned_abs}
 use Rattle.std.specs.Result.{result_unwrap_or}
-use Rattle.std.specs.Str.Parse.{digits_value}
 use Rattle.std.proofs.lemmas.Bool.Decides.{nat_tests}
 use Rattle.std.proofs.lemmas.Nat.{mul-le}
 use Rattle.dada_model.specs.declared.key.Key.{Key}
@@ -10,10 +9,8 @@ use Rattle.dada_model.specs.declared.key.Key.TheVariants.{Nchan, Nbit, Npol, Ndi
 use Rattle.dada_model.specs.Number.{number_value, IsWholeNumber, IsNegativeNumber}
 use Rattle.dada_model.specs.Fields.{Field, value_of}
 use Rattle.dada_model.specs.Observation.{Observation, Refusal, Missing, keyword, decimals, default, number_of, observation_in, is_within, is_in_row}
-use Rattle.dada_model.proofs.Accepted.{accepted_is, accepted_at, accepted_when, number_when, none_when, within}
-use Rattle.dada_model.proofs.Band.{IsBand, band_from, band_when, wide_when, IsInRange-accepted}
-use Rattle.dada_model.specs.Bounds.{IsInRange}
-use Rattle.dada_model.proofs.Numbers.{digits_below}
+use Rattle.dada_model.specs.Bounds.{IsBandWidth}
+use Rattle.dada_model.specs.Laws.{AcceptedByRows, BandsInRow}
 use Rattle.psr_search.specs.Built.{IsWholeText, HasWholeNumber, IsTaken, IsBuilt}
 
 -- ---- whole numbers
@@ -61,7 +58,7 @@ default_number_of fields key (Some n) e h = let has : HasWholeNumber fields key 
 
 -- no field and no default
 pub no_default_number : (fields : List Field) (key : Key) (r : Option ℕ) → value_of (keyword key) fields ≡ None → MatchOption r (default key ≡ None) (λ n. default key ≡ Some (pos n)) → IfNone r (¬ (IsTaken fields key))
-no_default_number fields key None e h = λ taken. let found = number_when fields key taken.accepted in let missing = number_of-missing fields key e h in (cc)
+no_default_number fields key None e h = λ taken. let found = taken.accepted.is in let missing = number_of-missing fields key e h in (cc)
 no_default_number fields key (Some n) e h = tt
 
 -- ---- the numbers' sizes
@@ -72,12 +69,8 @@ scale_below Freq = omega arith
 scale_below Bw = omega arith
 scale_below _ = omega arith
 
-pub number_below : (text : List ℕ) (n : ℕ) → IsWholeNumber 10 text → n ≡ digits_value 10 text → n < 10 ^ 10
-number_below text n whole e = rw e (digits_below 10 text whole)
-
-pub scaled_below : (key : Key) (text : List ℕ) (n scale : ℕ) → scale ≡ 10 ^ decimals key → IsWholeNumber 10 text → n ≡ digits_value 10 text → n * scale ≤ 10 ^ 16
-scaled_below key text n scale scaled whole e =
-    let small = number_below text n whole e in
+pub scaled_below : (key : Key) (n scale : ℕ) → scale ≡ 10 ^ decimals key → n < 10 ^ 10 → n * scale ≤ 10 ^ 16
+scaled_below key n scale scaled small =
     let few : scale ≤ 10 ^ 6 = rw scaled (scale_below key) in
     mul-le n scale (10 ^ 10) (10 ^ 6) (omega arith) few
 
@@ -89,19 +82,21 @@ le_leb a b h = grind (arith, nat_tests)
 pub taken_when : (fields : List Field) (key : Key) (n least most : ℕ) → HasWholeNumber fields key → number_of fields key ≡ Ok (pos n) → is_in_row (observation_in fields) key (pos n) ≡ is_within (pos least) (pos most) (pos n) → least ≤ n → n ≤ most → IsTaken fields key
 taken_when fields key n least most whole e row low high =
     let inside : is_within (pos least) (pos most) (pos n) ≡ true = rw (le_leb least n low, le_leb n most high) refl in
-    record { whole = whole; accepted = none_when fields key (pos n) e (row ∙ inside) }
+    record { whole = whole; accepted = record { number = pos n; is = e; in_row = row ∙ inside } }
 
 same_number : (a b : ℤ) (r : Result ℤ Refusal) → r ≡ Ok a → r ≡ Ok b → a ≡ b
 same_number a b r e f = cc
 
 pub taken_row : (fields : List Field) (key : Key) (z : ℤ) → IsTaken fields key → number_of fields key ≡ Ok z → is_in_row (observation_in fields) key z ≡ true
 taken_row fields key z taken e =
-    let found = number_when fields key taken.accepted in
-    let number = same_number found.0 z (number_of fields key) found.1 e in
-    rw number at found.2
+    let number = same_number taken.accepted.number z (number_of fields key) taken.accepted.is e in
+    rw number at taken.accepted.in_row
+
+within : (low high n : ℕ) → is_within (pos low) (pos high) (pos n) ≡ true → (low ≤ n) × (n ≤ high)
+within low high n e = (grind (arith, nat_tests), grind (arith, nat_tests))
 
 pub taken_within : (fields : List Field) (key : Key) (n least most : ℕ) → IsTaken fields key → number_of fields key ≡ Ok (pos n) → is_in_row (observation_in fields) key (pos n) ≡ is_within (pos least) (pos most) (pos n) → (least ≤ n) × (n ≤ most)
-taken_within fields key n least most taken e row = within least most (pos n) (sym row ∙ taken_row fields key (pos n) taken e)
+taken_within fields key n least most taken e row = within least most n (sym row ∙ taken_row fields key (pos n) taken e)
 
 -- ---- the band
 
@@ -141,22 +136,22 @@ pub record Judges (fields : List Field) (channels centre width : ℕ) : Type 0 w
   pub width_is : number_of fields Bw ≡ Ok (neg_ℤ (pos width))
   pub whole : HasWholeNumber fields Bw
 
-module _ (fields : List Field) (channels centre width : ℕ) (j : Judges fields channels centre width) where
-  positive : 0 < (observation_in fields).channels
-  positive = rw (channels_of fields channels j.channels_are) j.some_channels
+module _ (law : BandsInRow) (fields : List Field) (channels centre width : ℕ) (j : Judges fields channels centre width) where
+  row : (is_in_row (observation_in fields) Bw (neg_ℤ (pos width)) ≡ true) ↔ IsBandWidth (observation_in fields) (unsigned_abs (neg_ℤ (pos width)))
+  row = law (observation_in fields) (neg_ℤ (pos width)) (rw (channels_of fields channels j.channels_are) j.some_channels)
 
   pub band_taken : 0 < width → width + 2000 ≤ 2 * centre → 2 * centre + width < 2000 * 16777217 → IsTaken fields Bw
   band_taken some foot top =
-      let band : IsBand (observation_in fields) (unsigned_abs (neg_ℤ (pos width))) = record {
+      let band : IsBandWidth (observation_in fields) (unsigned_abs (neg_ℤ (pos width))) = record {
         some = rw (magnitude-neg width) some;
         foot = rw (width_of fields width j.width_is, centre_of fields centre j.centre_is) foot;
         top = rw (width_of fields width j.width_is, centre_of fields centre j.centre_is) top;
       } in
-      record { whole = j.whole; accepted = none_when fields Bw (neg_ℤ (pos width)) j.width_is (band_when (observation_in fields) positive (neg_ℤ (pos width)) band) }
+      record { whole = j.whole; accepted = record { number = neg_ℤ (pos width); is = j.width_is; in_row = row.1 band } }
 
   pub taken_band : IsTaken fields Bw → (0 < width) × (width + 2000 ≤ 2 * centre) × (2 * centre + width < 2000 * 16777217)
   taken_band taken =
-      let band = band_from (observation_in fields) positive (neg_ℤ (pos width)) (taken_row fields Bw (neg_ℤ (pos width)) taken j.width_is) in
+      let band = row.0 (taken_row fields Bw (neg_ℤ (pos width)) taken j.width_is) in
       let foot : width + 2000 ≤ 2 * centre = rw (width_of fields width j.width_is, centre_of fields centre j.centre_is) at band.foot in
       let top : 2 * centre + width < 2000 * 16777217 = rw (width_of fields width j.width_is, centre_of fields centre j.centre_is) at band.top in
       let some : 0 < width = rw (magnitude-neg width) at band.some in
@@ -165,8 +160,8 @@ module _ (fields : List Field) (channels centre width : ℕ) (j : Judges fields 
 -- ---- all keys
 
 -- each key is taken where an observation is built
-pub taken_of : (fields : List Field) (key : Key) (o : Observation) → IsBuilt fields o → IsTaken fields key
-taken_of fields key o built = record { whole = built.whole key; accepted = accepted_at fields o built.accepted key }
+pub taken_of : AcceptedByRows → (fields : List Field) (key : Key) (o : Observation) → IsBuilt fields o → IsTaken fields key
+taken_of law fields key o built = record { whole = built.whole key; accepted = ((law fields o).0 built.accepted).1 key }
 
 -- the numbers of fields that are all taken
 pub record Reads (fields : List Field) (channels sample centre width offset : ℕ) : Type 0 where
@@ -186,19 +181,16 @@ unfolding observation_in
 observation_is fields channels sample centre zero offset r = absurd (omega (arith, r.some_width))
 observation_is fields channels sample centre (suc width) offset r = rw (r.channels_are, r.sample_is, r.centre_is, r.width_is, r.offset_is) refl
 
-pub built_when : (fields : List Field) (channels sample centre width offset : ℕ) → Reads fields channels sample centre width offset → 1000 * channels ≤ width → IsBuilt fields (falling_band channels sample centre width offset)
-built_when fields channels sample centre width offset r wide =
+pub built_when : AcceptedByRows → (fields : List Field) (channels sample centre width offset : ℕ) → Reads fields channels sample centre width offset → 1000 * channels ≤ width → IsBuilt fields (falling_band channels sample centre width offset)
+built_when law fields channels sample centre width offset r wide =
     let shown = observation_is fields channels sample centre width offset r in
-    let room : 1000 * (observation_in fields).channels ≤ (observation_in fields).width_hz = rw shown wide in
-    let accepted = accepted_when fields (λ key. (r.taken key).accepted) (wide_when (observation_in fields) room) in
-    record { whole = λ key. (r.taken key).whole; accepted = rw shown at accepted }
+    record { whole = λ key. (r.taken key).whole; accepted = (law fields (falling_band channels sample centre width offset)).1 (sym shown, λ key. (r.taken key).accepted, wide) }
 
-pub built_wide : (fields : List Field) (channels sample centre width offset : ℕ) → Reads fields channels sample centre width offset → (o : Observation) → IsBuilt fields o → 1000 * channels ≤ width
-built_wide fields channels sample centre width offset r o built =
-    let shown : o ≡ falling_band channels sample centre width offset = accepted_is fields o built.accepted ∙ observation_is fields channels sample centre width offset r in
-    let bounds = IsInRange-accepted fields o built.accepted in
-    let moved : IsInRange (falling_band channels sample centre width offset) = rw shown at bounds in
-    moved.wide
+pub built_wide : AcceptedByRows → (fields : List Field) (channels sample centre width offset : ℕ) → Reads fields channels sample centre width offset → (o : Observation) → IsBuilt fields o → 1000 * channels ≤ width
+built_wide law fields channels sample centre width offset r o built =
+    let accepted = (law fields o).0 built.accepted in
+    let shown : o ≡ falling_band channels sample centre width offset = accepted.0 ∙ observation_is fields channels sample centre width offset r in
+    rw shown at accepted.2
 
 pub every_key : (fields : List Field) → IsTaken fields Nchan → IsTaken fields Nbit → IsTaken fields Npol → IsTaken fields Ndim → IsTaken fields Tsamp → IsTaken fields Freq → IsTaken fields Bw → IsTaken fields ObsOffset → (key : Key) → IsTaken fields key
 every_key fields n b p d t f w o Nchan = n

@@ -9,3 +9,4 @@ pub mod Ready
 pub mod TrackLists
 pub mod Files
 pub mod Loops
+pub mod Ranges

@@ -4,7 +4,7 @@ use Rattle.std.specs.List.{flat_map, range_with_len}
 use Rattle.std.specs.Io.KnownBytes.{append_known}
 use Rattle.dada_model.specs.Observation.{Observation}
 use Rattle.search_model.specs.Candidates.{Pulse}
-use Rattle.search_model.proofs.Ranges.{flat_map_range_more, flat_map_range_front}
+use Rattle.psr_search.proofs.Ranges.{flat_map_range_more, flat_map_range_front}
 use Rattle.psr_search.specs.Direct.{lines_of, WroteFront}
 use Rattle.psr_search.proofs.Written.{written_more, front_in_loop}
 

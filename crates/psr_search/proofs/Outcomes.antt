@@ -83,7 +83,7 @@ module _ (words : List (List ℕ)) (told : Told) (inputs_rose out_rose : Type 0)
   stop_outcome written Words r asks kind fault says = absurd kind
   stop_outcome written SinkFault r asks kind fault says = absurd kind
   stop_outcome written (ShortHeader had) r asks kind fault says = quiet_outcome written r 3 asks (2, lit< tt, refl) (lit< tt) (lit< tt)
-      (λ e. says) (λ e. absurd (omega arith)) (λ e. absurd (omega arith))
+      (λ e q also file known h o accepted. let short = (says q also file known).0 in let long = accepted.long in absurd (omega arith)) (λ e. absurd (omega arith)) (λ e. absurd (omega arith))
   stop_outcome written UnbuiltHeader r asks kind fault says = quiet_outcome written r 3 asks (2, lit< tt, refl) (lit< tt) (lit< tt)
       (λ e. says) (λ e. absurd (omega arith)) (λ e. absurd (omega arith))
   stop_outcome written Memory r asks kind fault says = memory_outcome written r asks

@@ -1,12 +1,10 @@
 -- The tracks of all delays, one delay more.
-use Rattle.std.proofs.Common.{◌≡◌, ℕ, ◌+◌, List, [], ◌∷◌, ◌++◌, length, Some, get_or, arith, sym, ◌∙◌, ap, subst, inl, inr, length-append}
+use Rattle.std.proofs.Common.{◌≡◌, ℕ, List, [], ◌∷◌, ◌++◌, length, Some, get_or, arith, sym, ◌∙◌, ap, subst, inl, inr, length-append}
 use Rattle.std.proofs.lemmas.Bool.{cases_lt}
 use Rattle.std.proofs.lemmas.List.{get_or_append_left}
 use Rattle.std.proofs.Math.Seq.{get_or-append_seam}
 use Rattle.std.proofs.lemmas.Option.{slice_get_within, get_or_from_slice_get, slice_get-get_or}
-use Rattle.dada_model.specs.Observation.{Observation, edges}
-use Rattle.search_model.specs.Paths.{IsPath}
-use Rattle.band_paths.specs.Edges.{channels_of}
+use Rattle.dada_model.specs.Observation.{Observation}
 use Rattle.psr_search.specs.declared.track.Track.{Track}
 use Rattle.psr_search.specs.Track.{IsTrack, AreTracks}
 
@@ -27,11 +25,3 @@ tracks_more o tracks t are is =
           let same : t ≡ u = sym (get_or-append_seam tracks t [] u) ∙ ap (λ k. get_or (tracks ++ t ∷ []) k u) (sym place) ∙ value in
           subst P (sym place) (subst Q same is)
     ]
-
--- a path over the edges of n channels
-pub path_over : (o : Observation) (d : ℕ) (e : List ℕ) → length (edges o) ≡ o.channels + 1 → IsPath (edges o) (channels_of (edges o)) d e →
-    IsPath (edges o) o.channels d e
-path_over o d e count path =
-    let same : channels_of (edges o) ≡ o.channels = omega arith in
-    let P : ℕ → Type 0 = λ n. IsPath (edges o) n d e in
-    subst P same path

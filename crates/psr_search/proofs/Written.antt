@@ -1,7 +1,6 @@
 -- What was written, piece after piece.
 use Rattle.std.proofs.Common.{◌≡◌, ℕ, List, [], ◌∷◌, ◌++◌, Option, Some, None, take, drop, refl, sym, ◌∙◌, ap, append_assoc, append-nil, take-append-drop, Result, Ok, Err, OnOk, OnErr}
 use Rattle.std.specs.Io.KnownBytes.{append_known}
-use Rattle.psr_base.specs.Laws.{append_known-append_known}
 use Rattle.std.proofs.lemmas.List.Concat.{flat_map-append}
 use Rattle.dada_model.specs.Observation.{Observation, dm}
 use Rattle.search_model.specs.Candidates.{Pulse}
@@ -12,6 +11,11 @@ use Rattle.psr_search.specs.Direct.{lines_of, WroteFront}
 pub append_known_nil : (w : Option (List ℕ)) → append_known w [] ≡ w
 append_known_nil None = refl
 append_known_nil (Some xs) = ap Some (append-nil xs)
+
+-- one piece was written, and then another
+pub append_known_twice : (w : Option (List ℕ)) (xs ys : List ℕ) → append_known (append_known w xs) ys ≡ append_known w (xs ++ ys)
+append_known_twice None xs ys = refl
+append_known_twice (Some zs) xs ys = ap Some (append_assoc zs xs ys)
 
 pub lines_append : (o : Observation) (ps qs : List Pulse) → lines_of o (ps ++ qs) ≡ lines_of o ps ++ lines_of o qs
 lines_append o ps qs = flat_map-append (pulse_line (dm o) o.channels) ps qs
@@ -34,7 +38,7 @@ front_after before middle after a b e f = record {
   front = a ++ f.front;
   rest = f.rest;
   splits = ap (λ x. a ++ x) f.splits ∙ sym (append_assoc a f.front f.rest);
-  written = f.written ∙ ap (λ w. append_known w f.front) e ∙ append_known-append_known before a f.front;
+  written = f.written ∙ ap (λ w. append_known w f.front) e ∙ append_known_twice before a f.front;
 }
 
 -- a front of a text is one of a longer text
@@ -61,7 +65,7 @@ front_in_loop o before middle after ps qs rest all is e f =
 pub written_more : (o : Observation) (before middle after : Option (List ℕ)) (ps qs all : List Pulse) → all ≡ ps ++ qs →
     middle ≡ append_known before (lines_of o ps) → after ≡ append_known middle (lines_of o qs) → after ≡ append_known before (lines_of o all)
 written_more o before middle after ps qs all is e f =
-    f ∙ ap (λ w. append_known w (lines_of o qs)) e ∙ append_known-append_known before (lines_of o ps) (lines_of o qs)
+    f ∙ ap (λ w. append_known w (lines_of o qs)) e ∙ append_known_twice before (lines_of o ps) (lines_of o qs)
     ∙ ap (append_known before) (sym (lines_append o ps qs) ∙ ap (lines_of o) (sym is))
 
 -- ---- outcomes

@@ -1,10 +1,11 @@
 -- What is taken of a header so far: whole numbers alone, and a band whose frequencies fall.
-use Rattle.std.specs.Prelude.{◌≡◌, ℕ, List, None, Ok, IfSome}
+use Rattle.std.specs.Prelude.{◌≡◌, ℕ, List, Ok, IfSome}
 use Rattle.dada_model.specs.declared.key.Key.{Key}
 use Rattle.dada_model.specs.declared.key.Key.TheVariants.{Bw}
 use Rattle.dada_model.specs.Number.{IsWholeNumber, IsNegativeNumber}
 use Rattle.dada_model.specs.Fields.{Field, value_of}
-use Rattle.dada_model.specs.Observation.{Observation, keyword, refusal_at, observation_of}
+use Rattle.dada_model.specs.Observation.{Observation, keyword, observation_of}
+use Rattle.dada_model.specs.Laws.{HasNumberInRow}
 
 -- a whole number of 1 to 10 digits, after a minus for BW
 abbrev pub IsWholeText : Key → List ℕ → Type 0
@@ -23,4 +24,4 @@ pub record IsBuilt (fields : List Field) (o : Observation) : Type 0 where
 -- what one key asks for that
 pub record IsTaken (fields : List Field) (key : Key) : Type 0 where
   pub whole : HasWholeNumber fields key
-  pub accepted : refusal_at fields key ≡ None
+  pub accepted : HasNumberInRow fields key

@@ -1,5 +1,6 @@
 pub mod Built
 pub mod Pulse
+pub mod Numbers
 pub mod Observation
 pub mod Track
 pub mod Direct

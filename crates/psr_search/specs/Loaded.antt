@@ -24,7 +24,7 @@ IsReadingStop _ = Unit {0}
 -- what a stop in reading the file says of it
 abbrev pub StopsAt : List ℕ → Stop → Type 0
 StopsAt file Words = ⊥
-StopsAt file (ShortHeader had) = (h : HeaderText) (o : Observation) → ¬ IsAccepted file h o
+StopsAt file (ShortHeader had) = (length file < 4096) × (had ≡ length file)
 StopsAt file UnbuiltHeader = (h : HeaderText) (o : Observation) → ¬ IsAccepted file h o
 StopsAt file Memory = Unit {0}
 StopsAt file ReadFault = Unit {0}

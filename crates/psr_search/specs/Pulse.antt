@@ -1,3 +1,4 @@
+-- What a found pulse stands for.
 use Rattle.search_model.specs.Candidates.{Pulse as ListedPulse}
 use Rattle.psr_search.specs.declared.lines.Pulse.{Pulse}
 

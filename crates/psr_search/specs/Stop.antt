@@ -1,3 +1,4 @@
+-- How a search that stopped is answered.
 use Rattle.std.specs.Prelude.{ℕ, List, ◌++◌, codes, Result, Ok, Err}
 use Rattle.std.specs.Fmt.{decimal}
 use Rattle.psr_search.specs.declared.stop.Stop.{Stop}

@@ -1,3 +1,4 @@
+-- What the words that were read stand for.
 use Rattle.psr_search.specs.declared.words.Words.{Words}
 use Rattle.psr_search.specs.Request.{Request}
 

@@ -77,7 +77,7 @@ impl Direct {
     fn spectra(&self) -> usize
         ensures { result ≡ (band self.now).spectra }
     {
-        self.samples.len() / self.observation.channels as usize
+        self.samples.len() / self.observation.numbers.channels as usize
     }
 
     // Writes a line for each pulse, and answers how many there are.
@@ -153,7 +153,7 @@ impl Direct {
         ensures count { K.faults out.old ≤ K.faults out.new }
     {
         let track = &self.tracks[pulse.delay as usize];
-        let line = pulse_line(track.dm, self.observation.channels, pulse);
+        let line = pulse_line(track.dm, self.observation.numbers.channels, pulse);
         match write_all(out, line.as_bytes()) {
             Ok(()) => Ok(1),
             Err(failed) => Err(failed),
@@ -173,7 +173,7 @@ impl Direct {
             return None;
         }
         let total = self.sum_at(u, d);
-        let cells = u64::from(self.observation.channels) + d as u64;
+        let cells = u64::from(self.observation.numbers.channels) + d as u64;
         if !self.rule.detected(total, cells) {
             return None;
         }
@@ -194,7 +194,7 @@ impl Direct {
     {
         path_sum(
             self.samples.as_slice(),
-            self.observation.channels as usize,
+            self.observation.numbers.channels as usize,
             self.tracks[d].delays.as_slice(),
             u,
         )

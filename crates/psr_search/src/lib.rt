@@ -5,6 +5,7 @@ mod direct;
 mod lines;
 mod load;
 mod loaded;
+mod numbers;
 mod observation;
 mod stop;
 mod top;

@@ -44,6 +44,7 @@ pub(crate) fn load<I: Inputs>(alloc: Global, inputs: &mut I, name: &str) -> Resu
 fn read_header<I: Inputs>(alloc: Global, inputs: &mut I, name: &str) -> Result<Header, Stop>
     ensures header { IfOk result (λ header. (file : List ℕ) → (I.told inputs.old).bytes_under name.now ≡ Some file
         → (4096 ≤ length file) × IsPlainHeader file × (header_of file ≡ Ok header)) }
+    ensures size { IfOk result (λ header. header.size ≡ 4096) }
     ensures left { OnOk result ((file : List ℕ) → (I.told inputs.old).bytes_under name.now ≡ Some file
         → left_to_read (I.told inputs.new) ≡ Some (drop 4096 file)) }
     ensures is_open { OnOk result (I.is_open inputs.new) }

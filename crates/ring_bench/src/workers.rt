@@ -13,6 +13,7 @@ use std::thread::{Threads, for_each_mut};
 /// So often a worker tries before it gives up.
 const TRIES: u64 = 1 << 32;
 
+/// The pass of a worker: the writer's or a reader's.
 #[derive(Drop)]
 pub enum End {
     Writes(WriterPass),

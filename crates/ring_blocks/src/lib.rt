@@ -89,6 +89,7 @@ impl Block {
         self.used
     }
 
+    /// The mark that it was filled with.
     pub fn mark(&self) -> Mark
         ensures { result ≡ (entry_of self.now).mark }
     {

@@ -1,3 +1,4 @@
+// A block is filled and copied.
 use crate::{Block, Mark};
 use std::test::Fail;
 

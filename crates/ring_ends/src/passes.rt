@@ -73,6 +73,7 @@ impl WriterPass {
 impl ReaderPass {
     ghost use Rattle.ring_ends.specs.Passes.{reader_knows, is_read, detached_knows, ring_of_reader, ring_of_detached};
 
+    /// The reader's number in its ring, from 0 on.
     pub fn number(&self) -> u32
         ensures { result ≡ (reader_knows self.now).number }
     {

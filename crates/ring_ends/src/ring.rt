@@ -49,6 +49,7 @@ impl Ring {
         Ok((ring, WriterPass { seat }, readers))
     }
 
+    /// The measures that it was opened with.
     pub fn shape(&self) -> RingShape
         ensures { result ≡ ring_shape self.now }
     {

@@ -75,6 +75,7 @@ impl ReaderSeat {
     ghost use Rattle.std.specs.Prelude.{◌/◌, ◌%◌, option_map};
     ghost use Rattle.ring_words.specs.Seats.{reader_view};
 
+    /// The reader's number in its ring, from 0 on.
     pub fn number(&self) -> u32
         ensures { result ≡ (reader_view self.now).number }
     {

@@ -98,6 +98,7 @@ impl Words {
         }
     }
 
+    /// The measures that it was opened with.
     pub fn shape(&self) -> RingShape
         ensures shape { result ≡ shape_of self.now }
         ensures ring { IsRing result }

@@ -1,5 +1,4 @@
 pub mod Worked
-pub mod Ranges
 pub mod Splits
 pub mod Paths
 pub mod Cells

@@ -8,37 +8,18 @@ use Rattle.search_model.proofs.Splits.{split_le}
 
 -- ---- nodes of the halving tree
 
-pub middle_above : (lo hi : ℕ) → lo + 2 ≤ hi → lo < middle lo hi
+middle_above : (lo hi : ℕ) → lo + 2 ≤ hi → lo < middle lo hi
 middle_above lo hi h = omega arith
 
-pub middle_below : (lo hi : ℕ) → lo + 2 ≤ hi → middle lo hi < hi
+middle_below : (lo hi : ℕ) → lo + 2 ≤ hi → middle lo hi < hi
 middle_below lo hi h = omega arith
-
--- an edge stands above each later one
-pub falls_between : (edges : List ℕ) (n : ℕ) → IsBand edges n → (i k : ℕ) → i + suc k ≤ n →
-    slice_index edges (i + suc k) < slice_index edges i
-falls_between edges n band i zero h =
-    let e : i + 1 ≡ i + suc zero = omega arith in
-    rw e at (band.falls i (omega arith))
-falls_between edges n band i (suc k) h =
-    let here = falls_between edges n band i k (omega arith) in
-    let next = band.falls (i + suc k) (omega arith) in
-    let e : i + suc k + 1 ≡ i + suc (suc k) = omega arith in
-    let last : slice_index edges (i + suc (suc k)) < slice_index edges (i + suc k) = rw e at next in
-    omega arith
-
-pub edge_below : (edges : List ℕ) (n : ℕ) → IsBand edges n → (i j : ℕ) → i < j → j ≤ n →
-    slice_index edges j < slice_index edges i
-edge_below edges n band i j h hj =
-    let e : i + suc (j - i - 1) ≡ j = omega arith in
-    rw e at (falls_between edges n band i (j - i - 1) (omega arith))
 
 -- a half gets no more than its node's delay
 pub split_at_le : (edges : List ℕ) (n : ℕ) → IsBand edges n → (lo hi d : ℕ) → lo + 2 ≤ hi → hi ≤ n →
     split_at edges lo hi d ≤ d
 split_at_le edges n band lo hi d h hn =
-    split_le _ _ _ d (edge_below edges n band (middle lo hi) hi (middle_below lo hi h) hn)
-    (edge_below edges n band lo (middle lo hi) (middle_above lo hi h) (omega arith))
+    split_le _ _ _ d (band.falls (middle lo hi) hi (middle_below lo hi h) hn)
+    (band.falls lo (middle lo hi) (middle_above lo hi h) (omega arith))
 
 -- ---- what holds between two edges
 

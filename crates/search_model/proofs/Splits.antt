@@ -3,7 +3,7 @@ use Rattle.std.proofs.Common.{◌≡◌, ℕ, ◌+◌, ◌-◌, ◌*◌, ◌/◌
 use Rattle.std.proofs.lemmas.Nat.{mul-le, div_below}
 use Rattle.search_model.specs.Paths.{split, square}
 
-pub square_below : (a b : ℕ) → a < b → square a < square b
+square_below : (a b : ℕ) → a < b → square a < square b
 square_below a b h = omega (arith, mul-le (a + 1) (a + 1) b b (omega arith) (omega arith))
 
 -- of numbers x + y + l > y + l > l, the two products that a split compares

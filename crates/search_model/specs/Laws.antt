@@ -1,9 +1,25 @@
 -- Laws of the definitions; the functions of this crate carry them.
-use Rattle.std.specs.Prelude.{◌≡◌, ℕ, ◌+◌, ◌≤◌, ◌<◌, ◌↔◌, List, length, slice_index, IsTrue}
+use Rattle.std.specs.Prelude.{◌≡◌, ℕ, ◌+◌, ◌-◌, ◌*◌, ◌/◌, ◌≤◌, ◌<◌, ◌↔◌, List, length, slice_index, IsTrue}
 use Rattle.search_model.specs.Samples.{Filterbank}
-use Rattle.search_model.specs.Paths.{IsPath, IsBand, path}
+use Rattle.search_model.specs.Paths.{middle, square, split_at, IsHalved, IsPath, IsBand, path}
 use Rattle.search_model.specs.Sums.{path_cells}
 use Rattle.search_model.specs.Detection.{Noise, IsDetected, is_detected}
+
+-- the part of a delay above the middle of three falling edges is below the whole, and a part of d, rounded, is at most d
+pub record SplitsFit : Type 0 where
+  pub part : (high mid low : ℕ) → low < mid → mid < high →
+      (square high - square mid) * square low < (square high - square low) * square mid
+  pub rounded : (part whole d : ℕ) → part < whole → (2 * d * part + whole) / (2 * whole) ≤ d
+
+-- Entries are halved over a single channel always; over both halves together where they are over each and the middle
+-- has its split; and wherever entries are that agree with them from lo to hi.
+pub record HalvesJoin : Type 0 where
+  pub single : (edges : List ℕ) (lo hi : ℕ) (entry : ℕ → ℕ) → lo ≤ hi → hi ≤ lo + 1 → IsHalved edges lo hi entry
+  pub join : (edges : List ℕ) (lo hi : ℕ) (entry : ℕ → ℕ) → lo + 2 ≤ hi →
+      entry (middle lo hi) ≡ entry lo + split_at edges lo hi (entry hi - entry lo) →
+      IsHalved edges lo (middle lo hi) entry → IsHalved edges (middle lo hi) hi entry → IsHalved edges lo hi entry
+  pub same : (edges : List ℕ) (lo hi : ℕ) (other entry : ℕ → ℕ) → lo ≤ hi →
+      ((k : ℕ) → lo ≤ k → k ≤ hi → entry k ≡ other k) → IsHalved edges lo hi other → IsHalved edges lo hi entry
 
 -- over a band, the computed path of a delay is a path of it, and the only one
 abbrev pub HasOnePath : Type 0

@@ -61,5 +61,5 @@ path edges n d = map (λ k. entry n edges 0 n 0 d k) (range_with_len 0 (n + 1))
 -- what holds of the edges of an observation of n channels: n + 1 of them, strictly falling, positive, in kHz
 pub record IsBand (edges : List ℕ) (n : ℕ) : Type 0 where
   pub count : length edges ≡ n + 1
-  pub falls : (k : ℕ) → k < n → slice_index edges (k + 1) < slice_index edges k
+  pub falls : (i k : ℕ) → i < k → k ≤ n → slice_index edges k < slice_index edges i
   pub positive : 0 < slice_index edges n

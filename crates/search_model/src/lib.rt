@@ -2,7 +2,17 @@
 //! They stand in `specs/`. The functions here carry laws about them and do nothing else.
 #![tactic(auto)]
 
-ghost use Rattle.search_model.specs.Laws.{HasOnePath, PathsRise, CellsAreCounted, TestsDetection};
+ghost use Rattle.search_model.specs.Laws.{SplitsFit, HalvesJoin, HasOnePath, PathsRise, CellsAreCounted, TestsDetection};
+
+/// A half of the band gets no more than the delay of the whole.
+pub fn splits_fit()
+    ensures { SplitsFit }
+{}
+
+/// The delays of two halves make those of the whole.
+pub fn halves_join()
+    ensures { HalvesJoin }
+{}
 
 /// The delay path of the definition exists and is the only one.
 pub fn has_one_path()

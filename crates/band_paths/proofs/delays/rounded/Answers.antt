@@ -1,6 +1,5 @@
 use Rattle.std.proofs.Common.{ℕ, ◌≤◌, ◌<◌, ◌*◌, ◌^◌, arith, rules}
 use Rattle.std.proofs.lemmas.Nat.{mul-le}
-use Rattle.search_model.proofs.Splits.{rounded}
 use Rattle.band_paths.proofs.delays.rounded.Goals as goal
 
 -- twice the delay times the part
@@ -19,12 +18,12 @@ overflow_add-result c =
 
 pub overflow_cast-result : goal.overflow_cast-result
 overflow_cast-result c =
-    let r = rounded c.args.part c.args.whole c.from.result c.requires.part in
+    let r = c.splits_fit.ensures.rounded c.args.part c.args.whole c.from.result c.requires.part in
     let e = c.from.ensures in
     omega arith
 
 pub returns-clause-part : goal.returns-clause-part
 returns-clause-part c =
-    let r = rounded c.args.part c.args.whole c.from.result c.requires.part in
+    let r = c.splits_fit.ensures.rounded c.args.part c.args.whole c.from.result c.requires.part in
     let e = c.from.ensures in
     omega arith

@@ -1,4 +1,4 @@
-use Rattle.std.proofs.Common.{◌≡◌, ◌≤◌, ◌+◌, ◌-◌, ◌*◌, sum, map, true}
+use Rattle.std.proofs.Common.{◌≡◌, ℕ, ◌≤◌, ◌+◌, ◌-◌, ◌*◌, All, sum, map, true}
 use Rattle.std.specs.List.{range_with_len}
 use Rattle.search_model.specs.Samples.{filterbank, delayed}
 use Rattle.band_paths.proofs.sums.channel_sum.Given as goal
@@ -6,4 +6,4 @@ use Rattle.band_paths.proofs.sums.channel_sum.Given as goal
 abbrev pub invariant-loop-k : goal.invariant-loop-k
 invariant-loop-k l =
     (l.total ≡ sum (map (λ k. delayed (filterbank l.n true l.samples) l.c (l.u + k) l.d) (range_with_len l.first (l.k - l.first))))
-    × (l.total ≤ 1048576 * (l.k - l.first))
+    × ((m : ℕ) → All (λ x. x ≤ m) l.samples → l.total ≤ m * (l.k - l.first))

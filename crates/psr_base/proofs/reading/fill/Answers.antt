@@ -2,7 +2,7 @@ use Rattle.std.proofs.Common.{◌≡◌, ◌-◌, Some, length, drop, ◌+◌, r
 use Rattle.std.proofs.lemmas.Slice.{take-put_mid_below}
 use borrow.Rule.Slice.PartMut.{put_mid}
 use Rattle.psr_base.specs.Told.{left_to_read, rest_after}
-use Rattle.psr_base.specs.Laws.{left_to_read-moved_by}
+use Rattle.psr_base.proofs.Laws.{left_to_read-moved_by}
 use Rattle.psr_base.proofs.Pieces.{take-put_mid-next, more_within, length-of_ended, moved_by-next}
 use Rattle.psr_base.proofs.reading.fill.Goals as goal
 

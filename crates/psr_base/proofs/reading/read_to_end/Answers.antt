@@ -1,7 +1,7 @@
 use Rattle.std.proofs.Common.{◌≡◌, ◌+◌, ℕ, List, Some, length, drop, vec_len, Ok, Err, OnErr, refl, ◌∙◌, ap, arith}
 use Rattle.std.proofs.lemmas.List.{take_all, length-take-le}
 use Rattle.psr_base.specs.Told.{Told, left_to_read, rest_after, moved_by}
-use Rattle.psr_base.specs.Laws.{left_to_read-moved_by}
+use Rattle.psr_base.proofs.Laws.{left_to_read-moved_by}
 use Rattle.psr_base.proofs.Pieces.{more_within, length-of_ended, append-next, moved_by-next}
 use Rattle.psr_base.proofs.reading.read_to_end.Goals as goal
 

@@ -1,7 +1,7 @@
 use Rattle.std.proofs.Common.{◌-◌, ℕ, List, Option, length, take, drop, ◌∙◌, ap, arith}
 use Rattle.std.specs.Io.KnownBytes.{append_known}
 use Rattle.psr_base.specs.Written.{room_after}
-use Rattle.psr_base.specs.Laws.{append_known-append_known, room_after-room_after}
+use Rattle.psr_base.proofs.Laws.{append_known-append_known, room_after-room_after}
 use Rattle.psr_base.proofs.Pieces.{take-append-rest, rest_within}
 use Rattle.psr_base.proofs.writing.write_all.Goals as goal
 

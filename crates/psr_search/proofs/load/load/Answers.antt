@@ -1,7 +1,7 @@
 use Rattle.std.proofs.Common.{◌≡◌, ◌∙◌, length, drop, ap, sym, subst, rules, vec_len, arith, Err}
 use Rattle.dada_model.specs.Fields.{HeaderText, fields_of}
 use Rattle.psr_search.specs.Built.{IsBuilt}
-use Rattle.psr_search.proofs.Files.{plain_size, ok_injective}
+use Rattle.psr_search.proofs.Files.{ok_injective}
 use Rattle.psr_search.proofs.load.load.Goals as goal
 
 pub returns-in-Err-Unbuilt-clause-stopped : goal.returns-in-Err-Unbuilt-clause-stopped
@@ -16,7 +16,7 @@ pub returns-in-Ok-read_to_end-clause-loaded : goal.returns-in-Ok-read_to_end-cla
 returns-in-Ok-read_to_end-clause-loaded g c =
     λ file known.
     let header = c.in_ok-header.ensures.header file known in
-    let size = plain_size file c.in_ok-header.header header.0 header.1 header.2 in
+    let size = c.in_ok-header.ensures.size in
     let left = c.in_ok-header.ensures.left file known in
     let bytes = c.in-Ok-read_to_end.ensures.whole (drop 4096 file) left in
     let len : vec_len c.in-Ok-read_to_end.bytes ≡ length c.in-Ok-read_to_end.bytes.items = search rules in
@@ -32,7 +32,7 @@ pub returns-in-Err-TooLong-clause-stopped : goal.returns-in-Err-TooLong-clause-s
 returns-in-Err-TooLong-clause-stopped g c =
     λ file known.
     let header = c.in_ok-header.ensures.header file known in
-    let size = plain_size file c.in_ok-header.header header.0 header.1 header.2 in
+    let size = c.in_ok-header.ensures.size in
     let left = c.in_ok-header.ensures.left file known in
     let long = c.read_to_end.ensures.too_long (c.in-Err-TooLong.is ∙ ap Err c.in-Err-TooLong.field-0-is) (drop 4096 file) left in (
       c.in_ok-header.header,

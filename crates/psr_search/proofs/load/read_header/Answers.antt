@@ -1,16 +1,16 @@
 use Rattle.std.proofs.Common.{◌≡◌, ◌∙◌, drop, ap, Some, arith}
-use Rattle.psr_search.proofs.Files.{whole_header, plain_front}
+use Rattle.psr_search.proofs.Files.{same_front, plain_front}
 use Rattle.psr_search.proofs.load.read_header.Goals as goal
 
 pub returns-in-Ok-read-clause-header : goal.returns-in-Ok-read-clause-header
 returns-in-Ok-read-clause-header g c =
-    λ file known. whole_header file _ _ (c.in-Ok.ensures.front file known).0 c.in-Ok-read.ensures.ok.0 c.in-Ok-read.ensures.ok.1
+    λ file known. c.in-Ok-read.ensures.front file (same_front file _ (c.in-Ok.ensures.front file known).0)
 
 pub returns-in-Ok-read-clause-left : goal.returns-in-Ok-read-clause-left
 returns-in-Ok-read-clause-left g c =
     λ file known.
     let front = c.in-Ok.ensures.front file known in
-    let long = (whole_header file _ _ front.0 c.in-Ok-read.ensures.ok.0 c.in-Ok-read.ensures.ok.1).0 in
+    let long = (c.in-Ok-read.ensures.front file (same_front file _ front.0)).0 in
     let count : c.in-Ok.count ≡ 4096 = omega (arith, front.1) in
     c.in-Ok.ensures.left file known ∙ ap (λ n. Some (drop n file)) count
 

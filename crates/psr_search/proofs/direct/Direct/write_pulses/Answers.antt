@@ -8,7 +8,7 @@ pub overflow_add-pulses : goal.overflow_add-pulses
 overflow_add-pulses g c =
     let s = c.args.self.now in
     let few = s.is_bounded in
-    let spectra = div-le_self (length s.samples.items) s.observation.channels in
+    let spectra = div-le_self (length s.samples.items) s.observation.numbers.channels in
     let before = c.loop-u.invariant.bound in
     let here = c.in-Ok.ensures.bound in
     omega arith

@@ -1,11 +1,10 @@
 use Rattle.std.proofs.Common.{◌≡◌, ◌++◌, length, sym, ◌∙◌, ap}
 use Rattle.std.specs.Io.KnownBytes.{append_known}
-use Rattle.psr_base.specs.Laws.{append_known-append_known}
 use Rattle.search_model.specs.CandidateText.{end_line}
 use Rattle.psr_search.specs.Direct.{lines_of}
 use Rattle.psr_search.specs.Searched.{observed, band, found, found_text}
 use Rattle.psr_search.proofs.Text.{text_is}
-use Rattle.psr_search.proofs.Written.{front_taken, front_after, front_more, front_of_equal, on_ok, on_err}
+use Rattle.psr_search.proofs.Written.{append_known_twice, front_taken, front_after, front_more, front_of_equal, on_ok, on_err}
 use Rattle.psr_search.proofs.direct.Direct.write_text.Goals as goal
 
 pub returns-in-Ok-clause-ok : goal.returns-in-Ok-clause-ok
@@ -16,7 +15,7 @@ returns-in-Ok-clause-ok g c =
     ∙ ap (end_line (length (found s (band s).spectra)) 0) c.spectra.ensures in
     on_ok c.write_all.result _ _
     (λ e. e ∙ ap (λ w. append_known w c.as_bytes.result.now) c.in-Ok.ensures.ok
-    ∙ append_known-append_known (g.K.Sink.written c.args.out.now) (lines_of (observed s) (found s (band s).spectra)) c.as_bytes.result.now
+    ∙ append_known_twice (g.K.Sink.written c.args.out.now) (lines_of (observed s) (found s (band s).spectra)) c.as_bytes.result.now
     ∙ ap (λ x. append_known (g.K.Sink.written c.args.out.now) (lines_of (observed s) (found s (band s).spectra) ++ x)) last
     ∙ ap (append_known (g.K.Sink.written c.args.out.now)) (sym (text_is s)))
     c.write_all.ensures.written

@@ -1,13 +1,12 @@
 use Rattle.std.proofs.Common.{◌*◌, ◌^◌, ◌<◌, refl, arith}
 use Rattle.std.proofs.lemmas.Nat.{div_below}
 use Rattle.dada_model.specs.Observation.{dm}
-use Rattle.dada_model.proofs.Edges.{dm_fits}
 use Rattle.psr_search.specs.Observation.{shown_of}
 use Rattle.psr_search.proofs.observation.Observation.dm.Goals as goal
 use Rattle.psr_search.proofs.observation.Observation.dm.Goals.{After-dispersion_span}
 
 below : (c : After-dispersion_span) → c.from.result * c.from-2.result * 241 * c.dispersion_span.result < 2 ^ 122
-below c = rw (c.from.ensures, c.from-2.ensures, c.dispersion_span.ensures) (dm_fits (shown_of c.args.self.now) c.args.self.now.in_range c.args.d c.requires)
+below c = rw (c.from.ensures, c.from-2.ensures, c.dispersion_span.ensures) (c.dispersion_fits.ensures (shown_of c.args.self.now) c.args.d c.args.self.now.numbers.in_range c.requires)
 
 pub overflow_mul-whole-3 : goal.overflow_mul-whole-3
 overflow_mul-whole-3 c = let small = below (goal.at.overflow_mul-whole-3 c).After-dispersion_span in omega arith

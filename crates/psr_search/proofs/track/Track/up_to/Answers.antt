@@ -1,17 +1,14 @@
-use Rattle.std.proofs.Common.{◌+◌, [], ◌∷◌, length, ap, sym, subst, ◌∙◌, List, ℕ, length-append}
-use Rattle.search_model.specs.Paths.{IsPath}
-use Rattle.band_paths.specs.Edges.{channels_of}
+use Rattle.std.proofs.Common.{◌+◌, [], ◌∷◌, length, slice_index, ap, sym, subst, ◌∙◌, List, ℕ, length-append}
+use Rattle.search_model.specs.Paths.{path}
+use Rattle.band_paths.specs.Edges.{AreDelays}
 use Rattle.psr_search.specs.Observation.{shown_of}
 use Rattle.psr_search.specs.declared.track.Track.{Track}
 use Rattle.psr_search.specs.Track.{IsTrack, AreTracks}
-use Rattle.dada_model.proofs.Edges.{length-edges}
-use Rattle.psr_search.proofs.EdgeLemmas.{IsEdges-edges}
-use Rattle.psr_search.proofs.TrackLists.{tracks_more, path_over}
+use Rattle.psr_search.proofs.TrackLists.{tracks_more}
 use Rattle.psr_search.proofs.track.Track.up_to.Goals as goal
 
 pub edge_delays-requires-clause-edges : goal.edge_delays-requires-clause-edges
-edge_delays-requires-clause-edges c =
-    rw c.edges.ensures (IsEdges-edges (shown_of c.args.observation.now) c.args.observation.now.in_range)
+edge_delays-requires-clause-edges c = c.edges.ensures.falls
 
 pub loop-d-preserved : goal.loop-d-preserved
 loop-d-preserved c =
@@ -19,11 +16,16 @@ loop-d-preserved c =
     let d = c.loop-d.d in
     let before = c.loop-d.invariant in
     let delays = c.in_ok-delays.delays.items in
-    let over : IsPath c.edges.result.now (channels_of c.edges.result.now) d delays = c.in_ok-delays.ensures in
-    let P : List ℕ → Type 0 = λ es. IsPath es (channels_of es) d delays in
-    let path = path_over o d delays (length-edges o) (subst P c.edges.ensures over) in
+    let made = c.in_ok-delays.ensures in
+    let channels = c.edges.ensures.channels in
     let track : Track = record { delays = c.in_ok-delays.delays; dm = c.dm-dm.result } in
-    let is : IsTrack o d track = record { path = path; dm = c.dm-dm.ensures } in
+    let P : ℕ → Type 0 = λ n. AreDelays n delays in
+    let is : IsTrack o d track = record {
+      path = made.value ∙ ap (λ n. path c.edges.result.now n d) channels ∙ ap (λ es. path es o.channels d) c.edges.ensures.value;
+      last = ap (λ n. slice_index delays n) (sym channels) ∙ made.path.last;
+      delays = subst P channels made.delays;
+      dm = c.dm-dm.ensures;
+    } in
     let Q : ℕ → Type 0 = λ n. IsTrack o n track in
     let R : List Track → Type 0 = λ ts. AreTracks o ts in
     let count = length-append c.loop-d.tracks.items (track ∷ []) in

@@ -1,10 +1,9 @@
 use Rattle.std.proofs.Common.{refl, arith}
 use Rattle.dada_model.specs.declared.key.Key.TheVariants.{Nchan, Freq}
 use Rattle.dada_model.specs.Fields.{fields_of}
-use Rattle.dada_model.proofs.Band.{IsInRange-accepted}
 use Rattle.psr_search.proofs.BuiltLemmas.{taken_within, Reads, every_key, built_when, built_wide}
-use Rattle.psr_search.proofs.observation.Numbers.of.Goals as goal
-use Rattle.psr_search.proofs.observation.Numbers.of.Goals.{In_ok-obs_offset}
+use Rattle.psr_search.proofs.numbers.Numbers.of.Goals as goal
+use Rattle.psr_search.proofs.numbers.Numbers.of.Goals.{In_ok-obs_offset}
 
 pub band_width-requires-clause-some : goal.band_width-requires-clause-some
 band_width-requires-clause-some c =
@@ -43,13 +42,13 @@ overflow_cast-result c =
 
 pub returns-then-width_hz-channels-clause-none : goal.returns-then-width_hz-channels-clause-none
 returns-then-width_hz-channels-clause-none c = λ o built.
-    let wide = built_wide _ _ _ _ _ _ (reads (goal.at.returns-then-width_hz-channels-clause-none c).In_ok-obs_offset) o built in
+    let wide = built_wide c.accepted_by_rows.ensures _ _ _ _ _ _ (reads (goal.at.returns-then-width_hz-channels-clause-none c).In_ok-obs_offset) o built in
     absurd (omega arith)
 
 pub invariant_of-result : goal.invariant_of-result
 invariant_of-result c =
-    let built = built_when _ _ _ _ _ _ (reads (goal.at.invariant_of-result c).In_ok-obs_offset) c.if-width_hz-channels.false in
-    record { in_range = IsInRange-accepted (fields_of c.args.header.now.text) _ built.accepted }
+    let built = built_when c.accepted_by_rows.ensures _ _ _ _ _ _ (reads (goal.at.invariant_of-result c).In_ok-obs_offset) c.if-width_hz-channels.false in
+    record { in_range = c.accepted_is_in_range.ensures (fields_of c.args.header.now.text) _ built.accepted }
 
 pub returns-clause-some : goal.returns-clause-some
-returns-clause-some c = built_when _ _ _ _ _ _ (reads (goal.at.returns-clause-some c).In_ok-obs_offset) c.if-width_hz-channels.false
+returns-clause-some c = built_when c.accepted_by_rows.ensures _ _ _ _ _ _ (reads (goal.at.returns-clause-some c).In_ok-obs_offset) c.if-width_hz-channels.false

@@ -1,12 +1,11 @@
 use Rattle.std.proofs.Common.{Some, None, arith}
 use Rattle.dada_model.specs.Fields.{fields_of}
 use Rattle.psr_search.proofs.BuiltLemmas.{got, whole_number_of, default_number_of, no_default_number, scaled_below}
-use Rattle.psr_search.proofs.observation.number.Goals as goal
+use Rattle.psr_search.proofs.numbers.number.Goals as goal
 
 pub overflow_mul-result : goal.overflow_mul-result
 overflow_mul-result c =
-    let digits = c.in_ok-whole_number-in-Some.ensures.digits in
-    let small = scaled_below c.args.key c.in-Some.text.now c.in_ok-whole_number-in-Some.field-0 c.args.scale c.requires.scaled digits.0 digits.1 in
+    let small = scaled_below c.args.key c.in_ok-whole_number-in-Some.field-0 c.args.scale c.requires.scaled c.in_ok-whole_number-in-Some.ensures.bound in
     omega arith
 
 pub returns-in_ok-whole_number-in-Some-clause-some : goal.returns-in_ok-whole_number-in-Some-clause-some

@@ -1,7 +1,6 @@
 use Rattle.std.proofs.Common.{◌≡◌, ℕ, ◌+◌, ◌*◌, refl, arith}
-use Rattle.dada_model.proofs.Edges.{edge_is}
-use Rattle.psr_search.specs.Observation.{numbers_shown}
-use Rattle.psr_search.proofs.observation.Numbers.edge.Goals as goal
+use Rattle.psr_search.specs.Numbers.{shown_by}
+use Rattle.psr_search.proofs.numbers.Numbers.edge.Goals as goal
 
 distributed : (f b n : ℕ) → (2 * f + b) * n ≡ 2 * f * n + b * n
 distributed f b n = omega arith
@@ -9,5 +8,5 @@ distributed f b n = omega arith
 pub returns : goal.returns
 returns c =
     let self = c.args.self.now in
-    let value = edge_is (numbers_shown self) self.in_range c.args.k c.requires in
+    let value = c.edges_are_quotients.ensures (shown_by self) c.args.k self.in_range c.requires in
     rw (c.from-channels.ensures, c.from.ensures, value, distributed self.centre_hz self.width_hz self.channels) refl

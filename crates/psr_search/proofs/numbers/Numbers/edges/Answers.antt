@@ -1,12 +1,12 @@
 use Rattle.std.proofs.Common.{◌≡◌, ◌+◌, sym, arith}
 use Rattle.std.proofs.lemmas.List.FromFn.{map-range_with_len_more}
 use Rattle.dada_model.specs.Observation.{edge, edges}
-use Rattle.psr_search.specs.Observation.{numbers_shown}
-use Rattle.psr_search.proofs.observation.Numbers.edges.Goals as goal
+use Rattle.psr_search.specs.Numbers.{shown_by}
+use Rattle.psr_search.proofs.numbers.Numbers.edges.Goals as goal
 
 pub loop-k-preserved : goal.loop-k-preserved
 loop-k-preserved c =
-    let o = numbers_shown c.args.self.now in
+    let o = shown_by c.args.self.now in
     rw (c.in_ok-push.ensures.items, c.loop-k.invariant, c.edge.ensures) (sym (map-range_with_len_more (edge o) 0 c.loop-k.k c.loop-k.k (omega arith)))
 
 pub returns : goal.returns

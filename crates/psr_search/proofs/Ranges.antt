@@ -1,8 +1,6 @@
--- Lists, sums and pieces over a range of numbers, one number more.
-use Rattle.std.proofs.Common.{◌≡◌, ℕ, ◌+◌, ◌-◌, ◌≤◌, ◌++◌, List, [], ◌∷◌, map, sum_by, sum, arith, refl, sym, ◌∙◌, ap, zero, suc, add-one, zero-add, append-nil}
+-- Pieces of lists over a range of numbers: one number more, and the first of them.
+use Rattle.std.proofs.Common.{◌≡◌, ℕ, ◌+◌, ◌-◌, ◌≤◌, ◌++◌, List, [], ◌∷◌, arith, refl, ◌∙◌, ap, zero, suc, add-one, append-nil}
 use Rattle.std.specs.List.{range_with_len, flat_map}
-use Rattle.std.proofs.lemmas.List.FromFn.{map-range_with_len_more}
-use Rattle.std.proofs.lemmas.List.Sums.{sum_by-append, sum_by-cons}
 use Rattle.std.proofs.lemmas.List.Concat.{flat_map-append}
 
 range_suc : (a n : ℕ) → range_with_len a (suc n) ≡ range_with_len a n ++ (a + n) ∷ []
@@ -13,33 +11,14 @@ range_suc a (suc n) =
     ap (λ xs. a ∷ xs) (r ∙ ap (λ x. range_with_len (a + 1) n ++ x ∷ []) e)
 
 -- the next number is written as the goal has it
-pub range_more : (a n j : ℕ) → a + n ≡ j → range_with_len a (n + 1) ≡ range_with_len a n ++ j ∷ []
+range_more : (a n j : ℕ) → a + n ≡ j → range_with_len a (n + 1) ≡ range_with_len a n ++ j ∷ []
 range_more a n j e = rw add-one (range_suc a n ∙ ap (λ x. range_with_len a n ++ x ∷ []) e)
-
-pub sum_by_range_more : (f : ℕ → ℕ) (a n j : ℕ) → a + n ≡ j → sum_by f (range_with_len a (n + 1)) ≡ sum_by f (range_with_len a n) + f j
-sum_by_range_more f a n j e =
-    ap (λ xs. sum_by f xs) (range_more a n j e) ∙ sum_by-append f (range_with_len a n) (j ∷ [])
-    ∙ ap (λ x. sum_by f (range_with_len a n) + x) (zero-add (f j))
 
 pub flat_map_range_more : {A : Type 0} (f : ℕ → List A) (a n j : ℕ) → a + n ≡ j →
     flat_map f (range_with_len a (n + 1)) ≡ flat_map f (range_with_len a n) ++ f j
 flat_map_range_more f a n j e =
     ap (λ xs. flat_map f xs) (range_more a n j e) ∙ flat_map-append f (range_with_len a n) (j ∷ [])
     ∙ ap (λ ys. flat_map f (range_with_len a n) ++ ys) (append-nil (f j))
-
-pub sum_append : (xs ys : List ℕ) → sum (xs ++ ys) ≡ sum xs + sum ys
-sum_append xs ys = search (arith, sum_by-append)
-
-pub sum_flat_map : (f : ℕ → List ℕ) (xs : List ℕ) → sum (flat_map f xs) ≡ sum_by (λ x. sum (f x)) xs
-sum_flat_map f [] = refl
-sum_flat_map f (x ∷ xs) =
-    sum_append (f x) (flat_map f xs) ∙ ap (λ t. sum (f x) + t) (sum_flat_map f xs) ∙ sym (sum_by-cons (λ y. sum (f y)) x xs)
-
-pub sum_map_range_more : (f : ℕ → ℕ) (a n j : ℕ) → a + n ≡ j →
-    sum (map f (range_with_len a (n + 1))) ≡ sum (map f (range_with_len a n)) + f j
-sum_map_range_more f a n j e =
-    ap sum (map-range_with_len_more f a n j e) ∙ sum_append (map f (range_with_len a n)) (f j ∷ [])
-    ∙ ap (λ x. sum (map f (range_with_len a n)) + x) (zero-add (f j))
 
 range_parts : (a m n : ℕ) → range_with_len a (m + n) ≡ range_with_len a m ++ range_with_len (a + m) n
 range_parts a zero n =

@@ -1,20 +1,11 @@
--- Laws of what is told and of the counts, for callers that make one call after another.
-use Rattle.std.specs.Prelude.{◌≡◌, ℕ, ◌+◌, ◌≤◌, List, ◌++◌, drop, Option, Some, None, refl}
+-- What is told and written over several calls, one after another.
+use Rattle.std.specs.Prelude.{◌≡◌, ℕ, ◌+◌, List, ◌++◌, drop, Option, Some, None, refl}
 use Rattle.std.specs.Option.{option_map}
 use Rattle.std.specs.Io.KnownBytes.{append_known}
 use Rattle.std.proofs.Common.{ap, sym, add_assoc, append_assoc, arith}
 use Rattle.std.proofs.lemmas.List.{drop-drop}
-use Rattle.psr_base.specs.Count.{Rose}
-use Rattle.psr_base.specs.Told.{Told, Reading, left_to_read, rest_after, opened, moved_by}
+use Rattle.psr_base.specs.Told.{Told, Reading, left_to_read, rest_after, moved_by}
 use Rattle.psr_base.specs.Written.{room_after}
-
--- a count that rose in the later of two steps rose in both
-pub Rose-later : (a b c : ℕ) → a ≤ b → Rose b c → Rose a c
-Rose-later a b c h r = omega arith
-
--- a count that rose in the earlier of two steps rose in both
-pub Rose-earlier : (a b c : ℕ) → Rose a b → b ≤ c → Rose a c
-Rose-earlier a b c r h = omega arith
 
 -- to read n bytes and then m is to read n + m
 pub moved_by-moved_by : (n m : ℕ) (told : Told) → moved_by m (moved_by n told) ≡ moved_by (n + m) told
@@ -35,15 +26,6 @@ left_to_read-moved_by n told = by_file told.reading
     by_file : (file : Option Reading) → left_to_read (moved_by n (record told { reading = file })) ≡ rest_after n (left_to_read (record told { reading = file }))
     by_file None = refl
     by_file (Some r) = by_bytes r.place (told.bytes_under r.name)
-
--- what is left after n bytes and then m
-pub rest_after-rest_after : (n m : ℕ) (left : Option (List ℕ)) → rest_after m (rest_after n left) ≡ rest_after (n + m) left
-rest_after-rest_after n m None = refl
-rest_after-rest_after n m (Some left) = ap Some (drop-drop m n left)
-
--- a name that was opened is read from its first byte
-pub left_to_read-opened : (name bytes : List ℕ) (told : Told) → told.bytes_under name ≡ Some bytes → left_to_read (opened name told) ≡ Some bytes
-left_to_read-opened name bytes told h = ap (λ (file : Option (List ℕ)). option_map (drop 0) file) h
 
 -- to write one piece and then another is to write both
 pub append_known-append_known : (written : Option (List ℕ)) (xs ys : List ℕ) → append_known (append_known written xs) ys ≡ append_known written (xs ++ ys)
