@@ -38,7 +38,7 @@ plain_size value (inr e) = rw e refl
 not_short : (bytes : List ℕ) → 4096 ≤ length bytes → ltb (length bytes) 4096 ≡ false
 not_short bytes h = grind (arith, nat_tests)
 
-pub header_of-plain : (bytes : List ℕ) → 4096 ≤ length bytes → IsPlainHeader bytes → header_of bytes ≡ Ok (record { size = 4096; text = header_text 4096 bytes })
+header_of-plain : (bytes : List ℕ) → 4096 ≤ length bytes → IsPlainHeader bytes → header_of bytes ≡ Ok (record { size = 4096; text = header_text 4096 bytes })
 unfolding header_of header_size
 header_of-plain bytes long plain =
     let size = plain_size (value_of (codes "HDR_SIZE") (fields_of (header_text 4096 bytes))) plain.1 in

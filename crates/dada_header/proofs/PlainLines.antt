@@ -24,7 +24,7 @@ Lacks-head : (c x : ℕ) (xs : List ℕ) → Lacks c (x ∷ xs) → x ≢ c
 Lacks-head c x xs none = none 0 (omega arith)
 
 -- two lists that are cut at the first of a byte have equal parts
-pub same_at_first : (c : ℕ) (xs ys us vs : List ℕ) → Lacks c xs → Lacks c ys → xs ++ (c ∷ us) ≡ ys ++ (c ∷ vs) → (xs ≡ ys) × (us ≡ vs)
+same_at_first : (c : ℕ) (xs ys us vs : List ℕ) → Lacks c xs → Lacks c ys → xs ++ (c ∷ us) ≡ ys ++ (c ∷ vs) → (xs ≡ ys) × (us ≡ vs)
 same_at_first c [] [] us vs no_x no_y e = (refl, (cc))
 same_at_first c [] (y ∷ ys) us vs no_x no_y e = absurd (Lacks-head c y ys no_y (sym (cc)))
 same_at_first c (x ∷ xs) [] us vs no_x no_y e = absurd (Lacks-head c x xs no_x (cc))
@@ -82,7 +82,7 @@ has_cut c (x ∷ xs) us none = has_cut c xs us (Lacks-tail c x (xs ++ (c ∷ us)
 pub line_from_parts : (line keyword value : List ℕ) → line ≡ keyword ++ (32 ∷ value) → IsPlainWord keyword → IsPlainWord value → IsPlainLine line
 line_from_parts line keyword value e k v = record { field = record { keyword = keyword; value = value }; plain = (k, v); spelled = e }
 
-pub parts_of_line : (line keyword value : List ℕ) → line ≡ keyword ++ (32 ∷ value) → Lacks 32 keyword → (h : IsPlainLine line) → (keyword ≡ h.field.keyword) × (value ≡ h.field.value)
+parts_of_line : (line keyword value : List ℕ) → line ≡ keyword ++ (32 ∷ value) → Lacks 32 keyword → (h : IsPlainLine line) → (keyword ≡ h.field.keyword) × (value ≡ h.field.value)
 parts_of_line line keyword value e none h = same_at_first 32 keyword h.field.keyword value h.field.value none (Lacks-plain 32 h.field.keyword (omega arith) h.plain.0) (sym e ∙ h.spelled)
 
 pub plain_parts_of_line : (line keyword value : List ℕ) → line ≡ keyword ++ (32 ∷ value) → Lacks 32 keyword → IsPlainLine line → IsPlainWord keyword × IsPlainWord value
@@ -138,7 +138,7 @@ empty_list xs e = rw e refl
 nonempty : (word : List ℕ) → 0 < length word → ltb 0 (length word) ≡ true
 nonempty word h = grind (arith, nat_tests)
 
-pub field_of_line-plain : (field : Field) → IsPlainField field → field_of_line (plain_line field) ≡ Some field
+field_of_line-plain : (field : Field) → IsPlainField field → field_of_line (plain_line field) ≡ Some field
 field_of_line-plain field h =
     let bare = before_first_none (λ byte. eqb byte 35) (plain_line field) (All-line (λ byte. eqb byte 35 ≡ false) not_comment refl field h) in
     let cut = slice_split_at is_white field.keyword 32 field.value (All-weaker IsPlainByte (λ byte. is_white byte ≡ false) not_white field.keyword h.0.plain) refl in

@@ -128,7 +128,7 @@ wide_when o h = rw (le_ltb o.width_hz (1000 * o.channels) h) refl
 
 -- each key's number, by its row
 module _ (fields : List Field) (o : Observation) (accepted : observation_of fields ≡ Ok o) where
-  pub in_row_of : (key : Key) → HasNumberInRow fields key
+  in_row_of : (key : Key) → HasNumberInRow fields key
   in_row_of key = number_when fields key (accepted_at fields o accepted key)
 
   in_range : IsInRange (observation_in fields)
@@ -155,7 +155,7 @@ module _ (fields : List Field) (o : Observation) (accepted : observation_of fiel
   pub IsInRange-accepted : IsInRange o
   IsInRange-accepted = rw (accepted_is fields o accepted) in_range
 
-  pub wide_accepted : 1000 * o.channels ≤ o.width_hz
+  wide_accepted : 1000 * o.channels ≤ o.width_hz
   wide_accepted = let bounds = IsInRange-accepted in bounds.wide
 
 pub accepted_by_rows : AcceptedByRows

@@ -13,11 +13,11 @@ pub difference : (a c : ℕ) → c ≤ a → pos a -ℤ pos c ≡ pos (a - c)
 difference a c h = omega (arith, ints)
 
 -- what stands above the line in the edge k
-abbrev pub numerator : ℕ → ℕ → ℕ → ℕ → ℕ
+abbrev numerator : ℕ → ℕ → ℕ → ℕ → ℕ
 numerator f b n k = 2 * f * n + b * n - 2 * b * k
 
 -- the edge in natural numbers
-pub signed_edge_is : (o : Observation) (k : ℕ) → 2 * o.width_hz * k ≤ 2 * o.centre_hz * o.channels + o.width_hz * o.channels → signed_edge o k ≡ pos (numerator o.centre_hz o.width_hz o.channels k / (2000 * o.channels))
+signed_edge_is : (o : Observation) (k : ℕ) → 2 * o.width_hz * k ≤ 2 * o.centre_hz * o.channels + o.width_hz * o.channels → signed_edge o k ≡ pos (numerator o.centre_hz o.width_hz o.channels k / (2000 * o.channels))
 unfolding signed_edge
 signed_edge_is o k h = rw (difference (2 * o.centre_hz * o.channels + o.width_hz * o.channels) (2 * o.width_hz * k) h)
 
@@ -34,14 +34,14 @@ module _ (o : Observation) (r : IsInRange o) where
   unfolding edge
   edge_is k small = let room = within_band k small in ap unsigned_abs (signed_edge_is o k (omega arith))
 
-  pub edge_positive : (k : ℕ) → k ≤ o.channels → 1 ≤ edge o k
+  edge_positive : (k : ℕ) → k ≤ o.channels → 1 ≤ edge o k
   edge_positive k small =
       let room = within_band k small in
       let some = r.few_channels in
       let whole : 1 ≤ numerator o.centre_hz o.width_hz o.channels k / (2000 * o.channels) = le-div 1 _ (2000 * o.channels) (omega arith) (omega arith) in
       rw (edge_is k small) whole
 
-  pub edge_below : (k : ℕ) → k ≤ o.channels → edge o k ≤ 2 ^ 24
+  edge_below : (k : ℕ) → k ≤ o.channels → edge o k ≤ 2 ^ 24
   edge_below k small =
       let some = r.few_channels in
       let below_top : 2 * o.centre_hz + o.width_hz + 1 ≤ 2000 * 16777217 = omega (arith, r.top) in
@@ -49,7 +49,7 @@ module _ (o : Observation) (r : IsInRange o) where
       let whole : numerator o.centre_hz o.width_hz o.channels k / (2000 * o.channels) < 16777217 = div_below _ (2000 * o.channels) 16777217 (omega arith) (omega arith) in
       rw (edge_is k small) (omega arith)
 
-  pub edge_falls : (k : ℕ) → k < o.channels → edge o (k + 1) < edge o k
+  edge_falls : (k : ℕ) → k < o.channels → edge o (k + 1) < edge o k
   edge_falls k small =
       let some = r.few_channels in
       let wide = r.wide in
@@ -59,7 +59,7 @@ module _ (o : Observation) (r : IsInRange o) where
       let step : lower / (2000 * o.channels) + 1 ≤ numerator o.centre_hz o.width_hz o.channels k / (2000 * o.channels) = le-div (lower / (2000 * o.channels) + 1) _ (2000 * o.channels) (omega arith) (omega arith) in
       rw (edge_is (k + 1) (omega arith), edge_is k (omega arith)) (omega arith)
 
-  pub edge_falls_by : (i j : ℕ) → i + j ≤ o.channels → edge o (i + j) + j ≤ edge o i
+  edge_falls_by : (i j : ℕ) → i + j ≤ o.channels → edge o (i + j) + j ≤ edge o i
   edge_falls_by i zero small = let here : i + 0 ≡ i = omega arith in rw here (omega arith)
   edge_falls_by i (suc j) small =
       let next : i + suc j ≡ (i + j) + 1 = omega arith in
@@ -72,11 +72,11 @@ module _ (o : Observation) (r : IsInRange o) where
       omega (arith, rw same at apart)
 
 -- the list of the edges
-pub length-edges : (o : Observation) → length (edges o) ≡ o.channels + 1
+length-edges : (o : Observation) → length (edges o) ≡ o.channels + 1
 unfolding edges
 length-edges o = length-map-range_with_len (edge o) 0 (o.channels + 1)
 
-pub get_or-edges : (o : Observation) (k : ℕ) → k ≤ o.channels → get_or (edges o) k 0 ≡ edge o k
+get_or-edges : (o : Observation) (k : ℕ) → k ≤ o.channels → get_or (edges o) k 0 ≡ edge o k
 unfolding edges
 get_or-edges o k small = get_or-map-range_with_len (edge o) 0 (o.channels + 1) k k 0 (omega arith) (omega arith)
 

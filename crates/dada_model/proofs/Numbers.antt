@@ -83,7 +83,7 @@ number_value-whole most text k h =
     let value = signless text text k bare h.0 h.2 in
     rw minus at value
 
-pub number_value-negative : (most : ℕ) (text : List ℕ) (k : ℕ) → IsNegativeNumber most text → number_value k text ≡ Some (neg_ℤ (pos (digits_value 10 (drop 1 text) * 10 ^ k)))
+number_value-negative : (most : ℕ) (text : List ℕ) (k : ℕ) → IsNegativeNumber most text → number_value k text ≡ Some (neg_ℤ (pos (digits_value 10 (drop 1 text) * 10 ^ k)))
 number_value-negative most text k h =
     let minus : starts_with_minus text ≡ true = h.0 in
     let bare : without_leading_sign text ≡ drop 1 text = rw minus refl in
@@ -106,7 +106,7 @@ parsed most text r small h read =
 
 -- ---- a minus
 
-pub is_minus : (byte : ℕ) → eqb byte 45 ≡ true → byte ≡ 45
+is_minus : (byte : ℕ) → eqb byte 45 ≡ true → byte ≡ 45
 is_minus byte e = grind (arith, nat_tests)
 
 pub minus_first : (text : List ℕ) → starts_with_minus text ≡ true → text ≡ 45 ∷ drop 1 text

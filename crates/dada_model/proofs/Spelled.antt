@@ -60,7 +60,7 @@ module _ (k : ℕ) (text : List ℕ) (negative : Bool) (whole fraction : List �
       let value : value_by negative (whole ++ fraction) fraction k ≡ Some (spelled_value k negative whole fraction) = rw (some_digits (whole ++ fraction) some, all_digits (whole ++ fraction) digits) refl in
       shape ∙ value
 
-  pub value_of_spelled : Spells text negative whole fraction → number_value k text ≡ Some (spelled_value k negative whole fraction)
+  value_of_spelled : Spells text negative whole fraction → number_value k text ≡ Some (spelled_value k negative whole fraction)
   value_of_spelled s =
       let digits = All-front whole fraction s.digits in
       elim s.spelled [

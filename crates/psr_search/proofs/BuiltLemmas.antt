@@ -47,10 +47,6 @@ whole_number_of fields key text n scale other scaled e whole value =
     let read : number_value (decimals key) text ≡ Some (pos (n * scale)) = rw scaled (value (decimals key)) in
     (has, number_of-text fields key text (pos (n * scale)) e read)
 
--- a field that is none
-pub no_whole_number : (fields : List Field) (key : Key) (text : List ℕ) → key ≢ Bw → value_of (keyword key) fields ≡ Some text → ¬ (IsWholeNumber 10 text) → IsTaken fields key → ⊥
-no_whole_number fields key text other e none taken = none (plain_text key text other (rw e at taken.whole))
-
 -- no field, and a default
 pub default_number_of : (fields : List Field) (key : Key) (r : Option ℕ) → value_of (keyword key) fields ≡ None → MatchOption r (default key ≡ None) (λ n. default key ≡ Some (pos n)) → IfSome r (λ n. HasWholeNumber fields key × (number_of fields key ≡ Ok (pos n)))
 default_number_of fields key None e h = tt
@@ -87,7 +83,7 @@ taken_when fields key n least most whole e row low high =
 same_number : (a b : ℤ) (r : Result ℤ Refusal) → r ≡ Ok a → r ≡ Ok b → a ≡ b
 same_number a b r e f = cc
 
-pub taken_row : (fields : List Field) (key : Key) (z : ℤ) → IsTaken fields key → number_of fields key ≡ Ok z → is_in_row (observation_in fields) key z ≡ true
+taken_row : (fields : List Field) (key : Key) (z : ℤ) → IsTaken fields key → number_of fields key ≡ Ok z → is_in_row (observation_in fields) key z ≡ true
 taken_row fields key z taken e =
     let number = same_number taken.accepted.number z (number_of fields key) taken.accepted.is e in
     rw number at taken.accepted.in_row

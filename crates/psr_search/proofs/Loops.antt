@@ -1,5 +1,5 @@
 -- The pulses found so far, one delay or one end more.
-use Rattle.std.proofs.Common.{◌≡◌, ℕ, ◌+◌, ◌-◌, ◌<◌, List, ◌++◌, length, Option, arith, ap, ◌∙◌, length-append}
+use Rattle.std.proofs.Common.{◌≡◌, ℕ, ◌+◌, ◌<◌, List, ◌++◌, length, drop, Option, arith, ap, ◌∙◌, length-append}
 use Rattle.std.specs.List.{flat_map, range_with_len}
 use Rattle.std.specs.Io.KnownBytes.{append_known}
 use Rattle.dada_model.specs.Observation.{Observation}
@@ -12,7 +12,7 @@ use Rattle.psr_search.proofs.Written.{written_more, front_in_loop}
 abbrev pub upto : (ℕ → List Pulse) → ℕ → List Pulse
 upto piece n = flat_map piece (range_with_len 0 n)
 
-pub upto_more : (piece : ℕ → List Pulse) (i : ℕ) → upto piece (i + 1) ≡ upto piece i ++ piece i
+upto_more : (piece : ℕ → List Pulse) (i : ℕ) → upto piece (i + 1) ≡ upto piece i ++ piece i
 upto_more piece i = flat_map_range_more piece 0 i i (omega arith)
 
 pub length_more : (piece : ℕ → List Pulse) (i : ℕ) → length (upto piece (i + 1)) ≡ length (upto piece i) + length (piece i)
@@ -28,6 +28,6 @@ pub piece_front : (o : Observation) (piece : ℕ → List Pulse) (i n : ℕ) (be
     middle ≡ append_known before (lines_of o (upto piece i)) → WroteFront middle after (lines_of o (piece i)) →
     WroteFront before after (lines_of o (upto piece n))
 piece_front o piece i n before middle after h e f =
-    let rest = flat_map piece (range_with_len (0 + (i + 1)) (n - (i + 1))) in
+    let rest = flat_map piece (drop (i + 1) (range_with_len 0 n)) in
     front_in_loop o before middle after (upto piece i) (piece i) rest (upto piece n)
     (flat_map_range_front piece 0 (i + 1) n (omega arith) ∙ ap (λ x. x ++ rest) (upto_more piece i)) e f

@@ -22,7 +22,7 @@ request mean deviation threshold max_delay name = record {
 }
 
 -- words ask for one thing at most
-pub asks_one : (words : List (List ℕ)) (r s : Request) → Asks words r → Asks words s → r ≡ s
+asks_one : (words : List (List ℕ)) (r s : Request) → Asks words r → Asks words s → r ≡ s
 asks_one words r s a b =
     let mean : r.mean ≡ s.mean = a.mean.value ∙ sym b.mean.value in
     let deviation : r.deviation ≡ s.deviation = a.deviation.value ∙ sym b.deviation.value in
@@ -40,20 +40,6 @@ abbrev pub HasText : (List ℕ → Type 0) → Request → List ℕ → Type 0
 HasText Wrote r file = Accepted file (λ h o. (length (data_of file h) ≤ most_data) × Wrote (text_of o (search_in r) (data_of file h)))
 
 module _ (words : List (List ℕ)) (told : Told) (inputs_rose out_rose : Type 0) where
-  pub words_outcome : (written : Option (List ℕ)) → ((r : Request) → ¬ Asks words r) → Outcome words told inputs_rose out_rose written written 2
-  words_outcome written refused = record {
-    known = (1, lit< tt, refl);
-    text = λ e. absurd (omega arith);
-    asked = λ e. absurd (e refl);
-    words_refused = λ e. refused;
-    header_refused = λ e. absurd (omega arith);
-    read_fault = λ e. absurd (omega arith);
-    too_long = λ e. absurd (omega arith);
-    sink_fault = λ e. absurd (omega arith);
-    front = λ e. absurd (omega arith);
-    untouched = λ e f. refl;
-  }
-
   -- an end between the words and the output
   quiet_outcome : (written : Option (List ℕ)) (r : Request) (status : ℕ) → Asks words r → Contains (0 ∷ 2 ∷ 3 ∷ 5 ∷ 6 ∷ 8 ∷ 10 ∷ []) status →
       2 < status → status < 10 →

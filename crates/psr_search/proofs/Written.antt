@@ -1,5 +1,5 @@
 -- What was written, piece after piece.
-use Rattle.std.proofs.Common.{◌≡◌, ℕ, List, [], ◌∷◌, ◌++◌, Option, Some, None, take, drop, refl, sym, ◌∙◌, ap, append_assoc, append-nil, take-append-drop, Result, Ok, Err, OnOk, OnErr}
+use Rattle.std.proofs.Common.{◌≡◌, ℕ, List, [], ◌++◌, Option, Some, None, take, drop, refl, sym, ◌∙◌, ap, append_assoc, append-nil, take-append-drop, Result, Ok, Err, OnOk, OnErr}
 use Rattle.std.specs.Io.KnownBytes.{append_known}
 use Rattle.std.proofs.lemmas.List.Concat.{flat_map-append}
 use Rattle.dada_model.specs.Observation.{Observation, dm}
@@ -8,7 +8,7 @@ use Rattle.search_model.specs.CandidateText.{pulse_line}
 use Rattle.psr_search.specs.Direct.{lines_of, WroteFront}
 
 -- nothing was written
-pub append_known_nil : (w : Option (List ℕ)) → append_known w [] ≡ w
+append_known_nil : (w : Option (List ℕ)) → append_known w [] ≡ w
 append_known_nil None = refl
 append_known_nil (Some xs) = ap Some (append-nil xs)
 
@@ -17,14 +17,11 @@ pub append_known_twice : (w : Option (List ℕ)) (xs ys : List ℕ) → append_k
 append_known_twice None xs ys = refl
 append_known_twice (Some zs) xs ys = ap Some (append_assoc zs xs ys)
 
-pub lines_append : (o : Observation) (ps qs : List Pulse) → lines_of o (ps ++ qs) ≡ lines_of o ps ++ lines_of o qs
+lines_append : (o : Observation) (ps qs : List Pulse) → lines_of o (ps ++ qs) ≡ lines_of o ps ++ lines_of o qs
 lines_append o ps qs = flat_map-append (pulse_line (dm o) o.channels) ps qs
 
 pub lines_none : (o : Observation) (ps : List Pulse) (w : Option (List ℕ)) → [] ≡ ps → w ≡ append_known w (lines_of o ps)
 lines_none o ps w e = sym (append_known_nil w) ∙ ap (λ qs. append_known w (lines_of o qs)) e
-
-pub lines_one : (o : Observation) (p : Pulse) (ps : List Pulse) → p ∷ [] ≡ ps → pulse_line (dm o) o.channels p ≡ lines_of o ps
-lines_one o p ps e = sym (append-nil (pulse_line (dm o) o.channels p)) ∙ ap (lines_of o) e
 
 -- ---- fronts
 

@@ -65,9 +65,6 @@ WritesTo ring pass = Writes ring.words pass.seat
 abbrev pub ReadsFrom : Ring → ReaderPass → Type 0
 ReadsFrom ring pass = Reads ring.words pass.seat
 
-abbrev pub DetachedFrom : Ring → DetachedReader → Type 0
-DetachedFrom ring reader = Reads ring.words reader.seat
-
 abbrev pub RetiredFrom : Ring → RetiredPass → Type 0
 RetiredFrom ring pass = Reads ring.words pass.seat
 

@@ -1,3 +1,4 @@
+// Measures, turns on one thread, and threads.
 ghost use Rattle.std.specs.Prelude.{◌≡◌};
 
 use crate::{RingShape, ShapeFault};

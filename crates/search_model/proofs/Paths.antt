@@ -15,7 +15,7 @@ middle_below : (lo hi : ℕ) → lo + 2 ≤ hi → middle lo hi < hi
 middle_below lo hi h = omega arith
 
 -- a half gets no more than its node's delay
-pub split_at_le : (edges : List ℕ) (n : ℕ) → IsBand edges n → (lo hi d : ℕ) → lo + 2 ≤ hi → hi ≤ n →
+split_at_le : (edges : List ℕ) (n : ℕ) → IsBand edges n → (lo hi d : ℕ) → lo + 2 ≤ hi → hi ≤ n →
     split_at edges lo hi d ≤ d
 split_at_le edges n band lo hi d h hn =
     split_le _ _ _ d (band.falls (middle lo hi) hi (middle_below lo hi h) hn)
@@ -60,10 +60,10 @@ halved_join edges lo hi g h here upper lower = record { splits = λ a b node two
     joined edges lo hi g h here upper lower a b (in_upper _ _ _ node) two = upper.splits a b node two
     joined edges lo hi g h here upper lower a b (in_lower _ _ _ node) two = lower.splits a b node two
 
-pub halved_upper : (edges : List ℕ) (lo hi : ℕ) (g : ℕ → ℕ) → lo + 2 ≤ hi → IsHalved edges lo hi g → IsHalved edges lo (middle lo hi) g
+halved_upper : (edges : List ℕ) (lo hi : ℕ) (g : ℕ → ℕ) → lo + 2 ≤ hi → IsHalved edges lo hi g → IsHalved edges lo (middle lo hi) g
 halved_upper edges lo hi g h halved = record { splits = λ a b node two. halved.splits a b (in_upper lo hi h node) two }
 
-pub halved_lower : (edges : List ℕ) (lo hi : ℕ) (g : ℕ → ℕ) → lo + 2 ≤ hi → IsHalved edges lo hi g → IsHalved edges (middle lo hi) hi g
+halved_lower : (edges : List ℕ) (lo hi : ℕ) (g : ℕ → ℕ) → lo + 2 ≤ hi → IsHalved edges lo hi g → IsHalved edges (middle lo hi) hi g
 halved_lower edges lo hi g h halved = record { splits = λ a b node two. halved.splits a b (in_lower lo hi h node) two }
 
 -- ---- the computed entries

@@ -1,12 +1,14 @@
 -- Laws of the definitions; the functions of this crate carry them.
 use Rattle.std.specs.Prelude.{◌≡◌, ℕ, ◌+◌, ◌-◌, ◌*◌, ◌/◌, ◌≤◌, ◌<◌, ◌↔◌, List, length, slice_index, IsTrue}
 use Rattle.search_model.specs.Samples.{Filterbank}
-use Rattle.search_model.specs.Paths.{middle, square, split_at, IsHalved, IsPath, IsBand, path}
+use Rattle.search_model.specs.Paths.{middle, square, split, split_at, IsHalved, IsPath, IsBand, path}
 use Rattle.search_model.specs.Sums.{path_cells}
 use Rattle.search_model.specs.Detection.{Noise, IsDetected, is_detected}
 
--- the part of a delay above the middle of three falling edges is below the whole, and a part of d, rounded, is at most d
+-- of three falling edges, the split of a delay is at most the delay: its numerator is below its denominator, and a part
+-- of d, rounded, is at most d
 pub record SplitsFit : Type 0 where
+  pub fits : (high mid low d : ℕ) → low < mid → mid < high → split high mid low d ≤ d
   pub part : (high mid low : ℕ) → low < mid → mid < high →
       (square high - square mid) * square low < (square high - square low) * square mid
   pub rounded : (part whole d : ℕ) → part < whole → (2 * d * part + whole) / (2 * whole) ≤ d
