@@ -1,0 +1,55 @@
+-- Lane by lane, and then of the lanes, the greatest value of a row.
+use Rattle.std.proofs.Common.{◌≡◌, ℕ, ◌+◌, ◌-◌, ◌%◌, ◌<◌, ◌≤◌, inl, inr, List, length, slice_index, get_or, max, sym, ap, subst, arith, below_more}
+use Rattle.std.proofs.lemmas.Bool.{cases_lt}
+use Rattle.std.proofs.lemmas.List.{get_or_past, get_or_default}
+use Rattle.fdmt_rows.specs.Lanes.{AreLaneGreatest, IsZeroOrIn}
+
+-- a value of a row is one
+pub at_is_in : (row : List ℕ) (k : ℕ) → IsZeroOrIn row (slice_index row k)
+at_is_in row k = elim (cases_lt k (length row)) [
+  | inl h ↦ inr (k, h, get_or_default row k (get_or row k 0) 0 h)
+  | inr h ↦ inl (get_or_past row k 0 h)
+]
+
+-- the greater of two is one of them
+pub greater_is_in : (row : List ℕ) (x y z : ℕ) → z ≡ max x y
+    → IsZeroOrIn row x → IsZeroOrIn row y → IsZeroOrIn row z
+greater_is_in row x y z e in_x in_y = elim (cases_lt x y) [
+  | inl h ↦ let is : y ≡ z = grind arith in subst (IsZeroOrIn row) is in_y
+  | inr h ↦ let is : x ≡ z = grind arith in subst (IsZeroOrIn row) is in_x
+]
+
+pub eight_more : (row lanes new : List ℕ) (done : ℕ) → AreLaneGreatest row lanes done
+    → length new ≡ 8
+    → ((j : ℕ) → j < 8 → slice_index new j ≡ max (slice_index lanes j) (slice_index row (done + j)))
+    → AreLaneGreatest row new (done + 8)
+eight_more row lanes new done so_far long is = record {
+  long = long;
+  whole = let w : done % 8 ≡ 0 = so_far.whole in omega arith;
+  bound = λ k h. elim (cases_lt k done) [
+    | inl below ↦
+        let b = so_far.bound k below in
+        let e = is (k % 8) (omega arith) in
+        grind (arith, b, e)
+    | inr above ↦
+        let w : done % 8 ≡ 0 = so_far.whole in
+        let j : ℕ = k - done in
+        let at : done + j ≡ k = omega arith in
+        let lane : k % 8 ≡ j = omega arith in
+        let e = is j (omega arith) in
+        let P : ℕ → Type 0 = λ i. slice_index row k ≤ slice_index new i in
+        let same : slice_index row (done + j) ≡ slice_index row k = ap (λ i. slice_index row i) at in
+        subst P (sym lane) (grind (arith, e, same))
+  ];
+  found = λ j. elim (cases_lt j 8) [
+    | inl below ↦ greater_is_in row _ _ _ (is j below) (so_far.found j) (at_is_in row (done + j))
+    | inr above ↦ inl (get_or_past new j 0 (omega arith))
+  ];
+}
+
+-- one value more
+pub one_more : (row : List ℕ) (i x y : ℕ) → y ≡ max x (slice_index row i)
+    → ((k : ℕ) → k < i → slice_index row k ≤ x) → (k : ℕ) → k < i + 1 → slice_index row k ≤ y
+one_more row i x y e bound = below_more _ _
+    (λ k h. let b = bound k h in grind (arith, b, e))
+    (grind (arith, e))

@@ -1,0 +1,58 @@
+-- A row that is written a step at a time.
+use Rattle.std.proofs.Common.{◌≡◌, ℕ, ◌+◌, ◌-◌, ◌<◌, ◌≤◌, inl, inr, List, length, slice_index, get_or, cond, ltb, max, ◌∙◌, sym, ap, subst, arith}
+use Rattle.std.proofs.lemmas.Bool.{cases_lt}
+use Rattle.std.proofs.lemmas.Bool.Decides.{nat_tests}
+use Rattle.std.specs.Simd.Lanes.{zip2, chunk, put_chunk}
+use Rattle.std.proofs.lemmas.Simd.{get_or-put_chunk_below, get_or-put_chunk_at, get_or-put_chunk_above, get_or-chunk, get_or-zip2, length-zip2, length-chunk}
+use Rattle.fdmt_rows.specs.Writes.{Writes}
+
+-- lanes that are stored at a place
+pub stored : (xs lanes : List ℕ) (at n : ℕ) (value : ℕ → ℕ) → length lanes ≡ n → at + n ≤ length xs
+    → ((j : ℕ) → j < n → slice_index lanes j ≡ value (at + j))
+    → Writes xs (put_chunk at xs lanes) at (at + n) value
+stored xs lanes at n value long fits is = record {
+  before = λ k h. get_or-put_chunk_below at xs lanes k 0 h;
+  written = λ k low high.
+      let j : ℕ = k - at in
+      let e : at + j ≡ k = omega arith in
+      let lt : j < n = omega arith in
+      let P : ℕ → Type 0 = λ i. get_or (put_chunk at xs lanes) i 0 ≡ value i in
+      subst P e (get_or-put_chunk_at at xs lanes j 0 (omega arith) (omega arith) ∙ is j lt);
+  after = λ k h. get_or-put_chunk_above at xs lanes k 0 (omega arith);
+}
+
+-- the lanes of two rows from a place on, joined
+pub zipped : (f : ℕ → ℕ → ℕ) (a b : List ℕ) (at n : ℕ) → at + n ≤ length a → at + n ≤ length b
+    → (j : ℕ) → j < n
+    → slice_index (zip2 f (chunk at n a) (chunk at n b)) j ≡ f (slice_index a (at + j)) (slice_index b (at + j))
+zipped f a b at n in_a in_b j lt =
+    let la : length (chunk at n a) ≡ n = length-chunk at n a in_a in
+    let lb : length (chunk at n b) ≡ n = length-chunk at n b in_b in
+    get_or-zip2 f (chunk at n a) (chunk at n b) j 0 0 0 (omega arith) (omega arith)
+    ∙ ap (λ x. f x (get_or (chunk at n b) j 0)) (get_or-chunk at n a j 0 lt)
+    ∙ ap (λ y. f (get_or a (at + j) 0) y) (get_or-chunk at n b j 0 lt)
+
+pub length_zipped : (f : ℕ → ℕ → ℕ) (a b : List ℕ) (at n : ℕ) → at + n ≤ length a → at + n ≤ length b
+    → length (zip2 f (chunk at n a) (chunk at n b)) ≡ n
+length_zipped f a b at n in_a in_b =
+    let la : length (chunk at n a) ≡ n = length-chunk at n a in_a in
+    let lb : length (chunk at n b) ≡ n = length-chunk at n b in_b in
+    length-zip2 f (chunk at n a) (chunk at n b) (la ∙ sym lb) ∙ la
+
+-- one step more
+pub more : (old mid new : List ℕ) (i j : ℕ) (value step : ℕ → ℕ) → i ≤ j
+    → Writes old mid 0 i value → Writes mid new i j step
+    → ((k : ℕ) → i ≤ k → k < j → step k ≡ value k)
+    → Writes old new 0 j value
+more old mid new i j value step le so_far one same = record {
+  before = λ k h. absurd (omega arith);
+  written = λ k low high. elim (cases_lt k i) [
+    | inl h ↦ one.before k h ∙ so_far.written k low h
+    | inr h ↦ one.written k h high ∙ same k h high
+  ];
+  after = λ k h. one.after k h ∙ so_far.after k (omega arith);
+}
+
+-- the greater of two lanes
+pub greater_is_max : (x y z : ℕ) → y ≡ z → cond (ltb x y) y x ≡ max x z
+greater_is_max x y z e = grind (arith, nat_tests)

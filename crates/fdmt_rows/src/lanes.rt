@@ -1,0 +1,88 @@
+// Loops over as many whole lanes as a row has, eight values a step. Each says how far it came.
+ghost use Rattle.std.specs.Prelude.{◌≡◌, ℕ, ◌+◌, ◌≤◌, length, slice_index};
+ghost use Rattle.fdmt_rows.specs.Rows.{wrapping_sum};
+ghost use Rattle.fdmt_rows.specs.Writes.{Writes};
+
+use std::simd::prelude::*;
+
+/// How many values a step takes.
+pub const LANES: usize = 8;
+
+#[inline(always)]
+fn add_lanes(out: &mut [u32], a: &[u32], b: &[u32], at: usize)
+    requires room { at + LANES ≤ length out.old }
+    requires first { length a.now ≡ length out.old }
+    requires second { length b.now ≡ length out.old }
+    ensures { Writes out.old out.new at (at + LANES)
+        (λ k. wrapping_sum (slice_index a.now k) (slice_index b.now k)) }
+{
+    let sums = u32x8::from_slice(&a[at..]) + u32x8::from_slice(&b[at..]);
+    sums.copy_to_slice(&mut out[at..]);
+}
+
+#[inline(always)]
+pub fn add_whole_lanes(out: &mut [u32], a: &[u32], b: &[u32]) -> usize
+    requires first { length a.now ≡ length out.old }
+    requires second { length b.now ≡ length out.old }
+    ensures within { result ≤ length out.new }
+    ensures added { Writes out.old out.new 0 result
+        (λ k. wrapping_sum (slice_index a.now k) (slice_index b.now k)) }
+{
+    let mut done = 0;
+    while out.len() - done >= LANES {
+        add_lanes(out, a, b, done);
+        done += LANES;
+    }
+    done
+}
+
+#[inline(always)]
+fn add_to_lanes(row: &mut [u32], a: &[u32], at: usize)
+    requires room { at + LANES ≤ length row.old }
+    requires same { length a.now ≡ length row.old }
+    ensures { Writes row.old row.new at (at + LANES)
+        (λ k. wrapping_sum (slice_index row.old k) (slice_index a.now k)) }
+{
+    let sums = u32x8::from_slice(&row[at..]) + u32x8::from_slice(&a[at..]);
+    sums.copy_to_slice(&mut row[at..]);
+}
+
+#[inline(always)]
+pub fn add_to_whole_lanes(row: &mut [u32], a: &[u32]) -> usize
+    requires { length a.now ≡ length row.old }
+    ensures within { result ≤ length row.new }
+    ensures added { Writes row.old row.new 0 result
+        (λ k. wrapping_sum (slice_index row.old k) (slice_index a.now k)) }
+{
+    let mut done = 0;
+    while row.len() - done >= LANES {
+        add_to_lanes(row, a, done);
+        done += LANES;
+    }
+    done
+}
+
+#[inline(always)]
+fn widen_lanes(out: &mut [u32], bytes: &[u8], at: usize)
+    requires room { at + LANES ≤ length out.old }
+    requires same { length bytes.now ≡ length out.old }
+    ensures { Writes out.old out.new at (at + LANES) (λ k. slice_index bytes.now k) }
+{
+    u8x8::from_slice(&bytes[at..])
+        .cast::<u32>()
+        .copy_to_slice(&mut out[at..]);
+}
+
+#[inline(always)]
+pub fn widen_whole_lanes(out: &mut [u32], bytes: &[u8]) -> usize
+    requires { length bytes.now ≡ length out.old }
+    ensures within { result ≤ length out.new }
+    ensures widened { Writes out.old out.new 0 result (λ k. slice_index bytes.now k) }
+{
+    let mut done = 0;
+    while out.len() - done >= LANES {
+        widen_lanes(out, bytes, done);
+        done += LANES;
+    }
+    done
+}
