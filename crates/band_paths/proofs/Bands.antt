@@ -2,13 +2,14 @@
 use Rattle.std.proofs.Common.{◌≡◌, ◌≢◌, ℕ, ◌+◌, ◌-◌, ◌<◌, ◌≤◌, List, length, slice_index, slice_set, arith, zero, suc, ◌∙◌, get_or-set_same, get_or-set_other}
 use Rattle.search_model.specs.Paths.{middle, split_at, IsHalved, IsPath}
 use Rattle.search_model.specs.Laws.{HalvesJoin, PathsRise}
-use Rattle.band_paths.specs.Edges.{IsEdges, channels_of, KeepsOutside, AreDelays}
+use Rattle.dada_model.specs.Edges.{AreEdges}
+use Rattle.band_paths.specs.Edges.{channels_of, KeepsOutside, AreDelays}
 
 -- no edge is above the top
-pub edge_le : (edges : List ℕ) → IsEdges edges → (k : ℕ) → k < length edges → slice_index edges k ≤ 16777216
+pub edge_le : (edges : List ℕ) → AreEdges (channels_of edges) edges → (k : ℕ) → k < length edges → slice_index edges k ≤ 16777216
 edge_le edges is zero h = is.top
 edge_le edges is (suc k) h =
-    let below = is.band.falls 0 (suc k) (omega arith) (omega arith) in
+    let below = is.falls 0 (suc k) (omega arith) (omega arith) in
     let top = is.top in
     omega arith
 
@@ -48,12 +49,11 @@ delay_le n delays is c (suc k) h =
     omega arith
 
 -- the delays of a path are such
-pub delays_are : PathsRise → (edges : List ℕ) (d : ℕ) (e : List ℕ) → IsEdges edges → d ≤ 8192 → IsPath edges (channels_of edges) d e → AreDelays (channels_of edges) e
+pub delays_are : PathsRise → (edges : List ℕ) (d : ℕ) (e : List ℕ) → AreEdges (channels_of edges) edges → d ≤ 8192 → IsPath edges (channels_of edges) d e → AreDelays (channels_of edges) e
 delays_are rises edges d e is h path =
-    let least = is.least in
     record {
       entries = path.entries;
       first = path.first;
-      rise = rises edges (channels_of edges) d e is.band (omega arith) path;
+      rise = rises edges (channels_of edges) d e is path;
       last = rw path.last h;
     }

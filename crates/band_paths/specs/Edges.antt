@@ -1,17 +1,9 @@
--- What the edges of a band are, and the delays at them.
+-- The delays at the edges of a band.
 use Rattle.std.specs.Prelude.{◌≡◌, ℕ, ◌+◌, ◌-◌, ◌≤◌, ◌<◌, List, length, slice_index}
-use Rattle.search_model.specs.Paths.{IsBand}
 
 -- how many channels there are between so many edges
 abbrev pub channels_of : List ℕ → ℕ
 channels_of edges = length edges - 1
-
--- the edges of 2 to 4096 channels in kHz, from the top of the band down to its foot: positive, strictly falling, at most 2^24
-pub record IsEdges (edges : List ℕ) : Type 0 where
-  pub least : 3 ≤ length edges
-  pub most : length edges ≤ 4097
-  pub band : IsBand edges (channels_of edges)
-  pub top : slice_index edges 0 ≤ 16777216
 
 -- the delays of n channels at their edges, as a path has them: they begin at 0, never fall, and end at 8192 at most
 pub record AreDelays (n : ℕ) (delays : List ℕ) : Type 0 where

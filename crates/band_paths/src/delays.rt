@@ -2,7 +2,8 @@
 ghost use Rattle.std.specs.Prelude.{◌≡◌, ◌+◌, ◌-◌, ◌*◌, ◌/◌, ◌^◌, ◌<◌, ◌≤◌, length, IfOk, slice_index};
 ghost use Rattle.search_model.specs.Paths.{IsHalved, IsPath, path};
 ghost use Rattle.search_model.specs.Paths.{split as split_of, square as square_of};
-ghost use Rattle.band_paths.specs.Edges.{IsEdges, AreDelays, channels_of, KeepsOutside};
+ghost use Rattle.dada_model.specs.Edges.{AreEdges};
+ghost use Rattle.band_paths.specs.Edges.{AreDelays, channels_of, KeepsOutside};
 
 use psr_base::Memory;
 // Laws: they do nothing when they run, and the proofs use what they ensure.
@@ -22,7 +23,7 @@ fn square(khz: u32) -> u128
 /// `lo` up to `hi` have together, rounded to the nearest spectrum. The edges are in kHz, the highest
 /// first.
 pub fn split(edges: &[u32], lo: usize, m: usize, hi: usize, d: u32) -> u32
-    requires edges { IsEdges edges.now }
+    requires edges { AreEdges (channels_of edges.now) edges.now }
     requires above { lo < m }
     requires below { m < hi }
     requires within { hi < length edges.now }
@@ -63,7 +64,7 @@ fn rounded(part: u128, whole: u128, d: u32) -> u32
 /// The delay path of `d` spectra: for each edge, how many spectra after its start the pulse passes
 /// it. The edges are in kHz, the highest first.
 pub fn edge_delays(alloc: Global, edges: &[u32], d: u32) -> Result<Vec<u32>, Memory>
-    requires edges { IsEdges edges.now }
+    requires edges { AreEdges (channels_of edges.now) edges.now }
     requires delay { d ≤ 8192 }
     ensures path { IfOk result (λ delays. IsPath edges.now (channels_of edges.now) d delays.items) }
     ensures value { IfOk result (λ delays. delays.items ≡ path edges.now (channels_of edges.now) d) }
@@ -78,7 +79,7 @@ pub fn edge_delays(alloc: Global, edges: &[u32], d: u32) -> Result<Vec<u32>, Mem
 
 // Writes the path of `d` spectra over `delays`.
 fn lay_path(edges: &[u32], delays: &mut [u32], d: u32)
-    requires edges { IsEdges edges.now }
+    requires edges { AreEdges (channels_of edges.now) edges.now }
     requires entries { length delays.old ≡ length edges.now }
     requires delay { d ≤ 8192 }
     ensures { IsPath edges.now (channels_of edges.now) d delays.new }
@@ -91,7 +92,7 @@ fn lay_path(edges: &[u32], delays: &mut [u32], d: u32)
 
 // Fills in the delays between the edges `lo` and `hi`, whose own delays stand.
 fn halve(edges: &[u32], delays: &mut [u32], lo: usize, hi: usize)
-    requires edges { IsEdges edges.now }
+    requires edges { AreEdges (channels_of edges.now) edges.now }
     requires entries { length delays.old ≡ length edges.now }
     requires order { lo < hi }
     requires within { hi < length edges.now }

@@ -13,7 +13,7 @@ pub fn path_sum(samples: &[u32], n: usize, delays: &[u32], u: usize) -> u64
     requires end { u < length samples.now / n }
     requires delays { AreDelays n delays.now }
     requires small { All (λ x. x ≤ 1048576) samples.now }
-    ensures value { result ≡ path_sum_along (filterbank n true samples.now) delays.now (slice_index delays.now n) u }
+    ensures value { result ≡ path_sum_along (filterbank n true samples.now) delays.now (slice_index delays.now n) u 0 }
     ensures bound { (m : ℕ) → All (λ x. x ≤ m) samples.now → result ≤ m * (n + slice_index delays.now n) }
 {
     let mut total = 0;
@@ -30,7 +30,7 @@ fn channel_sum(samples: &[u32], n: usize, c: usize, delays: &[u32], u: usize) ->
     requires end { u < length samples.now / n }
     requires delays { AreDelays n delays.now }
     requires small { All (λ x. x ≤ 1048576) samples.now }
-    ensures value { result ≡ sum (channel_cells (filterbank n true samples.now) delays.now (slice_index delays.now n) u c) }
+    ensures value { result ≡ sum (channel_cells (filterbank n true samples.now) delays.now (slice_index delays.now n) u 0 c) }
     ensures bound { (m : ℕ) → All (λ x. x ≤ m) samples.now → result ≤ m * (slice_index delays.now (c + 1) + 1 - slice_index delays.now c) }
 {
     let d = delays[n] as usize;

@@ -1,5 +1,5 @@
 -- When a band is accepted, in natural numbers, and the bounds of an accepted observation.
-use Rattle.std.proofs.Common.{◌≡◌, ℕ, ◌+◌, ◌-◌, ◌*◌, ◌/◌, ◌^◌, ◌<◌, ◌≤◌, true, false, ◌&&◌, List, [], refl, inl, inr, arith, Result, Ok, ltb, leb, eqb, ◌∷◌}
+use Rattle.std.proofs.Common.{◌≡◌, ℕ, ◌+◌, ◌-◌, ◌*◌, ◌/◌, ◌%◌, ◌^◌, ◌<◌, ◌≤◌, Bool, true, false, ◌&&◌, ◌||◌, ◌⊎◌, List, [], refl, inl, inr, arith, Result, Ok, ltb, leb, eqb, ◌∷◌}
 use Rattle.std.specs.Prelude.{ℤ, pos, negsuc, ◌-ℤ◌, not, unsigned_abs, int_le}
 use Rattle.std.specs.Result.{result_unwrap_or}
 use Rattle.std.specs.Int.{int_div_euclid}
@@ -9,7 +9,7 @@ use Rattle.std.proofs.lemmas.Bool.Decides.{nat_tests}
 use Rattle.std.proofs.lemmas.Nat.{le-div, div_below}
 use Rattle.std.proofs.Math.Nat.{mul-le-mul_right, div-lt_iff_lt-mul, le-div_iff_mul-le, le_of_mul-le-mul_right, lt_of_mul-lt-mul_right}
 use Rattle.dada_model.specs.declared.key.Key.{Key}
-use Rattle.dada_model.specs.declared.key.Key.TheVariants.{Nchan, Tsamp, Freq, Bw, ObsOffset}
+use Rattle.dada_model.specs.declared.key.Key.TheVariants.{Nchan, Nbit, Npol, Tsamp, Freq, Bw, ObsOffset}
 use Rattle.dada_model.specs.Fields.{Field}
 use Rattle.dada_model.specs.Observation.{Observation, Refusal, TooNarrow, signed_edge, number_of, observation_in, is_within, is_in_row, too_narrow, observation_of}
 use Rattle.dada_model.specs.Bounds.{IsInRange, IsBandWidth}
@@ -107,6 +107,28 @@ within low high (negsuc n) e = (cc)
 bounded : (low high : ℕ) (n : Result ℤ Refusal) (z : ℤ) → n ≡ Ok z → is_within (pos low) (pos high) z ≡ true → (low ≤ unsigned_abs (result_unwrap_or n (pos 0))) × (unsigned_abs (result_unwrap_or n (pos 0)) ≤ high)
 bounded low high n z e h = rw e (within low high z h)
 
+or_cases : (b c : Bool) → (b || c) ≡ true → (b ≡ true) ⊎ (c ≡ true)
+or_cases true c e = inl refl
+or_cases false c e = inr e
+
+-- 8 or 16 bits
+record AreBits (bits : ℕ) : Type 0 where
+  whole : bits % 8 ≡ 0
+  few : 8 ≤ bits
+  many : bits ≤ 16
+
+same_bits : (bits k : ℕ) → k ≤ bits → bits ≤ k → (k ≡ 8) ⊎ (k ≡ 16) → AreBits bits
+same_bits bits k from to (inl is) = let e : bits ≡ 8 = omega arith in rw e (record { whole = refl; few = omega arith; many = omega arith })
+same_bits bits k from to (inr is) = let e : bits ≡ 16 = omega arith in rw e (record { whole = refl; few = omega arith; many = omega arith })
+
+bits_of : (n : Result ℤ Refusal) (z : ℤ) → n ≡ Ok z → (is_within (pos 8) (pos 8) z || is_within (pos 16) (pos 16) z) ≡ true →
+    AreBits (unsigned_abs (result_unwrap_or n (pos 0)))
+bits_of n z e h =
+    elim (or_cases (is_within (pos 8) (pos 8) z) (is_within (pos 16) (pos 16) z) h) [
+      | inl eight ↦ let b = bounded 8 8 n z e eight in same_bits _ 8 b.0 b.1 (inl refl)
+      | inr sixteen ↦ let b = bounded 16 16 n z e sixteen in same_bits _ 16 b.0 b.1 (inr refl)
+    ]
+
 band_of : (o : Observation) → 0 < o.channels → (n : Result ℤ Refusal) (z : ℤ) → n ≡ Ok z → is_in_row o Bw z ≡ true → IsBandWidth o (unsigned_abs (result_unwrap_or n (pos 0)))
 band_of o positive n z e h = rw e (band_from o positive z h)
 
@@ -135,6 +157,8 @@ module _ (fields : List Field) (o : Observation) (accepted : observation_of fiel
   unfolding observation_in
   in_range =
       let channels = bounded 2 4096 (number_of fields Nchan) _ (in_row_of Nchan).is (in_row_of Nchan).in_row in
+      let bits = bits_of (number_of fields Nbit) _ (in_row_of Nbit).is (in_row_of Nbit).in_row in
+      let polarisations = bounded 1 2 (number_of fields Npol) _ (in_row_of Npol).is (in_row_of Npol).in_row in
       let sample = bounded 1 (2 ^ 30) (number_of fields Tsamp) _ (in_row_of Tsamp).is (in_row_of Tsamp).in_row in
       let centre = bounded 1000 16000000000 (number_of fields Freq) _ (in_row_of Freq).is (in_row_of Freq).in_row in
       let offset = bounded 0 (10 ^ 15) (number_of fields ObsOffset) _ (in_row_of ObsOffset).is (in_row_of ObsOffset).in_row in
@@ -142,6 +166,11 @@ module _ (fields : List Field) (o : Observation) (accepted : observation_of fiel
       record {
         few_channels = channels.0;
         many_channels = channels.1;
+        whole_bytes = bits.whole;
+        few_bits = bits.few;
+        many_bits = bits.many;
+        few_polarisations = polarisations.0;
+        many_polarisations = polarisations.1;
         short_sample = sample.0;
         long_sample = sample.1;
         low_centre = centre.0;

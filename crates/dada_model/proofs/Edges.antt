@@ -6,7 +6,7 @@ use Rattle.std.proofs.lemmas.Nat.{le-div, div_below, mul-le}
 use Rattle.std.proofs.lemmas.List.FromFn.{length-map-range_with_len, get_or-map-range_with_len}
 use Rattle.std.proofs.Math.Nat.{mul-le-mul_left, mul-le-mul_right, div-mul-le_self, div-le_of_le-mul}
 use Rattle.dada_model.specs.Bounds.{IsInRange}
-use Rattle.dada_model.specs.Laws.{AreEdges}
+use Rattle.dada_model.specs.Edges.{AreEdges}
 use Rattle.dada_model.specs.Observation.{Observation, signed_edge, edge, edges, dispersion_span}
 
 pub difference : (a c : ℕ) → c ≤ a → pos a -ℤ pos c ≡ pos (a - c)
@@ -113,6 +113,8 @@ module _ (o : Observation) (r : IsInRange o) where
 pub AreEdges-edges : (o : Observation) → IsInRange o → AreEdges o.channels (edges o)
 AreEdges-edges o r = record {
   count = length-edges o;
+  few = r.few_channels;
+  many = r.many_channels;
   top = rw (get_or-edges o 0 (omega arith)) (edge_below o r 0 (omega arith));
   falls = λ i k below small. rw (get_or-edges o k small, get_or-edges o i (omega arith)) (edge_above o r i k below small);
   positive = λ k small. rw (get_or-edges o k small) (edge_positive o r k small);

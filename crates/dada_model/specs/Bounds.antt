@@ -1,10 +1,15 @@
 -- The bounds of an accepted observation and of a band, in natural numbers.
-use Rattle.std.specs.Prelude.{ℕ, ◌+◌, ◌*◌, ◌^◌, ◌<◌, ◌≤◌}
+use Rattle.std.specs.Prelude.{◌≡◌, ℕ, ◌%◌, ◌+◌, ◌*◌, ◌^◌, ◌<◌, ◌≤◌}
 use Rattle.dada_model.specs.Observation.{Observation}
 
 pub record IsInRange (o : Observation) : Type 0 where
   pub few_channels : 2 ≤ o.channels
   pub many_channels : o.channels ≤ 4096
+  pub whole_bytes : o.nbit % 8 ≡ 0
+  pub few_bits : 8 ≤ o.nbit
+  pub many_bits : o.nbit ≤ 16
+  pub few_polarisations : 1 ≤ o.npol
+  pub many_polarisations : o.npol ≤ 2
   pub short_sample : 1 ≤ o.sample_ns
   pub long_sample : o.sample_ns ≤ 2 ^ 30
   pub low_centre : 1000 ≤ o.centre_hz

@@ -1,5 +1,5 @@
 -- Laws of the definitions; the functions of this crate carry them.
-use Rattle.std.specs.Prelude.{◌≡◌, ℕ, ◌+◌, ◌-◌, ◌*◌, ◌/◌, ◌^◌, ◌<◌, ◌≤◌, ◌⊎◌, ◌↔◌, Bool, true, false, if◌then◌else◌, List, [], ◌∷◌, ◌++◌, All, length, slice_index, Some, Ok, ℤ, pos, neg_ℤ, unsigned_abs, codes}
+use Rattle.std.specs.Prelude.{◌≡◌, ℕ, ◌+◌, ◌-◌, ◌*◌, ◌/◌, ◌^◌, ◌<◌, ◌≤◌, ◌⊎◌, ◌↔◌, Bool, true, false, if◌then◌else◌, List, [], ◌∷◌, ◌++◌, All, length, Some, Ok, ℤ, pos, neg_ℤ, unsigned_abs, codes}
 use Rattle.std.specs.Char.{IsAsciiDigit}
 use Rattle.std.specs.Str.Parse.{digits_value}
 use Rattle.dada_model.specs.declared.key.Key.{Key}
@@ -8,6 +8,7 @@ use Rattle.dada_model.specs.Number.{number_value}
 use Rattle.dada_model.specs.Fields.{Field}
 use Rattle.dada_model.specs.Observation.{Observation, number_of, observation_in, is_in_row, observation_of, edge, edges, dispersion_span}
 use Rattle.dada_model.specs.Bounds.{IsInRange, IsBandWidth}
+use Rattle.dada_model.specs.Edges.{AreEdges}
 
 -- ---- observations
 
@@ -33,13 +34,6 @@ abbrev pub BandsInRow : Type 0
 BandsInRow = (o : Observation) (z : ℤ) → 0 < o.channels → (is_in_row o Bw z ≡ true) ↔ IsBandWidth o (unsigned_abs z)
 
 -- ---- edges
-
--- what holds of the edges of n channels in kHz, from the top of the band down to its foot
-pub record AreEdges (n : ℕ) (edges : List ℕ) : Type 0 where
-  pub count : length edges ≡ n + 1
-  pub top : slice_index edges 0 ≤ 2 ^ 24
-  pub falls : (i k : ℕ) → i < k → k ≤ n → slice_index edges k < slice_index edges i
-  pub positive : (k : ℕ) → k ≤ n → 0 < slice_index edges k
 
 -- an observation within its bounds has such edges
 abbrev pub EdgesFall : Type 0

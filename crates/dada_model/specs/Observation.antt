@@ -1,6 +1,6 @@
 -- The observation of a header: which fields are read, in which units, and what is refused first (keywords
 -- of the PSRDADA manual; decimals, defaults and ranges are this project's profile).
-use Rattle.std.specs.Prelude.{ℕ, ◌+◌, ◌-◌, ◌*◌, ◌/◌, ◌^◌, Bool, ◌&&◌, not, nat_lt, ◌==◌, if◌then◌else◌, List, [], ◌∷◌, ◌++◌, map, filter_map, Option, Some, None, ok_or, Result, Ok, Err, ℤ, pos, ◌-ℤ◌, unsigned_abs, int_le, int_lt, codes}
+use Rattle.std.specs.Prelude.{ℕ, ◌+◌, ◌-◌, ◌*◌, ◌/◌, ◌^◌, Bool, ◌&&◌, ◌||◌, not, nat_lt, ◌==◌, if◌then◌else◌, List, [], ◌∷◌, ◌++◌, map, filter_map, Option, Some, None, ok_or, Result, Ok, Err, ℤ, pos, ◌-ℤ◌, unsigned_abs, int_le, int_lt, codes}
 use Rattle.std.specs.List.{range_with_len}
 use Rattle.std.specs.Result.{result_unwrap_or}
 use Rattle.std.specs.Int.{int_div_euclid}
@@ -63,10 +63,12 @@ number_or_default key (Some text) = ok_or (number_value (decimals key) text) (Ba
 unfoldable pub number_of : List Field → Key → Result ℤ Refusal
 number_of fields key = number_or_default key (value_of (keyword key) fields)
 
--- an observation, in the units of the table; the bandwidth is the absolute value of BW, and falling says
+-- an observation, in the units of the table: a sample has npol values of nbit bits each; the bandwidth is the absolute value of BW, and falling says
 -- that BW is negative, so that channel 0 of the file is the highest frequency
 pub record Observation : Type 0 where
   pub channels : ℕ
+  pub nbit : ℕ
+  pub npol : ℕ
   pub sample_ns : ℕ
   pub centre_hz : ℕ
   pub width_hz : ℕ
@@ -79,12 +81,18 @@ observation_in fields =
     let number = λ (key : Key). result_unwrap_or (number_of fields key) (pos 0) in
     record {
       channels = unsigned_abs (number Nchan);
+      nbit = unsigned_abs (number Nbit);
+      npol = unsigned_abs (number Npol);
       sample_ns = unsigned_abs (number Tsamp);
       centre_hz = unsigned_abs (number Freq);
       width_hz = unsigned_abs (number Bw);
       is_falling = int_lt (number Bw) (pos 0);
       obs_offset = unsigned_abs (number ObsOffset);
     }
+
+-- the greatest sample: the values of all polarisations are added
+abbrev pub max_sample : Observation → ℕ
+max_sample o = o.npol * (2 ^ o.nbit - 1)
 
 -- ---- the edges of the channels
 
@@ -111,8 +119,8 @@ is_within low high z = int_le low z && int_le z high
 -- the last column of the table: whether a value lies in its row. BW is judged by the edges of the band.
 abbrev pub is_in_row : Observation → Key → ℤ → Bool
 is_in_row o Nchan z = is_within (pos 2) (pos 4096) z
-is_in_row o Nbit z = is_within (pos 8) (pos 8) z
-is_in_row o Npol z = is_within (pos 1) (pos 1) z
+is_in_row o Nbit z = is_within (pos 8) (pos 8) z || is_within (pos 16) (pos 16) z
+is_in_row o Npol z = is_within (pos 1) (pos 2) z
 is_in_row o Ndim z = is_within (pos 1) (pos 1) z
 is_in_row o Tsamp z = is_within (pos 1) (pos (2 ^ 30)) z
 is_in_row o Freq z = is_within (pos 1000) (pos 16000000000) z

@@ -1,8 +1,8 @@
 -- Worked values of the definitions, computed.
-use Rattle.std.specs.Prelude.{◌≡◌, ℕ, true, List, [], ◌∷◌, ◌++◌, Some, None, Ok, pos, neg_ℤ, codes, refl}
+use Rattle.std.specs.Prelude.{◌≡◌, ℕ, true, List, [], ◌∷◌, ◌++◌, map, Some, None, Ok, pos, neg_ℤ, codes, refl}
 use Rattle.dada_model.specs.Number.{number_value}
 use Rattle.dada_model.specs.Fields.{Field, fields_of, value_of}
-use Rattle.dada_model.specs.Observation.{Observation, signed_edge, edge, edges, dispersion_span, dm, observation_of, observation_in, number_of, refusal_at, refusals}
+use Rattle.dada_model.specs.Observation.{Observation, signed_edge, edge, edges, dispersion_span, dm, max_sample, observation_of, observation_in, number_of, refusal_at, refusals}
 
 minus_two_hundred : number_value 6 (codes "-200") ≡ Some (neg_ℤ (pos 200000000))
 unfolding number_value
@@ -36,7 +36,7 @@ fields : List Field
 fields = fields_of (lines (codes "HDR_SIZE 4096" ∷ codes "NCHAN 2" ∷ codes "NBIT 8" ∷ codes "TSAMP 64" ∷ codes "FREQ 1400" ∷ codes "BW -200" ∷ []))
 
 abbrev two_channels : Observation
-two_channels = record { channels = 2; sample_ns = 64000; centre_hz = 1400000000; width_hz = 200000000; is_falling = true; obs_offset = 0 }
+two_channels = record { channels = 2; nbit = 8; npol = 1; sample_ns = 64000; centre_hz = 1400000000; width_hz = 200000000; is_falling = true; obs_offset = 0 }
 
 accepted : observation_of fields ≡ Ok two_channels
 unfolding fields fields_of value_of number_value number_of observation_in signed_edge edge refusal_at refusals observation_of
@@ -51,8 +51,11 @@ unfolding dm dispersion_span edge signed_edge
 dm_of_one = refl
 
 abbrev thousand_channels : Observation
-thousand_channels = record { channels = 1024; sample_ns = 64000; centre_hz = 1382000000; width_hz = 400000000; is_falling = true; obs_offset = 0 }
+thousand_channels = record { channels = 1024; nbit = 16; npol = 2; sample_ns = 64000; centre_hz = 1382000000; width_hz = 400000000; is_falling = true; obs_offset = 0 }
 
 dm_of_many : dm thousand_channels 512 ≡ 24975
 unfolding dm dispersion_span edge signed_edge
 dm_of_many = refl
+
+max_samples : map max_sample (two_channels ∷ thousand_channels ∷ []) ≡ 255 ∷ 131070 ∷ []
+max_samples = refl

@@ -19,13 +19,12 @@ pub struct Rule {
 
 impl Rule {
     ghost use Rattle.search_model.specs.Detection.{IsDetected};
-    ghost use Rattle.detect_rule.specs.Rule.{noise_of};
 
     /// Whether the sum of so many cells is at or above the threshold.
     pub fn detected(&self, sum: u64, cells: u64) -> bool
         requires sum_fits { sum < 2 ^ 32 }
         requires cells_fit { cells ≤ 2 ^ 26 }
-        ensures { IsTrue result ↔ IsDetected (noise_of self.now) sum cells }
+        ensures { IsTrue result ↔ IsDetected self.now.mean self.now.sd self.now.snr sum cells }
     {
         let scaled = 1000 * sum;
         let level = cells * u64::from(self.mean);

@@ -1,9 +1,10 @@
 -- The delay path: it exists, it is the only one, and it never falls.
-use Rattle.std.proofs.Common.{leb, ◌≡◌, ℕ, ◌+◌, ◌-◌, ◌≤◌, ◌<◌, inl, inr, List, slice_index, cond, arith, refl, sym, ◌∙◌, zero, suc}
+use Rattle.std.proofs.Common.{leb, ◌≡◌, ℕ, ◌+◌, ◌-◌, ◌*◌, ◌^◌, ◌≤◌, ◌<◌, inl, inr, List, length, slice_index, cond, pow-suc, arith, refl, sym, ◌∙◌, zero, suc}
 use Rattle.std.proofs.lemmas.Bool.{cond-true, cond-false, cases_lt, le-leb, lt-leb}
 use Rattle.std.proofs.lemmas.List.FromFn.{length-map-range_with_len, get_or-map-range_with_len}
 use Rattle.std.proofs.lemmas.Grind.{same_number_lists}
-use Rattle.search_model.specs.Paths.{middle, split_at, IsNode, the_whole, in_upper, in_lower, IsHalved, IsPath, IsBand, entry, path}
+use Rattle.search_model.specs.Paths.{middle, split_at, IsNode, the_whole, in_upper, in_lower, IsHalved, IsPath, entry, path}
+use Rattle.dada_model.specs.Edges.{AreEdges}
 use Rattle.search_model.proofs.Splits.{split_le}
 
 -- ---- nodes of the halving tree
@@ -15,7 +16,7 @@ middle_below : (lo hi : ℕ) → lo + 2 ≤ hi → middle lo hi < hi
 middle_below lo hi h = omega arith
 
 -- a half gets no more than its node's delay
-split_at_le : (edges : List ℕ) (n : ℕ) → IsBand edges n → (lo hi d : ℕ) → lo + 2 ≤ hi → hi ≤ n →
+split_at_le : (edges : List ℕ) (n : ℕ) → AreEdges n edges → (lo hi d : ℕ) → lo + 2 ≤ hi → hi ≤ n →
     split_at edges lo hi d ≤ d
 split_at_le edges n band lo hi d h hn =
     split_le _ _ _ d (band.falls (middle lo hi) hi (middle_below lo hi h) hn)
@@ -76,20 +77,33 @@ record Entries (edges : List ℕ) (lo hi start d : ℕ) (g : ℕ → ℕ) : Type
 abbrev ends_only : ℕ → ℕ → ℕ → ℕ → ℕ
 ends_only hi start d k = cond (leb hi k) (start + d) start
 
+entry_last : (edges : List ℕ) (lo hi start d k : ℕ) → entry zero edges lo hi start d k ≡ ends_only hi start d k
+unfolding entry
+entry_last edges lo hi start d k = refl
+
 entry_single : (depth : ℕ) (edges : List ℕ) (lo hi start d k : ℕ) → hi ≤ lo + 1 →
     entry (suc depth) edges lo hi start d k ≡ ends_only hi start d k
-entry_single depth edges lo hi start d k one = cond-false _ _ _ (lt-leb (lo + 2) hi (omega arith))
+unfolding entry
+entry_single depth edges lo hi start d k one = rw (lt-leb (lo + 2) hi (omega arith), entry) refl
 
 entry_upper : (depth : ℕ) (edges : List ℕ) (lo hi start d k : ℕ) → lo + 2 ≤ hi → k ≤ middle lo hi →
     entry (suc depth) edges lo hi start d k ≡ entry depth edges lo (middle lo hi) start (split_at edges lo hi d) k
+unfolding entry
 entry_upper depth edges lo hi start d k two h =
-    cond-true _ _ _ (le-leb (lo + 2) hi two) ∙ cond-true _ _ _ (le-leb k (middle lo hi) h)
+    rw (le-leb (lo + 2) hi two, le-leb k (middle lo hi) h, entry) refl
 
 entry_lower : (depth : ℕ) (edges : List ℕ) (lo hi start d k : ℕ) → lo + 2 ≤ hi → middle lo hi < k →
     entry (suc depth) edges lo hi start d k
     ≡ entry depth edges (middle lo hi) hi (start + split_at edges lo hi d) (d - split_at edges lo hi d) k
+unfolding entry
 entry_lower depth edges lo hi start d k two h =
-    cond-true _ _ _ (le-leb (lo + 2) hi two) ∙ cond-false _ _ _ (lt-leb k (middle lo hi) h)
+    rw (le-leb (lo + 2) hi two, lt-leb k (middle lo hi) h, entry) refl
+
+-- 2^(depth + 1) channels are halved into 2^depth and less
+half_depth : (depth lo hi : ℕ) → lo + 2 ≤ hi → hi ≤ lo + 2 ^ suc depth → (middle lo hi ≤ lo + 2 ^ depth) × (hi ≤ middle lo hi + 2 ^ depth)
+half_depth depth lo hi two deep =
+    let e : 2 ^ suc depth ≡ 2 ^ depth * 2 = pow-suc 2 depth in
+    (omega arith, omega arith)
 
 entries_single : (edges : List ℕ) (lo hi start d : ℕ) (g : ℕ → ℕ) → lo < hi → hi ≤ lo + 1 →
     ((k : ℕ) → g k ≡ ends_only hi start d k) → Entries edges lo hi start d g
@@ -121,16 +135,18 @@ entries_join edges lo hi start d upper f1 f2 g two is le e1 e2 same1 same2 =
           (halved_same edges (middle lo hi) hi f2 g (omega arith) low_same e2.halved);
     }
 
-entry_is : (edges : List ℕ) (n : ℕ) → IsBand edges n → (depth lo hi start d : ℕ) → lo < hi → hi ≤ n → hi ≤ lo + depth →
+entry_is : (edges : List ℕ) (n : ℕ) → AreEdges n edges → (depth lo hi start d : ℕ) → lo < hi → hi ≤ n → hi ≤ lo + 2 ^ depth →
     Entries edges lo hi start d (entry depth edges lo hi start d)
-entry_is edges n band zero lo hi start d h hn deep = absurd (omega arith)
+entry_is edges n band zero lo hi start d h hn deep =
+    entries_single edges lo hi start d _ h deep (λ k. entry_last edges lo hi start d k)
 entry_is edges n band (suc depth) lo hi start d h hn deep =
     elim (cases_lt (lo + 1) hi) [
       | inl more ↦
           let two : lo + 2 ≤ hi = omega arith in
+          let halves = half_depth depth lo hi two deep in
           entries_join edges lo hi start d (split_at edges lo hi d) _ _ _ two refl (split_at_le edges n band lo hi d two hn)
-          (entry_is edges n band depth lo (middle lo hi) start (split_at edges lo hi d) (middle_above lo hi two) (omega arith) (omega arith))
-          (entry_is edges n band depth (middle lo hi) hi (start + split_at edges lo hi d) (d - split_at edges lo hi d) (middle_below lo hi two) hn (omega arith))
+          (entry_is edges n band depth lo (middle lo hi) start (split_at edges lo hi d) (middle_above lo hi two) (omega arith) halves.0)
+          (entry_is edges n band depth (middle lo hi) hi (start + split_at edges lo hi d) (d - split_at edges lo hi d) (middle_below lo hi two) hn halves.1)
           (λ k under. entry_upper depth edges lo hi start d k two under)
           (λ k over. entry_lower depth edges lo hi start d k two over)
       | inr less ↦
@@ -139,23 +155,30 @@ entry_is edges n band (suc depth) lo hi start d h hn deep =
 
 -- ---- the laws
 
-entry_of_path : (edges : List ℕ) (n d k : ℕ) → k ≤ n → slice_index (path edges n d) k ≡ entry n edges 0 n 0 d k
-entry_of_path edges n d k h = get_or-map-range_with_len (λ i. entry n edges 0 n 0 d i) 0 (n + 1) k k 0 (omega arith) (omega arith)
+entry_of_path : (edges : List ℕ) (n d k : ℕ) → k ≤ n → slice_index (path edges n d) k ≡ entry 12 edges 0 n 0 d k
+unfolding path
+entry_of_path edges n d k h = get_or-map-range_with_len (λ i. entry 12 edges 0 n 0 d i) 0 (n + 1) k k 0 (omega arith) (omega arith)
+
+length-path : (edges : List ℕ) (n d : ℕ) → length (path edges n d) ≡ n + 1
+unfolding path
+length-path edges n d = length-map-range_with_len (λ k. entry 12 edges 0 n 0 d k) 0 (n + 1)
 
 -- the computed path is a path
-pub path_is : (edges : List ℕ) (n d : ℕ) → IsBand edges n → 0 < n → IsPath edges n d (path edges n d)
-path_is edges n d band h =
-    let e = entry_is edges n band n 0 n 0 d h (omega arith) (omega arith) in
+pub path_is : (edges : List ℕ) (n d : ℕ) → AreEdges n edges → IsPath edges n d (path edges n d)
+path_is edges n d band =
+    let few = band.few in
+    let many = band.many in
+    let e = entry_is edges n band 12 0 n 0 d (omega arith) (omega arith) (omega arith) in
     let halved = halved_same edges 0 n _ (λ k. slice_index (path edges n d) k) (omega arith) (λ k from to. entry_of_path edges n d k to) e.halved in
     record {
-      entries = length-map-range_with_len (λ k. entry n edges 0 n 0 d k) 0 (n + 1);
+      entries = length-path edges n d;
       first = entry_of_path edges n d 0 (omega arith) ∙ e.begins;
       last = entry_of_path edges n d n (omega arith) ∙ e.ends ∙ omega arith;
       halves = halved;
     }
 
 -- two ways to halve the same delay between the same edges agree at each edge
-same_between : (edges : List ℕ) (n : ℕ) → IsBand edges n → (depth lo hi : ℕ) (f g : ℕ → ℕ) → lo < hi → hi ≤ n → hi ≤ lo + depth →
+same_between : (edges : List ℕ) (n : ℕ) → AreEdges n edges → (depth lo hi : ℕ) (f g : ℕ → ℕ) → lo < hi → hi ≤ n → hi ≤ lo + depth →
     IsHalved edges lo hi f → IsHalved edges lo hi g → f lo ≡ g lo → f hi ≡ g hi → f lo ≤ f hi → (k : ℕ) → lo ≤ k → k ≤ hi → f k ≡ g k
 same_between edges n band zero lo hi f g h hn deep hf hg elo ehi le k from to = absurd (omega arith)
 same_between edges n band (suc depth) lo hi f g h hn deep hf hg elo ehi le k from to =
@@ -181,15 +204,16 @@ same_between edges n band (suc depth) lo hi f g h hn deep hf hg elo ehi le k fro
     ]
 
 -- it is the only one
-pub path_is_only : (edges : List ℕ) (n d : ℕ) (e : List ℕ) → IsBand edges n → 0 < n → IsPath edges n d e → e ≡ path edges n d
-path_is_only edges n d e band h is =
-    let p = path_is edges n d band h in
+pub path_is_only : (edges : List ℕ) (n d : ℕ) (e : List ℕ) → AreEdges n edges → IsPath edges n d e → e ≡ path edges n d
+path_is_only edges n d e band is =
+    let few = band.few in
+    let p = path_is edges n d band in
     same_number_lists e (path edges n d) (is.entries ∙ sym p.entries)
-    (λ k within. same_between edges n band n 0 n (λ i. slice_index e i) (λ i. slice_index (path edges n d) i) h (omega arith) (omega arith)
+    (λ k within. same_between edges n band n 0 n (λ i. slice_index e i) (λ i. slice_index (path edges n d) i) (omega arith) (omega arith) (omega arith)
     is.halves p.halves (is.first ∙ sym p.first) (is.last ∙ sym p.last) (rw is.first (omega arith)) k (omega arith)
     (let count = is.entries in omega arith))
 
-rises_between : (edges : List ℕ) (n : ℕ) → IsBand edges n → (depth lo hi : ℕ) (f : ℕ → ℕ) → lo < hi → hi ≤ n → hi ≤ lo + depth →
+rises_between : (edges : List ℕ) (n : ℕ) → AreEdges n edges → (depth lo hi : ℕ) (f : ℕ → ℕ) → lo < hi → hi ≤ n → hi ≤ lo + depth →
     IsHalved edges lo hi f → f lo ≤ f hi → (k : ℕ) → lo ≤ k → k < hi → f k ≤ f (k + 1)
 rises_between edges n band zero lo hi f h hn deep hf le k from to = absurd (omega arith)
 rises_between edges n band (suc depth) lo hi f h hn deep hf le k from to =
@@ -213,8 +237,9 @@ rises_between edges n band (suc depth) lo hi f h hn deep hf le k from to =
     ]
 
 -- it never falls
-pub path_rises : (edges : List ℕ) (n d : ℕ) (e : List ℕ) → IsBand edges n → 0 < n → IsPath edges n d e →
+pub path_rises : (edges : List ℕ) (n d : ℕ) (e : List ℕ) → AreEdges n edges → IsPath edges n d e →
     (k : ℕ) → k < n → slice_index e k ≤ slice_index e (k + 1)
-path_rises edges n d e band h is k within =
-    rises_between edges n band n 0 n (λ i. slice_index e i) h (omega arith) (omega arith) is.halves
+path_rises edges n d e band is k within =
+    let few = band.few in
+    rises_between edges n band n 0 n (λ i. slice_index e i) (omega arith) (omega arith) (omega arith) is.halves
     (rw is.first (omega arith)) k (omega arith) within

@@ -1,75 +1,96 @@
 -- Worked values of the definitions: two channels, FREQ 1400, BW -200, TSAMP 64, and the data bytes 10 0 0 20 0 0.
-use Rattle.std.proofs.Common.{◌≡◌, ℕ, List, [], ◌∷◌, refl, true, false, map, ◌++◌, ◌*◌, codes}
+use Rattle.std.proofs.Common.{◌≡◌, ℕ, ◌+◌, List, [], ◌∷◌, ◌++◌, refl, true, false, map, slice_index, codes}
 use Rattle.std.specs.Fmt.{digits}
-use Rattle.search_model.specs.Samples.{filterbank}
-use Rattle.search_model.specs.Paths.{split_at, path}
+use Rattle.dada_model.specs.Observation.{Observation, edges, dm, dispersion_span, edge, signed_edge}
+use Rattle.search_model.specs.declared.search.Search.{Search}
+use Rattle.search_model.specs.Samples.{Filterbank, samples_of, filterbank}
+use Rattle.search_model.specs.Paths.{split_at, entry, path}
 use Rattle.search_model.specs.Sums.{path_sum, box_sum}
 use Rattle.search_model.specs.Folds.{shift, fold_sum}
-use Rattle.search_model.specs.Detection.{Noise, is_detected}
-use Rattle.search_model.specs.Search.{Search}
+use Rattle.search_model.specs.Detection.{is_detected}
 use Rattle.search_model.specs.Candidates.{candidates}
-use Rattle.search_model.specs.CandidateText.{candidate_text}
+use Rattle.search_model.specs.CandidateText.{Labels, pulse_word, candidate_text}
 
-abbrev edges : List ℕ
-edges = 1500000 ∷ 1400000 ∷ 1300000 ∷ []
+-- ---- paths
 
-abbrev bytes : List ℕ
-bytes = 10 ∷ 0 ∷ 0 ∷ 20 ∷ 0 ∷ 0 ∷ []
+three_edges : List ℕ
+three_edges = 1500000 ∷ 1400000 ∷ 1300000 ∷ []
 
 -- the delays 0 to 4 are shared as 0, 0, 1, 1, 2
-splits : map (λ d. split_at edges 0 2 d) (0 ∷ 1 ∷ 2 ∷ 3 ∷ 4 ∷ []) ≡ 0 ∷ 0 ∷ 1 ∷ 1 ∷ 2 ∷ []
+splits : map (λ d. split_at three_edges 0 2 d) (0 ∷ 1 ∷ 2 ∷ 3 ∷ 4 ∷ []) ≡ 0 ∷ 0 ∷ 1 ∷ 1 ∷ 2 ∷ []
+unfolding three_edges
 splits = refl
 
-path_of_1 : path edges 2 1 ≡ 0 ∷ 0 ∷ 1 ∷ []
-path_of_1 = refl
+paths : map (λ d. path three_edges 2 d) (0 ∷ 1 ∷ 2 ∷ 3 ∷ 4 ∷ [])
+    ≡ (0 ∷ 0 ∷ 0 ∷ []) ∷ (0 ∷ 0 ∷ 1 ∷ []) ∷ (0 ∷ 1 ∷ 2 ∷ []) ∷ (0 ∷ 1 ∷ 3 ∷ []) ∷ (0 ∷ 2 ∷ 4 ∷ []) ∷ []
+unfolding three_edges path entry
+paths = refl
 
-path_of_2 : path edges 2 2 ≡ 0 ∷ 1 ∷ 2 ∷ []
-path_of_2 = refl
+-- ---- sums
 
-path_of_3 : path edges 2 3 ≡ 0 ∷ 1 ∷ 3 ∷ []
-path_of_3 = refl
+-- channel 0 is 10 0 0, and channel 1 is 0 20 0
+abbrev sample : Filterbank
+sample = filterbank 2 true (10 ∷ 0 ∷ 0 ∷ 20 ∷ 0 ∷ 0 ∷ [])
 
-path_of_4 : path edges 2 4 ≡ 0 ∷ 2 ∷ 4 ∷ []
-path_of_4 = refl
+-- by delay, the path sums that end at spectra 0, 1 and 2
+sums : map (λ d. map (λ u. path_sum sample three_edges u d) (0 ∷ 1 ∷ 2 ∷ [])) (0 ∷ 1 ∷ 2 ∷ [])
+    ≡ (10 ∷ 20 ∷ 0 ∷ []) ∷ (0 ∷ 30 ∷ 20 ∷ []) ∷ (0 ∷ 30 ∷ 30 ∷ []) ∷ []
+unfolding three_edges path entry
+sums = refl
 
-sum_1_1 : path_sum (filterbank 2 true bytes) edges 1 1 ≡ 30
-sum_1_1 = refl
-
-sum_2_2 : path_sum (filterbank 2 true bytes) edges 2 2 ≡ 30
-sum_2_2 = refl
-
--- a rising band holds the same pulse with its channels the other way round
-rising : path_sum (filterbank 2 false (0 ∷ 10 ∷ 20 ∷ 0 ∷ 0 ∷ 0 ∷ [])) edges 1 1 ≡ 30
-rising = refl
+-- boxes that begin before the data have nothing there: width 2 and width 4 of delay 0
+early_boxes : map (λ u. box_sum sample three_edges u 0 2) (0 ∷ 1 ∷ 2 ∷ []) ++ map (λ u. box_sum sample three_edges u 0 4) (0 ∷ 1 ∷ 2 ∷ [])
+    ≡ 10 ∷ 30 ∷ 20 ∷ 10 ∷ 30 ∷ 30 ∷ []
+unfolding three_edges path entry
+early_boxes = refl
 
 -- the box of two that ends at spectrum 2 with delay 1
-box_2 : box_sum (filterbank 2 true bytes) edges 2 1 2 ≡ 50
+box_2 : box_sum sample three_edges 2 1 2 ≡ 50
+unfolding three_edges path entry
 box_2 = refl
 
--- two rows of a fold are shifted by 0, 0, 1, 1 in trial 1, and by 0, 1, 2, 3 in trial 3
-shifts_1 : map (λ i. shift 2 1 i) (0 ∷ 1 ∷ 2 ∷ 3 ∷ []) ≡ 0 ∷ 0 ∷ 1 ∷ 1 ∷ []
-shifts_1 = refl
+-- a rising band holds the same pulse with its channels the other way round
+rising : path_sum (filterbank 2 false (0 ∷ 10 ∷ 20 ∷ 0 ∷ 0 ∷ 0 ∷ [])) three_edges 1 1 ≡ 30
+unfolding three_edges path entry
+rising = refl
 
-shifts_3 : map (λ i. shift 2 3 i) (0 ∷ 1 ∷ 2 ∷ 3 ∷ []) ≡ 0 ∷ 1 ∷ 2 ∷ 3 ∷ []
-shifts_3 = refl
+-- ---- samples of 16 bits, and of two polarisations; the last byte is part of a sample
+
+wide_samples : samples_of 16 1 (10 ∷ 0 ∷ 1 ∷ 2 ∷ 0 ∷ 0 ∷ 20 ∷ []) ≡ 10 ∷ 513 ∷ 0 ∷ []
+wide_samples = refl
+
+added_samples : samples_of 8 2 (4 ∷ 6 ∷ 0 ∷ 0 ∷ 20 ∷ 0 ∷ 7 ∷ []) ≡ 10 ∷ 0 ∷ 20 ∷ []
+added_samples = refl
+
+wide_added_samples : samples_of 16 2 (1 ∷ 1 ∷ 2 ∷ 0 ∷ 255 ∷ 255 ∷ 255 ∷ 255 ∷ []) ≡ 259 ∷ 131070 ∷ []
+wide_added_samples = refl
+
+-- ---- folds
+
+-- four rows are shifted by 0, 0, 1, 1 in trial 1, and by 0, 1, 2, 3 in trial 3
+shifts : map (λ j. map (λ i. shift 2 j i) (0 ∷ 1 ∷ 2 ∷ 3 ∷ [])) (1 ∷ 3 ∷ []) ≡ (0 ∷ 0 ∷ 1 ∷ 1 ∷ []) ∷ (0 ∷ 1 ∷ 2 ∷ 3 ∷ []) ∷ []
+shifts = refl
 
 -- 1 2 3 4 at period 2: trial 0 gives 4 6, trial 1 gives 5 5
-folded : map (λ phase. fold_sum (1 ∷ 2 ∷ 3 ∷ 4 ∷ []) 2 1 0 phase) (0 ∷ 1 ∷ [])
-    ++ map (λ phase. fold_sum (1 ∷ 2 ∷ 3 ∷ 4 ∷ []) 2 1 1 phase) (0 ∷ 1 ∷ []) ≡ 4 ∷ 6 ∷ 5 ∷ 5 ∷ []
+folded : map (λ j. map (λ phase. fold_sum (1 ∷ 2 ∷ 3 ∷ 4 ∷ []) 2 1 j phase) (0 ∷ 1 ∷ [])) (0 ∷ 1 ∷ []) ≡ (4 ∷ 6 ∷ []) ∷ (5 ∷ 5 ∷ []) ∷ []
 folded = refl
 
-abbrev unit_noise : Noise
-unit_noise = record { mean = 0; deviation = 1000; threshold = 200 }
+-- ---- detection
 
--- mean 0, deviation 1, threshold 2, four cells: a sum of 4 is equality, and 3 is below
-equality : is_detected unit_noise 4 4 ≡ true
+-- mean 0, deviation 1, ratio 2, four cells: a sum of 4 is equality, and 3 is below
+equality : map (λ sum. is_detected 0 1000 200 sum 4) (3 ∷ 4 ∷ []) ≡ false ∷ true ∷ []
 equality = refl
 
-below_it : is_detected unit_noise 3 4 ≡ false
-below_it = refl
+-- ---- texts
 
-abbrev search_of_bytes : Search
-search_of_bytes = record {
+abbrev two_channels : Observation
+two_channels = record { channels = 2; nbit = 8; npol = 1; sample_ns = 64000; centre_hz = 1400000000; width_hz = 200000000; is_falling = true; obs_offset = 0 }
+
+abbrev labels : Labels
+labels = record { dm = dm two_channels; cells = λ d. 2 + d; word = pulse_word }
+
+abbrev plain_search : Search
+plain_search = record {
   min_delay = 0;
   max_delay = 1;
   widest = 1;
@@ -77,35 +98,41 @@ search_of_bytes = record {
   fold_max = 0;
   fold_rows = 6;
   fold_step = 64;
-  noise = record { mean = 1000; deviation = 2000; threshold = 700 };
+  chunk = 1024;
+  shards = 1;
+  max_candidates = 65536;
+  mean = 1000;
+  sd = 2000;
+  snr = 700;
 }
 
-abbrev dms : ℕ → ℕ
-dms d = 104 * d
-
-whole_text : candidate_text dms (filterbank 2 true bytes) (candidates (filterbank 2 true bytes) edges search_of_bytes)
+one_pulse : candidate_text labels 3 (candidates sample (edges two_channels) labels.cells plain_search)
     ≡ codes "PULSE 1 1 0.104 1 30 3\nEND 1 0 3\n"
-unfolding digits
-whole_text = refl
+unfolding digits edges edge signed_edge dm dispersion_span path entry
+one_pulse = refl
 
 abbrev fold_search : Search
-fold_search = record {
-  min_delay = 0;
-  max_delay = 0;
-  widest = 1;
-  fold_min = 2;
-  fold_max = 2;
-  fold_rows = 1;
-  fold_step = 64;
-  noise = record { mean = 0; deviation = 1000; threshold = 200 };
-}
+fold_search = record plain_search { max_delay = 0; fold_max = 2; fold_rows = 1; mean = 0; sd = 1000; snr = 200 }
 
-abbrev rising_series : List ℕ
-rising_series = 1 ∷ 0 ∷ 2 ∷ 0 ∷ 3 ∷ 0 ∷ 4 ∷ 0 ∷ []
+abbrev rising_series : Filterbank
+rising_series = filterbank 2 true (1 ∷ 0 ∷ 2 ∷ 0 ∷ 3 ∷ 0 ∷ 4 ∷ 0 ∷ [])
 
 -- two rows of two spectra are folded at both trials
-fold_text : candidate_text dms (filterbank 2 true rising_series) (candidates (filterbank 2 true rising_series) edges fold_search)
+folds_and_pulses : candidate_text labels 4 (candidates rising_series (edges two_channels) labels.cells fold_search)
     ≡ codes "PULSE 2 0 0.000 1 3 2\nPULSE 3 0 0.000 1 4 2\nFOLD 0 0.000 2 2 0 0 4 4\nFOLD 0 0.000 2 2 0 1 6 4\n"
     ++ codes "FOLD 0 0.000 2 2 1 0 5 4\nFOLD 0 0.000 2 2 1 1 5 4\nEND 2 4 4\n"
-unfolding digits
-fold_text = refl
+unfolding digits edges edge signed_edge dm dispersion_span path entry
+folds_and_pulses = refl
+
+-- ---- many channels
+
+abbrev of_channels : ℕ → Observation
+of_channels n = record { channels = n; nbit = 8; npol = 1; sample_ns = 64000; centre_hz = 1382000000; width_hz = 400000000; is_falling = true; obs_offset = 0 }
+
+path_of_64 : map (λ k. slice_index (path (edges (of_channels 64)) 64 64) k) (1 ∷ 8 ∷ 16 ∷ 32 ∷ 48 ∷ 63 ∷ 64 ∷ []) ≡ 0 ∷ 5 ∷ 11 ∷ 25 ∷ 42 ∷ 62 ∷ 64 ∷ []
+unfolding edges edge signed_edge path entry
+path_of_64 = refl
+
+path_of_1024 : map (λ k. slice_index (path (edges (of_channels 1024)) 1024 512) k) (1 ∷ 512 ∷ 1023 ∷ []) ≡ 0 ∷ 201 ∷ 511 ∷ []
+unfolding edges edge signed_edge path entry
+path_of_1024 = refl

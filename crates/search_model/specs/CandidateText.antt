@@ -1,9 +1,10 @@
 -- The text of a search: a line for each candidate, and the END line.
-use Rattle.std.specs.Prelude.{ℕ, ◌+◌, ◌/◌, ◌%◌, ◌^◌, List, [], ◌∷◌, ◌++◌, codes, length}
+use Rattle.std.specs.Prelude.{ℕ, ◌+◌, ◌/◌, ◌%◌, ◌^◌, Bool, true, false, List, [], ◌∷◌, ◌++◌, codes, count_by}
 use Rattle.std.specs.List.{flat_map}
 use Rattle.std.specs.Fmt.{decimal}
-use Rattle.search_model.specs.Samples.{Filterbank}
-use Rattle.search_model.specs.Candidates.{Pulse, Fold, Candidates, pulse_cells, fold_cells}
+use Rattle.search_model.specs.declared.candidate.Candidate.{Candidate}
+use Rattle.search_model.specs.declared.candidate.Candidate.TheVariants.{Pulse, Fold}
+use Rattle.search_model.specs.Candidates.{cells_of}
 
 -- the three digits of a number below a thousand
 abbrev pub three_digits : ℕ → List ℕ
@@ -13,26 +14,41 @@ three_digits n = (48 + n / 100) ∷ (48 + n / 10 % 10) ∷ (48 + n % 10) ∷ []
 abbrev pub thousandths : ℕ → List ℕ
 thousandths n = decimal (n / 1000) ++ codes "." ++ three_digits (n % 1000)
 
--- PULSE, the end, the delay, the dispersion measure, the width, the sum, the cells
-abbrev pub pulse_line : (ℕ → ℕ) → ℕ → Pulse → List ℕ
-pulse_line dm n p =
-    codes "PULSE " ++ decimal p.end ++ codes " " ++ decimal p.delay ++ codes " " ++ thousandths (dm p.delay) ++ codes " "
-    ++ decimal p.width ++ codes " " ++ decimal p.total ++ codes " " ++ decimal (pulse_cells n p) ++ codes "\n"
+-- What a line says besides its candidate: the dispersion measure of a delay in thousandths, how many cells a path sum of a delay
+-- has, and the first word of the line of a pulse that ends at a spectrum (PULSE where nothing else is said of it).
+pub record Labels : Type 0 where
+  pub dm : ℕ → ℕ
+  pub cells : ℕ → ℕ
+  pub word : ℕ → List ℕ
 
+-- PULSE, the end, the delay, the dispersion measure, the width, the sum, the cells; or
 -- FOLD, the delay, the dispersion measure, the period, the rows, the trial, the phase, the sum, the cells
-abbrev pub fold_line : (ℕ → ℕ) → ℕ → Fold → List ℕ
-fold_line dm n c =
-    codes "FOLD " ++ decimal c.delay ++ codes " " ++ thousandths (dm c.delay) ++ codes " " ++ decimal c.period ++ codes " "
-    ++ decimal (2 ^ c.halvings) ++ codes " " ++ decimal c.trial ++ codes " " ++ decimal c.phase ++ codes " "
-    ++ decimal c.total ++ codes " " ++ decimal (fold_cells n c) ++ codes "\n"
+abbrev pub candidate_line : Labels → Candidate → List ℕ
+candidate_line l (Pulse end delay width sum) =
+    l.word end ++ codes " " ++ decimal end ++ codes " " ++ decimal delay ++ codes " " ++ thousandths (l.dm delay) ++ codes " "
+    ++ decimal width ++ codes " " ++ decimal sum ++ codes " " ++ decimal (cells_of l.cells (Pulse end delay width sum)) ++ codes "\n"
+candidate_line l (Fold delay period halvings trial phase sum) =
+    codes "FOLD " ++ decimal delay ++ codes " " ++ thousandths (l.dm delay) ++ codes " " ++ decimal period ++ codes " "
+    ++ decimal (2 ^ halvings) ++ codes " " ++ decimal trial ++ codes " " ++ decimal phase ++ codes " " ++ decimal sum ++ codes " "
+    ++ decimal (cells_of l.cells (Fold delay period halvings trial phase sum)) ++ codes "\n"
 
 -- END, how many pulses, how many folds, how many spectra
 abbrev pub end_line : ℕ → ℕ → ℕ → List ℕ
 end_line pulses folds spectra =
     codes "END " ++ decimal pulses ++ codes " " ++ decimal folds ++ codes " " ++ decimal spectra ++ codes "\n"
 
--- `dm d` is the dispersion measure of delay d in thousandths, and f the samples that were searched
-abbrev pub candidate_text : (ℕ → ℕ) → Filterbank → Candidates → List ℕ
-candidate_text dm f c =
-    flat_map (pulse_line dm f.channels) c.pulses ++ flat_map (fold_line dm f.channels) c.folds
-    ++ end_line (length c.pulses) (length c.folds) f.spectra
+abbrev pub is_pulse : Candidate → Bool
+is_pulse (Pulse _ _ _ _) = true
+is_pulse (Fold _ _ _ _ _ _) = false
+
+abbrev pub is_fold : Candidate → Bool
+is_fold (Pulse _ _ _ _) = false
+is_fold (Fold _ _ _ _ _ _) = true
+
+-- the text of a list of candidates over so many spectra
+abbrev pub candidate_text : Labels → ℕ → List Candidate → List ℕ
+candidate_text l spectra list = flat_map (candidate_line l) list ++ end_line (count_by is_pulse list) (count_by is_fold list) spectra
+
+-- the word of each pulse where none is marked
+abbrev pub pulse_word : ℕ → List ℕ
+pulse_word end = codes "PULSE"

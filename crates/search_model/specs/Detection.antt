@@ -1,24 +1,19 @@
--- The detection rule: a sum stands out of the noise by the stated threshold, equality included.
+-- The detection rule: a sum of samples stands out of the noise by the stated ratio, equality included.
 -- Source: this project's profile.
 use Rattle.std.specs.Prelude.{ℕ, ◌-◌, ◌*◌, ◌^◌, ◌≤◌, ◌<◌, Bool, ◌&&◌, nat_lt, nat_le}
 
--- the mean and the deviation of one sample in thousandths, and the threshold in hundredths
-pub record Noise : Type 0 where
-  pub mean : ℕ
-  pub deviation : ℕ
-  pub threshold : ℕ
+-- how far the sum of so many cells is above their mean, in thousandths, as the mean of a sample is
+abbrev pub excess : ℕ → ℕ → ℕ → ℕ
+excess mean sum cells = 1000 * sum - cells * mean
 
--- how far the sum of so many cells is above their mean, in thousandths
-abbrev pub excess : Noise → ℕ → ℕ → ℕ
-excess r total cells = 1000 * total - cells * r.mean
-
--- the excess D is positive, and D / 1000 is at least threshold / 100 times deviation / 1000 times the root of the cells
-pub record IsDetected (r : Noise) (total cells : ℕ) : Type 0 where
-  pub above : cells * r.mean < 1000 * total
-  pub far : r.threshold ^ 2 * r.deviation ^ 2 * cells ≤ 10000 * excess r total cells ^ 2
+-- The excess D is positive, and D / 1000 is at least snr / 100 times sd / 1000 times the root of the cells.
+-- The mean and the standard deviation of a sample are in thousandths, the signal-to-noise ratio in hundredths.
+pub record IsDetected (mean sd snr sum cells : ℕ) : Type 0 where
+  pub above : cells * mean < 1000 * sum
+  pub far : snr ^ 2 * sd ^ 2 * cells ≤ 10000 * excess mean sum cells ^ 2
 
 -- the same as a test
-abbrev pub is_detected : Noise → ℕ → ℕ → Bool
-is_detected r total cells =
-    nat_lt (cells * r.mean) (1000 * total)
-    && nat_le (r.threshold ^ 2 * r.deviation ^ 2 * cells) (10000 * excess r total cells ^ 2)
+abbrev pub is_detected : ℕ → ℕ → ℕ → ℕ → ℕ → Bool
+is_detected mean sd snr sum cells =
+    nat_lt (cells * mean) (1000 * sum)
+    && nat_le (snr ^ 2 * sd ^ 2 * cells) (10000 * excess mean sum cells ^ 2)

@@ -1,9 +1,10 @@
 -- Laws of the definitions; the functions of this crate carry them.
 use Rattle.std.specs.Prelude.{◌≡◌, ℕ, ◌+◌, ◌-◌, ◌*◌, ◌/◌, ◌≤◌, ◌<◌, ◌↔◌, List, length, slice_index, IsTrue}
+use Rattle.dada_model.specs.Edges.{AreEdges}
 use Rattle.search_model.specs.Samples.{Filterbank}
-use Rattle.search_model.specs.Paths.{middle, square, split, split_at, IsHalved, IsPath, IsBand, path}
+use Rattle.search_model.specs.Paths.{middle, square, split, split_at, IsHalved, IsPath, path}
 use Rattle.search_model.specs.Sums.{path_cells}
-use Rattle.search_model.specs.Detection.{Noise, IsDetected, is_detected}
+use Rattle.search_model.specs.Detection.{IsDetected, is_detected}
 
 -- of three falling edges, the split of a delay is at most the delay: its numerator is below its denominator, and a part
 -- of d, rounded, is at most d
@@ -23,21 +24,25 @@ pub record HalvesJoin : Type 0 where
   pub same : (edges : List ℕ) (lo hi : ℕ) (other entry : ℕ → ℕ) → lo ≤ hi →
       ((k : ℕ) → lo ≤ k → k ≤ hi → entry k ≡ other k) → IsHalved edges lo hi other → IsHalved edges lo hi entry
 
--- over a band, the computed path of a delay is a path of it, and the only one
+-- over the edges of a band, the computed path of a delay is a path of it, and the only one
 abbrev pub HasOnePath : Type 0
-HasOnePath = (edges : List ℕ) (n d : ℕ) → IsBand edges n → 0 < n →
+HasOnePath = (edges : List ℕ) (n d : ℕ) → AreEdges n edges →
     (IsPath edges n d (path edges n d)) × ((e : List ℕ) → IsPath edges n d e → e ≡ path edges n d)
 
 -- a path never falls from one edge to the next
 abbrev pub PathsRise : Type 0
-PathsRise = (edges : List ℕ) (n d : ℕ) (e : List ℕ) → IsBand edges n → 0 < n → IsPath edges n d e →
+PathsRise = (edges : List ℕ) (n d : ℕ) (e : List ℕ) → AreEdges n edges → IsPath edges n d e →
     (k : ℕ) → k < n → slice_index e k ≤ slice_index e (k + 1)
 
 -- a path sum of delay d over n channels has n + d cells
 abbrev pub CellsAreCounted : Type 0
-CellsAreCounted = (edges : List ℕ) (f : Filterbank) (d u : ℕ) (e : List ℕ) → IsBand edges f.channels → 0 < f.channels →
-    IsPath edges f.channels d e → length (path_cells f e d u) ≡ f.channels + d
+CellsAreCounted = (edges : List ℕ) (f : Filterbank) (d u late : ℕ) (e : List ℕ) → AreEdges f.channels edges →
+    IsPath edges f.channels d e → length (path_cells f e d u late) ≡ f.channels + d
 
 -- the test answers the detection rule
 abbrev pub TestsDetection : Type 0
-TestsDetection = (r : Noise) (total cells : ℕ) → IsTrue (is_detected r total cells) ↔ IsDetected r total cells
+TestsDetection = (mean sd snr sum cells : ℕ) → IsTrue (is_detected mean sd snr sum cells) ↔ IsDetected mean sd snr sum cells
+
+-- a sum that is detected stays so where it is greater
+abbrev pub DetectionRises : Type 0
+DetectionRises = (mean sd snr sum more cells : ℕ) → sum ≤ more → IsDetected mean sd snr sum cells → IsDetected mean sd snr more cells

@@ -1,7 +1,7 @@
 -- Delay paths: at which delay a dispersed pulse passes each band edge.
--- Source: Zackay & Ofek, ApJ 835:11, 2017 (a band is halved again and again, and each half gets its share of the delay);
--- the rounding of the share is this project's profile.
-use Rattle.std.specs.Prelude.{◌≡◌, ℕ, ◌+◌, ◌-◌, ◌*◌, ◌/◌, ◌≤◌, ◌<◌, List, map, length, slice_index, zero, suc, nat_le, if◌then◌else◌}
+-- Source: Zackay & Ofek, ApJ 835:11, 2017, section 2 (a band is halved again and again, and each half gets its share of the
+-- delay by the dispersion law); the rounding of the share is this project's profile.
+use Rattle.std.specs.Prelude.{◌≡◌, ℕ, ◌+◌, ◌-◌, ◌*◌, ◌/◌, ◌≤◌, true, false, List, map, length, slice_index, zero, suc, nat_le, if◌then◌else◌}
 use Rattle.std.specs.List.{range_with_len}
 
 -- the middle of the channels from lo up to hi
@@ -43,23 +43,21 @@ pub record IsPath (edges : List ℕ) (n d : ℕ) (e : List ℕ) : Type 0 where
   pub halves : IsHalved edges 0 n (λ k. slice_index e k)
 
 -- the entry at edge k, between the edges lo and hi, of a path that has the entry `start` at lo and `start + d` at hi;
--- `depth` bounds how often the band is halved
-abbrev pub entry : ℕ → List ℕ → ℕ → ℕ → ℕ → ℕ → ℕ → ℕ
+-- `depth` bounds how often the band is halved, and 2^depth channels are halved down to single ones (the cases of an `elim`
+-- are computed where they are needed alone)
+unfoldable pub entry : ℕ → List ℕ → ℕ → ℕ → ℕ → ℕ → ℕ → ℕ
 entry zero edges lo hi start d k = if nat_le hi k then start + d else start
 entry (suc depth) edges lo hi start d k =
-    let upper = split_at edges lo hi d in
-    if nat_le (lo + 2) hi
-    then (if nat_le k (middle lo hi)
-    then entry depth edges lo (middle lo hi) start upper k
-    else entry depth edges (middle lo hi) hi (start + upper) (d - upper) k)
-    else (if nat_le hi k then start + d else start)
+    elim (nat_le (lo + 2) hi) [
+      | true ↦
+          let upper = split_at edges lo hi d in
+          elim (nat_le k (middle lo hi)) [
+            | true ↦ entry depth edges lo (middle lo hi) start upper k
+            | false ↦ entry depth edges (middle lo hi) hi (start + upper) (d - upper) k
+          ]
+      | false ↦ if nat_le hi k then start + d else start
+    ]
 
--- the path of delay d over n channels, computed
-abbrev pub path : List ℕ → ℕ → ℕ → List ℕ
-path edges n d = map (λ k. entry n edges 0 n 0 d k) (range_with_len 0 (n + 1))
-
--- what holds of the edges of an observation of n channels: n + 1 of them, strictly falling, positive, in kHz
-pub record IsBand (edges : List ℕ) (n : ℕ) : Type 0 where
-  pub count : length edges ≡ n + 1
-  pub falls : (i k : ℕ) → i < k → k ≤ n → slice_index edges k < slice_index edges i
-  pub positive : 0 < slice_index edges n
+-- the path of delay d over n channels, computed; 4096 channels are halved 12 times
+unfoldable pub path : List ℕ → ℕ → ℕ → List ℕ
+path edges n d = map (λ k. entry 12 edges 0 n 0 d k) (range_with_len 0 (n + 1))

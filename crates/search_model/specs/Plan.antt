@@ -1,6 +1,7 @@
 -- Which searches are refused before they begin, since a table would not hold their sums, folds or parts.
 use Rattle.std.specs.Prelude.{ℕ, ◌+◌, ◌-◌, ◌*◌, ◌^◌, ◌&&◌, max, length, nat_lt, if◌then◌else◌, Option, Some, None}
-use Rattle.search_model.specs.Search.{Search, folds_are_on, fold_delays}
+use Rattle.search_model.specs.declared.search.Search.{Search}
+use Rattle.search_model.specs.Search.{folds_are_on, fold_delays, delay_count}
 
 pub data PlanRefusal : Type 0 where
   SumBound : (max_sample cells factor : ℕ) → PlanRefusal
@@ -12,11 +13,10 @@ pub data PlanRefusal : Type 0 where
 abbrev pub most_added : Search → ℕ
 most_added s = max s.widest (if folds_are_on s then 2 ^ s.fold_rows else 1)
 
--- the first refusal of a search over n channels by so many shards, where no sample is above max_sample:
+-- the first refusal of a search over n channels, where no sample is above max_sample:
 -- a sum past 32 bits; a fold of more than 2^22 values; more than 64 folded delays; more shards than delays
-abbrev pub plan_refusal : ℕ → ℕ → Search → ℕ → Option PlanRefusal
-plan_refusal max_sample n s shards =
-    let all_delays = s.max_delay + 1 - s.min_delay in
+abbrev pub plan_refusal : ℕ → ℕ → Search → Option PlanRefusal
+plan_refusal max_sample n s =
     let fold_count = length (fold_delays s) in
     if nat_lt (2 ^ 32 - 1) (max_sample * (n + s.max_delay) * most_added s)
     then Some (SumBound max_sample (n + s.max_delay) (most_added s))
@@ -24,4 +24,4 @@ plan_refusal max_sample n s shards =
     then Some (FoldTooLarge s.fold_max s.fold_rows)
     else (if folds_are_on s && nat_lt 64 fold_count
     then Some (TooManyFolds fold_count)
-    else (if nat_lt all_delays shards then Some (TooManyShards shards all_delays) else None)))
+    else (if nat_lt (delay_count s) s.shards then Some (TooManyShards s.shards (delay_count s)) else None)))

@@ -1,5 +1,6 @@
 -- Path sums and box sums.
--- Source: Zackay & Ofek, ApJ 835:11, 2017, as sums of written-out cells of the whole file: no table, tail or chunk.
+-- Source: Zackay & Ofek, ApJ 835:11, 2017, section 2 (the dispersion transform), as sums of written-out cells of the whole
+-- file: no table, tail or chunk.
 use Rattle.std.specs.Prelude.{ℕ, ◌+◌, ◌-◌, List, map, sum, sum_by, slice_index}
 use Rattle.std.specs.List.{range_with_len, flat_map}
 use Rattle.search_model.specs.Samples.{Filterbank, delayed}
@@ -9,22 +10,27 @@ use Rattle.search_model.specs.Paths.{path}
 abbrev pub between : ℕ → ℕ → List ℕ
 between a b = range_with_len a (b + 1 - a)
 
--- the cells of channel c on the path e of delay d that ends at spectrum u: x(c, t) for t from u - d + e_c to u - d + e_(c+1)
-abbrev pub channel_cells : Filterbank → List ℕ → ℕ → ℕ → ℕ → List ℕ
-channel_cells f e d u c = map (λ k. delayed f c (u + k) d) (between (slice_index e c) (slice_index e (c + 1)))
+-- The cells of channel c on the path e of delay d that ends `late` spectra before spectrum u:
+-- x(c, t) for t from u - late - d + e_c to u - late - d + e_(c+1). A cell before the first spectrum is 0.
+abbrev pub channel_cells : Filterbank → List ℕ → ℕ → ℕ → ℕ → ℕ → List ℕ
+channel_cells f e d u late c = map (λ k. delayed f c (u + k) (d + late)) (between (slice_index e c) (slice_index e (c + 1)))
 
 -- all cells on that path, from the highest channel to the lowest
-abbrev pub path_cells : Filterbank → List ℕ → ℕ → ℕ → List ℕ
-path_cells f e d u = flat_map (λ c. channel_cells f e d u c) (range_with_len 0 f.channels)
+abbrev pub path_cells : Filterbank → List ℕ → ℕ → ℕ → ℕ → List ℕ
+path_cells f e d u late = flat_map (λ c. channel_cells f e d u late c) (range_with_len 0 f.channels)
 
--- S(u, d) along the path e of delay d
-abbrev pub path_sum_along : Filterbank → List ℕ → ℕ → ℕ → ℕ
-path_sum_along f e d u = sum (path_cells f e d u)
+-- S(u - late, d) along the path e of delay d
+abbrev pub path_sum_along : Filterbank → List ℕ → ℕ → ℕ → ℕ → ℕ
+path_sum_along f e d u late = sum (path_cells f e d u late)
+
+-- S(u - late, d), which is 0 before the first spectrum
+abbrev pub late_path_sum : Filterbank → List ℕ → ℕ → ℕ → ℕ → ℕ
+late_path_sum f edges u d late = path_sum_along f (path edges f.channels d) d u late
 
 -- S(u, d), which has n + d cells
 abbrev pub path_sum : Filterbank → List ℕ → ℕ → ℕ → ℕ
-path_sum f edges u d = path_sum_along f (path edges f.channels d) d u
+path_sum f edges u d = late_path_sum f edges u d 0
 
--- B(u, d, w): the sum of the w path sums that end at u; it has w (n + d) cells
+-- B(u, d, w): the sum of the w path sums that end at u and before it; it has w (n + d) cells
 abbrev pub box_sum : Filterbank → List ℕ → ℕ → ℕ → ℕ → ℕ
-box_sum f edges u d w = sum_by (λ k. path_sum f edges (u - k) d) (range_with_len 0 w)
+box_sum f edges u d w = sum_by (λ k. late_path_sum f edges u d k) (range_with_len 0 w)

@@ -1,35 +1,15 @@
 //! Definitions of what a search prints: samples, delay paths, sums, folds, detection, the candidates and their text.
-//! They stand in `specs/`. The functions here carry laws about them and do nothing else.
+//! They stand in `specs/`. The settings of a search and a candidate are plain data that every layer shares. The functions of
+//! `laws` carry laws of the definitions and do nothing else.
 #![tactic(auto)]
 
-ghost use Rattle.search_model.specs.Laws.{SplitsFit, HalvesJoin, HasOnePath, PathsRise, CellsAreCounted, TestsDetection};
+mod candidate;
+mod laws;
+mod search;
 
-/// A half of the band gets no more than the delay of the whole.
-pub fn splits_fit()
-    ensures { SplitsFit }
-{}
-
-/// The delays of two halves make those of the whole.
-pub fn halves_join()
-    ensures { HalvesJoin }
-{}
-
-/// The delay path of the definition exists and is the only one.
-pub fn has_one_path()
-    ensures { HasOnePath }
-{}
-
-/// A pulse passes no channel before the one above it.
-pub fn paths_rise()
-    ensures { PathsRise }
-{}
-
-/// How many cells a path sum adds.
-pub fn cells_are_counted()
-    ensures { CellsAreCounted }
-{}
-
-/// The test of the candidate list is the detection rule.
-pub fn tests_detection()
-    ensures { TestsDetection }
-{}
+pub use candidate::Candidate;
+pub use laws::{
+    cells_are_counted, detection_rises, halves_join, has_one_path, paths_rise, splits_fit,
+    tests_detection,
+};
+pub use search::Search;

@@ -4,7 +4,7 @@ use Rattle.band_paths.proofs.delays.lay_path.Goals as goal
 pub returns : goal.returns
 returns c =
     let n = length c.args.edges.now - 1 in
-    let least = c.requires.edges.least in
+    let least = c.requires.edges.few in
     let begun = slice_set c.args.delays.now 0 0 in
     let count : length begun ≡ length c.args.delays.now = length-set c.args.delays.now 0 0 in
     let count_after = length-set begun n c.args.d in

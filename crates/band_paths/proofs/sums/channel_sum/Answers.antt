@@ -29,9 +29,10 @@ loop-k-preserved c =
     let k = c.loop-k.k in
     let step : k + 1 - first ≡ k - first + 1 = omega arith in
     let more = sum_by-map-range_with_len_more (λ (x : ℕ). x)
-    (λ i. delayed (filterbank c.args.n true c.args.samples.now) c.args.c (c.args.u + i) last) first (k - first) k (omega arith) in
+    (λ i. delayed (filterbank c.args.n true c.args.samples.now) c.args.c (c.args.u + i) (last + 0)) first (k - first) k (omega arith) in
     let before = c.loop-k.invariant.0 in
-    let value = c.cell.ensures.value in
+    let end : last + 0 ≡ last = omega arith in
+    let value : c.cell.result ≡ delayed (filterbank c.args.n true c.args.samples.now) c.args.c (c.args.u + k) (last + 0) = rw end c.cell.ensures.value in
     let widened = c.from-total.ensures in
     (rw step (omega arith), λ m all. rw step (rw widened (one_more m (k - first) _ _ (c.loop-k.invariant.1 m all) (c.cell.ensures.bound m all))))
 

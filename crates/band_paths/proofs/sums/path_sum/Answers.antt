@@ -36,7 +36,7 @@ loop-c-preserved c =
     let delays = c.args.delays.now in
     let k = c.loop-c.c in
     let more = sum_by-map-range_with_len_more (λ (x : ℕ). x)
-    (λ i. sum (channel_cells f delays (slice_index delays c.args.n) c.args.u i)) 0 k k (omega arith) in
+    (λ i. sum (channel_cells f delays (slice_index delays c.args.n) c.args.u 0 i)) 0 k k (omega arith) in
     let before = c.loop-c.invariant.0 in
     let value = c.channel_sum-total.ensures.value in (
       omega arith,
@@ -51,6 +51,6 @@ returns c =
     let whole : c.loop-c.c ≡ c.args.n = omega arith in
     let all = rw whole at c.loop-c.invariant.0 in
     record {
-      value = all ∙ sym (sum_flat_map (λ i. channel_cells f c.args.delays.now d c.args.u i) (range_with_len 0 c.args.n));
+      value = all ∙ sym (sum_flat_map (λ i. channel_cells f c.args.delays.now d c.args.u 0 i) (range_with_len 0 c.args.n));
       bound = rw whole at c.loop-c.invariant.1;
     }

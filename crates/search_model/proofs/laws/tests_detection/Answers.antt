@@ -1,5 +1,5 @@
 use Rattle.search_model.proofs.Detection.{detection_test}
-use Rattle.search_model.proofs.tests_detection.Goals as goal
+use Rattle.search_model.proofs.laws.tests_detection.Goals as goal
 
 pub returns : goal.returns
 returns c = detection_test

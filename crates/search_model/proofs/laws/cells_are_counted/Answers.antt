@@ -1,5 +1,5 @@
 use Rattle.search_model.proofs.Cells.{cell_count}
-use Rattle.search_model.proofs.cells_are_counted.Goals as goal
+use Rattle.search_model.proofs.laws.cells_are_counted.Goals as goal
 
 pub returns : goal.returns
 returns c = cell_count

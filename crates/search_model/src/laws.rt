@@ -1,0 +1,38 @@
+// Laws of the definitions, which the contracts of functions that do nothing carry. A caller whose proof needs a law calls
+// its function.
+ghost use Rattle.search_model.specs.Laws.{SplitsFit, HalvesJoin, HasOnePath, PathsRise, CellsAreCounted, TestsDetection, DetectionRises};
+
+/// A half of the band gets no more than the delay of the whole.
+pub fn splits_fit()
+    ensures { SplitsFit }
+{}
+
+/// The delays of two halves make those of the whole.
+pub fn halves_join()
+    ensures { HalvesJoin }
+{}
+
+/// The delay path of the definition exists and is the only one.
+pub fn has_one_path()
+    ensures { HasOnePath }
+{}
+
+/// A pulse passes no channel before the one above it.
+pub fn paths_rise()
+    ensures { PathsRise }
+{}
+
+/// How many cells a path sum adds.
+pub fn cells_are_counted()
+    ensures { CellsAreCounted }
+{}
+
+/// The test of the candidate list is the detection rule.
+pub fn tests_detection()
+    ensures { TestsDetection }
+{}
+
+/// A sum that is detected stays so where it is greater.
+pub fn detection_rises()
+    ensures { DetectionRises }
+{}

@@ -1,0 +1,82 @@
+// The settings of a search.
+ghost use Rattle.std.specs.Prelude.{◌↔◌, IsTrue};
+
+/// The settings of a search: the delays, boxes and folds that it looks for, how the work is shared, and the noise that a
+/// candidate stands out of. Delays, widths, periods and `chunk` are in spectra.
+#[derive(Clone, Copy, PartialEq, Eq, Debug)]
+pub struct Search {
+    pub min_delay: u32,
+    pub max_delay: u32,
+    /// The widest box; all smaller powers of two are searched too.
+    pub widest: u32,
+    /// Folds are on where `fold_min` is at most `fold_max`.
+    pub fold_min: u32,
+    pub fold_max: u32,
+    /// A fold adds up to `2^fold_rows` rows.
+    pub fold_rows: u32,
+    /// Each `fold_step`-th delay from `min_delay` on is folded.
+    pub fold_step: u32,
+    /// How many spectra are unpacked at a time.
+    pub chunk: u32,
+    /// Into how many parts the delays are shared.
+    pub shards: u32,
+    /// How many candidates are kept for each shard.
+    pub max_candidates: u32,
+    /// The mean of a sample, in thousandths.
+    pub mean: u32,
+    /// The standard deviation of a sample, in thousandths.
+    pub sd: u32,
+    /// The least signal-to-noise ratio, in hundredths.
+    pub snr: u32,
+}
+
+impl Search {
+    ghost use Rattle.search_model.specs.Search.{IsInRange, DelaysInRange, FoldsInRange, PartsInRange, NoiseInRange};
+
+    /// Whether each setting lies in its range.
+    pub fn in_range(&self) -> bool
+        ensures { IsTrue result ↔ IsInRange self.now }
+    {
+        self.delays_in_range()
+            && self.folds_in_range()
+            && self.parts_in_range()
+            && self.noise_in_range()
+    }
+
+    // The delays, and the widest box.
+    fn delays_in_range(&self) -> bool
+        ensures { IsTrue result ↔ DelaysInRange self.now }
+    {
+        self.min_delay <= self.max_delay
+            && self.max_delay <= 8192
+            && matches!(self.widest, 1 | 2 | 4 | 8 | 16 | 32)
+    }
+
+    // The settings of the folds.
+    fn folds_in_range(&self) -> bool
+        ensures { IsTrue result ↔ FoldsInRange self.now }
+    {
+        (2..=1048576).contains(&self.fold_min)
+            && self.fold_max <= 1048576
+            && (1..=12).contains(&self.fold_rows)
+            && (1..=8192).contains(&self.fold_step)
+    }
+
+    // How the work is cut and shared.
+    fn parts_in_range(&self) -> bool
+        ensures { IsTrue result ↔ PartsInRange self.now }
+    {
+        (1..=65536).contains(&self.chunk)
+            && (1..=7).contains(&self.shards)
+            && self.max_candidates <= 1048576
+    }
+
+    // The noise, and how far a candidate stands out of it.
+    fn noise_in_range(&self) -> bool
+        ensures { IsTrue result ↔ NoiseInRange self.now }
+    {
+        self.mean <= 200000000
+            && (1..=200000000).contains(&self.sd)
+            && (1..=100000).contains(&self.snr)
+    }
+}
