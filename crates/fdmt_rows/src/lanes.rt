@@ -1,5 +1,5 @@
 // Loops over as many whole lanes as a row has, eight values a step. Each says how far it came.
-ghost use Rattle.std.specs.Prelude.{◌≡◌, ℕ, ◌+◌, ◌≤◌, length, slice_index};
+ghost use Rattle.std.specs.Prelude.{◌≡◌, ℕ, ◌+◌, ◌<◌, ◌≤◌, length, slice_index};
 ghost use Rattle.fdmt_rows.specs.Rows.{wrapping_sum};
 ghost use Rattle.fdmt_rows.specs.Writes.{Writes};
 
@@ -25,6 +25,7 @@ pub fn add_whole_lanes(out: &mut [u32], a: &[u32], b: &[u32]) -> usize
     requires first { length a.now ≡ length out.old }
     requires second { length b.now ≡ length out.old }
     ensures within { result ≤ length out.new }
+    ensures whole { length out.new < result + LANES }
     ensures added { Writes out.old out.new 0 result
         (λ k. wrapping_sum (slice_index a.now k) (slice_index b.now k)) }
 {
@@ -51,6 +52,7 @@ fn add_to_lanes(row: &mut [u32], a: &[u32], at: usize)
 pub fn add_to_whole_lanes(row: &mut [u32], a: &[u32]) -> usize
     requires { length a.now ≡ length row.old }
     ensures within { result ≤ length row.new }
+    ensures whole { length row.new < result + LANES }
     ensures added { Writes row.old row.new 0 result
         (λ k. wrapping_sum (slice_index row.old k) (slice_index a.now k)) }
 {
@@ -77,6 +79,7 @@ fn widen_lanes(out: &mut [u32], bytes: &[u8], at: usize)
 pub fn widen_whole_lanes(out: &mut [u32], bytes: &[u8]) -> usize
     requires { length bytes.now ≡ length out.old }
     ensures within { result ≤ length out.new }
+    ensures whole { length out.new < result + LANES }
     ensures widened { Writes out.old out.new 0 result (λ k. slice_index bytes.now k) }
 {
     let mut done = 0;

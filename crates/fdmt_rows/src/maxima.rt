@@ -19,6 +19,7 @@ fn max_lanes(lanes: u32x8, row: &[u32], at: usize) -> u32x8
 #[inline(always)]
 pub fn greatest_lanes(row: &[u32]) -> (u32x8, usize)
     ensures within { result.1 ≤ length row.now }
+    ensures whole { length row.now < result.1 + 8 }
     ensures lanes { AreLaneGreatest row.now result.0 result.1 }
 {
     let mut lanes = u32x8::splat(0);
