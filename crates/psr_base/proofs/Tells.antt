@@ -2,10 +2,11 @@
 use Rattle.std.proofs.Common.{◌≡◌, ℕ, ◌-◌, ◌≤◌, ◌<◌, List, [], ◌∷◌, ◌++◌, length, take, Option, Some, None, Result, Ok, Err, IfOk, OnOk, OnErr, IsSome, unwrap_or, ap, sym, subst, refl, ◌∙◌, arith}
 use Rattle.std.specs.Prelude.{Contains}
 use Rattle.std.specs.Option.{option_map, ForSome}
-use Rattle.std.proofs.lemmas.List.{take_all}
+use Rattle.std.specs.Io.KnownBytes.{append_known}
+use Rattle.std.proofs.lemmas.List.{take_all, length-take-le}
 use Rattle.psr_base.specs.Count.{CallCount, FailsNext, Rose, after_call, after_fault}
 use Rattle.psr_base.specs.Told.{Told, Reading, opened, moved_by, GivesNext}
-use Rattle.psr_base.specs.Written.{room_after}
+use Rattle.psr_base.specs.Written.{SinkSeen, WroteAll, WriteFails, room_after}
 use Rattle.psr_base.specs.NamedFiles.{bytes_in, reading_of}
 use Rattle.psr_base.specs.InMemory.{room_where}
 use Rattle.psr_base.specs.declared.mem_inputs.MemFile.{MemFile}
@@ -14,6 +15,19 @@ use Rattle.psr_base.specs.declared.mem_inputs.OpenFile.{OpenFile}
 -- an empty list contains nothing
 pub empty_contains : (n : ℕ) → Contains [] n → ⊥
 empty_contains n h = let lt : h.0 < 0 = h.1 in omega arith
+
+-- what is seen of a sink in memory that took a piece whole
+pub WroteAll-whole : {E : Type 0} (r : Result ℕ E) (old new : SinkSeen) (bytes : List ℕ) → IfOk r (λ n. n ≡ length bytes) → IfOk r (λ n. new.written ≡ append_known old.written (take n bytes)) →
+    IfOk r (λ n. new.room ≡ room_after n old.room) → OnOk r (new.faults ≡ old.faults) → IfOk r (λ n. WroteAll (take n bytes) old new)
+WroteAll-whole (Ok n) old new bytes whole written room faults =
+    record { written = written; room = room ∙ ap (λ (k : ℕ). room_after k old.room) (sym (length-take-le n bytes (omega (arith, whole)))); faults = faults }
+WroteAll-whole (Err x) old new bytes whole written room faults = tt
+
+-- what is seen of one where a call failed
+pub WriteFails-unchanged : {T E : Type 0} (r : Result T E) (old new : SinkSeen) → OnErr r (new.written ≡ old.written) → OnErr r (new.room ≡ old.room) → OnErr r (Rose old.faults new.faults) → old.faults ≤ new.faults →
+    OnErr r (WriteFails old new)
+WriteFails-unchanged (Ok x) old new written room rose count = tt
+WriteFails-unchanged (Err x) old new written room rose count = record { written = written; room = room; rose = rose; count = count }
 
 -- what was taken whole was written
 pub written_whole : {E : Type 0} (r : Result ℕ E) (old new bytes : List ℕ) → IfOk r (λ n. n ≡ length bytes) → OnOk r (new ≡ old ++ bytes) → IfOk r (λ n. Some new ≡ Some (old ++ take n bytes))
@@ -30,6 +44,10 @@ room_where-taken (Ok n) fail fail' room room' len same whole falls = ap (λ (f :
 room_where-taken (Err x) fail fail' room room' len same whole falls = tt
 
 -- the room that is told stays
+pub Some-stays : {T E : Type 0} (r : Result T E) (old new : List ℕ) → OnErr r (new ≡ old) → OnErr r (Some new ≡ Some old)
+Some-stays (Ok x) old new stays = tt
+Some-stays (Err x) old new stays = ap Some stays
+
 pub room_where-stays : {E : Type 0} (r : Result ℕ E) (fail fail' : List ℕ) (room room' : ℕ) → fail' ≡ fail → OnErr r (room' ≡ room) → OnErr r (room_where fail' room' ≡ room_where fail room)
 room_where-stays (Ok n) fail fail' room room' same stays = tt
 room_where-stays (Err x) fail fail' room room' same stays = ap (λ (f : List ℕ). room_where f room') same ∙ ap (room_where fail) stays
@@ -43,6 +61,11 @@ room_where-serves (n ∷ fail) room number len x serves told fits = absurd cc
 pub Rose-failed : {T E : Type 0} (r : Result T E) (old new : CallCount) → OnErr r (new ≡ after_fault old) → OnErr r (Rose old.faults new.faults)
 Rose-failed (Ok x) old new failed = tt
 Rose-failed (Err x) old new failed = omega (arith, ap (λ (c : CallCount). c.faults) failed)
+
+-- a call that did not fail isn't
+pub count-stays : {T E : Type 0} (r : Result T E) (old new : CallCount) → OnOk r (new ≡ after_call old) → OnOk r (new.faults ≡ old.faults)
+count-stays (Ok x) old new called = ap (λ (c : CallCount). c.faults) called
+count-stays (Err x) old new called = tt
 
 -- which calls are to fail never changes
 pub fail-stays : {T E : Type 0} (r : Result T E) (old new : CallCount) → OnOk r (new ≡ after_call old) → OnErr r (new ≡ after_fault old) → new.fail ≡ old.fail

@@ -2,6 +2,7 @@
 use Rattle.std.specs.Prelude.{ℕ, ◌-◌, List, [], ◌∷◌, Option, Some, None, IsSome, vec_len}
 use Rattle.psr_base.specs.Count.{CallCount}
 use Rattle.psr_base.specs.Told.{Told}
+use Rattle.psr_base.specs.Written.{SinkSeen}
 use Rattle.psr_base.specs.NamedFiles.{bytes_in, reading_of}
 use Rattle.psr_base.specs.declared.mem_inputs.MemInputs.{MemInputs}
 use Rattle.psr_base.specs.declared.mem_sink.MemSink.{MemSink}
@@ -41,3 +42,7 @@ room_where (number ∷ fail) room = None
 -- the room that it tells
 abbrev pub room_told : MemSink → Option ℕ
 room_told sink = room_where sink.calls.fail.items (free_room sink)
+
+-- what is seen of it
+abbrev pub sink_seen : MemSink → SinkSeen
+sink_seen sink = record { written = Some (body_of sink); room = room_told sink; faults = sink.calls.faults.count }

@@ -2,5 +2,6 @@
 pub mod Count
 pub mod Told
 pub mod Written
+pub mod Made
 pub mod NamedFiles
 pub mod InMemory

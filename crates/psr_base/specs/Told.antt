@@ -1,6 +1,6 @@
 -- What an object of inputs tells of its files, and how reading moves it.
 use Rattle.std.specs.Prelude.{◌≡◌, ℕ, ◌+◌, ◌≤◌, min, List, [], length, take, drop, Option, Some, None}
-use Rattle.std.specs.Option.{option_map, option_and_then}
+use Rattle.std.specs.Option.{option_map, option_and_then, ForSome}
 
 -- the name that is open, and the place that its file was read to
 pub record Reading : Type 0 where
@@ -42,3 +42,13 @@ pub record GivesNext (left : List ℕ) (n : ℕ) (buffer : List ℕ) : Type 0 wh
 pub record FillsFrom (left : List ℕ) (n : ℕ) (buffer : List ℕ) : Type 0 where
   pub given : take n buffer ≡ take n left
   pub count : n ≡ min (length left) (length buffer)
+
+-- P holds of the bytes under a name, where they are told
+abbrev pub OfFile : Told → List ℕ → (List ℕ → Type 0) → Type 0
+OfFile told name P = ForSome (told.bytes_under name) P
+
+-- what is seen of inputs over a call: what they tell as it begins, and how many calls have failed before and after it
+pub record InputsSeen : Type 0 where
+  pub told : Told
+  pub faults_before : ℕ
+  pub faults_after : ℕ

@@ -29,6 +29,7 @@ pub trait Inputs {
             (λ _. told self.new ≡ opened name.now (told self.old))) }
         ensures names { (told self.new).bytes_under ≡ (told self.old).bytes_under }
         ensures is_open { OnOk result (is_open self.new) }
+        ensures quiet { OnOk result (faults self.new ≡ faults self.old) }
 
         ensures failed { OnErr result (Rose (faults self.old) (faults self.new)) }
         ensures unchanged { OnErr result (told self.new ≡ told self.old) }
@@ -49,6 +50,7 @@ pub trait Inputs {
             (λ left. GivesNext left n into.new)) }
         ensures moved { IfOk result (λ n. told self.new ≡ moved_by n (told self.old)) }
         ensures is_open { is_open self.new }
+        ensures quiet { OnOk result (faults self.new ≡ faults self.old) }
 
         ensures failed { OnErr result (Rose (faults self.old) (faults self.new)) }
         ensures unchanged { OnErr result (told self.new ≡ told self.old) }

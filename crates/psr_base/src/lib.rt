@@ -3,6 +3,7 @@
 
 mod calls;
 mod faults;
+mod files;
 mod inputs;
 mod lookup;
 mod mem_inputs;
@@ -15,10 +16,11 @@ mod tests;
 mod writing;
 
 pub use faults::{Failed, Memory};
+pub use files::Files;
 pub use inputs::Inputs;
 pub use mem_inputs::MemInputs;
 pub use mem_sink::MemSink;
 pub use reading::{DataFault, fill, read_to_end};
 pub use real::{RealInputs, RealSink};
 pub use sink::Sink;
-pub use writing::write_all;
+pub use writing::{append_all, appends_join, pieces_join, write_all};

@@ -45,15 +45,11 @@ impl MemSink {
 }
 
 impl Sink for MemSink {
-    ghost use Rattle.std.specs.Prelude.{◌≡◌, ◌≤◌, ◌-◌, ◌↔◌, ◌++◌, length, Some, IsOk, IfOk, OnOk, OnErr};
+    ghost use Rattle.std.specs.Prelude.{◌≡◌, ◌≤◌, ◌-◌, ◌↔◌, ◌++◌, length, IsOk, IfOk, OnOk, OnErr};
     ghost use Rattle.psr_base.specs.Count.{FailsNext, after_call, after_fault};
-    ghost use Rattle.psr_base.specs.InMemory.{body_of, free_room, sink_calls, room_told};
+    ghost use Rattle.psr_base.specs.InMemory.{body_of, free_room, sink_calls, sink_seen};
 
-    ghost written = { λ sink. Some (body_of sink) };
-
-    ghost room = { room_told };
-
-    ghost faults = { λ sink. (sink_calls sink).faults };
+    ghost seen = { sink_seen };
 
     fn write(&mut self, bytes: &[u8]) -> Result<usize, Failed>
         ensures answer { IsOk result

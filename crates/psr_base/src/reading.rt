@@ -20,6 +20,7 @@ pub fn fill<I: Inputs>(inputs: &mut I, into: &mut [u8]) -> Result<usize, Failed>
     ensures moved { IfOk result (λ n. I.told inputs.new ≡ moved_by n (I.told inputs.old)) }
     ensures left { IfOk result (λ n. left_to_read (I.told inputs.new)
         ≡ rest_after n (left_to_read (I.told inputs.old))) }
+    ensures quiet { OnOk result (I.faults inputs.new ≡ I.faults inputs.old) }
 
     ensures failed { OnErr result (Rose (I.faults inputs.old) (I.faults inputs.new)) }
     ensures lost { OnErr result ((k : ℕ) × (k < length into.new)
@@ -96,6 +97,7 @@ pub fn read_to_end<I: Inputs>(
         → ForSome (left_to_read (I.told inputs.old)) (λ left. limit < length left) }
     ensures failed { result ≡ Err DataFault.Failed
         → Rose (I.faults inputs.old) (I.faults inputs.new) }
+    ensures quiet { result ≢ Err DataFault.Failed → I.faults inputs.new ≡ I.faults inputs.old }
     ensures lost { OnErr result ((k : ℕ) × (I.told inputs.new ≡ moved_by k (I.told inputs.old))) }
 
     ensures names { (I.told inputs.new).bytes_under ≡ (I.told inputs.old).bytes_under }

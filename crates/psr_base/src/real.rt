@@ -78,7 +78,7 @@ pub struct RealSink<'a, R> {
 impl<'a, R: Print + Eprint> RealSink<'a, R> {
     /// The standard output.
     pub fn out(rt: &'a R) -> RealSink<'a, R>
-        ensures { ⟦<RealSink<'a, R> as Sink>⟧.faults result ≡ 0 }
+        ensures { (⟦<RealSink<'a, R> as Sink>⟧.seen result).faults ≡ 0 }
     {
         RealSink {
             rt,
@@ -89,7 +89,7 @@ impl<'a, R: Print + Eprint> RealSink<'a, R> {
 
     /// The standard error, which takes text alone.
     pub fn notes(rt: &'a R) -> RealSink<'a, R>
-        ensures { ⟦<RealSink<'a, R> as Sink>⟧.faults result ≡ 0 }
+        ensures { (⟦<RealSink<'a, R> as Sink>⟧.seen result).faults ≡ 0 }
     {
         RealSink {
             rt,
@@ -102,11 +102,7 @@ impl<'a, R: Print + Eprint> RealSink<'a, R> {
 impl<R: Print + Eprint> Sink for RealSink<'_, R> {
     ghost use Rattle.std.specs.Prelude.{None};
 
-    ghost written = { λ _. None };
-
-    ghost room = { λ _. None };
-
-    ghost faults = { λ sink. sink.faults.count };
+    ghost seen = { λ sink. record { written = None; room = None; faults = sink.faults.count } };
 
     fn write(&mut self, bytes: &[u8]) -> Result<usize, Failed> {
         if bytes.is_empty() {

@@ -41,11 +41,7 @@ struct Drip<S>(S);
 impl<S: Sink> Sink for Drip<S> {
     ghost use Rattle.std.specs.Prelude.{None};
 
-    ghost written = { λ _. None };
-
-    ghost room = { λ _. None };
-
-    ghost faults = { λ sink. S.faults sink.0 };
+    ghost seen = { λ sink. record { written = None; room = None; faults = (S.seen sink.0).faults } };
 
     fn write(&mut self, bytes: &[u8]) -> Result<usize, Failed> {
         let n = bytes.len().min(1);

@@ -1,7 +1,8 @@
 -- A whole trace, and the answers to it.
-use Rattle.std.specs.Prelude.{◌≡◌, ◌⊎◌, ⊤, ℕ, List, [], ◌∷◌, ◌++◌, take, Option}
+use Rattle.std.specs.Prelude.{◌≡◌, ◌⊎◌, ⊤, ℕ, List, [], ◌∷◌, ◌++◌, Option}
 use Rattle.std.specs.List.{flat_map}
 use Rattle.std.specs.Io.KnownBytes.{append_known}
+use Rattle.psr_base.specs.Written.{SinkSeen, WroteFront}
 use Rattle.ring_core.specs.Machine.{Machine, Event, Answer, Runs, at_first}
 use Rattle.ring_core.specs.declared.Shape.{Shape}
 use Rattle.ring_trace.specs.Text.{lines_of}
@@ -66,9 +67,8 @@ pub record AppendsCut (file : List ℕ) (old new : Option (List ℕ)) : Type 0 w
   pub cut : IsCut file text
   pub written : new ≡ append_known old text
 
--- the first n bytes of those answers were appended
-pub record AppendsFront (file : List ℕ) (old new : Option (List ℕ)) : Type 0 where
+-- the front of those answers was appended
+pub record AppendsFront (file : List ℕ) (old new : SinkSeen) : Type 0 where
   pub text : List ℕ
-  pub n : ℕ
   pub answers : IsWhole file text ⊎ IsCut file text
-  pub written : new ≡ append_known old (take n text)
+  pub wrote : WroteFront text old new

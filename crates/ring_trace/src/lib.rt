@@ -46,12 +46,12 @@ pub fn run_trace<I: Inputs, K: Sink>(
 
     // The answers to all lines, to those before the first that has not its form, or a front of them.
     ensures whole { result ≡ 0 → ForSome (file_told (I.told inputs.old) words.now)
-        (λ file. AppendsAll file (K.written out.old) (K.written out.new)) }
+        (λ file. AppendsAll file (K.seen out.old).written (K.seen out.new).written) }
     ensures cut { result ≡ 3 → ForSome (file_told (I.told inputs.old) words.now)
-        (λ file. AppendsCut file (K.written out.old) (K.written out.new)) }
+        (λ file. AppendsCut file (K.seen out.old).written (K.seen out.new).written) }
     ensures front { result ≡ 10 → ForSome (file_told (I.told inputs.old) words.now)
-        (λ file. AppendsFront file (K.written out.old) (K.written out.new)) }
-    ensures silent { IsSilent result → K.written out.new ≡ K.written out.old }
+        (λ file. AppendsFront file (K.seen out.old) (K.seen out.new)) }
+    ensures silent { IsSilent result → (K.seen out.new).written ≡ (K.seen out.old).written }
 
     // Where the others come from.
     ensures words { (result ≡ 2) ↔ (length words.now ≢ 2) }
@@ -62,9 +62,9 @@ pub fn run_trace<I: Inputs, K: Sink>(
         (λ file. 1048576 < length file) }
     ensures short { IsAnswered result → ForSome (file_told (I.told inputs.old) words.now)
         (λ file. length file ≤ 1048576) }
-    ensures out { result ≡ 10 → Rose (K.faults out.old) (K.faults out.new) }
+    ensures out { result ≡ 10 → Rose ((K.seen out.old).faults) ((K.seen out.new).faults) }
     ensures inputs_count { I.faults inputs.old ≤ I.faults inputs.new }
-    ensures out_count { K.faults out.old ≤ K.faults out.new }
+    ensures out_count { (K.seen out.old).faults ≤ (K.seen out.new).faults }
 {
     if words.len() != 2 {
         return Status::Words as u8;

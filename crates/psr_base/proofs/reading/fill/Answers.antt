@@ -21,7 +21,7 @@ loop-filled-preserved g c =
           let so_far = before.given left known in
           (take-put_mid-next f n _ c.loop-filled.into c.read.new.into left before.within c.in_ok-n.ensures.bound so_far.0 next.given, more_within f n left so_far.1 next.within);
       is_open = c.read.ensures.is_open;
-      count = omega arith;
+      quiet = c.in_ok-n.ensures.quiet ∙ before.quiet;
       calm = λ h. c.read.ensures.calm (before.calm h);
     }
 
@@ -40,3 +40,6 @@ returns-then-n-eq0-clause-filled g c = λ left known.
           let buffer : length (put_mid f (length c.loop-filled.into - f) c.loop-filled.into c.read.new.into) ≡ length c.loop-filled.into = search rules in
           omega (arith, all, buffer, before.within);
     }
+
+pub returns-then-n-eq0-clause-quiet : goal.returns-then-n-eq0-clause-quiet
+returns-then-n-eq0-clause-quiet g c = c.in_ok-n.ensures.quiet ∙ c.loop-filled.invariant.quiet

@@ -33,7 +33,7 @@ loop-piece-preserved g c =
           let more = more_within d n left so_far.1 next.within in
           (append-next d n (vec_len c.extend_from_slice.new.self) c.loop-piece.data.items c.read.new.into c.extend_from_slice.new.self.items left longer c.in_ok-extend_from_slice.ensures.items so_far.0 next.given, omega (arith, longer, more));
       is_open = c.read.ensures.is_open;
-      count = omega arith;
+      quiet = c.in_ok-n.ensures.quiet ∙ before.quiet;
       calm = λ h. c.read.ensures.calm (before.calm h);
     }
 
@@ -44,3 +44,9 @@ returns-in_err-extend_from_slice-clause-lost g c =
     let n = c.in_ok-n.n in
     let moved : g.I.Inputs.told c.read.new.self ≡ moved_by (d + n) told = moved_by-next d n (d + n) told (g.I.Inputs.told c.loop-piece.inputs) (g.I.Inputs.told c.read.new.self) refl c.loop-piece.invariant.moved c.in_ok-n.ensures.moved in
     elim c.from_residual-in_err-extend_from_slice.result as (λ r. OnErr r ((k : ℕ) × (g.I.Inputs.told c.read.new.self ≡ moved_by k told))) [ Ok x ↦ tt | Err e ↦ (d + n, moved) ]
+
+pub returns-then-n-eq0-clause-quiet : goal.returns-then-n-eq0-clause-quiet
+returns-then-n-eq0-clause-quiet g c = λ ok. c.in_ok-n.ensures.quiet ∙ c.loop-piece.invariant.quiet
+
+pub returns-in_err-extend_from_slice-clause-quiet : goal.returns-in_err-extend_from_slice-clause-quiet
+returns-in_err-extend_from_slice-clause-quiet g c = λ memory. c.in_ok-n.ensures.quiet ∙ c.loop-piece.invariant.quiet
