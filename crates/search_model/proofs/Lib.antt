@@ -3,3 +3,9 @@ pub mod Splits
 pub mod Paths
 pub mod Cells
 pub mod Detection
+pub mod Lists
+pub mod Order
+pub mod Halvings
+pub mod Listed
+pub mod Rising
+pub mod Shards

@@ -5,6 +5,8 @@ pub mod Folds
 pub mod Detection
 pub mod Search
 pub mod Candidates
+pub mod Order
+pub mod CandidateLaws
 pub mod CandidateText
 pub mod Plan
 pub mod Laws

@@ -1,6 +1,7 @@
 // Laws of the definitions, which the contracts of functions that do nothing carry. A caller whose proof needs a law calls
 // its function.
 ghost use Rattle.search_model.specs.Laws.{SplitsFit, HalvesJoin, HasOnePath, PathsRise, CellsAreCounted, TestsDetection, DetectionRises};
+ghost use Rattle.search_model.specs.CandidateLaws.{CandidatesAreListed, CandidatesRise, RisingListsAgree, ShardsMerge};
 
 /// A half of the band gets no more than the delay of the whole.
 pub fn splits_fit()
@@ -35,4 +36,24 @@ pub fn tests_detection()
 /// A sum that is detected stays so where it is greater.
 pub fn detection_rises()
     ensures { DetectionRises }
+{}
+
+/// What stands in the candidate list.
+pub fn candidates_are_listed()
+    ensures { CandidatesAreListed }
+{}
+
+/// The candidate list is in the order of candidates, each once.
+pub fn candidates_rise()
+    ensures { CandidatesRise }
+{}
+
+/// Rising lists with the same members are equal, and lists have one merge.
+pub fn rising_lists_agree()
+    ensures { RisingListsAgree }
+{}
+
+/// The parts of the shards, merged, are the candidate list.
+pub fn shards_merge()
+    ensures { ShardsMerge }
 {}

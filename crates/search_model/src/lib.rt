@@ -9,7 +9,7 @@ mod search;
 
 pub use candidate::Candidate;
 pub use laws::{
-    cells_are_counted, detection_rises, halves_join, has_one_path, paths_rise, splits_fit,
-    tests_detection,
+    candidates_are_listed, candidates_rise, cells_are_counted, detection_rises, halves_join,
+    has_one_path, paths_rise, rising_lists_agree, shards_merge, splits_fit, tests_detection,
 };
 pub use search::Search;
