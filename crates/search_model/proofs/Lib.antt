@@ -9,3 +9,5 @@ pub mod Halvings
 pub mod Listed
 pub mod Rising
 pub mod Shards
+pub mod Ranges
+pub mod Subbands

@@ -9,14 +9,14 @@ use Rattle.search_model.proofs.Splits.{split_le}
 
 -- ---- nodes of the halving tree
 
-middle_above : (lo hi : ℕ) → lo + 2 ≤ hi → lo < middle lo hi
+pub middle_above : (lo hi : ℕ) → lo + 2 ≤ hi → lo < middle lo hi
 middle_above lo hi h = omega arith
 
-middle_below : (lo hi : ℕ) → lo + 2 ≤ hi → middle lo hi < hi
+pub middle_below : (lo hi : ℕ) → lo + 2 ≤ hi → middle lo hi < hi
 middle_below lo hi h = omega arith
 
 -- a half gets no more than its node's delay
-split_at_le : (edges : List ℕ) (n : ℕ) → AreEdges n edges → (lo hi d : ℕ) → lo + 2 ≤ hi → hi ≤ n →
+pub split_at_le : (edges : List ℕ) (n : ℕ) → AreEdges n edges → (lo hi d : ℕ) → lo + 2 ≤ hi → hi ≤ n →
     split_at edges lo hi d ≤ d
 split_at_le edges n band lo hi d h hn =
     split_le _ _ _ d (band.falls (middle lo hi) hi (middle_below lo hi h) hn)
@@ -61,18 +61,18 @@ halved_join edges lo hi g h here upper lower = record { splits = λ a b node two
     joined edges lo hi g h here upper lower a b (in_upper _ _ _ node) two = upper.splits a b node two
     joined edges lo hi g h here upper lower a b (in_lower _ _ _ node) two = lower.splits a b node two
 
-halved_upper : (edges : List ℕ) (lo hi : ℕ) (g : ℕ → ℕ) → lo + 2 ≤ hi → IsHalved edges lo hi g → IsHalved edges lo (middle lo hi) g
+pub halved_upper : (edges : List ℕ) (lo hi : ℕ) (g : ℕ → ℕ) → lo + 2 ≤ hi → IsHalved edges lo hi g → IsHalved edges lo (middle lo hi) g
 halved_upper edges lo hi g h halved = record { splits = λ a b node two. halved.splits a b (in_upper lo hi h node) two }
 
-halved_lower : (edges : List ℕ) (lo hi : ℕ) (g : ℕ → ℕ) → lo + 2 ≤ hi → IsHalved edges lo hi g → IsHalved edges (middle lo hi) hi g
+pub halved_lower : (edges : List ℕ) (lo hi : ℕ) (g : ℕ → ℕ) → lo + 2 ≤ hi → IsHalved edges lo hi g → IsHalved edges (middle lo hi) hi g
 halved_lower edges lo hi g h halved = record { splits = λ a b node two. halved.splits a b (in_lower lo hi h node) two }
 
 -- ---- the computed entries
 
-record Entries (edges : List ℕ) (lo hi start d : ℕ) (g : ℕ → ℕ) : Type 0 where
-  begins : g lo ≡ start
-  ends : g hi ≡ start + d
-  halved : IsHalved edges lo hi g
+pub record Entries (edges : List ℕ) (lo hi start d : ℕ) (g : ℕ → ℕ) : Type 0 where
+  pub begins : g lo ≡ start
+  pub ends : g hi ≡ start + d
+  pub halved : IsHalved edges lo hi g
 
 abbrev ends_only : ℕ → ℕ → ℕ → ℕ → ℕ
 ends_only hi start d k = cond (leb hi k) (start + d) start
@@ -135,7 +135,7 @@ entries_join edges lo hi start d upper f1 f2 g two is le e1 e2 same1 same2 =
           (halved_same edges (middle lo hi) hi f2 g (omega arith) low_same e2.halved);
     }
 
-entry_is : (edges : List ℕ) (n : ℕ) → AreEdges n edges → (depth lo hi start d : ℕ) → lo < hi → hi ≤ n → hi ≤ lo + 2 ^ depth →
+pub entry_is : (edges : List ℕ) (n : ℕ) → AreEdges n edges → (depth lo hi start d : ℕ) → lo < hi → hi ≤ n → hi ≤ lo + 2 ^ depth →
     Entries edges lo hi start d (entry depth edges lo hi start d)
 entry_is edges n band zero lo hi start d h hn deep =
     entries_single edges lo hi start d _ h deep (λ k. entry_last edges lo hi start d k)
@@ -155,7 +155,7 @@ entry_is edges n band (suc depth) lo hi start d h hn deep =
 
 -- ---- the laws
 
-entry_of_path : (edges : List ℕ) (n d k : ℕ) → k ≤ n → slice_index (path edges n d) k ≡ entry 12 edges 0 n 0 d k
+pub entry_of_path : (edges : List ℕ) (n d k : ℕ) → k ≤ n → slice_index (path edges n d) k ≡ entry 12 edges 0 n 0 d k
 unfolding path
 entry_of_path edges n d k h = get_or-map-range_with_len (λ i. entry 12 edges 0 n 0 d i) 0 (n + 1) k k 0 (omega arith) (omega arith)
 
@@ -178,7 +178,7 @@ path_is edges n d band =
     }
 
 -- two ways to halve the same delay between the same edges agree at each edge
-same_between : (edges : List ℕ) (n : ℕ) → AreEdges n edges → (depth lo hi : ℕ) (f g : ℕ → ℕ) → lo < hi → hi ≤ n → hi ≤ lo + depth →
+pub same_between : (edges : List ℕ) (n : ℕ) → AreEdges n edges → (depth lo hi : ℕ) (f g : ℕ → ℕ) → lo < hi → hi ≤ n → hi ≤ lo + depth →
     IsHalved edges lo hi f → IsHalved edges lo hi g → f lo ≡ g lo → f hi ≡ g hi → f lo ≤ f hi → (k : ℕ) → lo ≤ k → k ≤ hi → f k ≡ g k
 same_between edges n band zero lo hi f g h hn deep hf hg elo ehi le k from to = absurd (omega arith)
 same_between edges n band (suc depth) lo hi f g h hn deep hf hg elo ehi le k from to =
@@ -213,7 +213,7 @@ path_is_only edges n d e band is =
     is.halves p.halves (is.first ∙ sym p.first) (is.last ∙ sym p.last) (rw is.first (omega arith)) k (omega arith)
     (let count = is.entries in omega arith))
 
-rises_between : (edges : List ℕ) (n : ℕ) → AreEdges n edges → (depth lo hi : ℕ) (f : ℕ → ℕ) → lo < hi → hi ≤ n → hi ≤ lo + depth →
+pub rises_between : (edges : List ℕ) (n : ℕ) → AreEdges n edges → (depth lo hi : ℕ) (f : ℕ → ℕ) → lo < hi → hi ≤ n → hi ≤ lo + depth →
     IsHalved edges lo hi f → f lo ≤ f hi → (k : ℕ) → lo ≤ k → k < hi → f k ≤ f (k + 1)
 rises_between edges n band zero lo hi f h hn deep hf le k from to = absurd (omega arith)
 rises_between edges n band (suc depth) lo hi f h hn deep hf le k from to =

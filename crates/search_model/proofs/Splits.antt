@@ -1,6 +1,7 @@
 -- Bounds on the split of a delay.
-use Rattle.std.proofs.Common.{◌≡◌, ℕ, ◌+◌, ◌-◌, ◌*◌, ◌/◌, ◌≤◌, ◌<◌, arith}
-use Rattle.std.proofs.lemmas.Nat.{mul-le, div_below}
+use Rattle.std.proofs.Common.{◌≡◌, ℕ, ◌+◌, ◌-◌, ◌*◌, ◌/◌, ◌%◌, ◌≤◌, ◌<◌, arith}
+use Rattle.std.proofs.lemmas.Nat.{mul-le, le-div, div_below}
+use Rattle.search_model.specs.SubbandLaws.{Steps}
 use Rattle.search_model.specs.Paths.{split, square}
 
 square_below : (a b : ℕ) → a < b → square a < square b
@@ -31,3 +32,19 @@ rounded p q d h =
 -- the upper half gets no more than the delay
 pub split_le : (high mid low d : ℕ) → low < mid → mid < high → split high mid low d ≤ d
 split_le high mid low d lm mh = rounded _ _ d (part_below high mid low lm mh)
+
+-- from d to d + 1 the rounded part rises by 1 or not at all
+rounded_steps : (p q d : ℕ) → p < q → Steps ((2 * d * p + q) / (2 * q)) ((2 * (d + 1) * p + q) / (2 * q))
+rounded_steps p q d h =
+    let more : 2 * (d + 1) * p + q ≡ 2 * d * p + q + 2 * p = omega arith in
+    let a = 2 * d * p + q in
+    let divided : 2 * q * (a / (2 * q)) + a % (2 * q) ≡ a = omega arith in
+    let rest : a % (2 * q) < 2 * q = omega arith in
+    let below : a + 2 * p < (a / (2 * q) + 2) * (2 * q) = omega arith in
+    record {
+      rises = rw more (le-div (a / (2 * q)) (a + 2 * p) (2 * q) (omega arith) (omega arith));
+      by_one = rw more (let most = div_below (a + 2 * p) (2 * q) (a / (2 * q) + 2) (omega arith) below in omega arith);
+    }
+
+pub split_steps : (high mid low d : ℕ) → low < mid → mid < high → Steps (split high mid low d) (split high mid low (d + 1))
+split_steps high mid low d lm mh = rounded_steps _ _ d (part_below high mid low lm mh)

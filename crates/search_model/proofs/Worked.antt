@@ -6,6 +6,7 @@ use Rattle.search_model.specs.declared.search.Search.{Search}
 use Rattle.search_model.specs.Samples.{Filterbank, samples_of, filterbank}
 use Rattle.search_model.specs.Paths.{split_at, entry, path}
 use Rattle.search_model.specs.Sums.{path_sum, box_sum}
+use Rattle.search_model.specs.Subbands.{node_sum}
 use Rattle.search_model.specs.Folds.{shift, fold_sum}
 use Rattle.search_model.specs.Detection.{is_detected}
 use Rattle.search_model.specs.Candidates.{candidates}
@@ -37,6 +38,12 @@ sums : map (λ d. map (λ u. path_sum sample three_edges u d) (0 ∷ 1 ∷ 2 ∷
     ≡ (10 ∷ 20 ∷ 0 ∷ []) ∷ (0 ∷ 30 ∷ 20 ∷ []) ∷ (0 ∷ 30 ∷ 30 ∷ []) ∷ []
 unfolding three_edges path entry
 sums = refl
+
+-- the same of the lower channel alone: by delay, the sums that end at spectra 0, 1 and 2
+lower_sums : map (λ d. map (λ u. node_sum sample three_edges 1 2 d u 0) (0 ∷ 1 ∷ 2 ∷ [])) (0 ∷ 1 ∷ [])
+    ≡ (0 ∷ 20 ∷ 0 ∷ []) ∷ (0 ∷ 20 ∷ 20 ∷ []) ∷ []
+unfolding three_edges entry
+lower_sums = refl
 
 -- boxes that begin before the data have nothing there: width 2 and width 4 of delay 0
 early_boxes : map (λ u. box_sum sample three_edges u 0 2) (0 ∷ 1 ∷ 2 ∷ []) ++ map (λ u. box_sum sample three_edges u 0 4) (0 ∷ 1 ∷ 2 ∷ [])

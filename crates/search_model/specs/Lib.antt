@@ -1,6 +1,8 @@
 pub mod Samples
 pub mod Paths
 pub mod Sums
+pub mod Subbands
+pub mod SubbandLaws
 pub mod Folds
 pub mod Detection
 pub mod Search

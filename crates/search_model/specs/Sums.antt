@@ -10,10 +10,14 @@ use Rattle.search_model.specs.Paths.{path}
 abbrev pub between : ℕ → ℕ → List ℕ
 between a b = range_with_len a (b + 1 - a)
 
--- The cells of channel c on the path e of delay d that ends `late` spectra before spectrum u:
--- x(c, t) for t from u - late - d + e_c to u - late - d + e_(c+1). A cell before the first spectrum is 0.
+-- The cells of channel c on a path of delay d with the entry `e k` at edge k, where the path ends `late` spectra before spectrum u:
+-- x(c, t) for t from u - late - d + e c to u - late - d + e (c + 1). A cell before the first spectrum is 0.
+abbrev pub cells_along : Filterbank → (ℕ → ℕ) → ℕ → ℕ → ℕ → ℕ → List ℕ
+cells_along f e d u late c = map (λ k. delayed f c (u + k) (d + late)) (between (e c) (e (c + 1)))
+
+-- the same where the entries are a list
 abbrev pub channel_cells : Filterbank → List ℕ → ℕ → ℕ → ℕ → ℕ → List ℕ
-channel_cells f e d u late c = map (λ k. delayed f c (u + k) (d + late)) (between (slice_index e c) (slice_index e (c + 1)))
+channel_cells f e d u late c = cells_along f (λ k. slice_index e k) d u late c
 
 -- all cells on that path, from the highest channel to the lowest
 abbrev pub path_cells : Filterbank → List ℕ → ℕ → ℕ → ℕ → List ℕ

@@ -1,6 +1,7 @@
 // Laws of the definitions, which the contracts of functions that do nothing carry. A caller whose proof needs a law calls
 // its function.
 ghost use Rattle.search_model.specs.Laws.{SplitsFit, HalvesJoin, HasOnePath, PathsRise, CellsAreCounted, TestsDetection, DetectionRises};
+ghost use Rattle.search_model.specs.SubbandLaws.{HalvesAdd, OneChannelAdds, OneChannelIsItsSample, TimeShifts, NothingBefore, WholeBandIsPathSum, SplitsStep, LatePathSums, PathSumsAreBounded};
 ghost use Rattle.search_model.specs.CandidateLaws.{CandidatesAreListed, CandidatesRise, RisingListsAgree, ShardsMerge};
 
 /// A half of the band gets no more than the delay of the whole.
@@ -56,4 +57,49 @@ pub fn rising_lists_agree()
 /// The parts of the shards, merged, are the candidate list.
 pub fn shards_merge()
     ensures { ShardsMerge }
+{}
+
+/// The sum over a part of the band is that of its upper half and that of its lower half.
+pub fn halves_add()
+    ensures { HalvesAdd }
+{}
+
+/// The sum over one channel grows by a sample for each spectrum of delay.
+pub fn one_channel_adds()
+    ensures { OneChannelAdds }
+{}
+
+/// The sum over one channel without a delay is the sample.
+pub fn one_channel_is_its_sample()
+    ensures { OneChannelIsItsSample }
+{}
+
+/// A sum that ends so many spectra earlier, seen from as many spectra later, is the same.
+pub fn time_shifts()
+    ensures { TimeShifts }
+{}
+
+/// Sums that end before the first spectrum are 0.
+pub fn nothing_before()
+    ensures { NothingBefore }
+{}
+
+/// The sum over the whole band is the path sum.
+pub fn whole_band_is_path_sum()
+    ensures { WholeBandIsPathSum }
+{}
+
+/// From one delay to the next, each half gets the same delay or one spectrum more.
+pub fn splits_step()
+    ensures { SplitsStep }
+{}
+
+/// A path sum by how much earlier it ends.
+pub fn late_path_sums()
+    ensures { LatePathSums }
+{}
+
+/// A path sum is at most its cells times the greatest sample.
+pub fn path_sums_are_bounded()
+    ensures { PathSumsAreBounded }
 {}
