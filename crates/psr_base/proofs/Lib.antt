@@ -1,3 +1,6 @@
+pub mod FixedValue
+pub mod FixedPlace
+pub mod FixedText
 pub mod Laws
 pub mod Pieces
 pub mod Places

@@ -5,3 +5,6 @@ pub mod Written
 pub mod Made
 pub mod NamedFiles
 pub mod InMemory
+pub mod Spelling
+pub mod Fixed
+pub mod Worked

@@ -4,6 +4,7 @@
 mod calls;
 mod faults;
 mod files;
+mod fixed;
 mod inputs;
 mod lookup;
 mod mem_inputs;
@@ -17,6 +18,7 @@ mod writing;
 
 pub use faults::{Failed, Memory};
 pub use files::Files;
+pub use fixed::{Fixed, NumberFault};
 pub use inputs::Inputs;
 pub use mem_inputs::MemInputs;
 pub use mem_sink::MemSink;
