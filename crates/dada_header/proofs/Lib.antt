@@ -1,2 +1,4 @@
-pub mod PlainLines
-pub mod PlainHeaders
+pub mod Scans
+pub mod FieldWords
+pub mod TextSteps
+pub mod HeaderReads

@@ -1,3 +1,4 @@
-pub mod Plain
-pub mod Lines
 pub mod Faults
+pub mod Places
+pub mod Space
+pub mod Lines

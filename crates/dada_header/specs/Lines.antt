@@ -1,9 +1,11 @@
--- One line of a plain text.
-use Rattle.std.specs.Prelude.{◌≡◌, ℕ, List}
-use Rattle.dada_model.specs.Fields.{Field}
-use Rattle.dada_header.specs.Plain.{IsPlainField, plain_line}
+-- Where the lines of a text end.
+use Rattle.std.specs.Prelude.{◌≡◌, ℕ, ◌+◌, ◌<◌, ◌≤◌, List, ◌∷◌, ◌++◌, length, drop, slice_range}
+use Rattle.dada_model.specs.FieldLaws.{IsLine}
 
-pub record IsPlainLine (line : List ℕ) : Type 0 where
-  pub field : Field
-  pub plain : IsPlainField field
-  pub spelled : line ≡ plain_line field
+-- the bytes from one place to another are a line, after which the text ends or has a line feed
+pub record IsLineEnd (text : List ℕ) (from end : ℕ) : Type 0 where
+  pub ordered : from ≤ end
+  pub within : end ≤ length text
+  pub line : IsLine (slice_range text from end)
+  pub rest : end < length text → drop from text ≡ slice_range text from end ++ (10 ∷ drop (end + 1) text)
+  pub last : end ≡ length text → drop from text ≡ slice_range text from end

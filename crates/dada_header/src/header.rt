@@ -1,47 +1,39 @@
-// Headers that are read: 4096 bytes, of which the text ends at the first NUL.
-ghost use Rattle.std.specs.Prelude.{◌≡◌, ℕ, ◌≤◌, List, length, take, Ok, IfOk, IfErr, IfSome, IfNone, option_copied, string_bytes, position, ◌==◌};
-ghost use Rattle.dada_model.specs.Fields.{HeaderText, fields_of, value_of, before_nul, header_of};
-ghost use Rattle.dada_header.specs.Plain.{IsPlainText, HasPlainSize, IsPlainHeader};
+// Headers: their size and their text in a space of 65536 bytes.
+ghost use Rattle.std.specs.Prelude.{◌≡◌, ◌≢◌, ℕ, ◌-◌, ◌<◌, ◌≤◌, List, [], ◌++◌, All, length, take, replicate, Ok, Err, Some, None, OnOk, IfOk, IfErr, option_copied, position, ◌==◌};
+ghost use Rattle.dada_model.specs.Fields.{HeaderText, fields_of, value_of, before_nul, header_size, header_text, header_of, header_bytes, is_above_ascii, allowed_size};
+ghost use Rattle.dada_model.specs.Number.{number_value};
+ghost use Rattle.dada_header.specs.Space.{header_in, IsKept};
+ghost use Rattle.dada_header.specs.Faults.{IsSizeRefusal, IsRefusal, Explains};
 
-use crate::plain::{is_plain, value_in};
+use crate::faults::HeaderFault;
+use crate::words::Place;
+// Laws: they do nothing when they run, and the proofs use what they ensure.
+use dada_model::{blank_is_read_back, headers_are_read_back, headers_are_text, headers_by_front};
+use psr_base::{Fixed, Memory};
 use std::alloc::{AllocError, Global};
 use std::marker::Model;
 use std::str;
 
-/// How many bytes a header has.
-const SIZE: usize = 4096;
+/// The least size of a header, and its size where HDR_SIZE is missing.
+const LEAST: usize = 4096;
 
-/// Why bytes are no header. `Short` comes first, with the number of bytes that there are. `Unbuilt` stands
-/// for each header that isn't plain.
-#[derive(Clone, Copy, PartialEq, Eq, Debug)]
-pub enum HeaderFault {
-    Short { had: usize },
-    Unbuilt,
-    Memory,
-}
+/// The greatest size of a header: each has so much space.
+const MOST: usize = 65536;
 
-impl From<AllocError> for HeaderFault {
-    ghost use Rattle.dada_header.specs.declared.header.HeaderFault.TheVariants.{Memory};
-
-    ghost from_gives = { λ _ fault. fault ≡ Memory };
-
-    fn from(_error: AllocError) -> Self {
-        HeaderFault::Memory
-    }
-}
-
-/// A header that was read.
+/// A header: a size in bytes, and a text in ASCII without NUL that is at most as long.
 #[derive(Drop)]
 pub struct Header {
-    text: String,
+    space: Vec<u8>,
+    len: usize,
+    size: usize,
 }
 
 impl Model for Header {
     ghost Value = { HeaderText };
 
-    ghost view = { λ header. record { size = 4096; text = string_bytes header.text } };
+    ghost view = { λ header. header_in header.space.items header.len header.size };
 
-    ghost invariant = { λ header. IsPlainText (string_bytes header.text) };
+    ghost invariant = { λ header. IsKept header.space.items header.len header.size };
 }
 
 // The place of the first NUL.
@@ -61,47 +53,184 @@ fn before_nul_of(bytes: &[u8]) -> &[u8]
     }
 }
 
-// The text of a block of 4096 bytes, if it is plain and HDR_SIZE, where it stands, is 4096.
-fn plain_text(block: &[u8]) -> Option<&str>
-    ensures some { IfSome result (λ text. (text.now ≡ before_nul block.now) × IsPlainText text.now × HasPlainSize text.now) }
-    ensures none { IfNone result (¬ (IsPlainText (before_nul block.now) × HasPlainSize (before_nul block.now))) }
+// The size that a value of HDR_SIZE gives.
+fn size_in(value: &[u8]) -> Option<usize>
+    ensures { result ≡ allowed_size (number_value 0 value.now) }
 {
-    let Ok(text) = str::from_utf8(before_nul_of(block)) else {
-        return None;
-    };
-    if !is_plain(text) {
-        return None;
+    let size = Fixed::read(value, 0).ok()?;
+    if LEAST as i64 <= size && size <= MOST as i64 {
+        Some(size as usize)
+    } else {
+        None
     }
-    match value_in(text, "HDR_SIZE") {
-        Some(size) if size != "4096" => None,
-        _ => Some(text),
+}
+
+// The place of the first byte above 127.
+fn first_above_ascii(bytes: &[u8]) -> Option<usize>
+    ensures { result ≡ position is_above_ascii bytes.now }
+{
+    bytes.iter().position(|byte| *byte > 127)
+}
+
+// The text of a header whose size is known.
+fn text_of(bytes: &[u8], size: usize) -> Result<&[u8], HeaderFault>
+    requires long { 4096 ≤ length bytes.now }
+    requires size { header_size bytes.now ≡ Some size }
+    ensures ok { IfOk result (λ text. header_of bytes.now ≡ Ok (record { size = size; text = text.now })) }
+    ensures len { IfOk result (λ text. length text.now ≤ size) }
+    ensures fault { IfErr result (IsRefusal bytes.now) }
+{
+    if bytes.len() < size {
+        return Err(HeaderFault::Short { had: bytes.len() });
+    }
+    let text = before_nul_of(&bytes[..size]);
+    match first_above_ascii(text) {
+        Some(place) => Err(HeaderFault::NotText { place }),
+        None => Ok(text),
+    }
+}
+
+// So many zeros.
+fn zeros(alloc: Global, len: usize) -> Result<Vec<u8>, AllocError>
+    ensures len { IfOk result (λ zeros. length zeros.items ≡ len) }
+    ensures zero { IfOk result (λ zeros. zeros.items ≡ replicate (length zeros.items) 0) }
+{
+    Vec::from_elem(alloc, 0, len)
+}
+
+// Puts a text into a space, and NUL after it up to a size.
+fn write_text(space: &mut [u8], text: &[u8], size: usize)
+    requires fits { length text.now ≤ size }
+    requires room { size ≤ length space.old }
+    ensures { take size space.new ≡ text.now ++ replicate (size - length text.now) 0 }
+{
+    space[..text.len()].copy_from_slice(text);
+    space[text.len()..size].fill(0);
+}
+
+// Bytes in ASCII as a text; the test never fails.
+fn ascii_text(bytes: &[u8]) -> Option<&str>
+    requires { All (λ byte. byte < 128) bytes.now }
+    ensures { option_copied result ≡ Some bytes.now }
+{
+    match str::from_utf8(bytes) {
+        Ok(text) => Some(text),
+        Err(_) => None,
     }
 }
 
 impl Header {
-    ghost use Rattle.dada_header.specs.Faults.{Explains};
-
-    /// The header that stands at the beginning of `bytes`. Bytes past its 4096 are ignored: it is the
-    /// header of each file that begins with the same 4096 bytes.
-    pub fn read(alloc: Global, bytes: &[u8]) -> Result<Header, HeaderFault>
-        ensures ok { IfOk result (λ header. IsPlainHeader bytes.now × (header_of bytes.now ≡ Ok header)) }
-        ensures size { IfOk result (λ header. header.size ≡ 4096) }
-        ensures front { IfOk result (λ header. (file : List ℕ) → take 4096 file ≡ take 4096 bytes.now
-            → (4096 ≤ length file) × IsPlainHeader file × (header_of file ≡ Ok header)) }
-        ensures fault { IfErr result (λ fault. Explains bytes.now fault) }
+    /// A header of 4096 bytes with an empty text.
+    pub fn blank(alloc: Global) -> Result<Header, Memory>
+        ensures { IfOk result (λ header. header ≡ record { size = 4096; text = [] }) }
     {
-        let Some(block) = bytes.get(..SIZE) else {
-            return Err(HeaderFault::Short { had: bytes.len() });
-        };
-        let text = plain_text(block).ok_or(HeaderFault::Unbuilt)?;
-        let text = String::from_str(alloc, text)?;
-        Ok(Header { text })
+        blank_is_read_back();
+        let space = zeros(alloc, MOST)?;
+        Ok(Header {
+            space,
+            len: 0,
+            size: LEAST,
+        })
     }
 
-    /// The value of a keyword: that of the first line with it.
+    /// The size of the header that stands at the beginning of `first`: HDR_SIZE in its first 4096 bytes, or
+    /// 4096 where that is missing.
+    pub fn size_of(first: &[u8]) -> Result<usize, HeaderFault>
+        ensures ok { IfOk result (λ size. header_size first.now ≡ Some size) }
+        ensures long { OnOk result (4096 ≤ length first.now) }
+        ensures range { IfOk result (λ size. (4096 ≤ size) × (size ≤ 65536)) }
+        ensures fault { IfErr result (IsSizeRefusal first.now) }
+    {
+        if first.len() < LEAST {
+            return Err(HeaderFault::Short { had: first.len() });
+        }
+        let text = before_nul_of(&first[..LEAST]);
+        match Place::of_first_value(text, b"HDR_SIZE") {
+            None => Ok(LEAST),
+            Some(place) => match size_in(&text[place.start..place.end]) {
+                Some(size) => Ok(size),
+                None => Err(HeaderFault::BadSize),
+            },
+        }
+    }
+
+    /// The header that stands at the beginning of `bytes`; those past its size are ignored.
+    pub fn read(alloc: Global, bytes: &[u8]) -> Result<Header, HeaderFault>
+        ensures ok { IfOk result (λ header. header_of bytes.now ≡ Ok header) }
+        ensures front { IfOk result (λ header. (file : List ℕ)
+            → take header.size file ≡ take header.size bytes.now → header_of file ≡ Ok header) }
+        ensures fault { IfErr result (Explains bytes.now) }
+    {
+        headers_by_front();
+        let mut header = Header::blank(alloc)?;
+        header.read_again(bytes)?;
+        Ok(header)
+    }
+
+    /// Reads a header in place of this one, which stays where the bytes are refused.
+    pub fn read_again(&mut self, bytes: &[u8]) -> Result<(), HeaderFault>
+        ensures ok { OnOk result (header_of bytes.now ≡ Ok self.new) }
+        ensures fault { IfErr result (λ fault. IsRefusal bytes.now fault × (self.new ≡ self.old)) }
+    {
+        headers_are_read_back();
+        headers_are_text();
+        let size = match Header::size_of(bytes) {
+            Ok(size) => size,
+            Err(fault) => return Err(fault),
+        };
+        let text = match text_of(bytes, size) {
+            Ok(text) => text,
+            Err(fault) => return Err(fault),
+        };
+        write_text(self.space.as_mut_slice(), text, size);
+        self.len = text.len();
+        self.size = size;
+        Ok(())
+    }
+
+    /// Makes this header equal to another.
+    pub fn copy_from(&mut self, other: &Header)
+        ensures { self.new ≡ other.now }
+    {
+        self.space.copy_from_slice(&other.space);
+        self.len = other.len;
+        self.size = other.size;
+    }
+
+    // The text.
+    fn text(&self) -> &[u8]
+        ensures { result.now ≡ self.now.text }
+    {
+        &self.space[..self.len]
+    }
+
+    /// The value of a keyword: that of the first field with it.
     pub fn get(&self, key: &str) -> Option<&str>
         ensures { option_copied result ≡ value_of key.now (fields_of self.now.text) }
     {
-        value_in(self.text.as_str(), key)
+        headers_are_text();
+        let text = &self.space[..self.len];
+        let Some(place) = Place::of_first_value(text, key.as_bytes()) else {
+            return None;
+        };
+        ascii_text(&text[place.start..place.end])
+    }
+
+    /// The size in bytes, from 4096 to 65536.
+    pub fn size(&self) -> usize
+        ensures size { result ≡ self.now.size }
+        ensures least { 4096 ≤ result }
+        ensures most { result ≤ 65536 }
+    {
+        self.size
+    }
+
+    /// The bytes of the header: its text, padded with NUL to its size. They are read back as this header.
+    pub fn bytes(&self) -> &[u8]
+        ensures bytes { result.now ≡ header_bytes self.now }
+        ensures len { length result.now ≡ self.now.size }
+        ensures read_back { header_of result.now ≡ Ok self.now }
+    {
+        &self.space[..self.size]
     }
 }

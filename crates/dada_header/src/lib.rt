@@ -1,10 +1,11 @@
-//! Headers in the DADA form (PSRDADA manual). So far plain headers alone are read: 4096 bytes, whose
-//! text is lines of a word, one space, a word and a line feed.
+//! Headers in the DADA form (PSRDADA manual): lines of a keyword and a value in a block of 4096 to 65536 bytes.
+//! They are read, looked up and changed in place.
 #![tactic(auto)]
 
+mod faults;
+mod fields;
 mod header;
-mod plain;
-#[cfg(test)]
-mod tests;
+mod words;
 
-pub use header::{Header, HeaderFault};
+pub use faults::HeaderFault;
+pub use header::Header;

@@ -3,3 +3,6 @@ pub mod Spelled
 pub mod Edges
 pub mod Accepted
 pub mod Band
+pub mod Words
+pub mod Lines
+pub mod Headers

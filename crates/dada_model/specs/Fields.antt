@@ -1,13 +1,13 @@
 -- The text of a header and its fields (PSRDADA manual: a header is lines of keyword and value; the
 -- grammar and the limits of size are this project's profile). A byte is a number.
-use Rattle.std.specs.Prelude.{ℕ, Bool, ◌&&◌, ◌||◌, nat_lt, nat_le, ◌==◌, if◌then◌else◌, List, [], ◌∷◌, length, take, filter, filter_map, find, Option, Some, None, option_map, Result, Ok, Err, ℤ, pos, negsuc, bytes_eq, codes}
+use Rattle.std.specs.Prelude.{ℕ, Bool, ◌&&◌, ◌||◌, nat_lt, nat_le, ◌==◌, if◌then◌else◌, List, [], ◌∷◌, length, take, replicate, ◌++◌, ◌-◌, filter, filter_map, find, Option, Some, None, option_map, Result, Ok, Err, ℤ, pos, negsuc, bytes_eq, codes}
 use Rattle.std.specs.List.{before_first, slice_split, list_any, position_or_len}
 use Rattle.dada_model.specs.Number.{number_value}
 
 -- ---- lines and fields
 
 -- space, tab, carriage return, vertical tab and form feed
-abbrev pub is_white : ℕ → Bool
+unfoldable pub is_white : ℕ → Bool
 is_white byte = (((byte == 32) || (byte == 9)) || (byte == 13)) || ((byte == 11) || (byte == 12))
 
 -- a line ends at a line feed or at the end of the text; a last piece that is empty has no field
@@ -15,11 +15,11 @@ abbrev pub lines_of : List ℕ → List (List ℕ)
 lines_of text = slice_split (λ byte. byte == 10) text
 
 -- 35 is '#', which begins a comment
-abbrev pub without_comment : List ℕ → List ℕ
+unfoldable pub without_comment : List ℕ → List ℕ
 without_comment line = before_first (λ byte. byte == 35) line
 
 -- the pieces between white space that aren't empty
-abbrev pub words_of : List ℕ → List (List ℕ)
+unfoldable pub words_of : List ℕ → List (List ℕ)
 words_of line = filter (λ word. nat_lt 0 (length word)) (slice_split is_white line)
 
 pub record Field : Type 0 where
@@ -100,3 +100,8 @@ header_of bytes =
     if nat_lt (length bytes) 4096
     then Err (ShortHeader (length bytes))
     else header_of_size bytes (header_size bytes)
+
+-- ---- the bytes of a header: its text, padded with NUL to its size
+
+unfoldable pub header_bytes : HeaderText → List ℕ
+header_bytes header = header.text ++ replicate (header.size - length header.text) 0

@@ -4,4 +4,8 @@ pub mod Observation
 pub mod Bounds
 pub mod Edges
 pub mod Laws
+pub mod FieldLaws
+pub mod Change
+pub mod ChangeLaws
 pub mod Worked
+pub mod ChangeWorked

@@ -1,7 +1,7 @@
 -- Worked values of the definitions, computed.
 use Rattle.std.specs.Prelude.{◌≡◌, ℕ, true, List, [], ◌∷◌, ◌++◌, map, Some, None, Ok, pos, neg_ℤ, codes, refl}
 use Rattle.dada_model.specs.Number.{number_value}
-use Rattle.dada_model.specs.Fields.{Field, fields_of, value_of}
+use Rattle.dada_model.specs.Fields.{is_white, without_comment, words_of, Field, fields_of, value_of}
 use Rattle.dada_model.specs.Observation.{Observation, signed_edge, edge, edges, dispersion_span, dm, max_sample, observation_of, observation_in, number_of, refusal_at, refusals}
 
 minus_two_hundred : number_value 6 (codes "-200") ≡ Some (neg_ℤ (pos 200000000))
@@ -25,11 +25,11 @@ small : List ℕ
 small = lines (codes "# a header" ∷ codes "NCHAN 2 channels" ∷ codes "BW" ∷ codes "  NCHAN  3#4" ∷ [])
 
 small_fields : fields_of small ≡ record { keyword = codes "NCHAN"; value = codes "2" } ∷ record { keyword = codes "NCHAN"; value = codes "3" } ∷ []
-unfolding fields_of small
+unfolding fields_of words_of without_comment is_white small
 small_fields = refl
 
 small_value : value_of (codes "NCHAN") (fields_of small) ≡ Some (codes "2")
-unfolding fields_of value_of small
+unfolding fields_of words_of without_comment is_white value_of small
 small_value = refl
 
 fields : List Field
@@ -39,7 +39,7 @@ abbrev two_channels : Observation
 two_channels = record { channels = 2; nbit = 8; npol = 1; sample_ns = 64000; centre_hz = 1400000000; width_hz = 200000000; is_falling = true; obs_offset = 0 }
 
 accepted : observation_of fields ≡ Ok two_channels
-unfolding fields fields_of value_of number_value number_of observation_in signed_edge edge refusal_at refusals observation_of
+unfolding fields fields_of words_of without_comment is_white value_of number_value number_of observation_in signed_edge edge refusal_at refusals observation_of
 accepted = refl
 
 three_edges : edges two_channels ≡ 1500000 ∷ 1400000 ∷ 1300000 ∷ []

@@ -2,10 +2,15 @@
 //! The definitions are in `specs/`: `Number`, `Fields`, `Observation`, `Bounds`, and laws about them in `Laws`.
 #![tactic(auto)]
 
+mod header_laws;
 mod key;
 mod laws;
 mod number;
 
+pub use header_laws::{
+    blank_is_read_back, fields_by_lines, first_word_of_line, headers_are_read_back,
+    headers_are_text, headers_by_front,
+};
 pub use key::Key;
 pub use laws::{
     accepted_by_rows, accepted_is_in_range, bands_in_row, dispersion_fits, edges_are_quotients,
