@@ -6,5 +6,7 @@ pub mod Pieces
 pub mod Places
 pub mod Ranges
 pub mod Tells
+pub mod TellsFiles
 pub mod Writes
 pub mod Appends
+pub mod Buffer

@@ -10,8 +10,8 @@ use Rattle.std.proofs.lemmas.Bool.{false_from_ne_true}
 use Rattle.std.proofs.lemmas.Slice.Eq.{bytes_eq-Decides}
 use Rattle.psr_base.specs.NamedFiles.{is_named, names_of, bodies_of, place_in, name_at, bytes_at, bytes_in, reading_of}
 use Rattle.psr_base.specs.Told.{left_to_read, GivesNext}
-use Rattle.psr_base.specs.declared.mem_inputs.MemFile.{MemFile}
-use Rattle.psr_base.specs.declared.mem_inputs.OpenFile.{OpenFile}
+use Rattle.psr_base.specs.declared.held.MemFile.{MemFile}
+use Rattle.psr_base.specs.declared.held.OpenFile.{OpenFile}
 
 -- what is found passes the test
 pub record FoundAt {X : Type 0} (t : X → Bool) (k : ℕ) (xs : List X) (i : ℕ) : Type 0 where

@@ -8,9 +8,9 @@ use Rattle.psr_base.specs.Count.{CallCount, FailsNext, Rose, after_call, after_f
 use Rattle.psr_base.specs.Told.{Told, Reading, opened, moved_by, GivesNext}
 use Rattle.psr_base.specs.Written.{SinkSeen, WroteAll, WriteFails, room_after}
 use Rattle.psr_base.specs.NamedFiles.{bytes_in, reading_of}
-use Rattle.psr_base.specs.InMemory.{room_where}
-use Rattle.psr_base.specs.declared.mem_inputs.MemFile.{MemFile}
-use Rattle.psr_base.specs.declared.mem_inputs.OpenFile.{OpenFile}
+use Rattle.psr_base.specs.InMemory.{told_where}
+use Rattle.psr_base.specs.declared.held.MemFile.{MemFile}
+use Rattle.psr_base.specs.declared.held.OpenFile.{OpenFile}
 
 -- an empty list contains nothing
 pub empty_contains : (n : ℕ) → Contains [] n → ⊥
@@ -35,27 +35,27 @@ written_whole (Ok n) old new bytes whole e = ap Some (e ∙ ap (λ (t : List ℕ
 written_whole (Err x) old new bytes whole e = tt
 
 -- the room that is told falls by what was taken
-pub room_where-taken : {E : Type 0} (r : Result ℕ E) (fail fail' : List ℕ) (room room' len : ℕ) → fail' ≡ fail → IfOk r (λ n. n ≡ len) → OnOk r (room' ≡ room - len) → IfOk r (λ n. room_where fail' room' ≡ room_after n (room_where fail room))
-room_where-taken (Ok n) fail fail' room room' len same whole falls = ap (λ (f : List ℕ). room_where f room') same ∙ by_fail fail
+pub told_where-taken : {E : Type 0} (r : Result ℕ E) (fail fail' : List ℕ) (room room' len : ℕ) → fail' ≡ fail → IfOk r (λ n. n ≡ len) → OnOk r (room' ≡ room - len) → IfOk r (λ n. told_where fail' room' ≡ room_after n (told_where fail room))
+told_where-taken (Ok n) fail fail' room room' len same whole falls = ap (λ (f : List ℕ). told_where f room') same ∙ by_fail fail
   where
-    by_fail : (f : List ℕ) → room_where f room' ≡ room_after n (room_where f room)
+    by_fail : (f : List ℕ) → told_where f room' ≡ room_after n (told_where f room)
     by_fail [] = ap Some (omega (arith, whole, falls))
     by_fail (x ∷ f) = refl
-room_where-taken (Err x) fail fail' room room' len same whole falls = tt
+told_where-taken (Err x) fail fail' room room' len same whole falls = tt
 
 -- the room that is told stays
 pub Some-stays : {T E : Type 0} (r : Result T E) (old new : List ℕ) → OnErr r (new ≡ old) → OnErr r (Some new ≡ Some old)
 Some-stays (Ok x) old new stays = tt
 Some-stays (Err x) old new stays = ap Some stays
 
-pub room_where-stays : {E : Type 0} (r : Result ℕ E) (fail fail' : List ℕ) (room room' : ℕ) → fail' ≡ fail → OnErr r (room' ≡ room) → OnErr r (room_where fail' room' ≡ room_where fail room)
-room_where-stays (Ok n) fail fail' room room' same stays = tt
-room_where-stays (Err x) fail fail' room room' same stays = ap (λ (f : List ℕ). room_where f room') same ∙ ap (room_where fail) stays
+pub told_where-stays : {E : Type 0} (r : Result ℕ E) (fail fail' : List ℕ) (room room' : ℕ) → fail' ≡ fail → OnErr r (room' ≡ room) → OnErr r (told_where fail' room' ≡ told_where fail room)
+told_where-stays (Ok n) fail fail' room room' same stays = tt
+told_where-stays (Err x) fail fail' room room' same stays = ap (λ (f : List ℕ). told_where f room') same ∙ ap (told_where fail) stays
 
 -- where room is told, a piece that it holds is taken
-pub room_where-serves : {A : Type 0} (fail : List ℕ) (room number len x : ℕ) → ((len ≤ room) × ((Contains fail number) → ⊥) → A) → room_where fail room ≡ Some x → len ≤ x → A
-room_where-serves [] room number len x serves told fits = let same : room ≡ x = cc in serves (omega arith, empty_contains number)
-room_where-serves (n ∷ fail) room number len x serves told fits = absurd cc
+pub told_where-serves : {A : Type 0} (fail : List ℕ) (room number len x : ℕ) → ((len ≤ room) × ((Contains fail number) → ⊥) → A) → told_where fail room ≡ Some x → len ≤ x → A
+told_where-serves [] room number len x serves told fits = let same : room ≡ x = cc in serves (omega arith, empty_contains number)
+told_where-serves (n ∷ fail) room number len x serves told fits = absurd cc
 
 -- a failed call is counted
 pub Rose-failed : {T E : Type 0} (r : Result T E) (old new : CallCount) → OnErr r (new ≡ after_fault old) → OnErr r (Rose old.faults new.faults)

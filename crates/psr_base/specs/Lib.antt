@@ -4,6 +4,8 @@ pub mod Told
 pub mod Written
 pub mod Made
 pub mod NamedFiles
+pub mod Held
+pub mod Stored
 pub mod InMemory
 pub mod Spelling
 pub mod Fixed

@@ -28,9 +28,17 @@ pub record FilesSeen : Type 0 where
 abbrev pub files_in : Made → List NamedBytes
 files_in made = made.finished ++ option_to_list made.unfinished
 
+-- their names
+abbrev pub names_in : Made → List (List ℕ)
+names_in made = map (λ (file : NamedBytes). file.name) (files_in made)
+
+-- the bytes of each
+abbrev pub bodies_in : Made → List (List ℕ)
+bodies_in made = map (λ (file : NamedBytes). file.bytes) (files_in made)
+
 -- a file of that name is there
 abbrev pub HasName : Made → List ℕ → Type 0
-HasName made name = Contains (map (λ (file : NamedBytes). file.name) (files_in made)) name
+HasName made name = Contains (names_in made) name
 
 -- an empty file of that name is begun
 abbrev pub begun : List ℕ → Made → Made

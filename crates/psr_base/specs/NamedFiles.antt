@@ -4,8 +4,8 @@ use Rattle.std.specs.Option.{option_map}
 use Rattle.std.specs.List.{position_from}
 use Rattle.std.specs.Str.{bytes_eq}
 use Rattle.psr_base.specs.Told.{Reading}
-use Rattle.psr_base.specs.declared.mem_inputs.MemFile.{MemFile}
-use Rattle.psr_base.specs.declared.mem_inputs.OpenFile.{OpenFile}
+use Rattle.psr_base.specs.declared.held.MemFile.{MemFile}
+use Rattle.psr_base.specs.declared.held.OpenFile.{OpenFile}
 
 -- the file has the name
 abbrev pub is_named : List ℕ → MemFile → Bool

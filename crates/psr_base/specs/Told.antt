@@ -24,6 +24,10 @@ left_to_read told = option_and_then (λ (file : Reading). option_map (drop file.
 abbrev pub opened : List ℕ → Told → Told
 opened name told = record told { reading = Some (record { name = name; place = 0 }) }
 
+-- no name is open
+abbrev pub closed : Told → Told
+closed told = record told { reading = None }
+
 -- the place moved by n bytes
 abbrev pub moved_by : ℕ → Told → Told
 moved_by n told = record told { reading = option_map (λ (file : Reading). record file { place = file.place + n }) told.reading }

@@ -1,12 +1,15 @@
 // Answers that name a refusal and carry nothing else.
 use std::alloc::{AllocError, AllocFailed};
+use thiserror::Error;
 
 /// An outside object failed. Its count of faults tells that it did.
-#[derive(Clone, Copy, Debug, PartialEq, Eq)]
+#[derive(Clone, Copy, Debug, PartialEq, Eq, Error)]
+#[error("an outside object failed")]
 pub struct Failed;
 
 /// There was no memory.
-#[derive(Clone, Copy, Debug, PartialEq, Eq)]
+#[derive(Clone, Copy, Debug, PartialEq, Eq, Error)]
+#[error("no memory")]
 pub struct Memory;
 
 impl From<AllocError> for Memory {

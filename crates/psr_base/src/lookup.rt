@@ -2,7 +2,7 @@
 ghost use Rattle.std.specs.Prelude.{◌≡◌, ◌-◌, ◌+◌, ◌≤◌, ℕ, min, length, take, drop};
 ghost use Rattle.psr_base.specs.NamedFiles.{place_in};
 
-use crate::mem_inputs::MemFile;
+use crate::held::MemFile;
 
 /// The place of the first file of that name.
 pub(crate) fn place_of(files: &[MemFile], name: &str) -> Option<usize>

@@ -1,36 +1,15 @@
 // Files in memory.
-ghost use Rattle.std.specs.Prelude.{◌≡◌, Some};
-ghost use Rattle.std.specs.Option.{ForSome};
-ghost use Rattle.psr_base.specs.NamedFiles.{place_in, name_at};
-
 use crate::calls::Calls;
 use crate::faults::{Failed, Memory};
+use crate::held::HeldFiles;
 use crate::inputs::Inputs;
-use crate::lookup::{copy_from, place_of};
 use std::alloc::Global;
-
-#[derive(Drop)]
-pub(crate) struct MemFile {
-    pub(crate) name: String,
-    pub(crate) bytes: Vec<u8>,
-}
-
-// The file that is open, and the place that it was read to.
-#[derive(Clone, Copy)]
-struct OpenFile {
-    index: usize,
-    place: usize,
-}
 
 /// Files in memory, which fail where they are told to.
 #[derive(Drop)]
 pub struct MemInputs {
-    alloc: Global,
-    files: Vec<MemFile>,
-    reading: Option<OpenFile>,
+    files: HeldFiles,
     calls: Calls,
-    ghost open_is_first: { ForSome reading (λ file.
-        place_in files.items (name_at files.items file.index) ≡ Some file.index) },
 }
 
 impl MemInputs {
@@ -47,9 +26,7 @@ impl MemInputs {
             calls_of inputs ≡ record { fail = fail.now; number = 0; faults = 0 }) }
     {
         Ok(MemInputs {
-            alloc,
-            files: Vec::new(alloc),
-            reading: None,
+            files: HeldFiles::none(alloc),
             calls: Calls::none(alloc, fail)?,
         })
     }
@@ -64,15 +41,7 @@ impl MemInputs {
         ensures calls { calls_of self.new ≡ calls_of self.old }
         ensures refused { OnErr result (told_of self.new ≡ told_of self.old) }
     {
-        let bytes = Vec::from_slice(self.alloc, bytes)?;
-        match place_of(&self.files, name) {
-            Some(index) => self.files[index].bytes = bytes,
-            None => {
-                let name = String::from_str(self.alloc, name)?;
-                self.files.push(MemFile { name, bytes })?;
-            }
-        }
-        Ok(())
+        self.files.put(name, bytes)
     }
 }
 
@@ -101,12 +70,10 @@ impl Inputs for MemInputs {
         ensures count { (calls_of self.old).faults ≤ (calls_of self.new).faults }
     {
         self.calls.begin()?;
-        match place_of(&self.files, name) {
-            Some(index) => {
-                self.reading = Some(OpenFile { index, place: 0 });
-                Ok(())
-            }
-            None => Err(self.calls.fault()),
+        if self.files.open(name) {
+            Ok(())
+        } else {
+            Err(self.calls.fault())
         }
     }
 
@@ -126,12 +93,6 @@ impl Inputs for MemInputs {
         ensures count { (calls_of self.old).faults ≤ (calls_of self.new).faults }
     {
         self.calls.begin()?;
-        let file = self.reading.unwrap();
-        let n = copy_from(self.files[file.index].bytes.as_slice(), file.place, into);
-        self.reading = Some(OpenFile {
-            index: file.index,
-            place: file.place + n,
-        });
-        Ok(n)
+        Ok(self.files.read(into))
     }
 }

@@ -1,12 +1,13 @@
 // Reading from an open file more than one call gives.
-ghost use Rattle.std.specs.Prelude.{◌≡◌, ◌≢◌, ◌≤◌, ◌<◌, ℕ, List, length, drop, vec_len, Ok, Err, IfOk, OnOk, OnErr, IsOk};
+ghost use Rattle.std.specs.Prelude.{◌≡◌, ◌≢◌, ◌≤◌, ◌<◌, ℕ, List, length, drop, vec_len, Ok, Err, IfOk, OnOk, OnErr, IsOk, IsSome};
 ghost use Rattle.std.specs.Option.{ForSome};
 ghost use Rattle.psr_base.specs.Count.{Rose};
-ghost use Rattle.psr_base.specs.Told.{Told, left_to_read, rest_after, moved_by, FillsFrom};
+ghost use Rattle.psr_base.specs.Told.{Told, left_to_read, rest_after, moved_by, FillsFrom, OfFile};
 
 use crate::faults::Failed;
 use crate::inputs::Inputs;
 use std::alloc::{AllocError, Global};
+use thiserror::Error;
 
 /// Reads until `into` is full or the file ends, and answers how many bytes were read: fewer than
 /// fit at the end alone. What stands in `into` after them is free.
@@ -44,13 +45,16 @@ pub fn fill<I: Inputs>(inputs: &mut I, into: &mut [u8]) -> Result<usize, Failed>
 }
 
 /// Why `read_to_end` gave no bytes.
-#[derive(Clone, Copy, Debug, PartialEq, Eq)]
+#[derive(Clone, Copy, Debug, PartialEq, Eq, Error)]
 pub enum DataFault {
     /// The inputs failed.
+    #[error("the inputs failed")]
     Failed,
     /// There are more bytes than the limit.
+    #[error("more bytes than the limit")]
     TooLong,
     /// There was no memory.
+    #[error("no memory")]
     Memory,
 }
 
@@ -116,4 +120,35 @@ pub fn read_to_end<I: Inputs>(
         data.extend_from_slice(&piece[..n])?;
     }
     Err(DataFault::TooLong)
+}
+
+/// Opens the file of that name and reads all of it, as long as it is at most `limit` bytes.
+///
+/// It stops as soon as more than `limit` bytes were read.
+pub fn read_file<I: Inputs>(
+    alloc: Global,
+    inputs: &mut I,
+    name: &str,
+    limit: usize,
+) -> Result<Vec<u8>, DataFault>
+    ensures whole { IfOk result (λ bytes.
+        OfFile (I.told inputs.old) name.now (λ file. bytes.items ≡ file)) }
+    ensures within { IfOk result (λ bytes. vec_len bytes ≤ limit) }
+
+    ensures too_long { result ≡ Err DataFault.TooLong
+        → OfFile (I.told inputs.old) name.now (λ file. limit < length file) }
+    ensures failed { result ≡ Err DataFault.Failed
+        → Rose (I.faults inputs.old) (I.faults inputs.new) }
+    ensures quiet { result ≢ Err DataFault.Failed → I.faults inputs.new ≡ I.faults inputs.old }
+
+    ensures names { (I.told inputs.new).bytes_under ≡ (I.told inputs.old).bytes_under }
+    ensures count { I.faults inputs.old ≤ I.faults inputs.new }
+    ensures calm { I.is_calm inputs.old → I.is_calm inputs.new }
+    ensures serves { I.is_calm inputs.old → IsSome ((I.told inputs.old).bytes_under name.now)
+        → result ≢ Err DataFault.Failed }
+{
+    match inputs.open(name) {
+        Ok(()) => read_to_end(alloc, inputs, limit),
+        Err(_) => Err(DataFault::Failed),
+    }
 }

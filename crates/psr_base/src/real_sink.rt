@@ -1,65 +1,9 @@
-// The system's files and streams. Nothing is told of what they hold.
+// The system's standard streams. Nothing is told of what they take.
 ghost use Rattle.std.specs.Prelude.{◌≡◌, ◌≤◌, length};
 
 use crate::calls::Faults;
 use crate::faults::Failed;
-use crate::inputs::Inputs;
 use crate::sink::Sink;
-use std::fs;
-use std::io::Read;
-use std::rt::Files;
-
-/// The files of the system. Each refusal of the system is a fault.
-#[derive(Drop)]
-pub struct RealInputs<'a, R: Files> {
-    rt: &'a R,
-    file: Option<R::File>,
-    faults: Faults,
-}
-
-impl<'a, R: Files> RealInputs<'a, R> {
-    /// No file is open, and no call has failed.
-    pub fn new(rt: &'a R) -> RealInputs<'a, R>
-        ensures { ⟦<RealInputs<'a, R> as Inputs>⟧.faults result ≡ 0 }
-    {
-        RealInputs {
-            rt,
-            file: None,
-            faults: Faults::none(),
-        }
-    }
-}
-
-impl<R: Files> Inputs for RealInputs<'_, R> {
-    ghost use Rattle.std.specs.Prelude.{IsSome};
-    ghost use Rattle.psr_base.specs.Told.{nothing_told};
-
-    ghost told = { λ _. nothing_told };
-
-    ghost is_open = { λ inputs. IsSome inputs.file };
-
-    ghost is_calm = { λ _. ⊥ };
-
-    ghost faults = { λ inputs. inputs.faults.count };
-
-    fn open(&mut self, name: &str) -> Result<(), Failed> {
-        match fs::open(self.rt, name) {
-            Ok(file) => {
-                self.file = Some(file);
-                Ok(())
-            }
-            Err(_) => Err(self.faults.fault()),
-        }
-    }
-
-    fn read(&mut self, into: &mut [u8]) -> Result<usize, Failed> {
-        let file = self.file.as_mut().unwrap();
-        match file.read(into) {
-            Ok(n) => Ok(n),
-            Err(_) => Err(self.faults.fault()),
-        }
-    }
-}
 
 #[derive(Clone, Copy, Debug, PartialEq, Eq)]
 enum Stream {

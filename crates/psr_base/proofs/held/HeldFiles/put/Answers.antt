@@ -1,8 +1,8 @@
 use Rattle.std.proofs.Common.{◌≡◌, List, Some, None, string_bytes, is_ok, ◌∙◌, ap, arith}
 use Rattle.psr_base.specs.NamedFiles.{place_in, bytes_in, reading_of}
-use Rattle.psr_base.specs.declared.mem_inputs.MemFile.{MemFile}
+use Rattle.psr_base.specs.declared.held.MemFile.{MemFile}
 use Rattle.psr_base.proofs.Places.{place_in-within, IsFirst-replaced, IsFirst-pushed, bytes_in-replaced, bytes_in-replaced_other, reading_of-replaced, bytes_in-added, bytes_in-added_other, reading_of-added}
-use Rattle.psr_base.proofs.mem_inputs.MemInputs.put.Goals as goal
+use Rattle.psr_base.proofs.held.HeldFiles.put.Goals as goal
 
 pub index_mut-requires : goal.index_mut-requires
 index_mut-requires c =
