@@ -1,16 +1,21 @@
 -- The delays at the edges of a band.
-use Rattle.std.specs.Prelude.{◌≡◌, ℕ, ◌+◌, ◌-◌, ◌≤◌, ◌<◌, List, length, slice_index}
+use Rattle.dada_model.specs.Bounds.{most_delay}
+use Rattle.std.specs.Prelude.{◌≡◌, ℕ, ◌+◌, ◌-◌, ◌^◌, ◌≤◌, ◌<◌, List, length, slice_index}
+
+-- the greatest sample that is added up cell by cell
+abbrev pub most_sample : ℕ
+most_sample = 2 ^ 20
 
 -- how many channels there are between so many edges
 abbrev pub channels_of : List ℕ → ℕ
 channels_of edges = length edges - 1
 
--- the delays of n channels at their edges, as a path has them: they begin at 0, never fall, and end at 8192 at most
+-- the delays of n channels at their edges, as a path has them: they begin at 0, never fall, and end at the longest delay at most
 pub record AreDelays (n : ℕ) (delays : List ℕ) : Type 0 where
   pub entries : length delays ≡ n + 1
   pub first : slice_index delays 0 ≡ 0
   pub rise : (c : ℕ) → c < n → slice_index delays c ≤ slice_index delays (c + 1)
-  pub last : slice_index delays n ≤ 8192
+  pub last : slice_index delays n ≤ most_delay
 
 -- `after` has the entries of `before` at lo and below, and at hi and above
 pub record KeepsOutside (lo hi : ℕ) (before after : List ℕ) : Type 0 where

@@ -1,8 +1,10 @@
 // The delay of a pulse at each edge of the band.
 ghost use Rattle.std.specs.Prelude.{◌≡◌, ◌+◌, ◌-◌, ◌*◌, ◌/◌, ◌^◌, ◌<◌, ◌≤◌, length, IfOk, slice_index};
 ghost use Rattle.search_model.specs.Paths.{IsHalved, IsPath, path};
-ghost use Rattle.search_model.specs.Paths.{split as split_of, square as square_of};
-ghost use Rattle.dada_model.specs.Edges.{AreEdges};
+ghost use Rattle.search_model.specs.Paths.{split as split_of};
+ghost use Rattle.dada_model.specs.Observation.{square as square_of};
+ghost use Rattle.dada_model.specs.Edges.{AreEdges, top_khz};
+ghost use Rattle.dada_model.specs.Bounds.{most_delay};
 ghost use Rattle.band_paths.specs.Edges.{AreDelays, channels_of, KeepsOutside};
 
 use psr_base::Memory;
@@ -12,7 +14,7 @@ use std::alloc::Global;
 
 // The square of a frequency in kHz.
 fn square(khz: u32) -> u128
-    requires { khz ≤ 16777216 }
+    requires { khz ≤ top_khz }
     ensures value { result ≡ square_of khz }
     ensures bound { result ≤ 2 ^ 48 }
 {
@@ -27,8 +29,9 @@ pub fn split(edges: &[u32], lo: usize, m: usize, hi: usize, d: u32) -> u32
     requires above { lo < m }
     requires below { m < hi }
     requires within { hi < length edges.now }
-    requires delay { d ≤ 8192 }
-    ensures value { result ≡ split_of (slice_index edges.now lo) (slice_index edges.now m) (slice_index edges.now hi) d }
+    requires delay { d ≤ most_delay }
+    ensures value { result
+        ≡ split_of (slice_index edges.now lo) (slice_index edges.now m) (slice_index edges.now hi) d }
     ensures part { result ≤ d }
 {
     share(edges[lo], edges[m], edges[hi], d)
@@ -36,10 +39,10 @@ pub fn split(edges: &[u32], lo: usize, m: usize, hi: usize, d: u32) -> u32
 
 // The share of the part above `mid` in a delay of `d` between `high` and `low`.
 fn share(high: u32, mid: u32, low: u32, d: u32) -> u32
-    requires top { high ≤ 16777216 }
+    requires top { high ≤ top_khz }
     requires above { mid < high }
     requires below { low < mid }
-    requires delay { d ≤ 8192 }
+    requires delay { d ≤ most_delay }
     ensures value { result ≡ split_of high mid low d }
     ensures part { result ≤ d }
 {
@@ -53,7 +56,7 @@ fn share(high: u32, mid: u32, low: u32, d: u32) -> u32
 fn rounded(part: u128, whole: u128, d: u32) -> u32
     requires part { part < whole }
     requires whole { whole ≤ 2 ^ 96 }
-    requires delay { d ≤ 8192 }
+    requires delay { d ≤ most_delay }
     ensures value { result ≡ (2 * d * part + whole) / (2 * whole) }
     ensures part { result ≤ d }
 {
@@ -65,7 +68,7 @@ fn rounded(part: u128, whole: u128, d: u32) -> u32
 /// it. The edges are in kHz, the highest first.
 pub fn edge_delays(alloc: Global, edges: &[u32], d: u32) -> Result<Vec<u32>, Memory>
     requires edges { AreEdges (channels_of edges.now) edges.now }
-    requires delay { d ≤ 8192 }
+    requires delay { d ≤ most_delay }
     ensures path { IfOk result (λ delays. IsPath edges.now (channels_of edges.now) d delays.items) }
     ensures value { IfOk result (λ delays. delays.items ≡ path edges.now (channels_of edges.now) d) }
     ensures delays { IfOk result (λ delays. AreDelays (channels_of edges.now) delays.items) }
@@ -81,7 +84,7 @@ pub fn edge_delays(alloc: Global, edges: &[u32], d: u32) -> Result<Vec<u32>, Mem
 fn lay_path(edges: &[u32], delays: &mut [u32], d: u32)
     requires edges { AreEdges (channels_of edges.now) edges.now }
     requires entries { length delays.old ≡ length edges.now }
-    requires delay { d ≤ 8192 }
+    requires delay { d ≤ most_delay }
     ensures { IsPath edges.now (channels_of edges.now) d delays.new }
 {
     let channels = edges.len() - 1;
@@ -97,7 +100,7 @@ fn halve(edges: &[u32], delays: &mut [u32], lo: usize, hi: usize)
     requires order { lo < hi }
     requires within { hi < length edges.now }
     requires rise { slice_index delays.old lo ≤ slice_index delays.old hi }
-    requires most { slice_index delays.old hi ≤ 8192 }
+    requires most { slice_index delays.old hi ≤ most_delay }
     ensures halved { IsHalved edges.now lo hi (λ k. slice_index delays.new k) }
     ensures kept { KeepsOutside lo hi delays.old delays.new }
 {

@@ -1,8 +1,8 @@
 // Sums of samples along a delay path.
 ghost use Rattle.std.specs.Prelude.{◌≡◌, ℕ, ◌+◌, ◌-◌, ◌*◌, ◌/◌, ◌^◌, ◌<◌, ◌≤◌, length, slice_index, true, All, sum};
-ghost use Rattle.search_model.specs.Samples.{filterbank, delayed};
+ghost use Rattle.search_model.specs.Samples.{filterbank, sample_before};
 ghost use Rattle.search_model.specs.Sums.{channel_cells, path_sum_along};
-ghost use Rattle.band_paths.specs.Edges.{AreDelays};
+ghost use Rattle.band_paths.specs.Edges.{AreDelays, most_sample};
 
 /// The sum of the samples on a path that ends at spectrum `u`, cell by cell. `samples` are spectra
 /// of `n` values, the highest channel first, where an incomplete last one is left out; `delays` are
@@ -12,9 +12,11 @@ pub fn path_sum(samples: &[u32], n: usize, delays: &[u32], u: usize) -> u64
     requires most { n ≤ 4096 }
     requires end { u < length samples.now / n }
     requires delays { AreDelays n delays.now }
-    requires small { All (λ x. x ≤ 1048576) samples.now }
-    ensures value { result ≡ path_sum_along (filterbank n true samples.now) delays.now (slice_index delays.now n) u 0 }
-    ensures bound { (m : ℕ) → All (λ x. x ≤ m) samples.now → result ≤ m * (n + slice_index delays.now n) }
+    requires small { All (λ x. x ≤ most_sample) samples.now }
+    ensures value { result
+        ≡ path_sum_along (filterbank n true samples.now) delays.now (slice_index delays.now n) u 0 }
+    ensures bound { (m : ℕ) → All (λ x. x ≤ m) samples.now →
+        result ≤ m * (n + slice_index delays.now n) }
 {
     let mut total = 0;
     for c in 0..n {
@@ -29,9 +31,11 @@ fn channel_sum(samples: &[u32], n: usize, c: usize, delays: &[u32], u: usize) ->
     requires most { n ≤ 4096 }
     requires end { u < length samples.now / n }
     requires delays { AreDelays n delays.now }
-    requires small { All (λ x. x ≤ 1048576) samples.now }
-    ensures value { result ≡ sum (channel_cells (filterbank n true samples.now) delays.now (slice_index delays.now n) u 0 c) }
-    ensures bound { (m : ℕ) → All (λ x. x ≤ m) samples.now → result ≤ m * (slice_index delays.now (c + 1) + 1 - slice_index delays.now c) }
+    requires small { All (λ x. x ≤ most_sample) samples.now }
+    ensures value { result
+        ≡ sum (channel_cells (filterbank n true samples.now) delays.now (slice_index delays.now n) u 0 c) }
+    ensures bound { (m : ℕ) → All (λ x. x ≤ m) samples.now →
+        result ≤ m * (slice_index delays.now (c + 1) + 1 - slice_index delays.now c) }
 {
     let d = delays[n] as usize;
     let first = delays[c] as usize;
@@ -47,8 +51,8 @@ fn channel_sum(samples: &[u32], n: usize, c: usize, delays: &[u32], u: usize) ->
 fn cell(samples: &[u32], n: usize, c: usize, s: usize, d: usize) -> u32
     requires channel { c < n }
     requires end { s < length samples.now / n + d }
-    requires small { All (λ x. x ≤ 1048576) samples.now }
-    ensures value { result ≡ delayed (filterbank n true samples.now) c s d }
+    requires small { All (λ x. x ≤ most_sample) samples.now }
+    ensures value { result ≡ sample_before (filterbank n true samples.now) c s d }
     ensures bound { (m : ℕ) → All (λ x. x ≤ m) samples.now → result ≤ m }
 {
     if s < d { 0 } else { samples[(s - d) * n + c] }

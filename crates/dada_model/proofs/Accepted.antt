@@ -10,11 +10,13 @@ use Rattle.dada_model.specs.Observation.{Observation, Refusal, keys, number_of, 
 
 -- ---- the list of refusals
 
-no_first : (o : Option Refusal) (rest : List Refusal) (last : List Refusal) → cons_option o rest ++ last ≡ [] → (o ≡ None) × (rest ++ last ≡ [])
+no_first : (o : Option Refusal) (rest : List Refusal) (last : List Refusal) → cons_option o rest ++ last ≡ [] →
+    (o ≡ None) × (rest ++ last ≡ [])
 no_first None rest last e = (refl, e)
 no_first (Some r) rest last e = (cc)
 
-none_at : (f : Key → Option Refusal) (xs : List Key) (last : List Refusal) → filter_map f xs ++ last ≡ [] → AllByRecursion (λ key. f key ≡ None) xs × (last ≡ [])
+none_at : (f : Key → Option Refusal) (xs : List Key) (last : List Refusal) → filter_map f xs ++ last ≡ [] →
+    AllByRecursion (λ key. f key ≡ None) xs × (last ≡ [])
 none_at f [] last e = (tt, e)
 none_at f (x ∷ xs) last e =
     let first = no_first (f x) (filter_map f xs) last e in
@@ -38,7 +40,8 @@ module _ (fields : List Field) (o : Observation) (accepted : observation_of fiel
 
   rows : AllByRecursion (λ key. refusal_at fields key ≡ None) keys × (too_narrow (observation_in fields) ≡ [])
   unfolding observation_of refusals
-  rows = none_at (refusal_at fields) keys (too_narrow (observation_in fields)) (taken (observation_in fields) o (refusals fields) accepted).1
+  rows = none_at (refusal_at fields) keys (too_narrow (observation_in fields))
+      (taken (observation_in fields) o (refusals fields) accepted).1
 
   pub accepted_at : (key : Key) → refusal_at fields key ≡ None
   accepted_at Nchan = rows.0.0
@@ -55,7 +58,8 @@ module _ (fields : List Field) (o : Observation) (accepted : observation_of fiel
 
 -- ---- to an accepted header
 
-pub accepted_when : (fields : List Field) → ((key : Key) → refusal_at fields key ≡ None) → too_narrow (observation_in fields) ≡ [] → observation_of fields ≡ Ok (observation_in fields)
+pub accepted_when : (fields : List Field) → ((key : Key) → refusal_at fields key ≡ None) →
+    too_narrow (observation_in fields) ≡ [] → observation_of fields ≡ Ok (observation_in fields)
 unfolding observation_of refusals
 accepted_when fields h wide = rw (all_none (refusal_at fields) keys h) (rw wide refl)
 
@@ -65,11 +69,13 @@ passed : (b : Bool) (r : Refusal) → cond b None (Some r) ≡ None → b ≡ tr
 passed true r e = refl
 passed false r e = (cc)
 
-number_if_none : (o : Observation) (key : Key) (n : Result ℤ Refusal) → refusal_of_number o key n ≡ None → (z : ℤ) × (n ≡ Ok z) × (is_in_row o key z ≡ true)
+number_if_none : (o : Observation) (key : Key) (n : Result ℤ Refusal) → refusal_of_number o key n ≡ None →
+    (z : ℤ) × (n ≡ Ok z) × (is_in_row o key z ≡ true)
 number_if_none o key (Err r) e = (cc)
 number_if_none o key (Ok z) e = (z, refl, passed (is_in_row o key z) (outside key) e)
 
-none_if_number : (o : Observation) (key : Key) (z : ℤ) → is_in_row o key z ≡ true → refusal_of_number o key (Ok z) ≡ None
+none_if_number : (o : Observation) (key : Key) (z : ℤ) → is_in_row o key z ≡ true →
+    refusal_of_number o key (Ok z) ≡ None
 none_if_number o key z e = rw e
 
 pub number_when : (fields : List Field) (key : Key) → refusal_at fields key ≡ None → HasNumberInRow fields key

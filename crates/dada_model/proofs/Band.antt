@@ -38,19 +38,23 @@ one_from : (a c d : ℕ) → 0 < d → int_le (pos 1) (int_div_euclid (pos a -�
 one_from a c d positive e =
     elim (cases_lt a c) [
       | inl h ↦ let no : int_le (pos 1) (negsuc ((c - a - 1) / d)) ≡ true = rw (floor_below a c d h) at e in (cc)
-      | inr h ↦ let yes : int_le (pos 1) (pos ((a - c) / d)) ≡ true = rw (floor_of a c d h) at e in one_from_nat a c d positive (leb_le 1 ((a - c) / d) yes) h
+      | inr h ↦ let yes : int_le (pos 1) (pos ((a - c) / d)) ≡ true = rw (floor_of a c d h) at e in
+          one_from_nat a c d positive (leb_le 1 ((a - c) / d) yes) h
     ]
 
 one_when : (a c d : ℕ) → 0 < d → c + d ≤ a → int_le (pos 1) (int_div_euclid (pos a -ℤ pos c) (pos d)) ≡ true
-one_when a c d positive h = rw (floor_of a c d (omega arith)) (le_leb 1 ((a - c) / d) (le-div 1 (a - c) d positive (omega arith)))
+one_when a c d positive h =
+    rw (floor_of a c d (omega arith)) (le_leb 1 ((a - c) / d) (le-div 1 (a - c) d positive (omega arith)))
 
-most_from : (a c d m : ℕ) → 0 < d → c ≤ a → int_le (int_div_euclid (pos a -ℤ pos c) (pos d)) (pos m) ≡ true → a - c < (m + 1) * d
+most_from : (a c d m : ℕ) → 0 < d → c ≤ a → int_le (int_div_euclid (pos a -ℤ pos c) (pos d)) (pos m) ≡ true →
+    a - c < (m + 1) * d
 most_from a c d m positive low e =
     let yes : int_le (pos ((a - c) / d)) (pos m) ≡ true = rw (floor_of a c d low) at e in
     let below : (a - c) / d ≤ m = leb_le ((a - c) / d) m yes in
     (div-lt_iff_lt-mul positive).0 (omega arith)
 
-most_when : (a c d m : ℕ) → 0 < d → c ≤ a → a - c < (m + 1) * d → int_le (int_div_euclid (pos a -ℤ pos c) (pos d)) (pos m) ≡ true
+most_when : (a c d m : ℕ) → 0 < d → c ≤ a → a - c < (m + 1) * d →
+    int_le (int_div_euclid (pos a -ℤ pos c) (pos d)) (pos m) ≡ true
 most_when a c d m positive low h =
     let below : (a - c) / d < m + 1 = div_below (a - c) d (m + 1) positive h in
     rw (floor_of a c d low) (le_leb ((a - c) / d) m (omega arith))
@@ -67,32 +71,39 @@ module _ (o : Observation) (positive : 0 < o.channels) where
   foot_from : int_le (pos 1) (signed_edge o o.channels) ≡ true → o.width_hz + 2000 ≤ 2 * o.centre_hz
   unfolding signed_edge
   foot_from e =
-      let whole = one_from (2 * o.centre_hz * o.channels + o.width_hz * o.channels) (2 * o.width_hz * o.channels) (2000 * o.channels) (omega arith) e in
+      let whole = one_from (2 * o.centre_hz * o.channels + o.width_hz * o.channels) (2 * o.width_hz * o.channels)
+      (2000 * o.channels) (omega arith) e in
       le_of_mul-le-mul_right {k = o.channels} (omega arith) positive
 
   foot_when : o.width_hz + 2000 ≤ 2 * o.centre_hz → int_le (pos 1) (signed_edge o o.channels) ≡ true
   unfolding signed_edge
   foot_when h =
       let whole : (o.width_hz + 2000) * o.channels ≤ 2 * o.centre_hz * o.channels = mul-le-mul_right o.channels h in
-      one_when (2 * o.centre_hz * o.channels + o.width_hz * o.channels) (2 * o.width_hz * o.channels) (2000 * o.channels) (omega arith) (omega arith)
+      one_when (2 * o.centre_hz * o.channels + o.width_hz * o.channels) (2 * o.width_hz * o.channels)
+      (2000 * o.channels) (omega arith) (omega arith)
 
   top_from : int_le (signed_edge o 0) (pos 16777216) ≡ true → 2 * o.centre_hz + o.width_hz < 2000 * 16777217
   unfolding signed_edge
   top_from e =
-      let whole = most_from (2 * o.centre_hz * o.channels + o.width_hz * o.channels) (2 * o.width_hz * 0) (2000 * o.channels) 16777216 (omega arith) (omega arith) e in
+      let whole = most_from (2 * o.centre_hz * o.channels + o.width_hz * o.channels) (2 * o.width_hz * 0)
+      (2000 * o.channels) 16777216 (omega arith) (omega arith) e in
       lt_of_mul-lt-mul_right o.channels (omega arith)
 
   top_when : 2 * o.centre_hz + o.width_hz < 2000 * 16777217 → int_le (signed_edge o 0) (pos 16777216) ≡ true
   unfolding signed_edge
   top_when h =
       let wider : 2 * o.centre_hz + o.width_hz + 1 ≤ 2000 * 16777217 = omega arith in
-      let whole : (2 * o.centre_hz + o.width_hz + 1) * o.channels ≤ 2000 * 16777217 * o.channels = mul-le-mul_right o.channels wider in
-      most_when (2 * o.centre_hz * o.channels + o.width_hz * o.channels) (2 * o.width_hz * 0) (2000 * o.channels) 16777216 (omega arith) (omega arith) (omega arith)
+      let whole : (2 * o.centre_hz + o.width_hz + 1) * o.channels ≤ 2000 * 16777217 * o.channels =
+      mul-le-mul_right o.channels wider in
+      most_when (2 * o.centre_hz * o.channels + o.width_hz * o.channels) (2 * o.width_hz * 0)
+      (2000 * o.channels) 16777216 (omega arith) (omega arith) (omega arith)
 
   pub band_from : (z : ℤ) → is_in_row o Bw z ≡ true → IsBandWidth o (unsigned_abs z)
   band_from z e =
-      let parts = and_parts (not (eqb (unsigned_abs z) 0)) (int_le (pos 1) (signed_edge o o.channels) && int_le (signed_edge o 0) (pos 16777216)) e in
-      let ends = and_parts (int_le (pos 1) (signed_edge o o.channels)) (int_le (signed_edge o 0) (pos 16777216)) parts.1 in
+      let parts = and_parts (not (eqb (unsigned_abs z) 0))
+      (int_le (pos 1) (signed_edge o o.channels) && int_le (signed_edge o 0) (pos 16777216)) e in
+      let ends = and_parts (int_le (pos 1) (signed_edge o o.channels))
+      (int_le (signed_edge o 0) (pos 16777216)) parts.1 in
       record { some = eqb_zero (unsigned_abs z) parts.0; foot = foot_from ends.0; top = top_from ends.1 }
 
   pub band_when : (z : ℤ) → IsBandWidth o (unsigned_abs z) → is_in_row o Bw z ≡ true
@@ -100,11 +111,13 @@ module _ (o : Observation) (positive : 0 < o.channels) where
 
 -- ---- the bounds of an accepted observation
 
-within : (low high : ℕ) (z : ℤ) → is_within (pos low) (pos high) z ≡ true → (low ≤ unsigned_abs z) × (unsigned_abs z ≤ high)
+within : (low high : ℕ) (z : ℤ) → is_within (pos low) (pos high) z ≡ true →
+    (low ≤ unsigned_abs z) × (unsigned_abs z ≤ high)
 within low high (pos n) e = (grind (arith, nat_tests), grind (arith, nat_tests))
 within low high (negsuc n) e = (cc)
 
-bounded : (low high : ℕ) (n : Result ℤ Refusal) (z : ℤ) → n ≡ Ok z → is_within (pos low) (pos high) z ≡ true → (low ≤ unsigned_abs (result_unwrap_or n (pos 0))) × (unsigned_abs (result_unwrap_or n (pos 0)) ≤ high)
+bounded : (low high : ℕ) (n : Result ℤ Refusal) (z : ℤ) → n ≡ Ok z → is_within (pos low) (pos high) z ≡ true →
+    (low ≤ unsigned_abs (result_unwrap_or n (pos 0))) × (unsigned_abs (result_unwrap_or n (pos 0)) ≤ high)
 bounded low high n z e h = rw e (within low high z h)
 
 or_cases : (b c : Bool) → (b || c) ≡ true → (b ≡ true) ⊎ (c ≡ true)
@@ -118,10 +131,13 @@ record AreBits (bits : ℕ) : Type 0 where
   many : bits ≤ 16
 
 same_bits : (bits k : ℕ) → k ≤ bits → bits ≤ k → (k ≡ 8) ⊎ (k ≡ 16) → AreBits bits
-same_bits bits k from to (inl is) = let e : bits ≡ 8 = omega arith in rw e (record { whole = refl; few = omega arith; many = omega arith })
-same_bits bits k from to (inr is) = let e : bits ≡ 16 = omega arith in rw e (record { whole = refl; few = omega arith; many = omega arith })
+same_bits bits k from to (inl is) = let e : bits ≡ 8 = omega arith in
+    rw e (record { whole = refl; few = omega arith; many = omega arith })
+same_bits bits k from to (inr is) = let e : bits ≡ 16 = omega arith in
+    rw e (record { whole = refl; few = omega arith; many = omega arith })
 
-bits_of : (n : Result ℤ Refusal) (z : ℤ) → n ≡ Ok z → (is_within (pos 8) (pos 8) z || is_within (pos 16) (pos 16) z) ≡ true →
+bits_of : (n : Result ℤ Refusal) (z : ℤ) → n ≡ Ok z → (is_within (pos 8) (pos 8) z || is_within (pos 16) (pos 16) z)
+    ≡ true →
     AreBits (unsigned_abs (result_unwrap_or n (pos 0)))
 bits_of n z e h =
     elim (or_cases (is_within (pos 8) (pos 8) z) (is_within (pos 16) (pos 16) z) h) [
@@ -129,7 +145,8 @@ bits_of n z e h =
       | inr sixteen ↦ let b = bounded 16 16 n z e sixteen in same_bits _ 16 b.0 b.1 (inr refl)
     ]
 
-band_of : (o : Observation) → 0 < o.channels → (n : Result ℤ Refusal) (z : ℤ) → n ≡ Ok z → is_in_row o Bw z ≡ true → IsBandWidth o (unsigned_abs (result_unwrap_or n (pos 0)))
+band_of : (o : Observation) → 0 < o.channels → (n : Result ℤ Refusal) (z : ℤ) → n ≡ Ok z → is_in_row o Bw z ≡ true →
+    IsBandWidth o (unsigned_abs (result_unwrap_or n (pos 0)))
 band_of o positive n z e h = rw e (band_from o positive z h)
 
 lt_ltb : (a b : ℕ) → a < b → ltb a b ≡ true
@@ -141,7 +158,8 @@ le_ltb a b h = grind (arith, nat_tests)
 wide_from : (o : Observation) → too_narrow o ≡ [] → 1000 * o.channels ≤ o.width_hz
 wide_from o e =
     elim (cases_lt o.width_hz (1000 * o.channels)) [
-      | inl h ↦ let narrow : too_narrow o ≡ TooNarrow o.width_hz o.channels ∷ [] = rw (lt_ltb o.width_hz (1000 * o.channels) h) refl in (cc)
+      | inl h ↦ let narrow : too_narrow o ≡ TooNarrow o.width_hz o.channels ∷ [] =
+          rw (lt_ltb o.width_hz (1000 * o.channels) h) refl in (cc)
       | inr h ↦ h
     ]
 
@@ -161,8 +179,10 @@ module _ (fields : List Field) (o : Observation) (accepted : observation_of fiel
       let polarisations = bounded 1 2 (number_of fields Npol) _ (in_row_of Npol).is (in_row_of Npol).in_row in
       let sample = bounded 1 (2 ^ 30) (number_of fields Tsamp) _ (in_row_of Tsamp).is (in_row_of Tsamp).in_row in
       let centre = bounded 1000 16000000000 (number_of fields Freq) _ (in_row_of Freq).is (in_row_of Freq).in_row in
-      let offset = bounded 0 (10 ^ 15) (number_of fields ObsOffset) _ (in_row_of ObsOffset).is (in_row_of ObsOffset).in_row in
-      let band = band_of (observation_in fields) (omega arith) (number_of fields Bw) _ (in_row_of Bw).is (in_row_of Bw).in_row in
+      let offset = bounded 0 (10 ^ 15) (number_of fields ObsOffset) _ (in_row_of ObsOffset).is
+      (in_row_of ObsOffset).in_row in
+      let band = band_of (observation_in fields) (omega arith) (number_of fields Bw) _ (in_row_of Bw).is
+      (in_row_of Bw).in_row in
       record {
         few_channels = channels.0;
         many_channels = channels.1;

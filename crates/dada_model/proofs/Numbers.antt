@@ -21,7 +21,8 @@ digit_passes byte h = grind (arith, nat_tests)
 
 pub all_digits : (text : List ℕ) → All IsAsciiDigit text → all_ascii_digits text ≡ true
 all_digits [] h = refl
-all_digits (x ∷ xs) h = rw (digit_passes x (All-head IsAsciiDigit x xs h)) (all_digits xs (All-tail IsAsciiDigit x xs h))
+all_digits (x ∷ xs) h =
+    rw (digit_passes x (All-head IsAsciiDigit x xs h)) (all_digits xs (All-tail IsAsciiDigit x xs h))
 
 pub no_point : (byte : ℕ) → IsAsciiDigit byte → is_point byte ≡ false
 no_point byte h = grind (arith, nat_tests)
@@ -31,7 +32,8 @@ no_point byte h = grind (arith, nat_tests)
 point_past : (digits : List ℕ) → All IsAsciiDigit digits → position_or_len is_point digits ≡ length digits
 point_past digits h =
     let none = All-weaker IsAsciiDigit (λ byte. is_point byte ≡ false) no_point digits h in
-    position_or_len_is is_point digits (length digits) 0 (omega arith) (λ k small. none k 0 small) (λ small. absurd (omega arith))
+    position_or_len_is is_point digits (length digits) 0 (omega arith) (λ k small. none k 0 small) (λ small.
+    absurd (omega arith))
 
 pub whole_of : (digits : List ℕ) → All IsAsciiDigit digits → before_first is_point digits ≡ digits
 whole_of digits h = rw (point_past digits h) (take-length digits)
@@ -48,22 +50,32 @@ some_digits digits h = grind (arith, nat_tests)
 unfoldable pub value_by : Bool → List ℕ → List ℕ → ℕ → Option ℤ
 value_by negative digits fraction k =
     let magnitude = digits_value 10 digits * 10 ^ k / 10 ^ length fraction in
-    cond (ltb 0 (length digits) && all_ascii_digits digits) (Some (cond negative (neg_ℤ (pos magnitude)) (pos magnitude))) None
+    cond (ltb 0 (length digits) && all_ascii_digits digits)
+    (Some (cond negative (neg_ℤ (pos magnitude)) (pos magnitude))) None
 
-pub value_by_is : (k : ℕ) (text : List ℕ) → number_value k text ≡ value_by (starts_with_minus text) (digits_of_number text) (fraction_part text) k
+pub value_by_is : (k : ℕ) (text : List ℕ) →
+    number_value k text ≡ value_by (starts_with_minus text) (digits_of_number text) (fraction_part text) k
 unfolding number_value value_by
 value_by_is k text = refl
 
-value_by-digits : (negative : Bool) (digits : List ℕ) (k : ℕ) → 0 < length digits → All IsAsciiDigit digits → value_by negative digits [] k ≡ Some (cond negative (neg_ℤ (pos (digits_value 10 digits * 10 ^ k))) (pos (digits_value 10 digits * 10 ^ k)))
+value_by-digits : (negative : Bool) (digits : List ℕ) (k : ℕ) → 0 < length digits → All IsAsciiDigit digits →
+    value_by negative digits [] k
+    ≡ Some (cond negative (neg_ℤ (pos (digits_value 10 digits * 10 ^ k))) (pos (digits_value 10 digits * 10 ^ k)))
 unfolding value_by
-value_by-digits negative digits k some all = rw (some_digits digits some, all_digits digits all, div-one (digits_value 10 digits * 10 ^ k)) refl
+value_by-digits negative digits k some all =
+    rw (some_digits digits some, all_digits digits all, div-one (digits_value 10 digits * 10 ^ k)) refl
 
 -- a sign or none, and then digits alone
-signless : (text digits : List ℕ) (k : ℕ) → without_leading_sign text ≡ digits → 0 < length digits → All IsAsciiDigit digits → number_value k text ≡ Some (cond (starts_with_minus text) (neg_ℤ (pos (digits_value 10 digits * 10 ^ k))) (pos (digits_value 10 digits * 10 ^ k)))
+signless : (text digits : List ℕ) (k : ℕ) → without_leading_sign text ≡ digits → 0 < length digits →
+    All IsAsciiDigit digits →
+    number_value k text ≡ Some
+    (cond (starts_with_minus text) (neg_ℤ (pos (digits_value 10 digits * 10 ^ k)))
+    (pos (digits_value 10 digits * 10 ^ k)))
 signless text digits k bare some all =
     let whole : whole_part text ≡ digits = ap (before_first is_point) bare ∙ whole_of digits all in
     let fraction : fraction_part text ≡ [] = ap (after_first is_point) bare ∙ fraction_of digits all in
-    let both : digits_of_number text ≡ digits = ap (λ (xs : List ℕ). xs ++ fraction_part text) whole ∙ ap (λ (xs : List ℕ). digits ++ xs) fraction ∙ append-nil digits in
+    let both : digits_of_number text ≡ digits = ap (λ (xs : List ℕ). xs ++ fraction_part text) whole
+    ∙ ap (λ (xs : List ℕ). digits ++ xs) fraction ∙ append-nil digits in
     value_by_is k text
     ∙ ap (λ (xs : List ℕ). value_by (starts_with_minus text) xs (fraction_part text) k) both
     ∙ ap (λ (xs : List ℕ). value_by (starts_with_minus text) digits xs k) fraction
@@ -75,7 +87,8 @@ no_minus byte h = grind (arith, nat_tests)
 pub no_plus : (byte : ℕ) → IsAsciiDigit byte → eqb byte 43 ≡ false
 no_plus byte h = grind (arith, nat_tests)
 
-pub number_value-whole : (most : ℕ) (text : List ℕ) (k : ℕ) → IsWholeNumber most text → number_value k text ≡ Some (pos (digits_value 10 text * 10 ^ k))
+pub number_value-whole : (most : ℕ) (text : List ℕ) (k : ℕ) → IsWholeNumber most text →
+    number_value k text ≡ Some (pos (digits_value 10 text * 10 ^ k))
 number_value-whole most text k h =
     let first = h.2 0 0 h.0 in
     let minus : starts_with_minus text ≡ false = no_minus (get_or text 0 0) first in
@@ -83,7 +96,8 @@ number_value-whole most text k h =
     let value = signless text text k bare h.0 h.2 in
     rw minus at value
 
-number_value-negative : (most : ℕ) (text : List ℕ) (k : ℕ) → IsNegativeNumber most text → number_value k text ≡ Some (neg_ℤ (pos (digits_value 10 (drop 1 text) * 10 ^ k)))
+number_value-negative : (most : ℕ) (text : List ℕ) (k : ℕ) → IsNegativeNumber most text →
+    number_value k text ≡ Some (neg_ℤ (pos (digits_value 10 (drop 1 text) * 10 ^ k)))
 number_value-negative most text k h =
     let minus : starts_with_minus text ≡ true = h.0 in
     let bare : without_leading_sign text ≡ drop 1 text = rw minus refl in
@@ -98,7 +112,8 @@ own = numerals_by_value (λ ds. all_ascii_digits ds ≡ true) tells_all_ascii_di
 pub digits_below : (most : ℕ) (text : List ℕ) → IsWholeNumber most text → digits_value 10 text < 10 ^ most
 digits_below most text h = digits_value_short own text most (all_digits text h.2) h.1
 
-pub parsed : {E : Type 0} (most : ℕ) (text : List ℕ) (r : Result ℕ E) → most ≤ 19 → IsWholeNumber most text → ParsesUnsigned 64 10 text r → r ≡ Ok (digits_value 10 text)
+pub parsed : {E : Type 0} (most : ℕ) (text : List ℕ) (r : Result ℕ E) → most ≤ 19 → IsWholeNumber most text →
+    ParsesUnsigned 64 10 text r → r ≡ Ok (digits_value 10 text)
 parsed most text r small h read =
     let digits = all_digits text h.2 in
     let below : digits_value 10 text < 10 ^ 19 = digits_value_short own text 19 digits (omega (arith, h.1)) in
@@ -113,6 +128,8 @@ pub minus_first : (text : List ℕ) → starts_with_minus text ≡ true → text
 minus_first [] e = (cc)
 minus_first (x ∷ xs) e = ap (λ (byte : ℕ). byte ∷ xs) (is_minus x e)
 
-pub negative_value : (most : ℕ) (text rest : List ℕ) (r : Option ℕ) → text ≡ 45 ∷ rest → SomeIff r (IsWholeNumber most rest) (digits_value 10 rest) → IfSome r (λ n. (k : ℕ) → number_value k text ≡ Some (neg_ℤ (pos (n * 10 ^ k))))
+pub negative_value : (most : ℕ) (text rest : List ℕ) (r : Option ℕ) → text ≡ 45 ∷ rest →
+    SomeIff r (IsWholeNumber most rest) (digits_value 10 rest) →
+    IfSome r (λ n. (k : ℕ) → number_value k text ≡ Some (neg_ℤ (pos (n * 10 ^ k))))
 negative_value most text rest None e h = tt
 negative_value most text rest (Some n) e h = λ k. rw (e, h.1) (number_value-negative most (45 ∷ rest) k (refl, h.0))

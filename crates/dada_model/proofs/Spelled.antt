@@ -41,39 +41,51 @@ record IsBody (body : List ℕ) : Type 0 where
 
 body_of_digits : (whole : List ℕ) → 0 < length whole → All IsAsciiDigit whole → IsBody whole
 body_of_digits [] some digits = absurd (omega arith)
-body_of_digits (x ∷ xs) some digits = let first = All-head IsAsciiDigit x xs digits in record { no_minus_first = no_minus x first; no_plus_first = no_plus x first }
+body_of_digits (x ∷ xs) some digits = let first = All-head IsAsciiDigit x xs digits in
+    record { no_minus_first = no_minus x first; no_plus_first = no_plus x first }
 
 body_of_point : (whole more : List ℕ) → All IsAsciiDigit whole → IsBody (whole ++ (46 ∷ more))
 body_of_point [] more digits = record { no_minus_first = refl; no_plus_first = refl }
-body_of_point (x ∷ xs) more digits = let first = All-head IsAsciiDigit x xs digits in record { no_minus_first = no_minus x first; no_plus_first = no_plus x first }
+body_of_point (x ∷ xs) more digits = let first = All-head IsAsciiDigit x xs digits in
+    record { no_minus_first = no_minus x first; no_plus_first = no_plus x first }
 
-signed_body : (negative : Bool) (sign body : List ℕ) → IsSign negative sign → IsBody body → (starts_with_minus (sign ++ body) ≡ negative) × (without_leading_sign (sign ++ body) ≡ body)
+signed_body : (negative : Bool) (sign body : List ℕ) → IsSign negative sign → IsBody body →
+    (starts_with_minus (sign ++ body) ≡ negative) × (without_leading_sign (sign ++ body) ≡ body)
 signed_body true sign body e h = rw e (refl, refl)
 signed_body false sign body (inl e) h = rw (e, h.no_minus_first, h.no_plus_first) (refl, refl)
 signed_body false sign body (inr e) h = rw e (refl, refl)
 
 module _ (k : ℕ) (text : List ℕ) (negative : Bool) (whole fraction : List ℕ) where
-  value_from : starts_with_minus text ≡ negative → whole_part text ≡ whole → fraction_part text ≡ fraction → 0 < length (whole ++ fraction) → All IsAsciiDigit (whole ++ fraction) → number_value k text ≡ Some (spelled_value k negative whole fraction)
+  value_from : starts_with_minus text ≡ negative → whole_part text ≡ whole → fraction_part text ≡ fraction →
+      0 < length (whole ++ fraction) → All IsAsciiDigit (whole ++ fraction) →
+      number_value k text ≡ Some (spelled_value k negative whole fraction)
   unfolding value_by
   value_from sign w f some digits =
-      let shape : number_value k text ≡ value_by negative (whole ++ fraction) fraction k = rw (← sign, ← w, ← f) (value_by_is k text) in
-      let value : value_by negative (whole ++ fraction) fraction k ≡ Some (spelled_value k negative whole fraction) = rw (some_digits (whole ++ fraction) some, all_digits (whole ++ fraction) digits) refl in
+      let shape : number_value k text ≡ value_by negative (whole ++ fraction) fraction k =
+      rw (← sign, ← w, ← f) (value_by_is k text) in
+      let value : value_by negative (whole ++ fraction) fraction k ≡ Some (spelled_value k negative whole fraction) =
+      rw (some_digits (whole ++ fraction) some, all_digits (whole ++ fraction) digits) refl in
       shape ∙ value
 
-  value_of_spelled : Spells text negative whole fraction → number_value k text ≡ Some (spelled_value k negative whole fraction)
+  value_of_spelled : Spells text negative whole fraction →
+      number_value k text ≡ Some (spelled_value k negative whole fraction)
   value_of_spelled s =
       let digits = All-front whole fraction s.digits in
       elim s.spelled [
         | inl e ↦
-            let parts = signed_body negative s.sign (whole ++ (46 ∷ fraction)) s.signed (body_of_point whole fraction digits) in
+            let parts = signed_body negative s.sign (whole ++ (46 ∷ fraction)) s.signed
+            (body_of_point whole fraction digits) in
             let bare : without_leading_sign text ≡ whole ++ (46 ∷ fraction) = ap without_leading_sign e ∙ parts.1 in
-            value_from (ap starts_with_minus e ∙ parts.0) (ap (before_first is_point) bare ∙ before_point whole fraction digits) (ap (after_first is_point) bare ∙ after_point whole fraction digits) s.some s.digits
+            value_from (ap starts_with_minus e ∙ parts.0) (ap (before_first is_point) bare
+            ∙ before_point whole fraction digits) (ap (after_first is_point) bare
+            ∙ after_point whole fraction digits) s.some s.digits
         | inr (e, none) ↦
             let same : whole ++ fraction ≡ whole = ap (λ (xs : List ℕ). whole ++ xs) none ∙ append-nil whole in
             let some : 0 < length whole = rw same at s.some in
             let parts = signed_body negative s.sign whole s.signed (body_of_digits whole some digits) in
             let bare : without_leading_sign text ≡ whole = ap without_leading_sign e ∙ parts.1 in
-            value_from (ap starts_with_minus e ∙ parts.0) (ap (before_first is_point) bare ∙ whole_of whole digits) (ap (after_first is_point) bare ∙ fraction_of whole digits ∙ sym none) s.some s.digits
+            value_from (ap starts_with_minus e ∙ parts.0) (ap (before_first is_point) bare ∙ whole_of whole digits)
+            (ap (after_first is_point) bare ∙ fraction_of whole digits ∙ sym none) s.some s.digits
       ]
 
 -- ---- to what is spelled
@@ -108,7 +120,8 @@ plus_first : (text : List ℕ) → eqb (get_or text 0 0) 43 ≡ true → text �
 plus_first [] e = (cc)
 plus_first (x ∷ xs) e = ap (λ (byte : ℕ). byte ∷ xs) (is_plus x e)
 
-sign_of : (text : List ℕ) → (sign : List ℕ) × IsSign (starts_with_minus text) sign × (text ≡ sign ++ without_leading_sign text)
+sign_of : (text : List ℕ) → (sign : List ℕ) × IsSign (starts_with_minus text) sign
+    × (text ≡ sign ++ without_leading_sign text)
 sign_of text =
     elim (bool_cases (starts_with_minus text)) [
       | inl e ↦ (codes "-", rw e refl, rw e (minus_first text e))
@@ -118,19 +131,28 @@ sign_of text =
       ]
     ]
 
-body_parts : (body : List ℕ) → (body ≡ before_first is_point body ++ (46 ∷ after_first is_point body)) ⊎ ((body ≡ before_first is_point body) × (after_first is_point body ≡ []))
+body_parts : (body : List ℕ) → (body ≡ before_first is_point body ++ (46 ∷ after_first is_point body))
+    ⊎ ((body ≡ before_first is_point body) × (after_first is_point body ≡ []))
 body_parts body =
     elim (cases_lt (position_or_len is_point body) (length body)) [
       | inl h ↦
-          let point = is_point_byte (get_or body (position_or_len is_point body) 0) (passes_at_first is_point body 0 h) in
+          let point = is_point_byte (get_or body (position_or_len is_point body) 0)
+          (passes_at_first is_point body 0 h) in
           inl (rw point at (split_at_first is_point body 0 h))
-      | inr h ↦ inr (sym (take_all (position_or_len is_point body) body h), drop_all (position_or_len is_point body + 1) body (omega arith))
+      | inr h ↦ inr (
+        sym (take_all (position_or_len is_point body) body h),
+        drop_all (position_or_len is_point body + 1) body (omega arith),
+      )
     ]
 
-spelled_of_value : (k : ℕ) (text : List ℕ) (z : ℤ) → number_value k text ≡ Some z → (negative : Bool) × (whole : List ℕ) × (fraction : List ℕ) × Spells text negative whole fraction × (z ≡ spelled_value k negative whole fraction)
+spelled_of_value : (k : ℕ) (text : List ℕ) (z : ℤ) → number_value k text ≡ Some z →
+    (negative : Bool) × (whole : List ℕ) × (fraction : List ℕ) × Spells text negative whole fraction
+    × (z ≡ spelled_value k negative whole fraction)
 unfolding value_by
 spelled_of_value k text z e =
-    let found = value_if (ltb 0 (length (digits_of_number text)) && all_ascii_digits (digits_of_number text)) (spelled_value k (starts_with_minus text) (whole_part text) (fraction_part text)) z (sym (value_by_is k text) ∙ e) in
+    let found = value_if (ltb 0 (length (digits_of_number text)) && all_ascii_digits (digits_of_number text))
+    (spelled_value k (starts_with_minus text) (whole_part text) (fraction_part text)) z (sym (value_by_is k text)
+    ∙ e) in
     let tests = and_parts (ltb 0 (length (digits_of_number text))) (all_ascii_digits (digits_of_number text)) found.0 in
     let signed = sign_of text in
     let spells : Spells text (starts_with_minus text) (whole_part text) (fraction_part text) = record {
@@ -146,4 +168,7 @@ spelled_of_value k text z e =
     (starts_with_minus text, whole_part text, fraction_part text, spells, found.1)
 
 pub numbers_are_spelled : NumbersAreSpelled
-numbers_are_spelled k text z = (spelled_of_value k text z, λ (negative, whole, fraction, spells, e). rw e (value_of_spelled k text negative whole fraction spells))
+numbers_are_spelled k text z = (
+  spelled_of_value k text z,
+  λ (negative, whole, fraction, spells, e). rw e (value_of_spelled k text negative whole fraction spells),
+)

@@ -1,6 +1,11 @@
 -- The bounds of an accepted observation and of a band, in natural numbers.
 use Rattle.std.specs.Prelude.{◌≡◌, ℕ, ◌%◌, ◌+◌, ◌*◌, ◌^◌, ◌<◌, ◌≤◌}
+use Rattle.dada_model.specs.Edges.{top_khz}
 use Rattle.dada_model.specs.Observation.{Observation}
+
+-- the longest delay that is spoken of, in spectra
+abbrev pub most_delay : ℕ
+most_delay = 8192
 
 pub record IsInRange (o : Observation) : Type 0 where
   pub few_channels : 2 ≤ o.channels
@@ -15,13 +20,13 @@ pub record IsInRange (o : Observation) : Type 0 where
   pub low_centre : 1000 ≤ o.centre_hz
   pub high_centre : o.centre_hz ≤ 16000000000
   pub foot : o.width_hz + 2000 ≤ 2 * o.centre_hz
-  pub top : 2 * o.centre_hz + o.width_hz < 2000 * 16777217
+  pub top : 2 * o.centre_hz + o.width_hz < 2000 * (top_khz + 1)
   pub wide : 1000 * o.channels ≤ o.width_hz
   pub early : o.obs_offset ≤ 10 ^ 15
 
--- `width_hz` is the absolute value of a BW in its row: not 0, where the observation's band has its foot at 1 kHz or above
--- and its top at 16777216 kHz or below, rounded down
+-- `width_hz` is the absolute value of a BW in its row: not 0, where the observation's band has its foot at 1 kHz or
+-- above and its top at the greatest edge or below, rounded down
 pub record IsBandWidth (o : Observation) (width_hz : ℕ) : Type 0 where
   pub some : 0 < width_hz
   pub foot : o.width_hz + 2000 ≤ 2 * o.centre_hz
-  pub top : 2 * o.centre_hz + o.width_hz < 2000 * 16777217
+  pub top : 2 * o.centre_hz + o.width_hz < 2000 * (top_khz + 1)

@@ -7,7 +7,7 @@ use Rattle.dada_model.specs.declared.key.Key.TheVariants.{Bw}
 use Rattle.dada_model.specs.Number.{number_value}
 use Rattle.dada_model.specs.Fields.{Field}
 use Rattle.dada_model.specs.Observation.{Observation, number_of, observation_in, is_in_row, observation_of, edge, edges, dispersion_span}
-use Rattle.dada_model.specs.Bounds.{IsInRange, IsBandWidth}
+use Rattle.dada_model.specs.Bounds.{most_delay, IsInRange, IsBandWidth}
 use Rattle.dada_model.specs.Edges.{AreEdges}
 
 -- ---- observations
@@ -18,8 +18,8 @@ pub record HasNumberInRow (fields : List Field) (key : Key) : Type 0 where
   pub is : number_of fields key ≡ Ok number
   pub in_row : is_in_row (observation_in fields) key number ≡ true
 
--- a header is accepted exactly where each key has a number in its row and each channel 1 kHz at least; its observation is
--- that of its numbers
+-- a header is accepted exactly where each key has a number in its row and each channel 1 kHz at least; its observation
+-- is that of its numbers
 abbrev pub AcceptedByRows : Type 0
 AcceptedByRows = (fields : List Field) (o : Observation) →
     (observation_of fields ≡ Ok o)
@@ -46,7 +46,8 @@ EdgesAreQuotients = (o : Observation) (k : ℕ) → IsInRange o → k ≤ o.chan
 
 -- no number in its dispersion measure reaches 2^122, up to the greatest delay
 abbrev pub DispersionFits : Type 0
-DispersionFits = (o : Observation) (d : ℕ) → IsInRange o → d ≤ 8192 → d * o.sample_ns * 241 * dispersion_span o < 2 ^ 122
+DispersionFits = (o : Observation) (d : ℕ) → IsInRange o → d ≤ most_delay →
+    d * o.sample_ns * 241 * dispersion_span o < 2 ^ 122
 
 -- ---- number texts
 
@@ -74,4 +75,5 @@ spelled_value k negative whole fraction =
 abbrev pub NumbersAreSpelled : Type 0
 NumbersAreSpelled = (k : ℕ) (text : List ℕ) (z : ℤ) →
     (number_value k text ≡ Some z)
-    ↔ ((negative : Bool) × (whole : List ℕ) × (fraction : List ℕ) × Spells text negative whole fraction × (z ≡ spelled_value k negative whole fraction))
+    ↔ ((negative : Bool) × (whole : List ℕ) × (fraction : List ℕ) × Spells text negative whole fraction
+    × (z ≡ spelled_value k negative whole fraction))

@@ -6,6 +6,7 @@ use Rattle.std.specs.Result.{result_unwrap_or}
 use Rattle.std.specs.Int.{int_div_euclid}
 use Rattle.dada_model.specs.declared.key.Key.{Key}
 use Rattle.dada_model.specs.declared.key.Key.TheVariants.{Nchan, Nbit, Npol, Ndim, Tsamp, Freq, Bw, ObsOffset}
+use Rattle.dada_model.specs.Edges.{top_khz}
 use Rattle.dada_model.specs.Number.{number_value}
 use Rattle.dada_model.specs.Fields.{Field, value_of}
 
@@ -63,8 +64,8 @@ number_or_default key (Some text) = ok_or (number_value (decimals key) text) (Ba
 unfoldable pub number_of : List Field → Key → Result ℤ Refusal
 number_of fields key = number_or_default key (value_of (keyword key) fields)
 
--- an observation, in the units of the table: a sample has npol values of nbit bits each; the bandwidth is the absolute value of BW, and falling says
--- that BW is negative, so that channel 0 of the file is the highest frequency
+-- an observation, in the units of the table: a sample has npol values of nbit bits each; the bandwidth is the absolute
+-- value of BW, and falling says that BW is negative, so that channel 0 of the file is the highest frequency
 pub record Observation : Type 0 where
   pub channels : ℕ
   pub nbit : ℕ
@@ -124,7 +125,8 @@ is_in_row o Npol z = is_within (pos 1) (pos 2) z
 is_in_row o Ndim z = is_within (pos 1) (pos 1) z
 is_in_row o Tsamp z = is_within (pos 1) (pos (2 ^ 30)) z
 is_in_row o Freq z = is_within (pos 1000) (pos 16000000000) z
-is_in_row o Bw z = not (unsigned_abs z == 0) && (int_le (pos 1) (signed_edge o o.channels) && int_le (signed_edge o 0) (pos 16777216))
+is_in_row o Bw z = not (unsigned_abs z == 0) &&
+    (int_le (pos 1) (signed_edge o o.channels) && int_le (signed_edge o 0) (pos top_khz))
 is_in_row o ObsOffset z = is_within (pos 0) (pos (10 ^ 15)) z
 
 abbrev pub refusal_of_number : Observation → Key → Result ℤ Refusal → Option Refusal

@@ -12,7 +12,8 @@ use Rattle.search_model.proofs.Paths.{path_rises}
 
 channel_count : (f : Filterbank) (e : List ℕ) (d u late c : ℕ) →
     length (channel_cells f e d u late c) ≡ slice_index e (c + 1) + 1 - slice_index e c
-channel_count f e d u late c = length-map-range_with_len _ (slice_index e c) (slice_index e (c + 1) + 1 - slice_index e c)
+channel_count f e d u late c =
+    length-map-range_with_len _ (slice_index e c) (slice_index e (c + 1) + 1 - slice_index e c)
 
 -- the cells of the first k channels: one each, and one more for each spectrum of delay
 front_count : (f : Filterbank) (e : List ℕ) (d u late k : ℕ) → slice_index e 0 ≡ 0 →
@@ -24,8 +25,10 @@ front_count f e d u late (suc k) first rises =
     let before = front_count f e d u late k first (λ c h. rises c (omega arith)) in
     let up = rises k (omega arith) in
     let here = channel_count f e d u late k in
-    let more = sum_by-map-range_with_len_more (λ (x : ℕ). x) (λ c. length (channel_cells f e d u late c)) 0 k k (omega arith) in
-    let whole : sum (map (λ c. length (channel_cells f e d u late c)) (range_with_len 0 (k + 1))) ≡ k + 1 + slice_index e (k + 1) = omega arith in
+    let more = sum_by-map-range_with_len_more (λ (x : ℕ). x) (λ c. length (channel_cells f e d u late c)) 0 k k
+    (omega arith) in
+    let whole : sum (map (λ c. length (channel_cells f e d u late c)) (range_with_len 0 (k + 1)))
+    ≡ k + 1 + slice_index e (k + 1) = omega arith in
     rw e1 at whole
 
 -- a path of delay d over n channels has n + d cells

@@ -41,7 +41,8 @@ max_reached (x ∷ xs) a = elim (max_reached xs (max a x)) [
 -- ---- halvings
 
 module _ (most p room : ℕ) where
-  fitting_member : (m : ℕ) → Contains (filter (λ k. leb (2 ^ k * p) room) (between 1 most)) m → (1 ≤ m) × (m ≤ most) × (2 ^ m * p ≤ room)
+  fitting_member : (m : ℕ) → Contains (filter (λ k. leb (2 ^ k * p) room) (between 1 most)) m →
+      (1 ≤ m) × (m ≤ most) × (2 ^ m * p ≤ room)
   fitting_member m h =
       let both = member_filter (λ k. leb (2 ^ k * p) room) (between 1 most) m h in
       let range = member_between 1 most m both.1 in
@@ -49,7 +50,8 @@ module _ (most p room : ℕ) where
 
   halvings_least : (k : ℕ) → 1 ≤ k → k ≤ most → 2 ^ k * p ≤ room → k ≤ halvings most p room
   halvings_least k some within fits =
-      max_bound _ 0 k (filter_member (λ i. leb (2 ^ i * p) room) (between 1 most) k (le-leb (2 ^ k * p) room fits) (between_member 1 most k some within))
+      max_bound _ 0 k (filter_member (λ i. leb (2 ^ i * p) room) (between 1 most) k (le-leb (2 ^ k * p) room fits)
+      (between_member 1 most k some within))
 
   -- some number fits, and it is the greatest
   pub most_halvings : 0 < halvings most p room → IsMostHalvings most p room (halvings most p room)

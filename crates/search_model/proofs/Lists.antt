@@ -45,7 +45,8 @@ member_if false y x h = absurd (no_member x h)
 pub if_member : {X : Type 0} (b : Bool) (x : X) → b ≡ true → Contains (cond b (x ∷ []) []) x
 if_member b x e = rw e (member_head x [])
 
-filter_step : {X : Type 0} (p : X → Bool) (y : X) (ys : List X) (x : X) → (Contains (filter p ys) x → (p x ≡ true) × Contains ys x) →
+filter_step : {X : Type 0} (p : X → Bool) (y : X) (ys : List X) (x : X) →
+    (Contains (filter p ys) x → (p x ≡ true) × Contains ys x) →
     (b : Bool) → p y ≡ b → Contains (cond b (y ∷ filter p ys) (filter p ys)) x → (p x ≡ true) × Contains (y ∷ ys) x
 filter_step p y ys x before true e h = elim (member_cases y (filter p ys) x h) [
   | inl is ↦ rw (← is) (e, member_head y ys)
@@ -53,7 +54,8 @@ filter_step p y ys x before true e h = elim (member_cases y (filter p ys) x h) [
 ]
 filter_step p y ys x before false e h = let more = before h in (more.0, member_tail y ys x more.1)
 
-pub member_filter : {X : Type 0} (p : X → Bool) (xs : List X) (x : X) → Contains (filter p xs) x → (p x ≡ true) × Contains xs x
+pub member_filter : {X : Type 0} (p : X → Bool) (xs : List X) (x : X) → Contains (filter p xs) x →
+    (p x ≡ true) × Contains xs x
 member_filter p [] x h = absurd (no_member x h)
 member_filter p (y ∷ ys) x h = filter_step p y ys x (member_filter p ys x) (p y) refl h
 
@@ -62,21 +64,24 @@ kept_step : {X : Type 0} (p : X → Bool) (y : X) (ys : List X) (x : X) → Cont
 kept_step p y ys x h true = member_tail y (filter p ys) x h
 kept_step p y ys x h false = h
 
-pub filter_member : {X : Type 0} (p : X → Bool) (xs : List X) (x : X) → p x ≡ true → Contains xs x → Contains (filter p xs) x
+pub filter_member : {X : Type 0} (p : X → Bool) (xs : List X) (x : X) → p x ≡ true → Contains xs x →
+    Contains (filter p xs) x
 filter_member p [] x e h = absurd (no_member x h)
 filter_member p (y ∷ ys) x e h = elim (member_cases y ys x h) [
   | inl is ↦ let first : p y ≡ true = rw is e in rw first (member_first y (filter p ys) x is)
   | inr tail ↦ kept_step p y ys x (filter_member p ys x e tail) (p y)
 ]
 
-pub member_flat_map : {A X : Type 0} (f : A → List X) (firsts : List A) (x : X) → Contains (flat_map f firsts) x → (a : A) × Contains firsts a × Contains (f a) x
+pub member_flat_map : {A X : Type 0} (f : A → List X) (firsts : List A) (x : X) → Contains (flat_map f firsts) x →
+    (a : A) × Contains firsts a × Contains (f a) x
 member_flat_map f [] x h = absurd (no_member x h)
 member_flat_map f (b ∷ bs) x h = elim (Contains-append_cases (f b) (flat_map f bs) x h) [
   | inl here ↦ (b, member_head b bs, here)
   | inr later ↦ let more = member_flat_map f bs x later in (more.0, member_tail b bs more.0 more.1, more.2)
 ]
 
-pub flat_map_member : {A X : Type 0} (f : A → List X) (firsts : List A) (a : A) (x : X) → Contains firsts a → Contains (f a) x → Contains (flat_map f firsts) x
+pub flat_map_member : {A X : Type 0} (f : A → List X) (firsts : List A) (a : A) (x : X) → Contains firsts a →
+    Contains (f a) x → Contains (flat_map f firsts) x
 flat_map_member f [] a x h inside = absurd (no_member a h)
 flat_map_member f (b ∷ bs) a x h inside = elim (member_cases b bs a h) [
   | inl is ↦ Contains-append_left (f b) (flat_map f bs) x (rw is inside)
@@ -105,7 +110,8 @@ no_pairs R = λ i j d below small. absurd (omega arith)
 pub pairs_tail : {X : Type 0} (R : X → X → Type 0) (x : X) (xs : List X) → AllPairs R (x ∷ xs) → AllPairs R xs
 pairs_tail R x xs h = λ i j d below small. h (suc i) (suc j) d (omega arith) (omega arith)
 
-pub pairs_head : {X : Type 0} (R : X → X → Type 0) (x : X) (xs : List X) → AllPairs R (x ∷ xs) → (y : X) → Contains xs y → R x y
+pub pairs_head : {X : Type 0} (R : X → X → Type 0) (x : X) (xs : List X) → AllPairs R (x ∷ xs) → (y : X) →
+    Contains xs y → R x y
 pairs_head R x xs h y (k, small, is) = subst (R x) is (h 0 (suc k) y (omega arith) (omega arith))
 
 pub pairs_append : {X : Type 0} (R : X → X → Type 0) (xs ys : List X) → AllPairs R xs → AllPairs R ys →
@@ -113,11 +119,14 @@ pub pairs_append : {X : Type 0} (R : X → X → Type 0) (xs ys : List X) → Al
 pairs_append R [] ys first second between = second
 pairs_append R (x ∷ xs) ys first second between =
     AllPairs-cons R x (xs ++ ys)
-    (All-append (R x) xs ys (all_members (R x) xs (pairs_head R x xs first)) (all_members (R x) ys (λ y h. between x y (member_head x xs) h)))
+    (All-append (R x) xs ys (all_members (R x) xs (pairs_head R x xs first))
+    (all_members (R x) ys (λ y h. between x y (member_head x xs) h)))
     (pairs_append R xs ys (pairs_tail R x xs first) second (λ z y hz hy. between z y (member_tail x xs z hz) hy))
 
-pub pairs_flat_map : {A X : Type 0} (S : A → A → Type 0) (R : X → X → Type 0) (f : A → List X) (firsts : List A) → AllPairs S firsts →
-    ((a : A) → Contains firsts a → AllPairs R (f a)) → ((a b : A) (x y : X) → S a b → Contains (f a) x → Contains (f b) y → R x y) →
+pub pairs_flat_map : {A X : Type 0} (S : A → A → Type 0) (R : X → X → Type 0) (f : A → List X) (firsts : List A) →
+    AllPairs S firsts →
+    ((a : A) → Contains firsts a → AllPairs R (f a)) →
+    ((a b : A) (x y : X) → S a b → Contains (f a) x → Contains (f b) y → R x y) →
     AllPairs R (flat_map f firsts)
 pairs_flat_map S R f [] ordered inner between = no_pairs R
 pairs_flat_map S R f (a ∷ firsts) ordered inner between =
@@ -131,7 +140,8 @@ pub pairs_range : (a n : ℕ) → AllPairs (λ x y. x < y) (range_with_len a n)
 pairs_range a zero = no_pairs (λ x y. x < y)
 pairs_range a (suc n) =
     AllPairs-cons (λ x y. x < y) a (range_with_len (a + 1) n)
-    (all_members (λ y. a < y) (range_with_len (a + 1) n) (λ y h. let m = member_range (a + 1) n y h in omega (arith, m.0)))
+    (all_members (λ y. a < y) (range_with_len (a + 1) n) (λ y h. let m = member_range (a + 1) n y h in
+    omega (arith, m.0)))
     (pairs_range (a + 1) n)
 
 pub pairs_if : {X : Type 0} (R : X → X → Type 0) (b : Bool) (x : X) → AllPairs R (cond b (x ∷ []) [])
@@ -154,14 +164,16 @@ tails_from R strict x y xs ys rising is into z h =
       | inl same ↦ absurd (strict.never z (subst (λ w. R w z) (is ∙ same) above))
     ]
 
-heads_agree : {X : Type 0} (R : X → X → Type 0) → IsStrict R → (x y : X) (xs ys : List X) → AllPairs R (x ∷ xs) → AllPairs R (y ∷ ys) →
+heads_agree : {X : Type 0} (R : X → X → Type 0) → IsStrict R → (x y : X) (xs ys : List X) → AllPairs R (x ∷ xs) →
+    AllPairs R (y ∷ ys) →
     Contains (y ∷ ys) x → Contains (x ∷ xs) y → x ≡ y
 heads_agree R strict x y xs ys first second hx hy =
     elim (member_cases y ys x hx) [
       | inl is ↦ sym is
       | inr tail ↦ elim (member_cases x xs y hy) [
         | inl is ↦ is
-        | inr other ↦ absurd (strict.never x (strict.follows x y x (pairs_head R x xs first y other) (pairs_head R y ys second x tail)))
+        | inr other ↦ absurd
+            (strict.never x (strict.follows x y x (pairs_head R x xs first y other) (pairs_head R y ys second x tail)))
       ]
     ]
 
@@ -172,7 +184,11 @@ same_members R strict [] [] first second same = refl
 same_members R strict [] (y ∷ ys) first second same = absurd (no_member y ((same y).1 (member_head y ys)))
 same_members R strict (x ∷ xs) [] first second same = absurd (no_member x ((same x).0 (member_head x xs)))
 same_members R strict (x ∷ xs) (y ∷ ys) first second same =
-    let is = heads_agree R strict x y xs ys first second ((same x).0 (member_head x xs)) ((same y).1 (member_head y ys)) in
+    let is = heads_agree R strict x y xs ys first second ((same x).0 (member_head x xs))
+    ((same y).1 (member_head y ys)) in
     let tails = same_members R strict xs ys (pairs_tail R x xs first) (pairs_tail R y ys second)
-    (λ z. (tails_from R strict x y xs ys first is (λ w h. (same w).0 h) z, tails_from R strict y x ys xs second (sym is) (λ w h. (same w).1 h) z)) in
+    (λ z. (
+      tails_from R strict x y xs ys first is (λ w h. (same w).0 h) z,
+      tails_from R strict y x ys xs second (sym is) (λ w h. (same w).1 h) z,
+    )) in
     rw (is, tails) refl

@@ -37,17 +37,20 @@ follows (Pulse e1 d1 w1 s1) (Fold d2 p2 m2 j2 f2 s2) (Fold d3 p3 m3 j3 f3 s3) h 
 follows (Fold d1 p1 m1 j1 f1 s1) (Pulse e2 d2 w2 s2) z h k = absurd h
 follows (Fold d1 p1 m1 j1 f1 s1) (Fold d2 p2 m2 j2 f2 s2) (Pulse e3 d3 w3 s3) h k = absurd k
 follows (Fold d1 p1 m1 j1 f1 s1) (Fold d2 p2 m2 j2 f2 s2) (Fold d3 p3 m3 j3 f3 s3) h k =
-    below_follows d1 d2 d3 _ _ _ (below_follows p1 p2 p3 _ _ _ (below_follows j1 j2 j3 _ _ _ (less_follows f1 f2 f3))) h k
+    below_follows d1 d2 d3 _ _ _
+    (below_follows p1 p2 p3 _ _ _ (below_follows j1 j2 j3 _ _ _ (less_follows f1 f2 f3))) h k
 
 precedes_strict : IsStrict Precedes
 precedes_strict = record { never = never; follows = follows }
 
 -- rising lists with the same members are one list
-pub rising_same : (xs ys : List Candidate) → IsRising xs → IsRising ys → ((c : Candidate) → Contains xs c ↔ Contains ys c) → xs ≡ ys
+pub rising_same : (xs ys : List Candidate) → IsRising xs → IsRising ys →
+    ((c : Candidate) → Contains xs c ↔ Contains ys c) → xs ≡ ys
 rising_same xs ys first second same = same_members Precedes precedes_strict xs ys first second same
 
 -- lists have one merge
-pub merged_same : (parts : List (List Candidate)) (xs ys : List Candidate) → IsMergeOf parts xs → IsMergeOf parts ys → xs ≡ ys
+pub merged_same : (parts : List (List Candidate)) (xs ys : List Candidate) → IsMergeOf parts xs → IsMergeOf parts ys →
+    xs ≡ ys
 merged_same parts xs ys first second =
     rising_same xs ys first.rises second.rises
     (λ c. (λ h. (second.members c).1 ((first.members c).0 h), λ h. (first.members c).1 ((second.members c).0 h)))

@@ -51,7 +51,8 @@ halved_single edges lo hi g h one = record {
 pub halved_join : (edges : List ℕ) (lo hi : ℕ) (g : ℕ → ℕ) → lo + 2 ≤ hi →
     g (middle lo hi) ≡ g lo + split_at edges lo hi (g hi - g lo) →
     IsHalved edges lo (middle lo hi) g → IsHalved edges (middle lo hi) hi g → IsHalved edges lo hi g
-halved_join edges lo hi g h here upper lower = record { splits = λ a b node two. joined edges lo hi g h here upper lower a b node two }
+halved_join edges lo hi g h here upper lower =
+    record { splits = λ a b node two. joined edges lo hi g h here upper lower a b node two }
   where
     joined : (edges : List ℕ) (lo hi : ℕ) (g : ℕ → ℕ) → lo + 2 ≤ hi →
         g (middle lo hi) ≡ g lo + split_at edges lo hi (g hi - g lo) →
@@ -61,10 +62,12 @@ halved_join edges lo hi g h here upper lower = record { splits = λ a b node two
     joined edges lo hi g h here upper lower a b (in_upper _ _ _ node) two = upper.splits a b node two
     joined edges lo hi g h here upper lower a b (in_lower _ _ _ node) two = lower.splits a b node two
 
-pub halved_upper : (edges : List ℕ) (lo hi : ℕ) (g : ℕ → ℕ) → lo + 2 ≤ hi → IsHalved edges lo hi g → IsHalved edges lo (middle lo hi) g
+pub halved_upper : (edges : List ℕ) (lo hi : ℕ) (g : ℕ → ℕ) → lo + 2 ≤ hi → IsHalved edges lo hi g →
+    IsHalved edges lo (middle lo hi) g
 halved_upper edges lo hi g h halved = record { splits = λ a b node two. halved.splits a b (in_upper lo hi h node) two }
 
-pub halved_lower : (edges : List ℕ) (lo hi : ℕ) (g : ℕ → ℕ) → lo + 2 ≤ hi → IsHalved edges lo hi g → IsHalved edges (middle lo hi) hi g
+pub halved_lower : (edges : List ℕ) (lo hi : ℕ) (g : ℕ → ℕ) → lo + 2 ≤ hi → IsHalved edges lo hi g →
+    IsHalved edges (middle lo hi) hi g
 halved_lower edges lo hi g h halved = record { splits = λ a b node two. halved.splits a b (in_lower lo hi h node) two }
 
 -- ---- the computed entries
@@ -100,7 +103,8 @@ entry_lower depth edges lo hi start d k two h =
     rw (le-leb (lo + 2) hi two, lt-leb k (middle lo hi) h, entry) refl
 
 -- 2^(depth + 1) channels are halved into 2^depth and less
-half_depth : (depth lo hi : ℕ) → lo + 2 ≤ hi → hi ≤ lo + 2 ^ suc depth → (middle lo hi ≤ lo + 2 ^ depth) × (hi ≤ middle lo hi + 2 ^ depth)
+half_depth : (depth lo hi : ℕ) → lo + 2 ≤ hi → hi ≤ lo + 2 ^ suc depth →
+    (middle lo hi ≤ lo + 2 ^ depth) × (hi ≤ middle lo hi + 2 ^ depth)
 half_depth depth lo hi two deep =
     let e : 2 ^ suc depth ≡ 2 ^ depth * 2 = pow-suc 2 depth in
     (omega arith, omega arith)
@@ -113,7 +117,8 @@ entries_single edges lo hi start d g h one same = record {
   halved = halved_single edges lo hi g (omega arith) one;
 }
 
-entries_join : (edges : List ℕ) (lo hi start d upper : ℕ) (f1 f2 g : ℕ → ℕ) → lo + 2 ≤ hi → upper ≡ split_at edges lo hi d → upper ≤ d →
+entries_join : (edges : List ℕ) (lo hi start d upper : ℕ) (f1 f2 g : ℕ → ℕ) → lo + 2 ≤ hi →
+    upper ≡ split_at edges lo hi d → upper ≤ d →
     Entries edges lo (middle lo hi) start upper f1 → Entries edges (middle lo hi) hi (start + upper) (d - upper) f2 →
     ((k : ℕ) → k ≤ middle lo hi → g k ≡ f1 k) → ((k : ℕ) → middle lo hi < k → g k ≡ f2 k) →
     Entries edges lo hi start d g
@@ -135,7 +140,8 @@ entries_join edges lo hi start d upper f1 f2 g two is le e1 e2 same1 same2 =
           (halved_same edges (middle lo hi) hi f2 g (omega arith) low_same e2.halved);
     }
 
-pub entry_is : (edges : List ℕ) (n : ℕ) → AreEdges n edges → (depth lo hi start d : ℕ) → lo < hi → hi ≤ n → hi ≤ lo + 2 ^ depth →
+pub entry_is : (edges : List ℕ) (n : ℕ) → AreEdges n edges → (depth lo hi start d : ℕ) → lo < hi → hi ≤ n →
+    hi ≤ lo + 2 ^ depth →
     Entries edges lo hi start d (entry depth edges lo hi start d)
 entry_is edges n band zero lo hi start d h hn deep =
     entries_single edges lo hi start d _ h deep (λ k. entry_last edges lo hi start d k)
@@ -144,20 +150,25 @@ entry_is edges n band (suc depth) lo hi start d h hn deep =
       | inl more ↦
           let two : lo + 2 ≤ hi = omega arith in
           let halves = half_depth depth lo hi two deep in
-          entries_join edges lo hi start d (split_at edges lo hi d) _ _ _ two refl (split_at_le edges n band lo hi d two hn)
-          (entry_is edges n band depth lo (middle lo hi) start (split_at edges lo hi d) (middle_above lo hi two) (omega arith) halves.0)
-          (entry_is edges n band depth (middle lo hi) hi (start + split_at edges lo hi d) (d - split_at edges lo hi d) (middle_below lo hi two) hn halves.1)
+          entries_join edges lo hi start d (split_at edges lo hi d) _ _ _ two refl
+          (split_at_le edges n band lo hi d two hn)
+          (entry_is edges n band depth lo (middle lo hi) start (split_at edges lo hi d) (middle_above lo hi two)
+          (omega arith) halves.0)
+          (entry_is edges n band depth (middle lo hi) hi (start + split_at edges lo hi d) (d - split_at edges lo hi d)
+          (middle_below lo hi two) hn halves.1)
           (λ k under. entry_upper depth edges lo hi start d k two under)
           (λ k over. entry_lower depth edges lo hi start d k two over)
       | inr less ↦
-          entries_single edges lo hi start d _ h (omega arith) (λ k. entry_single depth edges lo hi start d k (omega arith))
+          entries_single edges lo hi start d _ h (omega arith) (λ k.
+          entry_single depth edges lo hi start d k (omega arith))
     ]
 
 -- ---- the laws
 
 pub entry_of_path : (edges : List ℕ) (n d k : ℕ) → k ≤ n → slice_index (path edges n d) k ≡ entry 12 edges 0 n 0 d k
 unfolding path
-entry_of_path edges n d k h = get_or-map-range_with_len (λ i. entry 12 edges 0 n 0 d i) 0 (n + 1) k k 0 (omega arith) (omega arith)
+entry_of_path edges n d k h =
+    get_or-map-range_with_len (λ i. entry 12 edges 0 n 0 d i) 0 (n + 1) k k 0 (omega arith) (omega arith)
 
 length-path : (edges : List ℕ) (n d : ℕ) → length (path edges n d) ≡ n + 1
 unfolding path
@@ -169,7 +180,8 @@ path_is edges n d band =
     let few = band.few in
     let many = band.many in
     let e = entry_is edges n band 12 0 n 0 d (omega arith) (omega arith) (omega arith) in
-    let halved = halved_same edges 0 n _ (λ k. slice_index (path edges n d) k) (omega arith) (λ k from to. entry_of_path edges n d k to) e.halved in
+    let halved = halved_same edges 0 n _ (λ k. slice_index (path edges n d) k) (omega arith) (λ k from to.
+    entry_of_path edges n d k to) e.halved in
     record {
       entries = length-path edges n d;
       first = entry_of_path edges n d 0 (omega arith) ∙ e.begins;
@@ -178,8 +190,10 @@ path_is edges n d band =
     }
 
 -- two ways to halve the same delay between the same edges agree at each edge
-pub same_between : (edges : List ℕ) (n : ℕ) → AreEdges n edges → (depth lo hi : ℕ) (f g : ℕ → ℕ) → lo < hi → hi ≤ n → hi ≤ lo + depth →
-    IsHalved edges lo hi f → IsHalved edges lo hi g → f lo ≡ g lo → f hi ≡ g hi → f lo ≤ f hi → (k : ℕ) → lo ≤ k → k ≤ hi → f k ≡ g k
+pub same_between : (edges : List ℕ) (n : ℕ) → AreEdges n edges → (depth lo hi : ℕ) (f g : ℕ → ℕ) → lo < hi → hi ≤ n →
+    hi ≤ lo + depth →
+    IsHalved edges lo hi f → IsHalved edges lo hi g → f lo ≡ g lo → f hi ≡ g hi → f lo ≤ f hi → (k : ℕ) → lo ≤ k →
+    k ≤ hi → f k ≡ g k
 same_between edges n band zero lo hi f g h hn deep hf hg elo ehi le k from to = absurd (omega arith)
 same_between edges n band (suc depth) lo hi f g h hn deep hf hg elo ehi le k from to =
     elim (cases_lt (lo + 1) hi) [
@@ -196,9 +210,11 @@ same_between edges n band (suc depth) lo hi f g h hn deep hf hg elo ehi le k fro
           let le1 : f lo ≤ f (middle lo hi) = rw mf (omega arith) in
           let le2 : f (middle lo hi) ≤ f hi = rw mf (omega arith) in
           elim (cases_lt (middle lo hi) k) [
-            | inl after ↦ same_between edges n band depth (middle lo hi) hi f g (middle_below lo hi two) hn (omega arith)
+            | inl after ↦ same_between edges n band depth (middle lo hi) hi f g (middle_below lo hi two) hn
+                (omega arith)
                 (halved_lower edges lo hi f two hf) (halved_lower edges lo hi g two hg) em ehi le2 k (omega arith) to
-            | inr before ↦ same_between edges n band depth lo (middle lo hi) f g (middle_above lo hi two) (omega arith) (omega arith)
+            | inr before ↦ same_between edges n band depth lo (middle lo hi) f g (middle_above lo hi two)
+                (omega arith) (omega arith)
                 (halved_upper edges lo hi f two hf) (halved_upper edges lo hi g two hg) elo em le1 k from before
           ]
     ]
@@ -209,11 +225,13 @@ path_is_only edges n d e band is =
     let few = band.few in
     let p = path_is edges n d band in
     same_number_lists e (path edges n d) (is.entries ∙ sym p.entries)
-    (λ k within. same_between edges n band n 0 n (λ i. slice_index e i) (λ i. slice_index (path edges n d) i) (omega arith) (omega arith) (omega arith)
+    (λ k within. same_between edges n band n 0 n (λ i. slice_index e i) (λ i. slice_index (path edges n d) i)
+    (omega arith) (omega arith) (omega arith)
     is.halves p.halves (is.first ∙ sym p.first) (is.last ∙ sym p.last) (rw is.first (omega arith)) k (omega arith)
     (let count = is.entries in omega arith))
 
-pub rises_between : (edges : List ℕ) (n : ℕ) → AreEdges n edges → (depth lo hi : ℕ) (f : ℕ → ℕ) → lo < hi → hi ≤ n → hi ≤ lo + depth →
+pub rises_between : (edges : List ℕ) (n : ℕ) → AreEdges n edges → (depth lo hi : ℕ) (f : ℕ → ℕ) → lo < hi → hi ≤ n →
+    hi ≤ lo + depth →
     IsHalved edges lo hi f → f lo ≤ f hi → (k : ℕ) → lo ≤ k → k < hi → f k ≤ f (k + 1)
 rises_between edges n band zero lo hi f h hn deep hf le k from to = absurd (omega arith)
 rises_between edges n band (suc depth) lo hi f h hn deep hf le k from to =
@@ -231,7 +249,8 @@ rises_between edges n band (suc depth) lo hi f h hn deep hf le k from to =
           elim (cases_lt k (middle lo hi)) [
             | inr after ↦ rises_between edges n band depth (middle lo hi) hi f (middle_below lo hi two) hn (omega arith)
                 (halved_lower edges lo hi f two hf) le2 k after to
-            | inl before ↦ rises_between edges n band depth lo (middle lo hi) f (middle_above lo hi two) (omega arith) (omega arith)
+            | inl before ↦ rises_between edges n band depth lo (middle lo hi) f (middle_above lo hi two) (omega arith)
+                (omega arith)
                 (halved_upper edges lo hi f two hf) le1 k from before
           ]
     ]

@@ -31,13 +31,16 @@ widths_increase (suc (suc (suc (suc zero)))) h = omega arith
 widths_increase (suc (suc (suc (suc (suc k))))) h = absurd (omega arith)
 
 widths_rise : (s : Search) → AllPairs Less (widths s)
-widths_rise s = AllPairs-filter Less (λ w. leb w s.widest) box_widths (AllPairs-from_increasing box_widths widths_increase)
+widths_rise s = AllPairs-filter Less (λ w. leb w s.widest) box_widths
+    (AllPairs-from_increasing box_widths widths_increase)
 
 between_rises : (a b : ℕ) → AllPairs Less (between a b)
 between_rises a b = pairs_range a (b + 1 - a)
 
 fold_delays_rise : (s : Search) → AllPairs Less (fold_delays s)
-fold_delays_rise s = AllPairs-filter Less (λ d. eqb ((d - s.min_delay) % s.fold_step) 0) (delays s) (between_rises s.min_delay s.max_delay)
+fold_delays_rise s =
+    AllPairs-filter Less (λ d. eqb ((d - s.min_delay) % s.fold_step) 0) (delays s)
+    (between_rises s.min_delay s.max_delay)
 
 -- ---- candidates by their parts
 
@@ -50,14 +53,16 @@ pairs_where R false xs h = no_pairs R
 
 module _ (f : Filterbank) (edges : List ℕ) (cells : ℕ → ℕ) (s : Search) where
   -- a pulse of an end and a delay
-  of_delay : (u d : ℕ) (x : Candidate) → Contains (pulses_at f edges cells s u d) x → (w : ℕ) × (sum : ℕ) × (Pulse u d w sum ≡ x)
+  of_delay : (u d : ℕ) (x : Candidate) → Contains (pulses_at f edges cells s u d) x →
+      (w : ℕ) × (sum : ℕ) × (Pulse u d w sum ≡ x)
   of_delay u d x h =
       let one = member_flat_map (λ w. pulse_at f edges cells s u d w) (widths s) x h in
       let at = pulse_member f edges cells s u d one.0 x one.2 in
       (one.0, _, at.is)
 
   -- a pulse of an end
-  of_end : (u : ℕ) (x : Candidate) → Contains (pulses_ending f edges cells s u) x → (d : ℕ) × (w : ℕ) × (sum : ℕ) × (Pulse u d w sum ≡ x)
+  of_end : (u : ℕ) (x : Candidate) → Contains (pulses_ending f edges cells s u) x →
+      (d : ℕ) × (w : ℕ) × (sum : ℕ) × (Pulse u d w sum ≡ x)
   of_end u x h =
       let one = member_flat_map (λ d. pulses_at f edges cells s u d) (delays s) x h in
       let at = of_delay u one.0 x one.2 in
@@ -80,7 +85,8 @@ module _ (f : Filterbank) (edges : List ℕ) (cells : ℕ → ℕ) (s : Search) 
 
   pulses_ending_rise : (u : ℕ) → IsRising (pulses_ending f edges cells s u)
   pulses_ending_rise u =
-      pairs_flat_map Less Precedes (λ d. pulses_at f edges cells s u d) (delays s) (between_rises s.min_delay s.max_delay)
+      pairs_flat_map Less Precedes (λ d. pulses_at f edges cells s u d) (delays s)
+      (between_rises s.min_delay s.max_delay)
       (λ d h. pulses_at_rise u d)
       (λ d e x y less hx hy.
       let a = of_delay u d x hx in
@@ -89,7 +95,8 @@ module _ (f : Filterbank) (edges : List ℕ) (cells : ℕ → ℕ) (s : Search) 
 
   pulses_rise : IsRising (pulses f edges cells s)
   pulses_rise =
-      pairs_flat_map Less Precedes (λ u. pulses_ending f edges cells s u) (range_with_len 0 f.spectra) (pairs_range 0 f.spectra)
+      pairs_flat_map Less Precedes (λ u. pulses_ending f edges cells s u) (range_with_len 0 f.spectra)
+      (pairs_range 0 f.spectra)
       (λ u h. pulses_ending_rise u)
       (λ u v x y less hx hy.
       let a = of_end u x hx in
@@ -135,7 +142,8 @@ module _ (f : Filterbank) (edges : List ℕ) (cells : ℕ → ℕ) (s : Search) 
   period_rises d p =
       let m = halvings s.fold_rows p (f.spectra - d) in
       pairs_where Precedes (ltb 0 m) _
-      (pairs_flat_map Less Precedes (λ j. folds_of_trial f edges cells s d p m j) (range_with_len 0 (2 ^ m)) (pairs_range 0 (2 ^ m))
+      (pairs_flat_map Less Precedes (λ j. folds_of_trial f edges cells s d p m j) (range_with_len 0 (2 ^ m))
+      (pairs_range 0 (2 ^ m))
       (λ j h. trial_rises d p m j)
       (λ j k x y less hx hy.
       let a = of_trial d p m j x hx in
@@ -161,7 +169,8 @@ module _ (f : Filterbank) (edges : List ℕ) (cells : ℕ → ℕ) (s : Search) 
       precedes_as _ x _ y a.5 b.5 (inl less))
 
   -- pulses stand before folds
-  pulse_first : (x y : Candidate) → Contains (pulses f edges cells s) x → Contains (folds f edges cells s) y → Precedes x y
+  pulse_first : (x y : Candidate) → Contains (pulses f edges cells s) x → Contains (folds f edges cells s) y →
+      Precedes x y
   pulse_first x y hx hy =
       let end = member_flat_map (λ u. pulses_ending f edges cells s u) (range_with_len 0 f.spectra) x hx in
       let delay = member_flat_map (λ d. folds_of_delay f edges cells s d) (fold_delays s) y hy in

@@ -30,16 +30,21 @@ part_members s k list c =
           let tests = and_parts (leb least (delay_of c)) (ltb (delay_of c) bound) both.0 in
           (both.1, leb-true least (delay_of c) tests.0, ltb-true (delay_of c) bound tests.1),
       λ (stands, from, to).
-          filter_member test list c (and_from (leb least (delay_of c)) (ltb (delay_of c) bound) (le-leb least (delay_of c) from) (lt-ltb (delay_of c) bound to)) stands,
+          filter_member test list c
+          (and_from (leb least (delay_of c)) (ltb (delay_of c) bound) (le-leb least (delay_of c) from)
+          (lt-ltb (delay_of c) bound to)) stands,
     )
 
 pub part_rises : (s : Search) (k : ℕ) (list : List Candidate) → IsRising list → IsRising (shard_part s k list)
-part_rises s k list h = AllPairs-filter Precedes (λ x. leb (shard_start s k) (delay_of x) && ltb (delay_of x) (shard_start s (k + 1))) list h
+part_rises s k list h =
+    AllPairs-filter Precedes (λ x.
+    leb (shard_start s k) (delay_of x) && ltb (delay_of x) (shard_start s (k + 1))) list h
 
 -- ---- all parts
 
 -- a number between the first and the last of some bounds lies between two neighbours of them
-neighbours : (bound : ℕ → ℕ) (d n : ℕ) → bound 0 ≤ d → d < bound n → (k : ℕ) × (k < n) × (bound k ≤ d) × (d < bound (k + 1))
+neighbours : (bound : ℕ → ℕ) (d n : ℕ) → bound 0 ≤ d → d < bound n →
+    (k : ℕ) × (k < n) × (bound k ≤ d) × (d < bound (k + 1))
 neighbours bound d zero from to = absurd (omega arith)
 neighbours bound d (suc n) from to = elim (cases_lt d (bound n)) [
   | inl below ↦ let one = neighbours bound d n from below in (one.0, omega (arith, one.1), one.2, one.3)
@@ -52,20 +57,23 @@ first_start s some = let none : 0 * delay_count s / s.shards ≡ 0 = omega arith
 last_start : (s : Search) → 1 ≤ s.shards → shard_start s s.shards ≡ s.min_delay + delay_count s
 last_start s some =
     let e : s.shards * delay_count s ≡ delay_count s * s.shards = omega arith in
-    let all : s.shards * delay_count s / s.shards ≡ delay_count s = rw e (mul-div_cancel (delay_count s) {n = s.shards} some) in
+    let all : s.shards * delay_count s / s.shards ≡ delay_count s =
+    rw e (mul-div_cancel (delay_count s) {n = s.shards} some) in
     omega arith
 
 -- a delay of the search lies in one shard
 in_shard : (s : Search) (d : ℕ) → 1 ≤ s.shards → s.min_delay ≤ d → d ≤ s.max_delay →
     (k : ℕ) × (k < s.shards) × (shard_start s k ≤ d) × (d < shard_start s (k + 1))
 in_shard s d some from to =
-    neighbours (shard_start s) d s.shards (let first = first_start s some in omega arith) (let last = last_start s some in omega arith)
+    neighbours (shard_start s) d s.shards (let first = first_start s some in
+    omega arith) (let last = last_start s some in omega arith)
 
 module _ (f : Filterbank) (edges : List ℕ) (cells : ℕ → ℕ) (s : Search) (some : 1 ≤ s.shards) where
   list : List Candidate
   list = candidates f edges cells s
 
-  delay_within : (c : Candidate) → IsCandidate f edges cells s c → (s.min_delay ≤ delay_of c) × (delay_of c ≤ s.max_delay)
+  delay_within : (c : Candidate) → IsCandidate f edges cells s c →
+      (s.min_delay ≤ delay_of c) × (delay_of c ≤ s.max_delay)
   delay_within (Pulse end delay width sum) is = (is.least_delay, is.most_delay)
   delay_within (Fold delay period halvings trial phase sum) is = (is.least_delay, is.most_delay)
 
@@ -81,8 +89,13 @@ module _ (f : Filterbank) (edges : List ℕ) (cells : ℕ → ℕ) (s : Search) 
       let within = delay_within c ((candidate_listed f edges cells s c).0 h) in
       let shard = in_shard s (delay_of c) some within.0 within.1 in
       let count = parts_count in
-      let small = shard.1 in
-      (shard.0, shard_part s shard.0 list, omega arith, part_at shard.0 _ shard.1, (part_members s shard.0 list c).1 (h, shard.2, shard.3))
+      let small = shard.1 in (
+        shard.0,
+        shard_part s shard.0 list,
+        omega arith,
+        part_at shard.0 _ shard.1,
+        (part_members s shard.0 list c).1 (h, shard.2, shard.3),
+      )
 
   from_part : (c : Candidate) → Any (λ part. Contains part c) (shard_parts s list) → Contains list c
   from_part c (k, part, small, is, h) =

@@ -1,8 +1,9 @@
 -- Bounds on the split of a delay.
 use Rattle.std.proofs.Common.{◌≡◌, ℕ, ◌+◌, ◌-◌, ◌*◌, ◌/◌, ◌%◌, ◌≤◌, ◌<◌, arith}
 use Rattle.std.proofs.lemmas.Nat.{mul-le, le-div, div_below}
+use Rattle.dada_model.specs.Observation.{square}
 use Rattle.search_model.specs.SubbandLaws.{Steps}
-use Rattle.search_model.specs.Paths.{split, square}
+use Rattle.search_model.specs.Paths.{split}
 
 square_below : (a b : ℕ) → a < b → square a < square b
 square_below a b h = omega (arith, mul-le (a + 1) (a + 1) b b (omega arith) (omega arith))
@@ -46,5 +47,6 @@ rounded_steps p q d h =
       by_one = rw more (let most = div_below (a + 2 * p) (2 * q) (a / (2 * q) + 2) (omega arith) below in omega arith);
     }
 
-pub split_steps : (high mid low d : ℕ) → low < mid → mid < high → Steps (split high mid low d) (split high mid low (d + 1))
+pub split_steps : (high mid low d : ℕ) → low < mid → mid < high →
+    Steps (split high mid low d) (split high mid low (d + 1))
 split_steps high mid low d lm mh = rounded_steps _ _ d (part_below high mid low lm mh)

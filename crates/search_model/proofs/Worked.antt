@@ -1,16 +1,18 @@
 -- Worked values of the definitions: two channels, FREQ 1400, BW -200, TSAMP 64, and the data bytes 10 0 0 20 0 0.
-use Rattle.std.proofs.Common.{◌≡◌, ℕ, ◌+◌, List, [], ◌∷◌, ◌++◌, refl, true, false, map, slice_index, codes}
+use Rattle.std.proofs.Common.{◌≡◌, ℕ, ◌+◌, ◌*◌, List, [], ◌∷◌, ◌++◌, refl, true, false, map, slice_index, codes, Some, None}
 use Rattle.std.specs.Fmt.{digits}
 use Rattle.dada_model.specs.Observation.{Observation, edges, dm, dispersion_span, edge, signed_edge}
 use Rattle.search_model.specs.declared.search.Search.{Search}
 use Rattle.search_model.specs.Samples.{Filterbank, samples_of, filterbank}
 use Rattle.search_model.specs.Paths.{split_at, entry, path}
-use Rattle.search_model.specs.Sums.{path_sum, box_sum}
+use Rattle.search_model.specs.Sums.{path_cells, path_sum, box_sum}
 use Rattle.search_model.specs.Subbands.{node_sum}
 use Rattle.search_model.specs.Folds.{shift, fold_sum}
 use Rattle.search_model.specs.Detection.{is_detected}
-use Rattle.search_model.specs.Candidates.{candidates}
-use Rattle.search_model.specs.CandidateText.{Labels, pulse_word, candidate_text}
+use Rattle.search_model.specs.Search.{shard_start}
+use Rattle.search_model.specs.Plan.{SumBound, FoldTooLarge, TooManyFolds, TooManyShards, plan_refusal}
+use Rattle.search_model.specs.Candidates.{plain_cells, candidates}
+use Rattle.search_model.specs.CandidateText.{plain_labels, candidate_text}
 
 -- ---- paths
 
@@ -26,6 +28,13 @@ paths : map (λ d. path three_edges 2 d) (0 ∷ 1 ∷ 2 ∷ 3 ∷ 4 ∷ [])
     ≡ (0 ∷ 0 ∷ 0 ∷ []) ∷ (0 ∷ 0 ∷ 1 ∷ []) ∷ (0 ∷ 1 ∷ 2 ∷ []) ∷ (0 ∷ 1 ∷ 3 ∷ []) ∷ (0 ∷ 2 ∷ 4 ∷ []) ∷ []
 unfolding three_edges path entry
 paths = refl
+
+-- the cells of the path of delay 4 that ends at spectrum 4: spectra 0 to 2 of channel 0, and 2 to 4 of channel 1, where
+-- spectrum t of channel c holds 10 c + t
+cells_of_4 : path_cells (record { channels = 2; spectra = 5; value = λ c t. 10 * c + t }) (path three_edges 2 4) 4 4 0
+    ≡ 0 ∷ 1 ∷ 2 ∷ 12 ∷ 13 ∷ 14 ∷ []
+unfolding three_edges path entry
+cells_of_4 = refl
 
 -- ---- sums
 
@@ -46,7 +55,8 @@ unfolding three_edges entry
 lower_sums = refl
 
 -- boxes that begin before the data have nothing there: width 2 and width 4 of delay 0
-early_boxes : map (λ u. box_sum sample three_edges u 0 2) (0 ∷ 1 ∷ 2 ∷ []) ++ map (λ u. box_sum sample three_edges u 0 4) (0 ∷ 1 ∷ 2 ∷ [])
+early_boxes : map (λ u. box_sum sample three_edges u 0 2) (0 ∷ 1 ∷ 2 ∷ []) ++ map (λ u.
+    box_sum sample three_edges u 0 4) (0 ∷ 1 ∷ 2 ∷ [])
     ≡ 10 ∷ 30 ∷ 20 ∷ 10 ∷ 30 ∷ 30 ∷ []
 unfolding three_edges path entry
 early_boxes = refl
@@ -75,11 +85,13 @@ wide_added_samples = refl
 -- ---- folds
 
 -- four rows are shifted by 0, 0, 1, 1 in trial 1, and by 0, 1, 2, 3 in trial 3
-shifts : map (λ j. map (λ i. shift 2 j i) (0 ∷ 1 ∷ 2 ∷ 3 ∷ [])) (1 ∷ 3 ∷ []) ≡ (0 ∷ 0 ∷ 1 ∷ 1 ∷ []) ∷ (0 ∷ 1 ∷ 2 ∷ 3 ∷ []) ∷ []
+shifts : map (λ j. map (λ i. shift 2 j i) (0 ∷ 1 ∷ 2 ∷ 3 ∷ [])) (1 ∷ 3 ∷ [])
+    ≡ (0 ∷ 0 ∷ 1 ∷ 1 ∷ []) ∷ (0 ∷ 1 ∷ 2 ∷ 3 ∷ []) ∷ []
 shifts = refl
 
 -- 1 2 3 4 at period 2: trial 0 gives 4 6, trial 1 gives 5 5
-folded : map (λ j. map (λ phase. fold_sum (1 ∷ 2 ∷ 3 ∷ 4 ∷ []) 2 1 j phase) (0 ∷ 1 ∷ [])) (0 ∷ 1 ∷ []) ≡ (4 ∷ 6 ∷ []) ∷ (5 ∷ 5 ∷ []) ∷ []
+folded : map (λ j. map (λ phase. fold_sum (1 ∷ 2 ∷ 3 ∷ 4 ∷ []) 2 1 j phase) (0 ∷ 1 ∷ [])) (0 ∷ 1 ∷ [])
+    ≡ (4 ∷ 6 ∷ []) ∷ (5 ∷ 5 ∷ []) ∷ []
 folded = refl
 
 -- ---- detection
@@ -91,10 +103,16 @@ equality = refl
 -- ---- texts
 
 abbrev two_channels : Observation
-two_channels = record { channels = 2; nbit = 8; npol = 1; sample_ns = 64000; centre_hz = 1400000000; width_hz = 200000000; is_falling = true; obs_offset = 0 }
-
-abbrev labels : Labels
-labels = record { dm = dm two_channels; cells = λ d. 2 + d; word = pulse_word }
+two_channels = record {
+  channels = 2;
+  nbit = 8;
+  npol = 1;
+  sample_ns = 64000;
+  centre_hz = 1400000000;
+  width_hz = 200000000;
+  is_falling = true;
+  obs_offset = 0;
+}
 
 abbrev plain_search : Search
 plain_search = record {
@@ -113,33 +131,82 @@ plain_search = record {
   snr = 700;
 }
 
-one_pulse : candidate_text labels 3 (candidates sample (edges two_channels) labels.cells plain_search)
-    ≡ codes "PULSE 1 1 0.104 1 30 3\nEND 1 0 3\n"
+-- the text of a search of two channels
+abbrev text_of : Filterbank → Search → List ℕ
+text_of f s =
+    candidate_text (plain_labels (dm two_channels) 2) f.spectra (candidates f (edges two_channels) (plain_cells 2) s)
+
+one_pulse : text_of sample plain_search ≡ codes "PULSE 1 1 0.104 1 30 3\nEND 1 0 3\n"
 unfolding digits edges edge signed_edge dm dispersion_span path entry
 one_pulse = refl
+
+nothing : text_of (filterbank 2 true []) plain_search ≡ codes "END 0 0 0\n"
+unfolding digits edges edge signed_edge dm dispersion_span path entry
+nothing = refl
+
+-- the same pulse in samples of 16 bits, and in two polarisations
+one_wide_pulse : map (λ bytes. text_of (filterbank 2 true bytes) plain_search)
+    (samples_of 16 1 (10 ∷ 0 ∷ 0 ∷ 0 ∷ 0 ∷ 0 ∷ 20 ∷ 0 ∷ 0 ∷ 0 ∷ 0 ∷ 0 ∷ [])
+    ∷ samples_of 8 2 (4 ∷ 6 ∷ 0 ∷ 0 ∷ 0 ∷ 0 ∷ 20 ∷ 0 ∷ 0 ∷ 0 ∷ 0 ∷ 0 ∷ []) ∷ [])
+    ≡ codes "PULSE 1 1 0.104 1 30 3\nEND 1 0 3\n" ∷ codes "PULSE 1 1 0.104 1 30 3\nEND 1 0 3\n" ∷ []
+unfolding digits edges edge signed_edge dm dispersion_span path entry
+one_wide_pulse = refl
+
+-- the box of two spectra is judged where it begins at its delay
+two_widths : text_of sample (record plain_search { widest = 2 })
+    ≡ codes "PULSE 1 1 0.104 1 30 3\nPULSE 2 1 0.104 2 50 6\nEND 2 0 3\n"
+unfolding digits edges edge signed_edge dm dispersion_span path entry
+two_widths = refl
 
 abbrev fold_search : Search
 fold_search = record plain_search { max_delay = 0; fold_max = 2; fold_rows = 1; mean = 0; sd = 1000; snr = 200 }
 
-abbrev rising_series : Filterbank
-rising_series = filterbank 2 true (1 ∷ 0 ∷ 2 ∷ 0 ∷ 3 ∷ 0 ∷ 4 ∷ 0 ∷ [])
-
 -- two rows of two spectra are folded at both trials
-folds_and_pulses : candidate_text labels 4 (candidates rising_series (edges two_channels) labels.cells fold_search)
+folds_and_pulses : text_of (filterbank 2 true (1 ∷ 0 ∷ 2 ∷ 0 ∷ 3 ∷ 0 ∷ 4 ∷ 0 ∷ [])) fold_search
     ≡ codes "PULSE 2 0 0.000 1 3 2\nPULSE 3 0 0.000 1 4 2\nFOLD 0 0.000 2 2 0 0 4 4\nFOLD 0 0.000 2 2 0 1 6 4\n"
     ++ codes "FOLD 0 0.000 2 2 1 0 5 4\nFOLD 0 0.000 2 2 1 1 5 4\nEND 2 4 4\n"
 unfolding digits edges edge signed_edge dm dispersion_span path entry
 folds_and_pulses = refl
 
+-- with three spectra there is no room for two rows
+no_room : text_of (filterbank 2 true (1 ∷ 0 ∷ 2 ∷ 0 ∷ 3 ∷ 0 ∷ [])) fold_search
+    ≡ codes "PULSE 2 0 0.000 1 3 2\nEND 1 0 3\n"
+unfolding digits edges edge signed_edge dm dispersion_span path entry
+no_room = refl
+
+-- ---- plans
+
+plans : map (λ s. plan_refusal 255 2 s)
+    (plain_search ∷ record plain_search { shards = 3 } ∷ record plain_search { fold_max = 1048576; fold_rows = 3 }
+    ∷ record plain_search { max_delay = 64; fold_max = 2; fold_step = 1 } ∷ [])
+    ≡ None ∷ Some (TooManyShards 3 2) ∷ Some (FoldTooLarge 1048576 3) ∷ Some (TooManyFolds 65) ∷ []
+plans = refl
+
+wide_plans : map (λ w. plan_refusal 131070 1024 (record plain_search { max_delay = 512; widest = w })) (16 ∷ 32 ∷ [])
+    ≡ None ∷ Some (SumBound 131070 1536 32) ∷ []
+wide_plans = refl
+
+long_folds : plan_refusal 255 4096
+    (record plain_search { max_delay = 8192; fold_max = 2; fold_rows = 12; fold_step = 8192 })
+    ≡ Some (SumBound 255 12288 4096)
+long_folds = refl
+
+-- seven delays in three shards
+starts : map (shard_start (record plain_search { min_delay = 5; max_delay = 11; shards = 3 })) (0 ∷ 1 ∷ 2 ∷ 3 ∷ [])
+    ≡ 5 ∷ 7 ∷ 9 ∷ 12 ∷ []
+starts = refl
+
 -- ---- many channels
 
-abbrev of_channels : ℕ → Observation
-of_channels n = record { channels = n; nbit = 8; npol = 1; sample_ns = 64000; centre_hz = 1382000000; width_hz = 400000000; is_falling = true; obs_offset = 0 }
+abbrev wide_band : ℕ → Observation
+wide_band n = record two_channels { channels = n; centre_hz = 1382000000; width_hz = 400000000 }
 
-path_of_64 : map (λ k. slice_index (path (edges (of_channels 64)) 64 64) k) (1 ∷ 8 ∷ 16 ∷ 32 ∷ 48 ∷ 63 ∷ 64 ∷ []) ≡ 0 ∷ 5 ∷ 11 ∷ 25 ∷ 42 ∷ 62 ∷ 64 ∷ []
+path_of_64 : map (λ k. slice_index (path (edges (wide_band 64)) 64 64) k) (1 ∷ 8 ∷ 16 ∷ 32 ∷ 48 ∷ 63 ∷ 64 ∷ [])
+    ≡ 0 ∷ 5 ∷ 11 ∷ 25 ∷ 42 ∷ 62 ∷ 64 ∷ []
 unfolding edges edge signed_edge path entry
 path_of_64 = refl
 
-path_of_1024 : map (λ k. slice_index (path (edges (of_channels 1024)) 1024 512) k) (1 ∷ 512 ∷ 1023 ∷ []) ≡ 0 ∷ 201 ∷ 511 ∷ []
+path_of_1024 : map (λ k. slice_index (path (edges (wide_band 1024)) 1024 512) k) (1 ∷ 512 ∷ 1023 ∷ [])
+    ≡ 0 ∷ 201 ∷ 511 ∷ []
 unfolding edges edge signed_edge path entry
 path_of_1024 = refl

@@ -12,9 +12,10 @@ use Rattle.search_model.specs.Search.{box_widths, shard_start}
 use Rattle.search_model.specs.Candidates.{delay_of, candidates, shard_part}
 use Rattle.search_model.specs.Order.{IsRising, IsMergeOf}
 
--- a box is searched: it ends at a spectrum, its delay and width are among those of the search, it begins at its delay or later,
--- and its sum is detected
-pub record IsPulse (f : Filterbank) (edges : List ℕ) (cells : ℕ → ℕ) (s : Search) (end delay width sum : ℕ) : Type 0 where
+-- a box is searched: it ends at a spectrum, its delay and width are among those of the search, it begins at its delay
+-- or later, and its sum is detected
+pub record IsPulse (f : Filterbank) (edges : List ℕ) (cells : ℕ →
+    ℕ) (s : Search) (end delay width sum : ℕ) : Type 0 where
   pub ends : end < f.spectra
   pub least_delay : s.min_delay ≤ delay
   pub most_delay : delay ≤ s.max_delay
@@ -31,9 +32,10 @@ pub record IsMostHalvings (most p room m : ℕ) : Type 0 where
   pub fits : 2 ^ m * p ≤ room
   pub greatest : (k : ℕ) → k ≤ most → 2 ^ k * p ≤ room → k ≤ m
 
--- a fold is searched: its delay is one of those that are folded, its period is searched, it has as many rows as fit into the
--- series of its delay, a trial and a phase of theirs, and its sum is detected
-pub record IsFold (f : Filterbank) (edges : List ℕ) (cells : ℕ → ℕ) (s : Search) (delay period halvings trial phase sum : ℕ) : Type 0 where
+-- a fold is searched: its delay is one of those that are folded, its period is searched, it has as many rows as fit
+-- into the series of its delay, a trial and a phase of theirs, and its sum is detected
+pub record IsFold (f : Filterbank) (edges : List ℕ) (cells : ℕ →
+    ℕ) (s : Search) (delay period halvings trial phase sum : ℕ) : Type 0 where
   pub least_delay : s.min_delay ≤ delay
   pub most_delay : delay ≤ s.max_delay
   pub step : (delay - s.min_delay) % s.fold_step ≡ 0
@@ -47,7 +49,8 @@ pub record IsFold (f : Filterbank) (edges : List ℕ) (cells : ℕ → ℕ) (s :
 
 abbrev pub IsCandidate : Filterbank → List ℕ → (ℕ → ℕ) → Search → Candidate → Type 0
 IsCandidate f edges cells s (Pulse end delay width sum) = IsPulse f edges cells s end delay width sum
-IsCandidate f edges cells s (Fold delay period halvings trial phase sum) = IsFold f edges cells s delay period halvings trial phase sum
+IsCandidate f edges cells s (Fold delay period halvings trial phase sum) =
+    IsFold f edges cells s delay period halvings trial phase sum
 
 -- the candidate list has exactly the candidates
 abbrev pub CandidatesAreListed : Type 0
@@ -60,15 +63,17 @@ CandidatesRise = (f : Filterbank) (edges : List ℕ) (cells : ℕ → ℕ) (s : 
 
 -- rising lists that have the same members are one list; so lists have one merge
 pub record RisingListsAgree : Type 0 where
-  pub lists : (xs ys : List Candidate) → IsRising xs → IsRising ys → ((c : Candidate) → Contains xs c ↔ Contains ys c) → xs ≡ ys
-  pub merges : (parts : List (List Candidate)) (xs ys : List Candidate) → IsMergeOf parts xs → IsMergeOf parts ys → xs ≡ ys
+  pub lists : (xs ys : List Candidate) → IsRising xs → IsRising ys →
+      ((c : Candidate) → Contains xs c ↔ Contains ys c) → xs ≡ ys
+  pub merges : (parts : List (List Candidate)) (xs ys : List Candidate) → IsMergeOf parts xs → IsMergeOf parts ys →
+      xs ≡ ys
 
 -- the parts of all shards
 abbrev pub shard_parts : Search → List Candidate → List (List Candidate)
 shard_parts s list = map (λ k. shard_part s k list) (range_with_len 0 s.shards)
 
--- a part has the members whose delays are the shard's, and rises where the list does; the parts of all shards are merged to the
--- candidate list
+-- a part has the members whose delays are the shard's, and rises where the list does; the parts of all shards are
+-- merged to the candidate list
 pub record ShardsMerge : Type 0 where
   pub members : (s : Search) (k : ℕ) (list : List Candidate) (c : Candidate) →
       Contains (shard_part s k list) c

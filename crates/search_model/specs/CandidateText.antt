@@ -4,7 +4,7 @@ use Rattle.std.specs.List.{flat_map}
 use Rattle.std.specs.Fmt.{decimal}
 use Rattle.search_model.specs.declared.candidate.Candidate.{Candidate}
 use Rattle.search_model.specs.declared.candidate.Candidate.TheVariants.{Pulse, Fold}
-use Rattle.search_model.specs.Candidates.{cells_of}
+use Rattle.search_model.specs.Candidates.{plain_cells, cells_of}
 
 -- the three digits of a number below a thousand
 abbrev pub three_digits : ℕ → List ℕ
@@ -14,22 +14,29 @@ three_digits n = (48 + n / 100) ∷ (48 + n / 10 % 10) ∷ (48 + n % 10) ∷ []
 abbrev pub thousandths : ℕ → List ℕ
 thousandths n = decimal (n / 1000) ++ codes "." ++ three_digits (n % 1000)
 
--- What a line says besides its candidate: the dispersion measure of a delay in thousandths, how many cells a path sum of a delay
--- has, and the first word of the line of a pulse that ends at a spectrum (PULSE where nothing else is said of it).
+-- What a line says besides its candidate: the dispersion measure of a delay in thousandths, how many cells a path sum
+-- of a delay has, and the first word of the line of a pulse that ends at a spectrum.
 pub record Labels : Type 0 where
   pub dm : ℕ → ℕ
   pub cells : ℕ → ℕ
   pub word : ℕ → List ℕ
 
--- PULSE, the end, the delay, the dispersion measure, the width, the sum, the cells; or
+-- those of a search over all of n channels, which marks no pulse
+abbrev pub plain_labels : (ℕ → ℕ) → ℕ → Labels
+plain_labels dm n = record { dm = dm; cells = plain_cells n; word = λ end. codes "PULSE" }
+
+-- the word, the end, the delay, the dispersion measure, the width, the sum, the cells; or
 -- FOLD, the delay, the dispersion measure, the period, the rows, the trial, the phase, the sum, the cells
 abbrev pub candidate_line : Labels → Candidate → List ℕ
 candidate_line l (Pulse end delay width sum) =
-    l.word end ++ codes " " ++ decimal end ++ codes " " ++ decimal delay ++ codes " " ++ thousandths (l.dm delay) ++ codes " "
-    ++ decimal width ++ codes " " ++ decimal sum ++ codes " " ++ decimal (cells_of l.cells (Pulse end delay width sum)) ++ codes "\n"
+    l.word end ++ codes " " ++ decimal end ++ codes " " ++ decimal delay ++ codes " " ++ thousandths
+    (l.dm delay) ++ codes " "
+    ++ decimal width ++ codes " " ++ decimal sum ++ codes " " ++ decimal
+    (cells_of l.cells (Pulse end delay width sum)) ++ codes "\n"
 candidate_line l (Fold delay period halvings trial phase sum) =
     codes "FOLD " ++ decimal delay ++ codes " " ++ thousandths (l.dm delay) ++ codes " " ++ decimal period ++ codes " "
-    ++ decimal (2 ^ halvings) ++ codes " " ++ decimal trial ++ codes " " ++ decimal phase ++ codes " " ++ decimal sum ++ codes " "
+    ++ decimal (2 ^ halvings) ++ codes " " ++ decimal trial ++ codes " " ++ decimal phase ++ codes " " ++ decimal sum
+    ++ codes " "
     ++ decimal (cells_of l.cells (Fold delay period halvings trial phase sum)) ++ codes "\n"
 
 -- END, how many pulses, how many folds, how many spectra
@@ -47,8 +54,5 @@ is_fold (Fold _ _ _ _ _ _) = true
 
 -- the text of a list of candidates over so many spectra
 abbrev pub candidate_text : Labels → ℕ → List Candidate → List ℕ
-candidate_text l spectra list = flat_map (candidate_line l) list ++ end_line (count_by is_pulse list) (count_by is_fold list) spectra
-
--- the word of each pulse where none is marked
-abbrev pub pulse_word : ℕ → List ℕ
-pulse_word end = codes "PULSE"
+candidate_text l spectra list =
+    flat_map (candidate_line l) list ++ end_line (count_by is_pulse list) (count_by is_fold list) spectra

@@ -18,7 +18,11 @@ abbrev pub sum_of : Candidate → ℕ
 sum_of (Pulse _ _ _ sum) = sum
 sum_of (Fold _ _ _ _ _ sum) = sum
 
--- how many cells were added up; `cells d` is how many a path sum of delay d has (n + d where n channels are searched)
+-- how many cells a path sum of delay d over n channels has
+abbrev pub plain_cells : ℕ → ℕ → ℕ
+plain_cells n d = n + d
+
+-- how many cells were added up, where a path sum of delay d has `cells d`
 abbrev pub cells_of : (ℕ → ℕ) → Candidate → ℕ
 cells_of cells (Pulse _ delay width _) = width * cells delay
 cells_of cells (Fold delay _ halvings _ _ _) = 2 ^ halvings * cells delay
@@ -46,7 +50,8 @@ pulses f edges cells s = flat_map (λ u. pulses_ending f edges cells s u) (range
 
 -- the fold of the series of delay d by m halvings of period p, at a trial and a phase, if it is detected
 abbrev pub fold_at : Filterbank → List ℕ → (ℕ → ℕ) → Search → ℕ → ℕ → ℕ → ℕ → ℕ → List Candidate
-fold_at f edges cells s d p m j phase = if_detected cells s (Fold d p m j phase (fold_sum (series f edges d) p m j phase))
+fold_at f edges cells s d p m j phase =
+    if_detected cells s (Fold d p m j phase (fold_sum (series f edges d) p m j phase))
 
 -- those of one delay, one period and one trial, by phase
 abbrev pub folds_of_trial : Filterbank → List ℕ → (ℕ → ℕ) → Search → ℕ → ℕ → ℕ → ℕ → List Candidate

@@ -1,8 +1,9 @@
 -- Laws of the definitions; the functions of this crate carry them.
 use Rattle.std.specs.Prelude.{◌≡◌, ℕ, ◌+◌, ◌-◌, ◌*◌, ◌/◌, ◌≤◌, ◌<◌, ◌↔◌, List, length, slice_index, IsTrue}
 use Rattle.dada_model.specs.Edges.{AreEdges}
+use Rattle.dada_model.specs.Observation.{square}
 use Rattle.search_model.specs.Samples.{Filterbank}
-use Rattle.search_model.specs.Paths.{middle, square, split, split_at, IsHalved, IsPath, path}
+use Rattle.search_model.specs.Paths.{middle, split, split_at, IsHalved, IsPath, path}
 use Rattle.search_model.specs.Sums.{path_cells}
 use Rattle.search_model.specs.Detection.{IsDetected, is_detected}
 
@@ -41,8 +42,10 @@ CellsAreCounted = (edges : List ℕ) (f : Filterbank) (d u late : ℕ) (e : List
 
 -- the test answers the detection rule
 abbrev pub TestsDetection : Type 0
-TestsDetection = (mean sd snr sum cells : ℕ) → IsTrue (is_detected mean sd snr sum cells) ↔ IsDetected mean sd snr sum cells
+TestsDetection = (mean sd snr sum cells : ℕ) →
+    IsTrue (is_detected mean sd snr sum cells) ↔ IsDetected mean sd snr sum cells
 
 -- a sum that is detected stays so where it is greater
 abbrev pub DetectionRises : Type 0
-DetectionRises = (mean sd snr sum more cells : ℕ) → sum ≤ more → IsDetected mean sd snr sum cells → IsDetected mean sd snr more cells
+DetectionRises = (mean sd snr sum more cells : ℕ) → sum ≤ more → IsDetected mean sd snr sum cells →
+    IsDetected mean sd snr more cells

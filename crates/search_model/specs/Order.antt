@@ -9,7 +9,8 @@ IsBelow a b next = (a < b) ⊎ ((a ≡ b) × next)
 
 -- pulses go by end, delay and width, and stand before all folds; folds go by delay, period, trial and phase
 abbrev pub Precedes : Candidate → Candidate → Type 0
-Precedes (Pulse end delay width _) (Pulse end' delay' width' _) = IsBelow end end' (IsBelow delay delay' (width < width'))
+Precedes (Pulse end delay width _) (Pulse end' delay' width' _) =
+    IsBelow end end' (IsBelow delay delay' (width < width'))
 Precedes (Pulse _ _ _ _) (Fold _ _ _ _ _ _) = ⊤
 Precedes (Fold _ _ _ _ _ _) (Pulse _ _ _ _) = ⊥
 Precedes (Fold delay period _ trial phase _) (Fold delay' period' _ trial' phase' _) =

@@ -1,15 +1,13 @@
 -- Delay paths: at which delay a dispersed pulse passes each band edge.
--- Source: Zackay & Ofek, ApJ 835:11, 2017, section 2 (a band is halved again and again, and each half gets its share of the
--- delay by the dispersion law); the rounding of the share is this project's profile.
+-- Source: Zackay & Ofek, ApJ 835:11, 2017, section 2 (a band is halved again and again, and each half gets its share of
+-- the delay by the dispersion law); the rounding of the share is this project's profile.
 use Rattle.std.specs.Prelude.{◌≡◌, ℕ, ◌+◌, ◌-◌, ◌*◌, ◌/◌, ◌≤◌, true, false, List, map, length, slice_index, zero, suc, nat_le, if◌then◌else◌}
 use Rattle.std.specs.List.{range_with_len}
+use Rattle.dada_model.specs.Observation.{square}
 
 -- the middle of the channels from lo up to hi
 abbrev pub middle : ℕ → ℕ → ℕ
 middle lo hi = lo + (hi - lo) / 2
-
-abbrev pub square : ℕ → ℕ
-square x = x * x
 
 -- Of a delay of d spectra between the edges `high` and `low`, the part above the edge `mid`:
 -- d (1/mid² - 1/high²) / (1/low² - 1/high²), rounded to the nearest whole number, halves up.
@@ -29,8 +27,8 @@ pub data IsNode (a b : ℕ) : ℕ → ℕ → Type 0 where
   in_upper : (lo hi : ℕ) → lo + 2 ≤ hi → IsNode a b lo (middle lo hi) → IsNode a b lo hi
   in_lower : (lo hi : ℕ) → lo + 2 ≤ hi → IsNode a b (middle lo hi) hi → IsNode a b lo hi
 
--- at each node of the channels from lo up to hi with at least two channels, the upper half takes the split of the delay;
--- `entry k` is the delay at edge k
+-- at each node of the channels from lo up to hi with at least two channels, the upper half takes the split of the
+-- delay; `entry k` is the delay at edge k
 pub record IsHalved (edges : List ℕ) (lo hi : ℕ) (entry : ℕ → ℕ) : Type 0 where
   pub splits : (a b : ℕ) → IsNode a b lo hi → a + 2 ≤ b →
       entry (middle a b) ≡ entry a + split_at edges a b (entry b - entry a)
@@ -43,8 +41,8 @@ pub record IsPath (edges : List ℕ) (n d : ℕ) (e : List ℕ) : Type 0 where
   pub halves : IsHalved edges 0 n (λ k. slice_index e k)
 
 -- the entry at edge k, between the edges lo and hi, of a path that has the entry `start` at lo and `start + d` at hi;
--- `depth` bounds how often the band is halved, and 2^depth channels are halved down to single ones (the cases of an `elim`
--- are computed where they are needed alone)
+-- `depth` bounds how often the band is halved, and 2^depth channels are halved down to single ones (the cases of an
+-- `elim` are computed where they are needed alone)
 unfoldable pub entry : ℕ → List ℕ → ℕ → ℕ → ℕ → ℕ → ℕ → ℕ
 entry zero edges lo hi start d k = if nat_le hi k then start + d else start
 entry (suc depth) edges lo hi start d k =

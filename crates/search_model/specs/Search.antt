@@ -1,6 +1,7 @@
 -- What a search looks for, and how its delays are shared.
 use Rattle.std.specs.Prelude.{ℕ, ◌+◌, ◌-◌, ◌*◌, ◌/◌, ◌%◌, ◌≤◌, ◌==◌, List, [], ◌∷◌, Bool, IsTrue, filter, nat_le}
 use Rattle.std.specs.List.{list_any}
+use Rattle.dada_model.specs.Bounds.{most_delay}
 use Rattle.search_model.specs.declared.search.Search.{Search}
 use Rattle.search_model.specs.Sums.{between}
 
@@ -36,7 +37,7 @@ shard_start s k = s.min_delay + k * delay_count s / s.shards
 -- the delays, and the widest box
 pub record DelaysInRange (s : Search) : Type 0 where
   pub rise : s.min_delay ≤ s.max_delay
-  pub most : s.max_delay ≤ 8192
+  pub most : s.max_delay ≤ most_delay
   pub widest : IsTrue (list_any (λ w. w == s.widest) box_widths)
 
 -- the settings of the folds

@@ -6,8 +6,8 @@ use Rattle.search_model.specs.Paths.{middle, split, split_at}
 use Rattle.search_model.specs.Sums.{late_path_sum, path_sum}
 use Rattle.search_model.specs.Subbands.{node_sum}
 
--- The sum over a node of two channels and more is that over its upper half, along the path of the split, plus that over its lower
--- half. The upper half's path ends earlier, by the delay of the lower half.
+-- The sum over a node of two channels and more is that over its upper half, along the path of the split, plus that over
+-- its lower half. The upper half's path ends earlier, by the delay of the lower half.
 abbrev pub HalvesAdd : Type 0
 HalvesAdd = (f : Filterbank) (edges : List ℕ) (n lo hi d u late : ℕ) → AreEdges n edges → lo + 2 ≤ hi → hi ≤ n →
     node_sum f edges lo hi d u late
@@ -50,10 +50,13 @@ SplitsStep = (high mid low d : ℕ) → low < mid → mid < high → Steps (spli
 
 -- a path sum that ends k spectra before u is the path sum that ends there, and 0 before the first spectrum
 pub record LatePathSums : Type 0 where
-  pub within : (f : Filterbank) (edges : List ℕ) (d u k : ℕ) → k ≤ u → late_path_sum f edges u d k ≡ path_sum f edges (u - k) d
-  pub before : (f : Filterbank) (edges : List ℕ) (d u k : ℕ) → AreEdges f.channels edges → u < k → late_path_sum f edges u d k ≡ 0
+  pub within : (f : Filterbank) (edges : List ℕ) (d u k : ℕ) → k ≤ u →
+      late_path_sum f edges u d k ≡ path_sum f edges (u - k) d
+  pub before : (f : Filterbank) (edges : List ℕ) (d u k : ℕ) → AreEdges f.channels edges → u < k →
+      late_path_sum f edges u d k ≡ 0
 
 -- where no sample is above m, a path sum of delay d over n channels is at most m (n + d)
 abbrev pub PathSumsAreBounded : Type 0
-PathSumsAreBounded = (f : Filterbank) (edges : List ℕ) (d u late m : ℕ) → AreEdges f.channels edges → ((c t : ℕ) → f.value c t ≤ m) →
+PathSumsAreBounded = (f : Filterbank) (edges : List ℕ) (d u late m : ℕ) → AreEdges f.channels edges →
+    ((c t : ℕ) → f.value c t ≤ m) →
     late_path_sum f edges u d late ≤ m * (f.channels + d)

@@ -1,19 +1,19 @@
 -- Path sums and box sums.
--- Source: Zackay & Ofek, ApJ 835:11, 2017, section 2 (the dispersion transform), as sums of written-out cells of the whole
--- file: no table, tail or chunk.
+-- Source: Zackay & Ofek, ApJ 835:11, 2017, section 2 (the dispersion transform), as sums of written-out cells of the
+-- whole file: no table, tail or chunk.
 use Rattle.std.specs.Prelude.{ℕ, ◌+◌, ◌-◌, List, map, sum, sum_by, slice_index}
 use Rattle.std.specs.List.{range_with_len, flat_map}
-use Rattle.search_model.specs.Samples.{Filterbank, delayed}
+use Rattle.search_model.specs.Samples.{Filterbank, sample_before}
 use Rattle.search_model.specs.Paths.{path}
 
 -- the numbers from a to b, both included
 abbrev pub between : ℕ → ℕ → List ℕ
 between a b = range_with_len a (b + 1 - a)
 
--- The cells of channel c on a path of delay d with the entry `e k` at edge k, where the path ends `late` spectra before spectrum u:
--- x(c, t) for t from u - late - d + e c to u - late - d + e (c + 1). A cell before the first spectrum is 0.
+-- The cells of channel c on a path of delay d with the entry `e k` at edge k, where the path ends `late` spectra before
+-- spectrum u: x(c, t) for t from u - late - d + e c to u - late - d + e (c + 1). A cell before the first spectrum is 0.
 abbrev pub cells_along : Filterbank → (ℕ → ℕ) → ℕ → ℕ → ℕ → ℕ → List ℕ
-cells_along f e d u late c = map (λ k. delayed f c (u + k) (d + late)) (between (e c) (e (c + 1)))
+cells_along f e d u late c = map (λ k. sample_before f c (u + k) (d + late)) (between (e c) (e (c + 1)))
 
 -- the same where the entries are a list
 abbrev pub channel_cells : Filterbank → List ℕ → ℕ → ℕ → ℕ → ℕ → List ℕ

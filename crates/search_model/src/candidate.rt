@@ -10,7 +10,8 @@ pub enum Candidate {
         width: u32,
         sum: u32,
     },
-    /// The fold of a delay's series by `2^halvings` rows of `period` spectra, at a trial and a phase. `sum` is the fold sum.
+    /// The fold of a delay's series by `2^halvings` rows of `period` spectra, at a trial and a phase. `sum` is the fold
+    /// sum.
     Fold {
         delay: u32,
         period: u32,

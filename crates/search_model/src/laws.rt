@@ -1,5 +1,5 @@
-// Laws of the definitions, which the contracts of functions that do nothing carry. A caller whose proof needs a law calls
-// its function.
+// Laws of the definitions, which the contracts of functions that do nothing carry. A caller whose proof needs a law
+// calls its function.
 ghost use Rattle.search_model.specs.Laws.{SplitsFit, HalvesJoin, HasOnePath, PathsRise, CellsAreCounted, TestsDetection, DetectionRises};
 ghost use Rattle.search_model.specs.SubbandLaws.{HalvesAdd, OneChannelAdds, OneChannelIsItsSample, TimeShifts, NothingBefore, WholeBandIsPathSum, SplitsStep, LatePathSums, PathSumsAreBounded};
 ghost use Rattle.search_model.specs.CandidateLaws.{CandidatesAreListed, CandidatesRise, RisingListsAgree, ShardsMerge};

@@ -1,6 +1,6 @@
 //! Definitions of what a search prints: samples, delay paths, sums, folds, detection, the candidates and their text.
-//! They stand in `specs/`. The settings of a search and a candidate are plain data that every layer shares. The functions of
-//! `laws` carry laws of the definitions and do nothing else.
+//! They stand in `specs/`. The settings of a search and a candidate are plain data that every layer shares. The
+//! functions of `laws` carry laws of the definitions and do nothing else.
 #![tactic(auto)]
 
 mod candidate;
@@ -14,4 +14,4 @@ pub use laws::{
     one_channel_is_its_sample, path_sums_are_bounded, paths_rise, rising_lists_agree, shards_merge,
     splits_fit, splits_step, tests_detection, time_shifts, whole_band_is_path_sum,
 };
-pub use search::Search;
+pub use search::{MOST_DELAY, Search};

@@ -1,8 +1,11 @@
 // The settings of a search.
 ghost use Rattle.std.specs.Prelude.{◌↔◌, IsTrue};
 
-/// The settings of a search: the delays, boxes and folds that it looks for, how the work is shared, and the noise that a
-/// candidate stands out of. Delays, widths, periods and `chunk` are in spectra.
+/// The longest delay of a search, in spectra.
+pub const MOST_DELAY: u32 = 8192;
+
+/// The settings of a search: the delays, boxes and folds that it looks for, how the work is shared, and the noise that
+/// a candidate stands out of. Delays, widths, periods and `chunk` are in spectra.
 #[derive(Clone, Copy, PartialEq, Eq, Debug)]
 pub struct Search {
     pub min_delay: u32,
@@ -48,7 +51,7 @@ impl Search {
         ensures { IsTrue result ↔ DelaysInRange self.now }
     {
         self.min_delay <= self.max_delay
-            && self.max_delay <= 8192
+            && self.max_delay <= MOST_DELAY
             && matches!(self.widest, 1 | 2 | 4 | 8 | 16 | 32)
     }
 

@@ -3,7 +3,8 @@ use Rattle.band_paths.proofs.Bands.{halved_twice}
 use Rattle.band_paths.proofs.delays.+halve.Goals as goal
 
 pub returns-then-hi-lo-lt2-clause-halved : goal.returns-then-hi-lo-lt2-clause-halved
-returns-then-hi-lo-lt2-clause-halved t c = c.halves_join.ensures.single c.args.edges.now c.args.lo c.args.hi _ (omega arith) (omega arith)
+returns-then-hi-lo-lt2-clause-halved t c =
+    c.halves_join.ensures.single c.args.edges.now c.args.lo c.args.hi _ (omega arith) (omega arith)
 
 pub halve-requires-2 : goal.halve-requires-2
 halve-requires-2 t c =
@@ -20,12 +21,14 @@ halve-requires-2 t c =
 
 pub returns-clause-halved : goal.returns-clause-halved
 returns-clause-halved t c =
-    (halved_twice c.halves_join.ensures c.args.edges.now c.args.lo c.args.hi _ c.args.delays.now c.halve.new.delays c.halve-2.new.delays (omega arith) (omega arith)
+    (halved_twice c.halves_join.ensures c.args.edges.now c.args.lo c.args.hi _ c.args.delays.now c.halve.new.delays
+    c.halve-2.new.delays (omega arith) (omega arith)
     (let v = c.split-upper.ensures.value in omega arith)
     c.halve.ensures.kept c.halve.ensures.halved c.halve-2.ensures.kept c.halve-2.ensures.halved).0
 
 pub returns-clause-kept : goal.returns-clause-kept
 returns-clause-kept t c =
-    (halved_twice c.halves_join.ensures c.args.edges.now c.args.lo c.args.hi _ c.args.delays.now c.halve.new.delays c.halve-2.new.delays (omega arith) (omega arith)
+    (halved_twice c.halves_join.ensures c.args.edges.now c.args.lo c.args.hi _ c.args.delays.now c.halve.new.delays
+    c.halve-2.new.delays (omega arith) (omega arith)
     (let v = c.split-upper.ensures.value in omega arith)
     c.halve.ensures.kept c.halve.ensures.halved c.halve-2.ensures.kept c.halve-2.ensures.halved).1

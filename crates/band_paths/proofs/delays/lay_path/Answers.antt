@@ -11,7 +11,8 @@ returns c =
     let not_last : 0 ≢ n = omega arith in
     record {
       entries = omega arith;
-      first = c.halve.ensures.kept.below 0 (omega arith) ∙ get_or-set_other begun n 0 c.args.d 0 not_last ∙ get_or-set_same c.args.delays.now 0 0 0 (omega arith);
+      first = c.halve.ensures.kept.below 0 (omega arith) ∙ get_or-set_other begun n 0 c.args.d 0 not_last
+          ∙ get_or-set_same c.args.delays.now 0 0 0 (omega arith);
       last = c.halve.ensures.kept.above n (omega arith) ∙ get_or-set_same begun n c.args.d 0 (omega arith);
       halves = c.halve.ensures.halved;
     }

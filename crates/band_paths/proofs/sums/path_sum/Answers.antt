@@ -24,7 +24,8 @@ one_more m c e next total here h before now =
 pub overflow_add-total : goal.overflow_add-total
 overflow_add-total c =
     let here = delay_le c.args.n c.args.delays.now c.requires.delays c.loop-c.c (c.args.n - c.loop-c.c) (omega arith) in
-    let next = delay_le c.args.n c.args.delays.now c.requires.delays (c.loop-c.c + 1) (c.args.n - c.loop-c.c - 1) (omega arith) in
+    let next = delay_le c.args.n c.args.delays.now c.requires.delays (c.loop-c.c + 1) (c.args.n - c.loop-c.c - 1)
+    (omega arith) in
     let last = c.requires.delays.last in
     let before = c.loop-c.invariant.1 1048576 c.requires.small in
     let bound = c.channel_sum-total.ensures.bound 1048576 c.requires.small in
@@ -40,7 +41,8 @@ loop-c-preserved c =
     let before = c.loop-c.invariant.0 in
     let value = c.channel_sum-total.ensures.value in (
       omega arith,
-      λ m all. one_more m k (slice_index delays k) (slice_index delays (k + 1)) _ _ (c.requires.delays.rise k (omega arith))
+      λ m all. one_more m k (slice_index delays k) (slice_index delays (k + 1)) _ _
+          (c.requires.delays.rise k (omega arith))
           (c.loop-c.invariant.1 m all) (c.channel_sum-total.ensures.bound m all),
     )
 
@@ -51,6 +53,7 @@ returns c =
     let whole : c.loop-c.c ≡ c.args.n = omega arith in
     let all = rw whole at c.loop-c.invariant.0 in
     record {
-      value = all ∙ sym (sum_flat_map (λ i. channel_cells f c.args.delays.now d c.args.u 0 i) (range_with_len 0 c.args.n));
+      value = all ∙ sym (sum_flat_map (λ i. channel_cells f c.args.delays.now d c.args.u 0 i)
+          (range_with_len 0 c.args.n));
       bound = rw whole at c.loop-c.invariant.1;
     }

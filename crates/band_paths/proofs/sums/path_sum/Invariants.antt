@@ -6,5 +6,7 @@ use Rattle.band_paths.proofs.sums.path_sum.Given as goal
 
 abbrev pub invariant-loop-c : goal.invariant-loop-c
 invariant-loop-c l =
-    (l.total ≡ sum (map (λ c. sum (channel_cells (filterbank l.n true l.samples) l.delays (slice_index l.delays l.n) l.u 0 c)) (range_with_len 0 l.c)))
+    (l.total ≡ sum (map (λ c.
+    sum (channel_cells (filterbank l.n true l.samples) l.delays (slice_index l.delays l.n) l.u 0 c))
+    (range_with_len 0 l.c)))
     × ((m : ℕ) → All (λ x. x ≤ m) l.samples → l.total ≤ m * (l.c + slice_index l.delays l.c))

@@ -10,5 +10,7 @@ returns-in_err-strip_prefix-clause-digits c =
 
 pub returns-clause-value : goal.returns-clause-value
 returns-clause-value c =
-    let cut = strip_prefix_char 45 c.args.text.now (Some c.in_ok-strip_prefix.field-0) c.in_ok-strip_prefix.ensures.cases (lit< tt) in
-    negative_value c.args.most_digits c.args.text.now c.in_ok-strip_prefix.field-0.now c.whole_number.result cut c.whole_number.ensures.digits
+    let cut = strip_prefix_char 45 c.args.text.now
+    (Some c.in_ok-strip_prefix.field-0) c.in_ok-strip_prefix.ensures.cases (lit< tt) in
+    negative_value c.args.most_digits c.args.text.now c.in_ok-strip_prefix.field-0.now c.whole_number.result cut
+    c.whole_number.ensures.digits
