@@ -19,8 +19,6 @@ mod real_files;
 mod real_sink;
 mod sink;
 mod stored;
-#[cfg(test)]
-mod tests;
 mod writing;
 
 pub use calm::{CalmFiles, CalmSink};

@@ -1,14 +1,11 @@
-// What the objects do when they run: each is called through its trait.
-ghost use Rattle.std.specs.Prelude.{◌≤◌, IfOk};
-
-use crate::{
-    DataFault, Failed, Inputs, MemInputs, MemSink, Memory, RealInputs, RealSink, Sink, fill,
-    read_to_end, write_all,
+// Files in memory and real ones, read through their trait.
+use psr_base::{
+    CalmInputs, DataFault, Failed, Inputs, MemInputs, Memory, RealInputs, fill, read_from_memory,
+    read_to_end,
 };
 use std::alloc::Global;
-use std::fmt::Display;
+use std::fs;
 use std::test::Fail;
-use std::{fs, io};
 
 // Inputs that give one byte at a time.
 #[derive(Drop)]
@@ -31,21 +28,6 @@ impl<I: Inputs> Inputs for Trickle<I> {
 
     fn read(&mut self, into: &mut [u8]) -> Result<usize, Failed> {
         self.0.read(&mut into[..1])
-    }
-}
-
-// A sink that takes one byte at a time.
-#[derive(Drop)]
-struct Drip<S>(S);
-
-impl<S: Sink> Sink for Drip<S> {
-    ghost use Rattle.std.specs.Prelude.{None};
-
-    ghost seen = { λ sink. record { written = None; room = None; faults = (S.seen sink.0).faults } };
-
-    fn write(&mut self, bytes: &[u8]) -> Result<usize, Failed> {
-        let n = bytes.len().min(1);
-        self.0.write(&bytes[..n])
     }
 }
 
@@ -135,36 +117,6 @@ fn a_name_that_is_not_there_cannot_be_opened(rt: HostRuntime) -> Result<(), Fail
     Ok(())
 }
 
-// "ab", then "cd", then "e", of which the first that fails ends it.
-fn write_in_steps<S: Sink>(sink: &mut S) -> Result<(), Failed> {
-    for piece in ["ab", "cd", "e"] {
-        write_all(sink, piece.as_bytes())?;
-    }
-    Ok(())
-}
-
-#[test]
-fn a_sink_holds_what_was_written_before_it_failed(rt: HostRuntime) -> Result<(), Fail> {
-    let whole = [(0, ""), (1, "ab"), (2, "abcd"), (3, "abcde")];
-    for (call, held) in whole {
-        let mut sink = MemSink::open(rt.alloc(), 5, &[call])?;
-        assert_eq!(rt; write_in_steps(&mut sink).is_ok(), call == 3, "call {call}");
-        assert_eq!(rt; sink.body(), held.as_bytes(), "call {call}");
-    }
-    let room = [(0, ""), (1, ""), (2, "ab"), (4, "abcd"), (5, "abcde")];
-    for (room, held) in room {
-        let mut sink = MemSink::open(rt.alloc(), room, &[])?;
-        assert_eq!(rt; write_in_steps(&mut sink).is_ok(), room == 5, "room {room}");
-        assert_eq!(rt; sink.body(), held.as_bytes(), "room {room}");
-    }
-    for (call, held) in [(0, ""), (1, "a"), (2, "ab"), (3, "abc"), (5, "abcde")] {
-        let mut sink = Drip(MemSink::open(rt.alloc(), 5, &[call])?);
-        assert_eq!(rt; write_in_steps(&mut sink).is_ok(), call == 5, "byte {call}");
-        assert_eq!(rt; sink.0.body(), held.as_bytes(), "byte {call}");
-    }
-    Ok(())
-}
-
 // Opens a name again and again, each time in place of the last.
 fn open_often<I: Inputs>(inputs: &mut I, name: &str, times: u32) -> Result<(), Failed> {
     for _ in 0..times {
@@ -182,8 +134,8 @@ fn reads_a_byte<I: Inputs>(inputs: &mut I, name: &str) -> Result<bool, Failed> {
 
 #[test]
 fn real_files_are_read_and_closed(rt: HostRuntime) -> Result<(), Fail> {
-    const FILE: &str = "psr_base_test_a";
-    const EMPTY: &str = "psr_base_test_b";
+    const FILE: &str = "outside_test_a";
+    const EMPTY: &str = "outside_test_b";
     fs::write(&rt, FILE, b"abcde".as_slice())?;
     fs::write(&rt, EMPTY, b"".as_slice())?;
     let mut inputs = RealInputs::new(&rt);
@@ -194,7 +146,7 @@ fn real_files_are_read_and_closed(rt: HostRuntime) -> Result<(), Fail> {
     let answers = [
         (FILE, Ok(true)),
         (EMPTY, Ok(false)),
-        ("psr_base_test_c", Err(Failed)),
+        ("outside_test_c", Err(Failed)),
         (".", Err(Failed)),
     ];
     for (name, answer) in answers {
@@ -205,71 +157,43 @@ fn real_files_are_read_and_closed(rt: HostRuntime) -> Result<(), Fail> {
     Ok(())
 }
 
-// Streams that are closed, or take only so many bytes at a time.
-#[derive(Drop)]
-struct Stream {
-    takes: Option<usize>,
-}
-
-impl Stream {
-    fn taken(&self, len: usize) -> io::Result<usize>
-        ensures { IfOk result (λ n. n ≤ len) }
-    {
-        match self.takes {
-            Some(most) => Ok(len.min(most)),
-            None => Err(io::Error::from(io::ErrorKind::BrokenPipe)),
-        }
+#[test]
+fn calm_files_are_read_and_a_missing_one_is_empty(rt: HostRuntime) -> Result<(), Fail> {
+    let mut inputs = CalmInputs::open(rt.alloc())?;
+    inputs.put("a", b"old")?;
+    inputs.put("b", b"")?;
+    inputs.put("a", b"abcde")?;
+    let whole = read_in_steps(rt.alloc(), &mut inputs, "a", "c")?;
+    assert_eq!(rt; whole.as_slice(), b"abcde".as_slice());
+    for (name, answer) in [
+        ("a", true),
+        ("b", false),
+        ("c", false),
+        ("", false),
+        ("a", true),
+    ] {
+        assert_eq!(rt; reads_a_byte(&mut inputs, name), Ok(answer), "{name}");
     }
-}
-
-impl Print for Stream {
-    fn print<D: Display + Drop>(&self, _value: D) -> io::Result<()> {
-        self.taken(1).map(|_| ())
-    }
-
-    fn println<D: Display + Drop>(&self, _value: D) -> io::Result<()> {
-        self.taken(1).map(|_| ())
-    }
-
-    fn write_all(&self, _bytes: &[u8]) -> io::Result<()> {
-        self.taken(1).map(|_| ())
-    }
-
-    fn write_some(&self, bytes: &[u8]) -> io::Result<usize> {
-        self.taken(bytes.len())
-    }
-}
-
-impl Eprint for Stream {
-    fn eprint<D: Display + Drop>(&self, _value: D) -> io::Result<()> {
-        self.taken(1).map(|_| ())
-    }
-
-    fn eprintln<D: Display + Drop>(&self, _value: D) -> io::Result<()> {
-        self.taken(1).map(|_| ())
-    }
+    Ok(())
 }
 
 #[test]
-fn a_stream_that_takes_nothing_has_failed(rt: HostRuntime) -> Result<(), Fail> {
-    for takes in [None, Some(0), Some(1), Some(9)] {
-        let stream = Stream { takes };
-        let serves = takes.is_some_and(|n| n > 0);
-        assert_eq!(rt;
-            write_all(&mut RealSink::out(&stream), b"line").is_ok(),
-            serves
-        );
-        assert_eq!(rt; write_all(&mut RealSink::out(&stream), b""), Ok(()));
-        assert_eq!(rt;
-            write_all(&mut RealSink::notes(&stream), b"line").is_ok(),
-            takes.is_some()
-        );
-        assert_eq!(rt;
-            write_all(&mut RealSink::notes(&stream), b"\xff"),
-            Err(Failed)
-        );
+fn a_file_in_memory_is_read_by_its_name(rt: HostRuntime) -> Result<(), Fail> {
+    let mut inputs = two_files(rt.alloc(), &[2])?;
+    let cases = [
+        ("c", 9, Err(DataFault::Failed)),
+        // Opened, and then the read fails.
+        ("a", 9, Err(DataFault::Failed)),
+        ("a", 9, Ok(5)),
+        ("a", 4, Err(DataFault::TooLong)),
+        ("b", 0, Ok(0)),
+    ];
+    for (name, limit, answer) in cases {
+        let len = match read_from_memory(rt.alloc(), &mut inputs, name, limit) {
+            Ok(bytes) => Ok(bytes.len()),
+            Err(fault) => Err(fault),
+        };
+        assert_eq!(rt; len, answer, "{name} {limit}");
     }
-    write_all(&mut RealSink::out(&rt), b"to the output\n")?;
-    write_all(&mut RealSink::notes(&rt), b"to the notes\n")?;
     Ok(())
 }
