@@ -1,0 +1,21 @@
+use Rattle.std.proofs.Common.{◌<◌, ◌*◌, refl, arith}
+use Rattle.dada_model.specs.Observation.{dispersion_span}
+use Rattle.obs_plan.specs.Numbers.{shown_by}
+use Rattle.obs_plan.proofs.Foot.{squares_fall}
+use Rattle.obs_plan.proofs.numbers.Numbers.dispersion_span.Goals as goal
+use Rattle.obs_plan.proofs.numbers.Numbers.dispersion_span.Goals.{After-from-foot}
+
+falls : (c : After-from-foot) → c.from-foot.result * c.from-foot.result < c.from-top.result * c.from-top.result
+falls c =
+    let self = c.args.self.now in
+    rw (c.from-top.ensures, c.from-foot.ensures, c.edge.ensures, c.edge-2.ensures) (squares_fall c.edges_fall.ensures (shown_by self) self.in_range)
+
+pub overflow_sub-result : goal.overflow_sub-result
+overflow_sub-result c = let below = falls (goal.at.overflow_sub-result c).After-from-foot in omega arith
+
+pub nonzero_div-result : goal.nonzero_div-result
+nonzero_div-result c = let below = falls (goal.at.nonzero_div-result c).After-from-foot in omega arith
+
+pub returns : goal.returns
+unfolding dispersion_span
+returns c = rw (c.from-top.ensures, c.from-foot.ensures, c.edge.ensures, c.edge-2.ensures) refl

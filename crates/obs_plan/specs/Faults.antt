@@ -1,0 +1,29 @@
+-- What the faults of a header say.
+use Rattle.std.specs.Prelude.{◌≡◌, ◌⊎◌, List, Some, Err}
+use Rattle.dada_model.specs.declared.key.Key.{Key}
+use Rattle.dada_model.specs.Fields.{Field}
+use Rattle.dada_model.specs.Observation as model
+use Rattle.dada_model.specs.Observation.{Refusal, refusal_at, observation_of}
+use Rattle.obs_plan.specs.declared.fault.ObsFault.{ObsFault}
+use Rattle.obs_plan.specs.declared.fault.ObsFault.TheVariants.{Missing, BadNumber, OutOfProfile, OutOfRange, TooNarrow, Differs, Memory}
+
+-- the fault is a refusal of which P holds
+abbrev pub IsRefusal : (Refusal → Type 0) → ObsFault → Type 0
+IsRefusal P (Missing key) = P (model.Missing key)
+IsRefusal P (BadNumber key) = P (model.BadNumber key)
+IsRefusal P (OutOfProfile key) = P (model.OutOfProfile key)
+IsRefusal P (OutOfRange key) = P (model.OutOfRange key)
+IsRefusal P (TooNarrow bw nchan) = P (model.TooNarrow bw nchan)
+IsRefusal P (Differs key) = ⊥
+IsRefusal P Memory = ⊥
+
+-- it is what is refused at a key, and what is refused first
+abbrev pub IsRefusedAt : List Field → Key → ObsFault → Type 0
+IsRefusedAt fields key fault = IsRefusal (λ refusal. refusal_at fields key ≡ Some refusal) fault
+
+abbrev pub IsRefusedFirst : List Field → ObsFault → Type 0
+IsRefusedFirst fields fault = IsRefusal (λ refusal. observation_of fields ≡ Err refusal) fault
+
+-- a header's fault is its first refusal, or want of memory
+abbrev pub Explains : List Field → ObsFault → Type 0
+Explains fields fault = (fault ≡ Memory) ⊎ IsRefusedFirst fields fault

@@ -1,0 +1,132 @@
+// The observation of a header.
+ghost use Rattle.std.specs.Prelude.{◌≡◌, ◌≤◌, Ok, IfOk, IfErr};
+ghost use Rattle.dada_model.specs.Fields.{fields_of};
+ghost use Rattle.dada_model.specs.Observation.{Observation as Described, observation_of, edges as edges_of, dm as dm_of, max_sample as max_sample_of};
+ghost use Rattle.dada_model.specs.Bounds.{IsInRange};
+ghost use Rattle.dada_model.specs.Edges.{AreEdges};
+ghost use Rattle.obs_plan.specs.Faults.{Explains};
+ghost use Rattle.obs_plan.specs.Later.{profile_of};
+
+use crate::fault::ObsFault;
+use crate::numbers::Numbers;
+use crate::profile::Profile;
+use dada_header::Header;
+// A law: it does nothing when it runs, and the proofs use what it ensures.
+use dada_model::edges_fall;
+use std::alloc::Global;
+use std::marker::Model;
+
+/// What a header says of its data (keywords of the PSRDADA manual): how many channels a spectrum has and how a
+/// sample is written, when and at which frequencies it was taken.
+#[derive(Drop)]
+pub struct Observation {
+    numbers: Numbers,
+    edges: Vec<u32>,
+}
+
+impl Model for Observation {
+    ghost use Rattle.std.specs.Prelude.{◌≡◌};
+    ghost use Rattle.dada_model.specs.Observation.{Observation as Described, edges as edges_of};
+
+    ghost Value = { Described };
+
+    ghost use Rattle.obs_plan.specs.Numbers.{shown_by};
+
+    ghost view = { λ o. shown_by o.numbers };
+
+    ghost invariant = { λ o. o.edges.items ≡ edges_of (shown_by o.numbers) };
+}
+
+impl Observation {
+    /// The observation of a header, or the header's first refusal: for each keyword in turn that it is missing, no
+    /// number, or outside its row; last that a channel has less than 1 kHz. It is never `Differs`.
+    pub fn of(alloc: Global, header: &Header) -> Result<Observation, ObsFault>
+        ensures ok { IfOk result (λ o. observation_of (fields_of header.now.text) ≡ Ok o) }
+        ensures bounds { IfOk result IsInRange }
+        ensures fault { IfErr result (Explains (fields_of header.now.text)) }
+    {
+        let numbers = Numbers::of(header)?;
+        let edges = numbers.edges(alloc)?;
+        Ok(Observation { numbers, edges })
+    }
+
+    /// What is said of an observation within its bounds holds of this one. It does nothing.
+    pub fn lies_in_range(&self)
+        ensures { IsInRange self.now }
+    {
+        let _ = &self.numbers;
+    }
+
+    /// How many channels a spectrum has.
+    pub fn channels(&self) -> u32
+        ensures { result ≡ self.now.channels }
+    {
+        self.numbers.channels
+    }
+
+    /// How many bits each value of a sample has: 8 or 16.
+    pub fn nbit(&self) -> u32
+        ensures { result ≡ self.now.nbit }
+    {
+        self.numbers.nbit
+    }
+
+    /// How many polarisations a sample adds: 1 or 2.
+    pub fn npol(&self) -> u32
+        ensures { result ≡ self.now.npol }
+    {
+        self.numbers.npol
+    }
+
+    /// The time from one spectrum to the next, in ns.
+    pub fn tsamp_ns(&self) -> u64
+        ensures { result ≡ self.now.sample_ns }
+    {
+        self.numbers.sample_ns
+    }
+
+    /// The edges of the channels in kHz, from the top of the band down to its foot.
+    pub fn edges(&self) -> &[u32]
+        ensures value { result.now ≡ edges_of self.now }
+        ensures falls { AreEdges self.now.channels result.now }
+    {
+        edges_fall();
+        self.edges.as_slice()
+    }
+
+    /// Whether channel 0 of the file is the highest frequency: BW is negative.
+    pub fn falling(&self) -> bool
+        ensures { result ≡ self.now.is_falling }
+    {
+        self.numbers.falling
+    }
+
+    /// How many bytes of data came before the file's.
+    pub fn obs_offset(&self) -> u64
+        ensures { result ≡ self.now.obs_offset }
+    {
+        self.numbers.obs_offset
+    }
+
+    /// The greatest sample: 255 or 65535 for each polarisation.
+    pub fn max_sample(&self) -> u32
+        ensures { result ≡ max_sample_of self.now }
+    {
+        self.numbers.max_sample()
+    }
+
+    /// What the header of a later file is compared with.
+    pub fn profile(&self) -> Profile
+        ensures { result ≡ profile_of self.now }
+    {
+        self.numbers.profile()
+    }
+
+    /// The dispersion measure of a delay of `d` spectra across the band, in thousandths of pc/cm^3.
+    pub fn dm(&self, d: u32) -> u64
+        requires { d ≤ 8192 }
+        ensures { result ≡ dm_of self.now d }
+    {
+        self.numbers.dm(d)
+    }
+}

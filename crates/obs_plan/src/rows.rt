@@ -1,0 +1,102 @@
+// The numbers of a header, each judged in its row.
+ghost use Rattle.std.specs.Prelude.{◌≡◌, ℕ, ℤ, ◌+◌, ◌*◌, ◌^◌, ◌<◌, ◌≤◌, ◌↔◌, ◌≤ℤ◌, IsTrue, Ok, pos, false, IfOk, IfErr, unsigned_abs};
+ghost use Rattle.dada_model.specs.Fields.{fields_of};
+ghost use Rattle.dada_model.specs.Observation.{outside as outside_of, number_of, observation_in, is_in_row, is_within as is_within_of, Observation};
+ghost use Rattle.obs_plan.specs.Faults.{IsRefusal, IsRefusedAt};
+ghost use Rattle.obs_plan.specs.Rows.{LargeIsOutside, IsTaken};
+
+use crate::fault::ObsFault;
+use crate::found::{Found, find};
+use dada_header::Header;
+use dada_model::Key;
+// A law: it does nothing when it runs, and the proofs use what it ensures.
+use dada_model::bands_in_row;
+
+// The fault of a value outside a key's row.
+fn outside(key: Key) -> ObsFault
+    ensures { IsRefusal (λ refusal. refusal ≡ outside_of key) result }
+{
+    match key {
+        Key::Nbit | Key::Npol | Key::Ndim => ObsFault::OutOfProfile(key),
+        _ => ObsFault::OutOfRange(key),
+    }
+}
+
+// The number of a key, which may lie outside the key's row.
+fn number(header: &Header, key: Key) -> Result<i64, ObsFault>
+    requires { LargeIsOutside (fields_of header.now.text) key }
+    ensures number { IfOk result (λ z. number_of (fields_of header.now.text) key ≡ Ok z) }
+    ensures fault { IfErr result (IsRefusedAt (fields_of header.now.text) key) }
+{
+    match find(header, key) {
+        Found::Missing => Err(ObsFault::Missing(key)),
+        Found::BadNumber => Err(ObsFault::BadNumber(key)),
+        Found::TooLarge => Err(outside(key)),
+        Found::Number(number) => Ok(number),
+    }
+}
+
+/// Whether a number lies between two others, or is one of them.
+pub(crate) fn is_within(least: i64, most: i64, number: i64) -> bool
+    ensures { result ≡ is_within_of least most number }
+{
+    least <= number && number <= most
+}
+
+/// The number of a key whose row goes from `least` to `most`.
+pub(crate) fn number_in(header: &Header, key: Key, least: u32, most: u64) -> Result<u64, ObsFault>
+    requires row { (o : Observation) (z : ℤ) → is_in_row o key z ≡ is_within_of (pos least) (pos most) z }
+    requires bound { most ≤ 10 ^ 17 }
+    ensures taken { IfOk result (λ n. IsTaken (fields_of header.now.text) key (pos n)) }
+    ensures bounds { IfOk result (λ n. (least ≤ n) × (n ≤ most)) }
+    ensures fault { IfErr result (IsRefusedAt (fields_of header.now.text) key) }
+{
+    let number = number(header, key)?;
+    if is_within(i64::from(least), most as i64, number) {
+        Ok(number as u64)
+    } else {
+        Err(outside(key))
+    }
+}
+
+/// NBIT: 8 or 16.
+pub(crate) fn bits(header: &Header) -> Result<u64, ObsFault>
+    ensures taken { IfOk result (λ n. IsTaken (fields_of header.now.text) Key.Nbit (pos n)) }
+    ensures bounds { IfOk result (λ n. (8 ≤ n) × (n ≤ 16)) }
+    ensures fault { IfErr result (IsRefusedAt (fields_of header.now.text) Key.Nbit) }
+{
+    let number = number(header, Key::Nbit)?;
+    if is_within(8, 8, number) || is_within(16, 16, number) {
+        Ok(number as u64)
+    } else {
+        Err(outside(Key::Nbit))
+    }
+}
+
+// Whether a band has its foot at 1 kHz or above and its top at 16777216 kHz or below.
+fn is_band(width_hz: u64, centre_hz: u64) -> bool
+    requires width { width_hz ≤ 2 ^ 63 }
+    requires centre { centre_hz ≤ 16000000000 }
+    ensures { IsTrue result ↔ ((0 < width_hz) × (width_hz + 2000 ≤ 2 * centre_hz) × (2 * centre_hz + width_hz < 2000 * 16777217)) }
+{
+    0 < width_hz && width_hz + 2000 <= 2 * centre_hz && 2 * centre_hz + width_hz < 2000 * 16_777_217
+}
+
+/// BW in Hz.
+pub(crate) fn band(header: &Header, channels: u64, centre_hz: u64) -> Result<i64, ObsFault>
+    requires channels { number_of (fields_of header.now.text) Key.Nchan ≡ Ok (pos channels) }
+    requires some { 0 < channels }
+    requires centre { number_of (fields_of header.now.text) Key.Freq ≡ Ok (pos centre_hz) }
+    requires high { centre_hz ≤ 16000000000 }
+    ensures taken { IfOk result (λ z. IsTaken (fields_of header.now.text) Key.Bw z) }
+    ensures narrow { IfOk result (λ z. unsigned_abs z < 2000 * 16777217) }
+    ensures fault { IfErr result (IsRefusedAt (fields_of header.now.text) Key.Bw) }
+{
+    bands_in_row();
+    let width = number(header, Key::Bw)?;
+    if is_band(width.unsigned_abs(), centre_hz) {
+        Ok(width)
+    } else {
+        Err(outside(Key::Bw))
+    }
+}
