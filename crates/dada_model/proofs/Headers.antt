@@ -18,7 +18,7 @@ is_nul : ℕ → Bool
 is_nul byte = eqb byte 0
 
 -- the size that the text gives
-pub text_size : List ℕ → Option ℕ
+unfoldable pub text_size : List ℕ → Option ℕ
 text_size text = size_of_value (value_of (codes "HDR_SIZE") (fields_of (take 4096 text)))
 
 -- what a header that was read is made of

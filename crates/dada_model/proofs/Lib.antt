@@ -6,3 +6,8 @@ pub mod Band
 pub mod Words
 pub mod Lines
 pub mod Headers
+pub mod FieldLines
+pub mod ChangeLines
+pub mod ChangeTexts
+pub mod Changed
+pub mod ChangedLaws

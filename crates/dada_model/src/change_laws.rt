@@ -1,0 +1,28 @@
+// Laws of the change of a header's field, which the contracts of functions that do nothing carry. A caller whose
+// proof needs a law calls its function.
+ghost use Rattle.dada_model.specs.ChangeLaws.{ChangeGivesValue, ChangeKeepsOthers, ChangeStaysInPlace, LastChangeCounts, ChangedIsReadBack};
+
+/// After a change the key has the value.
+pub fn change_gives_value()
+    ensures { ChangeGivesValue }
+{}
+
+/// After a change every other key has the value that it had.
+pub fn change_keeps_others()
+    ensures { ChangeKeepsOthers }
+{}
+
+/// A change moves no byte of the text.
+pub fn change_stays_in_place()
+    ensures { ChangeStaysInPlace }
+{}
+
+/// Of two changes of a key to values of one width, the last alone counts.
+pub fn last_change_counts()
+    ensures { LastChangeCounts }
+{}
+
+/// A changed header is read back from its bytes with the same size.
+pub fn changed_is_read_back()
+    ensures { ChangedIsReadBack }
+{}
