@@ -7,6 +7,7 @@ use Rattle.dada_model.specs.Observation.{Observation}
 abbrev pub most_delay : ℕ
 most_delay = 8192
 
+-- the bounds of an accepted observation
 pub record IsInRange (o : Observation) : Type 0 where
   pub few_channels : 2 ≤ o.channels
   pub many_channels : o.channels ≤ 4096

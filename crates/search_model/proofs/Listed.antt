@@ -60,10 +60,10 @@ module _ (f : Filterbank) (edges : List ℕ) (cells : ℕ → ℕ) (s : Search) 
       let width = member_filter (λ i. leb i s.widest) box_widths w hw in
       let pulse : IsPulse f edges cells s u d w (box_sum f edges u d w) = record {
         ends = end;
-        least_delay = delay.0;
-        most_delay = delay.1;
+        delay_from = delay.0;
+        delay_to = delay.1;
         box = width.1;
-        most_width = leb-true w s.widest width.0;
+        width_to = leb-true w s.widest width.0;
         begins = at.begins;
         adds = refl;
         detected = at.detected;
@@ -88,9 +88,9 @@ module _ (f : Filterbank) (edges : List ℕ) (cells : ℕ → ℕ) (s : Search) 
       (flat_map_member (λ u. pulses_ending f edges cells s u) (range_with_len 0 f.spectra) end _
       (range_member 0 f.spectra end (omega arith) (let ends = is.ends in omega arith))
       (flat_map_member (λ d. pulses_at f edges cells s end d) (delays s) delay _
-      (between_member s.min_delay s.max_delay delay is.least_delay is.most_delay)
+      (between_member s.min_delay s.max_delay delay is.delay_from is.delay_to)
       (flat_map_member (λ w. pulse_at f edges cells s end delay w) (widths s) width _
-      (filter_member (λ w. leb w s.widest) box_widths width (le-leb width s.widest is.most_width) is.box)
+      (filter_member (λ w. leb w s.widest) box_widths width (le-leb width s.widest is.width_to) is.box)
       (where_member (leb (delay + width) (end + 1)) _ _ (le-leb (delay + width) (end + 1) is.begins)
       (member_detected (Pulse end delay width (box_sum f edges end delay width)) detected)))))
 
@@ -115,11 +115,11 @@ module _ (f : Filterbank) (edges : List ℕ) (cells : ℕ → ℕ) (s : Search) 
       let delay = member_between s.min_delay s.max_delay d step.1 in
       let period = member_between s.fold_min s.fold_max p hp in
       let fold : IsFold f edges cells s d p m j phase (fold_sum (series f edges d) p m j phase) = record {
-        least_delay = delay.0;
-        most_delay = delay.1;
+        delay_from = delay.0;
+        delay_to = delay.1;
         step = eqb-true _ 0 step.0;
-        least_period = period.0;
-        most_period = period.1;
+        period_from = period.0;
+        period_to = period.1;
         rows = rows;
         trials = trial;
         phases = within;
@@ -169,9 +169,9 @@ module _ (f : Filterbank) (edges : List ℕ) (cells : ℕ → ℕ) (s : Search) 
       rw is.adds
       (flat_map_member (λ i. folds_of_delay f edges cells s i) (fold_delays s) d _
       (filter_member (λ i. eqb ((i - s.min_delay) % s.fold_step) 0) (delays s) d step
-      (between_member s.min_delay s.max_delay d is.least_delay is.most_delay))
+      (between_member s.min_delay s.max_delay d is.delay_from is.delay_to))
       (flat_map_member (λ i. folds_at f edges cells s d i) (periods s) p _
-      (between_member s.fold_min s.fold_max p is.least_period is.most_period)
+      (between_member s.fold_min s.fold_max p is.period_from is.period_to)
       (folds_member d p m j phase
       (halvings_are s.fold_rows p (f.spectra - d) m is.rows) is.rows.some is.trials is.phases _
       (member_detected (Fold d p m j phase (fold_sum (series f edges d) p m j phase)) detected))))

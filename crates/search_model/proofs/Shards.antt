@@ -74,8 +74,8 @@ module _ (f : Filterbank) (edges : List ℕ) (cells : ℕ → ℕ) (s : Search) 
 
   delay_within : (c : Candidate) → IsCandidate f edges cells s c →
       (s.min_delay ≤ delay_of c) × (delay_of c ≤ s.max_delay)
-  delay_within (Pulse end delay width sum) is = (is.least_delay, is.most_delay)
-  delay_within (Fold delay period halvings trial phase sum) is = (is.least_delay, is.most_delay)
+  delay_within (Pulse end delay width sum) is = (is.delay_from, is.delay_to)
+  delay_within (Fold delay period halvings trial phase sum) is = (is.delay_from, is.delay_to)
 
   part_at : (k : ℕ) (d : List Candidate) → k < s.shards → get_or (shard_parts s list) k d ≡ shard_part s k list
   part_at k d small = get_or-map-range_with_len (λ i. shard_part s i list) 0 s.shards k k d small (omega arith)

@@ -4,11 +4,12 @@ use Rattle.std.specs.Prelude.{sum_by, All}
 use Rattle.std.specs.List.{range_with_len, flat_map}
 use Rattle.std.proofs.lemmas.Bool.{cases_lt}
 use Rattle.std.proofs.lemmas.List.Sums.{sum_by-append, sum_by-cons, sum_by-le}
+use Rattle.std.proofs.lemmas.List.FromFn.{length-range_with_len}
 use Rattle.std.proofs.lemmas.List.Elements.{All-contains, All-map}
 use Rattle.dada_model.specs.Edges.{AreEdges}
 use Rattle.search_model.specs.Samples.{Filterbank, sample_before}
 use Rattle.search_model.specs.Paths.{middle, split_at, IsHalved, the_whole, path}
-use Rattle.search_model.specs.Sums.{between, cells_along, channel_cells, path_cells, path_sum_along, path_sum, late_path_sum}
+use Rattle.search_model.specs.Sums.{between, box_sum, cells_along, channel_cells, path_cells, path_sum_along, path_sum, late_path_sum}
 use Rattle.search_model.specs.Subbands.{node_path, node_sum}
 use Rattle.search_model.proofs.Paths.{Entries, entry_is, same_between, rises_between, middle_above, middle_below, split_at_le, halved_upper, halved_lower, entry_of_path, path_is}
 use Rattle.search_model.proofs.Cells.{cell_count}
@@ -315,3 +316,13 @@ path_sum_le f edges d u late m are small =
     let product : (f.channels + d) * m ≡ m * (f.channels + d) = omega arith in
     let all : sum (path_cells f e d u late) ≤ (f.channels + d) * m = rw count at bound in
     rw (← product) all
+
+pub box_sum_le : (f : Filterbank) (edges : List ℕ) (d u w m : ℕ) → AreEdges f.channels edges →
+    ((c t : ℕ) → f.value c t ≤ m) →
+    box_sum f edges u d w ≤ w * (m * (f.channels + d))
+box_sum_le f edges d u w m are small =
+    let each = all_members (λ k. late_path_sum f edges u d k ≤ m * (f.channels + d)) (range_with_len 0 w)
+    (λ k h. path_sum_le f edges d u k m are small) in
+    let count = length-range_with_len 0 w in
+    let bound = sum_by-le (λ k. late_path_sum f edges u d k) (m * (f.channels + d)) (range_with_len 0 w) each in
+    rw count at bound

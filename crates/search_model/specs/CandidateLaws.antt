@@ -14,13 +14,14 @@ use Rattle.search_model.specs.Order.{IsRising, IsMergeOf}
 
 -- a box is searched: it ends at a spectrum, its delay and width are among those of the search, it begins at its delay
 -- or later, and its sum is detected
-pub record IsPulse (f : Filterbank) (edges : List ℕ) (cells : ℕ →
-    ℕ) (s : Search) (end delay width sum : ℕ) : Type 0 where
+pub record IsPulse
+    (f : Filterbank) (edges : List ℕ) (cells : ℕ → ℕ) (s : Search) (end delay width sum : ℕ)
+    : Type 0 where
   pub ends : end < f.spectra
-  pub least_delay : s.min_delay ≤ delay
-  pub most_delay : delay ≤ s.max_delay
+  pub delay_from : s.min_delay ≤ delay
+  pub delay_to : delay ≤ s.max_delay
   pub box : Contains box_widths width
-  pub most_width : width ≤ s.widest
+  pub width_to : width ≤ s.widest
   pub begins : delay + width ≤ end + 1
   pub adds : sum ≡ box_sum f edges end delay width
   pub detected : IsDetected s.mean s.sd s.snr sum (width * cells delay)
@@ -34,13 +35,14 @@ pub record IsMostHalvings (most p room m : ℕ) : Type 0 where
 
 -- a fold is searched: its delay is one of those that are folded, its period is searched, it has as many rows as fit
 -- into the series of its delay, a trial and a phase of theirs, and its sum is detected
-pub record IsFold (f : Filterbank) (edges : List ℕ) (cells : ℕ →
-    ℕ) (s : Search) (delay period halvings trial phase sum : ℕ) : Type 0 where
-  pub least_delay : s.min_delay ≤ delay
-  pub most_delay : delay ≤ s.max_delay
+pub record IsFold
+    (f : Filterbank) (edges : List ℕ) (cells : ℕ → ℕ) (s : Search) (delay period halvings trial phase sum : ℕ)
+    : Type 0 where
+  pub delay_from : s.min_delay ≤ delay
+  pub delay_to : delay ≤ s.max_delay
   pub step : (delay - s.min_delay) % s.fold_step ≡ 0
-  pub least_period : s.fold_min ≤ period
-  pub most_period : period ≤ s.fold_max
+  pub period_from : s.fold_min ≤ period
+  pub period_to : period ≤ s.fold_max
   pub rows : IsMostHalvings s.fold_rows period (f.spectra - delay) halvings
   pub trials : trial < 2 ^ halvings
   pub phases : phase < period

@@ -3,7 +3,7 @@ use Rattle.std.specs.Prelude.{◌≡◌, ℕ, ◌+◌, ◌-◌, ◌*◌, ◌≤�
 use Rattle.dada_model.specs.Edges.{AreEdges}
 use Rattle.search_model.specs.Samples.{Filterbank}
 use Rattle.search_model.specs.Paths.{middle, split, split_at}
-use Rattle.search_model.specs.Sums.{late_path_sum, path_sum}
+use Rattle.search_model.specs.Sums.{late_path_sum, path_sum, box_sum}
 use Rattle.search_model.specs.Subbands.{node_sum}
 
 -- The sum over a node of two channels and more is that over its upper half, along the path of the split, plus that over
@@ -55,8 +55,9 @@ pub record LatePathSums : Type 0 where
   pub before : (f : Filterbank) (edges : List ℕ) (d u k : ℕ) → AreEdges f.channels edges → u < k →
       late_path_sum f edges u d k ≡ 0
 
--- where no sample is above m, a path sum of delay d over n channels is at most m (n + d)
-abbrev pub PathSumsAreBounded : Type 0
-PathSumsAreBounded = (f : Filterbank) (edges : List ℕ) (d u late m : ℕ) → AreEdges f.channels edges →
-    ((c t : ℕ) → f.value c t ≤ m) →
-    late_path_sum f edges u d late ≤ m * (f.channels + d)
+-- where no sample is above m, a path sum of delay d over n channels is at most m (n + d), and a box sum w of these
+pub record SumsAreBounded : Type 0 where
+  pub path : (f : Filterbank) (edges : List ℕ) (d u late m : ℕ) → AreEdges f.channels edges →
+      ((c t : ℕ) → f.value c t ≤ m) → late_path_sum f edges u d late ≤ m * (f.channels + d)
+  pub box : (f : Filterbank) (edges : List ℕ) (d u w m : ℕ) → AreEdges f.channels edges →
+      ((c t : ℕ) → f.value c t ≤ m) → box_sum f edges u d w ≤ w * (m * (f.channels + d))

@@ -1,7 +1,7 @@
 // Laws of the definitions, which the contracts of functions that do nothing carry. A caller whose proof needs a law
 // calls its function.
 ghost use Rattle.search_model.specs.Laws.{SplitsFit, HalvesJoin, HasOnePath, PathsRise, CellsAreCounted, TestsDetection, DetectionRises};
-ghost use Rattle.search_model.specs.SubbandLaws.{HalvesAdd, OneChannelAdds, OneChannelIsItsSample, TimeShifts, NothingBefore, WholeBandIsPathSum, SplitsStep, LatePathSums, PathSumsAreBounded};
+ghost use Rattle.search_model.specs.SubbandLaws.{HalvesAdd, OneChannelAdds, OneChannelIsItsSample, TimeShifts, NothingBefore, WholeBandIsPathSum, SplitsStep, LatePathSums, SumsAreBounded};
 ghost use Rattle.search_model.specs.CandidateLaws.{CandidatesAreListed, CandidatesRise, RisingListsAgree, ShardsMerge};
 
 /// A half of the band gets no more than the delay of the whole.
@@ -99,7 +99,7 @@ pub fn late_path_sums()
     ensures { LatePathSums }
 {}
 
-/// A path sum is at most its cells times the greatest sample.
-pub fn path_sums_are_bounded()
-    ensures { PathSumsAreBounded }
+/// A path sum or a box sum is at most its cells times the greatest sample.
+pub fn sums_are_bounded()
+    ensures { SumsAreBounded }
 {}
