@@ -1,4 +1,5 @@
 -- The edges of a band.
+-- Source: this project's profile.
 use Rattle.std.specs.Prelude.{◌≡◌, ℕ, ◌+◌, ◌≤◌, ◌<◌, List, length, slice_index}
 
 -- the greatest edge of a band, 2^24 kHz

@@ -1,4 +1,5 @@
 -- Which searches are refused before they begin, since a table would not hold their sums, folds or parts.
+-- Source: this project's profile.
 use Rattle.std.specs.Prelude.{ℕ, ◌+◌, ◌-◌, ◌*◌, ◌^◌, ◌&&◌, max, length, nat_lt, if◌then◌else◌, Option, Some, None}
 use Rattle.search_model.specs.declared.search.Search.{Search}
 use Rattle.search_model.specs.Search.{folds_are_on, fold_delays, delay_count}

@@ -1,4 +1,5 @@
--- What a search looks for, and how its delays are shared.
+-- What a search looks for, how its delays are shared, and in which ranges the settings lie.
+-- Source: this project's profile.
 use Rattle.std.specs.Prelude.{ℕ, ◌+◌, ◌-◌, ◌*◌, ◌/◌, ◌%◌, ◌≤◌, ◌==◌, List, [], ◌∷◌, Bool, IsTrue, filter, nat_le}
 use Rattle.std.specs.List.{list_any}
 use Rattle.dada_model.specs.Bounds.{most_delay}
