@@ -1,6 +1,6 @@
 -- Where a text stops being the beginning of a number.
-use Rattle.std.proofs.Common.{◌≡◌, ◌≢◌, ℕ, ◌+◌, ◌-◌, ◌<◌, ◌≤◌, zero, suc, true, false, ◌&&◌, cond, eqb, ltb, Bool, List, [], ◌∷◌, ◌++◌, length, get_or, take, drop, refl, sym, ap, ◌∙◌, subst, arith, append_assoc, append-nil, length-append, Some, None, ◌⊎◌, inl, inr}
-use Rattle.std.specs.Prelude.{All, ℤ, IsTrue, codes, slice_index, slice_get}
+use Rattle.std.proofs.Common.{◌≡◌, ◌≢◌, ℕ, ◌+◌, ◌-◌, ◌<◌, ◌≤◌, zero, suc, true, false, ◌&&◌, cond, eqb, ltb, Bool, List, [], ◌∷◌, ◌++◌, length, take, drop, refl, sym, ap, ◌∙◌, subst, arith, append_assoc, append-nil, length-append, Some, None, inl, inr}
+use Rattle.std.specs.Prelude.{All, ℤ, codes, slice_get}
 use Rattle.std.specs.Char.{IsAsciiDigit, is_ascii_digit}
 use Rattle.std.specs.List.{before_first, after_first, position_or_len}
 use Rattle.std.specs.Str.{all_ascii_digits}
@@ -11,7 +11,7 @@ use Rattle.std.proofs.Math.Seq.{take-append_seam, take-append-add, take-length}
 use Rattle.dada_model.specs.Number.{is_point, digits_of_number, is_number, number_value}
 use Rattle.dada_model.specs.Laws.{IsSign, Spells, spelled_value, NumbersAreSpelled}
 use Rattle.psr_base.specs.Fixed.{BeginsNumber, StopsAt}
-use Rattle.psr_base.specs.Spelling.{BeginsWithout, BeginsWithoutDigit, SplitsSign, SplitsDigits, SplitsFraction, SplitsNumber}
+use Rattle.psr_base.specs.Spelling.{BeginsWithout, BeginsWithoutDigit, SplitsSign, SplitsNumber}
 
 -- ---- texts that are no number
 

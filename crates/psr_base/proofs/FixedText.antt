@@ -1,5 +1,5 @@
 -- The text of a value with a fixed count of decimals, and its value again.
-use Rattle.std.proofs.Common.{◌≡◌, ℕ, ◌+◌, ◌-◌, ◌*◌, ◌/◌, ◌%◌, ◌^◌, ◌<◌, ◌≤◌, zero, suc, Bool, true, false, ◌&&◌, cond, eqb, ltb, List, [], ◌∷◌, ◌++◌, length, replicate, refl, sym, ap, ◌∙◌, arith, append_assoc, append-nil, length-append, Some, inl, inr}
+use Rattle.std.proofs.Common.{◌≡◌, ℕ, ◌+◌, ◌-◌, ◌*◌, ◌/◌, ◌%◌, ◌^◌, ◌<◌, ◌≤◌, zero, suc, Bool, true, false, cond, eqb, ltb, List, [], ◌∷◌, ◌++◌, length, replicate, refl, sym, ap, ◌∙◌, arith, append-nil, length-append, Some, inl, inr}
 use Rattle.std.specs.Prelude.{All, ℤ, pos, negsuc, neg_ℤ, int_lt, unsigned_abs}
 use Rattle.std.specs.Char.{IsAsciiDigit, is_ascii_digit, digit_value}
 use Rattle.std.specs.Fmt.{decimal, sign_text}
@@ -14,7 +14,7 @@ use Rattle.std.proofs.lemmas.Nat.{div-add-mod', pow-add}
 use Rattle.std.proofs.Math.Nat.{div-le_self, mod-lt, div-one, mul-le-mul_right}
 use Rattle.std.proofs.lemmas.Str.Parse.{tells_all_ascii_digits, numerals_by_value, IsNumeralModel}
 use Rattle.dada_model.specs.Number.{number_value}
-use Rattle.dada_model.specs.Laws.{IsSign, Spells, spelled_value, NumbersAreSpelled}
+use Rattle.dada_model.specs.Laws.{IsSign, Spells, NumbersAreSpelled}
 use Rattle.psr_base.specs.Fixed.{padded, unsigned_text, fixed_text}
 use Rattle.psr_base.proofs.FixedValue.{digits_after, pow_some, quotient}
 

@@ -10,3 +10,4 @@ pub mod InMemory
 pub mod Spelling
 pub mod Fixed
 pub mod Worked
+pub mod WorkedFiles

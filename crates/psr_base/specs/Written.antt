@@ -1,5 +1,5 @@
 -- What is seen of a sink, and what writing does to it.
-use Rattle.std.specs.Prelude.{◌≡◌, ℕ, ◌-◌, ◌+◌, ◌≤◌, ◌<◌, List, [], ◌++◌, length, Option, Result, OnOk, OnErr}
+use Rattle.std.specs.Prelude.{◌≡◌, ℕ, ◌-◌, ◌+◌, ◌≤◌, ◌<◌, ◌⊎◌, List, [], ◌++◌, length, Option, Result, OnOk, OnErr}
 use Rattle.std.specs.Option.{option_map, ForSome}
 use Rattle.std.specs.List.{flat_map, range_with_len}
 use Rattle.std.specs.Io.KnownBytes.{append_known}
@@ -44,6 +44,10 @@ pub record WroteFront (text : List ℕ) (old new : SinkSeen) : Type 0 where
 pub record Wrote {T E : Type 0} (text : List ℕ) (old new : SinkSeen) (result : Result T E) : Type 0 where
   pub all : OnOk result (WroteAll text old new)
   pub front : OnErr result (WroteFront text old new)
+
+-- a line was written, or its front at a fault
+abbrev pub Noted : List ℕ → SinkSeen → SinkSeen → Type 0
+Noted line old new = WroteAll line old new ⊎ WroteFront line old new
 
 -- the first n pieces, one after another
 abbrev pub first_pieces : (ℕ → List ℕ) → ℕ → List ℕ
