@@ -1,0 +1,209 @@
+// Observations of headers, and the headers of later files.
+use dada_header::Header;
+use obs_plan::{Key, ObsFault, Observation};
+use std::alloc::Global;
+use std::test::Fail;
+
+/// A header that is accepted. Of two fields with a keyword the first counts, so lines that stand before these replace them.
+const PLAIN: &[u8] = b"HDR_SIZE 4096
+NCHAN 2
+NBIT 8
+NPOL 1
+NDIM 1
+TSAMP 64
+FREQ 1400
+BW -200
+OBS_OFFSET 0
+";
+
+fn header(alloc: Global, text: &[u8]) -> Result<Header, Fail> {
+    let mut bytes = text.to_vec(alloc)?;
+    bytes.resize(4096, 0)?;
+    match Header::read(alloc, bytes.as_slice()) {
+        Ok(header) => Ok(header),
+        Err(_) => Err("a header".into()),
+    }
+}
+
+// The plain header with a line before it.
+fn header_with(alloc: Global, line: &[u8]) -> Result<Header, Fail> {
+    let mut text = line.to_vec(alloc)?;
+    text.push(b'\n')?;
+    text.extend_from_slice(PLAIN)?;
+    header(alloc, text.as_slice())
+}
+
+fn observation(alloc: Global, header: &Header) -> Result<Observation, Fail> {
+    match Observation::of(alloc, header) {
+        Ok(observation) => Ok(observation),
+        Err(_) => Err("an observation".into()),
+    }
+}
+
+#[test]
+fn the_first_refusal_is_told(rt: HostRuntime) -> Result<(), Fail> {
+    let cases: [(&[u8], ObsFault); 28] = [
+        (b"NCHAN 1", ObsFault::OutOfRange(Key::Nchan)),
+        (b"NCHAN 4097", ObsFault::OutOfRange(Key::Nchan)),
+        (b"NCHAN -2", ObsFault::OutOfRange(Key::Nchan)),
+        (b"NCHAN two", ObsFault::BadNumber(Key::Nchan)),
+        (b"NCHAN 0\nNBIT x", ObsFault::OutOfRange(Key::Nchan)),
+        (b"NBIT 4\nTSAMP 6.4e1", ObsFault::OutOfProfile(Key::Nbit)),
+        (b"NBIT 12", ObsFault::OutOfProfile(Key::Nbit)),
+        (
+            b"NBIT 1000000000000000000000000000000",
+            ObsFault::OutOfProfile(Key::Nbit),
+        ),
+        (b"NPOL 3", ObsFault::OutOfProfile(Key::Npol)),
+        (b"NPOL 0.9", ObsFault::OutOfProfile(Key::Npol)),
+        (b"NDIM 2\nBW 0", ObsFault::OutOfProfile(Key::Ndim)),
+        (b"TSAMP 6.4e1", ObsFault::BadNumber(Key::Tsamp)),
+        (b"TSAMP 0.0009", ObsFault::OutOfRange(Key::Tsamp)),
+        (b"TSAMP 1073741.825", ObsFault::OutOfRange(Key::Tsamp)),
+        (b"FREQ 0.000999", ObsFault::OutOfRange(Key::Freq)),
+        (b"FREQ 16000.000001", ObsFault::OutOfRange(Key::Freq)),
+        (b"FREQ -1400", ObsFault::OutOfRange(Key::Freq)),
+        (b"BW 0.0000009", ObsFault::OutOfRange(Key::Bw)),
+        (b"BW 2799.998001", ObsFault::OutOfRange(Key::Bw)),
+        (b"FREQ 16000\nBW 1554.434", ObsFault::OutOfRange(Key::Bw)),
+        (
+            b"BW 1000000000000000000000000000000",
+            ObsFault::OutOfRange(Key::Bw),
+        ),
+        (
+            b"BW -0.001999\nOBS_OFFSET x",
+            ObsFault::BadNumber(Key::ObsOffset),
+        ),
+        (b"OBS_OFFSET -1", ObsFault::OutOfRange(Key::ObsOffset)),
+        (
+            b"OBS_OFFSET 1000000000000001",
+            ObsFault::OutOfRange(Key::ObsOffset),
+        ),
+        (b"BW -0.001999", ObsFault::TooNarrow { bw: 1999, nchan: 2 }),
+        (b"BW 0.001999", ObsFault::TooNarrow { bw: 1999, nchan: 2 }),
+        (
+            b"NCHAN 4096\nBW 4.095999",
+            ObsFault::TooNarrow {
+                bw: 4_095_999,
+                nchan: 4096,
+            },
+        ),
+        (
+            b"NCHAN 2 3\nNCHAN\nNBIT\t#\nNBIT +",
+            ObsFault::BadNumber(Key::Nbit),
+        ),
+    ];
+    for (lines, fault) in cases {
+        let header = header_with(rt.alloc(), lines)?;
+        assert_eq!(rt;
+            Observation::of(rt.alloc(), &header).err(),
+            Some(fault),
+            "{lines:?}"
+        );
+    }
+    Ok(())
+}
+
+#[test]
+fn a_keyword_is_missing(rt: HostRuntime) -> Result<(), Fail> {
+    let cases: [(&[u8], Option<ObsFault>); 8] = [
+        (b"", Some(ObsFault::Missing(Key::Nchan))),
+        (b"NBIT 4\nnchan 2\n", Some(ObsFault::Missing(Key::Nchan))),
+        (b"NCHAN 2\nTSAMP x\n", Some(ObsFault::Missing(Key::Nbit))),
+        (b"NCHAN 2\nNBIT 8\n", Some(ObsFault::Missing(Key::Tsamp))),
+        (
+            b"NCHAN 2\nNBIT 8\nTSAMP 64\n",
+            Some(ObsFault::Missing(Key::Freq)),
+        ),
+        (
+            b"NCHAN 2\nNBIT 8\nTSAMP 64\nFREQ 1400\n",
+            Some(ObsFault::Missing(Key::Bw)),
+        ),
+        (b"NCHAN 2\nNBIT 8\nTSAMP 64\nFREQ 1400\nBW -200\n", None),
+        (b"BW -200\nFREQ 1400\nTSAMP 64\nNBIT 16.9\nNCHAN 2.9", None),
+    ];
+    for (text, fault) in cases {
+        let header = header(rt.alloc(), text)?;
+        assert_eq!(rt;
+            Observation::of(rt.alloc(), &header).err(),
+            fault,
+            "{text:?}"
+        );
+    }
+    Ok(())
+}
+
+#[test]
+fn numbers_are_read_in_their_units(rt: HostRuntime) -> Result<(), Fail> {
+    let wide = header_with(
+        rt.alloc(),
+        b"NCHAN 1024.9\nNBIT 16.9\nNPOL 2\nTSAMP 64.0009\nFREQ 1382\nBW -400\nOBS_OFFSET 12",
+    )?;
+    let wide = observation(rt.alloc(), &wide)?;
+    assert_eq!(rt; (wide.channels(), wide.nbit(), wide.npol()), (1024, 16, 2));
+    assert_eq!(rt; (wide.tsamp_ns(), wide.obs_offset()), (64000, 12));
+    assert_eq!(rt; (wide.falling(), wide.max_sample()), (true, 131070));
+    assert_eq!(rt;
+        (wide.edges().first(), wide.edges().last()),
+        (Some(&1582000), Some(&1182000))
+    );
+    assert_eq!(rt; (wide.dm(0), wide.dm(512)), (0, 24975));
+    let rising = header_with(rt.alloc(), b"BW 200\nOBS_OFFSET -0.9")?;
+    let rising = observation(rt.alloc(), &rising)?;
+    assert_eq!(rt;
+        (rising.falling(), rising.max_sample(), rising.obs_offset()),
+        (false, 255, 0)
+    );
+    assert_eq!(rt; rising.edges(), [1500000, 1400000, 1300000].as_slice());
+    assert_eq!(rt; (rising.dm(1), rising.profile().bw_hz), (104, 200_000_000));
+    Ok(())
+}
+
+#[test]
+fn a_later_header_differs(rt: HostRuntime) -> Result<(), Fail> {
+    let plain = header_with(rt.alloc(), b"")?;
+    let profile = observation(rt.alloc(), &plain)?.profile();
+    assert_eq!(rt; profile.bw_hz, -200_000_000);
+    let cases: [(&[u8], Result<u64, ObsFault>); 18] = [
+        (b"", Ok(0)),
+        (b"OBS_OFFSET 4.9", Ok(4)),
+        (b"OBS_OFFSET 1000000000000000", Ok(1_000_000_000_000_000)),
+        (b"TSAMP 64.0009\nBW -0200.0000001", Ok(0)),
+        (b"NCHAN 3", Err(ObsFault::Differs(Key::Nchan))),
+        (b"NBIT 16\nNCHAN 2", Err(ObsFault::Differs(Key::Nbit))),
+        (b"NPOL 2", Err(ObsFault::Differs(Key::Npol))),
+        (b"NDIM x", Err(ObsFault::Differs(Key::Ndim))),
+        (b"TSAMP 64.001", Err(ObsFault::Differs(Key::Tsamp))),
+        (
+            b"FREQ 1400.000001\nBW 200",
+            Err(ObsFault::Differs(Key::Freq)),
+        ),
+        (b"BW 200", Err(ObsFault::Differs(Key::Bw))),
+        (
+            b"BW -1000000000000000000000000000000",
+            Err(ObsFault::Differs(Key::Bw)),
+        ),
+        (b"BW 200\nOBS_OFFSET x", Err(ObsFault::Differs(Key::Bw))),
+        (b"NCHAN\nNCHAN 0", Err(ObsFault::Differs(Key::Nchan))),
+        (b"OBS_OFFSET x", Err(ObsFault::BadNumber(Key::ObsOffset))),
+        (b"OBS_OFFSET -1", Err(ObsFault::OutOfRange(Key::ObsOffset))),
+        (
+            b"OBS_OFFSET 1000000000000001",
+            Err(ObsFault::OutOfRange(Key::ObsOffset)),
+        ),
+        (
+            b"OBS_OFFSET 1000000000000000000000000000000",
+            Err(ObsFault::OutOfRange(Key::ObsOffset)),
+        ),
+    ];
+    for (lines, expected) in cases {
+        let later = header_with(rt.alloc(), lines)?;
+        assert_eq!(rt; profile.later_offset(&later), expected, "{lines:?}");
+    }
+    let short = header(rt.alloc(), b"NCHAN 2\nNBIT 8\n")?;
+    assert_eq!(rt;
+        profile.later_offset(&short),
+        Err(ObsFault::Differs(Key::Tsamp))
+    );
+    Ok(())
+}
