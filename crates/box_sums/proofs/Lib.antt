@@ -1,0 +1,6 @@
+pub mod Doubling
+pub mod Ending
+pub mod Feeding
+pub mod Parts
+pub mod Values
+pub mod Zeros

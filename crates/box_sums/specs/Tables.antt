@@ -1,0 +1,32 @@
+-- The tables that stand behind.
+use Rattle.std.specs.Prelude.{ℕ, ◌+◌, ◌-◌, ◌*◌, ◌^◌, ◌≡◌, ◌<◌, ◌≤◌, List, length, slice_index}
+use Rattle.fdmt_rows.specs.Rows.{sum_of}
+use Rattle.box_sums.specs.Rows.{IsWidth}
+use Rattle.box_sums.specs.Kept.{row_at}
+
+-- no value is above the bound
+abbrev pub AreUpTo : ℕ → List ℕ → Type 0
+AreUpTo bound xs = (k : ℕ) → slice_index xs k ≤ bound
+
+-- row m of the boxes has the sums of 2^m neighbours of the first `total` values of a row, for m up to `levels`
+abbrev pub AreBoxes : List ℕ → ℕ → ℕ → List ℕ → ℕ → Type 0
+AreBoxes boxes stride levels row total = (m i : ℕ) → m ≤ levels → i + 2 ^ m ≤ total
+    → slice_index boxes (m * stride + i) ≡ sum_of row i (2 ^ m)
+
+-- what stands behind is as large as it has to be, and the boxes are those of the row that was fed last
+pub record IsSound (first last chunk widest bound newest : ℕ) (fed kept boxes : List ℕ) : Type 0 where
+  pub order : first ≤ last
+  pub few_rows : last ≤ 8192
+  pub some : 1 ≤ chunk
+  pub most : chunk ≤ 65536
+  pub width : IsWidth widest
+  pub fits : bound * widest < 2 ^ 32
+  pub above : first ≤ newest
+  pub below : newest ≤ last
+  pub fed_room : length fed ≡ last - first + 1
+  pub kept_room : length kept ≡ (last - first + 1) * (widest - 1 + chunk)
+  pub boxes_room : length boxes ≡ 6 * (widest - 1 + chunk)
+  pub short : AreUpTo chunk fed
+  pub small : AreUpTo bound kept
+  pub sums : (m : ℕ) → 2 ^ m ≤ widest → AreBoxes boxes (widest - 1 + chunk) m
+      (row_at kept (widest - 1 + chunk) (newest - first)) (widest - 1 + slice_index fed (newest - first))
