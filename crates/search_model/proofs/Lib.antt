@@ -11,3 +11,4 @@ pub mod Rising
 pub mod Shards
 pub mod Ranges
 pub mod Subbands
+pub mod Samples

@@ -11,8 +11,7 @@ use Rattle.search_model.specs.Folds.{shift, fold_sum}
 use Rattle.search_model.specs.Detection.{is_detected}
 use Rattle.search_model.specs.Search.{shard_start}
 use Rattle.search_model.specs.Plan.{SumBound, FoldTooLarge, TooManyFolds, TooManyShards, plan_refusal}
-use Rattle.search_model.specs.Candidates.{plain_cells, candidates}
-use Rattle.search_model.specs.CandidateText.{plain_labels, candidate_text}
+use Rattle.search_model.specs.Observed.{search_text}
 
 -- ---- paths
 
@@ -131,29 +130,35 @@ plain_search = record {
   snr = 700;
 }
 
--- the text of a search of two channels
-abbrev text_of : Filterbank → Search → List ℕ
-text_of f s =
-    candidate_text (plain_labels (dm two_channels) 2) f.spectra (candidates f (edges two_channels) (plain_cells 2) s)
-
-one_pulse : text_of sample plain_search ≡ codes "PULSE 1 1 0.104 1 30 3\nEND 1 0 3\n"
+one_pulse : search_text two_channels plain_search (10 ∷ 0 ∷ 0 ∷ 20 ∷ 0 ∷ 0 ∷ [])
+    ≡ codes "PULSE 1 1 0.104 1 30 3\nEND 1 0 3\n"
 unfolding digits edges edge signed_edge dm dispersion_span path entry
 one_pulse = refl
 
-nothing : text_of (filterbank 2 true []) plain_search ≡ codes "END 0 0 0\n"
+nothing : search_text two_channels plain_search [] ≡ codes "END 0 0 0\n"
 unfolding digits edges edge signed_edge dm dispersion_span path entry
 nothing = refl
 
--- the same pulse in samples of 16 bits, and in two polarisations
-one_wide_pulse : map (λ bytes. text_of (filterbank 2 true bytes) plain_search)
-    (samples_of 16 1 (10 ∷ 0 ∷ 0 ∷ 0 ∷ 0 ∷ 0 ∷ 20 ∷ 0 ∷ 0 ∷ 0 ∷ 0 ∷ 0 ∷ [])
-    ∷ samples_of 8 2 (4 ∷ 6 ∷ 0 ∷ 0 ∷ 0 ∷ 0 ∷ 20 ∷ 0 ∷ 0 ∷ 0 ∷ 0 ∷ 0 ∷ []) ∷ [])
-    ≡ codes "PULSE 1 1 0.104 1 30 3\nEND 1 0 3\n" ∷ codes "PULSE 1 1 0.104 1 30 3\nEND 1 0 3\n" ∷ []
+-- the same pulse in a rising band, in samples of 16 bits, and in two polarisations
+rising_pulse : search_text (record two_channels { is_falling = false }) plain_search (0 ∷ 10 ∷ 20 ∷ 0 ∷ 0 ∷ 0 ∷ [])
+    ≡ codes "PULSE 1 1 0.104 1 30 3\nEND 1 0 3\n"
 unfolding digits edges edge signed_edge dm dispersion_span path entry
-one_wide_pulse = refl
+rising_pulse = refl
+
+wide_pulse : search_text (record two_channels { nbit = 16 }) plain_search
+    (10 ∷ 0 ∷ 0 ∷ 0 ∷ 0 ∷ 0 ∷ 20 ∷ 0 ∷ 0 ∷ 0 ∷ 0 ∷ 0 ∷ [])
+    ≡ codes "PULSE 1 1 0.104 1 30 3\nEND 1 0 3\n"
+unfolding digits edges edge signed_edge dm dispersion_span path entry
+wide_pulse = refl
+
+added_pulse : search_text (record two_channels { npol = 2 }) plain_search
+    (4 ∷ 6 ∷ 0 ∷ 0 ∷ 0 ∷ 0 ∷ 20 ∷ 0 ∷ 0 ∷ 0 ∷ 0 ∷ 0 ∷ [])
+    ≡ codes "PULSE 1 1 0.104 1 30 3\nEND 1 0 3\n"
+unfolding digits edges edge signed_edge dm dispersion_span path entry
+added_pulse = refl
 
 -- the box of two spectra is judged where it begins at its delay
-two_widths : text_of sample (record plain_search { widest = 2 })
+two_widths : search_text two_channels (record plain_search { widest = 2 }) (10 ∷ 0 ∷ 0 ∷ 20 ∷ 0 ∷ 0 ∷ [])
     ≡ codes "PULSE 1 1 0.104 1 30 3\nPULSE 2 1 0.104 2 50 6\nEND 2 0 3\n"
 unfolding digits edges edge signed_edge dm dispersion_span path entry
 two_widths = refl
@@ -162,31 +167,34 @@ abbrev fold_search : Search
 fold_search = record plain_search { max_delay = 0; fold_max = 2; fold_rows = 1; mean = 0; sd = 1000; snr = 200 }
 
 -- two rows of two spectra are folded at both trials
-folds_and_pulses : text_of (filterbank 2 true (1 ∷ 0 ∷ 2 ∷ 0 ∷ 3 ∷ 0 ∷ 4 ∷ 0 ∷ [])) fold_search
+folds_and_pulses : search_text two_channels fold_search (1 ∷ 0 ∷ 2 ∷ 0 ∷ 3 ∷ 0 ∷ 4 ∷ 0 ∷ [])
     ≡ codes "PULSE 2 0 0.000 1 3 2\nPULSE 3 0 0.000 1 4 2\nFOLD 0 0.000 2 2 0 0 4 4\nFOLD 0 0.000 2 2 0 1 6 4\n"
     ++ codes "FOLD 0 0.000 2 2 1 0 5 4\nFOLD 0 0.000 2 2 1 1 5 4\nEND 2 4 4\n"
 unfolding digits edges edge signed_edge dm dispersion_span path entry
 folds_and_pulses = refl
 
 -- with three spectra there is no room for two rows
-no_room : text_of (filterbank 2 true (1 ∷ 0 ∷ 2 ∷ 0 ∷ 3 ∷ 0 ∷ [])) fold_search
-    ≡ codes "PULSE 2 0 0.000 1 3 2\nEND 1 0 3\n"
+no_room : search_text two_channels fold_search (1 ∷ 0 ∷ 2 ∷ 0 ∷ 3 ∷ 0 ∷ []) ≡ codes "PULSE 2 0 0.000 1 3 2\nEND 1 0 3\n"
 unfolding digits edges edge signed_edge dm dispersion_span path entry
 no_room = refl
 
 -- ---- plans
 
-plans : map (λ s. plan_refusal 255 2 s)
+plans : map (λ s. plan_refusal two_channels s)
     (plain_search ∷ record plain_search { shards = 3 } ∷ record plain_search { fold_max = 1048576; fold_rows = 3 }
     ∷ record plain_search { max_delay = 64; fold_max = 2; fold_step = 1 } ∷ [])
     ≡ None ∷ Some (TooManyShards 3 2) ∷ Some (FoldTooLarge 1048576 3) ∷ Some (TooManyFolds 65) ∷ []
 plans = refl
 
-wide_plans : map (λ w. plan_refusal 131070 1024 (record plain_search { max_delay = 512; widest = w })) (16 ∷ 32 ∷ [])
+-- 16 bits and two polarisations in 1024 channels, and 8 bits in 4096
+wide_plans : map (λ w.
+    plan_refusal (record two_channels { channels = 1024; nbit = 16; npol = 2 })
+    (record plain_search { max_delay = 512; widest = w }))
+    (16 ∷ 32 ∷ [])
     ≡ None ∷ Some (SumBound 131070 1536 32) ∷ []
 wide_plans = refl
 
-long_folds : plan_refusal 255 4096
+long_folds : plan_refusal (record two_channels { channels = 4096 })
     (record plain_search { max_delay = 8192; fold_max = 2; fold_rows = 12; fold_step = 8192 })
     ≡ Some (SumBound 255 12288 4096)
 long_folds = refl

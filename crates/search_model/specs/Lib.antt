@@ -1,4 +1,5 @@
 pub mod Samples
+pub mod SampleLaws
 pub mod Paths
 pub mod Sums
 pub mod Subbands
@@ -11,4 +12,5 @@ pub mod Order
 pub mod CandidateLaws
 pub mod CandidateText
 pub mod Plan
+pub mod Observed
 pub mod Laws

@@ -1,6 +1,7 @@
 -- Which searches are refused before they begin, since a table would not hold their sums, folds or parts.
 -- Source: this project's profile.
 use Rattle.std.specs.Prelude.{ℕ, ◌+◌, ◌-◌, ◌*◌, ◌^◌, ◌&&◌, max, length, nat_lt, if◌then◌else◌, Option, Some, None}
+use Rattle.dada_model.specs.Observation.{Observation, max_sample}
 use Rattle.search_model.specs.declared.search.Search.{Search}
 use Rattle.search_model.specs.Search.{folds_are_on, fold_delays, delay_count}
 
@@ -14,13 +15,14 @@ pub data PlanRefusal : Type 0 where
 abbrev pub most_added : Search → ℕ
 most_added s = max s.widest (if folds_are_on s then 2 ^ s.fold_rows else 1)
 
--- the first refusal of a search over n channels, where no sample is above max_sample:
+-- the first refusal of a search of an observation:
 -- a sum past 32 bits; a fold of more than 2^22 values; more than 64 folded delays; more shards than delays
-abbrev pub plan_refusal : ℕ → ℕ → Search → Option PlanRefusal
-plan_refusal max_sample n s =
+abbrev pub plan_refusal : Observation → Search → Option PlanRefusal
+plan_refusal o s =
+    let most_cells = o.channels + s.max_delay in
     let fold_count = length (fold_delays s) in
-    if nat_lt (2 ^ 32 - 1) (max_sample * (n + s.max_delay) * most_added s)
-    then Some (SumBound max_sample (n + s.max_delay) (most_added s))
+    if nat_lt (2 ^ 32 - 1) (max_sample o * most_cells * most_added s)
+    then Some (SumBound (max_sample o) most_cells (most_added s))
     else (if folds_are_on s && nat_lt (2 ^ 22) (s.fold_max * 2 ^ s.fold_rows)
     then Some (FoldTooLarge s.fold_max s.fold_rows)
     else (if folds_are_on s && nat_lt 64 fold_count

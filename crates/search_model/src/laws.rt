@@ -1,6 +1,7 @@
 // Laws of the definitions, which the contracts of functions that do nothing carry. A caller whose proof needs a law
 // calls its function.
 ghost use Rattle.search_model.specs.Laws.{SplitsFit, HalvesJoin, HasOnePath, PathsRise, CellsAreCounted, TestsDetection, DetectionRises};
+ghost use Rattle.search_model.specs.SampleLaws.{SamplesOfBytes};
 ghost use Rattle.search_model.specs.SubbandLaws.{HalvesAdd, OneChannelAdds, OneChannelIsItsSample, TimeShifts, NothingBefore, WholeBandIsPathSum, SplitsStep, LatePathSums, SumsAreBounded};
 ghost use Rattle.search_model.specs.CandidateLaws.{CandidatesAreListed, CandidatesRise, RisingListsAgree, ShardsMerge};
 
@@ -102,4 +103,9 @@ pub fn late_path_sums()
 /// A path sum or a box sum is at most its cells times the greatest sample.
 pub fn sums_are_bounded()
     ensures { SumsAreBounded }
+{}
+
+/// Bytes of 8 bits and one polarisation are the samples, and further bytes change no sample.
+pub fn samples_of_bytes()
+    ensures { SamplesOfBytes }
 {}
