@@ -10,7 +10,8 @@ most_sample = 2 ^ 20
 abbrev pub channels_of : List ℕ → ℕ
 channels_of edges = length edges - 1
 
--- the delays of n channels at their edges, as a path has them: they begin at 0, never fall, and end at the longest delay at most
+-- the delays of n channels at their edges, as a path has them: they begin at 0, never fall, and end at the longest
+-- delay at most
 pub record AreDelays (n : ℕ) (delays : List ℕ) : Type 0 where
   pub entries : length delays ≡ n + 1
   pub first : slice_index delays 0 ≡ 0

@@ -70,7 +70,8 @@ pub fn edge_delays(alloc: Global, edges: &[u32], d: u32) -> Result<Vec<u32>, Mem
     requires edges { AreEdges (channels_of edges.now) edges.now }
     requires delay { d ≤ most_delay }
     ensures path { IfOk result (λ delays. IsPath edges.now (channels_of edges.now) d delays.items) }
-    ensures value { IfOk result (λ delays. delays.items ≡ path edges.now (channels_of edges.now) d) }
+    ensures value { IfOk result (λ delays.
+        delays.items ≡ path edges.now (channels_of edges.now) d) }
     ensures delays { IfOk result (λ delays. AreDelays (channels_of edges.now) delays.items) }
 {
     has_one_path();
