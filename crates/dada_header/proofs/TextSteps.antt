@@ -52,7 +52,7 @@ pub searched_none : (key text : List ℕ) → IsSearched key text 0
 searched_none key text = record { within = omega arith; value = refl; other = λ value. refl }
 
 -- the line and what follows it
-line_and_rest : (text : List ℕ) (from end : ℕ) → IsLineEnd text from end → end ≢ length text → drop from text ≡ slice_range text from end ++ (10 ∷ drop (end + 1) text)
+pub line_and_rest : (text : List ℕ) (from end : ℕ) → IsLineEnd text from end → end ≢ length text → drop from text ≡ slice_range text from end ++ (10 ∷ drop (end + 1) text)
 line_and_rest text from end h short = let within : end ≤ length text = h.within in h.rest (omega arith)
 
 pub front_of_line : (text : List ℕ) (from end : ℕ) → IsLineEnd text from end → end ≢ length text → take (end + 1) text ≡ take from text ++ (slice_range text from end ++ (10 ∷ []))

@@ -2,3 +2,4 @@ pub mod Faults
 pub mod Places
 pub mod Space
 pub mod Lines
+pub mod Changes

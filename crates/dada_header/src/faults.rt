@@ -28,3 +28,10 @@ impl From<Memory> for HeaderFault {
         HeaderFault::Memory
     }
 }
+
+/// The changed text would fill the header's size or more: `need` is its length.
+#[derive(Clone, Copy, PartialEq, Eq, Debug, Drop, Error)]
+pub enum SetFault {
+    #[error("{need} bytes of text do not fit a header of {size} bytes")]
+    Overfull { need: usize, size: usize },
+}

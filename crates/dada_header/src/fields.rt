@@ -1,10 +1,10 @@
 // The lines of a text that are fields with a key.
-ghost use Rattle.std.specs.Prelude.{◌≡◌, ℕ, ◌≤◌, false, if◌then◌else◌, IfSome, IfNone, None, ◌==◌, length, position};
+ghost use Rattle.std.specs.Prelude.{◌≡◌, ℕ, ◌≤◌, false, IfSome, IfNone, None, ◌==◌, length, position};
 ghost use Rattle.dada_model.specs.Fields.{fields_of, value_of};
-ghost use Rattle.dada_model.specs.Change.{has_key, blanked_line, blanked};
+ghost use Rattle.dada_model.specs.Change.{has_key};
 ghost use Rattle.dada_header.specs.Lines.{IsLineEnd};
 
-use crate::words::{FieldPlaces, Place, without_comment};
+use crate::words::{FieldPlaces, Place};
 // A law: it does nothing when it runs, and the proofs use what it ensures.
 use dada_model::fields_by_lines;
 
@@ -15,8 +15,8 @@ fn first_line_feed(text: &[u8]) -> Option<usize>
     text.iter().position(|byte| *byte == b'\n')
 }
 
-// Where the line ends that begins at a place in a text.
-fn line_end(text: &[u8], from: usize) -> usize
+/// Where the line ends that begins at a place in a text.
+pub(crate) fn line_end(text: &[u8], from: usize) -> usize
     requires { from ≤ length text.now }
     ensures { IsLineEnd text.now from result }
 {
@@ -29,8 +29,8 @@ fn line_end(text: &[u8], from: usize) -> usize
 impl Place {
     ghost use Rattle.dada_header.specs.Places.{IsValueAt, IsFirstValueAt};
 
-    // The value of a line that is a field with a key.
-    fn of_value(line: &[u8], key: &[u8]) -> Option<Place>
+    /// The value of a line that is a field with a key.
+    pub(crate) fn of_value(line: &[u8], key: &[u8]) -> Option<Place>
         ensures some { IfSome result (IsValueAt key.now line.now) }
         ensures none { IfNone result (has_key key.now line.now ≡ false) }
     {

@@ -1,14 +1,21 @@
 // Headers: their size and their text in a space of 65536 bytes.
-ghost use Rattle.std.specs.Prelude.{◌≡◌, ◌≢◌, ℕ, ◌-◌, ◌<◌, ◌≤◌, List, [], ◌++◌, All, length, take, replicate, Ok, Err, Some, None, OnOk, IfOk, IfErr, option_copied, position, ◌==◌};
+ghost use Rattle.std.specs.Prelude.{◌≡◌, ◌≢◌, ℕ, ◌-◌, ◌<◌, ◌≤◌, List, [], ◌++◌, All, length, take, replicate, Ok, Err, Some, None, OnOk, IfOk, IfErr, option_copied, codes, position, ◌==◌};
 ghost use Rattle.dada_model.specs.Fields.{HeaderText, fields_of, value_of, before_nul, header_size, header_text, header_of, header_bytes, is_above_ascii, allowed_size};
 ghost use Rattle.dada_model.specs.Number.{number_value};
+ghost use Rattle.dada_model.specs.Change.{IsWord};
+ghost use Rattle.dada_model.specs.ChangeLaws.{StaysInPlace};
 ghost use Rattle.dada_header.specs.Space.{header_in, IsKept};
+ghost use Rattle.dada_header.specs.Changes.{IsSet, IsOverfull};
 ghost use Rattle.dada_header.specs.Faults.{IsSizeRefusal, IsRefusal, Explains};
 
-use crate::faults::HeaderFault;
+use crate::change::{edit, plan};
+use crate::faults::{HeaderFault, SetFault};
 use crate::words::Place;
 // Laws: they do nothing when they run, and the proofs use what they ensure.
-use dada_model::{blank_is_read_back, headers_are_read_back, headers_are_text, headers_by_front};
+use dada_model::{
+    blank_is_read_back, change_gives_value, change_keeps_others, change_stays_in_place,
+    changed_is_read_back, headers_are_read_back, headers_are_text, headers_by_front,
+};
 use psr_base::{Fixed, Memory};
 use std::alloc::{AllocError, Global};
 use std::marker::Model;
@@ -197,13 +204,6 @@ impl Header {
         self.size = other.size;
     }
 
-    // The text.
-    fn text(&self) -> &[u8]
-        ensures { result.now ≡ self.now.text }
-    {
-        &self.space[..self.len]
-    }
-
     /// The value of a keyword: that of the first field with it.
     pub fn get(&self, key: &str) -> Option<&str>
         ensures { option_copied result ≡ value_of key.now (fields_of self.now.text) }
@@ -214,6 +214,38 @@ impl Header {
             return None;
         };
         ascii_text(&text[place.start..place.end])
+    }
+
+    /// Gives a keyword another value. Where its first field has a value that is at least as long, the other
+    /// takes its place; else each field with the keyword becomes blank, and a line is appended. No byte
+    /// before the end of the text changes its place.
+    pub fn set(&mut self, key: &str, value: &str) -> Result<(), SetFault>
+        requires key { IsWord key.now }
+        requires value { IsWord value.now }
+        requires other_than_size { key.now ≢ codes "HDR_SIZE" }
+        ensures ok { OnOk result (IsSet key.now value.now self.old self.new) }
+        ensures full { IfErr result (λ fault. IsOverfull key.now value.now self.old fault × (self.new ≡ self.old)) }
+        ensures value { OnOk result (value_of key.now (fields_of self.new.text) ≡ Some value.now) }
+        ensures others { OnOk result ((other : List ℕ) → other ≢ key.now
+            → value_of other (fields_of self.new.text) ≡ value_of other (fields_of self.old.text)) }
+        ensures places { OnOk result (StaysInPlace key.now self.old.text self.new.text) }
+    {
+        change_gives_value();
+        change_keeps_others();
+        change_stays_in_place();
+        changed_is_read_back();
+        headers_are_text();
+        let (key, value) = (key.as_bytes(), value.as_bytes());
+        let (overwritten, need) = plan(&self.space[..self.len], key, value);
+        if need >= self.size {
+            return Err(SetFault::Overfull {
+                need,
+                size: self.size,
+            });
+        }
+        let space = self.space.as_mut_slice();
+        self.len = edit(space, self.len, overwritten, key, value);
+        Ok(())
     }
 
     /// The size in bytes, from 4096 to 65536.

@@ -2,10 +2,12 @@
 //! They are read, looked up and changed in place.
 #![tactic(auto)]
 
+mod blank;
+mod change;
 mod faults;
 mod fields;
 mod header;
 mod words;
 
-pub use faults::HeaderFault;
+pub use faults::{HeaderFault, SetFault};
 pub use header::Header;

@@ -52,7 +52,8 @@ fn comment_start(line: &[u8]) -> Option<usize>
 /// What stands before a line's comment.
 #[tactic(auto, unfolding(dada_model::specs::Fields::without_comment))]
 pub(crate) fn without_comment(line: &[u8]) -> &[u8]
-    ensures { result.now ≡ without_comment line.now }
+    ensures front { result.now ≡ without_comment line.now }
+    ensures len { length result.now ≤ length line.now }
 {
     match comment_start(line) {
         Some(end) => &line[..end],

@@ -67,6 +67,10 @@ changed_false key value text e =
 blanked_length : (key text : List ℕ) → length (join_with_byte 10 (without_key key (lines_of text))) ≡ length text
 blanked_length key text = same_lengths key (lines_of text) (without_key key (lines_of text)) (blanked_changes key text) ∙ ap length (joined-lines text)
 
+pub blank_length : (key text : List ℕ) → length (blanked key text) ≡ length text
+unfolding blanked
+blank_length key text = blanked_length key text
+
 some_blanked : (key text : List ℕ) → IsSomeList (without_key key (lines_of text))
 some_blanked key text = some_without key (lines_of text) (some_lines text)
 

@@ -1,7 +1,7 @@
 -- Laws of headers and of their changes; the functions of this crate carry them.
 use Rattle.std.specs.Prelude.{◌≡◌, ◌≢◌, ℕ, ◌+◌, ◌<◌, ◌≤◌, ◌⊎◌, true, List, [], ◌∷◌, ◌++◌, All, length, take, slice_index, Some, Ok, codes}
 use Rattle.dada_model.specs.Fields.{without_comment, fields_of, value_of, HeaderText, header_of, header_bytes}
-use Rattle.dada_model.specs.Change.{IsWord, has_key, changed}
+use Rattle.dada_model.specs.Change.{IsWord, has_key, blanked, changed}
 
 -- ---- headers
 
@@ -62,6 +62,10 @@ pub record StaysInPlace (key old new : List ℕ) : Type 0 where
 
 abbrev pub ChangeStaysInPlace : Type 0
 ChangeStaysInPlace = (key value text : List ℕ) → IsWord key → IsWord value → StaysInPlace key text (changed key value text)
+
+-- a text that is made blank has its length
+abbrev pub BlankKeepsLength : Type 0
+BlankKeepsLength = (key text : List ℕ) → length (blanked key text) ≡ length text
 
 -- of two changes of a key to values of one width, the last alone counts
 abbrev pub LastChangeCounts : Type 0

@@ -1,6 +1,6 @@
 // Laws of the change of a header's field, which the contracts of functions that do nothing carry. A caller whose
 // proof needs a law calls its function.
-ghost use Rattle.dada_model.specs.ChangeLaws.{ChangeGivesValue, ChangeKeepsOthers, ChangeStaysInPlace, LastChangeCounts, ChangedIsReadBack};
+ghost use Rattle.dada_model.specs.ChangeLaws.{ChangeGivesValue, ChangeKeepsOthers, ChangeStaysInPlace, BlankKeepsLength, LastChangeCounts, ChangedIsReadBack};
 
 /// After a change the key has the value.
 pub fn change_gives_value()
@@ -15,6 +15,11 @@ pub fn change_keeps_others()
 /// A change moves no byte of the text.
 pub fn change_stays_in_place()
     ensures { ChangeStaysInPlace }
+{}
+
+/// A text keeps its length where the fields of a key become blank.
+pub fn blank_keeps_length()
+    ensures { BlankKeepsLength }
 {}
 
 /// Of two changes of a key to values of one width, the last alone counts.

@@ -10,8 +10,8 @@ mod laws;
 mod number;
 
 pub use change_laws::{
-    change_gives_value, change_keeps_others, change_stays_in_place, changed_is_read_back,
-    last_change_counts,
+    blank_keeps_length, change_gives_value, change_keeps_others, change_stays_in_place,
+    changed_is_read_back, last_change_counts,
 };
 pub use header_laws::{
     blank_is_read_back, fields_by_lines, first_word_of_line, headers_are_read_back,
