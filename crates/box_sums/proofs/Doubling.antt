@@ -39,7 +39,8 @@ level_more old new row stride level levels width total count more is short is_co
     elim (cases_lt m (level + 1)) [
       | inl h ↦
           let some : 0 < 2 ^ m = pow_pos m in
-          let lower : (m + 1) * stride ≤ (level + 1) * stride = mul-le-mul_right stride (let l : m + 1 ≤ level + 1 = omega arith in l) in
+          let lower : (m + 1) * stride ≤ (level + 1) * stride =
+          mul-le-mul_right stride (let l : m + 1 ≤ level + 1 = omega arith in l) in
           below (m * stride + i) (omega arith) ∙ are m i (omega arith) room
       | inr h ↦
           let is_top : level + 1 ≡ m = omega arith in
@@ -48,11 +49,13 @@ level_more old new row stride level levels width total count more is short is_co
           let fewer : 2 ^ (level + 1) ≤ 2 ^ levels = pow_mono (let l : level + 1 ≤ levels = omega arith in l) in
           let grows = wider_sums row i (2 ^ (level + 1)) (2 ^ levels) fewer in
           let fit = fits i in
-          let both : sum_of row i (2 ^ level) + sum_of row (i + 2 ^ level) (2 ^ level) ≡ sum_of row i (2 ^ (level + 1)) =
+          let both : sum_of row i (2 ^ level) + sum_of row (i + 2 ^ level) (2 ^ level) ≡ sum_of row i (2 ^
+          (level + 1)) =
           sym (two_boxes row i (2 ^ level) (2 ^ level)) ∙ ap (λ n. sum_of row i n) (sym twice) in
           subst P is_top
           (doubled i (omega arith)
-          ∙ ap (λ x. wrapping_sum x (slice_index old (level * stride + (width + i)))) (are level i (omega arith) (omega arith))
+          ∙ ap (λ x. wrapping_sum x (slice_index old (level * stride + (width + i)))) (are level i (omega arith)
+          (omega arith))
           ∙ ap (λ y. wrapping_sum (sum_of row i (2 ^ level)) y)
           (ap (λ k. slice_index old (level * stride + k)) (let e : width + i ≡ i + 2 ^ level = omega arith in e)
           ∙ are level (i + 2 ^ level) (omega arith) (omega arith))
@@ -69,7 +72,8 @@ one_wide row front rest stride m i same le room =
     let one : i + 2 ^ 0 ≤ length row = subst P (sym zero) room in omega arith in
     let P : ℕ → Type 0 = λ m. slice_index (front ++ rest) (m * stride + i) ≡ sum_of row i (2 ^ m) in
     let long : length front ≡ length row = ap length same in
-    let cut = sum_by_more (λ x. x) (drop i row) 0 0 (let l : 0 < length (drop i row) = rw length-drop (omega arith) in l) in
+    let cut = sum_by_more (λ x. x) (drop i row) 0 0 (let l : 0 < length (drop i row) = rw length-drop
+    (omega arith) in l) in
     let value = get_or-drop i row 0 0 in
     let place : slice_index row (i + 0) ≡ slice_index row i = ap (λ k. slice_index row k) (omega arith) in
     subst P zero

@@ -20,7 +20,8 @@ pub feeds : (old new feed xs : List ℕ) (reach n : ℕ) → Keeps old reach n x
 feeds old new feed xs reach n keeps is =
     let all = replicate reach 0 ++ xs in
     let count = length-append xs feed in
-    let room : length all ≡ reach + length xs = length-append (replicate reach 0) xs ∙ ap (λ r. r + length xs) (length-replicate reach 0) in
+    let room : length all ≡ reach + length xs =
+    length-append (replicate reach 0) xs ∙ ap (λ r. r + length xs) (length-replicate reach 0) in
     let some : n ≤ length xs = keeps.some in
     record {
       some = omega (arith, count);
@@ -45,7 +46,8 @@ inner_part stride s w ys le =
 
 pub sum_bound : (bound n : ℕ) (xs : List ℕ) → AreUpTo bound xs → sum (take n xs) ≤ n * bound
 sum_bound bound n xs small =
-    let each : All (λ x. x ≤ bound) (take n xs) = All-from_get_or (λ x. x ≤ bound) (take n xs) 0 (λ i h. part_small bound 0 n xs small i) in
+    let each : All (λ x. x ≤ bound) (take n xs) =
+    All-from_get_or (λ x. x ≤ bound) (take n xs) 0 (λ i h. part_small bound 0 n xs small i) in
     let total = sum_by-le (λ x. x) bound (take n xs) each in
     let short : length (take n xs) ≤ n = simp length-take (omega arith) in
     let less : length (take n xs) * bound ≤ n * bound = mul-le-mul_right bound short in
@@ -86,14 +88,17 @@ pub fed_own : (old given new kept fed feed xs : List ℕ) (stride at reach befor
     → Keeps (row_at old stride at) reach (slice_index fed at) xs
     → Keeps (row_at kept stride at) reach (slice_index (set fed at (length feed)) at) (xs ++ feed)
 fed_own old given new kept fed feed xs stride at reach before same_old same_new inside is_before is keeps =
-    let count : length feed ≡ slice_index (set fed at (length feed)) at = sym (get_or-set_same fed at (length feed) 0 inside) in
-    let own : take (reach + length feed) (row_at new stride at) ≡ take reach (drop (slice_index fed at) (row_at old stride at)) ++ feed =
+    let count : length feed ≡ slice_index (set fed at (length feed)) at =
+    sym (get_or-set_same fed at (length feed) 0 inside) in
+    let own : take (reach + length feed) (row_at new stride at) ≡ take reach (drop (slice_index fed at)
+    (row_at old stride at)) ++ feed =
     is
     ∙ ap (λ ys. take reach (drop before (row_at ys stride at)) ++ feed) same_old
     ∙ ap (λ n. take reach (drop n (row_at old stride at)) ++ feed) is_before in
     let P : List ℕ → Type 0 = λ ys. Keeps (row_at ys stride at) reach (length feed) (xs ++ feed) in
     let Q : ℕ → Type 0 = λ n. Keeps (row_at kept stride at) reach n (xs ++ feed) in
-    subst Q count (subst P (sym same_new) (feeds (row_at old stride at) (row_at new stride at) feed xs reach (slice_index fed at) keeps own))
+    subst Q count (subst P (sym same_new) (feeds (row_at old stride at) (row_at new stride at) feed xs reach
+    (slice_index fed at) keeps own))
 
 pub fed_other : (old given new kept fed xs : List ℕ) (stride at e reach n : ℕ)
     → given ≡ old → kept ≡ new → e ≢ at
@@ -121,7 +126,8 @@ pub fed_boxes : (boxes new kept table fed values : List ℕ) (stride at reach n 
     → 2 ^ levels ≡ widest → 2 ^ m ≤ widest
     → AreBoxes new stride levels values (length values)
     → AreBoxes boxes stride m (row_at kept stride at) (reach + slice_index (set fed at n) at)
-fed_boxes boxes new kept table fed values stride at reach n levels widest m same_boxes same_kept inside short is_values long is_widest narrow are m' i le room =
+fed_boxes boxes new kept table fed values stride at reach n levels widest m same_boxes same_kept inside short
+    is_values long is_widest narrow are m' i le room =
     let count : slice_index (set fed at n) at ≡ n = get_or-set_same fed at n 0 inside in
     let lower = level_le m levels widest narrow is_widest in
     let part = drop (at * stride) table in
@@ -138,7 +144,8 @@ pub box_read : (table xs : List ℕ) (stride at reach n k w : ℕ)
     → sum (take w (drop (at * stride + (reach + 1 - w) + k) table)) ≡ sum_ending xs (length xs - n + k) w
 box_read table xs stride at reach n k w keeps lt narrow short =
     let start : ℕ = reach + 1 - w + k in
-    ap (λ m. sum (take w (drop m table))) (let e : at * stride + (reach + 1 - w) + k ≡ at * stride + start = omega arith in e)
+    ap (λ m. sum (take w (drop m table))) (let e : at * stride +
+    (reach + 1 - w) + k ≡ at * stride + start = omega arith in e)
     ∙ ap (λ ys. sum (take w ys)) (sym (drop-drop start (at * stride) table))
     ∙ ap (λ ys. sum ys) (sym (inner_part stride start w (drop (at * stride) table) (omega arith)))
     ∙ box_is_ending (row_at table stride at) xs reach n k w keeps lt narrow
@@ -150,7 +157,8 @@ pub row_read : (boxes kept xs : List ℕ) (stride at reach n k w level count : �
 row_read boxes kept xs stride at reach n k w level count power are keeps lt same narrow =
     let start : ℕ = reach + 1 - w + k in
     part_at (level * stride + (reach + 1 - w)) count boxes k (omega arith)
-    ∙ ap (λ m. slice_index boxes m) (let e : level * stride + (reach + 1 - w) + k ≡ level * stride + start = omega arith in e)
+    ∙ ap (λ m. slice_index boxes m) (let e : level * stride +
+    (reach + 1 - w) + k ≡ level * stride + start = omega arith in e)
     ∙ are level start (omega arith) (omega (arith, power))
     ∙ ap (λ m. sum_of (row_at kept stride at) start m) power
     ∙ box_is_ending (row_at kept stride at) xs reach n k w keeps lt narrow

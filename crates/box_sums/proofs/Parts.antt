@@ -48,7 +48,8 @@ put_small bound a n xs ys fits long small_xs small_ys k = elim (cases_lt k a) [
   | inr h ↦ elim (cases_lt k (a + n)) [
     | inl below ↦
         let at : a + (k - a) ≡ k = omega arith in
-        subst (λ (x : ℕ). x ≤ bound) (sym (put_within a n xs ys k (k - a) (omega arith) at fits long)) (small_ys (k - a))
+        subst (λ (x : ℕ). x ≤ bound) (sym (put_within a n xs ys k (k - a) (omega arith) at fits long)) (small_ys
+        (k - a))
     | inr above ↦ subst (λ (x : ℕ). x ≤ bound) (sym (put_after a n xs ys k above fits long)) (small_xs k)
   ]
 ]
@@ -78,7 +79,8 @@ pub other_row : (table row : List ℕ) (stride n at e : ℕ) → e ≢ at → n 
 other_row table row stride n at e other whole fits long =
     let put = put_mid (at * stride) n table row in
     let part : length (take n (drop (at * stride) table)) ≡ n = part_length (at * stride) n table (omega arith) in
-    let same_length : length put ≡ length table = same_len_mid (at * stride) n table row (long ∙ sym whole ∙ sym part) in
+    let same_length : length put ≡ length table =
+    same_len_mid (at * stride) n table row (long ∙ sym whole ∙ sym part) in
     let lengths : length (row_at put stride e) ≡ length (row_at table stride e) =
     simp (length-take, length-drop) (ap (λ k. min stride (k - e * stride)) same_length) in
     same_values (row_at put stride e) (row_at table stride e) lengths

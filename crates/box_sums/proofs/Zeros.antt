@@ -12,7 +12,8 @@ use Rattle.box_sums.proofs.Feeding.{sum_bound}
 pub zero_at : (n k : ℕ) → slice_index (replicate n 0) k ≡ 0
 zero_at n k = elim (cases_lt k n) [
   | inl h ↦ get_or-replicate n k 0 0 h
-  | inr h ↦ let long : length {A = ℕ} (replicate n 0) ≡ n = length-replicate {A = ℕ} n 0 in get_or_past (replicate n 0) k 0 (omega (arith, long))
+  | inr h ↦ let long : length {A = ℕ} (replicate n 0) ≡ n = length-replicate {A = ℕ} n 0 in get_or_past
+      (replicate n 0) k 0 (omega (arith, long))
 ]
 
 pub zeros_are_small : (bound n : ℕ) → AreUpTo bound (replicate n 0)
@@ -39,11 +40,13 @@ zeros_keep n m stride at reach room short =
           ∙ sym (ap (λ ys. slice_index ys k) back ∙ zero_at reach k));
     })
 
-pub zero_boxes : (n rows stride at total m : ℕ) → AreBoxes (replicate n 0) stride m (row_at (replicate rows 0) stride at) total
+pub zero_boxes : (n rows stride at total m : ℕ)
+    → AreBoxes (replicate n 0) stride m (row_at (replicate rows 0) stride at) total
 zero_boxes n rows stride at total m m' i le room =
     let row = row_at (replicate rows 0) stride at in
     let small = part_small 0 (at * stride) stride (replicate rows 0) (zeros_are_small 0 rows) in
-    let none = sum_bound 0 (2 ^ m') (drop i row) (λ k. subst (λ (x : ℕ). x ≤ 0) (sym (get_or-drop i row k 0)) (small (i + k))) in
+    let none = sum_bound 0 (2 ^ m') (drop i row) (λ k. subst (λ (x : ℕ). x ≤ 0) (sym (get_or-drop i row k 0))
+    (small (i + k))) in
     zero_at n (m' * stride + i) ∙ (let zero : 0 ≡ sum_of row i (2 ^ m') = omega (arith, none) in zero)
 
 pub zeros_sound : (first last chunk widest bound : ℕ)

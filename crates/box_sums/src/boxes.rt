@@ -92,7 +92,8 @@ impl Boxes {
         ensures count { last_feed self.new d ≡ length row.now }
         ensures counts { (e : ℕ) → HasRow self.old e → e ≢ d
             → last_feed self.new e ≡ last_feed self.old e }
-        ensures own { (xs : List ℕ) → StandsFor self.old d xs → StandsFor self.new d (xs ++ row.now) }
+        ensures own { (xs : List ℕ) → StandsFor self.old d xs
+            → StandsFor self.new d (xs ++ row.now) }
         ensures others { (e : ℕ) (xs : List ℕ) → HasRow self.old e → e ≢ d
             → StandsFor self.old e xs → StandsFor self.new e xs }
     {

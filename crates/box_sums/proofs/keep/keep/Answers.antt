@@ -24,7 +24,8 @@ kept_values old moved feed copied reach before k fits long are same =
 
 pub returns-clause-values : goal.returns-clause-values
 returns-clause-values c =
-    kept_values c.args.row.now c.move_to_front.new.row c.args.feed.now c.copy_from_slice.new.self c.args.reach c.args.before _
+    kept_values c.args.row.now c.move_to_front.new.row c.args.feed.now c.copy_from_slice.new.self c.args.reach
+    c.args.before _
     c.requires.old (omega arith) c.move_to_front.ensures.moved c.copy_from_slice.ensures.after
 
 pub returns-clause-small : goal.returns-clause-small

@@ -26,9 +26,11 @@ fill_boxes-requires-clause-fits c = λ i.
     let total : ℕ = f.widest - 1 + length c.args.row.now in
     let place : ℕ = (c.args.d - f.first) * stride in
     let bound : f.bound ≡ c.args.self.now.bound = ap (λ (b : Kept). b.bound) c.self.view_is in
-    let kept = kept_is_small f.bound f.kept.items c.as_mut_slice.result.now c.keep_row.new.table c.as_slice.result.now c.args.row.now
+    let kept = kept_is_small f.bound f.kept.items c.as_mut_slice.result.now c.keep_row.new.table
+    c.as_slice.result.now c.args.row.now
     c.as_mut_slice.ensures.value
-    (c.as_slice.ensures.value ∙ take_at c.keep_row.new.table _ f.kept.len (c.keep_row.auto.table ∙ c.as_mut_slice.ensures.len))
+    (c.as_slice.ensures.value ∙ take_at c.keep_row.new.table _ f.kept.len (c.keep_row.auto.table
+    ∙ c.as_mut_slice.ensures.len))
     (c.keep_row.ensures.small f.bound) c.self.invariant.small
     (feed_is_small f.bound c.args.self.now.bound c.args.row.now bound c.requires.small) in
     let front : AreUpTo f.bound c.front_of-values.result.now =
@@ -55,12 +57,15 @@ invariant_of-self c =
     let short = c.requires.short in
     let fits : n ≤ f.chunk = omega (arith, short, chunk) in
     let inside : at < length f.fed.items = omega (arith, rows, below, above, first, last) in
-    let kept_is : take f.kept.len (c.keep_row.new.table ++ drop (length c.keep_row.new.table) f.kept.items) ≡ c.keep_row.new.table =
+    let kept_is : take f.kept.len (c.keep_row.new.table ++ drop
+    (length c.keep_row.new.table) f.kept.items) ≡ c.keep_row.new.table =
     take_at c.keep_row.new.table _ f.kept.len (c.keep_row.auto.table ∙ c.as_mut_slice.ensures.len) in
-    let boxes_is : take f.boxes.len (c.fill_boxes.new.boxes ++ drop (length c.fill_boxes.new.boxes) f.boxes.items) ≡ c.fill_boxes.new.boxes =
+    let boxes_is : take f.boxes.len (c.fill_boxes.new.boxes ++ drop
+    (length c.fill_boxes.new.boxes) f.boxes.items) ≡ c.fill_boxes.new.boxes =
     take_at c.fill_boxes.new.boxes _ f.boxes.len (c.fill_boxes.auto.boxes ∙ c.as_mut_slice-2.ensures.len) in
     let values : c.front_of-values.result.now ≡ take (reach + n) (drop (at * stride) c.keep_row.new.table) =
-    c.front_of-values.ensures.values ∙ ap (λ ys. take (reach + n) (drop (at * stride) ys)) (c.as_slice.ensures.value ∙ kept_is) in
+    c.front_of-values.ensures.values
+    ∙ ap (λ ys. take (reach + n) (drop (at * stride) ys)) (c.as_slice.ensures.value ∙ kept_is) in
     record {
       order = c.self.invariant.order;
       few_rows = c.self.invariant.few_rows;
@@ -71,14 +76,17 @@ invariant_of-self c =
       above = omega (arith, above, first);
       below = omega (arith, below, last);
       fed_room = length-set f.fed.items at n ∙ rows;
-      kept_room = ap length kept_is ∙ c.keep_row.auto.table ∙ ap length c.as_mut_slice.ensures.value ∙ c.self.invariant.kept_room;
-      boxes_room = ap length boxes_is ∙ c.fill_boxes.auto.boxes ∙ ap length c.as_mut_slice-2.ensures.value ∙ c.self.invariant.boxes_room;
+      kept_room = ap length kept_is ∙ c.keep_row.auto.table ∙ ap length c.as_mut_slice.ensures.value
+          ∙ c.self.invariant.kept_room;
+      boxes_room = ap length boxes_is ∙ c.fill_boxes.auto.boxes ∙ ap length c.as_mut_slice-2.ensures.value
+          ∙ c.self.invariant.boxes_room;
       short = set_up_to f.chunk f.fed.items at n fits c.self.invariant.short;
       small = kept_is_small f.bound f.kept.items c.as_mut_slice.result.now c.keep_row.new.table _ c.args.row.now
           c.as_mut_slice.ensures.value kept_is (c.keep_row.ensures.small f.bound) c.self.invariant.small
           (feed_is_small f.bound c.args.self.now.bound c.args.row.now bound c.requires.small);
       sums = λ m narrow.
-          fed_boxes _ c.fill_boxes.new.boxes _ c.keep_row.new.table f.fed.items c.front_of-values.result.now stride at reach n
+          fed_boxes _ c.fill_boxes.new.boxes _ c.keep_row.new.table f.fed.items c.front_of-values.result.now stride
+          at reach n
           c.level_of.result f.widest m boxes_is kept_is inside (omega arith) values c.front_of-values.ensures.long
           c.level_of.ensures.power narrow c.fill_boxes.ensures;
     }
@@ -96,7 +104,8 @@ returns-clause-own c = λ xs stands.
     omega (arith, rows, below, above, first, last)) in
     let keeps : Keeps (row_at f.kept.items stride at) reach (slice_index f.fed.items at) xs =
     subst (λ (b : Kept). StandsFor b c.args.d xs) (sym c.self.view_is) stands in
-    fed_own f.kept.items c.as_mut_slice.result.now c.keep_row.new.table _ f.fed.items c.args.row.now xs stride at reach c.index.result.now
+    fed_own f.kept.items c.as_mut_slice.result.now c.keep_row.new.table _ f.fed.items c.args.row.now xs stride at
+    reach c.index.result.now
     c.as_mut_slice.ensures.value
     (take_at c.keep_row.new.table _ f.kept.len (c.keep_row.auto.table ∙ c.as_mut_slice.ensures.len))
     inside
@@ -121,10 +130,13 @@ returns-clause-others c = λ e xs has other stands.
     let reach : ℕ = f.widest - 1 in
     let stride : ℕ = reach + f.chunk in
     let first : f.first ≡ c.args.self.now.first = ap (λ (b : Kept). b.first) c.self.view_is in
-    let apart : e - f.first ≢ at = λ same. other (let above = c.requires.row.above in let mine = has.above in omega (arith, above, mine, same, first)) in
+    let apart : e - f.first ≢ at =
+    λ same. other (let above = c.requires.row.above in let mine = has.above in omega
+    (arith, above, mine, same, first)) in
     let keeps : Keeps (row_at f.kept.items stride (e - f.first)) reach (slice_index f.fed.items (e - f.first)) xs =
     subst (λ (b : Kept). StandsFor b e xs) (sym c.self.view_is) stands in
-    fed_other f.kept.items c.as_mut_slice.result.now c.keep_row.new.table _ f.fed.items xs stride at (e - f.first) reach (length c.args.row.now)
+    fed_other f.kept.items c.as_mut_slice.result.now c.keep_row.new.table _ f.fed.items xs stride at
+    (e - f.first) reach (length c.args.row.now)
     c.as_mut_slice.ensures.value
     (take_at c.keep_row.new.table _ f.kept.len (c.keep_row.auto.table ∙ c.as_mut_slice.ensures.len))
     apart

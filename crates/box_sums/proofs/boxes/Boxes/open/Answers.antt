@@ -22,7 +22,8 @@ invariant_of-result c =
 
 pub returns-clause-counts : goal.returns-clause-counts
 returns-clause-counts c = λ d has.
-    ap (λ xs. slice_index xs (d - c.args.first)) c.in_ok-zeros.ensures ∙ zero_at (c.args.last - c.args.first + 1) (d - c.args.first)
+    ap (λ xs. slice_index xs (d - c.args.first)) c.in_ok-zeros.ensures
+    ∙ zero_at (c.args.last - c.args.first + 1) (d - c.args.first)
 
 pub returns-clause-none : goal.returns-clause-none
 returns-clause-none c = λ d has.
@@ -32,7 +33,9 @@ returns-clause-none c = λ d has.
     let above = has.above in
     let below = has.below in
     let room : (at + 1) * stride ≤ rows * stride = mul-le-mul_right stride (omega arith) in
-    let P : List ℕ → Type 0 = λ fed. Keeps (row_at c.in_ok-zeros-2.field-0.items stride at) (c.args.widest - 1) (slice_index fed at) [] in
-    let Q : List ℕ → Type 0 = λ kept. Keeps (row_at kept stride at) (c.args.widest - 1) (slice_index (replicate rows 0) at) [] in
+    let P : List ℕ → Type 0 =
+    λ fed. Keeps (row_at c.in_ok-zeros-2.field-0.items stride at) (c.args.widest - 1) (slice_index fed at) [] in
+    let Q : List ℕ → Type 0 =
+    λ kept. Keeps (row_at kept stride at) (c.args.widest - 1) (slice_index (replicate rows 0) at) [] in
     subst P (sym c.in_ok-zeros.ensures) (subst Q (sym c.in_ok-zeros-2.ensures)
     (zeros_keep (rows * stride) rows stride at (c.args.widest - 1) room (omega arith)))

@@ -12,7 +12,8 @@ add_all-requires c =
     let values : c.front_of.result.now ≡ take c.args.w (drop place f.kept.items) =
     c.front_of.ensures.values ∙ ap (λ ys. take c.args.w (drop place ys)) c.as_slice.ensures.value in
     subst (λ (ys : List ℕ). sum ys < 2 ^ 32) (sym values)
-    (sum_fits f.bound f.widest c.args.w (drop place f.kept.items) (drop_small f.bound place f.kept.items c.self.invariant.small)
+    (sum_fits f.bound f.widest c.args.w (drop place f.kept.items)
+    (drop_small f.bound place f.kept.items c.self.invariant.small)
     (omega (arith, widest)) c.self.invariant.fits)
 
 pub returns : goal.returns
@@ -30,7 +31,8 @@ returns c = λ xs stands.
     let short = c.self.invariant.short at in
     let values : c.front_of.result.now ≡ take c.args.w (drop place f.kept.items) =
     c.front_of.ensures.values ∙ ap (λ ys. take c.args.w (drop place ys)) c.as_slice.ensures.value in
-    subst (λ (b : Kept). c.add_all.result ≡ sum_ending xs (length xs - last_feed b c.args.d + c.args.k) c.args.w) c.self.view_is
+    subst (λ (b : Kept). c.add_all.result ≡ sum_ending xs
+    (length xs - last_feed b c.args.d + c.args.k) c.args.w) c.self.view_is
     (c.add_all.ensures
     ∙ ap (λ ys. sum ys) values
     ∙ box_read f.kept.items xs stride at reach (slice_index f.fed.items at) c.args.k c.args.w keeps below
