@@ -12,7 +12,8 @@ use Rattle.obs_plan.specs.Rows.{IsTaken}
 use Rattle.obs_plan.proofs.Refusals.{none_taken, refused_last}
 
 -- the numbers of fields that are all taken
-pub record AreTaken (fields : List Field) (channels nbit npol ndim sample centre : ℕ) (bw : ℤ) (width offset : ℕ) : Type 0 where
+pub record AreTaken (fields : List Field) (channels nbit npol ndim sample centre : ℕ) (bw : ℤ) (width offset : ℕ) : Type
+    0 where
   pub channels_taken : IsTaken fields Nchan (pos channels)
   pub nbit_taken : IsTaken fields Nbit (pos nbit)
   pub npol_taken : IsTaken fields Npol (pos npol)
@@ -35,10 +36,20 @@ observed channels nbit npol sample centre bw width offset = record {
   obs_offset = offset;
 }
 
-module _ (fields : List Field) (channels nbit npol ndim sample centre : ℕ) (bw : ℤ) (width offset : ℕ) (r : AreTaken fields channels nbit npol ndim sample centre bw width offset) where
+module _ (fields : List Field) (channels nbit npol ndim sample centre : ℕ) (bw : ℤ) (width offset : ℕ)
+    (r : AreTaken fields channels nbit npol ndim sample centre bw width offset) where
   observation_is : observation_in fields ≡ observed channels nbit npol sample centre bw width offset
   unfolding observation_in
-  observation_is = rw (r.channels_taken.is, r.nbit_taken.is, r.npol_taken.is, r.sample_taken.is, r.centre_taken.is, r.bw_taken.is, r.offset_taken.is, r.width_is) refl
+  observation_is = rw (
+    r.channels_taken.is,
+    r.nbit_taken.is,
+    r.npol_taken.is,
+    r.sample_taken.is,
+    r.centre_taken.is,
+    r.bw_taken.is,
+    r.offset_taken.is,
+    r.width_is,
+  ) refl
 
   in_row : (key : Key) → HasNumberInRow fields key
   in_row Nchan = record { number = pos channels; is = r.channels_taken.is; in_row = r.channels_taken.in_row }
@@ -50,8 +61,10 @@ module _ (fields : List Field) (channels nbit npol ndim sample centre : ℕ) (bw
   in_row Bw = record { number = bw; is = r.bw_taken.is; in_row = r.bw_taken.in_row }
   in_row ObsOffset = record { number = pos offset; is = r.offset_taken.is; in_row = r.offset_taken.in_row }
 
-  pub accepted : AcceptedByRows → 1000 * channels ≤ width → observation_of fields ≡ Ok (observed channels nbit npol sample centre bw width offset)
-  accepted law wide = (law fields (observed channels nbit npol sample centre bw width offset)).1 (sym observation_is, in_row, wide)
+  pub accepted : AcceptedByRows → 1000 * channels ≤ width →
+      observation_of fields ≡ Ok (observed channels nbit npol sample centre bw width offset)
+  accepted law wide = (law fields (observed channels nbit npol sample centre bw width offset)).1
+      (sym observation_is, in_row, wide)
 
   none_refused : AllByRecursion (λ key. refusal_at fields key ≡ None) keys
   none_refused = (
@@ -80,5 +93,6 @@ module _ (fields : List Field) (channels nbit npol ndim sample centre : ℕ) (bw
   pub narrow : width < 1000 * channels → observation_of fields ≡ Err (TooNarrow width channels)
   narrow less =
       let test : ltb (width) (1000 * channels) ≡ true = lt-ltb (width) (1000 * channels) less in
-      let last : too_narrow (observation_in fields) ≡ TooNarrow width channels ∷ [] = ap too_narrow observation_is ∙ rw test refl in
+      let last : too_narrow (observation_in fields) ≡ TooNarrow width channels ∷ [] = ap too_narrow observation_is
+      ∙ rw test refl in
       refused_last fields none_refused (TooNarrow width channels) last

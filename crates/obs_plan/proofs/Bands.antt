@@ -8,8 +8,10 @@ use Rattle.dada_model.specs.Fields.{Field}
 use Rattle.dada_model.specs.Observation.{number_of, observation_in, is_in_row}
 use Rattle.dada_model.specs.Bounds.{IsBandWidth}
 use Rattle.dada_model.specs.Laws.{BandsInRow}
+use Rattle.obs_plan.specs.Rows.{IsBand}
 
-magnitude_of : (fields : List Field) (key : Key) (z : ℤ) → number_of fields key ≡ Ok z → unsigned_abs (result_unwrap_or (number_of fields key) (pos 0)) ≡ unsigned_abs z
+magnitude_of : (fields : List Field) (key : Key) (z : ℤ) → number_of fields key ≡ Ok z →
+    unsigned_abs (result_unwrap_or (number_of fields key) (pos 0)) ≡ unsigned_abs z
 magnitude_of fields key z e = rw e refl
 
 module _ (fields : List Field) (z : ℤ) where
@@ -25,10 +27,6 @@ module _ (fields : List Field) (z : ℤ) where
   unfolding observation_in
   width_of e = magnitude_of fields Bw z e
 
--- a width whose band has its foot at 1 kHz or above and its top at 2^24 kHz or below
-abbrev pub IsBand : ℕ → ℕ → Type 0
-IsBand width centre = (0 < width) × (width + 2000 ≤ 2 * centre) × (2 * centre + width < 2000 * 16777217)
-
 decided : (b : Bool) → (b ≡ true → ⊥) → b ≡ false
 decided true h = absurd (h refl)
 decided false h = refl
@@ -36,7 +34,9 @@ decided false h = refl
 pub large_is_no_band : (width centre : ℕ) → 10 ^ 18 < width → ¬ IsBand width centre
 large_is_no_band width centre large = λ (some, foot, top). omega arith
 
-module _ (law : BandsInRow) (fields : List Field) (channels centre : ℕ) (channels_are : number_of fields Nchan ≡ Ok (pos channels)) (some : 0 < channels) (centre_is : number_of fields Freq ≡ Ok (pos centre)) (z : ℤ) (width_is : number_of fields Bw ≡ Ok z) where
+module _ (law : BandsInRow) (fields : List Field) (channels centre : ℕ)
+    (channels_are : number_of fields Nchan ≡ Ok (pos channels)) (some : 0 < channels)
+    (centre_is : number_of fields Freq ≡ Ok (pos centre)) (z : ℤ) (width_is : number_of fields Bw ≡ Ok z) where
   row : (is_in_row (observation_in fields) Bw z ≡ true) ↔ IsBandWidth (observation_in fields) (unsigned_abs z)
   row = law (observation_in fields) z (rw (channels_of fields (pos channels) channels_are) some)
 
@@ -52,6 +52,8 @@ module _ (law : BandsInRow) (fields : List Field) (channels centre : ℕ) (chann
   pub band_outside : ¬ IsBand (unsigned_abs z) centre → is_in_row (observation_in fields) Bw z ≡ false
   band_outside no_band = decided (is_in_row (observation_in fields) Bw z) (λ e.
       let is = row.0 e in
-      let foot : unsigned_abs z + 2000 ≤ 2 * centre = rw (width_of fields z width_is, centre_of fields (pos centre) centre_is) at is.foot in
-      let top : 2 * centre + unsigned_abs z < 2000 * 16777217 = rw (width_of fields z width_is, centre_of fields (pos centre) centre_is) at is.top in
+      let foot : unsigned_abs z + 2000 ≤ 2 * centre =
+      rw (width_of fields z width_is, centre_of fields (pos centre) centre_is) at is.foot in
+      let top : 2 * centre + unsigned_abs z < 2000 * 16777217 =
+      rw (width_of fields z width_is, centre_of fields (pos centre) centre_is) at is.top in
       no_band (is.some, foot, top))

@@ -15,19 +15,23 @@ none_of None rest e = (refl, e)
 none_of (Some b) rest e = (cc)
 
 module _ {A : Type 0} (f : A → Option ObsFault) where
-  same_more : (xs : List A) (i : ℕ) (d : A) → i < length xs → filter_map f (take i xs) ≡ [] → f (get_or xs i d) ≡ None → filter_map f (take (suc i) xs) ≡ []
+  same_more : (xs : List A) (i : ℕ) (d : A) → i < length xs → filter_map f (take i xs) ≡ [] → f (get_or xs i d) ≡ None →
+      filter_map f (take (suc i) xs) ≡ []
   same_more [] i d within none here = absurd (omega arith)
   same_more (x ∷ xs) zero d within none here = rw here refl
   same_more (x ∷ xs) (suc i) d within none here =
       let first = none_of (f x) (filter_map f (take i xs)) none in
       rw first.0 (same_more xs i d (omega arith) first.1 here)
 
-  pub same_next : (xs : List A) (i : ℕ) (d : A) → i < length xs → filter_map f (take i xs) ≡ [] → f (get_or xs i d) ≡ None → filter_map f (take (i + 1) xs) ≡ []
+  pub same_next : (xs : List A) (i : ℕ) (d : A) → i < length xs → filter_map f (take i xs) ≡ [] →
+      f (get_or xs i d) ≡ None → filter_map f (take (i + 1) xs) ≡ []
   same_next xs i d within none here =
       let next : i + 1 ≡ suc i = omega arith in
       rw next (same_more xs i d within none here)
 
-  pub differs_first : (xs : List A) (i : ℕ) (d : A) → i < length xs → filter_map f (take i xs) ≡ [] → (fault : ObsFault) → f (get_or xs i d) ≡ Some fault → (offset : Result ℕ ObsFault) → unless_differs (filter_map f xs) offset ≡ Err fault
+  pub differs_first : (xs : List A) (i : ℕ) (d : A) → i < length xs → filter_map f (take i xs) ≡ [] →
+      (fault : ObsFault) → f (get_or xs i d) ≡ Some fault → (offset : Result ℕ ObsFault) →
+      unless_differs (filter_map f xs) offset ≡ Err fault
   differs_first [] i d within none fault here offset = absurd (omega arith)
   differs_first (x ∷ xs) zero d within none fault here offset = rw here refl
   differs_first (x ∷ xs) (suc i) d within none fault here offset =

@@ -10,9 +10,11 @@ at_edge : (o : Observation) (k : ℕ) → k ≤ o.channels → get_or (edges o) 
 unfolding edges
 at_edge o k small = get_or-map-range_with_len (edge o) 0 (o.channels + 1) k k 0 (omega arith) (omega arith)
 
-pub squares_fall : EdgesFall → (o : Observation) → IsInRange o → edge o o.channels * edge o o.channels < edge o 0 * edge o 0
+pub squares_fall : EdgesFall → (o : Observation) → IsInRange o →
+    edge o o.channels * edge o o.channels < edge o 0 * edge o 0
 squares_fall law o r =
     let some = r.few_channels in
     let falls = (law o r).falls 0 o.channels (omega arith) (omega arith) in
-    let below : edge o o.channels < edge o 0 = rw (at_edge o o.channels (omega arith), at_edge o 0 (omega arith)) at falls in
+    let below : edge o o.channels < edge o 0 =
+    rw (at_edge o o.channels (omega arith), at_edge o 0 (omega arith)) at falls in
     mul-lt (edge o o.channels) (edge o o.channels) (edge o 0) (edge o 0) below below

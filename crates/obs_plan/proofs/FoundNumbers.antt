@@ -12,23 +12,28 @@ use Rattle.dada_model.specs.Number.{number_value}
 use Rattle.dada_model.specs.Fields.{Field, value_of}
 use Rattle.dada_model.specs.Observation.{Missing, BadNumber, keyword, decimals, default, number_of}
 
-pub got : (fields : List Field) (key : Key) (name : List ℕ) (value : Option (List ℕ)) → name ≡ keyword key → value ≡ value_of name fields → value_of (keyword key) fields ≡ value
+pub got : (fields : List Field) (key : Key) (name : List ℕ) (value : Option (List ℕ)) → name ≡ keyword key →
+    value ≡ value_of name fields → value_of (keyword key) fields ≡ value
 got fields key name value e h = rw (← e) (sym h)
 
 module _ (fields : List Field) (key : Key) where
-  pub number_of-text : (text : List ℕ) (z : ℤ) → value_of (keyword key) fields ≡ Some text → number_value (decimals key) text ≡ Some z → number_of fields key ≡ Ok z
+  pub number_of-text : (text : List ℕ) (z : ℤ) → value_of (keyword key) fields ≡ Some text →
+      number_value (decimals key) text ≡ Some z → number_of fields key ≡ Ok z
   unfolding number_of
   number_of-text text z e v = rw e (rw v refl)
 
-  pub number_of-bad : (text : List ℕ) → value_of (keyword key) fields ≡ Some text → number_value (decimals key) text ≡ None → number_of fields key ≡ Err (BadNumber key)
+  pub number_of-bad : (text : List ℕ) → value_of (keyword key) fields ≡ Some text →
+      number_value (decimals key) text ≡ None → number_of fields key ≡ Err (BadNumber key)
   unfolding number_of
   number_of-bad text e v = rw e (rw v refl)
 
-  pub number_of-default : (z : ℤ) → value_of (keyword key) fields ≡ None → default key ≡ Some z → number_of fields key ≡ Ok z
+  pub number_of-default : (z : ℤ) → value_of (keyword key) fields ≡ None → default key ≡ Some z →
+      number_of fields key ≡ Ok z
   unfolding number_of
   number_of-default z e d = rw e (rw d refl)
 
-  pub number_of-missing : value_of (keyword key) fields ≡ None → default key ≡ None → number_of fields key ≡ Err (Missing key)
+  pub number_of-missing : value_of (keyword key) fields ≡ None → default key ≡ None →
+      number_of fields key ≡ Err (Missing key)
   unfolding number_of
   number_of-missing e d = rw e (rw d refl)
 
@@ -42,10 +47,12 @@ default_small ObsOffset z e = default_is 0 z (omega arith) e
 default_small _ z e = (cc)
 
 -- why a text isn't read
-pub told_bad : (k : ℕ) (text : List ℕ) (fault : NumberFault) (place : ℕ) → fault ≡ NotNumber place → Explains k text fault → number_value k text ≡ None
+pub told_bad : (k : ℕ) (text : List ℕ) (fault : NumberFault) (place : ℕ) → fault ≡ NotNumber place →
+    Explains k text fault → number_value k text ≡ None
 told_bad k text fault place e h = let P : NumberFault → Type 0 = Explains k text in (subst P e h).0
 
-pub told_large : (k : ℕ) (text : List ℕ) (fault : NumberFault) → fault ≡ TooLarge → Explains k text fault → Explains k text TooLarge
+pub told_large : (k : ℕ) (text : List ℕ) (fault : NumberFault) → fault ≡ TooLarge → Explains k text fault →
+    Explains k text TooLarge
 told_large k text fault e h = let P : NumberFault → Type 0 = Explains k text in subst P e h
 
 -- a number that was read is held as it is

@@ -12,7 +12,8 @@ use Rattle.obs_plan.specs.Rows.{IsTaken}
 
 -- ---- faults
 
-pub refusal_map : (P Q : Refusal → Type 0) → ((refusal : Refusal) → P refusal → Q refusal) → (fault : ObsFault) → IsRefusal P fault → IsRefusal Q fault
+pub refusal_map : (P Q : Refusal → Type 0) → ((refusal : Refusal) → P refusal → Q refusal) → (fault : ObsFault) →
+    IsRefusal P fault → IsRefusal Q fault
 refusal_map P Q f (Missing key) h = f _ h
 refusal_map P Q f (BadNumber key) h = f _ h
 refusal_map P Q f (OutOfProfile key) h = f _ h
@@ -28,14 +29,17 @@ module _ (fields : List Field) (key : Key) where
   unfolding refusal_at
   refused_number refusal e = rw e refl
 
-  refused_row : (z : ℤ) → number_of fields key ≡ Ok z → is_in_row (observation_in fields) key z ≡ false → refusal_at fields key ≡ Some (outside key)
+  refused_row : (z : ℤ) → number_of fields key ≡ Ok z → is_in_row (observation_in fields) key z ≡ false →
+      refusal_at fields key ≡ Some (outside key)
   unfolding refusal_at
   refused_row z e row = rw e (rw row refl)
 
   -- the fault of a value outside its row
-  pub refused_outside : (fault : ObsFault) → IsRefusal (λ refusal. refusal ≡ outside key) fault → (z : ℤ) → number_of fields key ≡ Ok z → is_in_row (observation_in fields) key z ≡ false → IsRefusedAt fields key fault
+  pub refused_outside : (fault : ObsFault) → IsRefusal (λ refusal. refusal ≡ outside key) fault → (z : ℤ) →
+      number_of fields key ≡ Ok z → is_in_row (observation_in fields) key z ≡ false → IsRefusedAt fields key fault
   refused_outside fault is z e row =
-      refusal_map (λ refusal. refusal ≡ outside key) (λ refusal. refusal_at fields key ≡ Some refusal) (λ refusal same. refused_row z e row ∙ ap Some (sym same)) fault is
+      refusal_map (λ refusal. refusal ≡ outside key) (λ refusal. refusal_at fields key ≡ Some refusal)
+      (λ refusal same. refused_row z e row ∙ ap Some (sym same)) fault is
 
   pub none_taken : (z : ℤ) → IsTaken fields key z → refusal_at fields key ≡ None
   unfolding refusal_at
@@ -44,30 +48,41 @@ module _ (fields : List Field) (key : Key) where
 -- ---- the first refusal
 
 -- the list of refusals begins with that at a key, where nothing is refused at the keys before it
-front : (f : Key → Option Refusal) (before : List Key) (key : Key) (after : List Key) (last : List Refusal) (refusal : Refusal) →
-    AllByRecursion (λ k. f k ≡ None) before → f key ≡ Some refusal → (more : List Refusal) × (filter_map f (before ++ (key ∷ after)) ++ last ≡ refusal ∷ more)
+front : (f : Key → Option Refusal) (before : List Key) (key : Key) (after : List Key) (last : List Refusal)
+    (refusal : Refusal) →
+    AllByRecursion (λ k. f k ≡ None) before → f key ≡ Some refusal →
+    (more : List Refusal) × (filter_map f (before ++ (key ∷ after)) ++ last ≡ refusal ∷ more)
 front f [] key after last refusal none e = (filter_map f after ++ last, rw e refl)
-front f (b ∷ bs) key after last refusal none e = let rest = front f bs key after last refusal none.1 e in (rest.0, rw none.0 rest.1)
+front f (b ∷ bs) key after last refusal none e = let rest = front f bs key after last refusal none.1 e in
+    (rest.0, rw none.0 rest.1)
 
 all_none : (f : Key → Option Refusal) (ks : List Key) → AllByRecursion (λ k. f k ≡ None) ks → filter_map f ks ≡ []
 all_none f [] h = refl
 all_none f (k ∷ ks) h = rw h.0 (all_none f ks h.1)
 
 module _ (fields : List Field) where
-  first_refusal : (before : List Key) (key : Key) (after : List Key) → keys ≡ before ++ (key ∷ after) → AllByRecursion (λ k. refusal_at fields k ≡ None) before → (refusal : Refusal) → refusal_at fields key ≡ Some refusal → observation_of fields ≡ Err refusal
+  first_refusal : (before : List Key) (key : Key) (after : List Key) → keys ≡ before ++ (key ∷ after) →
+      AllByRecursion (λ k. refusal_at fields k ≡ None) before → (refusal : Refusal) →
+      refusal_at fields key ≡ Some refusal → observation_of fields ≡ Err refusal
   unfolding observation_of refusals
   first_refusal before key after is none refusal e =
       let list = front (refusal_at fields) before key after (too_narrow (observation_in fields)) refusal none e in
-      let whole : filter_map (refusal_at fields) keys ++ too_narrow (observation_in fields) ≡ refusal ∷ list.0 = ap (λ (ks : List Key). filter_map (refusal_at fields) ks ++ too_narrow (observation_in fields)) is ∙ list.1 in
+      let whole : filter_map (refusal_at fields) keys ++ too_narrow (observation_in fields) ≡ refusal ∷ list.0 =
+      ap (λ (ks : List Key). filter_map (refusal_at fields) ks ++ too_narrow (observation_in fields)) is ∙ list.1 in
       ap (unless_refused (observation_in fields)) whole
 
-  pub refused_first : (before : List Key) (key : Key) (after : List Key) → keys ≡ before ++ (key ∷ after) → AllByRecursion (λ k. refusal_at fields k ≡ None) before → (fault : ObsFault) → IsRefusedAt fields key fault → IsRefusedFirst fields fault
+  pub refused_first : (before : List Key) (key : Key) (after : List Key) → keys ≡ before ++ (key ∷ after) →
+      AllByRecursion (λ k. refusal_at fields k ≡ None) before → (fault : ObsFault) → IsRefusedAt fields key fault →
+      IsRefusedFirst fields fault
   refused_first before key after is none fault h =
-      refusal_map (λ refusal. refusal_at fields key ≡ Some refusal) (λ refusal. observation_of fields ≡ Err refusal) (first_refusal before key after is none) fault h
+      refusal_map (λ refusal. refusal_at fields key ≡ Some refusal) (λ refusal. observation_of fields ≡ Err refusal)
+      (first_refusal before key after is none) fault h
 
   -- last comes a band that is too narrow
-  pub refused_last : AllByRecursion (λ k. refusal_at fields k ≡ None) keys → (refusal : Refusal) → too_narrow (observation_in fields) ≡ refusal ∷ [] → observation_of fields ≡ Err refusal
+  pub refused_last : AllByRecursion (λ k. refusal_at fields k ≡ None) keys → (refusal : Refusal) →
+      too_narrow (observation_in fields) ≡ refusal ∷ [] → observation_of fields ≡ Err refusal
   unfolding observation_of refusals
   refused_last none refusal narrow =
-      let whole : filter_map (refusal_at fields) keys ++ too_narrow (observation_in fields) ≡ refusal ∷ [] = rw (all_none (refusal_at fields) keys none) narrow in
+      let whole : filter_map (refusal_at fields) keys ++ too_narrow (observation_in fields) ≡ refusal ∷ [] =
+      rw (all_none (refusal_at fields) keys none) narrow in
       ap (unless_refused (observation_in fields)) whole

@@ -37,4 +37,5 @@ unless_differs (first ∷ more) offset = Err first
 
 -- the OBS_OFFSET of a later header, or its first fault
 unfoldable pub later_offset_of : Profile → List Field → Result ℕ ObsFault
-later_offset_of p fields = unless_differs (filter_map (difference fields) (profile_values p)) (offset_or_fault (number_of fields ObsOffset))
+later_offset_of p fields =
+    unless_differs (filter_map (difference fields) (profile_values p)) (offset_or_fault (number_of fields ObsOffset))

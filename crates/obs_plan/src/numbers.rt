@@ -28,7 +28,16 @@ pub(crate) struct Numbers {
     pub(crate) width_hz: u64,
     pub(crate) falling: bool,
     pub(crate) obs_offset: u64,
-    ghost in_range: { IsInRange (record { channels = channels; nbit = nbit; npol = npol; sample_ns = sample_ns; centre_hz = centre_hz; width_hz = width_hz; is_falling = falling; obs_offset = obs_offset }) },
+    ghost in_range: { IsInRange (record {
+      channels = channels;
+      nbit = nbit;
+      npol = npol;
+      sample_ns = sample_ns;
+      centre_hz = centre_hz;
+      width_hz = width_hz;
+      is_falling = falling;
+      obs_offset = obs_offset;
+    }) },
 }
 
 impl Numbers {
@@ -36,7 +45,8 @@ impl Numbers {
 
     /// The numbers of a header, or the first refusal.
     pub(crate) fn of(header: &Header) -> Result<Numbers, ObsFault>
-        ensures ok { IfOk result (λ n. observation_of (fields_of header.now.text) ≡ Ok (shown_by n)) }
+        ensures ok { IfOk result (λ n.
+            observation_of (fields_of header.now.text) ≡ Ok (shown_by n)) }
         ensures fault { IfErr result (IsRefusedFirst (fields_of header.now.text)) }
     {
         accepted_by_rows();

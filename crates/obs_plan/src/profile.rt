@@ -10,8 +10,8 @@ use crate::rows::is_within;
 use dada_header::Header;
 use dada_model::Key;
 
-/// The values that the headers of all files of an observation have, each in the units of its keyword's row: TSAMP in ns,
-/// FREQ and BW in Hz, BW with its sign.
+/// The values that the headers of all files of an observation have, in the units of their keywords' rows: TSAMP
+/// in ns, FREQ and BW in Hz, BW with its sign.
 #[derive(Clone, Copy, PartialEq, Eq, Debug)]
 pub struct Profile {
     pub nchan: u32,
@@ -62,8 +62,9 @@ impl Profile {
         ]
     }
 
-    /// The OBS_OFFSET of a later file's header, in bytes. `Differs` names the first of the seven keywords whose value is
-    /// missing, no number or another one; then OBS_OFFSET may be no number or out of range. There is no other fault.
+    /// The OBS_OFFSET of a later file's header, in bytes. `Differs` names the first of the seven keywords whose
+    /// value is missing, no number or another one; then OBS_OFFSET may be no number or out of range. There is no
+    /// other fault.
     pub fn later_offset(&self, later: &Header) -> Result<u64, ObsFault>
         ensures { result ≡ later_offset_of self.now (fields_of later.now.text) }
     {

@@ -3,7 +3,7 @@ ghost use Rattle.std.specs.Prelude.{◌≡◌, ℕ, ℤ, ◌+◌, ◌*◌, ◌^�
 ghost use Rattle.dada_model.specs.Fields.{fields_of};
 ghost use Rattle.dada_model.specs.Observation.{outside as outside_of, number_of, observation_in, is_in_row, is_within as is_within_of, Observation};
 ghost use Rattle.obs_plan.specs.Faults.{IsRefusal, IsRefusedAt};
-ghost use Rattle.obs_plan.specs.Rows.{LargeIsOutside, IsTaken};
+ghost use Rattle.obs_plan.specs.Rows.{LargeIsOutside, IsTaken, IsBand};
 
 use crate::fault::ObsFault;
 use crate::found::{Found, find};
@@ -45,7 +45,8 @@ pub(crate) fn is_within(least: i64, most: i64, number: i64) -> bool
 
 /// The number of a key whose row goes from `least` to `most`.
 pub(crate) fn number_in(header: &Header, key: Key, least: u32, most: u64) -> Result<u64, ObsFault>
-    requires row { (o : Observation) (z : ℤ) → is_in_row o key z ≡ is_within_of (pos least) (pos most) z }
+    requires row { (o : Observation) (z : ℤ) →
+        is_in_row o key z ≡ is_within_of (pos least) (pos most) z }
     requires bound { most ≤ 10 ^ 17 }
     ensures taken { IfOk result (λ n. IsTaken (fields_of header.now.text) key (pos n)) }
     ensures bounds { IfOk result (λ n. (least ≤ n) × (n ≤ most)) }
@@ -77,7 +78,7 @@ pub(crate) fn bits(header: &Header) -> Result<u64, ObsFault>
 fn is_band(width_hz: u64, centre_hz: u64) -> bool
     requires width { width_hz ≤ 2 ^ 63 }
     requires centre { centre_hz ≤ 16000000000 }
-    ensures { IsTrue result ↔ ((0 < width_hz) × (width_hz + 2000 ≤ 2 * centre_hz) × (2 * centre_hz + width_hz < 2000 * 16777217)) }
+    ensures { IsTrue result ↔ IsBand width_hz centre_hz }
 {
     0 < width_hz && width_hz + 2000 <= 2 * centre_hz && 2 * centre_hz + width_hz < 2000 * 16_777_217
 }

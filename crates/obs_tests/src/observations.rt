@@ -4,7 +4,7 @@ use obs_plan::{Key, ObsFault, Observation};
 use std::alloc::Global;
 use std::test::Fail;
 
-/// A header that is accepted. Of two fields with a keyword the first counts, so lines that stand before these replace them.
+/// A header that is accepted. Of two fields with a keyword the first counts, so lines before these replace them.
 const PLAIN: &[u8] = b"HDR_SIZE 4096
 NCHAN 2
 NBIT 8
@@ -38,6 +38,10 @@ fn observation(alloc: Global, header: &Header) -> Result<Observation, Fail> {
         Ok(observation) => Ok(observation),
         Err(_) => Err("an observation".into()),
     }
+}
+
+fn refusal(alloc: Global, header: &Header) -> Option<ObsFault> {
+    Observation::of(alloc, header).err()
 }
 
 #[test]
@@ -95,11 +99,7 @@ fn the_first_refusal_is_told(rt: HostRuntime) -> Result<(), Fail> {
     ];
     for (lines, fault) in cases {
         let header = header_with(rt.alloc(), lines)?;
-        assert_eq!(rt;
-            Observation::of(rt.alloc(), &header).err(),
-            Some(fault),
-            "{lines:?}"
-        );
+        assert_eq!(rt; refusal(rt.alloc(), &header), Some(fault), "{lines:?}");
     }
     Ok(())
 }
@@ -124,11 +124,7 @@ fn a_keyword_is_missing(rt: HostRuntime) -> Result<(), Fail> {
     ];
     for (text, fault) in cases {
         let header = header(rt.alloc(), text)?;
-        assert_eq!(rt;
-            Observation::of(rt.alloc(), &header).err(),
-            fault,
-            "{text:?}"
-        );
+        assert_eq!(rt; refusal(rt.alloc(), &header), fault, "{text:?}");
     }
     Ok(())
 }

@@ -44,11 +44,14 @@ sign_is true = refl
 sign_is false = inl refl
 
 padded_digits : (k n : ℕ) → n < 2 ^ 64 → All IsAsciiDigit (padded k n)
-padded_digits k n h = All-append IsAsciiDigit (replicate (k - length (decimal n)) 48) (decimal n) (zeros_digits (k - length (decimal n))) (decimal_digits n h)
+padded_digits k n h =
+    All-append IsAsciiDigit (replicate (k - length (decimal n)) 48) (decimal n) (zeros_digits (k - length (decimal n)))
+    (decimal_digits n h)
 
 -- ---- their value
 
-after_sum : (n : ℕ) (digits : List ℕ) → digits_value_after 10 n digits ≡ n * 10 ^ length digits + digits_value_after 10 0 digits
+after_sum : (n : ℕ) (digits : List ℕ) →
+    digits_value_after 10 n digits ≡ n * 10 ^ length digits + digits_value_after 10 0 digits
 after_sum n [] = omega arith
 after_sum n (x ∷ xs) =
     let m = digit_value x in
@@ -88,11 +91,13 @@ module _ (k n : ℕ) (some : 0 < k) (h : n < 2 ^ 64) (negative : Bool) where
   fraction_small : n % 10 ^ k < 2 ^ 64
   fraction_small = let both = div-add-mod' n (10 ^ k) in omega arith
 
-  spells_fraction : Spells (sign_text negative ++ unsigned_text k n) negative (decimal (n / 10 ^ k)) (padded k (n % 10 ^ k))
+  spells_fraction : Spells (sign_text negative ++ unsigned_text k n) negative (decimal (n / 10 ^ k))
+      (padded k (n % 10 ^ k))
   spells_fraction = record {
     sign = sign_text negative;
     signed = sign_is negative;
-    digits = All-append IsAsciiDigit (decimal (n / 10 ^ k)) (padded k (n % 10 ^ k)) (decimal_digits (n / 10 ^ k) whole_below) (padded_digits k (n % 10 ^ k) fraction_small);
+    digits = All-append IsAsciiDigit (decimal (n / 10 ^ k)) (padded k (n % 10 ^ k))
+        (decimal_digits (n / 10 ^ k) whole_below) (padded_digits k (n % 10 ^ k) fraction_small);
     some =
         let first = decimal_nonempty (n / 10 ^ k) whole_below in
         let size = length-append (decimal (n / 10 ^ k)) (padded k (n % 10 ^ k)) in
@@ -104,17 +109,21 @@ module _ (k n : ℕ) (some : 0 < k) (h : n < 2 ^ 64) (negative : Bool) where
   fraction_value =
       let u = 10 ^ k in
       let whole : digits_value 10 (decimal (n / u)) ≡ n / u = (decimal_is_IsNumeral (n / u) whole_below).1 in
-      let joined = digits_after 10 0 (decimal (n / u)) (padded k (n % u)) ∙ after_sum (digits_value 10 (decimal (n / u))) (padded k (n % u)) in
+      let joined = digits_after 10 0 (decimal (n / u)) (padded k (n % u))
+      ∙ after_sum (digits_value 10 (decimal (n / u))) (padded k (n % u)) in
       joined
       ∙ ap (λ m. m * 10 ^ length (padded k (n % u)) + digits_value 10 (padded k (n % u))) whole
-      ∙ ap (λ m. n / u * 10 ^ m + digits_value 10 (padded k (n % u))) (padded_length k (n % u) some fraction_below fraction_small)
+      ∙ ap (λ m. n / u * 10 ^ m + digits_value 10 (padded k (n % u)))
+      (padded_length k (n % u) some fraction_below fraction_small)
       ∙ ap (λ m. n / u * u + m) (padded_value k (n % u) fraction_small)
       ∙ div-add-mod' n u
 
-  fraction_scaled : digits_value 10 (decimal (n / 10 ^ k) ++ padded k (n % 10 ^ k)) * 10 ^ k / 10 ^ length (padded k (n % 10 ^ k)) ≡ n
+  fraction_scaled : digits_value 10 (decimal (n / 10 ^ k) ++ padded k (n % 10 ^ k)) * 10 ^ k / 10 ^ length
+      (padded k (n % 10 ^ k)) ≡ n
   fraction_scaled =
       let least = pow_some k in
-      rw (fraction_value, padded_length k (n % 10 ^ k) some fraction_below fraction_small) (quotient n (n * 10 ^ k) (10 ^ k) least (omega arith) (omega arith))
+      rw (fraction_value, padded_length k (n % 10 ^ k) some fraction_below fraction_small)
+      (quotient n (n * 10 ^ k) (10 ^ k) least (omega arith) (omega arith))
 
 -- no fraction
 module _ (n : ℕ) (h : n < 2 ^ 64) (negative : Bool) where
@@ -143,19 +152,33 @@ signed_again : (z : ℤ) → cond (int_lt z (pos 0)) (neg_ℤ (pos (unsigned_abs
 signed_again (pos n) = rw (none_below n) refl
 signed_again (negsuc n) = refl
 
-with_sign : (negative : Bool) (m n : ℕ) → m ≡ n → cond negative (neg_ℤ (pos m)) (pos m) ≡ cond negative (neg_ℤ (pos n)) (pos n)
+with_sign : (negative : Bool) (m n : ℕ) → m ≡ n →
+    cond negative (neg_ℤ (pos m)) (pos m) ≡ cond negative (neg_ℤ (pos n)) (pos n)
 with_sign negative m n e = ap (λ x. cond negative (neg_ℤ (pos x)) (pos x)) e
 
-pub read_again : NumbersAreSpelled → (k : ℕ) (z : ℤ) → unsigned_abs z < 2 ^ 64 → number_value k (fixed_text k z) ≡ Some z
+pub read_again : NumbersAreSpelled → (k : ℕ) (z : ℤ) → unsigned_abs z < 2 ^ 64 →
+    number_value k (fixed_text k z) ≡ Some z
 read_again law zero z h =
     let n = unsigned_abs z in
     let negative = int_lt z (pos 0) in
-    (law 0 (fixed_text 0 z) z).1 (negative, decimal (n / 10 ^ 0), [], spells_whole n h negative, sym (with_sign negative _ n (whole_scaled n h negative) ∙ signed_again z))
+    (law 0 (fixed_text 0 z) z).1 (
+      negative,
+      decimal (n / 10 ^ 0),
+      [],
+      spells_whole n h negative,
+      sym (with_sign negative _ n (whole_scaled n h negative) ∙ signed_again z),
+    )
 read_again law (suc j) z h =
     let k = suc j in
     let n = unsigned_abs z in
     let negative = int_lt z (pos 0) in
-    (law k (fixed_text k z) z).1 (negative, decimal (n / 10 ^ k), padded k (n % 10 ^ k), spells_fraction k n (omega arith) h negative, sym (with_sign negative _ n (fraction_scaled k n (omega arith) h negative) ∙ signed_again z))
+    (law k (fixed_text k z) z).1 (
+      negative,
+      decimal (n / 10 ^ k),
+      padded k (n % 10 ^ k),
+      spells_fraction k n (omega arith) h negative,
+      sym (with_sign negative _ n (fraction_scaled k n (omega arith) h negative) ∙ signed_again z),
+    )
 
 -- ---- room
 
@@ -167,4 +190,5 @@ units_small k h =
     omega arith
 
 pub short_decimal : (k n : ℕ) → k ≤ 9 → n < 10 ^ k → length (decimal n) ≤ 10
-short_decimal k n few fits = let small = units_small k few in length-decimal-le 10 n (omega arith) (omega arith) (omega arith)
+short_decimal k n few fits = let small = units_small k few in
+    length-decimal-le 10 n (omega arith) (omega arith) (omega arith)

@@ -68,14 +68,16 @@ impl Parts<'_> {
     // Whether they are a number: digits, and nothing that follows.
     fn are_number(&self) -> bool
         ensures { IsTrue result
-            ↔ ((self.now.rest.now ≡ []) × (0 < length (self.now.whole.now ++ self.now.fraction.now))) }
+            ↔ ((self.now.rest.now ≡ [])
+                × (0 < length (self.now.whole.now ++ self.now.fraction.now))) }
     {
         self.rest.is_empty() && !(self.whole.is_empty() && self.fraction.is_empty())
     }
 }
 
 fn split_number(text: &[u8]) -> Parts<'_>
-    ensures { SplitsNumber text.now result.negative result.whole.now result.fraction.now result.rest.now }
+    ensures { SplitsNumber text.now result.negative result.whole.now result.fraction.now
+        result.rest.now }
 {
     let (negative, unsigned) = split_sign(text);
     let (whole, after_whole) = split_digits(unsigned);
@@ -101,7 +103,8 @@ fn append_digit(number: u64, digit: u8) -> u64
 fn append_digits(mut number: u64, digits: &[u8]) -> u64
     requires bound { number ≤ MOST + 1 }
     requires digits { All IsAsciiDigit digits.now }
-    ensures value { (n : ℕ) → number ≡ capped n → result ≡ capped (digits_value_after 10 n digits.now) }
+    ensures value { (n : ℕ) → number ≡ capped n
+        → result ≡ capped (digits_value_after 10 n digits.now) }
     ensures bound { result ≤ MOST + 1 }
 {
     for digit in digits {
@@ -123,7 +126,8 @@ fn magnitude(whole: &[u8], fraction: &[u8], decimals: u32) -> u64
     requires decimals { decimals ≤ 9 }
     requires whole { All IsAsciiDigit whole.now }
     requires fraction { All IsAsciiDigit fraction.now }
-    ensures { result ≡ capped (digits_value 10 (whole.now ++ fraction.now) * 10 ^ decimals / 10 ^ length fraction.now) }
+    ensures { result ≡ capped (digits_value 10 (whole.now ++ fraction.now) * 10 ^ decimals
+        / 10 ^ length fraction.now) }
 {
     let kept = fraction.len().min(decimals as usize);
     let number = append_digits(append_digits(0, whole), &fraction[..kept]);

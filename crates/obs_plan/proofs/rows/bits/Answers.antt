@@ -6,4 +6,5 @@ use Rattle.obs_plan.proofs.rows.bits.Goals as goal
 
 pub returns-else-is_within-2-clause-fault : goal.returns-else-is_within-2-clause-fault
 returns-else-is_within-2-clause-fault c =
-    refused_outside (fields_of c.args.header.now.text) Nbit c.outside.result c.outside.ensures c.in_ok-number.number c.in_ok-number.ensures.number (search rules)
+    refused_outside (fields_of c.args.header.now.text) Nbit c.outside.result c.outside.ensures c.in_ok-number.number
+    c.in_ok-number.ensures.number (search rules)

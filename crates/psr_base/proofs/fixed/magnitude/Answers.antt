@@ -10,4 +10,5 @@ returns c =
     let n = digits_value_after 10 0 c.args.whole.now in
     let kept = c.append_digits-number.ensures.value n whole in
     let scaled = c.append_zeros.ensures _ kept in
-    scaled ∙ ap capped (kept_digits c.args.decimals c.min-kept.result c.args.whole.now c.args.fraction.now c.requires.fraction c.min-kept.ensures)
+    scaled ∙ ap capped (kept_digits c.args.decimals c.min-kept.result c.args.whole.now c.args.fraction.now
+    c.requires.fraction c.min-kept.ensures)

@@ -23,4 +23,5 @@ returns c =
     ∙ ap (λ (ys : List ℕ). ys ++ text) c.loop.invariant
     ∙ append_assoc into (replicate c.loop.counter 48) text
     ∙ ap (λ m. into ++ (replicate m 48 ++ text)) count
-    ∙ ap (λ (ys : List ℕ). into ++ (replicate (c.args.digits - length (decimal c.args.number)) 48 ++ ys)) c.format-text.ensures.text
+    ∙ ap (λ (ys : List ℕ). into ++ (replicate (c.args.digits - length (decimal c.args.number)) 48 ++ ys))
+    c.format-text.ensures.text

@@ -8,7 +8,8 @@ use Rattle.obs_plan.proofs.numbers.Numbers.dispersion_span.Goals.{After-from-foo
 falls : (c : After-from-foot) → c.from-foot.result * c.from-foot.result < c.from-top.result * c.from-top.result
 falls c =
     let self = c.args.self.now in
-    rw (c.from-top.ensures, c.from-foot.ensures, c.edge.ensures, c.edge-2.ensures) (squares_fall c.edges_fall.ensures (shown_by self) self.in_range)
+    rw (c.from-top.ensures, c.from-foot.ensures, c.edge.ensures, c.edge-2.ensures)
+    (squares_fall c.edges_fall.ensures (shown_by self) self.in_range)
 
 pub overflow_sub-result : goal.overflow_sub-result
 overflow_sub-result c = let below = falls (goal.at.overflow_sub-result c).After-from-foot in omega arith

@@ -7,7 +7,8 @@ use Rattle.obs_plan.proofs.numbers.Numbers.edges.Goals as goal
 pub loop-k-preserved : goal.loop-k-preserved
 loop-k-preserved c =
     let o = shown_by c.args.self.now in
-    rw (c.in_ok-push.ensures.items, c.loop-k.invariant, c.edge.ensures) (sym (map-range_with_len_more (edge o) 0 c.loop-k.k c.loop-k.k (omega arith)))
+    rw (c.in_ok-push.ensures.items, c.loop-k.invariant, c.edge.ensures)
+    (sym (map-range_with_len_more (edge o) 0 c.loop-k.k c.loop-k.k (omega arith)))
 
 pub returns : goal.returns
 unfolding edges

@@ -20,10 +20,12 @@ compared c = get_or c.values-key-items.result c.loop-key.key-index (Nchan, pos 0
 within : (c : After-has_value) → c.loop-key.key-index < length c.values-key-items.result
 within c = let count = ap length c.loop-key.invariant.items in omega arith
 
-judged : (c : After-has_value) → c.has_value.result ≡ has_value (number_of (fields_of c.args.later.now.text) (compared c).0) (compared c).1
+judged : (c : After-has_value) →
+    c.has_value.result ≡ has_value (number_of (fields_of c.args.later.now.text) (compared c).0) (compared c).1
 judged c =
     let fits : SFits w128 (compared c).1 = search rules in
-    c.has_value.ensures ∙ ap (has_value (number_of (fields_of c.args.later.now.text) (compared c).0)) (to_z-of_z w128 (compared c).1 fits)
+    c.has_value.ensures ∙ ap (has_value (number_of (fields_of c.args.later.now.text) (compared c).0))
+    (to_z-of_z w128 (compared c).1 fits)
 
 pub loop-key-preserved : goal.loop-key-preserved
 loop-key-preserved c =
@@ -32,7 +34,8 @@ loop-key-preserved c =
     let same = same_value fields (compared here) (sym (judged here) ∙ c.if-not-has_value.false) in
     record {
       items = c.loop-key.invariant.items;
-      same = same_next (difference fields) c.values-key-items.result c.loop-key.key-index (Nchan, pos 0) (within here) c.loop-key.invariant.same same;
+      same = same_next (difference fields) c.values-key-items.result c.loop-key.key-index (Nchan, pos 0) (within here)
+          c.loop-key.invariant.same same;
     }
 
 pub returns-then-not-has_value : goal.returns-then-not-has_value
@@ -42,14 +45,19 @@ returns-then-not-has_value c =
     let fields = fields_of c.args.later.now.text in
     let offset = offset_or_fault (number_of fields ObsOffset) in
     let other = other_value fields (compared here) (sym (judged here) ∙ c.if-not-has_value.true) in
-    let first = differs_first (difference fields) c.values-key-items.result c.loop-key.key-index (Nchan, pos 0) (within here) c.loop-key.invariant.same _ other offset in
-    sym (ap (λ (es : List (Key × ℤ)). unless_differs (filter_map (difference fields) es) offset) (sym c.loop-key.invariant.items) ∙ first)
+    let first = differs_first (difference fields) c.values-key-items.result c.loop-key.key-index (Nchan, pos 0)
+    (within here) c.loop-key.invariant.same _ other offset in
+    sym (ap (λ (es : List (Key × ℤ)). unless_differs (filter_map (difference fields) es) offset)
+    (sym c.loop-key.invariant.items) ∙ first)
 
 pub returns : goal.returns
 unfolding later_offset_of
 returns c =
     let fields = fields_of c.args.later.now.text in
-    let all : filter_map (difference fields) (profile_values c.args.self.now) ≡ filter_map (difference fields) (take c.loop-key.key-index c.values-key-items.result) =
+    let all : filter_map (difference fields) (profile_values c.args.self.now) ≡ filter_map (difference fields)
+    (take c.loop-key.key-index c.values-key-items.result) =
     let count = ap length c.loop-key.invariant.items in
-    ap (filter_map (difference fields)) (sym c.loop-key.invariant.items ∙ sym (take_all c.loop-key.key-index c.values-key-items.result (omega arith))) in
-    c.offset.ensures ∙ sym (ap (λ es. unless_differs es (offset_or_fault (number_of fields ObsOffset))) (all ∙ c.loop-key.invariant.same))
+    ap (filter_map (difference fields)) (sym c.loop-key.invariant.items
+    ∙ sym (take_all c.loop-key.key-index c.values-key-items.result (omega arith))) in
+    c.offset.ensures ∙ sym (ap (λ es. unless_differs es (offset_or_fault (number_of fields ObsOffset))) (all
+    ∙ c.loop-key.invariant.same))

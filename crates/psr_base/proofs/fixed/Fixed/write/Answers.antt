@@ -15,4 +15,5 @@ pub returns-clause-read_again : goal.returns-clause-read_again
 returns-clause-read_again c =
     let z = c.args.value in
     let text = c.put.ensures ∙ ap (fixed_text c.args.decimals) (to_z-of_z w64 z c.ranges.value) in
-    ap (number_value c.args.decimals) text ∙ read_again c.numbers_are_spelled.ensures c.args.decimals z (small z c.ranges.value)
+    ap (number_value c.args.decimals) text
+    ∙ read_again c.numbers_are_spelled.ensures c.args.decimals z (small z c.ranges.value)
