@@ -4,3 +4,4 @@ pub mod Rows
 pub mod Numbers
 pub mod Offset
 pub mod Later
+pub mod Worked

@@ -69,7 +69,7 @@ impl Parts<'_> {
     fn are_number(&self) -> bool
         ensures { IsTrue result
             ↔ ((self.now.rest.now ≡ [])
-                × (0 < length (self.now.whole.now ++ self.now.fraction.now))) }
+            × (0 < length (self.now.whole.now ++ self.now.fraction.now))) }
     {
         self.rest.is_empty() && !(self.whole.is_empty() && self.fraction.is_empty())
     }
