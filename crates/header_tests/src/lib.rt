@@ -1,0 +1,7 @@
+//! Tests of headers as files have them, and of changes of their fields.
+#![tactic(auto)]
+
+#[cfg(test)]
+mod changes;
+#[cfg(test)]
+mod texts;
