@@ -14,7 +14,8 @@ pub need_is : (need n size : ℕ) → need ≡ min n (2 ^ 64 - 1) → need < siz
 need_is need n size e low most = omega arith
 
 -- the zeros after a text, from a later place on
-zeros_after : (old : List ℕ) (len last size : ℕ) → IsKept old len size → len ≤ last → last ≤ size → take (size - last) (drop last old) ≡ replicate (size - last) 0
+zeros_after : (old : List ℕ) (len last size : ℕ) → IsKept old len size → len ≤ last → last ≤ size →
+    take (size - last) (drop last old) ≡ replicate (size - last) 0
 unfolding header_bytes
 zeros_after old len last size h low high =
     let space : length old ≡ 65536 = h.space in
@@ -35,8 +36,10 @@ zeros_after old len last size h low high =
     ∙ ap (λ n. replicate {A = ℕ} n 0) rest
 
 -- the changed text, and zeros after it
-pub padded_again : (key value old new : List ℕ) (len last size : ℕ) → IsKept old len size → IsEdited key value len old new last → length new ≡ 65536 →
-    length (changed key value (take len old)) < size → StaysInPlace key (take len old) (changed key value (take len old)) →
+pub padded_again : (key value old new : List ℕ) (len last size : ℕ) → IsKept old len size →
+    IsEdited key value len old new last → length new ≡ 65536 →
+    length (changed key value (take len old)) < size → StaysInPlace key (take len old) (changed key value
+    (take len old)) →
     take size new ≡ changed key value (take len old) ++ replicate (size - length (changed key value (take len old))) 0
 padded_again key value old new len last size h edited room fits stays =
     let text = changed key value (take len old) in
@@ -58,17 +61,22 @@ padded_again key value old new len last size h edited room fits stays =
     ∙ ap (λ t. text ++ t) zeros
     ∙ ap (λ n. text ++ replicate {A = ℕ} (size - n) 0) last_is
 
-pub kept_changed : (key value old new : List ℕ) (len last size : ℕ) → IsKept old len size → IsEdited key value len old new last → length new ≡ 65536 →
-    length (changed key value (take len old)) < size → StaysInPlace key (take len old) (changed key value (take len old)) →
-    IsReadBack (record { size = size; text = changed key value (take len old) }) → IsHeader (record { size = size; text = changed key value (take len old) }) → IsKept new last size
+pub kept_changed : (key value old new : List ℕ) (len last size : ℕ) → IsKept old len size →
+    IsEdited key value len old new last → length new ≡ 65536 →
+    length (changed key value (take len old)) < size → StaysInPlace key (take len old) (changed key value
+    (take len old)) →
+    IsReadBack (record { size = size; text = changed key value (take len old) }) →
+    IsHeader (record { size = size; text = changed key value (take len old) }) → IsKept new last size
 kept_changed key value old new len last size h edited room fits stays back is =
     let padded = padded_again key value old new len last size h edited room fits stays in
     rw edited.end (kept new (changed key value (take len old)) size room padded back is)
 
 -- every other key has the value that it had
-pub others_kept : (old new other : List ℕ) → ((n : ℕ) → value_of other (fields_of (take n new)) ≡ value_of other (fields_of (take n old))) → length old ≤ length new →
+pub others_kept : (old new other : List ℕ) → ((n : ℕ) → value_of other (fields_of (take n new)) ≡ value_of other
+    (fields_of (take n old))) → length old ≤ length new →
     value_of other (fields_of new) ≡ value_of other (fields_of old)
 others_kept old new other same longer =
     let whole_new : take (length new) new ≡ new = take_all (length new) new (omega arith) in
     let whole_old : take (length new) old ≡ old = take_all (length new) old longer in
-    sym (ap (λ t. value_of other (fields_of t)) whole_new) ∙ same (length new) ∙ ap (λ t. value_of other (fields_of t)) whole_old
+    sym (ap (λ t. value_of other (fields_of t)) whole_new) ∙ same (length new)
+    ∙ ap (λ t. value_of other (fields_of t)) whole_old

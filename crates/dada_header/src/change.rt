@@ -54,7 +54,8 @@ fn overwritten_place(text: &[u8], key: &[u8], value: &[u8]) -> Option<Place>
 // The length of a text to which a line is appended.
 fn appended_len(text: &[u8], key: &[u8], value: &[u8]) -> usize
     requires { length text.now ≤ 65536 }
-    ensures { result ≡ min (length text.now + length (line_end text.now ++ field_line key.now value.now)) (2 ^ 64 - 1) }
+    ensures { let line = line_end text.now ++ field_line key.now value.now in
+        result ≡ min (length text.now + length line) (2 ^ 64 - 1) }
 {
     let line = key.len() + value.len();
     line.saturating_add(text.len() + line_feed_after(text).len() + 2)
@@ -98,7 +99,8 @@ fn put_field(bytes: &mut [u8], place: usize, key: &[u8], value: &[u8]) -> usize
 // another value; says where that ends.
 fn replace(bytes: &mut [u8], len: usize, key: &[u8], value: &[u8]) -> usize
     requires len { len ≤ length bytes.old }
-    requires room { len + length (line_end (take len bytes.old) ++ field_line key.now value.now) ≤ length bytes.old }
+    requires room { let line = line_end (take len bytes.old) ++ field_line key.now value.now in
+        len + length line ≤ length bytes.old }
     ensures { IsReplaced key.now value.now len bytes.old bytes.new result }
 {
     blank_keeps_length();

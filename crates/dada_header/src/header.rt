@@ -83,7 +83,8 @@ fn first_above_ascii(bytes: &[u8]) -> Option<usize>
 fn text_of(bytes: &[u8], size: usize) -> Result<&[u8], HeaderFault>
     requires long { 4096 ≤ length bytes.now }
     requires size { header_size bytes.now ≡ Some size }
-    ensures ok { IfOk result (λ text. header_of bytes.now ≡ Ok (record { size = size; text = text.now })) }
+    ensures ok { IfOk result (λ text.
+        header_of bytes.now ≡ Ok (record { size = size; text = text.now })) }
     ensures len { IfOk result (λ text. length text.now ≤ size) }
     ensures fault { IfErr result (IsRefusal bytes.now) }
 {
@@ -224,7 +225,8 @@ impl Header {
         requires value { IsWord value.now }
         requires other_than_size { key.now ≢ codes "HDR_SIZE" }
         ensures ok { OnOk result (IsSet key.now value.now self.old self.new) }
-        ensures full { IfErr result (λ fault. IsOverfull key.now value.now self.old fault × (self.new ≡ self.old)) }
+        ensures full { IfErr result (λ fault.
+            IsOverfull key.now value.now self.old fault × (self.new ≡ self.old)) }
         ensures value { OnOk result (value_of key.now (fields_of self.new.text) ≡ Some value.now) }
         ensures others { OnOk result ((other : List ℕ) → other ≢ key.now
             → value_of other (fields_of self.new.text) ≡ value_of other (fields_of self.old.text)) }

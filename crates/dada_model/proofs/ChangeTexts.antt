@@ -25,19 +25,26 @@ pub unchanged_lines : (key : List ℕ) (lines : List (List ℕ)) → AllLines Is
 unchanged_lines key [] all = tt
 unchanged_lines key (line ∷ lines) all = (unchanged_line key line all.0, unchanged_lines key lines all.1)
 
-without_on : (b : Bool) (key line : List ℕ) → has_key key line ≡ b → IsLine line → IsChangedLine key line (cond b (blanked_line line) line)
+without_on : (b : Bool) (key line : List ℕ) → has_key key line ≡ b → IsLine line →
+    IsChangedLine key line (cond b (blanked_line line) line)
 without_on true key line e is = blank_line key line is e
 without_on false key line e is = unchanged_line key line is
 
-pub without_changes : (key : List ℕ) (lines : List (List ℕ)) → AllLines IsLine lines → AreChangedLines key lines (without_key key lines)
+pub without_changes : (key : List ℕ) (lines : List (List ℕ)) → AllLines IsLine lines →
+    AreChangedLines key lines (without_key key lines)
 without_changes key [] all = tt
-without_changes key (line ∷ lines) all = (without_on (has_key key line) key line refl all.0, without_changes key lines all.1)
+without_changes key (line ∷ lines) all = (
+  without_on (has_key key line) key line refl all.0,
+  without_changes key lines all.1,
+)
 
-value_in_field : (found : Option Field) (value : List ℕ) → value_if found ≡ Some value → (field : Field) × (found ≡ Some field) × (field.value ≡ value)
+value_in_field : (found : Option Field) (value : List ℕ) → value_if found ≡ Some value →
+    (field : Field) × (found ≡ Some field) × (field.value ≡ value)
 value_in_field None value e = (cc)
 value_in_field (Some field) value e = (field, refl, (cc))
 
-first_on : (b : Bool) (key new old line : List ℕ) (lines : List (List ℕ)) → has_key key line ≡ b → IsLine line → AllLines IsLine lines → IsWord new → length new ≤ length old →
+first_on : (b : Bool) (key new old line : List ℕ) (lines : List (List ℕ)) → has_key key line ≡ b → IsLine line →
+    AllLines IsLine lines → IsWord new → length new ≤ length old →
     cond b (value_if (field_of_line line)) (value_among key lines) ≡ Some old →
     (value_among key lines ≡ Some old → AreChangedLines key lines (with_first_value key new lines)) →
     AreChangedLines key (line ∷ lines) (cond b (with_value new line ∷ lines) (line ∷ with_first_value key new lines))
@@ -47,16 +54,19 @@ first_on true key new old line lines e is all word fits found later =
     (overwritten_line key line new field.0 is e field.1 word room, unchanged_lines key lines all)
 first_on false key new old line lines e is all word fits found later = (unchanged_line key line is, later found)
 
-pub first_changes : (key new old : List ℕ) (lines : List (List ℕ)) → AllLines IsLine lines → IsWord new → length new ≤ length old → value_among key lines ≡ Some old →
+pub first_changes : (key new old : List ℕ) (lines : List (List ℕ)) → AllLines IsLine lines → IsWord new →
+    length new ≤ length old → value_among key lines ≡ Some old →
     AreChangedLines key lines (with_first_value key new lines)
 first_changes key new old [] all word fits found = tt
 first_changes key new old (line ∷ lines) all word fits found =
-    first_on (has_key key line) key new old line lines refl all.0 all.1 word fits (sym (value_among-cons key line lines) ∙ found)
+    first_on (has_key key line) key new old line lines refl all.0 all.1 word fits (sym
+    (value_among-cons key line lines) ∙ found)
     (λ e. first_changes key new old lines all.1 word fits e)
 
 -- ---- their texts
 
-pub same_lengths : (key : List ℕ) (lines news : List (List ℕ)) → AreChangedLines key lines news → length (join_with_byte 10 news) ≡ length (join_with_byte 10 lines)
+pub same_lengths : (key : List ℕ) (lines news : List (List ℕ)) → AreChangedLines key lines news →
+    length (join_with_byte 10 news) ≡ length (join_with_byte 10 lines)
 same_lengths key [] [] h = refl
 same_lengths key [] (new ∷ news) h = absurd h
 same_lengths key (line ∷ lines) [] h = absurd h
@@ -73,9 +83,11 @@ same_lengths key (line ∷ more ∷ lines) (new ∷ next ∷ news) h =
 IsLine-take : (n : ℕ) (line : List ℕ) → IsLine line → IsLine (take n line)
 IsLine-take n line is = All-take (λ byte. eqb byte 10 ≡ false) n line is
 
-cut_alone : (key other line new : List ℕ) (n : ℕ) → IsChangedLine key line new → other ≢ key → value_of other (fields_of (take n new)) ≡ value_of other (fields_of (take n line))
+cut_alone : (key other line new : List ℕ) (n : ℕ) → IsChangedLine key line new → other ≢ key →
+    value_of other (fields_of (take n new)) ≡ value_of other (fields_of (take n line))
 cut_alone key other line new n h apart =
-    value_of-alone other (take n new) (IsLine-take n new h.new_line) ∙ h.others other apart n None ∙ sym (value_of-alone other (take n line) (IsLine-take n line h.old_line))
+    value_of-alone other (take n new) (IsLine-take n new h.new_line) ∙ h.others other apart n None
+    ∙ sym (value_of-alone other (take n line) (IsLine-take n line h.old_line))
 
 cut_past : (line rest : List ℕ) (k : ℕ) → take (length line + suc k) (line ++ (10 ∷ rest)) ≡ line ++ (10 ∷ take k rest)
 cut_past line rest k = take-append-add line (10 ∷ rest) (suc k)
@@ -83,14 +95,18 @@ cut_past line rest k = take-append-add line (10 ∷ rest) (suc k)
 pub past : (n m : ℕ) → m < n → (k : ℕ) × (n ≡ m + suc k)
 past n m low = (n - m - 1, omega arith)
 
-first_value : (key other line new : List ℕ) (value : Option (List ℕ)) → IsChangedLine key line new → other ≢ key → value_or other new value ≡ value_or other line value
+first_value : (key other line new : List ℕ) (value : Option (List ℕ)) → IsChangedLine key line new → other ≢ key →
+    value_or other new value ≡ value_or other line value
 first_value key other line new value h apart =
     let whole_new : take (length line) new ≡ new = take_all (length line) new (let e = h.same_length in omega arith) in
     let whole_line : take (length line) line ≡ line = take_all (length line) line (omega arith) in
-    sym (ap (λ l. value_or other l value) whole_new) ∙ h.others other apart (length line) value ∙ ap (λ l. value_or other l value) whole_line
+    sym (ap (λ l. value_or other l value) whole_new) ∙ h.others other apart (length line) value
+    ∙ ap (λ l. value_or other l value) whole_line
 
-pub cut_values : (key other : List ℕ) (lines news : List (List ℕ)) (n : ℕ) → IsSomeList lines → AreChangedLines key lines news → other ≢ key →
-    value_of other (fields_of (take n (join_with_byte 10 news))) ≡ value_of other (fields_of (take n (join_with_byte 10 lines)))
+pub cut_values : (key other : List ℕ) (lines news : List (List ℕ)) (n : ℕ) → IsSomeList lines →
+    AreChangedLines key lines news → other ≢ key →
+    value_of other (fields_of (take n (join_with_byte 10 news))) ≡ value_of other (fields_of (take n
+    (join_with_byte 10 lines)))
 cut_values key other [] news n some h apart = absurd some
 cut_values key other (line ∷ lines) [] n some h apart = absurd h
 cut_values key other (line ∷ []) (new ∷ []) n some h apart = cut_alone key other line new n h.0 apart
@@ -100,7 +116,8 @@ cut_values key other (line ∷ more ∷ lines) (new ∷ next ∷ news) n some h 
     let old_rest = join_with_byte 10 (more ∷ lines) in
     let new_rest = join_with_byte 10 (next ∷ news) in
     let same : length new ≡ length line = h.0.same_length in
-    elim (cases_lt (length line) n) as (λ _. value_of other (fields_of (take n (new ++ (10 ∷ new_rest)))) ≡ value_of other (fields_of (take n (line ++ (10 ∷ old_rest))))) [
+    elim (cases_lt (length line) n) as (λ _. value_of other (fields_of (take n (new ++
+    (10 ∷ new_rest)))) ≡ value_of other (fields_of (take n (line ++ (10 ∷ old_rest))))) [
       | inl low ↦
           let k = past n (length line) low in
           let n_new : n ≡ length new + suc k.0 = k.1 ∙ ap (λ m. m + suc k.0) (sym same) in
@@ -126,7 +143,8 @@ not_feed byte e same = both_ways (eqb byte 10) e (rw same refl)
 no_feeds : (line : List ℕ) → IsLine line → All (λ byte. byte ≢ 10) line
 no_feeds line is = All-weaker (λ byte. eqb byte 10 ≡ false) (λ byte. byte ≢ 10) not_feed line is
 
-in_line : (key line tail : List ℕ) (i : ℕ) → IsLine line → (tail ≡ []) ⊎ ((rest : List ℕ) × (tail ≡ 10 ∷ rest)) → has_key key line ≡ true → i < length (without_comment line) → IsInField key (line ++ tail) i
+in_line : (key line tail : List ℕ) (i : ℕ) → IsLine line → (tail ≡ []) ⊎ ((rest : List ℕ) × (tail ≡ 10 ∷ rest)) →
+    has_key key line ≡ true → i < length (without_comment line) → IsInField key (line ++ tail) i
 in_line key line tail i is ends e low = record {
   before = [];
   line = line;
@@ -140,13 +158,20 @@ in_line key line tail i is ends e low = record {
   upto = omega arith;
 }
 
-begins_after : (line before : List ℕ) → (before ≡ []) ⊎ ((front : List ℕ) × (before ≡ front ++ 10 ∷ [])) → (front : List ℕ) × (line ++ (10 ∷ before) ≡ front ++ 10 ∷ [])
+begins_after : (line before : List ℕ) → (before ≡ []) ⊎ ((front : List ℕ) × (before ≡ front ++ 10 ∷ [])) →
+    (front : List ℕ) × (line ++ (10 ∷ before) ≡ front ++ 10 ∷ [])
 begins_after line before (inl none) = (line, ap (λ b. line ++ (10 ∷ b)) none)
-begins_after line before (inr some) = (line ++ (10 ∷ some.0), ap (λ b. line ++ (10 ∷ b)) some.1 ∙ sym (append_assoc line (10 ∷ some.0) (10 ∷ [])))
+begins_after line before (inr some) = (
+  line ++ (10 ∷ some.0),
+  ap (λ b. line ++ (10 ∷ b)) some.1
+      ∙ sym (append_assoc line (10 ∷ some.0) (10 ∷ [])),
+)
 
-in_later_line : (key line rest : List ℕ) (i j : ℕ) → i ≡ length line + suc j → IsInField key rest j → IsInField key (line ++ (10 ∷ rest)) i
+in_later_line : (key line rest : List ℕ) (i j : ℕ) → i ≡ length line + suc j → IsInField key rest j →
+    IsInField key (line ++ (10 ∷ rest)) i
 in_later_line key line rest i j e h =
-    let count : length (line ++ (10 ∷ h.before)) ≡ length line + suc (length h.before) = length-append line (10 ∷ h.before) in
+    let count : length (line ++ (10 ∷ h.before)) ≡ length line + suc (length h.before) =
+    length-append line (10 ∷ h.before) in
     let from = h.from in
     let upto = h.upto in
     record {
@@ -162,12 +187,15 @@ in_later_line key line rest i j e h =
       upto = omega arith;
     }
 
-line_bytes : (key line new tail new_tail : List ℕ) (i : ℕ) → IsChangedLine key line new → (tail ≡ []) ⊎ ((rest : List ℕ) × (tail ≡ 10 ∷ rest)) → i < length line →
+line_bytes : (key line new tail new_tail : List ℕ) (i : ℕ) → IsChangedLine key line new →
+    (tail ≡ []) ⊎ ((rest : List ℕ) × (tail ≡ 10 ∷ rest)) → i < length line →
     (get_or (new ++ new_tail) i 0 ≡ get_or (line ++ tail) i 0) ⊎ IsInField key (line ++ tail) i
 line_bytes key line new tail new_tail i h ends low =
     let same : length new ≡ length line = h.same_length in
-    elim (h.bytes i low) as (λ _. (get_or (new ++ new_tail) i 0 ≡ get_or (line ++ tail) i 0) ⊎ IsInField key (line ++ tail) i) [
-      | inl kept ↦ inl (get_or_append_left new new_tail 0 i (omega arith) ∙ kept ∙ sym (get_or_append_left line tail 0 i low))
+    elim (h.bytes i low) as (λ _. (get_or (new ++ new_tail) i 0 ≡ get_or (line ++ tail) i 0) ⊎ IsInField key
+    (line ++ tail) i) [
+      | inl kept ↦ inl (get_or_append_left new new_tail 0 i (omega arith) ∙ kept
+          ∙ sym (get_or_append_left line tail 0 i low))
       | inr field ↦ inr (in_line key line tail i h.old_line ends field.0 field.1)
     ]
 
@@ -177,11 +205,13 @@ later_bytes : (key line new rest new_rest : List ℕ) (i j : ℕ) → i ≡ leng
 later_bytes key line new rest new_rest i j e same (inl kept) =
     let high : length line ≤ i = omega arith in
     let left : i - length line ≡ suc j = omega arith in
-    inl (get_or-append_right new (10 ∷ new_rest) (length line) i 0 same high ∙ ap (λ k. get_or (10 ∷ new_rest) k 0) left ∙ kept
+    inl (get_or-append_right new (10 ∷ new_rest) (length line) i 0 same high
+    ∙ ap (λ k. get_or (10 ∷ new_rest) k 0) left ∙ kept
     ∙ sym (get_or-append_right line (10 ∷ rest) (length line) i 0 refl high ∙ ap (λ k. get_or (10 ∷ rest) k 0) left))
 later_bytes key line new rest new_rest i j e same (inr field) = inr (in_later_line key line rest i j e field)
 
-feed_stays : (line new rest new_rest : List ℕ) (i : ℕ) → i ≡ length line → length new ≡ length line → get_or (new ++ (10 ∷ new_rest)) i 0 ≡ get_or (line ++ (10 ∷ rest)) i 0
+feed_stays : (line new rest new_rest : List ℕ) (i : ℕ) → i ≡ length line → length new ≡ length line →
+    get_or (new ++ (10 ∷ new_rest)) i 0 ≡ get_or (line ++ (10 ∷ rest)) i 0
 feed_stays line new rest new_rest i e same =
     let high : length line ≤ i = omega arith in
     let left : i - length line ≡ 0 = omega arith in
@@ -198,7 +228,8 @@ one_line key line new i h low =
     let Q : List ℕ → Type 0 = λ t. (get_or t i 0 ≡ get_or line i 0) ⊎ IsInField key line i in
     subst Q (append-nil new) (subst P (append-nil line) both)
 
-pub bytes_stay : (key : List ℕ) (lines news : List (List ℕ)) (i : ℕ) → AreChangedLines key lines news → i < length (join_with_byte 10 lines) → Stays key (join_with_byte 10 lines) (join_with_byte 10 news) i
+pub bytes_stay : (key : List ℕ) (lines news : List (List ℕ)) (i : ℕ) → AreChangedLines key lines news →
+    i < length (join_with_byte 10 lines) → Stays key (join_with_byte 10 lines) (join_with_byte 10 news) i
 bytes_stay key [] news i h low = absurd (omega arith)
 bytes_stay key (line ∷ lines) [] i h low = absurd h
 bytes_stay key (line ∷ []) (new ∷ []) i h low = one_line key line new i h.0 low
@@ -211,10 +242,12 @@ bytes_stay key (line ∷ more ∷ lines) (new ∷ next ∷ news) i h low =
     let count = length-append line (10 ∷ rest) in
     elim (cases_lt i (length line)) as (λ _. Stays key (line ++ (10 ∷ rest)) (new ++ (10 ∷ new_rest)) i) [
       | inl before ↦ line_bytes key line new (10 ∷ rest) (10 ∷ new_rest) i h.0 (inr (rest, refl)) before
-      | inr high ↦ elim (cases_lt (length line) i) as (λ _. Stays key (line ++ (10 ∷ rest)) (new ++ (10 ∷ new_rest)) i) [
-        | inl after ↦ let j = past i (length line) after in later_bytes key line new rest new_rest i j.0 j.1 same (bytes_stay key (more ∷ lines) (next ∷ news) j.0 h.1 (let e = j.1 in omega arith))
-        | inr here ↦ inl (feed_stays line new rest new_rest i (omega arith) same)
-      ]
+      | inr high ↦ elim (cases_lt (length line) i) as (λ _. Stays key (line ++ (10 ∷ rest)) (new ++
+          (10 ∷ new_rest)) i) [
+            | inl after ↦ let j = past i (length line) after in later_bytes key line new rest new_rest i j.0 j.1 same
+                (bytes_stay key (more ∷ lines) (next ∷ news) j.0 h.1 (let e = j.1 in omega arith))
+            | inr here ↦ inl (feed_stays line new rest new_rest i (omega arith) same)
+          ]
     ]
 
 -- ---- whether a text ends in a line feed
@@ -230,7 +263,8 @@ ended_last line rest x =
     let place : length (line ++ (x ∷ rest)) - 1 ≡ length line + length rest = omega arith in
     let left : length line + length rest - length line ≡ length rest = omega arith in
     ap (λ n. eqb (get_or (line ++ (x ∷ rest)) n 10) 10) place
-    ∙ ap (λ b. eqb b 10) (get_or-append_right line (x ∷ rest) (length line) (length line + length rest) 10 refl (omega arith) ∙ ap (λ n. get_or (x ∷ rest) n 10) left)
+    ∙ ap (λ b. eqb b 10) (get_or-append_right line (x ∷ rest) (length line) (length line + length rest) 10 refl
+    (omega arith) ∙ ap (λ n. get_or (x ∷ rest) n 10) left)
 
 pub ended_after : (line rest : List ℕ) → is_ended (line ++ (10 ∷ rest)) ≡ is_ended rest
 unfolding is_ended
@@ -255,7 +289,8 @@ ended_lines [] (y ∷ new) is is_new same = absurd (omega arith)
 ended_lines (x ∷ line) [] is is_new same = absurd (omega arith)
 ended_lines (x ∷ line) (y ∷ new) is is_new same = line_not_ended y new is_new ∙ sym (line_not_ended x line is)
 
-pub same_end : (key : List ℕ) (lines news : List (List ℕ)) → AreChangedLines key lines news → is_ended (join_with_byte 10 news) ≡ is_ended (join_with_byte 10 lines)
+pub same_end : (key : List ℕ) (lines news : List (List ℕ)) → AreChangedLines key lines news →
+    is_ended (join_with_byte 10 news) ≡ is_ended (join_with_byte 10 lines)
 same_end key [] [] h = refl
 same_end key [] (new ∷ news) h = absurd h
 same_end key (line ∷ lines) [] h = absurd h
@@ -263,4 +298,5 @@ same_end key (line ∷ []) (new ∷ []) h = ended_lines line new h.0.old_line h.
 same_end key (line ∷ []) (new ∷ next ∷ news) h = absurd h.1
 same_end key (line ∷ more ∷ lines) (new ∷ []) h = absurd h.1
 same_end key (line ∷ more ∷ lines) (new ∷ next ∷ news) h =
-    ended_after new (join_with_byte 10 (next ∷ news)) ∙ same_end key (more ∷ lines) (next ∷ news) h.1 ∙ sym (ended_after line (join_with_byte 10 (more ∷ lines)))
+    ended_after new (join_with_byte 10 (next ∷ news)) ∙ same_end key (more ∷ lines) (next ∷ news) h.1
+    ∙ sym (ended_after line (join_with_byte 10 (more ∷ lines)))

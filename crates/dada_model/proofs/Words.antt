@@ -35,16 +35,20 @@ pub words_of-all_white : (white : List ℕ) → AreWhite white → words_of whit
 unfolding words_of
 words_of-all_white white h = rw (← append-nil white) (words_of-white white [] h)
 
-kept_word : (word : List ℕ) (words : List (List ℕ)) → 0 < length word → filter (λ (w : List ℕ). ltb 0 (length w)) (word ∷ words) ≡ word ∷ filter (λ (w : List ℕ). ltb 0 (length w)) words
+kept_word : (word : List ℕ) (words : List (List ℕ)) → 0 < length word →
+    filter (λ (w : List ℕ). ltb 0 (length w)) (word ∷ words) ≡ word ∷ filter (λ (w : List ℕ). ltb 0
+    (length w)) words
 kept_word word words some = let t : ltb 0 (length word) ≡ true = lt-ltb 0 (length word) some in rw t refl
 
-pub words_of-word : (word rest : List ℕ) → 0 < length word → AreGraphic word → EndsWord rest → words_of (word ++ rest) ≡ word ∷ words_of rest
+pub words_of-word : (word rest : List ℕ) → 0 < length word → AreGraphic word → EndsWord rest →
+    words_of (word ++ rest) ≡ word ∷ words_of rest
 unfolding words_of
 words_of-word word [] some graphic ends =
     let split : slice_split is_white word ≡ word ∷ [] = slice_split_none is_white word graphic in
     rw (append-nil word, split) (kept_word word [] some)
 words_of-word word (c ∷ more) some graphic ends =
-    let split : slice_split is_white (word ++ (c ∷ more)) ≡ word ∷ slice_split is_white more = slice_split_at is_white word c more graphic ends in
+    let split : slice_split is_white (word ++ (c ∷ more)) ≡ word ∷ slice_split is_white more =
+    slice_split_at is_white word c more graphic ends in
     let cut : slice_split is_white (c ∷ more) ≡ [] ∷ slice_split is_white more = rw ends refl in
     rw (split, cut) (kept_word word (slice_split is_white more) some)
 
@@ -53,16 +57,19 @@ words_of-word word (c ∷ more) some graphic ends =
 pub AreWhite-front : (line : List ℕ) → AreWhite (take (prefix_len is_white line) line)
 AreWhite-front line =
     All-from_get_or (λ byte. is_white byte ≡ true) (take (prefix_len is_white line) line) 0
-    (λ i h. let short = length-take (prefix_len is_white line) line in let low : i < prefix_len is_white line = omega arith in
+    (λ i h. let short = length-take (prefix_len is_white line) line in let low : i < prefix_len is_white line =
+    omega arith in
     rw (get_or-take (prefix_len is_white line) line i 0 low) (prefix_len_passes is_white line i 0 low))
 
 pub AreGraphic-front : (line : List ℕ) → AreGraphic (take (position_or_len is_white line) line)
 AreGraphic-front line =
     All-from_get_or (λ byte. is_white byte ≡ false) (take (position_or_len is_white line) line) 0
-    (λ i h. let short = length-take (position_or_len is_white line) line in let low : i < position_or_len is_white line = omega arith in
+    (λ i h. let short = length-take
+    (position_or_len is_white line) line in let low : i < position_or_len is_white line = omega arith in
     rw (get_or-take (position_or_len is_white line) line i 0 low) (fails_before_first is_white line i 0 low))
 
-ends_at : (line : List ℕ) (place : ℕ) → (place < length line → is_white (get_or line place 0) ≡ true) → EndsWord (drop place line)
+ends_at : (line : List ℕ) (place : ℕ) → (place < length line → is_white (get_or line place 0) ≡ true) →
+    EndsWord (drop place line)
 ends_at [] place h = grind (arith, drop_all)
 ends_at (x ∷ line) zero h = h (omega arith)
 ends_at (x ∷ line) (suc place) h = ends_at line place (λ low. h (omega arith))
@@ -70,7 +77,8 @@ ends_at (x ∷ line) (suc place) h = ends_at line place (λ low. h (omega arith)
 pub EndsWord-after : (line : List ℕ) → EndsWord (drop (position_or_len is_white line) line)
 EndsWord-after line = ends_at line (position_or_len is_white line) (λ low. passes_at_first is_white line 0 low)
 
-graphic_first : (line : List ℕ) → 0 < length line → is_white (get_or line 0 0) ≡ false → 0 < position_or_len is_white line
+graphic_first : (line : List ℕ) → 0 < length line → is_white (get_or line 0 0) ≡ false →
+    0 < position_or_len is_white line
 graphic_first [] some h = absurd (omega arith)
 graphic_first (x ∷ line) some h = rw h (omega arith)
 
@@ -89,13 +97,19 @@ words_of-first line low =
     let n = position_or_len is_white rest in
     let count = length-drop (prefix_len is_white line) line in
     let stops = prefix_len_stops is_white line 0 low in
-    let first : is_white (get_or rest 0 0) ≡ false = rw (get_or-drop (prefix_len is_white line) line 0 0) (grind (arith, stops)) in
+    let first : is_white (get_or rest 0 0) ≡ false = rw (get_or-drop (prefix_len is_white line) line 0 0) (grind
+    (arith, stops)) in
     let some : 0 < n = graphic_first rest (omega arith) first in
     let most : n ≤ length rest = prefix_len-le-length (λ x. not (is_white x)) rest in
     let long : 0 < length (take n rest) = rw (length-take-le n rest most) some in
-    let words : words_of (take n rest ++ drop n rest) ≡ take n rest ∷ words_of (drop n rest) = words_of-word (take n rest) (drop n rest) long (AreGraphic-front rest) (EndsWord-after rest) in
-    let white : words_of (take (prefix_len is_white line) line ++ rest) ≡ words_of rest = words_of-white (take (prefix_len is_white line) line) rest (AreWhite-front line) in
-    (some, (sym (ap words_of (take-append-drop (prefix_len is_white line) line)) ∙ white) ∙ (rw (take-append-drop n rest) at words))
+    let words : words_of (take n rest ++ drop n rest) ≡ take n rest ∷ words_of (drop n rest) =
+    words_of-word (take n rest) (drop n rest) long (AreGraphic-front rest) (EndsWord-after rest) in
+    let white : words_of (take (prefix_len is_white line) line ++ rest) ≡ words_of rest =
+    words_of-white (take (prefix_len is_white line) line) rest (AreWhite-front line) in (
+      some,
+      (sym (ap words_of (take-append-drop (prefix_len is_white line) line)) ∙ white)
+          ∙ (rw (take-append-drop n rest) at words),
+    )
 
 -- the same from a place on
 pub words_from : (place : ℕ) (line : List ℕ) → place ≤ length line → AreWordsFrom place line
@@ -119,7 +133,11 @@ words_from place line low =
       words = λ short.
           let first = words_of-first part (omega arith) in
           let width : place + n + position_or_len is_white (drop (place + n) line) - (place + n) ≡ m = omega arith in
-          let word : take m rest ≡ slice_range line (place + n) (place + n + position_or_len is_white (drop (place + n) line)) = rw (width, same) refl in
-          let after : drop m rest ≡ drop (place + n + position_or_len is_white (drop (place + n) line)) line = rw (same, drop-drop (position_or_len is_white (drop (place + n) line)) (place + n) line) refl in
-          first.1 ∙ ap (λ (w : List ℕ). w ∷ words_of (drop m rest)) word ∙ ap (λ (r : List ℕ). slice_range line (place + n) (place + n + position_or_len is_white (drop (place + n) line)) ∷ words_of r) after;
+          let word : take m rest ≡ slice_range line (place + n) (place + n + position_or_len is_white (drop
+          (place + n) line)) = rw (width, same) refl in
+          let after : drop m rest ≡ drop (place + n + position_or_len is_white (drop (place + n) line)) line =
+          rw (same, drop-drop (position_or_len is_white (drop (place + n) line)) (place + n) line) refl in
+          first.1 ∙ ap (λ (w : List ℕ). w ∷ words_of (drop m rest)) word
+          ∙ ap (λ (r : List ℕ). slice_range line (place + n) (place + n + position_or_len is_white (drop
+          (place + n) line)) ∷ words_of r) after;
     }

@@ -46,10 +46,12 @@ has_key key line = has_keyword key (field_of_line line)
 
 -- a field's line with another value in place of its own, and spaces where that was longer
 abbrev pub with_value_between : ℕ → ℕ → List ℕ → List ℕ → List ℕ
-with_value_between start end value line = take start line ++ (value ++ (spaces (end - start - length value) ++ drop end line))
+with_value_between start end value line = take start line ++ (value ++ (spaces
+    (end - start - length value) ++ drop end line))
 
 unfoldable pub with_value : List ℕ → List ℕ → List ℕ
-with_value value line = with_value_between (value_start (without_comment line)) (value_end (without_comment line)) value line
+with_value value line = with_value_between (value_start (without_comment line)) (value_end
+    (without_comment line)) value line
 
 -- a line with spaces up to its comment
 unfoldable pub blanked_line : List ℕ → List ℕ

@@ -35,7 +35,8 @@ HeadersAreReadBack = (bytes : List ℕ) (header : HeaderText) → header_of byte
 
 -- the key has the value
 abbrev pub ChangeGivesValue : Type 0
-ChangeGivesValue = (key value text : List ℕ) → IsWord key → IsWord value → value_of key (fields_of (changed key value text)) ≡ Some value
+ChangeGivesValue = (key value text : List ℕ) → IsWord key → IsWord value →
+    value_of key (fields_of (changed key value text)) ≡ Some value
 
 -- every other key has the value that it had, also where the text is cut
 abbrev pub ChangeKeepsOthers : Type 0
@@ -61,7 +62,8 @@ pub record StaysInPlace (key old new : List ℕ) : Type 0 where
   pub bytes : (i : ℕ) → i < length old → (slice_index new i ≡ slice_index old i) ⊎ IsInField key old i
 
 abbrev pub ChangeStaysInPlace : Type 0
-ChangeStaysInPlace = (key value text : List ℕ) → IsWord key → IsWord value → StaysInPlace key text (changed key value text)
+ChangeStaysInPlace = (key value text : List ℕ) → IsWord key → IsWord value →
+    StaysInPlace key text (changed key value text)
 
 -- a text that is made blank has its length
 abbrev pub BlankKeepsLength : Type 0
@@ -69,7 +71,8 @@ BlankKeepsLength = (key text : List ℕ) → length (blanked key text) ≡ lengt
 
 -- of two changes of a key to values of one width, the last alone counts
 abbrev pub LastChangeCounts : Type 0
-LastChangeCounts = (key first last text : List ℕ) → IsWord key → IsWord first → IsWord last → length first ≡ length last →
+LastChangeCounts = (key first last text : List ℕ) → IsWord key → IsWord first → IsWord last →
+    length first ≡ length last →
     changed key last (changed key first text) ≡ changed key last text
 
 -- a header that has room for the change of another key than HDR_SIZE is read back with the same size

@@ -12,7 +12,8 @@ pub record AreWordsFrom (place : ℕ) (line : List ℕ) : Type 0 where
   pub some : word_start place line < length line → word_start place line < word_end (word_start place line) line
   pub end : word_end (word_start place line) line ≤ length line
   pub words : word_start place line < length line → words_of (drop place line)
-      ≡ slice_range line (word_start place line) (word_end (word_start place line) line) ∷ words_of (drop (word_end (word_start place line) line) line)
+      ≡ slice_range line (word_start place line) (word_end (word_start place line) line) ∷ words_of (drop (word_end
+      (word_start place line) line) line)
 
 abbrev pub FirstWordOfLine : Type 0
 FirstWordOfLine = (place : ℕ) (line : List ℕ) → place ≤ length line → AreWordsFrom place line
@@ -32,8 +33,10 @@ IsLine line = All (λ byte. (byte == 10) ≡ false) line
 pub record GoesByLine (key line : List ℕ) : Type 0 where
   pub value_alone : value_of key (fields_of line) ≡ (if has_key key line then value_if (field_of_line line) else None)
   pub value : (more : List ℕ) →
-      value_of key (fields_of (line ++ (10 ∷ more))) ≡ (if has_key key line then value_if (field_of_line line) else value_of key (fields_of more))
-  pub overwritten_alone : (value : List ℕ) → overwritten key value line ≡ (if has_key key line then with_value value line else line)
+      value_of key (fields_of (line ++ (10 ∷ more))) ≡ (if has_key key line then value_if
+      (field_of_line line) else value_of key (fields_of more))
+  pub overwritten_alone : (value : List ℕ) →
+      overwritten key value line ≡ (if has_key key line then with_value value line else line)
   pub overwritten : (value more : List ℕ) → overwritten key value (line ++ (10 ∷ more))
       ≡ (if has_key key line then with_value value line ++ (10 ∷ more) else line ++ (10 ∷ overwritten key value more))
   pub blanked_alone : blanked key line ≡ (if has_key key line then blanked_line line else line)

@@ -6,5 +6,6 @@ use Rattle.dada_header.proofs.header.Header.get.Goals as goal
 pub ascii_text-requires : goal.ascii_text-requires
 ascii_text-requires c =
     let space = c.self.inside.space.items in
-    let is = c.headers_are_text.ensures (header_in space c.self.inside.len c.self.inside.size) c.self.invariant.read_back in
+    let is = c.headers_are_text.ensures
+    (header_in space c.self.inside.len c.self.inside.size) c.self.invariant.read_back in
     rw c.deref.ensures.value (ascii_at (take c.self.inside.len space) c.in-Some.place is.text)
