@@ -1,5 +1,5 @@
 -- One line of a text after another: what was searched, and what was changed.
-use Rattle.std.proofs.Common.{◌≡◌, ◌≢◌, ℕ, ◌+◌, ◌-◌, ◌<◌, ◌≤◌, false, cond, List, [], ◌∷◌, ◌++◌, length, take, drop, refl, sym, ap, ◌∙◌, arith, append_assoc, inl, inr, Some, None}
+use Rattle.std.proofs.Common.{◌≡◌, ◌≢◌, ℕ, ◌+◌, ◌-◌, ◌<◌, ◌≤◌, false, cond, List, [], ◌∷◌, ◌++◌, length, take, drop, sym, ap, ◌∙◌, arith, append_assoc, inl, inr, Some, None}
 use Rattle.std.specs.Prelude.{slice_range}
 use Rattle.std.proofs.lemmas.List.{append-nil, length-take-le, length-append, length-drop, take_at, take-append-drop, take-append-le, drop-append-le}
 use Rattle.std.proofs.lemmas.Bool.{cases_eq}
@@ -55,9 +55,6 @@ pub record IsSearched (key text : List ℕ) (from : ℕ) : Type 0 where
   pub value : value_of key (fields_of text) ≡ value_of key (fields_of (drop from text))
   pub other : (value : List ℕ) → overwritten key value text ≡ take from text ++ overwritten key value (drop from text)
 
-pub searched_none : (key text : List ℕ) → IsSearched key text 0
-searched_none key text = record { within = omega arith; value = refl; other = λ value. refl }
-
 -- the line and what follows it
 pub line_and_rest : (text : List ℕ) (from end : ℕ) → IsLineEnd text from end → end ≢ length text →
     drop from text ≡ slice_range text from end ++ (10 ∷ drop (end + 1) text)
@@ -103,14 +100,6 @@ searched_more key text from end s h short law without =
           ∙ sym (append_assoc (take from text) (line ++ (10 ∷ [])) (overwritten key value more))
           ∙ ap (λ t. t ++ overwritten key value more) (sym (front_of_line text from end h short));
     }
-
-pub searched_all : (key text : List ℕ) (from end : ℕ) → IsSearched key text from → IsLineEnd text from end →
-    end ≡ length text →
-    GoesByLine key (slice_range text from end) → has_key key (slice_range text from end) ≡ false →
-    value_of key (fields_of text) ≡ None
-searched_all key text from end s h whole law without =
-    s.value ∙ ap (λ t. value_of key (fields_of t)) (h.last whole) ∙ law.value_alone
-    ∙ ap (λ b. cond b (value_if (field_of_line (slice_range text from end))) None) without
 
 -- the text is what stands before the line, the line and what stands after it
 parts_of : (text : List ℕ) (from end : ℕ) (tail : List ℕ) → drop from text ≡ slice_range text from end ++ tail →

@@ -279,10 +279,6 @@ line_not_ended x line is =
     let place : suc (length line) - 1 ≡ length line = omega arith in
     ap (λ n. eqb (get_or (x ∷ line) n 10) 10) place ∙ is (length line) 10 (omega arith)
 
-pub empty_ended : is_ended [] ≡ true
-unfolding is_ended
-empty_ended = refl
-
 ended_lines : (line new : List ℕ) → IsLine line → IsLine new → length new ≡ length line → is_ended new ≡ is_ended line
 ended_lines [] [] is is_new same = refl
 ended_lines [] (y ∷ new) is is_new same = absurd (omega arith)

@@ -6,7 +6,7 @@ use Rattle.std.proofs.lemmas.Bool.{cases_lt, cases_Bool, both_ways, leb-true, le
 use Rattle.std.proofs.lemmas.List.{append-nil, length-append, take_all, take-append-le, get_or_append_left}
 use Rattle.std.proofs.lemmas.List.Elements.{All-nil, All-cons, All-append, All-weaker}
 use Rattle.std.proofs.Math.Seq.{take-append-add}
-use Rattle.dada_model.specs.Fields.{Field, lines_of, field_of_line, fields_of, value_of, HeaderText, size_of_value}
+use Rattle.dada_model.specs.Fields.{lines_of, field_of_line, fields_of, value_of, HeaderText, size_of_value}
 use Rattle.dada_model.specs.Change.{IsWordByte, IsWord, spaces, has_key, with_value, blanked_line, with_first_value, without_key, overwritten, blanked, line_end, field_line, has_room_for, is_overwritten, changed}
 use Rattle.dada_model.specs.FieldLaws.{value_if, IsLine}
 use Rattle.dada_model.specs.ChangeLaws.{IsInField, StaysInPlace, IsReadBack}
@@ -89,10 +89,6 @@ blanked_are_lines key text = news_are_lines key (lines_of text) (without_key key
     (blanked_changes key text)
 
 -- ---- the key has the value
-
-named_value : (line value : List ℕ) (field : Field) → field_of_line line ≡ Some field →
-    value_if (field_of_line line) ≡ Some value → field.value ≡ value
-named_value line value field e h = let same : value_if (Some field) ≡ Some value = sym (ap value_if e) ∙ h in (cc)
 
 first_gives_on : (b : Bool) (key new old line : List ℕ) (lines : List (List ℕ)) → has_key key line ≡ b → IsWord new →
     cond b (value_if (field_of_line line)) (value_among key lines) ≡ Some old →
