@@ -8,7 +8,7 @@ use Rattle.std.proofs.lemmas.Bool.Decides.{nat_tests}
 use Rattle.std.proofs.lemmas.List.{take_more, take_all, take-append-drop}
 use Rattle.std.proofs.lemmas.List.Elements.{All-head, All-tail, All-drop}
 use Rattle.std.proofs.lemmas.Nat.{le-div, div_below, pow-add}
-use Rattle.std.proofs.Math.Nat.{mul-le-mul_left, mul-le-mul_right}
+use Rattle.std.proofs.Math.Nat.{mul-le-mul_right}
 use Rattle.psr_base.specs.Spelling.{capped}
 
 pub digits_after : (r n : ℕ) (xs ys : List ℕ) →
@@ -28,19 +28,6 @@ digit_more n i number digits within so_far =
     let more = ap (digits_value_after 10 n) (take_more digits i 0 within)
     ∙ digits_after 10 n (take i digits) (get_or digits i 0 ∷ []) in
     rw (more, so_far) (step_capped (digits_value_after 10 n (take i digits)) (digit_value (get_or digits i 0)))
-
--- zeros more
-
-pub zeros_capped : (n p : ℕ) → 1 ≤ p → min 1000000000000000001 (capped n * p) ≡ capped (n * p)
-zeros_capped n p some =
-    elim (cases_lt n 1000000000000000001) [
-      | inl small ↦ let same : capped n ≡ n = omega arith in rw same refl
-      | inr large ↦
-          let same : capped n ≡ 1000000000000000001 = omega arith in
-          let least : 1000000000000000001 * 1 ≤ 1000000000000000001 * p = mul-le-mul_left 1000000000000000001 some in
-          let more : 1000000000000000001 * p ≤ n * p = mul-le-mul_right p large in
-          rw same (omega arith)
-    ]
 
 -- digits after a number
 

@@ -75,6 +75,7 @@ impl Parts<'_> {
     }
 }
 
+// The parts of a text.
 fn split_number(text: &[u8]) -> Parts<'_>
     ensures { SplitsNumber text.now result.negative result.whole.now result.fraction.now
         result.rest.now }
