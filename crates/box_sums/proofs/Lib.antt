@@ -4,3 +4,4 @@ pub mod Feeding
 pub mod Parts
 pub mod Values
 pub mod Zeros
+pub mod Worked

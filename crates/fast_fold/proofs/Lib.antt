@@ -6,3 +6,4 @@ pub mod Parts
 pub mod Ranges
 pub mod Room
 pub mod Turned
+pub mod Worked

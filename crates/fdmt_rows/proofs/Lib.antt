@@ -1,3 +1,4 @@
 pub mod Steps
 pub mod GreatestValues
 pub mod Sums
+pub mod Worked
