@@ -243,7 +243,8 @@ parts_of_field line field e =
     let keyword_is : first.word ≡ field.keyword = (cc (first.words_are)) in
     let second = has_word first.rest field.value words.0 tails in
     let value_is : second.word ≡ field.value = (cc (second.words_are)) in
-    let gap_some = white_first second.lead second.word second.rest first.rest second.bytes_are first.ends second.some second.graphic in
+    let gap_some = white_first second.lead second.word second.rest first.rest second.bytes_are first.ends second.some
+    second.graphic in
     let bare_is : bare ≡ first.lead ++ (field.keyword ++ (second.lead ++ (field.value ++ second.rest))) =
     first.bytes_are ∙ ap (λ w. first.lead ++ (w ++ first.rest)) keyword_is
     ∙ ap (λ r. first.lead ++ (field.keyword ++ r)) (second.bytes_are
@@ -325,7 +326,8 @@ keyword_kept line n field e =
     sym (take-append-drop n line) ∙ ap (λ t. t ++ drop n line) h.line_is
     ∙ longer h.lead field.keyword h.gap field.value h.after (drop n line) in
     let found = has_value h.lead field.keyword h.gap field.value
-    (h.after ++ drop n line) h.lead_white h.gap_white h.gap_some h.keyword_some h.keyword_bare h.value_some h.value_bare in
+    (h.after ++ drop n line) h.lead_white h.gap_white h.gap_some h.keyword_some h.keyword_bare h.value_some
+    h.value_bare in
     (found.0, ap field_of_line whole ∙ found.1)
 
 -- a front of a line has a key only where the line has it

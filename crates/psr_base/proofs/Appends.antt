@@ -5,30 +5,45 @@ use Rattle.psr_base.specs.Count.{Rose}
 use Rattle.psr_base.specs.Made.{NamedBytes, Made, FilesLeft, FilesSeen, AppendedAll, AppendedFront, longer_by, less_bytes}
 use Rattle.psr_base.proofs.Pieces.{take-append-rest}
 
-longer_by-longer_by : (xs ys : List ℕ) (made : Option Made) → option_map (longer_by ys) (option_map (longer_by xs) made) ≡ option_map (longer_by (xs ++ ys)) made
+longer_by-longer_by : (xs ys : List ℕ) (made : Option Made) →
+    option_map (longer_by ys) (option_map (longer_by xs) made) ≡ option_map (longer_by (xs ++ ys)) made
 longer_by-longer_by xs ys None = refl
-longer_by-longer_by xs ys (Some made) = ap (λ (file : Option NamedBytes). Some (record made { unfinished = file })) (by_file made.unfinished)
+longer_by-longer_by xs ys (Some made) =
+    ap (λ (file : Option NamedBytes). Some (record made { unfinished = file })) (by_file made.unfinished)
   where
-    by_file : (file : Option NamedBytes) → option_map (λ (f : NamedBytes). record f { bytes = f.bytes ++ ys }) (option_map (λ (f : NamedBytes). record f { bytes = f.bytes ++ xs }) file) ≡ option_map (λ (f : NamedBytes). record f { bytes = f.bytes ++ (xs ++ ys) }) file
+    by_file : (file : Option NamedBytes) →
+        option_map (λ (f : NamedBytes). record f { bytes = f.bytes ++ ys })
+        (option_map (λ (f : NamedBytes). record f { bytes = f.bytes ++ xs }) file)
+        ≡ option_map (λ (f : NamedBytes). record f { bytes = f.bytes ++ (xs ++ ys) }) file
     by_file None = refl
     by_file (Some file) = ap (λ (bytes : List ℕ). Some (record file { bytes = bytes })) (append_assoc file.bytes xs ys)
 
-less_bytes-less_bytes : (xs ys : List ℕ) (left : Option FilesLeft) → option_map (less_bytes (length ys)) (option_map (less_bytes (length xs)) left) ≡ option_map (less_bytes (length (xs ++ ys))) left
+less_bytes-less_bytes : (xs ys : List ℕ) (left : Option FilesLeft) →
+    option_map (less_bytes (length ys)) (option_map (less_bytes (length xs)) left)
+    ≡ option_map (less_bytes (length (xs ++ ys))) left
 less_bytes-less_bytes xs ys None = refl
-less_bytes-less_bytes xs ys (Some left) = ap (λ (n : ℕ). Some (record left { bytes = n })) (omega (arith, length-append xs ys))
+less_bytes-less_bytes xs ys (Some left) =
+    ap (λ (n : ℕ). Some (record left { bytes = n })) (omega (arith, length-append xs ys))
 
-made-pieces : (xs ys : List ℕ) (old middle new : Option Made) → middle ≡ option_map (longer_by xs) old → new ≡ option_map (longer_by ys) middle → new ≡ option_map (longer_by (xs ++ ys)) old
-made-pieces xs ys old middle new first second = second ∙ ap (option_map (longer_by ys)) first ∙ longer_by-longer_by xs ys old
+made-pieces : (xs ys : List ℕ) (old middle new : Option Made) → middle ≡ option_map (longer_by xs) old →
+    new ≡ option_map (longer_by ys) middle → new ≡ option_map (longer_by (xs ++ ys)) old
+made-pieces xs ys old middle new first second = second ∙ ap (option_map (longer_by ys)) first
+    ∙ longer_by-longer_by xs ys old
 
-left-pieces : (xs ys : List ℕ) (old middle new : Option FilesLeft) → middle ≡ option_map (less_bytes (length xs)) old → new ≡ option_map (less_bytes (length ys)) middle → new ≡ option_map (less_bytes (length (xs ++ ys))) old
-left-pieces xs ys old middle new first second = second ∙ ap (option_map (less_bytes (length ys))) first ∙ less_bytes-less_bytes xs ys old
+left-pieces : (xs ys : List ℕ) (old middle new : Option FilesLeft) →
+    middle ≡ option_map (less_bytes (length xs)) old → new ≡ option_map (less_bytes (length ys)) middle →
+    new ≡ option_map (less_bytes (length (xs ++ ys))) old
+left-pieces xs ys old middle new first second = second ∙ ap (option_map (less_bytes (length ys))) first
+    ∙ less_bytes-less_bytes xs ys old
 
 -- nothing was appended
 made-nothing : (made : Option Made) → made ≡ option_map (longer_by []) made
 made-nothing None = refl
-made-nothing (Some made) = ap (λ (file : Option NamedBytes). Some (record made { unfinished = file })) (by_file made.unfinished)
+made-nothing (Some made) =
+    ap (λ (file : Option NamedBytes). Some (record made { unfinished = file })) (by_file made.unfinished)
   where
-    by_file : (file : Option NamedBytes) → file ≡ option_map (λ (f : NamedBytes). record f { bytes = f.bytes ++ [] }) file
+    by_file : (file : Option NamedBytes) →
+        file ≡ option_map (λ (f : NamedBytes). record f { bytes = f.bytes ++ [] }) file
     by_file None = refl
     by_file (Some file) = ap (λ (bytes : List ℕ). Some (record file { bytes = bytes })) (sym (append-nil file.bytes))
 
@@ -39,14 +54,16 @@ left-nothing (Some left) = ap (λ (n : ℕ). Some (record left { bytes = n })) (
 pub AppendedAll-nothing : (seen : FilesSeen) → AppendedAll [] seen seen
 AppendedAll-nothing seen = record { made = made-nothing seen.made; left = left-nothing seen.left; faults = refl }
 
-pub AppendedAll-joins : (xs ys : List ℕ) (old middle new : FilesSeen) → AppendedAll xs old middle → AppendedAll ys middle new → AppendedAll (xs ++ ys) old new
+pub AppendedAll-joins : (xs ys : List ℕ) (old middle new : FilesSeen) → AppendedAll xs old middle →
+    AppendedAll ys middle new → AppendedAll (xs ++ ys) old new
 AppendedAll-joins xs ys old middle new first second = record {
   made = made-pieces xs ys old.made middle.made new.made first.made second.made;
   left = left-pieces xs ys old.left middle.left new.left first.left second.left;
   faults = second.faults ∙ first.faults;
 }
 
-pub AppendedFront-stops : (xs ys : List ℕ) (old middle new : FilesSeen) → AppendedAll xs old middle → AppendedFront ys middle new → AppendedFront (xs ++ ys) old new
+pub AppendedFront-stops : (xs ys : List ℕ) (old middle new : FilesSeen) → AppendedAll xs old middle →
+    AppendedFront ys middle new → AppendedFront (xs ++ ys) old new
 AppendedFront-stops xs ys old middle new first second = record {
   front = xs ++ second.front;
   rest = second.rest;
@@ -55,13 +72,15 @@ AppendedFront-stops xs ys old middle new first second = record {
   made = made-pieces xs second.front old.made middle.made new.made first.made second.made;
   left = left-pieces xs second.front old.left middle.left new.left first.left second.left;
   short = λ left known.
-      let less : left.bytes - length xs < length ys = second.short (less_bytes (length xs) left) (first.left ∙ ap (option_map (less_bytes (length xs))) known) in
+      let less : left.bytes - length xs < length ys =
+      second.short (less_bytes (length xs) left) (first.left ∙ ap (option_map (less_bytes (length xs))) known) in
       omega (arith, less, length-append xs ys);
   rose = let P : ℕ → Type 0 = λ n. Rose n new.faults in subst P first.faults second.rose;
   count = omega (arith, first.faults, second.count);
 }
 
-pub AppendedFront-breaks_off : (xs ys : List ℕ) (old new : FilesSeen) → AppendedFront xs old new → AppendedFront (xs ++ ys) old new
+pub AppendedFront-breaks_off : (xs ys : List ℕ) (old new : FilesSeen) → AppendedFront xs old new →
+    AppendedFront (xs ++ ys) old new
 AppendedFront-breaks_off xs ys old new first = record {
   front = first.front;
   rest = first.rest ++ ys;
@@ -69,13 +88,17 @@ AppendedFront-breaks_off xs ys old new first = record {
   missing = omega (arith, first.missing, length-append first.rest ys);
   made = first.made;
   left = first.left;
-  short = λ left known. let less : left.bytes < length xs = first.short left known in omega (arith, less, length-append xs ys);
+  short = λ left known. let less : left.bytes < length xs = first.short left known in
+      omega (arith, less, length-append xs ys);
   rose = first.rose;
   count = first.count;
 }
 
 -- the first t bytes were appended, and then n of the rest
-pub AppendedAll-next : (t n : ℕ) (bytes : List ℕ) (old middle new : FilesSeen) → AppendedAll (take t bytes) old middle → AppendedAll (take n (take (length bytes - t) (drop t bytes))) middle new → AppendedAll (take (t + n) bytes) old new
+pub AppendedAll-next : (t n : ℕ) (bytes : List ℕ) (old middle new : FilesSeen) →
+    AppendedAll (take t bytes) old middle → AppendedAll (take n (take (length bytes - t) (drop t bytes))) middle new →
+    AppendedAll (take (t + n) bytes) old new
 AppendedAll-next t n bytes old middle new first second =
     let P : List ℕ → Type 0 = λ text. AppendedAll text old new in
-    subst P (take-append-rest t n bytes) (AppendedAll-joins (take t bytes) (take n (take (length bytes - t) (drop t bytes))) old middle new first second)
+    subst P (take-append-rest t n bytes)
+    (AppendedAll-joins (take t bytes) (take n (take (length bytes - t) (drop t bytes))) old middle new first second)

@@ -17,26 +17,41 @@ pub empty_contains : (n : ℕ) → Contains [] n → ⊥
 empty_contains n h = let lt : h.0 < 0 = h.1 in omega arith
 
 -- what is seen of a sink in memory that took a piece whole
-pub WroteAll-whole : {E : Type 0} (r : Result ℕ E) (old new : SinkSeen) (bytes : List ℕ) → IfOk r (λ n. n ≡ length bytes) → IfOk r (λ n. new.written ≡ append_known old.written (take n bytes)) →
-    IfOk r (λ n. new.room ≡ room_after n old.room) → OnOk r (new.faults ≡ old.faults) → IfOk r (λ n. WroteAll (take n bytes) old new)
+pub WroteAll-whole : {E : Type 0} (r : Result ℕ E) (old new : SinkSeen) (bytes : List ℕ) →
+    IfOk r (λ n. n ≡ length bytes) → IfOk r (λ n. new.written ≡ append_known old.written (take n bytes)) →
+    IfOk r (λ n. new.room ≡ room_after n old.room) → OnOk r (new.faults ≡ old.faults) →
+    IfOk r (λ n. WroteAll (take n bytes) old new)
 WroteAll-whole (Ok n) old new bytes whole written room faults =
-    record { written = written; room = room ∙ ap (λ (k : ℕ). room_after k old.room) (sym (length-take-le n bytes (omega (arith, whole)))); faults = faults }
+    record {
+      written = written;
+      room = room
+          ∙ ap (λ (k : ℕ). room_after k old.room) (sym (length-take-le n bytes (omega (arith, whole))));
+      faults = faults;
+    }
 WroteAll-whole (Err x) old new bytes whole written room faults = tt
 
 -- what is seen of one where a call failed
-pub WriteFails-unchanged : {T E : Type 0} (r : Result T E) (old new : SinkSeen) → OnErr r (new.written ≡ old.written) → OnErr r (new.room ≡ old.room) → OnErr r (Rose old.faults new.faults) → old.faults ≤ new.faults →
+pub WriteFails-unchanged : {T E : Type 0} (r : Result T E) (old new : SinkSeen) →
+    OnErr r (new.written ≡ old.written) → OnErr r (new.room ≡ old.room) → OnErr r (Rose old.faults new.faults) →
+    old.faults ≤ new.faults →
     OnErr r (WriteFails old new)
 WriteFails-unchanged (Ok x) old new written room rose count = tt
-WriteFails-unchanged (Err x) old new written room rose count = record { written = written; room = room; rose = rose; count = count }
+WriteFails-unchanged (Err x) old new written room rose count =
+    record { written = written; room = room; rose = rose; count = count }
 
 -- what was taken whole was written
-pub written_whole : {E : Type 0} (r : Result ℕ E) (old new bytes : List ℕ) → IfOk r (λ n. n ≡ length bytes) → OnOk r (new ≡ old ++ bytes) → IfOk r (λ n. Some new ≡ Some (old ++ take n bytes))
-written_whole (Ok n) old new bytes whole e = ap Some (e ∙ ap (λ (t : List ℕ). old ++ t) (sym (take_all n bytes (omega (arith, whole)))))
+pub written_whole : {E : Type 0} (r : Result ℕ E) (old new bytes : List ℕ) → IfOk r (λ n. n ≡ length bytes) →
+    OnOk r (new ≡ old ++ bytes) → IfOk r (λ n. Some new ≡ Some (old ++ take n bytes))
+written_whole (Ok n) old new bytes whole e =
+    ap Some (e ∙ ap (λ (t : List ℕ). old ++ t) (sym (take_all n bytes (omega (arith, whole)))))
 written_whole (Err x) old new bytes whole e = tt
 
 -- the room that is told falls by what was taken
-pub told_where-taken : {E : Type 0} (r : Result ℕ E) (fail fail' : List ℕ) (room room' len : ℕ) → fail' ≡ fail → IfOk r (λ n. n ≡ len) → OnOk r (room' ≡ room - len) → IfOk r (λ n. told_where fail' room' ≡ room_after n (told_where fail room))
-told_where-taken (Ok n) fail fail' room room' len same whole falls = ap (λ (f : List ℕ). told_where f room') same ∙ by_fail fail
+pub told_where-taken : {E : Type 0} (r : Result ℕ E) (fail fail' : List ℕ) (room room' len : ℕ) → fail' ≡ fail →
+    IfOk r (λ n. n ≡ len) → OnOk r (room' ≡ room - len) →
+    IfOk r (λ n. told_where fail' room' ≡ room_after n (told_where fail room))
+told_where-taken (Ok n) fail fail' room room' len same whole falls = ap (λ (f : List ℕ). told_where f room') same
+    ∙ by_fail fail
   where
     by_fail : (f : List ℕ) → told_where f room' ≡ room_after n (told_where f room)
     by_fail [] = ap Some (omega (arith, whole, falls))
@@ -44,40 +59,50 @@ told_where-taken (Ok n) fail fail' room room' len same whole falls = ap (λ (f :
 told_where-taken (Err x) fail fail' room room' len same whole falls = tt
 
 -- the room that is told stays
-pub Some-stays : {T E : Type 0} (r : Result T E) (old new : List ℕ) → OnErr r (new ≡ old) → OnErr r (Some new ≡ Some old)
+pub Some-stays : {T E : Type 0} (r : Result T E) (old new : List ℕ) → OnErr r (new ≡ old) →
+    OnErr r (Some new ≡ Some old)
 Some-stays (Ok x) old new stays = tt
 Some-stays (Err x) old new stays = ap Some stays
 
-pub told_where-stays : {E : Type 0} (r : Result ℕ E) (fail fail' : List ℕ) (room room' : ℕ) → fail' ≡ fail → OnErr r (room' ≡ room) → OnErr r (told_where fail' room' ≡ told_where fail room)
+pub told_where-stays : {E : Type 0} (r : Result ℕ E) (fail fail' : List ℕ) (room room' : ℕ) → fail' ≡ fail →
+    OnErr r (room' ≡ room) → OnErr r (told_where fail' room' ≡ told_where fail room)
 told_where-stays (Ok n) fail fail' room room' same stays = tt
-told_where-stays (Err x) fail fail' room room' same stays = ap (λ (f : List ℕ). told_where f room') same ∙ ap (told_where fail) stays
+told_where-stays (Err x) fail fail' room room' same stays = ap (λ (f : List ℕ). told_where f room') same
+    ∙ ap (told_where fail) stays
 
 -- where room is told, a piece that it holds is taken
-pub told_where-serves : {A : Type 0} (fail : List ℕ) (room number len x : ℕ) → ((len ≤ room) × ((Contains fail number) → ⊥) → A) → told_where fail room ≡ Some x → len ≤ x → A
-told_where-serves [] room number len x serves told fits = let same : room ≡ x = cc in serves (omega arith, empty_contains number)
+pub told_where-serves : {A : Type 0} (fail : List ℕ) (room number len x : ℕ) →
+    ((len ≤ room) × ((Contains fail number) → ⊥) → A) → told_where fail room ≡ Some x → len ≤ x → A
+told_where-serves [] room number len x serves told fits = let same : room ≡ x = cc in
+    serves (omega arith, empty_contains number)
 told_where-serves (n ∷ fail) room number len x serves told fits = absurd cc
 
 -- a failed call is counted
-pub Rose-failed : {T E : Type 0} (r : Result T E) (old new : CallCount) → OnErr r (new ≡ after_fault old) → OnErr r (Rose old.faults new.faults)
+pub Rose-failed : {T E : Type 0} (r : Result T E) (old new : CallCount) → OnErr r (new ≡ after_fault old) →
+    OnErr r (Rose old.faults new.faults)
 Rose-failed (Ok x) old new failed = tt
 Rose-failed (Err x) old new failed = omega (arith, ap (λ (c : CallCount). c.faults) failed)
 
 -- a call that did not fail isn't
-pub count-stays : {T E : Type 0} (r : Result T E) (old new : CallCount) → OnOk r (new ≡ after_call old) → OnOk r (new.faults ≡ old.faults)
+pub count-stays : {T E : Type 0} (r : Result T E) (old new : CallCount) → OnOk r (new ≡ after_call old) →
+    OnOk r (new.faults ≡ old.faults)
 count-stays (Ok x) old new called = ap (λ (c : CallCount). c.faults) called
 count-stays (Err x) old new called = tt
 
 -- which calls are to fail never changes
-pub fail-stays : {T E : Type 0} (r : Result T E) (old new : CallCount) → OnOk r (new ≡ after_call old) → OnErr r (new ≡ after_fault old) → new.fail ≡ old.fail
+pub fail-stays : {T E : Type 0} (r : Result T E) (old new : CallCount) → OnOk r (new ≡ after_call old) →
+    OnErr r (new ≡ after_fault old) → new.fail ≡ old.fail
 fail-stays (Ok x) old new called failed = ap (λ (c : CallCount). c.fail) called
 fail-stays (Err x) old new called failed = ap (λ (c : CallCount). c.fail) failed
 
 -- an object that has no call to fail answers
 pub calm-serves : {A : Type 0} (calls : CallCount) → (((FailsNext calls) → ⊥) → A) → calls.fail ≡ [] → A
-calm-serves calls serves calm = serves (λ h. empty_contains calls.number (subst (λ (fail : List ℕ). Contains fail calls.number) calm h))
+calm-serves calls serves calm =
+    serves (λ h. empty_contains calls.number (subst (λ (fail : List ℕ). Contains fail calls.number) calm h))
 
 -- the bytes under the names stay when a name is opened
-pub names-opened : {T E : Type 0} (r : Result T E) (name : List ℕ) (old new : Told) → OnOk r (new ≡ opened name old) → OnErr r (new ≡ old) → new.bytes_under ≡ old.bytes_under
+pub names-opened : {T E : Type 0} (r : Result T E) (name : List ℕ) (old new : Told) → OnOk r (new ≡ opened name old) →
+    OnErr r (new ≡ old) → new.bytes_under ≡ old.bytes_under
 names-opened (Ok x) name old new ok err = ap (λ (t : Told). t.bytes_under) ok
 names-opened (Err x) name old new ok err = ap (λ (t : Told). t.bytes_under) err
 
@@ -90,23 +115,32 @@ IsSome-from_map f (Some x) y h = refl
 abbrev told_by : List MemFile → Option OpenFile → Told
 told_by files reading = record { bytes_under = bytes_in files; reading = reading_of files reading }
 
-is_open-from_told : (files : List MemFile) (reading : Option OpenFile) (told : Told) (file : Reading) → told_by files reading ≡ told → told.reading ≡ Some file → IsSome reading
-is_open-from_told files reading told file same known = IsSome-from_map _ reading file (ap (λ (t : Told). t.reading) same ∙ known)
+is_open-from_told : (files : List MemFile) (reading : Option OpenFile) (told : Told) (file : Reading) →
+    told_by files reading ≡ told → told.reading ≡ Some file → IsSome reading
+is_open-from_told files reading told file same known =
+    IsSome-from_map _ reading file (ap (λ (t : Told). t.reading) same ∙ known)
 
 -- a name that is told to be open is open
-pub is_open-opened : {T E : Type 0} (r : Result T E) (files : List MemFile) (reading : Option OpenFile) (name : List ℕ) (old : Told) → OnOk r (told_by files reading ≡ opened name old) → OnOk r (IsSome reading)
+pub is_open-opened : {T E : Type 0} (r : Result T E) (files : List MemFile) (reading : Option OpenFile)
+    (name : List ℕ) (old : Told) → OnOk r (told_by files reading ≡ opened name old) → OnOk r (IsSome reading)
 is_open-opened (Ok x) files reading name old ok = is_open-from_told files reading (opened name old) _ ok refl
 is_open-opened (Err x) files reading name old ok = tt
 
-pub still_open : {T E : Type 0} (r : Result T E) (files files' : List MemFile) (reading reading' : Option OpenFile) → OnErr r (told_by files' reading' ≡ told_by files reading) → OnErr r (IsSome reading → IsSome reading')
+pub still_open : {T E : Type 0} (r : Result T E) (files files' : List MemFile) (reading reading' : Option OpenFile) →
+    OnErr r (told_by files' reading' ≡ told_by files reading) → OnErr r (IsSome reading → IsSome reading')
 still_open (Ok x) files files' reading reading' err = tt
 still_open (Err x) files files' None reading' err = λ some. absurd cc
-still_open (Err x) files files' (Some file) reading' err = λ some. is_open-from_told files' reading' (told_by files (Some file)) _ err refl
+still_open (Err x) files files' (Some file) reading' err = λ some.
+    is_open-from_told files' reading' (told_by files (Some file)) _ err refl
 
-pub is_open-moved : {E : Type 0} (r : Result ℕ E) (files files' : List MemFile) (reading reading' : Option OpenFile) → IfOk r (λ n. told_by files' reading' ≡ moved_by n (told_by files reading)) → OnErr r (told_by files' reading' ≡ told_by files reading) → IsSome reading → IsSome reading'
+pub is_open-moved : {E : Type 0} (r : Result ℕ E) (files files' : List MemFile) (reading reading' : Option OpenFile) →
+    IfOk r (λ n. told_by files' reading' ≡ moved_by n (told_by files reading)) →
+    OnErr r (told_by files' reading' ≡ told_by files reading) → IsSome reading → IsSome reading'
 is_open-moved r files files' None reading' ok err some = absurd cc
-is_open-moved (Ok n) files files' (Some file) reading' ok err some = is_open-from_told files' reading' (moved_by n (told_by files (Some file))) _ ok refl
-is_open-moved (Err x) files files' (Some file) reading' ok err some = is_open-from_told files' reading' (told_by files (Some file)) _ err refl
+is_open-moved (Ok n) files files' (Some file) reading' ok err some =
+    is_open-from_told files' reading' (moved_by n (told_by files (Some file))) _ ok refl
+is_open-moved (Err x) files files' (Some file) reading' ok err some =
+    is_open-from_told files' reading' (told_by files (Some file)) _ err refl
 
 -- what holds of all bytes holds where they are told
 pub opened-told : {T E A : Type 0} (r : Result T E) (o : Option A) (P : Type 0) → OnOk r P → OnOk r (ForSome o (λ _. P))
@@ -114,6 +148,9 @@ opened-told (Ok x) o P p = λ y known. p
 opened-told (Err x) o P p = tt
 
 -- the next bytes of what is told are the next bytes
-pub GivesNext-told : {E : Type 0} (r : Result ℕ E) (left : Option (List ℕ)) (buffer : List ℕ) → IfOk r (λ n. GivesNext (unwrap_or left []) n buffer) → IfOk r (λ n. ForSome left (λ bytes. GivesNext bytes n buffer))
-GivesNext-told (Ok n) left buffer next = λ bytes known. subst (λ (o : Option (List ℕ)). GivesNext (unwrap_or o []) n buffer) known next
+pub GivesNext-told : {E : Type 0} (r : Result ℕ E) (left : Option (List ℕ)) (buffer : List ℕ) →
+    IfOk r (λ n. GivesNext (unwrap_or left []) n buffer) →
+    IfOk r (λ n. ForSome left (λ bytes. GivesNext bytes n buffer))
+GivesNext-told (Ok n) left buffer next =
+    λ bytes known. subst (λ (o : Option (List ℕ)). GivesNext (unwrap_or o []) n buffer) known next
 GivesNext-told (Err x) left buffer next = tt

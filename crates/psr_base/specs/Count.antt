@@ -9,7 +9,8 @@ next_count count = min (count + 1) (2 ^ 64 - 1)
 abbrev pub Rose : ℕ → ℕ → Type 0
 Rose old new = next_count old ≤ new
 
--- the calls of an object in memory: the numbers of those that are to fail, the number of the next one, and how many failed
+-- the calls of an object in memory: the numbers of those that are to fail, the number of the next one, and how many
+-- failed
 pub record CallCount : Type 0 where
   pub fail : List ℕ
   pub number : ℕ

@@ -22,7 +22,12 @@ IsOpen inputs = IsReading inputs.files
 
 -- its calls
 abbrev pub calls_of : MemInputs → CallCount
-calls_of inputs = record { fail = inputs.calls.fail.items; number = inputs.calls.number; faults = inputs.calls.faults.count }
+calls_of inputs = record {
+  fail = inputs.calls.fail.items;
+  number = inputs.calls.number;
+  faults =
+      inputs.calls.faults.count;
+}
 
 -- what was written to a sink in memory
 abbrev pub body_of : MemSink → List ℕ
@@ -63,7 +68,11 @@ made_of made = made_in made.bytes.items made.finished.items made.unfinished
 
 -- how many more there is space for, and how many more bytes
 abbrev pub files_left : MemFiles → FilesLeft
-files_left made = record { files = made.files - length (all_stored made.finished.items made.unfinished); bytes = made.room - vec_len made.bytes }
+files_left made = record {
+  files = made.files - length (all_stored made.finished.items made.unfinished);
+  bytes =
+      made.room - vec_len made.bytes;
+}
 
 -- its calls
 abbrev pub files_calls : MemFiles → CallCount
@@ -71,7 +80,11 @@ files_calls made = record { fail = made.calls.fail.items; number = made.calls.nu
 
 -- what is seen of it
 abbrev pub files_seen : MemFiles → FilesSeen
-files_seen made = record { made = Some (made_of made); left = told_where made.calls.fail.items (files_left made); faults = made.calls.faults.count }
+files_seen made = record {
+  made = Some (made_of made);
+  left = told_where made.calls.fail.items (files_left made);
+  faults = made.calls.faults.count;
+}
 
 -- a file was created and isn't finished
 abbrev pub IsMaking : MemFiles → Type 0

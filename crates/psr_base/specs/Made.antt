@@ -46,7 +46,11 @@ begun name made = record made { unfinished = Some (record { name = name; bytes =
 
 -- bytes come after those of the unfinished file
 abbrev pub longer_by : List ℕ → Made → Made
-longer_by bytes made = record made { unfinished = option_map (λ (file : NamedBytes). record file { bytes = file.bytes ++ bytes }) made.unfinished }
+longer_by bytes made =
+    record made {
+      unfinished =
+          option_map (λ (file : NamedBytes). record file { bytes = file.bytes ++ bytes }) made.unfinished;
+    }
 
 -- the unfinished file is finished
 abbrev pub ended : Made → Made
@@ -83,7 +87,8 @@ pub record MakingFails (old new : FilesSeen) : Type 0 where
   pub rose : Rose old.faults new.faults
   pub count : old.faults ≤ new.faults
 
--- a call failed before bytes were appended whole: their front was. Where what is left was told, it was less than the bytes.
+-- a call failed before bytes were appended whole: their front was. Where what is left was told, it was less than the
+-- bytes.
 pub record AppendedFront (bytes : List ℕ) (old new : FilesSeen) : Type 0 where
   pub front : List ℕ
   pub rest : List ℕ
@@ -102,8 +107,10 @@ pub record Appended {T E : Type 0} (bytes : List ℕ) (old new : FilesSeen) (res
 
 -- What appends make that follow one another: all bytes or their front, as the last of them ended.
 pub record AppendsJoin : Type 0 where
-  pub joins : (xs ys : List ℕ) (old middle new : FilesSeen) → AppendedAll xs old middle → AppendedAll ys middle new → AppendedAll (xs ++ ys) old new
-  pub stops : (xs ys : List ℕ) (old middle new : FilesSeen) → AppendedAll xs old middle → AppendedFront ys middle new → AppendedFront (xs ++ ys) old new
+  pub joins : (xs ys : List ℕ) (old middle new : FilesSeen) → AppendedAll xs old middle → AppendedAll ys middle new →
+      AppendedAll (xs ++ ys) old new
+  pub stops : (xs ys : List ℕ) (old middle new : FilesSeen) → AppendedAll xs old middle →
+      AppendedFront ys middle new → AppendedFront (xs ++ ys) old new
   pub breaks_off : (xs ys : List ℕ) (old new : FilesSeen) → AppendedFront xs old new → AppendedFront (xs ++ ys) old new
 
 -- a new name of at most 64 bytes, while a file is left, where all this is told

@@ -18,7 +18,8 @@ nothing_told = record { bytes_under = λ _. None; reading = None }
 
 -- the bytes of the open file from the place that was read to, where they are told
 abbrev pub left_to_read : Told → Option (List ℕ)
-left_to_read told = option_and_then (λ (file : Reading). option_map (drop file.place) (told.bytes_under file.name)) told.reading
+left_to_read told = option_and_then
+    (λ (file : Reading). option_map (drop file.place) (told.bytes_under file.name)) told.reading
 
 -- a name was opened: it is read from place 0
 abbrev pub opened : List ℕ → Told → Told
@@ -30,7 +31,10 @@ closed told = record told { reading = None }
 
 -- the place moved by n bytes
 abbrev pub moved_by : ℕ → Told → Told
-moved_by n told = record told { reading = option_map (λ (file : Reading). record file { place = file.place + n }) told.reading }
+moved_by n told = record told {
+  reading =
+      option_map (λ (file : Reading). record file { place = file.place + n }) told.reading;
+}
 
 -- what is left once n more bytes were read
 abbrev pub rest_after : ℕ → Option (List ℕ) → Option (List ℕ)

@@ -6,9 +6,12 @@ use Rattle.psr_base.specs.Written.{room_after, first_pieces}
 use Rattle.psr_base.specs.Made.{Made, FilesLeft, files_in, names_in, begun, longer_by, ended, less_a_file, less_bytes}
 
 abbrev two_files : Made
-two_files = begun (codes "b") (ended (longer_by (codes "c") (longer_by (codes "ab") (begun (codes "a") (record { finished = []; unfinished = None })))))
+two_files = begun (codes "b")
+    (ended (longer_by (codes "c")
+    (longer_by (codes "ab") (begun (codes "a") (record { finished = []; unfinished = None })))))
 
-in_order : files_in two_files ≡ record { name = codes "a"; bytes = codes "abc" } ∷ record { name = codes "b"; bytes = [] } ∷ []
+in_order : files_in two_files
+    ≡ record { name = codes "a"; bytes = codes "abc" } ∷ record { name = codes "b"; bytes = [] } ∷ []
 in_order = refl
 
 names : names_in (ended two_files) ≡ codes "a" ∷ codes "b" ∷ []

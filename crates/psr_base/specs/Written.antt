@@ -56,13 +56,17 @@ first_pieces piece n = flat_map piece (range_with_len 0 n)
 -- What pieces make that are written one after another: the whole text or its front, as the last of them was written.
 pub record PiecesJoin : Type 0 where
   pub nothing : (seen : SinkSeen) → WroteAll [] seen seen
-  pub joins : (xs ys : List ℕ) (old middle new : SinkSeen) → WroteAll xs old middle → WroteAll ys middle new → WroteAll (xs ++ ys) old new
-  pub stops : (xs ys : List ℕ) (old middle new : SinkSeen) → WroteAll xs old middle → WroteFront ys middle new → WroteFront (xs ++ ys) old new
+  pub joins : (xs ys : List ℕ) (old middle new : SinkSeen) → WroteAll xs old middle → WroteAll ys middle new →
+      WroteAll (xs ++ ys) old new
+  pub stops : (xs ys : List ℕ) (old middle new : SinkSeen) → WroteAll xs old middle → WroteFront ys middle new →
+      WroteFront (xs ++ ys) old new
   pub breaks_off : (xs ys : List ℕ) (old new : SinkSeen) → WroteFront xs old new → WroteFront (xs ++ ys) old new
 
 -- The same in a loop over pieces 0, 1 and so on, of which there are n: one piece more, and a fault at piece i.
 pub record LoopsJoin : Type 0 where
   pub one_more : (piece : ℕ → List ℕ) (i : ℕ) (old middle new : SinkSeen) →
-      WroteAll (first_pieces piece i) old middle → WroteAll (piece i) middle new → WroteAll (first_pieces piece (i + 1)) old new
+      WroteAll (first_pieces piece i) old middle → WroteAll (piece i) middle new →
+      WroteAll (first_pieces piece (i + 1)) old new
   pub stops : (piece : ℕ → List ℕ) (i n : ℕ) (old middle new : SinkSeen) → i < n →
-      WroteAll (first_pieces piece i) old middle → WroteFront (piece i) middle new → WroteFront (first_pieces piece n) old new
+      WroteAll (first_pieces piece i) old middle → WroteFront (piece i) middle new →
+      WroteFront (first_pieces piece n) old new

@@ -7,8 +7,10 @@ returns-in_default-clause-none c =
 
 pub returns-then-value-place-clause-some : goal.returns-then-value-place-clause-some
 returns-then-value-place-clause-some c =
-    overwritten_at c.args.key.now c.args.value.now c.args.text.now c.in-Some.place c.in-Some.ensures.some c.if-value-place.true
+    overwritten_at c.args.key.now c.args.value.now c.args.text.now c.in-Some.place c.in-Some.ensures.some
+    c.if-value-place.true
 
 pub returns-else-value-place-clause-none : goal.returns-else-value-place-clause-none
 returns-else-value-place-clause-none c =
-    appended_for_longer c.args.key.now c.args.value.now c.args.text.now c.in-Some.place c.in-Some.ensures.some c.if-value-place.false
+    appended_for_longer c.args.key.now c.args.value.now c.args.text.now c.in-Some.place c.in-Some.ensures.some
+    c.if-value-place.false

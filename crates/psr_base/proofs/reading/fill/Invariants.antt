@@ -9,7 +9,8 @@ invariant-loop-filled g l =
     record {
       within : l.filled ≤ length l.into;
       moved : i.told l.inputs ≡ moved_by l.filled (i.told l.fn.inputs);
-      given : (left : List ℕ) → left_to_read (i.told l.fn.inputs) ≡ Some left → (take l.filled l.into ≡ take l.filled left) × (l.filled ≤ length left);
+      given : (left : List ℕ) → left_to_read (i.told l.fn.inputs) ≡ Some left →
+          (take l.filled l.into ≡ take l.filled left) × (l.filled ≤ length left);
       is_open : i.is_open l.inputs;
       quiet : i.faults l.inputs ≡ i.faults l.fn.inputs;
       calm : i.is_calm l.fn.inputs → i.is_calm l.inputs;

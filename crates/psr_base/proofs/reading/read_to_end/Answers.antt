@@ -6,7 +6,8 @@ use Rattle.psr_base.proofs.Pieces.{more_within, length-of_ended, append-next, mo
 use Rattle.psr_base.proofs.reading.read_to_end.Goals as goal
 
 -- what is left after d bytes, where d bytes were read
-rest-moved : (d : ℕ) (old new : Told) (left : List ℕ) → new ≡ moved_by d old → left_to_read old ≡ Some left → left_to_read new ≡ Some (drop d left)
+rest-moved : (d : ℕ) (old new : Told) (left : List ℕ) → new ≡ moved_by d old → left_to_read old ≡ Some left →
+    left_to_read new ≡ Some (drop d left)
 rest-moved d old new left moved known = ap left_to_read moved ∙ left_to_read-moved_by d old ∙ ap (rest_after d) known
 
 pub returns-then-n-eq0-clause-whole : goal.returns-then-n-eq0-clause-whole
@@ -24,14 +25,24 @@ loop-piece-preserved g c =
     let before = c.loop-piece.invariant in
     let d = vec_len c.loop-piece.data in
     let n = c.in_ok-n.n in
-    let longer : vec_len c.extend_from_slice.new.self ≡ d + n = omega (arith, c.in_ok-extend_from_slice.ensures.len, length-take-le n c.read.new.into c.in_ok-n.ensures.bound) in
+    let longer : vec_len c.extend_from_slice.new.self ≡ d + n =
+    omega (
+      arith,
+      c.in_ok-extend_from_slice.ensures.len,
+      length-take-le n c.read.new.into c.in_ok-n.ensures.bound,
+    ) in
     record {
-      moved = moved_by-next d n (vec_len c.extend_from_slice.new.self) told (g.I.Inputs.told c.loop-piece.inputs) (g.I.Inputs.told c.read.new.self) longer before.moved c.in_ok-n.ensures.moved;
+      moved = moved_by-next d n (vec_len c.extend_from_slice.new.self) told (g.I.Inputs.told c.loop-piece.inputs)
+          (g.I.Inputs.told c.read.new.self) longer before.moved c.in_ok-n.ensures.moved;
       given = λ left known.
           let so_far = before.given left known in
           let next = c.in_ok-n.ensures.next (drop d left) (rest-moved d _ _ left before.moved known) in
-          let more = more_within d n left so_far.1 next.within in
-          (append-next d n (vec_len c.extend_from_slice.new.self) c.loop-piece.data.items c.read.new.into c.extend_from_slice.new.self.items left longer c.in_ok-extend_from_slice.ensures.items so_far.0 next.given, omega (arith, longer, more));
+          let more = more_within d n left so_far.1 next.within in (
+            append-next d n (vec_len c.extend_from_slice.new.self) c.loop-piece.data.items c.read.new.into
+                c.extend_from_slice.new.self.items left longer c.in_ok-extend_from_slice.ensures.items so_far.0
+                next.given,
+            omega (arith, longer, more),
+          );
       is_open = c.read.ensures.is_open;
       quiet = c.in_ok-n.ensures.quiet ∙ before.quiet;
       calm = λ h. c.read.ensures.calm (before.calm h);
@@ -42,8 +53,11 @@ returns-in_err-extend_from_slice-clause-lost g c =
     let told = g.I.Inputs.told c.args.inputs.now in
     let d = vec_len c.loop-piece.data in
     let n = c.in_ok-n.n in
-    let moved : g.I.Inputs.told c.read.new.self ≡ moved_by (d + n) told = moved_by-next d n (d + n) told (g.I.Inputs.told c.loop-piece.inputs) (g.I.Inputs.told c.read.new.self) refl c.loop-piece.invariant.moved c.in_ok-n.ensures.moved in
-    elim c.from_residual-in_err-extend_from_slice.result as (λ r. OnErr r ((k : ℕ) × (g.I.Inputs.told c.read.new.self ≡ moved_by k told))) [ Ok x ↦ tt | Err e ↦ (d + n, moved) ]
+    let moved : g.I.Inputs.told c.read.new.self ≡ moved_by (d + n) told =
+    moved_by-next d n (d + n) told (g.I.Inputs.told c.loop-piece.inputs)
+    (g.I.Inputs.told c.read.new.self) refl c.loop-piece.invariant.moved c.in_ok-n.ensures.moved in
+    elim c.from_residual-in_err-extend_from_slice.result as (λ r.
+    OnErr r ((k : ℕ) × (g.I.Inputs.told c.read.new.self ≡ moved_by k told))) [ Ok x ↦ tt | Err e ↦ (d + n, moved) ]
 
 pub returns-then-n-eq0-clause-quiet : goal.returns-then-n-eq0-clause-quiet
 returns-then-n-eq0-clause-quiet g c = λ ok. c.in_ok-n.ensures.quiet ∙ c.loop-piece.invariant.quiet

@@ -8,7 +8,8 @@ invariant-loop-piece g l =
     let i = g.I.Inputs in
     record {
       moved : i.told l.inputs ≡ moved_by (vec_len l.data) (i.told l.fn.inputs);
-      given : (left : List ℕ) → left_to_read (i.told l.fn.inputs) ≡ Some left → (l.data.items ≡ take (vec_len l.data) left) × (vec_len l.data ≤ length left);
+      given : (left : List ℕ) → left_to_read (i.told l.fn.inputs) ≡ Some left →
+          (l.data.items ≡ take (vec_len l.data) left) × (vec_len l.data ≤ length left);
       is_open : i.is_open l.inputs;
       quiet : i.faults l.inputs ≡ i.faults l.fn.inputs;
       calm : i.is_calm l.fn.inputs → i.is_calm l.inputs;

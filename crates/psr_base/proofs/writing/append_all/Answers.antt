@@ -11,6 +11,7 @@ loop-taken-preserved g c =
     let bytes = c.args.bytes.now in
     record {
       within = rest_within taken n bytes before.within c.in_ok-taken.ensures.bound;
-      appended = AppendedAll-next taken n bytes (seen c.args.files.now) (seen c.loop-taken.files) (seen c.append.new.self) before.appended c.in_ok-taken.ensures.took;
+      appended = AppendedAll-next taken n bytes (seen c.args.files.now) (seen c.loop-taken.files)
+          (seen c.append.new.self) before.appended c.in_ok-taken.ensures.took;
       is_open = c.append.ensures.still_open;
     }

@@ -11,5 +11,6 @@ loop-taken-preserved g c =
     let bytes = c.args.bytes.now in
     record {
       within = rest_within taken n bytes before.within c.in_ok-taken.ensures.bound;
-      wrote = WroteAll-next taken n bytes (seen c.args.sink.now) (seen c.loop-taken.sink) (seen c.write.new.self) before.wrote c.in_ok-taken.ensures.took;
+      wrote = WroteAll-next taken n bytes (seen c.args.sink.now) (seen c.loop-taken.sink)
+          (seen c.write.new.self) before.wrote c.in_ok-taken.ensures.took;
     }

@@ -30,7 +30,8 @@ invariant_of-self c =
     ) at c.plan-overwritten.ensures.need in
     let fits : length text < size = need_is _ (length text) size need c.if-need-self.false c.self.invariant.most in
     let back = c.changed_is_read_back.ensures key value
-    (header_in space len size) c.requires.key c.requires.value c.requires.other_than_size fits c.self.invariant.read_back in
+    (header_in space len size) c.requires.key c.requires.value c.requires.other_than_size fits
+    c.self.invariant.read_back in
     rw (take_at new (drop (length new) space) c.self.inside.space.len (c.edit-self-inside.auto.bytes
     ∙ c.as_mut_slice-space.ensures.len))
     (kept_changed key value space new len c.edit-self-inside.result size c.self.invariant edited room fits

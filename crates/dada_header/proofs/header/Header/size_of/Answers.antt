@@ -9,11 +9,13 @@ returns-in-None-clause-ok c =
 pub returns-in-Some-size_in-clause-ok : goal.returns-in-Some-size_in-clause-ok
 returns-in-Some-size_in-clause-ok c =
     size_read c.args.first.now c.before_nul_of-text.result.now
-    (at c.in-Some.place c.before_nul_of-text.result.now) c.in-Some-size_in.size c.before_nul_of-text.ensures c.in-Some.ensures.some.value c.in-Some-size_in.ensures
+    (at c.in-Some.place c.before_nul_of-text.result.now) c.in-Some-size_in.size c.before_nul_of-text.ensures
+    c.in-Some.ensures.some.value c.in-Some-size_in.ensures
 
 pub returns-in-None-size_in-clause-fault : goal.returns-in-None-size_in-clause-fault
 returns-in-None-size_in-clause-fault c = (
   c.if-first-lt-LEAST.false,
   size_refused c.args.first.now c.before_nul_of-text.result.now
-      (at c.in-Some.place c.before_nul_of-text.result.now) c.before_nul_of-text.ensures c.in-Some.ensures.some.value c.in-None-size_in.ensures,
+      (at c.in-Some.place c.before_nul_of-text.result.now) c.before_nul_of-text.ensures c.in-Some.ensures.some.value
+      c.in-None-size_in.ensures,
 )

@@ -14,4 +14,6 @@ pub returns-in-Some-clause-opened : goal.returns-in-Some-clause-opened
 returns-in-Some-clause-opened c = λ found_it.
     let files = c.args.self.now.files.items in
     let found : place_in files c.args.name.now ≡ Some c.in-Some.index = cc (c.in-Some.ensures, c.deref.ensures.value) in
-    ap (λ (name : List ℕ). let told : Told = record { bytes_under = bytes_in files; reading = Some (record { name = name; place = 0 }) } in told) (name_at-place_in files c.args.name.now c.in-Some.index found)
+    ap (λ (name : List ℕ). let told : Told =
+    record { bytes_under = bytes_in files; reading = Some (record { name = name; place = 0 }) } in
+    told) (name_at-place_in files c.args.name.now c.in-Some.index found)

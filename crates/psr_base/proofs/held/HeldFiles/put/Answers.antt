@@ -16,13 +16,22 @@ invariant_of-self c =
     let before = c.args.self.now in
     let d = c.index_mut.result.now in
     let new : MemFile = record { name = d.name; bytes = c.in_ok-bytes.bytes } in
-    record { open_is_first = λ file known. IsFirst-replaced before.files.items c.in-Some.index new d file (ap (λ (f : MemFile). string_bytes f.name) c.index_mut.ensures.value) (before.open_is_first file known) }
+    record {
+      open_is_first =
+          λ file known. IsFirst-replaced before.files.items c.in-Some.index new d file
+          (ap (λ (f : MemFile). string_bytes f.name) c.index_mut.ensures.value) (before.open_is_first file known);
+    }
 
 pub invariant_of-self-in-None : goal.invariant_of-self-in-None
 invariant_of-self-in-None c =
     let before = c.args.self.now in
     let new : MemFile = record { name = c.in_ok-name-in-None.name; bytes = c.in_ok-bytes.bytes } in
-    record { open_is_first = λ file known. IsFirst-pushed (is_ok c.push.result) before.files.items c.push.new.self.items new file c.push.ensures.items (before.open_is_first file known) }
+    record {
+      open_is_first =
+          λ file known. IsFirst-pushed
+          (is_ok c.push.result) before.files.items c.push.new.self.items new file c.push.ensures.items
+          (before.open_is_first file known);
+    }
 
 pub returns-in-Some-clause-put : goal.returns-in-Some-clause-put
 returns-in-Some-clause-put c =
@@ -30,7 +39,9 @@ returns-in-Some-clause-put c =
     let d = c.index_mut.result.now in
     let new : MemFile = record { name = d.name; bytes = c.in_ok-bytes.bytes } in
     let found : place_in files c.args.name.now ≡ Some c.in-Some.index = cc (c.in-Some.ensures, c.deref.ensures.value) in
-    bytes_in-replaced files c.in-Some.index new d c.args.name.now (ap (λ (f : MemFile). string_bytes f.name) c.index_mut.ensures.value) found ∙ ap Some c.in_ok-bytes.ensures.items
+    bytes_in-replaced files c.in-Some.index new d c.args.name.now
+    (ap (λ (f : MemFile). string_bytes f.name) c.index_mut.ensures.value) found
+    ∙ ap Some c.in_ok-bytes.ensures.items
 
 pub returns-in-Some-clause-others : goal.returns-in-Some-clause-others
 returns-in-Some-clause-others c =
@@ -38,30 +49,36 @@ returns-in-Some-clause-others c =
     let d = c.index_mut.result.now in
     let new : MemFile = record { name = d.name; bytes = c.in_ok-bytes.bytes } in
     let found : place_in files c.args.name.now ≡ Some c.in-Some.index = cc (c.in-Some.ensures, c.deref.ensures.value) in
-    λ other differs. bytes_in-replaced_other files c.in-Some.index new d c.args.name.now other (ap (λ (f : MemFile). string_bytes f.name) c.index_mut.ensures.value) found differs
+    λ other differs. bytes_in-replaced_other files c.in-Some.index new d c.args.name.now other
+    (ap (λ (f : MemFile). string_bytes f.name) c.index_mut.ensures.value) found differs
 
 pub returns-in-Some-clause-reading : goal.returns-in-Some-clause-reading
 returns-in-Some-clause-reading c =
     let before = c.args.self.now in
     let d = c.index_mut.result.now in
     let new : MemFile = record { name = d.name; bytes = c.in_ok-bytes.bytes } in
-    reading_of-replaced before.files.items c.in-Some.index new d before.reading (ap (λ (f : MemFile). string_bytes f.name) c.index_mut.ensures.value)
+    reading_of-replaced before.files.items c.in-Some.index new d before.reading
+    (ap (λ (f : MemFile). string_bytes f.name) c.index_mut.ensures.value)
 
 pub returns-in_ok-push-in-None-clause-put : goal.returns-in_ok-push-in-None-clause-put
 returns-in_ok-push-in-None-clause-put c =
     let files = c.args.self.now.files.items in
     let new : MemFile = record { name = c.in_ok-name-in-None.name; bytes = c.in_ok-bytes.bytes } in
     let missing : place_in files c.args.name.now ≡ None = cc (c.in-None.ensures, c.deref.ensures.value) in
-    ap (λ (fs : List MemFile). bytes_in fs c.args.name.now) c.in_ok-push-in-None.ensures.items ∙ bytes_in-added files new c.args.name.now c.in_ok-name-in-None.ensures.ok missing ∙ ap Some c.in_ok-bytes.ensures.items
+    ap (λ (fs : List MemFile). bytes_in fs c.args.name.now) c.in_ok-push-in-None.ensures.items
+    ∙ bytes_in-added files new c.args.name.now c.in_ok-name-in-None.ensures.ok missing
+    ∙ ap Some c.in_ok-bytes.ensures.items
 
 pub returns-in_ok-push-in-None-clause-others : goal.returns-in_ok-push-in-None-clause-others
 returns-in_ok-push-in-None-clause-others c =
     let files = c.args.self.now.files.items in
     let new : MemFile = record { name = c.in_ok-name-in-None.name; bytes = c.in_ok-bytes.bytes } in
-    λ other differs. ap (λ (fs : List MemFile). bytes_in fs other) c.in_ok-push-in-None.ensures.items ∙ bytes_in-added_other files new c.args.name.now other c.in_ok-name-in-None.ensures.ok differs
+    λ other differs. ap (λ (fs : List MemFile). bytes_in fs other) c.in_ok-push-in-None.ensures.items
+    ∙ bytes_in-added_other files new c.args.name.now other c.in_ok-name-in-None.ensures.ok differs
 
 pub returns-in_ok-push-in-None-clause-reading : goal.returns-in_ok-push-in-None-clause-reading
 returns-in_ok-push-in-None-clause-reading c =
     let before = c.args.self.now in
     let new : MemFile = record { name = c.in_ok-name-in-None.name; bytes = c.in_ok-bytes.bytes } in
-    ap (λ (fs : List MemFile). reading_of fs before.reading) c.in_ok-push-in-None.ensures.items ∙ reading_of-added before.files.items new before.reading before.open_is_first
+    ap (λ (fs : List MemFile). reading_of fs before.reading) c.in_ok-push-in-None.ensures.items
+    ∙ reading_of-added before.files.items new before.reading before.open_is_first

@@ -14,9 +14,12 @@ create-tells c =
     let quiet = count-stays c.result before after c.ensures.called in
     let rose = Rose-failed c.result before after c.ensures.failed in
     record {
-      created = Created-told c.result c.args.name.now (made_of old) (made_of new) before.fail after.fail (files_left old) (files_left new) before.faults after.faults c.ensures.created same c.ensures.left quiet;
+      created = Created-told c.result c.args.name.now (made_of old) (made_of new) before.fail after.fail
+          (files_left old) (files_left new) before.faults after.faults c.ensures.created same c.ensures.left quiet;
       is_open = c.ensures.is_open;
-      failed = MakingFails-told c.result (made_of old) (made_of new) before.fail after.fail (files_left old) (files_left new) before.faults after.faults c.ensures.unchanged same c.ensures.left_stays rose c.ensures.count;
+      failed = MakingFails-told c.result (made_of old) (made_of new) before.fail after.fail (files_left old)
+          (files_left new) before.faults after.faults c.ensures.unchanged same c.ensures.left_stays rose
+          c.ensures.count;
       still_closed = c.ensures.still_closed;
       once = once-told c.result (made_of old) c.args.name.now (λ ok. (c.ensures.answer.0 ok).0.0);
       serves = serves-create (made_of old) before (files_left old) before.faults c.args.name.now c.ensures.answer.1;
@@ -34,8 +37,12 @@ append-tells c =
     record {
       bound = search rules;
       some = search rules;
-      took = AppendedAll-told c.result c.args.bytes.now (made_of old) (made_of new) before.fail after.fail (files_left old) (files_left new) before.faults after.faults c.ensures.whole c.ensures.appended same c.ensures.left quiet;
-      failed = MakingFails-told c.result (made_of old) (made_of new) before.fail after.fail (files_left old) (files_left new) before.faults after.faults c.ensures.unchanged same c.ensures.left_stays rose c.ensures.count;
+      took = AppendedAll-told c.result c.args.bytes.now (made_of old) (made_of new) before.fail after.fail
+          (files_left old) (files_left new) before.faults after.faults c.ensures.whole c.ensures.appended same
+          c.ensures.left quiet;
+      failed = MakingFails-told c.result (made_of old) (made_of new) before.fail after.fail (files_left old)
+          (files_left new) before.faults after.faults c.ensures.unchanged same c.ensures.left_stays rose
+          c.ensures.count;
       still_open = c.ensures.still_open;
       serves = serves-append before (files_left old) (length c.args.bytes.now) c.ensures.answer.1;
     }
@@ -50,9 +57,11 @@ finish-tells c =
     let quiet = count-stays c.result before after c.ensures.called in
     let rose = Rose-failed c.result before after c.ensures.failed in
     record {
-      finished = Finished-told c.result (made_of old) (made_of new) before.fail after.fail (files_left old) (files_left new) before.faults after.faults c.ensures.finished same c.ensures.left quiet;
+      finished = Finished-told c.result (made_of old) (made_of new) before.fail after.fail (files_left old)
+          (files_left new) before.faults after.faults c.ensures.finished same c.ensures.left quiet;
       closed = c.ensures.closed;
-      failed = MakingFails-told c.result (made_of old) (made_of new) before.fail after.fail (files_left old) (files_left new) before.faults after.faults c.ensures.unchanged same (search rules) rose c.ensures.count;
+      failed = MakingFails-told c.result (made_of old) (made_of new) before.fail after.fail (files_left old)
+          (files_left new) before.faults after.faults c.ensures.unchanged same (search rules) rose c.ensures.count;
       still_open = c.ensures.still_open;
       serves = serves-finish before (files_left old) c.ensures.answer.1;
     }

@@ -14,5 +14,6 @@ returns-in-Ok-clause-appended c =
     let new : StoredFile = record { name = file.name; start = file.start; len = file.len + length bytes } in
     let was : it.unfinished ≡ Some file = sym c.take.ensures.value ∙ c.unwrap-file.ensures in
     let len : vec_len it.bytes ≡ length it.bytes.items = search rules in
-    made_in-longer it.bytes.items bytes c.extend_from_slice.new.self.items it.finished.items file new (search rules) (search rules) (it.unfinished_ends file was ∙ len) refl refl refl
+    made_in-longer it.bytes.items bytes c.extend_from_slice.new.self.items it.finished.items file new (search rules)
+    (search rules) (it.unfinished_ends file was ∙ len) refl refl refl
     ∙ ap (λ (o : Option StoredFile). longer_by bytes (made_in it.bytes.items it.finished.items o)) (sym was)

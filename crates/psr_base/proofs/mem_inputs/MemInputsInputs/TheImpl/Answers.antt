@@ -10,13 +10,16 @@ open-tells c =
     let new = c.new.self.now in
     let same = fail-stays c.result (calls_of old) (calls_of new) c.ensures.called c.ensures.failed in
     record {
-      opened = opened-told c.result ((told_of old).bytes_under c.args.name.now) (told_of new ≡ opened c.args.name.now (told_of old)) c.ensures.opened;
+      opened = opened-told c.result ((told_of old).bytes_under c.args.name.now) (told_of new
+          ≡ opened c.args.name.now (told_of old)) c.ensures.opened;
       names = names-opened c.result c.args.name.now (told_of old) (told_of new) c.ensures.opened c.ensures.unchanged;
-      is_open = is_open-opened c.result new.files.files.items new.files.reading c.args.name.now (told_of old) c.ensures.opened;
+      is_open = is_open-opened c.result new.files.files.items new.files.reading c.args.name.now
+          (told_of old) c.ensures.opened;
       quiet = count-stays c.result (calls_of old) (calls_of new) c.ensures.called;
       failed = Rose-failed c.result (calls_of old) (calls_of new) c.ensures.failed;
       unchanged = c.ensures.unchanged;
-      still_open = still_open c.result old.files.files.items new.files.files.items old.files.reading new.files.reading c.ensures.unchanged;
+      still_open = still_open c.result old.files.files.items new.files.files.items old.files.reading new.files.reading
+          c.ensures.unchanged;
       count = c.ensures.count;
       calm = λ calm. same ∙ calm;
       serves = λ calm held. calm-serves (calls_of old) (λ free. c.ensures.answer.1 (held, free)) calm;
@@ -31,7 +34,8 @@ read-tells c =
       bound = search rules;
       next = GivesNext-told c.result (left_to_read (told_of old)) c.new.into.now c.ensures.next;
       moved = c.ensures.moved;
-      is_open = is_open-moved c.result old.files.files.items new.files.files.items old.files.reading new.files.reading c.ensures.moved c.ensures.unchanged c.requires.is_open;
+      is_open = is_open-moved c.result old.files.files.items new.files.files.items old.files.reading new.files.reading
+          c.ensures.moved c.ensures.unchanged c.requires.is_open;
       quiet = count-stays c.result (calls_of old) (calls_of new) c.ensures.called;
       failed = Rose-failed c.result (calls_of old) (calls_of new) c.ensures.failed;
       unchanged = c.ensures.unchanged;
