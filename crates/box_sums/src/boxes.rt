@@ -3,7 +3,7 @@ ghost use Rattle.std.specs.Prelude.{◌≡◌, ℕ, ◌+◌, ◌-◌, ◌*◌, �
 ghost use Rattle.std.specs.List.{All};
 ghost use Rattle.box_sums.specs.Kept.{Kept, StandsFor, HasRow, AreAlike, IsOpened, last_feed};
 ghost use Rattle.box_sums.specs.Rows.{IsWidth, SumsAddValues, sum_ending};
-ghost use Rattle.box_sums.specs.Tables.{IsSound, AreUpTo};
+ghost use Rattle.box_sums.specs.Tables.{IsSound};
 
 use crate::keep::keep_row;
 use crate::sums::fill_boxes;

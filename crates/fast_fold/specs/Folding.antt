@@ -1,6 +1,6 @@
 -- What a folder holds: sums of a series, folded by halves.
 -- Source: Staelin, Proc. IEEE 57:724, 1969.
-use Rattle.std.specs.Prelude.{ℕ, ◌+◌, ◌-◌, ◌*◌, ◌^◌, ◌≡◌, ◌<◌, ◌≤◌, List, take, drop, slice_index}
+use Rattle.std.specs.Prelude.{ℕ, ◌+◌, ◌-◌, ◌*◌, ◌^◌, ◌≡◌, ◌<◌, List, take, drop, slice_index}
 use Rattle.search_model.specs.Folds.{fold_sum}
 
 -- what contracts see in a folder: the longest period and the most halvings that it has room for; the period and the

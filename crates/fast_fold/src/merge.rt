@@ -1,5 +1,5 @@
 // Rows of sums, merged.
-ghost use Rattle.std.specs.Prelude.{◌≡◌, ℕ, ◌+◌, ◌*◌, ◌^◌, ◌<◌, ◌≤◌, length};
+ghost use Rattle.std.specs.Prelude.{◌≡◌, ◌+◌, ◌*◌, ◌^◌, ◌<◌, ◌≤◌, length};
 ghost use Rattle.fast_fold.specs.Merging.{AddsTurned, IsMerged, AreMerged};
 
 use fdmt_rows::add_rows;

@@ -1,5 +1,5 @@
 -- Worked values of the definitions.
-use Rattle.std.proofs.Common.{◌≡◌, ◌+◌, ◌^◌, ◌-◌, [], ◌∷◌, refl}
+use Rattle.std.proofs.Common.{◌≡◌, ◌^◌, ◌-◌, [], ◌∷◌, refl}
 use Rattle.fdmt_rows.specs.Rows.{sum_of, wrapping_sum}
 
 neighbours : sum_of (1 ∷ 2 ∷ 3 ∷ 4 ∷ []) 1 2 ≡ 5

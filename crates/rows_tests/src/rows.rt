@@ -1,6 +1,5 @@
 // Sums of rows of each length from 0 to 70, against plain loops.
-ghost use Rattle.std.specs.Prelude.{◌≡◌, ◌≤◌, ℕ, ◌+◌, ◌-◌, ◌<◌, ◌^◌, length};
-ghost use Rattle.fdmt_rows.specs.Rows.{sum_of};
+ghost use Rattle.std.specs.Prelude.{◌≡◌, ◌≤◌, length};
 
 use crate::values::{bytes, values};
 use fdmt_rows::{add_rows, add_to_row, greatest, running, widen};

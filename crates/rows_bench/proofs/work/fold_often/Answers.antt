@@ -1,4 +1,4 @@
-use Rattle.std.proofs.Common.{◌*◌, ◌^◌, ◌≤◌, arith}
+use Rattle.std.proofs.Common.{◌^◌, ◌≤◌}
 use Rattle.std.proofs.lemmas.Nat.{mul-le}
 use Rattle.std.proofs.Math.Pow.{pow_mono}
 use Rattle.rows_bench.proofs.work.fold_often.Goals as goal
