@@ -1,12 +1,8 @@
-pub mod EdgeLemmas
-pub mod BuiltLemmas
 pub mod Decimals
-pub mod Written
-pub mod Tracks
-pub mod Text
-pub mod Outcomes
-pub mod Ready
 pub mod TrackLists
-pub mod Files
-pub mod Loops
 pub mod Ranges
+pub mod Fronts
+pub mod Bands
+pub mod Found
+pub mod Outcomes
+pub mod Asked

@@ -1,42 +1,34 @@
--- What a search by direct path sums prints.
-use Rattle.std.specs.Prelude.{◌≡◌, ℕ, List, ◌++◌, Option}
-use Rattle.std.specs.List.{flat_map}
-use Rattle.std.specs.Io.KnownBytes.{append_known}
-use Rattle.dada_model.specs.Observation.{Observation, edges, dm}
-use Rattle.search_model.specs.Samples.{Filterbank, filterbank}
-use Rattle.search_model.specs.Detection.{Noise}
-use Rattle.search_model.specs.Search.{Search}
-use Rattle.search_model.specs.Candidates.{Pulse, candidates}
-use Rattle.search_model.specs.CandidateText.{pulse_line, candidate_text}
+-- What a search that is ready will print.
+use Rattle.std.specs.Prelude.{◌≡◌, ℕ, List, vec_len}
+use Rattle.std.specs.List.{flat_map, range_with_len}
+use Rattle.dada_model.specs.Observation.{Observation, edges}
+use Rattle.search_model.specs.declared.candidate.Candidate.{Candidate}
+use Rattle.search_model.specs.declared.search.Search.{Search}
+use Rattle.search_model.specs.Samples.{Filterbank}
+use Rattle.search_model.specs.Candidates.{pulses_at, plain_cells}
+use Rattle.search_model.specs.CandidateText.{candidate_line}
+use Rattle.psr_search.specs.Text.{band_of, labels_of, text_of}
+use Rattle.psr_search.specs.declared.direct.Direct.{Direct}
 
--- boxes of one spectrum, the delays from 0 up to `most`, and no folds
-abbrev pub pulses_only : ℕ → Noise → Search
-pulses_only most noise = record {
-  min_delay = 0;
-  max_delay = most;
-  widest = 1;
-  fold_min = 2;
-  fold_max = 0;
-  fold_rows = 6;
-  fold_step = 64;
-  noise = noise;
-}
+abbrev pub band : Direct → Filterbank
+band s = band_of s.observation s.bytes.items
 
--- the samples of an observation
-abbrev pub samples_of : Observation → List ℕ → Filterbank
-samples_of o values = filterbank o.channels o.is_falling values
+-- the pulses that end at spectrum u with delay d
+abbrev pub found_at : Direct → ℕ → ℕ → List Candidate
+found_at s u d = pulses_at (band s) (edges s.observation) (plain_cells s.observation.channels) s.search u d
 
--- the lines of pulses
-abbrev pub lines_of : Observation → List Pulse → List ℕ
-lines_of o pulses = flat_map (pulse_line (dm o) o.channels) pulses
+-- those of the first n delays
+abbrev pub found_ending : Direct → ℕ → ℕ → List Candidate
+found_ending s u n = flat_map (λ d. found_at s u d) (range_with_len 0 n)
 
--- the text of a search of these data
-abbrev pub text_of : Observation → Search → List ℕ → List ℕ
-text_of o search values = candidate_text (dm o) (samples_of o values) (candidates (samples_of o values) (edges o) search)
+-- those that end at the first n spectra
+abbrev pub found : Direct → ℕ → List Candidate
+found s n = flat_map (λ u. found_ending s u (vec_len s.tracks)) (range_with_len 0 n)
 
--- what was written is the front of a text, after what stood there
-pub record WroteFront (before after : Option (List ℕ)) (text : List ℕ) : Type 0 where
-  pub front : List ℕ
-  pub rest : List ℕ
-  pub splits : text ≡ front ++ rest
-  pub written : after ≡ append_known before front
+-- the lines of candidates
+abbrev pub lines_of : Direct → List Candidate → List ℕ
+lines_of s list = flat_map (candidate_line (labels_of s.observation)) list
+
+-- the whole text
+abbrev pub found_text : Direct → List ℕ
+found_text s = text_of s.observation s.search s.bytes.items

@@ -2,14 +2,17 @@
 #![tactic(auto)]
 
 mod direct;
+mod in_memory;
+mod laws;
 mod lines;
-mod load;
-mod loaded;
-mod numbers;
-mod observation;
+mod opening;
+mod samples;
 mod stop;
 mod top;
 mod track;
 mod words;
 
+pub use in_memory::run_in_memory;
+pub use laws::accepted_is_searched;
+pub use stop::{HeaderCause, Stop};
 pub use top::run;

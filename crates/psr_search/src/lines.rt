@@ -1,38 +1,29 @@
 // The lines of the candidate text.
-ghost use Rattle.std.specs.Prelude.{◌≡◌, ◌+◌, ◌*◌, ◌^◌, ◌≤◌, ◌<◌, ◌++◌, length};
-ghost use Rattle.search_model.specs.CandidateText.{thousandths, pulse_line as pulse_line_of, end_line as end_line_of};
-ghost use Rattle.search_model.specs.Candidates.{pulse_cells};
-ghost use Rattle.psr_search.specs.Pulse.{listed};
+ghost use Rattle.std.specs.Prelude.{◌≡◌, ◌+◌, ◌≤◌, ◌<◌, ◌^◌, ◌++◌, length};
+ghost use Rattle.search_model.specs.CandidateText.{thousandths, candidate_line, plain_labels, end_line as end_line_of};
+ghost use Rattle.search_model.specs.declared.candidate.Candidate.{Candidate};
 
 use text_line::Line;
 
-/// A detected pulse: the spectrum at which it ends, its delay and the width of its box in spectra,
-/// and its box sum.
-#[derive(Clone, Copy)]
-pub(crate) struct Pulse {
-    pub(crate) end: u64,
-    pub(crate) delay: u32,
-    pub(crate) width: u32,
-    pub(crate) total: u64,
-}
-
-/// The line of a pulse over so many channels; `dm` is its dispersion measure in thousandths.
-pub(crate) fn pulse_line(dm: u64, channels: u32, pulse: &Pulse) -> Line
-    requires { pulse_cells channels (listed pulse.now) < 2 ^ 64 }
-    ensures { result ≡ pulse_line_of (λ _. dm) channels (listed pulse.now) }
+/// The line of a pulse over so many channels: where it ends, its delay, its dispersion measure in
+/// thousandths, the width of its box, and its sum.
+pub(crate) fn pulse_line(channels: u32, end: u64, delay: u32, dm: u64, width: u32, sum: u32) -> Line
+    requires { width ≤ 32 }
+    ensures { result
+        ≡ candidate_line (plain_labels (λ _. dm) channels) (Candidate.Pulse end delay width sum) }
 {
-    let cells = u64::from(pulse.width) * (u64::from(channels) + u64::from(pulse.delay));
+    let cells = u64::from(width) * (u64::from(channels) + u64::from(delay));
     let mut line = Line::new();
     line.push_str("PULSE ");
-    line.push_number(pulse.end);
+    line.push_number(end);
     line.push_str(" ");
-    line.push_number(u64::from(pulse.delay));
+    line.push_number(u64::from(delay));
     line.push_str(" ");
     push_thousandths(&mut line, dm);
     line.push_str(" ");
-    line.push_number(u64::from(pulse.width));
+    line.push_number(u64::from(width));
     line.push_str(" ");
-    line.push_number(pulse.total);
+    line.push_number(u64::from(sum));
     line.push_str(" ");
     line.push_number(cells);
     line.push_str("\n");

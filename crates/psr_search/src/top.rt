@@ -1,11 +1,10 @@
 // The top call.
 ghost use Rattle.std.specs.Prelude.{◌≡◌, List, map, string_bytes};
-ghost use Rattle.psr_base.specs.Count.{Rose};
 ghost use Rattle.psr_search.specs.Outcome.{Outcome};
-ghost use Rattle.psr_search.specs.Stop.{exit_status};
+ghost use Rattle.psr_search.specs.Ends.{Ends};
 
 use crate::direct::Direct;
-use crate::load::load;
+use crate::opening::load;
 use crate::stop::Stop;
 use crate::words::Words;
 use psr_base::{Failed, Inputs, Memory, Sink, write_all};
@@ -21,9 +20,9 @@ pub fn run<I: Inputs, K: Sink, E: Sink>(
     out: &mut K,
     notes: &mut E,
 ) -> u8
-    ensures { Outcome (map string_bytes words.now) (I.told inputs.old)
-        (Rose (I.faults inputs.old) (I.faults inputs.new)) (Rose (K.faults out.old) (K.faults out.new))
-        (K.written out.old) (K.written out.new) result }
+    ensures { Outcome (map string_bytes words.now)
+        (record { told = I.told inputs.old; faults_before = I.faults inputs.old; faults_after = I.faults inputs.new })
+        (I.is_calm inputs.old) (K.seen out.old) (K.seen out.new) (E.seen notes.old) (E.seen notes.new) result }
 {
     match search(alloc, words, inputs, out) {
         Ok(()) => 0,
@@ -41,19 +40,19 @@ fn search<I: Inputs, K: Sink>(
     inputs: &mut I,
     out: &mut K,
 ) -> Result<(), Stop>
-    ensures { Outcome (map string_bytes words.now) (I.told inputs.old)
-        (Rose (I.faults inputs.old) (I.faults inputs.new)) (Rose (K.faults out.old) (K.faults out.new))
-        (K.written out.old) (K.written out.new) (exit_status result) }
+    ensures { Ends (map string_bytes words.now)
+        (record { told = I.told inputs.old; faults_before = I.faults inputs.old; faults_after = I.faults inputs.new })
+        (I.is_calm inputs.old) (K.seen out.old) (K.seen out.new) result }
 {
     let words = match Words::of(words) {
         None => return Err(Stop::Words),
         Some(words) => words,
     };
-    let loaded = match load(alloc, inputs, words.name) {
+    let (observation, bytes) = match load(alloc, inputs, words.name) {
         Err(stop) => return Err(stop),
         Ok(loaded) => loaded,
     };
-    let direct = match Direct::open(alloc, loaded, &words) {
+    let direct = match Direct::open(alloc, observation, bytes, words.search) {
         Err(Memory) => return Err(Stop::Memory),
         Ok(direct) => direct,
     };

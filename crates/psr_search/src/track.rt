@@ -1,9 +1,8 @@
 // The delays that are searched.
-ghost use Rattle.std.specs.Prelude.{◌≡◌, ℕ, ◌+◌, ◌≤◌, length, IfOk, Some, slice_get};
-ghost use Rattle.psr_search.specs.Observation.{shown_of};
+ghost use Rattle.std.specs.Prelude.{◌≡◌, ℕ, ◌+◌, ◌≤◌, length, IfOk};
 
-use crate::observation::Observation;
 use band_paths::edge_delays;
+use obs_plan::Observation;
 use psr_base::Memory;
 use std::alloc::Global;
 
@@ -25,8 +24,9 @@ impl Track {
     ) -> Result<Vec<Track>, Memory>
         requires { max_delay ≤ 8192 }
         ensures count { IfOk result (λ tracks. length tracks.items ≡ max_delay + 1) }
-        ensures tracks { IfOk result (λ tracks. AreTracks (shown_of observation.now) tracks.items) }
+        ensures tracks { IfOk result (λ tracks. AreTracks observation.now tracks.items) }
     {
+        observation.lies_in_range();
         let mut tracks = Vec::with_capacity(alloc, max_delay as usize + 1)?;
         for d in 0..max_delay + 1 {
             let delays = edge_delays(alloc, observation.edges(), d)?;

@@ -1,68 +1,100 @@
 // The command words.
-ghost use Rattle.std.specs.Prelude.{◌≡◌, ℕ, ◌+◌, ◌<◌, ◌≤◌, ◌↔◌, IsTrue, length, map, string_bytes, IfSome, IfNone};
-ghost use Rattle.psr_search.specs.Request.{word_at, HasOption, Asks, Request};
+ghost use Rattle.std.specs.Prelude.{◌≡◌, ℕ, ◌+◌, ◌^◌, ◌<◌, ◌↔◌, IsTrue, length, map, string_bytes, IfSome, IfNone};
+ghost use Rattle.search_model.specs.Search.{IsInRange};
+ghost use Rattle.psr_search.specs.Request.{word_at, HasNumber, HasWhole, Asks};
+ghost use Rattle.psr_search.specs.Request.{pulses_only as pulses_only_of};
 
 use dada_model::whole_number;
+use psr_base::Fixed;
+use search_model::Search;
 
-/// What the words ask for: mean and deviation of a sample, the least signal-to-noise ratio, the
-/// greatest delay in spectra, and the file.
+/// What the words ask for: a search, and the file's name.
 #[derive(Clone, Copy)]
 pub(crate) struct Words<'a> {
-    pub(crate) mean: u32,
-    pub(crate) sd: u32,
-    pub(crate) snr: u32,
-    pub(crate) max_delay: u32,
+    pub(crate) search: Search,
     pub(crate) name: &'a str,
-    ghost mean_range: { mean ≤ 200000 },
-    ghost sd_range: { sd ≤ 200000 },
-    ghost snr_range: { snr ≤ 1000 },
-    ghost delay_range: { max_delay ≤ 8192 },
+    ghost plain: { search ≡ pulses_only_of search.max_delay search.mean search.sd search.snr },
+    ghost in_range: { IsInRange search },
 }
 
 impl<'a> Words<'a> {
-    ghost use Rattle.psr_search.specs.Words.{requested};
+    ghost use Rattle.search_model.specs.declared.search.Search.{Search};
+    ghost use Rattle.std.specs.Prelude.{List};
 
     /// Reads the words, of which the first is the program's name.
     pub(crate) fn of(words: &'a [String]) -> Option<Words<'a>>
-        ensures some { IfSome result (λ w. Asks (map string_bytes words.now) (requested w)) }
-        ensures none { IfNone result ((r : Request) → ¬ Asks (map string_bytes words.now) r) }
+        ensures some { IfSome result (λ w. Asks (map string_bytes words.now) w.search w.name.now) }
+        ensures none { IfNone result ((s : Search) (name : List ℕ) → ¬ Asks (map string_bytes words.now) s name) }
     {
         if words.len() != 12 {
             return None;
         }
-        let mean = option(words, 1, "--mean", 0, 200_000)?;
-        let sd = option(words, 3, "--sd", 1, 200_000)?;
-        let snr = option(words, 5, "--snr", 1, 1000)?;
-        let max_delay = option(words, 7, "--max-delay", 0, 8192)?;
+        let mean = number(words, 1, "--mean", 3)?;
+        let sd = number(words, 3, "--sd", 3)?;
+        let snr = number(words, 5, "--snr", 2)?;
+        let max_delay = whole(words, 7, "--max-delay")?;
         if !is_word(words, 9, "--widths") || !is_word(words, 10, "1") {
             return None;
         }
+        let search = pulses_only(max_delay, mean, sd, snr);
+        if !search.in_range() {
+            return None;
+        }
         let name = word(words, 11);
-        Some(Words {
-            mean,
-            sd,
-            snr,
-            max_delay,
-            name,
-        })
+        Some(Words { search, name })
     }
 }
 
-// The value after the option at place `i`.
-fn option(words: &[String], i: usize, name: &str, least: u32, most: u32) -> Option<u32>
+// The search for pulses of one spectrum with these settings.
+fn pulses_only(max_delay: u32, mean: u32, sd: u32, snr: u32) -> Search
+    ensures { result ≡ pulses_only_of max_delay mean sd snr }
+{
+    Search {
+        min_delay: 0,
+        max_delay,
+        widest: 1,
+        fold_min: 2,
+        fold_max: 0,
+        fold_rows: 6,
+        fold_step: 64,
+        chunk: 1024,
+        shards: 1,
+        max_candidates: 65536,
+        mean,
+        sd,
+        snr,
+    }
+}
+
+// The number after the option at place `i`, in units of the last of so many decimals.
+fn number(words: &[String], i: usize, name: &str, decimals: u32) -> Option<u32>
+    requires within { i + 1 < length words.now }
+    requires few { decimals < 10 }
+    ensures some { IfSome result (HasNumber (map string_bytes words.now) i name.now decimals) }
+    ensures none { IfNone result ((v : ℕ) → v < 2 ^ 32
+        → ¬ HasNumber (map string_bytes words.now) i name.now decimals v) }
+{
+    if !is_word(words, i, name) {
+        return None;
+    }
+    let Ok(value) = Fixed::read(word(words, i + 1).as_bytes(), decimals) else {
+        return None;
+    };
+    u32::try_from(value).ok()
+}
+
+// The whole number after the option at place `i`.
+fn whole(words: &[String], i: usize, name: &str) -> Option<u32>
     requires { i + 1 < length words.now }
-    ensures some { IfSome result (λ v. HasOption (map string_bytes words.now) i name.now least most v) }
-    ensures none { IfNone result ((v : ℕ) → ¬ HasOption (map string_bytes words.now) i name.now least most v) }
+    ensures some { IfSome result (HasWhole (map string_bytes words.now) i name.now) }
+    ensures none { IfNone result ((v : ℕ) → v < 2 ^ 32
+        → ¬ HasWhole (map string_bytes words.now) i name.now v) }
 {
     if !is_word(words, i, name) {
         return None;
     }
     let value = whole_number(word(words, i + 1), 9)?;
-    let value = u32::try_from(value).ok()?;
-    if value < least || most < value {
-        return None;
-    }
-    Some(value)
+    u32::try_from(value).ok()
 }
 
 // The word at place `i`.

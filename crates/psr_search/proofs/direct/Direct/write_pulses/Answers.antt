@@ -1,33 +1,45 @@
-use Rattle.std.proofs.Common.{◌<◌, length, vec_len, arith}
-use Rattle.std.proofs.Math.Nat.{div-le_self}
-use Rattle.psr_search.specs.Searched.{observed, band, found_ending}
-use Rattle.psr_search.proofs.Loops.{length_more, piece_written, piece_front}
+use Rattle.std.proofs.Common.{◌≡◌, ℕ, ◌+◌, List, length, vec_len, ◌∙◌, ap, sym, subst, arith, length-append}
+use Rattle.psr_base.specs.Written.{WroteAll, WroteFront, first_pieces}
+use Rattle.search_model.specs.declared.candidate.Candidate.{Candidate}
+use Rattle.psr_search.specs.Direct.{band, found_ending, found, lines_of}
+use Rattle.psr_search.proofs.Ranges.{flat_map_range_more}
+use Rattle.psr_search.proofs.Found.{lines_of_pieces}
 use Rattle.psr_search.proofs.direct.Direct.write_pulses.Goals as goal
 
-pub overflow_add-pulses : goal.overflow_add-pulses
-overflow_add-pulses g c =
+pub returns-in-Err-clause-wrote : goal.returns-in-Err-clause-wrote
+returns-in-Err-clause-wrote g c =
     let s = c.args.self.now in
-    let few = s.is_bounded in
-    let spectra = div-le_self (length s.samples.items) s.observation.numbers.channels in
-    let before = c.loop-u.invariant.bound in
-    let here = c.in-Ok.ensures.bound in
-    omega arith
+    let seen = g.K.Sink.seen in
+    let n = (band s).spectra in
+    let ending = λ (u : ℕ). found_ending s u (vec_len s.tracks) in
+    let piece = λ (u : ℕ). lines_of s (ending u) in
+    let P : List ℕ → Type 0 = λ text. WroteFront text (seen c.args.out.now) (seen c.write_ending.new.out) in
+    record {
+      all = tt;
+      front = subst P (lines_of_pieces s ending n) (c.pieces_join.ensures.loops.stops piece c.loop-u.u n (seen c.args.out.now) (seen c.loop-u.out) (seen c.write_ending.new.out) (omega (arith, c.spectra-u-end.ensures.value, c.loop-u-test.true)) c.loop-u.invariant.wrote c.in-Err.ensures.wrote.front);
+    }
 
 pub loop-u-preserved : goal.loop-u-preserved
 loop-u-preserved g c =
     let s = c.args.self.now in
-    let before = c.loop-u.invariant in
-    let here = c.in-Ok.ensures in
-    let count = length_more (λ u. found_ending s u (vec_len s.tracks)) c.loop-u.u in
+    let seen = g.K.Sink.seen in
+    let ending = λ (u : ℕ). found_ending s u (vec_len s.tracks) in
+    let piece = λ (u : ℕ). lines_of s (ending u) in
+    let longer : length (found s (c.loop-u.u + 1)) ≡ length (found s c.loop-u.u) + length (ending c.loop-u.u) =
+    ap (length {A = Candidate}) (flat_map_range_more ending 0 c.loop-u.u c.loop-u.u (omega arith)) ∙ length-append (found s c.loop-u.u) (ending c.loop-u.u) in
     record {
-      written = piece_written (observed s) (λ u. found_ending s u (vec_len s.tracks)) c.loop-u.u _ _ _ before.written here.ok;
-      number = omega arith;
-      bound = omega arith;
-      count = omega arith;
+      wrote = c.pieces_join.ensures.loops.one_more piece c.loop-u.u (seen c.args.out.now) (seen c.loop-u.out) (seen c.write_ending.new.out) c.loop-u.invariant.wrote c.in-Ok.ensures.wrote.all;
+      number = omega (arith, longer, c.loop-u.invariant.number, c.in-Ok.ensures.number);
+      bound = omega (arith, c.loop-u.invariant.bound, c.in-Ok.ensures.bound);
     }
 
-pub returns-in-Err-clause-front : goal.returns-in-Err-clause-front
-returns-in-Err-clause-front g c =
+pub returns-clause-wrote : goal.returns-clause-wrote
+returns-clause-wrote g c =
     let s = c.args.self.now in
-    let within : c.loop-u.u < (band s).spectra = omega arith in
-    piece_front (observed s) (λ u. found_ending s u (vec_len s.tracks)) c.loop-u.u (band s).spectra _ _ _ within c.loop-u.invariant.written c.in-Err.ensures.front
+    let seen = g.K.Sink.seen in
+    let n = (band s).spectra in
+    let ending = λ (u : ℕ). found_ending s u (vec_len s.tracks) in
+    let piece = λ (u : ℕ). lines_of s (ending u) in
+    let end : c.loop-u.u ≡ n = omega (arith, c.spectra-u-end.ensures.value, c.loop-u-test.false, c.loop-u.auto.u-end) in
+    let P : List ℕ → Type 0 = λ text. WroteAll text (seen c.args.out.now) (seen c.loop-u.out) in
+    record { all = subst P (ap (first_pieces piece) end ∙ lines_of_pieces s ending n) c.loop-u.invariant.wrote; front = tt }

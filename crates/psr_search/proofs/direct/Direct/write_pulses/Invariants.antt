@@ -1,13 +1,12 @@
-use Rattle.std.proofs.Common.{◌≡◌, ◌≤◌, ◌*◌, length}
-use Rattle.std.specs.Io.KnownBytes.{append_known}
-use Rattle.psr_search.specs.Direct.{lines_of}
-use Rattle.psr_search.specs.Searched.{observed, found}
+use Rattle.std.proofs.Common.{◌≡◌, ◌≤◌, ◌*◌, length, vec_len}
+use Rattle.psr_base.specs.Written.{WroteAll, first_pieces}
+use Rattle.psr_search.specs.Direct.{found_ending, found, lines_of}
 use Rattle.psr_search.proofs.direct.Direct.write_pulses.Given as goal
 
+-- the pulses that end at the first spectra
 abbrev pub invariant-loop-u : goal.invariant-loop-u
 invariant-loop-u g l = record {
-  written : g.K.Sink.written l.out ≡ append_known (g.K.Sink.written l.initial.out) (lines_of (observed l.self) (found l.self l.u));
+  wrote : WroteAll (first_pieces (λ u. lines_of l.self (found_ending l.self u (vec_len l.self.tracks))) l.u) (g.K.Sink.seen l.fn.out) (g.K.Sink.seen l.out);
   number : l.pulses ≡ length (found l.self l.u);
-  bound : l.pulses ≤ l.u * 8193;
-  count : g.K.Sink.faults l.initial.out ≤ g.K.Sink.faults l.out;
+  bound : l.pulses ≤ 8193 * l.u;
 }

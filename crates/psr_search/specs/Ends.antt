@@ -1,0 +1,48 @@
+-- How a search ends, before the notes.
+use Rattle.std.specs.Prelude.{◌≡◌, ◌≢◌, ℕ, List, Option, Some, Result, Ok, Err}
+use Rattle.psr_base.specs.Count.{Rose}
+use Rattle.psr_base.specs.Told.{OfFile, InputsSeen}
+use Rattle.psr_base.specs.Written.{SinkSeen, WroteAll, WroteFront}
+use Rattle.search_model.specs.declared.search.Search.{Search}
+use Rattle.psr_search.specs.declared.stop.Stop.{Stop}
+use Rattle.psr_search.specs.declared.stop.Stop.TheVariants.{Words, Header, Memory, ReadFault, TooLong, SinkFault}
+use Rattle.psr_search.specs.Request.{Asks}
+use Rattle.psr_search.specs.Stop.{StopsAt, IsReadingStop}
+use Rattle.psr_search.specs.Outcome.{ForFile, HasText}
+
+-- the words don't ask for a search
+pub record EndsAtWords (words : List (List ℕ)) (inputs : InputsSeen) (before after : SinkSeen) : Type 0 where
+  pub refused : (s : Search) (name : List ℕ) → ¬ Asks words s name
+  pub quiet : inputs.faults_after ≡ inputs.faults_before
+  pub untouched : after ≡ before
+
+-- reading the file came to a stop
+pub record EndsReading (words : List (List ℕ)) (inputs : InputsSeen) (is_calm : Type 0) (before after : SinkSeen) (stop : Stop) : Type 0 where
+  pub search : Search
+  pub name : List ℕ
+  pub asked : Asks words search name
+  pub kind : IsReadingStop stop
+  pub says : ForFile words inputs.told (λ s file. StopsAt file stop)
+  pub failed : stop ≡ ReadFault → Rose inputs.faults_before inputs.faults_after
+  pub calm : is_calm → ForFile words inputs.told (λ s file. stop ≢ ReadFault)
+  pub quiet : stop ≢ ReadFault → inputs.faults_after ≡ inputs.faults_before
+  pub untouched : after ≡ before
+
+-- the text was written, or its front
+pub record EndsWriting (words : List (List ℕ)) (inputs : InputsSeen) (Took : List ℕ → Type 0) : Type 0 where
+  pub search : Search
+  pub name : List ℕ
+  pub asked : Asks words search name
+  pub quiet : inputs.faults_after ≡ inputs.faults_before
+  pub text : List ℕ
+  pub took : Took text
+  pub has_text : ForFile words inputs.told (HasText (λ of_file. of_file ≡ text))
+
+abbrev pub EndsBy : List (List ℕ) → InputsSeen → Type 0 → SinkSeen → SinkSeen → Stop → Type 0
+EndsBy words inputs is_calm before after Words = EndsAtWords words inputs before after
+EndsBy words inputs is_calm before after SinkFault = EndsWriting words inputs (λ text. WroteFront text before after)
+EndsBy words inputs is_calm before after stop = EndsReading words inputs is_calm before after stop
+
+abbrev pub Ends : List (List ℕ) → InputsSeen → Type 0 → SinkSeen → SinkSeen → Result (Unit {0}) Stop → Type 0
+Ends words inputs is_calm before after (Ok done) = EndsWriting words inputs (λ text. WroteAll text before after)
+Ends words inputs is_calm before after (Err stop) = EndsBy words inputs is_calm before after stop

@@ -1,0 +1,56 @@
+-- What a file that is searched has to be, and why one is refused.
+use Rattle.std.specs.Prelude.{◌≡◌, ℕ, ◌≤◌, List, length, take, drop, Option, Some, Ok, Err}
+use Rattle.dada_model.specs.Fields.{HeaderText, HeaderRefusal, ShortHeader, BadHeaderSize, NotTextAt, header_of, fields_of}
+use Rattle.dada_model.specs.Observation as model
+use Rattle.dada_model.specs.Observation.{Observation, Refusal, observation_of}
+use Rattle.psr_search.specs.declared.stop.HeaderCause.{HeaderCause}
+use Rattle.psr_search.specs.declared.stop.HeaderCause.TheVariants.{Short, NotText, BadSize, Missing, BadNumber, OutOfProfile, OutOfRange, TooNarrow, Differs}
+
+-- the most data bytes of a file that is searched
+abbrev pub most_data : ℕ
+most_data = 16777216
+
+-- the file has the header h, which says the observation o
+pub record IsAccepted (file : List ℕ) (h : HeaderText) (o : Observation) : Type 0 where
+  pub header : header_of file ≡ Ok h
+  pub observation : observation_of (fields_of h.text) ≡ Ok o
+
+-- The bytes are those of the header that a file begins with, or all of a shorter one, and what is left is the rest. They
+-- say all that the file says of its header.
+pub record IsFrontRead (bytes : List ℕ) (left : Option (List ℕ)) (file : List ℕ) : Type 0 where
+  pub count : ℕ
+  pub front : bytes ≡ take count file
+  pub rest : left ≡ Some (drop count file)
+  pub header : header_of bytes ≡ header_of file
+  pub size : (h : HeaderText) → header_of file ≡ Ok h → count ≡ h.size
+
+-- the bytes past the header
+abbrev pub data_of : List ℕ → HeaderText → List ℕ
+data_of file h = drop h.size file
+
+-- P holds of an accepted file
+abbrev pub Accepted : List ℕ → (HeaderText → Observation → Type 0) → Type 0
+Accepted file P = (h : HeaderText) × (o : Observation) × (IsAccepted file h o) × (P h o)
+
+-- the file has a header, and that is its first refusal as an observation
+abbrev pub IsRefusedBy : List ℕ → Refusal → Type 0
+IsRefusedBy file refusal = (h : HeaderText) × (header_of file ≡ Ok h) × (observation_of (fields_of h.text) ≡ Err refusal)
+
+-- the cause is the first for which the file is refused; a first file differs from none
+abbrev pub IsCause : List ℕ → HeaderCause → Type 0
+IsCause file (Short had) = header_of file ≡ Err (ShortHeader had)
+IsCause file (NotText place) = header_of file ≡ Err (NotTextAt place)
+IsCause file BadSize = header_of file ≡ Err BadHeaderSize
+IsCause file (Missing key) = IsRefusedBy file (model.Missing key)
+IsCause file (BadNumber key) = IsRefusedBy file (model.BadNumber key)
+IsCause file (OutOfProfile key) = IsRefusedBy file (model.OutOfProfile key)
+IsCause file (OutOfRange key) = IsRefusedBy file (model.OutOfRange key)
+IsCause file (TooNarrow bw nchan) = IsRefusedBy file (model.TooNarrow bw nchan)
+IsCause file (Differs key) = ⊥
+
+-- the file is accepted, and these are its observation and its data
+pub record IsRead (file : List ℕ) (o : Observation) (bytes : List ℕ) : Type 0 where
+  pub header : HeaderText
+  pub accepted : IsAccepted file header o
+  pub whole : bytes ≡ data_of file header
+  pub short : length bytes ≤ most_data

@@ -1,0 +1,11 @@
+// Laws of the outcome, which the contracts of functions that do nothing carry. A caller whose proof
+// needs a law calls its function.
+ghost use Rattle.psr_search.specs.Outcome.{AcceptedIsSearched};
+
+use psr_base::Inputs;
+
+/// Words, a header and data that are accepted are searched, or there is no memory, where neither
+/// the inputs nor the output count a fault.
+pub fn accepted_is_searched<I: Inputs>()
+    ensures { (inputs : I) → AcceptedIsSearched (I.is_calm inputs) }
+{}
