@@ -1,7 +1,14 @@
-//! The detection rule: whether a sum of samples stands out of the noise.
+//! The detection rule: whether a sum of samples stands out of the noise, and the least sum that does.
 #![tactic(auto)]
 
 ghost use Rattle.std.specs.Prelude.{◌*◌, ◌^◌, ◌<◌, ◌≤◌, ◌↔◌, IsTrue};
+
+// A law: it does nothing when it runs, and the proofs use what it ensures.
+use search_model::detection_rises;
+use std::marker::Model;
+
+// No sum of a search reaches this.
+const SUMS_END: u64 = 1 << 32;
 
 /// What is known of the noise, and how far a sum has to stand out of it.
 #[derive(Clone, Copy, PartialEq, Eq, Debug)]
@@ -12,19 +19,28 @@ pub struct Rule {
     pub sd: u32,
     /// The least signal-to-noise ratio, in hundredths.
     pub snr: u32,
-    ghost mean_range: { mean ≤ 200000000 },
-    ghost sd_range: { sd ≤ 200000000 },
-    ghost snr_range: { snr ≤ 100000 },
+}
+
+impl Model for Rule {
+    ghost use Rattle.detect_rule.specs.Noise.{Noise, AreInRange};
+
+    ghost Value = { Noise };
+
+    ghost view = { λ rule. record { mean = rule.mean; sd = rule.sd; snr = rule.snr } };
+
+    ghost inverse = { λ noise. record { mean = noise.mean; sd = noise.sd; snr = noise.snr } };
+
+    ghost invariant = { λ rule. AreInRange rule.mean rule.sd rule.snr };
 }
 
 impl Rule {
-    ghost use Rattle.search_model.specs.Detection.{IsDetected};
+    ghost use Rattle.detect_rule.specs.Noise.{StandsOut, StandOutFrom};
 
     /// Whether the sum of so many cells is at or above the threshold.
     pub fn detected(&self, sum: u64, cells: u64) -> bool
         requires sum_fits { sum < 2 ^ 32 }
         requires cells_fit { cells ≤ 2 ^ 26 }
-        ensures { IsTrue result ↔ IsDetected self.now.mean self.now.sd self.now.snr sum cells }
+        ensures { IsTrue result ↔ StandsOut self.now sum cells }
     {
         let scaled = 1000 * sum;
         let level = cells * u64::from(self.mean);
@@ -35,5 +51,28 @@ impl Rule {
         let snr = u128::from(self.snr);
         let sd = u128::from(self.sd);
         snr * snr * (sd * sd) * u128::from(cells) <= 10000 * (excess * excess)
+    }
+
+    /// The least sum of so many cells that is detected, if one below 2^32 is. So is each greater one.
+    pub fn least(&self, cells: u64) -> Option<u32>
+        requires { cells ≤ 2 ^ 26 }
+        ensures { StandOutFrom self.now cells result }
+    {
+        detection_rises();
+        let mut low = 0;
+        let mut high = SUMS_END;
+        while low < high {
+            let middle = (low + high) / 2;
+            if self.detected(middle, cells) {
+                high = middle;
+            } else {
+                low = middle + 1;
+            }
+        }
+        if low < SUMS_END {
+            Some(low as u32)
+        } else {
+            None
+        }
     }
 }

@@ -1,18 +1,19 @@
-use Rattle.std.proofs.Common.{◌≤◌, ◌*◌, arith, rules}
-use Rattle.std.proofs.lemmas.Nat.{mul-le}
+use Rattle.std.proofs.Common.{ℕ, ◌*◌, ◌<◌, ◌≤◌, ◌^◌, arith}
+use Rattle.std.proofs.Math.Nat.{mul-le-mul}
 use Rattle.detect_rule.proofs.Rule.detected.Goals as goal
 
--- the greatest product is 10^10 * 4 * 10^16 * 2^26, below 2^115
+product_fits : (snr sd cells : ℕ) → snr ≤ 100000 → sd ≤ 200000000 → cells ≤ 2 ^ 26 →
+    snr * snr * (sd * sd) * cells < 2 ^ 128
+product_fits snr sd cells hr hs hc =
+    let squares = mul-le-mul (mul-le-mul hr hr) (mul-le-mul hs hs) in
+    let all = mul-le-mul squares hc in
+    omega arith
+
 pub overflow_mul-result-4 : goal.overflow_mul-result-4
 overflow_mul-result-4 c =
-    let snr = c.from-snr.result in
-    let sd = c.from-sd.result in
-    let cells = c.from-2.result in
-    let snr_le : snr ≤ 100000 = search rules in
-    let sd_le : sd ≤ 200000000 = search rules in
-    let cells_le : cells ≤ 67108864 = search rules in
-    let snr_squared = mul-le snr snr 100000 100000 snr_le snr_le in
-    let sd_squared = mul-le sd sd 200000000 200000000 sd_le sd_le in
-    let both = mul-le (snr * snr) (sd * sd) 10000000000 40000000000000000 snr_squared sd_squared in
-    let all = mul-le (snr * snr * (sd * sd)) cells 400000000000000000000000000 67108864 both cells_le in
-    omega arith
+    let snr = c.from-snr.ensures in
+    let sd = c.from-sd.ensures in
+    let cells = c.from-2.ensures in
+    let low = c.self.invariant.snr_range in
+    let deviation = c.self.invariant.sd_range in
+    omega (arith, product_fits c.from-snr.result c.from-sd.result c.from-2.result (omega arith) (omega arith) (omega arith))
