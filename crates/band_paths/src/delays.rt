@@ -31,7 +31,8 @@ pub fn split(edges: &[u32], lo: usize, m: usize, hi: usize, d: u32) -> u32
     requires within { hi < length edges.now }
     requires delay { d ≤ most_delay }
     ensures value { result
-        ≡ split_of (slice_index edges.now lo) (slice_index edges.now m) (slice_index edges.now hi) d }
+        ≡ split_of (slice_index edges.now lo) (slice_index edges.now m)
+        (slice_index edges.now hi) d }
     ensures part { result ≤ d }
 {
     share(edges[lo], edges[m], edges[hi], d)

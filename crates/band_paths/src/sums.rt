@@ -33,7 +33,8 @@ fn channel_sum(samples: &[u32], n: usize, c: usize, delays: &[u32], u: usize) ->
     requires delays { AreDelays n delays.now }
     requires small { All (λ x. x ≤ most_sample) samples.now }
     ensures value { result
-        ≡ sum (channel_cells (filterbank n true samples.now) delays.now (slice_index delays.now n) u 0 c) }
+        ≡ sum (channel_cells (filterbank n true samples.now) delays.now
+        (slice_index delays.now n) u 0 c) }
     ensures bound { (m : ℕ) → All (λ x. x ≤ m) samples.now →
         result ≤ m * (slice_index delays.now (c + 1) + 1 - slice_index delays.now c) }
 {

@@ -1,6 +1,6 @@
 -- The value of a text of decimal digits alone.
 use Rattle.std.proofs.Common.{◌≡◌, ℕ, ◌+◌, ◌*◌, ◌/◌, ◌^◌, ◌<◌, ◌≤◌, true, false, ◌&&◌, cond, eqb, ltb, List, [], ◌∷◌, ◌++◌, length, get_or, drop, refl, ap, ◌∙◌, arith, Option, Some, None, Bool, append-nil, Result, Ok}
-use Rattle.std.specs.Prelude.{All, SomeIff, IfSome, ℤ, pos, neg_ℤ}
+use Rattle.std.specs.Prelude.{All, ℤ, pos, neg_ℤ}
 use Rattle.std.specs.Char.{IsAsciiDigit, is_ascii_digit}
 use Rattle.std.specs.List.{before_first, after_first, position_or_len}
 use Rattle.std.specs.Str.{all_ascii_digits}
@@ -12,7 +12,7 @@ use Rattle.std.proofs.lemmas.Str.Parse.{IsNumeralModel, numerals_by_value, tells
 use Rattle.std.proofs.lemmas.List.{drop_all}
 use Rattle.std.proofs.Math.Nat.{div-one}
 use Rattle.std.proofs.Math.Seq.{take-length}
-use Rattle.dada_model.specs.Number.{is_point, whole_part, fraction_part, digits_of_number, number_value, IsWholeNumber, IsNegativeNumber}
+use Rattle.dada_model.specs.Number.{is_point, whole_part, fraction_part, digits_of_number, number_value, IsWholeNumber}
 
 -- ---- the digits by a test
 
@@ -96,14 +96,6 @@ number_value-whole most text k h =
     let value = signless text text k bare h.0 h.2 in
     rw minus at value
 
-number_value-negative : (most : ℕ) (text : List ℕ) (k : ℕ) → IsNegativeNumber most text →
-    number_value k text ≡ Some (neg_ℤ (pos (digits_value 10 (drop 1 text) * 10 ^ k)))
-number_value-negative most text k h =
-    let minus : starts_with_minus text ≡ true = h.0 in
-    let bare : without_leading_sign text ≡ drop 1 text = rw minus refl in
-    let value = signless text (drop 1 text) k bare h.1.0 h.1.2 in
-    rw minus at value
-
 -- ---- what `parse` reads
 
 own : IsNumeralModel (λ ds. all_ascii_digits ds ≡ true) (digits_value 10)
@@ -127,9 +119,3 @@ is_minus byte e = grind (arith, nat_tests)
 pub minus_first : (text : List ℕ) → starts_with_minus text ≡ true → text ≡ 45 ∷ drop 1 text
 minus_first [] e = (cc)
 minus_first (x ∷ xs) e = ap (λ (byte : ℕ). byte ∷ xs) (is_minus x e)
-
-pub negative_value : (most : ℕ) (text rest : List ℕ) (r : Option ℕ) → text ≡ 45 ∷ rest →
-    SomeIff r (IsWholeNumber most rest) (digits_value 10 rest) →
-    IfSome r (λ n. (k : ℕ) → number_value k text ≡ Some (neg_ℤ (pos (n * 10 ^ k))))
-negative_value most text rest None e h = tt
-negative_value most text rest (Some n) e h = λ k. rw (e, h.1) (number_value-negative most (45 ∷ rest) k (refl, h.0))

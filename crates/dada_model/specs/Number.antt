@@ -1,6 +1,6 @@
 -- Number texts (this project's profile): an optional sign, digits, and optionally a point and digits,
 -- with at least one digit in all. There is no exponent.
-use Rattle.std.specs.Prelude.{ℕ, ◌<◌, ◌≤◌, ◌*◌, ◌/◌, ◌^◌, Bool, ◌&&◌, nat_lt, ◌==◌, if◌then◌else◌, List, ◌++◌, length, drop, IsTrue, All, Option, Some, None, ℤ, pos, neg_ℤ}
+use Rattle.std.specs.Prelude.{ℕ, ◌<◌, ◌≤◌, ◌*◌, ◌/◌, ◌^◌, Bool, ◌&&◌, nat_lt, ◌==◌, if◌then◌else◌, List, ◌++◌, length, All, Option, Some, None, ℤ, pos, neg_ℤ}
 use Rattle.std.specs.List.{before_first, after_first}
 use Rattle.std.specs.Char.{IsAsciiDigit}
 use Rattle.std.specs.Str.{all_ascii_digits}
@@ -35,9 +35,6 @@ number_value k text =
     then Some (if starts_with_minus text then neg_ℤ (pos (scaled_magnitude k text)) else pos (scaled_magnitude k text))
     else None
 
--- a text of decimal digits alone, one at least and so many at most; and such a text after a minus
+-- a text of decimal digits alone, one at least and so many at most
 abbrev pub IsWholeNumber : ℕ → List ℕ → Type 0
 IsWholeNumber most_digits text = (0 < length text) × (length text ≤ most_digits) × All IsAsciiDigit text
-
-abbrev pub IsNegativeNumber : ℕ → List ℕ → Type 0
-IsNegativeNumber most_digits text = IsTrue (starts_with_minus text) × IsWholeNumber most_digits (drop 1 text)

@@ -22,4 +22,4 @@ pub use laws::{
     accepted_by_rows, accepted_is_in_range, bands_in_row, dispersion_fits, edges_are_quotients,
     edges_fall, numbers_are_spelled,
 };
-pub use number::{negative_number, whole_number};
+pub use number::whole_number;

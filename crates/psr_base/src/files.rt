@@ -32,10 +32,12 @@ pub trait Files {
         requires is_open { is_open self.old }
         ensures bound { IfOk result (λ n. n ≤ length bytes.now) }
         ensures some { IfOk result (λ n. 0 < length bytes.now → 0 < n) }
-        ensures took { IfOk result (λ n. AppendedAll (take n bytes.now) (seen self.old) (seen self.new)) }
+        ensures took { IfOk result (λ n.
+            AppendedAll (take n bytes.now) (seen self.old) (seen self.new)) }
         ensures failed { OnErr result (MakingFails (seen self.old) (seen self.new)) }
         ensures still_open { is_open self.new }
-        ensures serves { ForSome (seen self.old).left (λ left. length bytes.now ≤ left.bytes → IsOk result) };
+        ensures serves { ForSome (seen self.old).left (λ left.
+            length bytes.now ≤ left.bytes → IsOk result) };
 
     /// Finishes the file.
     fn finish(&mut self) -> Result<(), Failed>

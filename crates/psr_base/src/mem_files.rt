@@ -156,7 +156,8 @@ impl Files for MemFiles {
     fn append(&mut self, bytes: &[u8]) -> Result<usize, Failed>
         requires is_open { IsMaking self.old }
         ensures answer { IsOk result
-            ↔ ((length bytes.now ≤ (files_left self.old).bytes) × ¬ FailsNext (files_calls self.old)) }
+            ↔ ((length bytes.now ≤ (files_left self.old).bytes)
+            × ¬ FailsNext (files_calls self.old)) }
         ensures whole { IfOk result (λ n. n ≡ length bytes.now) }
         ensures appended { OnOk result (made_of self.new ≡ longer_by bytes.now (made_of self.old)) }
         ensures left { OnOk result

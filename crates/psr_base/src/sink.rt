@@ -16,7 +16,9 @@ pub trait Sink {
     fn write(&mut self, bytes: &[u8]) -> Result<usize, Failed>
         ensures bound { IfOk result (λ n. n ≤ length bytes.now) }
         ensures some { IfOk result (λ n. 0 < length bytes.now → 0 < n) }
-        ensures took { IfOk result (λ n. WroteAll (take n bytes.now) (seen self.old) (seen self.new)) }
+        ensures took { IfOk result (λ n.
+            WroteAll (take n bytes.now) (seen self.old) (seen self.new)) }
         ensures failed { OnErr result (WriteFails (seen self.old) (seen self.new)) }
-        ensures serves { ForSome (seen self.old).room (λ room. length bytes.now ≤ room → IsOk result) };
+        ensures serves { ForSome (seen self.old).room (λ room.
+            length bytes.now ≤ room → IsOk result) };
 }
