@@ -1,0 +1,3 @@
+pub mod Splits
+pub mod Trees
+pub mod Worked

@@ -1,0 +1,3 @@
+pub mod Nodes
+pub mod NodeLaws
+pub mod Plans

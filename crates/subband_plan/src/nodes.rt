@@ -1,0 +1,100 @@
+// A part of the band and its rows, and how it is halved.
+ghost use Rattle.std.specs.Prelude.{◌≡◌, ◌+◌, ◌-◌, ◌*◌, ◌<◌, ◌≤◌, OnOk};
+ghost use Rattle.dada_model.specs.Edges.{AreEdges};
+ghost use Rattle.band_paths.specs.Edges.{channels_of};
+ghost use Rattle.search_model.specs.Paths.{middle as middle_of};
+ghost use Rattle.subband_plan.specs.NodeLaws.{AskedRowsAreThere};
+
+use band_paths::split;
+use psr_base::Memory;
+use search_model::{splits_fit, splits_step};
+
+/// A part of the band: the channels from `lo` up to `hi`, the highest first, with a row for each delay from
+/// `first_row` to `last_row` in spectra. Of each row, the last `tail` values are kept for the next spectra.
+#[derive(Clone, Copy, PartialEq, Eq, Debug)]
+pub struct Node {
+    pub lo: u32,
+    pub hi: u32,
+    pub first_row: u32,
+    pub last_row: u32,
+    pub tail: u32,
+}
+
+impl Node {
+    ghost use Rattle.subband_plan.specs.Nodes.{IsBranch, IsGrown, HasRow, split_of, upper_half as upper_half_of, lower_half as lower_half_of};
+    ghost use Rattle.subband_plan.specs.NodeLaws.{AreBranches, HalvesHave};
+
+    // The first channel of the lower half.
+    pub(crate) fn middle(self) -> u32
+        requires { self.lo ≤ self.hi }
+        ensures { result ≡ middle_of self.lo self.hi }
+    {
+        self.lo + (self.hi - self.lo) / 2
+    }
+
+    // The part of the delay `d` that the upper half gets.
+    pub(crate) fn split(self, edges: &[u32], d: u32) -> u32
+        requires edges { AreEdges (channels_of edges.now) edges.now }
+        requires node { IsBranch edges.now self }
+        requires two { self.lo + 2 ≤ self.hi }
+        requires row { HasRow self d }
+        ensures value { result ≡ split_of edges.now self d }
+        ensures halves { HalvesHave edges.now self d }
+    {
+        asked_rows_are_there();
+        let middle = self.middle() as usize;
+        split(edges, self.lo as usize, middle, self.hi as usize, d)
+    }
+
+    // The upper half and the lower half.
+    pub(crate) fn halves(self, edges: &[u32]) -> (Node, Node)
+        requires edges { AreEdges (channels_of edges.now) edges.now }
+        requires node { IsBranch edges.now self }
+        requires two { self.lo + 2 ≤ self.hi }
+        ensures upper { result.0 ≡ upper_half_of edges.now self }
+        ensures lower { result.1 ≡ lower_half_of edges.now self }
+        ensures branches { AreBranches edges.now result.0 result.1 }
+    {
+        let middle = self.middle();
+        let first = self.split(edges, self.first_row);
+        let last = self.split(edges, self.last_row);
+        let upper = Node {
+            lo: self.lo,
+            hi: middle,
+            first_row: first,
+            last_row: last,
+            tail: self.last_row - last,
+        };
+        let lower = Node {
+            lo: middle,
+            hi: self.hi,
+            first_row: self.first_row - first,
+            last_row: self.last_row - last,
+            tail: 0,
+        };
+        (upper, lower)
+    }
+
+    // Appends the node, what lies in its upper half, and what lies in its lower half.
+    pub(crate) fn grow(self, edges: &[u32], nodes: &mut Vec<Node>) -> Result<(), Memory>
+        requires edges { AreEdges (channels_of edges.now) edges.now }
+        requires node { IsBranch edges.now self }
+        ensures { OnOk result (IsGrown edges.now nodes.old.items self nodes.new.items) }
+    {
+        nodes.push(self)?;
+        if self.hi - self.lo >= 2 {
+            let (upper, lower) = self.halves(edges);
+            upper.grow(edges, nodes)?;
+            lower.grow(edges, nodes)?;
+        }
+        Ok(())
+    }
+}
+
+/// The rows that a node's row asks of its halves are rows of theirs.
+pub fn asked_rows_are_there()
+    ensures { AskedRowsAreThere }
+{
+    splits_fit();
+    splits_step();
+}
