@@ -6,3 +6,4 @@ pub mod Bands
 pub mod Found
 pub mod Outcomes
 pub mod Asked
+pub mod SampleText

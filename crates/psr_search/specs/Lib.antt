@@ -7,3 +7,4 @@ pub mod Outcome
 pub mod Ends
 pub mod Track
 pub mod Direct
+pub mod Sample

@@ -13,6 +13,6 @@ mod track;
 mod words;
 
 pub use in_memory::run_in_memory;
-pub use laws::accepted_is_searched;
+pub use laws::{accepted_is_searched, sample_is_found};
 pub use stop::{HeaderCause, Stop};
 pub use top::run;

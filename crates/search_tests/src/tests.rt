@@ -1,19 +1,17 @@
 // A search of one file, as a user makes it, with its status, text and notes.
 use band_paths::{edge_delays, path_sum};
 use detect_rule::Rule;
-use psr_base::{MemInputs, MemSink, Memory};
-use psr_search::run;
+use psr_base::{CalmInputs, CalmSink, MemInputs, MemSink, Memory};
+use psr_search::{run, run_in_memory};
 use std::alloc::Global;
 use std::test::Fail;
 
 const OBSERVATION: &str =
     "HDR_SIZE 4096\nNCHAN 2\nNBIT 8\nNPOL 1\nNDIM 1\nTSAMP 64\nFREQ 1400\nBW -200\nUTC_START 2024-01-02-03:04:05\nOBS_OFFSET 0\n";
 
-const RISING: &str = "NCHAN 2\nNBIT 8\nTSAMP 64\nFREQ 1400\nBW 200\n";
-
-const NO_CHANNELS: &str = "NBIT 8\nTSAMP 64\nFREQ 1400\nBW -200\n";
-
 const PULSE: [u8; 6] = [10, 0, 0, 20, 0, 0];
+
+const TEXT: &str = "PULSE 1 1 0.104 1 30 3\nEND 1 0 3\n";
 
 const WORDS: [&str; 12] = [
     "psr_search",
@@ -38,36 +36,55 @@ struct Ended {
     notes: String,
 }
 
-// A header of these lines, and the data after it.
-fn file_of(alloc: Global, lines: &str, bytes: &[u8]) -> Result<Vec<u8>, Memory> {
+// The calls that fail, of the inputs, the output and the notes, and the room of the output.
+#[derive(Clone, Copy)]
+struct Faults<'a> {
+    inputs: &'a [u64],
+    out: &'a [u64],
+    notes: &'a [u64],
+    room: u64,
+}
+
+const NO_FAULTS: Faults<'static> = Faults {
+    inputs: &[],
+    out: &[],
+    notes: &[],
+    room: 1000,
+};
+
+// A header of these lines, padded to its size, and the data after it.
+fn file_of(alloc: Global, lines: &str, size: usize, bytes: &[u8]) -> Result<Vec<u8>, Memory> {
     let mut file = Vec::from_slice(alloc, lines.as_bytes())?;
-    for _ in file.len()..4096 {
+    for _ in file.len()..size {
         file.push(0)?;
     }
     file.extend_from_slice(bytes)?;
     Ok(file)
 }
 
-// Searches with these words, where the file stands under its name; the calls of the inputs and the
-// output with these numbers fail.
-fn search(
-    alloc: Global,
-    words: &[&str],
-    file: Option<&[u8]>,
-    fail_inputs: &[u64],
-    fail_out: &[u64],
-) -> Result<Ended, Memory> {
-    let mut inputs = MemInputs::open(alloc, fail_inputs)?;
-    if let Some(bytes) = file {
-        inputs.put("file", bytes)?;
-    }
-    let mut out = MemSink::open(alloc, 1000, fail_out)?;
-    let mut notes = MemSink::open(alloc, 1000, &[])?;
+fn list_of(alloc: Global, words: &[&str]) -> Result<Vec<String>, Memory> {
     let mut list = Vec::new(alloc);
     for word in words {
         list.push(String::from_str(alloc, word)?)?;
     }
-    let status = run(alloc, list.as_slice(), &mut inputs, &mut out, &mut notes);
+    Ok(list)
+}
+
+// Searches with these words, where the file stands under its name.
+fn search(
+    alloc: Global,
+    words: &[&str],
+    file: Option<&[u8]>,
+    faults: Faults<'_>,
+) -> Result<Ended, Memory> {
+    let mut inputs = MemInputs::open(alloc, faults.inputs)?;
+    if let Some(bytes) = file {
+        inputs.put("file", bytes)?;
+    }
+    let mut out = MemSink::open(alloc, faults.room, faults.out)?;
+    let mut notes = MemSink::open(alloc, 1000, faults.notes)?;
+    let list = list_of(alloc, words)?;
+    let status = run_in_memory(alloc, list.as_slice(), &mut inputs, &mut out, &mut notes);
     Ok(Ended {
         status,
         text: text_of(alloc, &out)?,
@@ -92,121 +109,271 @@ fn text_of(alloc: Global, sink: &MemSink) -> Result<String, Memory> {
 }
 
 #[test]
-fn the_pulse_is_found_and_an_empty_file_has_none(rt: HostRuntime) -> Result<(), Fail> {
+fn the_pulse_is_found_in_each_kind_of_file(rt: HostRuntime) -> Result<(), Fail> {
     let alloc = rt.alloc();
-    for (bytes, text) in [
-        (PULSE.as_slice(), "PULSE 1 1 0.104 1 30 3\nEND 1 0 3\n"),
+    let rising = "NCHAN 2\nNBIT 8\nTSAMP 64\nFREQ 1400\nBW 200\n";
+    let wide = "NCHAN 2\nNBIT 16\nTSAMP 64\nFREQ 1400\nBW -200\n";
+    let both = "NCHAN 2\nNBIT 8\nNPOL 2\nTSAMP 64\nFREQ 1400\nBW -200\n";
+    let all = "NCHAN 2\nNBIT 16\nNPOL 2\nTSAMP 64\nFREQ 1400\nBW 200\n";
+    let long =
+        "HDR_SIZE 8192\nNCHAN 2\nNBIT 8\nTSAMP 64.0009\nFREQ 1400.\nBW\t-2e2 -200\nBW -200#\n";
+    let precise =
+        "HDR_SIZE 8192\nNCHAN 2.9\nNBIT 8\nTSAMP 64.0009\nFREQ 1400.\nBW\t-200 MHz\r\nBW 1#\n";
+    let cases: [(&str, usize, &[u8], &str); 9] = [
+        (OBSERVATION, 4096, &PULSE, TEXT),
         // An incomplete last spectrum is not searched.
-        (&PULSE[..5], "PULSE 1 1 0.104 1 30 3\nEND 1 0 2\n"),
-        (&[], "END 0 0 0\n"),
-    ] {
-        let file = file_of(alloc, OBSERVATION, bytes)?;
-        let ended = search(alloc, &WORDS, Some(file.as_slice()), &[], &[])?;
-        assert_eq!(rt; ended.text.as_str(), text);
-        assert_eq!(rt; ended.notes.as_str(), "");
-        assert_eq!(rt; ended.status, 0);
+        (
+            OBSERVATION,
+            4096,
+            &PULSE[..5],
+            "PULSE 1 1 0.104 1 30 3\nEND 1 0 2\n",
+        ),
+        (OBSERVATION, 4096, &[], "END 0 0 0\n"),
+        (rising, 4096, &[0, 10, 20, 0, 0, 0], TEXT),
+        (wide, 4096, &[10, 0, 0, 0, 0, 0, 20, 0, 0, 0, 0, 0], TEXT),
+        (both, 4096, &[4, 6, 0, 0, 0, 0, 0, 20, 0, 0, 0, 0], TEXT),
+        (
+            all,
+            4096,
+            &[
+                0, 0, 0, 0, 4, 0, 6, 0, 19, 0, 1, 0, 0, 0, 0, 0, 0, 0, 0, 0, 0, 0, 0, 0, 9,
+            ],
+            TEXT,
+        ),
+        (precise, 8192, &PULSE, TEXT),
+        (long, 8192, &PULSE, ""),
+    ];
+    for (lines, size, bytes, text) in cases {
+        let file = file_of(alloc, lines, size, bytes)?;
+        let ended = search(alloc, &WORDS, Some(file.as_slice()), NO_FAULTS)?;
+        assert_eq!(rt; ended.text.as_str(), text, "{lines}");
+        assert_eq!(rt; ended.status == 0, !text.is_empty(), "{lines}");
+        assert_eq!(rt; ended.notes.is_empty(), !text.is_empty(), "{lines}");
     }
     Ok(())
 }
 
 #[test]
-fn greater_delays_find_no_more(rt: HostRuntime) -> Result<(), Fail> {
+fn a_high_byte_counts_256(rt: HostRuntime) -> Result<(), Fail> {
     let alloc = rt.alloc();
-    let file = file_of(alloc, OBSERVATION, PULSE.as_slice())?;
-    let ended = search(alloc, &with_word(8, "8"), Some(file.as_slice()), &[], &[])?;
-    assert_eq!(rt; ended.text.as_str(), "PULSE 1 1 0.104 1 30 3\nEND 1 0 3\n");
+    let lines = "NCHAN 2\nNBIT 16\nTSAMP 64\nFREQ 1400\nBW -200\n";
+    let file = file_of(alloc, lines, 4096, &[1, 1, 0, 0])?;
+    let ended = search(alloc, &with_word(8, "0"), Some(file.as_slice()), NO_FAULTS)?;
+    assert_eq!(rt; ended.text.as_str(), "PULSE 0 0 0.000 1 257 2\nEND 1 0 1\n");
     Ok(())
 }
 
 #[test]
-fn a_header_that_is_not_taken_is_named(rt: HostRuntime) -> Result<(), Fail> {
+fn a_header_that_is_refused_is_named(rt: HostRuntime) -> Result<(), Fail> {
     let alloc = rt.alloc();
-    let mut file = file_of(alloc, OBSERVATION, &[])?;
-    file.truncate(4095);
-    let short = search(alloc, &WORDS, Some(file.as_slice()), &[], &[])?;
-    assert_eq!(rt; short.status, 3);
-    assert_eq!(rt; short.text.as_str(), "");
-    assert_eq!(rt;
-        short.notes.as_str(),
-        "header of file 0 refused: Short 4095\n"
-    );
-    for lines in [RISING, NO_CHANNELS, ""] {
-        let file = file_of(alloc, lines, &PULSE)?;
-        let ended = search(alloc, &WORDS, Some(file.as_slice()), &[], &[])?;
-        assert_eq!(rt; ended.status, 3);
-        assert_eq!(rt; ended.text.as_str(), "");
-        assert_eq!(rt; ended.notes.as_str(), "header of file 0 refused: Unbuilt\n");
+    // The lines, how long the file is, and the cause.
+    let cases = [
+        (OBSERVATION, 4095, "Short 4095"),
+        ("HDR_SIZE 8192\n", 8191, "Short 8191"),
+        ("HDR_SIZE 4095\n", 4096, "BadSize"),
+        ("HDR_SIZE 4096\n\u{7f}a\u{e9}\n", 4096, "NotText 16"),
+        ("", 4096, "Missing NCHAN"),
+        (
+            "NBIT 8\nTSAMP 64\nFREQ 1400\nBW -200\n",
+            4096,
+            "Missing NCHAN",
+        ),
+        ("NCHAN 4097\n", 4096, "OutOfRange NCHAN"),
+        ("NCHAN 2\nNBIT 4\nTSAMP 6.4e1\n", 4096, "OutOfProfile NBIT"),
+        ("NCHAN 2\nNBIT 8\nNPOL 3\n", 4096, "OutOfProfile NPOL"),
+        ("NCHAN 2\nNBIT 8\nNDIM 2\n", 4096, "OutOfProfile NDIM"),
+        ("NCHAN 2\nNBIT 8\nTSAMP 6.4e1\n", 4096, "BadNumber TSAMP"),
+        (
+            "NCHAN 2\nNBIT 8\nTSAMP 64\nFREQ 0.0009999\n",
+            4096,
+            "OutOfRange FREQ",
+        ),
+        (
+            "NCHAN 2\nNBIT 8\nTSAMP 64\nFREQ 1400\nBW 0\n",
+            4096,
+            "OutOfRange BW",
+        ),
+        (
+            "NCHAN 2\nNBIT 8\nTSAMP 64\nFREQ 1400\nBW -200\nOBS_OFFSET -1\n",
+            4096,
+            "OutOfRange OBS_OFFSET",
+        ),
+        (
+            "NCHAN 2\nNBIT 8\nTSAMP 64\nFREQ 1400\nBW -0.001999\n",
+            4096,
+            "TooNarrow 1999 2",
+        ),
+    ];
+    for (lines, size, cause) in cases {
+        let file = file_of(alloc, lines, size, &[])?;
+        let ended = search(alloc, &WORDS, Some(file.as_slice()), NO_FAULTS)?;
+        let note = format!(in alloc; "header of file 0 refused: {cause}\n")?;
+        assert_eq!(rt; ended.status, 3, "{cause}");
+        assert_eq!(rt; ended.text.as_str(), "", "{cause}");
+        assert_eq!(rt; ended.notes.as_str(), note.as_str());
     }
     Ok(())
 }
 
 #[test]
-fn words_of_another_form_are_refused(rt: HostRuntime) -> Result<(), Fail> {
+fn values_are_read_with_their_decimals(rt: HostRuntime) -> Result<(), Fail> {
     let alloc = rt.alloc();
-    let file = file_of(alloc, OBSERVATION, &PULSE)?;
-    for words in [
-        with_word(1, "--sd"),
-        with_word(2, "200001"),
-        with_word(2, "-1"),
-        with_word(2, "1.5"),
-        with_word(2, "0000000001"),
-        with_word(4, "0"),
-        with_word(6, "0"),
-        with_word(6, "1001"),
-        with_word(8, "8193"),
-        with_word(10, "2"),
-    ] {
-        let ended = search(alloc, &words, Some(file.as_slice()), &[], &[])?;
-        assert_eq!(rt; ended.status, 2);
-        assert_eq!(rt; ended.text.as_str(), "");
-        assert_eq!(rt; ended.notes.as_str(), "words refused\n");
+    let file = file_of(alloc, OBSERVATION, 4096, &PULSE)?;
+    let cases = [
+        (2, "1.0009", true),
+        (2, "+1", true),
+        (2, "200000.001", false),
+        (2, "1e0", false),
+        (2, "-1", false),
+        (4, "2.", true),
+        (4, "0.0009", false),
+        (4, "200000.0009", true),
+        (6, "7.009", true),
+        (6, "0.009", false),
+        (6, "1000.01", false),
+        (8, "8", true),
+        (8, "+1", false),
+        (8, "8193", false),
+        (8, "0000000001", false),
+        (1, "--sd", false),
+        (10, "2", false),
+    ];
+    for (place, word, accepted) in cases {
+        let ended = search(
+            alloc,
+            &with_word(place, word),
+            Some(file.as_slice()),
+            NO_FAULTS,
+        )?;
+        assert_eq!(rt; ended.status, if accepted { 0 } else { 2 }, "{word}");
+        let note = if accepted { "" } else { "words refused\n" };
+        assert_eq!(rt; ended.notes.as_str(), note, "{word}");
+        assert_eq!(rt; ended.text.is_empty(), !accepted, "{word}");
     }
-    let few = search(alloc, &WORDS[..11], Some(file.as_slice()), &[], &[])?;
-    assert_eq!(rt; few.status, 2);
-    let none = search(alloc, &[], Some(file.as_slice()), &[], &[])?;
-    assert_eq!(rt; none.status, 2);
+    for count in [0, 1, 11] {
+        let few = search(alloc, &WORDS[..count], Some(file.as_slice()), NO_FAULTS)?;
+        assert_eq!(rt; few.status, 2, "{count} words");
+    }
     Ok(())
 }
 
 #[test]
 fn a_failing_call_of_the_inputs_leaves_no_text(rt: HostRuntime) -> Result<(), Fail> {
     let alloc = rt.alloc();
-    let file = file_of(alloc, OBSERVATION, &PULSE)?;
-    // Opening, the header, the data, the end of the data.
-    for call in 0..4 {
-        let ended = search(alloc, &WORDS, Some(file.as_slice()), &[call], &[])?;
-        assert_eq!(rt; ended.status, 6, "at call {call}");
-        assert_eq!(rt; ended.text.as_str(), "");
-        assert_eq!(rt; ended.notes.as_str(), "read fault\n");
+    let file = file_of(alloc, OBSERVATION, 4096, &PULSE)?;
+    // Opening, the header, the data, the end of the data; then no call is left.
+    for call in 0..5 {
+        let faults = Faults {
+            inputs: &[call],
+            ..NO_FAULTS
+        };
+        let ended = search(alloc, &WORDS, Some(file.as_slice()), faults)?;
+        let (status, text, notes) = if call < 4 {
+            (6, "", "read fault\n")
+        } else {
+            (0, TEXT, "")
+        };
+        assert_eq!(rt; ended.status, status, "at call {call}");
+        assert_eq!(rt; ended.text.as_str(), text, "at call {call}");
+        assert_eq!(rt; ended.notes.as_str(), notes, "at call {call}");
     }
-    let missing = search(alloc, &WORDS, None, &[], &[])?;
+    let missing = search(alloc, &WORDS, None, NO_FAULTS)?;
     assert_eq!(rt; missing.status, 6);
-    assert_eq!(rt; missing.notes.as_str(), "read fault\n");
     Ok(())
 }
 
 #[test]
-fn a_failing_call_of_the_output_leaves_the_front_of_the_text(rt: HostRuntime) -> Result<(), Fail> {
+fn a_fault_of_the_output_leaves_the_front_of_the_text(rt: HostRuntime) -> Result<(), Fail> {
     let alloc = rt.alloc();
-    let file = file_of(alloc, OBSERVATION, &PULSE)?;
-    for (call, text) in [(0, ""), (1, "PULSE 1 1 0.104 1 30 3\n")] {
-        let ended = search(alloc, &WORDS, Some(file.as_slice()), &[], &[call])?;
-        assert_eq!(rt; ended.status, 10);
-        assert_eq!(rt; ended.text.as_str(), text);
-        assert_eq!(rt; ended.notes.as_str(), "sink fault\n");
+    let file = file_of(alloc, OBSERVATION, 4096, &PULSE)?;
+    let first = "PULSE 1 1 0.104 1 30 3\n";
+    // The calls that fail, the room, and what the output holds in the end.
+    let cases: [(&[u64], u64, &str); 5] = [
+        (&[0], 1000, ""),
+        (&[1], 1000, first),
+        (&[], 10, ""),
+        (&[], 32, first),
+        (&[], 33, TEXT),
+    ];
+    for (out, room, text) in cases {
+        let faults = Faults {
+            out,
+            room,
+            ..NO_FAULTS
+        };
+        let ended = search(alloc, &WORDS, Some(file.as_slice()), faults)?;
+        assert_eq!(rt;
+            ended.status,
+            if room == 33 { 0 } else { 10 },
+            "room {room}"
+        );
+        assert_eq!(rt; ended.text.as_str(), text, "room {room}");
+        let note = if room == 33 { "" } else { "sink fault\n" };
+        assert_eq!(rt; ended.notes.as_str(), note, "room {room}");
     }
+    // A fault of the notes changes no status.
+    let faults = Faults {
+        notes: &[0],
+        room: 10,
+        ..NO_FAULTS
+    };
+    let ended = search(alloc, &WORDS, Some(file.as_slice()), faults)?;
+    assert_eq!(rt; ended.status, 10);
+    assert_eq!(rt; ended.notes.as_str(), "");
     Ok(())
 }
 
 #[test]
-fn more_data_than_the_limit_is_refused(rt: HostRuntime) -> Result<(), Fail> {
+fn calm_objects_are_searched_to_the_end(rt: HostRuntime) -> Result<(), Fail> {
     let alloc = rt.alloc();
-    let bytes = vec![in alloc; 0u8; 16_777_217]?;
-    let file = file_of(alloc, OBSERVATION, bytes.as_slice())?;
-    let ended = search(alloc, &WORDS, Some(file.as_slice()), &[], &[])?;
-    assert_eq!(rt; ended.status, 8);
-    assert_eq!(rt; ended.text.as_str(), "");
-    assert_eq!(rt; ended.notes.as_str(), "more than 16777216 bytes\n");
+    let file = file_of(alloc, OBSERVATION, 4096, &PULSE)?;
+    let words = list_of(alloc, &WORDS)?;
+    let mut inputs = CalmInputs::open(alloc)?;
+    inputs.put("file", file.as_slice())?;
+    let mut out = MemSink::open(alloc, 1000, &[])?;
+    let mut calm = CalmSink::new();
+    assert_eq!(rt;
+        run(alloc, words.as_slice(), &mut inputs, &mut out, &mut calm),
+        0
+    );
+    assert_eq!(rt; out.body(), TEXT.as_bytes());
+    assert_eq!(rt;
+        run(
+            alloc,
+            words.as_slice(),
+            &mut inputs,
+            &mut CalmSink::new(),
+            &mut calm
+        ),
+        0
+    );
+    Ok(())
+}
+
+#[test]
+fn data_up_to_the_limit_are_searched(rt: HostRuntime) -> Result<(), Fail> {
+    let alloc = rt.alloc();
+    let lines = "NCHAN 4096\nNBIT 8\nTSAMP 64\nFREQ 1382\nBW -400\n";
+    let words = with_word(8, "0");
+    for (len, status, text) in [
+        (8191, 0, "END 0 0 1\n"),
+        (8192, 0, "END 0 0 2\n"),
+        (100_000, 0, "END 0 0 24\n"),
+        (1_000_000, 0, "END 0 0 244\n"),
+        (16_777_217, 8, ""),
+    ] {
+        let bytes = vec![in alloc; 0u8; len]?;
+        let file = file_of(alloc, lines, 4096, bytes.as_slice())?;
+        let ended = search(alloc, &words, Some(file.as_slice()), NO_FAULTS)?;
+        assert_eq!(rt; ended.status, status, "{len} bytes");
+        assert_eq!(rt; ended.text.as_str(), text, "{len} bytes");
+        let note = if status == 8 {
+            "more than 16777216 bytes\n"
+        } else {
+            ""
+        };
+        assert_eq!(rt; ended.notes.as_str(), note, "{len} bytes");
+    }
     Ok(())
 }
 
