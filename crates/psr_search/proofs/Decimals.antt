@@ -8,7 +8,8 @@ three : (xs : List ℕ) (a b c : ℕ) → xs ++ (a ∷ []) ++ (b ∷ []) ++ (c �
 three xs a b c =
     append_assoc (xs ++ (a ∷ [])) (b ∷ []) (c ∷ []) ∙ append_assoc xs (a ∷ []) (b ∷ c ∷ [])
 
-digits_are : (xs : List ℕ) (r : ℕ) → r < 1000 → xs ++ decimal (r / 100) ++ decimal (r / 10 % 10) ++ decimal (r % 10) ≡ xs ++ three_digits r
+digits_are : (xs : List ℕ) (r : ℕ) → r < 1000 → xs ++ decimal (r / 100) ++ decimal (r / 10 % 10) ++ decimal (r % 10) ≡
+    xs ++ three_digits r
 digits_are xs r h =
     let a = decimal_digit (r / 100) (omega arith) in
     let b = decimal_digit (r / 10 % 10) (omega arith) in
@@ -17,7 +18,8 @@ digits_are xs r h =
 
 -- pushed piece by piece, it is the text of the whole
 pub thousandths_are : (xs : List ℕ) (n : ℕ) →
-    xs ++ decimal (n / 1000) ++ codes "." ++ decimal (n % 1000 / 100) ++ decimal (n % 1000 / 10 % 10) ++ decimal (n % 1000 % 10) ≡ xs ++ thousandths n
+    xs ++ decimal (n / 1000) ++ codes "." ++ decimal (n % 1000 / 100) ++ decimal (n % 1000 / 10 % 10) ++ decimal
+    (n % 1000 % 10) ≡ xs ++ thousandths n
 thousandths_are xs n =
     digits_are (xs ++ decimal (n / 1000) ++ codes ".") (n % 1000) (omega arith)
     ∙ append_assoc (xs ++ decimal (n / 1000)) (codes ".") (three_digits (n % 1000))

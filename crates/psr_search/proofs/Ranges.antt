@@ -8,11 +8,13 @@ use Rattle.std.proofs.lemmas.List.FromFn.{map-range_with_len_more, take-map-rang
 -- the next number is written as the goal has it
 range_more : (a n j : ℕ) → a + n ≡ j → range_with_len a (n + 1) ≡ range_with_len a n ++ j ∷ []
 range_more a n j e =
-    sym (map-id (range_with_len a (n + 1))) ∙ map-range_with_len_more (λ (i : ℕ). i) a n j e ∙ ap (λ xs. xs ++ j ∷ []) (map-id (range_with_len a n))
+    sym (map-id (range_with_len a (n + 1))) ∙ map-range_with_len_more (λ (i : ℕ). i) a n j e
+    ∙ ap (λ xs. xs ++ j ∷ []) (map-id (range_with_len a n))
 
 take-range : (a n m : ℕ) → m ≤ n → take m (range_with_len a n) ≡ range_with_len a m
 take-range a n m h =
-    ap (take m) (sym (map-id (range_with_len a n))) ∙ take-map-range_with_len (λ (i : ℕ). i) a n m h ∙ map-id (range_with_len a m)
+    ap (take m) (sym (map-id (range_with_len a n))) ∙ take-map-range_with_len (λ (i : ℕ). i) a n m h
+    ∙ map-id (range_with_len a m)
 
 pub flat_map_range_more : {A : Type 0} (f : ℕ → List A) (a n j : ℕ) → a + n ≡ j →
     flat_map f (range_with_len a (n + 1)) ≡ flat_map f (range_with_len a n) ++ f j

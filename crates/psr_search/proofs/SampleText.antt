@@ -1,11 +1,10 @@
 -- The sample, computed.
-use Rattle.std.proofs.Common.{◌≡◌, ℕ, zero, suc, ◌<◌, ◌≤◌, get_or, arith, List, [], ◌∷◌, length, Some, Ok, true, refl, ap, sym, subst, ◌∙◌, lit≤, lit<}
-use Rattle.std.specs.Prelude.{codes, pos, All, Bool}
+use Rattle.std.proofs.Common.{◌≡◌, ℕ, zero, suc, ◌<◌, get_or, arith, List, Ok, true, refl, ap, sym, subst, ◌∙◌, lit≤, lit<}
+use Rattle.std.specs.Prelude.{codes, All}
 use Rattle.std.specs.Fmt.{digits}
 use Rattle.std.specs.Char.{IsAsciiDigit}
-use Rattle.std.specs.Str.Parse.{digits_value}
 use Rattle.psr_base.specs.Written.{SinkSeen, WroteAll}
-use Rattle.dada_model.specs.Number.{IsWholeNumber, number_value}
+use Rattle.dada_model.specs.Number.{number_value}
 use Rattle.dada_model.specs.Fields.{HeaderText, is_white, without_comment, words_of, fields_of, value_of, header_size, header_of}
 use Rattle.dada_model.specs.Observation.{Observation, number_of, observation_in, signed_edge, edge, edges, refusal_at, refusals, observation_of, dispersion_span, dm}
 use Rattle.search_model.specs.declared.search.Search.{Search}
@@ -24,10 +23,21 @@ unfolding header header_of header_size fields_of value_of words_of without_comme
 header_is = refl
 
 observation : Observation
-observation = record { channels = 2; nbit = 8; npol = 1; sample_ns = 64000; centre_hz = 1400000000; width_hz = 200000000; is_falling = true; obs_offset = 0 }
+observation = record {
+  channels = 2;
+  nbit = 8;
+  npol = 1;
+  sample_ns = 64000;
+  centre_hz = 1400000000;
+  width_hz =
+      200000000;
+  is_falling = true;
+  obs_offset = 0;
+}
 
 observation_is : observation_of (fields_of sample_header) ≡ Ok observation
-unfolding observation fields_of value_of words_of without_comment is_white number_value number_of observation_in signed_edge edge refusal_at refusals observation_of
+unfolding observation fields_of value_of words_of without_comment is_white number_value number_of observation_in
+    signed_edge edge refusal_at refusals observation_of
 observation_is = refl
 
 search : Search
@@ -49,9 +59,31 @@ in_range : IsInRange search
 unfolding search
 in_range = record {
   delays = record { rise = lit≤ tt; most = lit≤ tt; widest = refl };
-  folds = record { least_min = lit≤ tt; most_min = lit≤ tt; most_max = lit≤ tt; least_rows = lit≤ tt; most_rows = lit≤ tt; least_step = lit≤ tt; most_step = lit≤ tt };
-  parts = record { least_chunk = lit≤ tt; most_chunk = lit≤ tt; least_shards = lit≤ tt; most_shards = lit≤ tt; most_candidates = lit≤ tt };
-  noise = record { most_mean = lit≤ tt; least_sd = lit≤ tt; most_sd = lit≤ tt; least_snr = lit≤ tt; most_snr = lit≤ tt };
+  folds = record {
+    least_min = lit≤ tt;
+    most_min = lit≤ tt;
+    most_max = lit≤ tt;
+    least_rows = lit≤ tt;
+    most_rows =
+        lit≤ tt;
+    least_step = lit≤ tt;
+    most_step = lit≤ tt;
+  };
+  parts = record {
+    least_chunk = lit≤ tt;
+    most_chunk = lit≤ tt;
+    least_shards = lit≤ tt;
+    most_shards = lit≤ tt;
+    most_candidates = lit≤ tt;
+  };
+  noise = record {
+    most_mean = lit≤ tt;
+    least_sd = lit≤ tt;
+    most_sd = lit≤ tt;
+    least_snr = lit≤ tt;
+    most_snr =
+        lit≤ tt;
+  };
 }
 
 one_digit : All IsAsciiDigit (codes "1")
@@ -83,18 +115,22 @@ observed : observation_of (fields_of header.text) ≡ Ok observation
 unfolding header
 observed = observation_is
 
-same_observation : (h : HeaderText) (o : Observation) → header ≡ h → observation_of (fields_of h.text) ≡ Ok o → observation ≡ o
-same_observation h o same is = let there = ap (λ (x : HeaderText). observation_of (fields_of x.text)) same in let it = observed in cc
+same_observation : (h : HeaderText) (o : Observation) → header ≡ h → observation_of (fields_of h.text) ≡ Ok o →
+    observation ≡ o
+same_observation h o same is = let there = ap (λ (x : HeaderText). observation_of (fields_of x.text)) same in let it =
+    observed in cc
 
 -- what was written of an accepted sample
-written : (h : HeaderText) (o : Observation) (old new : SinkSeen) → IsAccepted sample_file h o → WroteAll (text_of o search (data_of sample_file h)) old new → WroteAll sample_text old new
+written : (h : HeaderText) (o : Observation) (old new : SinkSeen) → IsAccepted sample_file h o →
+    WroteAll (text_of o search (data_of sample_file h)) old new → WroteAll sample_text old new
 written h o old new is wrote =
     let headers = same_header h is.header in
     let observations = same_observation h o headers is.observation in
     let P : List ℕ → Type 0 = λ text. WroteAll text old new in
     let text : text_of o search (data_of sample_file h) ≡ sample_text =
-        ap (λ (x : Observation). text_of x search (data_of sample_file h)) (sym observations) ∙ ap (λ (x : HeaderText). text_of observation search (data_of sample_file x)) (sym headers)
-        ∙ ap (text_of observation search) data_is ∙ text_is in
+    ap (λ (x : Observation). text_of x search (data_of sample_file h)) (sym observations)
+    ∙ ap (λ (x : HeaderText). text_of observation search (data_of sample_file x)) (sym headers)
+    ∙ ap (text_of observation search) data_is ∙ text_is in
     subst P text wrote
 
 pub found : (is_calm : Type 0) → SampleIsFound is_calm

@@ -8,7 +8,8 @@ use Rattle.dada_model.specs.Observation.{Observation}
 use Rattle.psr_search.specs.declared.track.Track.{Track}
 use Rattle.psr_search.specs.Track.{IsTrack, AreTracks}
 
-pub tracks_more : (o : Observation) (tracks : List Track) (t : Track) → AreTracks o tracks → IsTrack o (length tracks) t → AreTracks o (tracks ++ t ∷ [])
+pub tracks_more : (o : Observation) (tracks : List Track) (t : Track) → AreTracks o tracks →
+    IsTrack o (length tracks) t → AreTracks o (tracks ++ t ∷ [])
 tracks_more o tracks t are is =
     λ i u e.
     let within = slice_get_within (tracks ++ t ∷ []) i u e in
@@ -22,6 +23,7 @@ tracks_more o tracks t are is =
           let place : i ≡ length tracks = omega arith in
           let P : ℕ → Type 0 = λ k. IsTrack o k u in
           let Q : Track → Type 0 = λ x. IsTrack o (length tracks) x in
-          let same : t ≡ u = sym (get_or-append_seam tracks t [] u) ∙ ap (λ k. get_or (tracks ++ t ∷ []) k u) (sym place) ∙ value in
+          let same : t ≡ u = sym (get_or-append_seam tracks t [] u)
+          ∙ ap (λ k. get_or (tracks ++ t ∷ []) k u) (sym place) ∙ value in
           subst P (sym place) (subst Q same is)
     ]

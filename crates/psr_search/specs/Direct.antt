@@ -1,9 +1,8 @@
 -- What a search that is ready will print.
-use Rattle.std.specs.Prelude.{◌≡◌, ℕ, List, vec_len}
+use Rattle.std.specs.Prelude.{ℕ, List, vec_len}
 use Rattle.std.specs.List.{flat_map, range_with_len}
-use Rattle.dada_model.specs.Observation.{Observation, edges}
+use Rattle.dada_model.specs.Observation.{edges}
 use Rattle.search_model.specs.declared.candidate.Candidate.{Candidate}
-use Rattle.search_model.specs.declared.search.Search.{Search}
 use Rattle.search_model.specs.Samples.{Filterbank}
 use Rattle.search_model.specs.Candidates.{pulses_at, plain_cells}
 use Rattle.search_model.specs.CandidateText.{candidate_line}

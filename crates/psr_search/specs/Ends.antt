@@ -1,11 +1,11 @@
 -- How a search ends, before the notes.
-use Rattle.std.specs.Prelude.{◌≡◌, ◌≢◌, ℕ, List, Option, Some, Result, Ok, Err}
+use Rattle.std.specs.Prelude.{◌≡◌, ◌≢◌, ℕ, List, Result, Ok, Err}
 use Rattle.psr_base.specs.Count.{Rose}
-use Rattle.psr_base.specs.Told.{OfFile, InputsSeen}
+use Rattle.psr_base.specs.Told.{InputsSeen}
 use Rattle.psr_base.specs.Written.{SinkSeen, WroteAll, WroteFront}
 use Rattle.search_model.specs.declared.search.Search.{Search}
 use Rattle.psr_search.specs.declared.stop.Stop.{Stop}
-use Rattle.psr_search.specs.declared.stop.Stop.TheVariants.{Words, Header, Memory, ReadFault, TooLong, SinkFault}
+use Rattle.psr_search.specs.declared.stop.Stop.TheVariants.{Words, ReadFault, SinkFault}
 use Rattle.psr_search.specs.Request.{Asks}
 use Rattle.psr_search.specs.Stop.{StopsAt, IsReadingStop}
 use Rattle.psr_search.specs.Outcome.{ForFile, HasText}
@@ -17,7 +17,8 @@ pub record EndsAtWords (words : List (List ℕ)) (inputs : InputsSeen) (before a
   pub untouched : after ≡ before
 
 -- reading the file came to a stop
-pub record EndsReading (words : List (List ℕ)) (inputs : InputsSeen) (is_calm : Type 0) (before after : SinkSeen) (stop : Stop) : Type 0 where
+pub record EndsReading (words : List (List ℕ)) (inputs : InputsSeen) (is_calm : Type 0) (before after : SinkSeen)
+    (stop : Stop) : Type 0 where
   pub search : Search
   pub name : List ℕ
   pub asked : Asks words search name

@@ -1,6 +1,6 @@
 -- What a file that is searched has to be, and why one is refused.
 use Rattle.std.specs.Prelude.{◌≡◌, ℕ, ◌≤◌, List, length, take, drop, Option, Some, Ok, Err}
-use Rattle.dada_model.specs.Fields.{HeaderText, HeaderRefusal, ShortHeader, BadHeaderSize, NotTextAt, header_of, fields_of}
+use Rattle.dada_model.specs.Fields.{HeaderText, ShortHeader, BadHeaderSize, NotTextAt, header_of, fields_of}
 use Rattle.dada_model.specs.Observation as model
 use Rattle.dada_model.specs.Observation.{Observation, Refusal, observation_of}
 use Rattle.psr_search.specs.declared.stop.HeaderCause.{HeaderCause}
@@ -15,7 +15,8 @@ pub record IsAccepted (file : List ℕ) (h : HeaderText) (o : Observation) : Typ
   pub header : header_of file ≡ Ok h
   pub observation : observation_of (fields_of h.text) ≡ Ok o
 
--- The bytes are those of the header that a file begins with, or all of a shorter one, and what is left is the rest. They
+-- The bytes are those of the header that a file begins with, or all of a shorter one, and what is left is the rest.
+-- They
 -- say all that the file says of its header.
 pub record IsFrontRead (bytes : List ℕ) (left : Option (List ℕ)) (file : List ℕ) : Type 0 where
   pub count : ℕ
@@ -34,7 +35,8 @@ Accepted file P = (h : HeaderText) × (o : Observation) × (IsAccepted file h o)
 
 -- the file has a header, and that is its first refusal as an observation
 abbrev pub IsRefusedBy : List ℕ → Refusal → Type 0
-IsRefusedBy file refusal = (h : HeaderText) × (header_of file ≡ Ok h) × (observation_of (fields_of h.text) ≡ Err refusal)
+IsRefusedBy file refusal = (h : HeaderText) × (header_of file ≡ Ok h) ×
+    (observation_of (fields_of h.text) ≡ Err refusal)
 
 -- the cause is the first for which the file is refused; a first file differs from none
 abbrev pub IsCause : List ℕ → HeaderCause → Type 0

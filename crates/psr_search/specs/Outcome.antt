@@ -1,5 +1,5 @@
 -- What a search's exit status says.
-use Rattle.std.specs.Prelude.{◌≡◌, ◌≢◌, ℕ, ◌≤◌, ◌<◌, ◌⊎◌, List, [], ◌∷◌, length, Option, Some, Contains}
+use Rattle.std.specs.Prelude.{◌≡◌, ◌≢◌, ℕ, ◌≤◌, ◌<◌, ◌⊎◌, List, [], ◌∷◌, length, Some, Contains}
 use Rattle.psr_base.specs.Count.{Rose}
 use Rattle.psr_base.specs.Told.{Told, OfFile, InputsSeen}
 use Rattle.psr_base.specs.Written.{SinkSeen, WroteAll, WroteFront, Noted}
@@ -30,7 +30,8 @@ pub record NotesStop (words : List (List ℕ)) (told : Told) (before after : Sin
 
 -- The outcome of a search for these words over these inputs, which may be calm: how it ended, by its status, what the
 -- output and the notes took, and which faults were counted.
-pub record Outcome (words : List (List ℕ)) (inputs : InputsSeen) (is_calm : Type 0) (out_before out_after notes_before notes_after : SinkSeen) (status : ℕ) : Type 0 where
+pub record Outcome (words : List (List ℕ)) (inputs : InputsSeen) (is_calm : Type 0)
+    (out_before out_after notes_before notes_after : SinkSeen) (status : ℕ) : Type 0 where
   -- there is no other status; 5 is want of memory
   pub known : Contains (0 ∷ 2 ∷ 3 ∷ 5 ∷ 6 ∷ 8 ∷ 10 ∷ []) status
   -- the headline: the output has grown by exactly the text of all data of the file
@@ -40,7 +41,8 @@ pub record Outcome (words : List (List ℕ)) (inputs : InputsSeen) (is_calm : Ty
   pub words_refused : status ≡ 2 → (s : Search) (name : List ℕ) → ¬ Asks words s name
   -- 3 exactly where the header is refused, and 8 exactly where there are too many data: at 0, 8 and 10 it is accepted
   pub header_refused : status ≡ 3 → ForFile words inputs.told (λ s file. (cause : HeaderCause) × IsCause file cause)
-  pub too_long : status ≡ 8 → ForFile words inputs.told (λ s file. Accepted file (λ h o. most_data < length (data_of file h)))
+  pub too_long : status ≡ 8 → ForFile words inputs.told
+      (λ s file. Accepted file (λ h o. most_data < length (data_of file h)))
   -- 6 only where the inputs failed, which calm ones that hold the file don't
   pub read_fault : status ≡ 6 → Rose inputs.faults_before inputs.faults_after
   pub calm : is_calm → ForFile words inputs.told (λ s file. status ≢ 6)
@@ -57,8 +59,11 @@ pub record Outcome (words : List (List ℕ)) (inputs : InputsSeen) (is_calm : Ty
 -- Words, a header and data that are accepted are searched, over inputs and an output that count no fault: 0, or want of
 -- memory.
 abbrev pub AcceptedIsSearched : Type 0 → Type 0
-AcceptedIsSearched is_calm = (words : List (List ℕ)) (inputs : InputsSeen) (out_before out_after notes_before notes_after : SinkSeen) (status : ℕ) →
+AcceptedIsSearched is_calm = (words : List (List ℕ)) (inputs : InputsSeen)
+    (out_before out_after notes_before notes_after : SinkSeen) (status : ℕ) →
     Outcome words inputs is_calm out_before out_after notes_before notes_after status →
-    (s : Search) (name file : List ℕ) (h : HeaderText) (o : Observation) → Asks words s name → inputs.told.bytes_under name ≡ Some file →
+    (s : Search) (name file : List ℕ) (h : HeaderText) (o : Observation) → Asks words s name →
+    inputs.told.bytes_under name ≡ Some file →
     IsAccepted file h o → length (data_of file h) ≤ most_data →
-    ¬ Rose inputs.faults_before inputs.faults_after → ¬ Rose out_before.faults out_after.faults → (status ≡ 0) ⊎ (status ≡ 5)
+    ¬ Rose inputs.faults_before inputs.faults_after → ¬ Rose out_before.faults out_after.faults →
+    (status ≡ 0) ⊎ (status ≡ 5)

@@ -39,7 +39,8 @@ pub record HasWhole (words : List (List ℕ)) (i : ℕ) (option : List ℕ) (v :
   pub digits : IsWholeNumber 9 (word_at words (i + 1))
   pub value : v ≡ digits_value 10 (word_at words (i + 1))
 
--- the words ask for the search s of the file of that name: mean and deviation in thousandths, the threshold in hundredths
+-- the words ask for the search s of the file of that name: mean and deviation in thousandths, the threshold in
+-- hundredths
 pub record Asks (words : List (List ℕ)) (s : Search) (name : List ℕ) : Type 0 where
   pub count : length words ≡ 12
   pub mean : HasNumber words 1 (codes "--mean") 3 s.mean

@@ -1,7 +1,6 @@
 -- How a search that stopped is answered.
-use Rattle.std.specs.Prelude.{◌≡◌, ℕ, ◌<◌, List, ◌++◌, codes, length, Result, Ok, Err}
+use Rattle.std.specs.Prelude.{◌≡◌, ℕ, ◌<◌, List, ◌++◌, codes, length}
 use Rattle.std.specs.Fmt.{decimal}
-use Rattle.dada_model.specs.declared.key.Key.{Key}
 use Rattle.dada_model.specs.Observation.{keyword}
 use Rattle.psr_search.specs.declared.stop.HeaderCause.{HeaderCause}
 use Rattle.psr_search.specs.declared.stop.HeaderCause.TheVariants.{Short, NotText, BadSize, Missing, BadNumber, OutOfProfile, OutOfRange, TooNarrow, Differs}

@@ -111,9 +111,10 @@ impl Direct {
     // Writes a line for each pulse that ends at spectrum `u`, and answers how many there are.
     fn write_ending<K: Sink>(&self, u: usize, out: &mut K) -> Result<u64, Failed>
         requires { u < (band self.now).spectra }
-        ensures wrote { Wrote (lines_of self.now (found_ending self.now u (vec_len self.now.tracks)))
-            (K.seen out.old) (K.seen out.new) result }
-        ensures number { IfOk result (λ n. n ≡ length (found_ending self.now u (vec_len self.now.tracks))) }
+        ensures wrote { let found = found_ending self.now u (vec_len self.now.tracks) in
+            Wrote (lines_of self.now found) (K.seen out.old) (K.seen out.new) result }
+        ensures number { IfOk result (λ n.
+            n ≡ length (found_ending self.now u (vec_len self.now.tracks))) }
         ensures bound { IfOk result (λ n. n ≤ 8193) }
     {
         pieces_join();
@@ -132,7 +133,8 @@ impl Direct {
     fn write_at<K: Sink>(&self, u: usize, d: usize, out: &mut K) -> Result<u64, Failed>
         requires end { u < (band self.now).spectra }
         requires delay { d < vec_len self.now.tracks }
-        ensures wrote { Wrote (lines_of self.now (found_at self.now u d)) (K.seen out.old) (K.seen out.new) result }
+        ensures wrote { Wrote (lines_of self.now (found_at self.now u d))
+            (K.seen out.old) (K.seen out.new) result }
         ensures number { IfOk result (λ n. n ≡ length (found_at self.now u d)) }
         ensures bound { IfOk result (λ n. n ≤ 1) }
     {
@@ -160,7 +162,8 @@ impl Direct {
     fn pulse_at(&self, u: usize, d: usize) -> Option<u32>
         requires end { u < (band self.now).spectra }
         requires delay { d < vec_len self.now.tracks }
-        ensures { map (λ sum. Candidate.Pulse u d 1 sum) (option_to_list result) ≡ found_at self.now u d }
+        ensures { map (λ sum. Candidate.Pulse u d 1 sum) (option_to_list result)
+            ≡ found_at self.now u d }
     {
         tests_detection();
         if u < d {

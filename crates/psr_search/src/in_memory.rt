@@ -17,8 +17,13 @@ pub fn run_in_memory(
     notes: &mut MemSink,
 ) -> u8
     ensures { Outcome (map string_bytes words.now)
-        (record { told = told_of inputs.old; faults_before = (calls_of inputs.old).faults; faults_after = (calls_of inputs.new).faults })
-        ((calls_of inputs.old).fail ≡ []) (sink_seen out.old) (sink_seen out.new) (sink_seen notes.old) (sink_seen notes.new) result }
+        (record {
+          told = told_of inputs.old;
+          faults_before = (calls_of inputs.old).faults;
+          faults_after = (calls_of inputs.new).faults;
+        })
+        ((calls_of inputs.old).fail ≡ []) (sink_seen out.old) (sink_seen out.new)
+        (sink_seen notes.old) (sink_seen notes.new) result }
 {
     run(alloc, words, inputs, out, notes)
 }

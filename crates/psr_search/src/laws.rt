@@ -15,5 +15,4 @@ pub fn accepted_is_searched<I: Inputs>()
 /// lines.
 pub fn sample_is_found<I: Inputs>()
     ensures { (inputs : I) → SampleIsFound (I.is_calm inputs) }
-{
-}
+{}

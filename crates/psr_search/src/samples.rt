@@ -81,7 +81,8 @@ pub(crate) fn arranged(
     observation: &Observation,
     bytes: &[u8],
 ) -> Result<Vec<u32>, Memory>
-    ensures samples { IfOk result (λ samples. samples.items ≡ arranged_of observation.now bytes.now) }
+    ensures samples { IfOk result (λ samples.
+        samples.items ≡ arranged_of observation.now bytes.now) }
     ensures small { IfOk result (λ samples. All (λ x. x ≤ greatest_sample) samples.items) }
 {
     observation.lies_in_range();

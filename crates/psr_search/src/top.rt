@@ -21,8 +21,13 @@ pub fn run<I: Inputs, K: Sink, E: Sink>(
     notes: &mut E,
 ) -> u8
     ensures { Outcome (map string_bytes words.now)
-        (record { told = I.told inputs.old; faults_before = I.faults inputs.old; faults_after = I.faults inputs.new })
-        (I.is_calm inputs.old) (K.seen out.old) (K.seen out.new) (E.seen notes.old) (E.seen notes.new) result }
+        (record {
+          told = I.told inputs.old;
+          faults_before = I.faults inputs.old;
+          faults_after = I.faults inputs.new;
+        })
+        (I.is_calm inputs.old) (K.seen out.old) (K.seen out.new)
+        (E.seen notes.old) (E.seen notes.new) result }
 {
     match search(alloc, words, inputs, out) {
         Ok(()) => 0,
@@ -41,7 +46,11 @@ fn search<I: Inputs, K: Sink>(
     out: &mut K,
 ) -> Result<(), Stop>
     ensures { Ends (map string_bytes words.now)
-        (record { told = I.told inputs.old; faults_before = I.faults inputs.old; faults_after = I.faults inputs.new })
+        (record {
+          told = I.told inputs.old;
+          faults_before = I.faults inputs.old;
+          faults_after = I.faults inputs.new;
+        })
         (I.is_calm inputs.old) (K.seen out.old) (K.seen out.new) result }
 {
     let words = match Words::of(words) {

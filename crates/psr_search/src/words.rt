@@ -24,7 +24,8 @@ impl<'a> Words<'a> {
     /// Reads the words, of which the first is the program's name.
     pub(crate) fn of(words: &'a [String]) -> Option<Words<'a>>
         ensures some { IfSome result (λ w. Asks (map string_bytes words.now) w.search w.name.now) }
-        ensures none { IfNone result ((s : Search) (name : List ℕ) → ¬ Asks (map string_bytes words.now) s name) }
+        ensures none { IfNone result ((s : Search) (name : List ℕ)
+            → ¬ Asks (map string_bytes words.now) s name) }
     {
         if words.len() != 12 {
             return None;

@@ -1,25 +1,27 @@
-use Rattle.std.proofs.Common.{◌≡◌, ℕ, List, Option, Some, Ok, length, drop, sym, ◌∙◌, ap, subst}
+use Rattle.std.proofs.Common.{◌≡◌, ℕ, List, Option, Some, drop, sym, ◌∙◌, ap, subst}
 use Rattle.dada_model.specs.Fields.{header_of}
 use Rattle.dada_header.specs.Faults.{Explains}
 use Rattle.dada_header.specs.declared.faults.HeaderFault.{HeaderFault}
 use Rattle.dada_header.specs.declared.faults.HeaderFault.TheVariants as header
-use Rattle.psr_base.specs.Told.{left_to_read}
 use Rattle.psr_search.specs.File.{IsFrontRead}
 use Rattle.psr_search.specs.Stop.{IsHeaderStop, StopsAt}
 use Rattle.psr_search.specs.declared.stop.Stop.{Stop}
-use Rattle.psr_search.specs.declared.stop.Stop.TheVariants.{Header, Memory}
-use Rattle.psr_search.specs.declared.stop.HeaderCause.TheVariants.{Short, NotText, BadSize}
 use Rattle.psr_search.proofs.opening.header_of_open.Goals as goal
 
 -- the header of the bytes is that of the file
-same_header : (bytes front file : List ℕ) (left : Option (List ℕ)) → bytes ≡ front → IsFrontRead front left file → header_of file ≡ header_of bytes
+same_header : (bytes front file : List ℕ) (left : Option (List ℕ)) → bytes ≡ front → IsFrontRead front left file →
+    header_of file ≡ header_of bytes
 same_header bytes front file left same is = sym is.header ∙ ap header_of (sym same)
 
 -- a fault of the bytes is one of the file
-stops : (bytes file : List ℕ) (fault : HeaderFault) (stop : Stop) → header_of file ≡ header_of bytes → Explains bytes fault → IsHeaderStop fault stop → StopsAt file stop
-stops bytes file (header.Short had) stop same refusal is = let P : Stop → Type 0 = λ s. StopsAt file s in subst P (sym is) (same ∙ refusal)
-stops bytes file (header.NotText place) stop same refusal is = let P : Stop → Type 0 = λ s. StopsAt file s in subst P (sym is) (same ∙ refusal)
-stops bytes file header.BadSize stop same refusal is = let P : Stop → Type 0 = λ s. StopsAt file s in subst P (sym is) (same ∙ refusal)
+stops : (bytes file : List ℕ) (fault : HeaderFault) (stop : Stop) → header_of file ≡ header_of bytes →
+    Explains bytes fault → IsHeaderStop fault stop → StopsAt file stop
+stops bytes file (header.Short had) stop same refusal is = let P : Stop →
+    Type 0 = λ s. StopsAt file s in subst P (sym is) (same ∙ refusal)
+stops bytes file (header.NotText place) stop same refusal is = let P : Stop →
+    Type 0 = λ s. StopsAt file s in subst P (sym is) (same ∙ refusal)
+stops bytes file header.BadSize stop same refusal is = let P : Stop →
+    Type 0 = λ s. StopsAt file s in subst P (sym is) (same ∙ refusal)
 stops bytes file header.Memory stop same refusal is = let P : Stop → Type 0 = λ s. StopsAt file s in subst P (sym is) tt
 
 pub returns-in-Ok-read-clause-header : goal.returns-in-Ok-read-clause-header
@@ -30,10 +32,13 @@ returns-in-Ok-read-clause-header g c = λ file known.
 pub returns-in-Ok-read-clause-left : goal.returns-in-Ok-read-clause-left
 returns-in-Ok-read-clause-left g c = λ file known.
     let is = c.in-Ok.ensures.front file known in
-    let has = same_header c.as_slice.result.now c.in-Ok.front.items file _ c.as_slice.ensures.value is ∙ c.in-Ok-read.ensures.ok in
+    let has = same_header c.as_slice.result.now c.in-Ok.front.items file _ c.as_slice.ensures.value is
+    ∙ c.in-Ok-read.ensures.ok in
     is.rest ∙ ap (λ (n : ℕ). Some (drop n file)) (is.size c.in-Ok-read.header has)
 
 pub returns-clause-stopped : goal.returns-clause-stopped
 returns-clause-stopped g c = λ file known.
     let is = c.in-Ok.ensures.front file known in
-    stops c.as_slice.result.now file c.in-Err.fault c.of_header.result (same_header c.as_slice.result.now c.in-Ok.front.items file _ c.as_slice.ensures.value is) c.in-Err.ensures.fault c.of_header.ensures
+    stops c.as_slice.result.now file c.in-Err.fault c.of_header.result
+    (same_header c.as_slice.result.now c.in-Ok.front.items file _ c.as_slice.ensures.value is)
+    c.in-Err.ensures.fault c.of_header.ensures

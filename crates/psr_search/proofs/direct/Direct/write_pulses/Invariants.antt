@@ -6,7 +6,8 @@ use Rattle.psr_search.proofs.direct.Direct.write_pulses.Given as goal
 -- the pulses that end at the first spectra
 abbrev pub invariant-loop-u : goal.invariant-loop-u
 invariant-loop-u g l = record {
-  wrote : WroteAll (first_pieces (λ u. lines_of l.self (found_ending l.self u (vec_len l.self.tracks))) l.u) (g.K.Sink.seen l.fn.out) (g.K.Sink.seen l.out);
+  wrote : WroteAll (first_pieces (λ u. lines_of l.self (found_ending l.self u (vec_len l.self.tracks))) l.u)
+      (g.K.Sink.seen l.fn.out) (g.K.Sink.seen l.out);
   number : l.pulses ≡ length (found l.self l.u);
   bound : l.pulses ≤ 8193 * l.u;
 }

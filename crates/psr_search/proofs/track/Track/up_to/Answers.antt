@@ -11,7 +11,8 @@ use Rattle.psr_search.proofs.track.Track.up_to.Goals as goal
 pub edge_delays-requires-clause-edges : goal.edge_delays-requires-clause-edges
 edge_delays-requires-clause-edges c =
     let P : ℕ → Type 0 = λ n. AreEdges n c.edges.result.now in
-    subst P (sym (channels_of-edges c.args.observation.now.channels c.edges.result.now c.edges.ensures.falls)) c.edges.ensures.falls
+    subst P (sym (channels_of-edges c.args.observation.now.channels c.edges.result.now c.edges.ensures.falls))
+    c.edges.ensures.falls
 
 pub loop-d-preserved : goal.loop-d-preserved
 loop-d-preserved c =
@@ -24,7 +25,8 @@ loop-d-preserved c =
     let track : Track = record { delays = c.in_ok-delays.delays; dm = c.dm-dm.result } in
     let P : ℕ → Type 0 = λ n. AreDelays n delays in
     let is : IsTrack o d track = record {
-      path = made.value ∙ ap (λ n. path c.edges.result.now n d) channels ∙ ap (λ es. path es o.channels d) c.edges.ensures.value;
+      path = made.value ∙ ap (λ n. path c.edges.result.now n d) channels
+          ∙ ap (λ es. path es o.channels d) c.edges.ensures.value;
       last = ap (λ n. slice_index delays n) (sym channels) ∙ made.path.last;
       delays = subst P channels made.delays;
       dm = c.dm-dm.ensures;
@@ -35,5 +37,6 @@ loop-d-preserved c =
     let pushed = c.in-Ok.ensures.items in
     record {
       count = ap length pushed ∙ count ∙ ap (λ n. n + 1) before.count;
-      tracks = subst R (sym pushed) (tracks_more o c.loop-d.tracks.items track before.tracks (subst Q (sym before.count) is));
+      tracks = subst R (sym pushed) (tracks_more o c.loop-d.tracks.items track before.tracks
+          (subst Q (sym before.count) is));
     }
