@@ -1,0 +1,7 @@
+pub mod Order
+pub mod First
+pub mod Members
+pub mod Merging
+pub mod Passing
+pub mod Places
+pub mod Thousandths

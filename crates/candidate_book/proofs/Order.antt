@@ -1,0 +1,67 @@
+-- The order of candidates is strict, and candidates that stand in neither order share a delay.
+use Rattle.std.proofs.Common.{◌≡◌, ℕ, ◌<◌, ◌⊎◌, inl, inr, ◌∙◌, arith}
+use Rattle.std.proofs.lemmas.Bool.{cases_lt}
+use Rattle.search_model.specs.declared.candidate.Candidate.{Candidate}
+use Rattle.search_model.specs.declared.candidate.Candidate.TheVariants.{Pulse, Fold}
+use Rattle.search_model.specs.Candidates.{delay_of}
+use Rattle.search_model.specs.Order.{IsBelow, Precedes}
+
+below_follows : (a b c : ℕ) (P Q R : Type 0) → (P → Q → R) → IsBelow a b P → IsBelow b c Q → IsBelow a c R
+below_follows a b c P Q R next (inl h) (inl k) = inl (omega arith)
+below_follows a b c P Q R next (inl h) (inr (e, q)) = inl (omega arith)
+below_follows a b c P Q R next (inr (e, p)) (inl k) = inl (omega arith)
+below_follows a b c P Q R next (inr (e, p)) (inr (g, q)) = inr (e ∙ g, next p q)
+
+below_never : (a : ℕ) (P : Type 0) → (P → ⊥) → IsBelow a a P → ⊥
+below_never a P none (inl h) = absurd (omega arith)
+below_never a P none (inr (e, p)) = none p
+
+less_follows : (a b c : ℕ) → a < b → b < c → a < c
+less_follows a b c h k = omega arith
+
+less_never : (a : ℕ) → a < a → ⊥
+less_never a h = absurd (omega arith)
+
+pub precedes_never : (x : Candidate) → Precedes x x → ⊥
+precedes_never (Pulse end delay width sum) h =
+    below_never end _ (below_never delay _ (less_never width)) h
+precedes_never (Fold delay period halvings trial phase sum) h =
+    below_never delay _ (below_never period _ (below_never trial _ (less_never phase))) h
+
+pub precedes_follows : (x y z : Candidate) → Precedes x y → Precedes y z → Precedes x z
+precedes_follows (Pulse e1 d1 w1 s1) (Pulse e2 d2 w2 s2) (Pulse e3 d3 w3 s3) h k =
+    below_follows e1 e2 e3 _ _ _ (below_follows d1 d2 d3 _ _ _ (less_follows w1 w2 w3)) h k
+precedes_follows (Pulse e1 d1 w1 s1) (Pulse e2 d2 w2 s2) (Fold d3 p3 m3 j3 f3 s3) h k = tt
+precedes_follows (Pulse e1 d1 w1 s1) (Fold d2 p2 m2 j2 f2 s2) (Pulse e3 d3 w3 s3) h k = absurd k
+precedes_follows (Pulse e1 d1 w1 s1) (Fold d2 p2 m2 j2 f2 s2) (Fold d3 p3 m3 j3 f3 s3) h k = tt
+precedes_follows (Fold d1 p1 m1 j1 f1 s1) (Pulse e2 d2 w2 s2) z h k = absurd h
+precedes_follows (Fold d1 p1 m1 j1 f1 s1) (Fold d2 p2 m2 j2 f2 s2) (Pulse e3 d3 w3 s3) h k = absurd k
+precedes_follows (Fold d1 p1 m1 j1 f1 s1) (Fold d2 p2 m2 j2 f2 s2) (Fold d3 p3 m3 j3 f3 s3) h k =
+    below_follows d1 d2 d3 _ _ _
+    (below_follows p1 p2 p3 _ _ _ (below_follows j1 j2 j3 _ _ _ (less_follows f1 f2 f3))) h k
+
+-- of two numbers that aren't compared by what is next, one is below or they are equal
+either : (a b : ℕ) (P Q : Type 0) → (IsBelow b a Q → ⊥) → IsBelow a b P ⊎ (a ≡ b)
+either a b P Q none = elim (cases_lt a b) [
+  | inl below ↦ inl (inl below)
+  | inr at ↦ elim (cases_lt b a) [
+    | inl above ↦ absurd (none (inl above))
+    | inr more ↦ inr (omega arith)
+  ]
+]
+
+ends_equal : (e e' d d' : ℕ) (P Q : Type 0) → (IsBelow e' e (IsBelow d' d Q) → ⊥) →
+    IsBelow e e' (IsBelow d d' P) ⊎ (d ≡ d')
+ends_equal e e' d d' P Q none = elim (either e e' (IsBelow d d' P) (IsBelow d' d Q) none) [
+  | inl below ↦ inl below
+  | inr same ↦ elim (either d d' P Q (λ q. none (inr (omega arith, q)))) [
+    | inl below ↦ inl (inr (same, below))
+    | inr delays ↦ inr delays
+  ]
+]
+
+pub precedes_or_shares : (x y : Candidate) → (Precedes y x → ⊥) → Precedes x y ⊎ (delay_of x ≡ delay_of y)
+precedes_or_shares (Pulse e1 d1 w1 s1) (Pulse e2 d2 w2 s2) none = ends_equal e1 e2 d1 d2 (w1 < w2) (w2 < w1) none
+precedes_or_shares (Pulse e1 d1 w1 s1) (Fold d2 p2 m2 j2 f2 s2) none = inl tt
+precedes_or_shares (Fold d1 p1 m1 j1 f1 s1) (Pulse e2 d2 w2 s2) none = absurd (none tt)
+precedes_or_shares (Fold d1 p1 m1 j1 f1 s1) (Fold d2 p2 m2 j2 f2 s2) none = either d1 d2 _ _ none

@@ -1,0 +1,5 @@
+pub mod Book
+pub mod Conditions
+pub mod First
+pub mod Lines
+pub mod Merged

@@ -1,0 +1,70 @@
+// A book of candidates.
+ghost use Rattle.std.specs.Prelude.{◌≡◌, ◌+◌, ◌<◌, ◌≤◌, ◌^◌, ◌∷◌, [], ◌++◌, List, IfOk, length};
+ghost use Rattle.search_model.specs.declared.candidate.Candidate.{Candidate};
+ghost use Rattle.candidate_book.specs.Book.{book_of};
+
+use psr_base::Memory;
+use search_model::Candidate;
+use std::alloc::Global;
+use std::marker::Model;
+
+/// The first candidates of those that were added, up to a limit, and how many were added.
+#[derive(Drop)]
+pub struct Book {
+    first: Vec<Candidate>,
+    limit: u32,
+    added: u64,
+}
+
+impl Model for Book {
+    ghost use Rattle.std.specs.Prelude.{◌<◌, ◌≤◌, ◌^◌, vec_len, vec_capacity};
+    ghost use Rattle.candidate_book.specs.Book.{Booked};
+
+    ghost Value = { Booked };
+
+    ghost view = { λ book. record { limit = book.limit; kept = book.first.items; count = book.added } };
+
+    ghost invariant = { λ book. (vec_len book.first ≤ book.limit) × (book.limit ≤ vec_capacity book.first)
+        × (book.limit < 2 ^ 32) };
+}
+
+impl Book {
+    /// An empty book, with memory for `limit` candidates.
+    pub fn open(alloc: Global, limit: u32) -> Result<Book, Memory>
+        ensures { IfOk result (λ book. book ≡ book_of limit []) }
+    {
+        Ok(Book {
+            first: Vec::with_capacity(alloc, limit as usize)?,
+            limit,
+            added: 0,
+        })
+    }
+
+    /// Counts a candidate, and keeps it where there are less than the limit.
+    pub fn add(&mut self, candidate: Candidate)
+        requires { self.old.count < 2 ^ 63 }
+        ensures { let limit = self.old.limit in (list : List Candidate) → self.old ≡ book_of limit list
+            → self.new ≡ book_of limit (list ++ candidate ∷ []) }
+    {
+        self.added += 1;
+        if self.first.len() < self.limit as usize {
+            // There is room for `limit` candidates.
+            let _kept = self.first.push(candidate);
+        }
+    }
+
+    /// How many candidates were added.
+    pub fn count(&self) -> u64
+        ensures { result ≡ self.now.count }
+    {
+        self.added
+    }
+
+    /// The candidates that are kept, in the order in which they were added.
+    pub fn kept(&self) -> &[Candidate]
+        ensures value { result.now ≡ self.now.kept }
+        ensures bound { length result.now < 2 ^ 32 }
+    {
+        self.first.as_slice()
+    }
+}

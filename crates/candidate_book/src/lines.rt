@@ -1,0 +1,114 @@
+// The lines of the candidate text.
+ghost use Rattle.std.specs.Prelude.{◌≡◌, ◌+◌, ◌*◌, ◌^◌, ◌≤◌, ◌<◌, ◌++◌, codes, decimal, length};
+ghost use Rattle.search_model.specs.CandidateText.{thousandths, candidate_line as line_of, end_line as end_line_of};
+ghost use Rattle.search_model.specs.Candidates.{cells_of, plain_cells};
+ghost use Rattle.candidate_book.specs.Conditions.{IsSearched};
+ghost use Rattle.candidate_book.specs.Lines.{labels_of};
+
+use obs_plan::Observation;
+use search_model::Candidate;
+use text_line::Line;
+
+/// The line of a candidate.
+pub(crate) fn candidate_line(obs: &Observation, candidate: &Candidate) -> Line
+    requires { IsSearched candidate.now }
+    ensures text { result ≡ line_of (labels_of obs.now) candidate.now }
+    ensures bound { length result ≤ 256 }
+{
+    let cells = cells(obs.channels(), candidate);
+    let dm = obs.dm(candidate.delay());
+    let mut line = Line::new();
+    match *candidate {
+        Candidate::Pulse {
+            end,
+            delay,
+            width,
+            sum,
+        } => {
+            line.push_str("PULSE ");
+            push_word(&mut line, end);
+            push_word(&mut line, u64::from(delay));
+            push_thousandths(&mut line, dm);
+            push_word(&mut line, u64::from(width));
+            push_last_words(&mut line, u64::from(sum), cells);
+        }
+        Candidate::Fold {
+            delay,
+            period,
+            halvings,
+            trial,
+            phase,
+            sum,
+        } => {
+            line.push_str("FOLD ");
+            push_word(&mut line, u64::from(delay));
+            push_thousandths(&mut line, dm);
+            push_word(&mut line, u64::from(period));
+            push_word(&mut line, 1 << halvings);
+            push_word(&mut line, u64::from(trial));
+            push_word(&mut line, u64::from(phase));
+            push_last_words(&mut line, u64::from(sum), cells);
+        }
+    }
+    line
+}
+
+// How many cells a candidate adds up over so many channels.
+fn cells(channels: u32, candidate: &Candidate) -> u64
+    requires { IsSearched candidate.now }
+    ensures { result ≡ cells_of (plain_cells channels) candidate.now }
+{
+    let cells = u64::from(channels) + u64::from(candidate.delay());
+    match *candidate {
+        Candidate::Pulse { width, .. } => u64::from(width) * cells,
+        Candidate::Fold { halvings, .. } => (1 << halvings) * cells,
+    }
+}
+
+/// The last line: how many pulses and folds there are, and how many spectra were searched.
+pub(crate) fn end_line(pulses: u64, folds: u64, spectra: u64) -> Line
+    ensures text { result ≡ end_line_of pulses folds spectra }
+    ensures bound { length result ≤ 256 }
+{
+    let mut line = Line::new();
+    line.push_str("END ");
+    push_word(&mut line, pulses);
+    push_last_words(&mut line, folds, spectra);
+    line
+}
+
+// Appends a number and a space.
+fn push_word(line: &mut Line, number: u64)
+    requires { length line.old + 21 ≤ 256 }
+    ensures text { line.new ≡ line.old ++ decimal number ++ codes " " }
+    ensures bound { length line.new ≤ length line.old + 21 }
+{
+    line.push_number(number);
+    line.push_str(" ");
+}
+
+// Appends the last two numbers of a line, and its end.
+fn push_last_words(line: &mut Line, first: u64, second: u64)
+    requires { length line.old + 42 ≤ 256 }
+    ensures text { line.new ≡ line.old ++ decimal first ++ codes " " ++ decimal second ++ codes "\n" }
+    ensures bound { length line.new ≤ length line.old + 42 }
+{
+    push_word(line, first);
+    line.push_number(second);
+    line.push_str("\n");
+}
+
+// Appends a number of thousandths with a point and three decimals, and a space.
+fn push_thousandths(line: &mut Line, number: u64)
+    requires { length line.old + 82 ≤ 256 }
+    ensures text { line.new ≡ line.old ++ thousandths number ++ codes " " }
+    ensures bound { length line.new ≤ length line.old + 82 }
+{
+    let decimals = number % 1000;
+    line.push_number(number / 1000);
+    line.push_str(".");
+    line.push_number(decimals / 100);
+    line.push_number(decimals / 10 % 10);
+    line.push_number(decimals % 10);
+    line.push_str(" ");
+}

@@ -1,0 +1,103 @@
+// The text of the candidates of several books.
+ghost use Rattle.std.specs.Prelude.{◌≡◌, ◌+◌, ◌<◌, ◌^◌, [], List, if◌then◌else◌};
+ghost use Rattle.psr_base.specs.Written.{SinkSeen};
+ghost use Rattle.search_model.specs.declared.candidate.Candidate.{Candidate};
+ghost use Rattle.search_model.specs.CandidateText.{is_pulse, is_fold};
+ghost use Rattle.search_model.specs.Order.{IsMergeOf};
+ghost use Rattle.candidate_book.specs.Conditions.{kept_lists, CanBeMerged};
+ghost use Rattle.candidate_book.specs.Lines.{labels_of};
+ghost use Rattle.candidate_book.specs.Merged.{Listed, WroteText};
+
+use crate::book::Book;
+use crate::lines::{candidate_line, end_line};
+use crate::merge::{MOST_BOOKS, advance, first};
+use crate::page::Page;
+use obs_plan::Observation;
+use psr_base::{Failed, Sink};
+// A law: it does nothing when it runs, and the proofs use what it ensures.
+use psr_base::pieces_join;
+use search_model::Candidate;
+use thiserror::Error;
+
+/// How many candidates there are of each kind.
+#[derive(Clone, Copy, Debug, PartialEq, Eq)]
+pub struct Totals {
+    pub pulses: u64,
+    pub folds: u64,
+}
+
+impl Totals {
+    // Counts a candidate.
+    fn count(&mut self, candidate: &Candidate)
+        requires { self.old.pulses + self.old.folds < 2 ^ 63 }
+        ensures pulses { self.new.pulses ≡ self.old.pulses + (if is_pulse candidate.now then 1 else 0) }
+        ensures folds { self.new.folds ≡ self.old.folds + (if is_fold candidate.now then 1 else 0) }
+    {
+        match candidate {
+            Candidate::Pulse { .. } => self.pulses += 1,
+            Candidate::Fold { .. } => self.folds += 1,
+        }
+    }
+}
+
+/// Why a text wasn't written whole.
+#[derive(Clone, Copy, Debug, PartialEq, Eq, Error)]
+pub enum SinkStop {
+    /// The sink failed.
+    #[error("the sink failed")]
+    Fault,
+}
+
+impl From<Failed> for SinkStop {
+    fn from(_failed: Failed) -> SinkStop {
+        SinkStop::Fault
+    }
+}
+
+// Passes the lines of all candidates that the books keep on to the page, in the order of candidates.
+fn pass_candidates<K: Sink>(
+    books: &[Option<Book>],
+    obs: &Observation,
+    page: &mut Page,
+    sink: &mut K,
+) -> Result<Totals, Failed>
+    requires books { CanBeMerged books.now }
+    requires page { page.old ≡ [] }
+    ensures { (merged : List Candidate) → IsMergeOf (kept_lists books.now) merged
+        → Listed (labels_of obs.now) merged page.new (K.seen sink.old) (K.seen sink.new) result }
+{
+    pieces_join();
+    let mut places = [0; MOST_BOOKS];
+    let mut totals = Totals {
+        pulses: 0,
+        folds: 0,
+    };
+    while let Some(next) = first(books, &places) {
+        advance(&mut places, next.book);
+        totals.count(&next.candidate);
+        page.push(candidate_line(obs, &next.candidate).as_bytes(), sink)?;
+    }
+    Ok(totals)
+}
+
+/// Writes the lines of the candidates that at most 7 books keep, in the order of candidates, and the END line: how many
+/// pulses and folds there are, which it answers, and how many spectra were searched. After a fault the sink has taken
+/// the front of this text.
+pub fn write_merged<K: Sink>(
+    books: &[Option<Book>],
+    obs: &Observation,
+    spectra: u64,
+    sink: &mut K,
+) -> Result<Totals, SinkStop>
+    requires { CanBeMerged books.now }
+    ensures { (merged : List Candidate) → IsMergeOf (kept_lists books.now) merged
+        → WroteText (labels_of obs.now) spectra merged (K.seen sink.old) (K.seen sink.new) result }
+{
+    pieces_join();
+    let mut page = Page::new();
+    let totals = pass_candidates(books, obs, &mut page, sink)?;
+    let line = end_line(totals.pulses, totals.folds, spectra);
+    page.push(line.as_bytes(), sink)?;
+    page.flush(sink)?;
+    Ok(totals)
+}

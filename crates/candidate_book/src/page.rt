@@ -1,0 +1,61 @@
+// Lines that are written together.
+ghost use Rattle.std.specs.Prelude.{◌≡◌, ℕ, ◌≤◌, [], ◌++◌, List, OnOk, length};
+ghost use Rattle.psr_base.specs.Written.{SinkSeen, Wrote};
+ghost use Rattle.candidate_book.specs.Lines.{Pending, Passed};
+
+// A law: it does nothing when it runs, and the proofs use what it ensures.
+use arrayvec::ArrayVec;
+use psr_base::{Failed, Sink, pieces_join, write_all};
+use std::marker::Model;
+
+// The most bytes that wait.
+const PAGE: usize = 4096;
+
+/// Lines that wait to be written together.
+#[derive(Drop)]
+pub(crate) struct Page {
+    bytes: ArrayVec<u8, PAGE>,
+}
+
+impl Model for Page {
+    ghost use Rattle.std.specs.Prelude.{ℕ, List};
+
+    ghost Value = { List ℕ };
+
+    ghost view = { λ page. page.bytes.items };
+}
+
+impl Page {
+    /// No line waits.
+    pub(crate) fn new() -> Page
+        ensures { result ≡ [] }
+    {
+        Page {
+            bytes: ArrayVec::new(),
+        }
+    }
+
+    /// Passes a line on: it waits behind the others, which are written first where they leave it no room.
+    pub(crate) fn push<K: Sink>(&mut self, line: &[u8], sink: &mut K) -> Result<(), Failed>
+        requires { length line.now ≤ 256 }
+        ensures { (text : List ℕ) (first : SinkSeen) → Pending text self.old first (K.seen sink.old)
+            → Passed (text ++ line.now) self.new first (K.seen sink.new) result }
+    {
+        pieces_join();
+        if self.bytes.remaining_capacity() < line.len() {
+            self.flush(sink)?;
+        }
+        let _fits = self.bytes.try_extend_from_slice(line);
+        Ok(())
+    }
+
+    /// Writes the lines that wait.
+    pub(crate) fn flush<K: Sink>(&mut self, sink: &mut K) -> Result<(), Failed>
+        ensures wrote { Wrote self.old (K.seen sink.old) (K.seen sink.new) result }
+        ensures empty { OnOk result (self.new ≡ []) }
+    {
+        write_all(sink, self.bytes.as_slice())?;
+        self.bytes.clear();
+        Ok(())
+    }
+}
