@@ -1,4 +1,5 @@
 pub mod Order
+pub mod Existence
 pub mod First
 pub mod Members
 pub mod Merging

@@ -200,9 +200,10 @@ module _ (books : List (Option Booked)) where
           let is = one.1 in
           let from = drop_next (kept_at books k) (get_or places k 0) next is in
           let rises = pairs_drop Precedes (get_or places k 0) (kept_at books k) (book_rises can k within) in
-          let before : Precedes c next = elim (precedes_or_shares c next (first.first k within next is)) [
+          let before : Precedes c next = elim (precedes_or_shares c next) [
             | inl precedes ↦ precedes
-            | inr same ↦ absurd
+            | inr (inl after) ↦ absurd (first.first k within next is after)
+            | inr (inr same) ↦ absurd
                 (apart_at can i k first.within within other c next
                 (next_member (kept_at books i) (get_or places i 0) c first.is_next)
                 (next_member (kept_at books k) (get_or places k 0) next is) same)

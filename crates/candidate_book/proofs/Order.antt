@@ -1,4 +1,4 @@
--- The order of candidates is strict, and candidates that stand in neither order share a delay.
+-- The order of candidates is strict, and of two candidates one precedes the other or they share a delay.
 use Rattle.std.proofs.Common.{◌≡◌, ℕ, ◌<◌, ◌⊎◌, inl, inr, ◌∙◌, arith}
 use Rattle.std.proofs.lemmas.Bool.{cases_lt}
 use Rattle.search_model.specs.declared.candidate.Candidate.{Candidate}
@@ -40,28 +40,32 @@ precedes_follows (Fold d1 p1 m1 j1 f1 s1) (Fold d2 p2 m2 j2 f2 s2) (Fold d3 p3 m
     below_follows d1 d2 d3 _ _ _
     (below_follows p1 p2 p3 _ _ _ (below_follows j1 j2 j3 _ _ _ (less_follows f1 f2 f3))) h k
 
--- of two numbers that aren't compared by what is next, one is below or they are equal
-either : (a b : ℕ) (P Q : Type 0) → (IsBelow b a Q → ⊥) → IsBelow a b P ⊎ (a ≡ b)
-either a b P Q none = elim (cases_lt a b) [
+-- of two numbers, one is below the other or they are equal
+compare : (a b : ℕ) (P Q : Type 0) → IsBelow a b P ⊎ (IsBelow b a Q ⊎ (a ≡ b))
+compare a b P Q = elim (cases_lt a b) [
   | inl below ↦ inl (inl below)
   | inr at ↦ elim (cases_lt b a) [
-    | inl above ↦ absurd (none (inl above))
-    | inr more ↦ inr (omega arith)
+    | inl above ↦ inr (inl (inl above))
+    | inr more ↦ inr (inr (omega arith))
   ]
 ]
 
-ends_equal : (e e' d d' : ℕ) (P Q : Type 0) → (IsBelow e' e (IsBelow d' d Q) → ⊥) →
-    IsBelow e e' (IsBelow d d' P) ⊎ (d ≡ d')
-ends_equal e e' d d' P Q none = elim (either e e' (IsBelow d d' P) (IsBelow d' d Q) none) [
+-- the same of two pairs of numbers, which may have equal second ones
+compare_pairs : (a b c d : ℕ) (P Q : Type 0) →
+    IsBelow a b (IsBelow c d P) ⊎ (IsBelow b a (IsBelow d c Q) ⊎ (c ≡ d))
+compare_pairs a b c d P Q = elim (compare a b (IsBelow c d P) (IsBelow d c Q)) [
   | inl below ↦ inl below
-  | inr same ↦ elim (either d d' P Q (λ q. none (inr (omega arith, q)))) [
+  | inr (inl above) ↦ inr (inl above)
+  | inr (inr same) ↦ elim (compare c d P Q) [
     | inl below ↦ inl (inr (same, below))
-    | inr delays ↦ inr delays
+    | inr (inl above) ↦ inr (inl (inr (omega arith, above)))
+    | inr (inr equal) ↦ inr (inr equal)
   ]
 ]
 
-pub precedes_or_shares : (x y : Candidate) → (Precedes y x → ⊥) → Precedes x y ⊎ (delay_of x ≡ delay_of y)
-precedes_or_shares (Pulse e1 d1 w1 s1) (Pulse e2 d2 w2 s2) none = ends_equal e1 e2 d1 d2 (w1 < w2) (w2 < w1) none
-precedes_or_shares (Pulse e1 d1 w1 s1) (Fold d2 p2 m2 j2 f2 s2) none = inl tt
-precedes_or_shares (Fold d1 p1 m1 j1 f1 s1) (Pulse e2 d2 w2 s2) none = absurd (none tt)
-precedes_or_shares (Fold d1 p1 m1 j1 f1 s1) (Fold d2 p2 m2 j2 f2 s2) none = either d1 d2 _ _ none
+-- one of two candidates precedes the other, or they share a delay
+pub precedes_or_shares : (x y : Candidate) → Precedes x y ⊎ (Precedes y x ⊎ (delay_of x ≡ delay_of y))
+precedes_or_shares (Pulse e1 d1 w1 s1) (Pulse e2 d2 w2 s2) = compare_pairs e1 e2 d1 d2 (w1 < w2) (w2 < w1)
+precedes_or_shares (Pulse e1 d1 w1 s1) (Fold d2 p2 m2 j2 f2 s2) = inl tt
+precedes_or_shares (Fold d1 p1 m1 j1 f1 s1) (Pulse e2 d2 w2 s2) = inr (inl tt)
+precedes_or_shares (Fold d1 p1 m1 j1 f1 s1) (Fold d2 p2 m2 j2 f2 s2) = compare d1 d2 _ _

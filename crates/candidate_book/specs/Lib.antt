@@ -1,5 +1,6 @@
 pub mod Book
 pub mod Conditions
 pub mod First
+pub mod Laws
 pub mod Lines
 pub mod Merged

@@ -3,11 +3,13 @@
 #![tactic(auto)]
 
 mod book;
+mod laws;
 mod lines;
 mod merge;
 mod merged;
 mod page;
 
 pub use book::Book;
+pub use laws::{books_have_a_merge, order_is_strict};
 pub use merged::{SinkStop, Totals, write_merged};
 pub use search_model::Candidate;
