@@ -1,5 +1,5 @@
 -- Books that can be merged have a merged list: each candidate is put into the others in its place.
-use Rattle.std.proofs.Common.{◌≡◌, ℕ, ◌<◌, ◌⊎◌, inl, inr, ◌↔◌, List, [], ◌∷◌, length, get_or, zero, suc, refl, subst, sym, ◌∙◌, arith}
+use Rattle.std.proofs.Common.{◌≡◌, ◌⊎◌, inl, inr, ◌↔◌, List, [], ◌∷◌, get_or, zero, suc, refl, subst, sym, arith}
 use Rattle.std.specs.Prelude.{All, AllPairs, Any, Contains}
 use Rattle.std.proofs.lemmas.List.Elements.{All-head, All-tail, Contains-get_or}
 use Rattle.std.proofs.lemmas.List.Kept.{AllPairs-cons}
@@ -27,24 +27,30 @@ insert : (x : Candidate) (xs : List Candidate) → IsRising xs → ((y : Candida
 insert x [] rises compares = record {
   list = x ∷ [];
   rises = λ i j d below small. absurd (omega arith);
-  members = λ c. (member_cases x [] c, λ is. elim is [
-    | inl same ↦ subst (Contains (x ∷ [])) same (member_head x [])
-    | inr none ↦ absurd (no_member c none)
-  ]);
+  members = λ c. (
+    member_cases x [] c,
+    λ is. elim is [
+      | inl same ↦ subst (Contains (x ∷ [])) same (member_head x [])
+      | inr none ↦ absurd (no_member c none)
+    ],
+  );
 }
 insert x (y ∷ ys) rises compares = elim (compares y (member_head y ys)) [
   | inl before ↦ record {
-      list = x ∷ y ∷ ys;
-      rises = AllPairs-cons Precedes x (y ∷ ys)
-          (all_members (Precedes x) (y ∷ ys) (λ z h. elim (member_cases y ys z h) [
-            | inl same ↦ subst (Precedes x) same before
-            | inr tail ↦ precedes_follows x y z before (pairs_head Precedes y ys rises z tail)
-          ])) rises;
-      members = λ c. (member_cases x (y ∷ ys) c, λ is. elim is [
+    list = x ∷ y ∷ ys;
+    rises = AllPairs-cons Precedes x (y ∷ ys)
+        (all_members (Precedes x) (y ∷ ys) (λ z h. elim (member_cases y ys z h) [
+          | inl same ↦ subst (Precedes x) same before
+          | inr tail ↦ precedes_follows x y z before (pairs_head Precedes y ys rises z tail)
+        ])) rises;
+    members = λ c. (
+      member_cases x (y ∷ ys) c,
+      λ is. elim is [
         | inl same ↦ subst (Contains (x ∷ y ∷ ys)) same (member_head x (y ∷ ys))
         | inr tail ↦ member_tail x (y ∷ ys) c tail
-      ]);
-    }
+      ],
+    );
+  }
   | inr after ↦
       let more = insert x ys (pairs_tail Precedes y ys rises) (λ z h. compares z (member_tail y ys z h)) in
       record {
@@ -79,10 +85,13 @@ insert_all : (xs ys : List Candidate) → IsRising xs → IsRising ys →
 insert_all [] ys first second compares = record {
   list = ys;
   rises = second;
-  members = λ c. (λ h. inr h, λ is. elim is [
-    | inl none ↦ absurd (no_member c none)
-    | inr h ↦ h
-  ]);
+  members = λ c. (
+    λ h. inr h,
+    λ is. elim is [
+      | inl none ↦ absurd (no_member c none)
+      | inr h ↦ h
+    ],
+  );
 }
 insert_all (x ∷ xs) ys first second compares =
     let more = insert_all xs ys (pairs_tail Precedes x xs first) second
@@ -124,11 +133,13 @@ any_cases xs lists c (suc k, list, small, is, h) = inr (k, list, omega arith, is
 
 pub lists_merge : (lists : List (List Candidate)) → All IsRising lists → AllPairs ShareNoDelay lists →
     (merged : List Candidate) × IsMergeOf lists merged
-lists_merge [] rise apart =
-    ([], record {
-      rises = λ i j d below small. absurd (omega arith);
-      members = λ c. (λ h. absurd (no_member c h), λ (k, list, small, is, h). absurd (omega arith));
-    })
+lists_merge [] rise apart = (
+  [],
+  record {
+    rises = λ i j d below small. absurd (omega arith);
+    members = λ c. (λ h. absurd (no_member c h), λ (k, list, small, is, h). absurd (omega arith));
+  },
+)
 lists_merge (xs ∷ lists) rise apart =
     let more = lists_merge lists (All-tail IsRising xs lists rise) (pairs_tail ShareNoDelay xs lists apart) in
     let joined = insert_all xs more.0 (All-head IsRising xs lists rise) more.1.rises
@@ -136,21 +147,23 @@ lists_merge (xs ∷ lists) rise apart =
       | inl before ↦ inl before
       | inr (inl after) ↦ inr after
       | inr (inr same) ↦ absurd (apart_from xs lists apart x y hx ((more.1.members y).0 hy) same)
-    ]) in
-    (joined.list, record {
-      rises = joined.rises;
-      members = λ c. (
-        λ h. elim ((joined.members c).0 h) [
-          | inl first ↦ (0, xs, omega arith, refl, first)
-          | inr later ↦ any_tail xs lists c ((more.1.members c).0 later)
-        ],
-        λ any. elim (any_cases xs lists c any) [
-          | inl first ↦ (joined.members c).1 (inl first)
-          | inr later ↦ (joined.members c).1 (inr ((more.1.members c).1 later))
-        ],
-      );
-    }) where
-  apart_from : (xs : List Candidate) (lists : List (List Candidate)) → AllPairs ShareNoDelay (xs ∷ lists) →
-      (x y : Candidate) → Contains xs x → Any (λ list. Contains list y) lists → delay_of x ≡ delay_of y → ⊥
-  apart_from xs lists apart x y hx (k, list, small, is, hy) same =
-      subst (λ ys. ShareNoDelay xs ys) is (apart 0 (suc k) list (omega arith) (omega arith)) x y hx hy same
+    ]) in (
+      joined.list,
+      record {
+        rises = joined.rises;
+        members = λ c. (
+          λ h. elim ((joined.members c).0 h) [
+            | inl first ↦ (0, xs, omega arith, refl, first)
+            | inr later ↦ any_tail xs lists c ((more.1.members c).0 later)
+          ],
+          λ any. elim (any_cases xs lists c any) [
+            | inl first ↦ (joined.members c).1 (inl first)
+            | inr later ↦ (joined.members c).1 (inr ((more.1.members c).1 later))
+          ],
+        );
+      },
+    ) where
+      apart_from : (xs : List Candidate) (lists : List (List Candidate)) → AllPairs ShareNoDelay (xs ∷ lists) →
+          (x y : Candidate) → Contains xs x → Any (λ list. Contains list y) lists → delay_of x ≡ delay_of y → ⊥
+      apart_from xs lists apart x y hx (k, list, small, is, hy) same =
+          subst (λ ys. ShareNoDelay xs ys) is (apart 0 (suc k) list (omega arith) (omega arith)) x y hx hy same
