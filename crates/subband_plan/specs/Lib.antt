@@ -1,3 +1,6 @@
 pub mod Nodes
 pub mod NodeLaws
 pub mod Plans
+pub mod Rows
+pub mod RowLaws
+pub mod Merging

@@ -1,7 +1,7 @@
 -- The nodes of a plan: one for each part of the band that the halving tree comes to, with the delays of its rows.
 -- Source: Zackay & Ofek, ApJ 835:11, 2017, section 2 (the band is halved again and again, and a row of the whole is a
 -- row of the upper half and one of the lower half); the order of the nodes is this project's profile.
-use Rattle.std.specs.Prelude.{◌≡◌, ℕ, ◌+◌, ◌-◌, ◌*◌, ◌^◌, ◌≤◌, ◌<◌, true, false, List, [], ◌∷◌, ◌++◌, length, zero, suc, nat_le, slice_index_or}
+use Rattle.std.specs.Prelude.{◌≡◌, ℕ, ◌+◌, ◌-◌, ◌*◌, ◌^◌, ◌≤◌, ◌<◌, true, false, List, [], ◌∷◌, ◌++◌, length, zero, suc, nat_le, slice_index_or, if◌then◌else◌}
 use Rattle.dada_model.specs.Bounds.{most_delay}
 use Rattle.dada_model.specs.Edges.{AreEdges}
 use Rattle.band_paths.specs.Edges.{channels_of}
@@ -86,6 +86,19 @@ pub record IsBranch (edges : List ℕ) (n : Node) : Type 0 where
 pub record HasRow (n : Node) (d : ℕ) : Type 0 where
   pub least : n.first_row ≤ d
   pub most : d ≤ n.last_row
+
+-- the least delay of a node's kept rows. Those of a single channel begin at delay 0, since each is made of the one before
+unfoldable pub least_row : Node → ℕ
+least_row n = if nat_le 2 (n.hi - n.lo) then n.first_row else 0
+
+-- a node keeps a row of delay d
+pub record HasKept (n : Node) (d : ℕ) : Type 0 where
+  pub least : least_row n ≤ d
+  pub most : d ≤ n.last_row
+
+-- how many rows it keeps
+abbrev pub kept_count : Node → ℕ
+kept_count n = n.last_row + 1 - least_row n
 
 -- the node and those below it were appended
 abbrev pub IsGrown : List ℕ → List Node → Node → List Node → Type 0

@@ -5,6 +5,8 @@
 
 mod nodes;
 mod plan;
+mod rows;
 
 pub use nodes::{Node, asked_rows_are_there};
 pub use plan::{Plan, plans_are_laid};
+pub use rows::{Merge, Rows, rows_are_numbered};

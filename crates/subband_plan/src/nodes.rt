@@ -21,7 +21,7 @@ pub struct Node {
 }
 
 impl Node {
-    ghost use Rattle.subband_plan.specs.Nodes.{IsBranch, IsGrown, HasRow, split_of, upper_half as upper_half_of, lower_half as lower_half_of};
+    ghost use Rattle.subband_plan.specs.Nodes.{IsBranch, IsGrown, HasRow, least_row as least_row_of, split_of, upper_half as upper_half_of, lower_half as lower_half_of};
     ghost use Rattle.subband_plan.specs.NodeLaws.{AreBranches, HalvesHave};
 
     // The first channel of the lower half.
@@ -30,6 +30,18 @@ impl Node {
         ensures { result ≡ middle_of self.lo self.hi }
     {
         self.lo + (self.hi - self.lo) / 2
+    }
+
+    /// The least delay of the rows that tables keep of this node: 0 for a single channel.
+    pub fn least_row(self) -> u32
+        requires { self.lo ≤ self.hi }
+        ensures { result ≡ least_row_of self }
+    {
+        if self.hi - self.lo >= 2 {
+            self.first_row
+        } else {
+            0
+        }
     }
 
     // The part of the delay `d` that the upper half gets.

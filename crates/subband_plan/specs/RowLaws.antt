@@ -1,0 +1,27 @@
+-- Laws of the rows of a plan's tables; the functions of this crate carry them.
+use Rattle.std.specs.Prelude.{◌≡◌, ℕ, ◌+◌, ◌-◌, ◌*◌, ◌≤◌, ◌<◌, List, length, slice_index}
+use Rattle.dada_model.specs.Bounds.{most_delay}
+use Rattle.subband_plan.specs.declared.nodes.Node.{Node}
+use Rattle.subband_plan.specs.Nodes.{HasKept, least_row, split_of, upper_half, lower_half, node_at}
+use Rattle.subband_plan.specs.NodeLaws.{AreLaid}
+use Rattle.subband_plan.specs.Rows.{AreStarts, row_of}
+
+-- the rows of a node are numbered from its start up to the next node's, and the halves have the rows that it asks for
+pub record AreNumbered (edges : List ℕ) (nodes : List Node) (starts : List ℕ) : Type 0 where
+  pub rise : (j k : ℕ) → j ≤ k → k ≤ length nodes → slice_index starts j ≤ slice_index starts k
+  pub few : (k : ℕ) → k ≤ length nodes → slice_index starts k ≤ (most_delay + 1) * k
+  pub above : (k d : ℕ) → k < length nodes → HasKept (node_at nodes k) d →
+      row_of starts k (node_at nodes k) d < slice_index starts (k + 1)
+  pub upper : (k d : ℕ) → k < length nodes → (node_at nodes k).lo + 2 ≤ (node_at nodes k).hi →
+      HasKept (node_at nodes k) d →
+      HasKept (upper_half edges (node_at nodes k)) (split_of edges (node_at nodes k) d)
+  pub lower : (k d : ℕ) → k < length nodes → (node_at nodes k).lo + 2 ≤ (node_at nodes k).hi →
+      HasKept (node_at nodes k) d →
+      HasKept (lower_half edges (node_at nodes k)) (d - split_of edges (node_at nodes k) d)
+  pub of_two : (k : ℕ) → (node_at nodes k).lo + 2 ≤ (node_at nodes k).hi →
+      least_row (node_at nodes k) ≡ (node_at nodes k).first_row
+  pub of_one : (k : ℕ) → (node_at nodes k).hi ≤ (node_at nodes k).lo + 1 → least_row (node_at nodes k) ≡ 0
+
+abbrev pub RowsAreNumbered : Type 0
+RowsAreNumbered = (edges : List ℕ) (nodes : List Node) (starts : List ℕ) → AreLaid edges nodes →
+    AreStarts nodes starts → AreNumbered edges nodes starts
