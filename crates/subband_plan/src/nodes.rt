@@ -1,5 +1,5 @@
 // A part of the band and its rows, and how it is halved.
-ghost use Rattle.std.specs.Prelude.{◌≡◌, ◌+◌, ◌-◌, ◌*◌, ◌<◌, ◌≤◌, OnOk};
+ghost use Rattle.std.specs.Prelude.{◌≡◌, ◌+◌, ◌-◌, ◌*◌, ◌^◌, ◌<◌, ◌≤◌, OnOk};
 ghost use Rattle.dada_model.specs.Edges.{AreEdges};
 ghost use Rattle.band_paths.specs.Edges.{channels_of};
 ghost use Rattle.search_model.specs.Paths.{middle as middle_of};
@@ -22,7 +22,7 @@ pub struct Node {
 
 impl Node {
     ghost use Rattle.subband_plan.specs.Nodes.{IsBranch, IsGrown, HasRow, least_row as least_row_of, split_of, upper_half as upper_half_of, lower_half as lower_half_of};
-    ghost use Rattle.subband_plan.specs.NodeLaws.{AreBranches, HalvesHave};
+    ghost use Rattle.subband_plan.specs.NodeLaws.{AreBranches, HalvesHave, lower_number as lower_number_of};
 
     // The first channel of the lower half.
     pub(crate) fn middle(self) -> u32
@@ -30,6 +30,15 @@ impl Node {
         ensures { result ≡ middle_of self.lo self.hi }
     {
         self.lo + (self.hi - self.lo) / 2
+    }
+
+    /// The number of the lower half, where this is node `k`. The upper half is node `k + 1`.
+    pub fn lower_number(self, k: usize) -> usize
+        requires order { self.lo ≤ self.hi }
+        requires number { k < 2 ^ 32 }
+        ensures { result ≡ lower_number_of self k }
+    {
+        k + 2 * (self.middle() - self.lo) as usize
     }
 
     /// The least delay of the rows that tables keep of this node: 0 for a single channel.

@@ -65,8 +65,8 @@ impl Plan {
         self.edges.as_slice()
     }
 
-    // All nodes.
-    pub(crate) fn all_nodes(&self) -> &[Node]
+    /// All nodes.
+    pub fn all_nodes(&self) -> &[Node]
         ensures value { result.now ≡ nodes_of self.now }
         ensures laid { AreLaid self.now.edges result.now }
     {

@@ -102,10 +102,9 @@ fn made(edges: &[u32], nodes: &[Node], starts: &[usize], k: usize, d: u32) -> Me
     }
     let upper = node.split(edges, d);
     let late = d - upper;
-    let lower_node = k + 2 * (node.middle() - node.lo) as usize;
     Merge {
         upper: number(edges, nodes, starts, k + 1, upper),
-        lower: number(edges, nodes, starts, lower_node, late),
+        lower: number(edges, nodes, starts, node.lower_number(k), late),
         late,
     }
 }

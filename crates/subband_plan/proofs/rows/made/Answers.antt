@@ -38,5 +38,5 @@ number-requires-3-clause-row c =
     let two : n.lo + 2 ≤ n.hi = omega arith in
     let are = c.rows_are_numbered.ensures c.args.edges.now c.args.nodes.now c.args.starts.now c.requires.laid
     c.requires.starts in
-    rw (c.middle.ensures, (c.requires.laid.each c.args.k c.requires.node).lower two, c.split-upper.ensures.value)
+    rw (c.lower_number.ensures, (c.requires.laid.each c.args.k c.requires.node).lower two, c.split-upper.ensures.value)
     (are.lower c.args.k c.args.d c.requires.node two c.requires.row)
