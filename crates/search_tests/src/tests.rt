@@ -36,6 +36,12 @@ struct Ended {
     notes: String,
 }
 
+impl Ended {
+    fn is(&self, status: u8, text: &str, notes: &str) -> bool {
+        self.status == status && self.text.as_str() == text && self.notes.as_str() == notes
+    }
+}
+
 // The calls that fail, of the inputs, the output and the notes, and the room of the output.
 #[derive(Clone, Copy)]
 struct Faults<'a> {
@@ -115,8 +121,6 @@ fn the_pulse_is_found_in_each_kind_of_file(rt: HostRuntime) -> Result<(), Fail> 
     let wide = "NCHAN 2\nNBIT 16\nTSAMP 64\nFREQ 1400\nBW -200\n";
     let both = "NCHAN 2\nNBIT 8\nNPOL 2\nTSAMP 64\nFREQ 1400\nBW -200\n";
     let all = "NCHAN 2\nNBIT 16\nNPOL 2\nTSAMP 64\nFREQ 1400\nBW 200\n";
-    let long =
-        "HDR_SIZE 8192\nNCHAN 2\nNBIT 8\nTSAMP 64.0009\nFREQ 1400.\nBW\t-2e2 -200\nBW -200#\n";
     let precise =
         "HDR_SIZE 8192\nNCHAN 2.9\nNBIT 8\nTSAMP 64.0009\nFREQ 1400.\nBW\t-200 MHz\r\nBW 1#\n";
     let cases: [(&str, usize, &[u8], &str); 9] = [
@@ -125,12 +129,19 @@ fn the_pulse_is_found_in_each_kind_of_file(rt: HostRuntime) -> Result<(), Fail> 
         (
             OBSERVATION,
             4096,
-            &PULSE[..5],
+            &[10, 0, 0, 20, 0],
             "PULSE 1 1 0.104 1 30 3\nEND 1 0 2\n",
         ),
         (OBSERVATION, 4096, &[], "END 0 0 0\n"),
         (rising, 4096, &[0, 10, 20, 0, 0, 0], TEXT),
         (wide, 4096, &[10, 0, 0, 0, 0, 0, 20, 0, 0, 0, 0, 0], TEXT),
+        // The high byte counts 256.
+        (
+            wide,
+            4096,
+            &[1, 1, 0, 0],
+            "PULSE 0 0 0.000 1 257 2\nEND 1 0 1\n",
+        ),
         (both, 4096, &[4, 6, 0, 0, 0, 0, 0, 20, 0, 0, 0, 0], TEXT),
         (
             all,
@@ -141,25 +152,17 @@ fn the_pulse_is_found_in_each_kind_of_file(rt: HostRuntime) -> Result<(), Fail> 
             TEXT,
         ),
         (precise, 8192, &PULSE, TEXT),
-        (long, 8192, &PULSE, ""),
     ];
     for (lines, size, bytes, text) in cases {
         let file = file_of(alloc, lines, size, bytes)?;
         let ended = search(alloc, &WORDS, Some(file.as_slice()), NO_FAULTS)?;
-        assert_eq!(rt; ended.text.as_str(), text, "{lines}");
-        assert_eq!(rt; ended.status == 0, !text.is_empty(), "{lines}");
-        assert_eq!(rt; ended.notes.is_empty(), !text.is_empty(), "{lines}");
+        assert!(rt;
+            ended.is(0, text, ""),
+            "{lines}{}{}",
+            ended.text,
+            ended.notes
+        );
     }
-    Ok(())
-}
-
-#[test]
-fn a_high_byte_counts_256(rt: HostRuntime) -> Result<(), Fail> {
-    let alloc = rt.alloc();
-    let lines = "NCHAN 2\nNBIT 16\nTSAMP 64\nFREQ 1400\nBW -200\n";
-    let file = file_of(alloc, lines, 4096, &[1, 1, 0, 0])?;
-    let ended = search(alloc, &with_word(8, "0"), Some(file.as_slice()), NO_FAULTS)?;
-    assert_eq!(rt; ended.text.as_str(), "PULSE 0 0 0.000 1 257 2\nEND 1 0 1\n");
     Ok(())
 }
 
@@ -208,9 +211,7 @@ fn a_header_that_is_refused_is_named(rt: HostRuntime) -> Result<(), Fail> {
         let file = file_of(alloc, lines, size, &[])?;
         let ended = search(alloc, &WORDS, Some(file.as_slice()), NO_FAULTS)?;
         let note = format!(in alloc; "header of file 0 refused: {cause}\n")?;
-        assert_eq!(rt; ended.status, 3, "{cause}");
-        assert_eq!(rt; ended.text.as_str(), "", "{cause}");
-        assert_eq!(rt; ended.notes.as_str(), note.as_str());
+        assert!(rt; ended.is(3, "", note.as_str()), "{cause}: {}", ended.notes);
     }
     Ok(())
 }
@@ -227,7 +228,6 @@ fn values_are_read_with_their_decimals(rt: HostRuntime) -> Result<(), Fail> {
         (2, "-1", false),
         (4, "2.", true),
         (4, "0.0009", false),
-        (4, "200000.0009", true),
         (6, "7.009", true),
         (6, "0.009", false),
         (6, "1000.01", false),
@@ -245,14 +245,16 @@ fn values_are_read_with_their_decimals(rt: HostRuntime) -> Result<(), Fail> {
             Some(file.as_slice()),
             NO_FAULTS,
         )?;
-        assert_eq!(rt; ended.status, if accepted { 0 } else { 2 }, "{word}");
-        let note = if accepted { "" } else { "words refused\n" };
-        assert_eq!(rt; ended.notes.as_str(), note, "{word}");
-        assert_eq!(rt; ended.text.is_empty(), !accepted, "{word}");
+        let is = if accepted {
+            ended.is(0, TEXT, "")
+        } else {
+            ended.is(2, "", "words refused\n")
+        };
+        assert!(rt; is, "{word}: {}", ended.text);
     }
     for count in [0, 1, 11] {
         let few = search(alloc, &WORDS[..count], Some(file.as_slice()), NO_FAULTS)?;
-        assert_eq!(rt; few.status, 2, "{count} words");
+        assert!(rt; few.is(2, "", "words refused\n"), "{count} words");
     }
     Ok(())
 }
@@ -268,17 +270,15 @@ fn a_failing_call_of_the_inputs_leaves_no_text(rt: HostRuntime) -> Result<(), Fa
             ..NO_FAULTS
         };
         let ended = search(alloc, &WORDS, Some(file.as_slice()), faults)?;
-        let (status, text, notes) = if call < 4 {
-            (6, "", "read fault\n")
+        let is = if call < 4 {
+            ended.is(6, "", "read fault\n")
         } else {
-            (0, TEXT, "")
+            ended.is(0, TEXT, "")
         };
-        assert_eq!(rt; ended.status, status, "at call {call}");
-        assert_eq!(rt; ended.text.as_str(), text, "at call {call}");
-        assert_eq!(rt; ended.notes.as_str(), notes, "at call {call}");
+        assert!(rt; is, "at call {call}: {}", ended.notes);
     }
     let missing = search(alloc, &WORDS, None, NO_FAULTS)?;
-    assert_eq!(rt; missing.status, 6);
+    assert!(rt; missing.is(6, "", "read fault\n"));
     Ok(())
 }
 
@@ -287,39 +287,31 @@ fn a_fault_of_the_output_leaves_the_front_of_the_text(rt: HostRuntime) -> Result
     let alloc = rt.alloc();
     let file = file_of(alloc, OBSERVATION, 4096, &PULSE)?;
     let first = "PULSE 1 1 0.104 1 30 3\n";
-    // The calls that fail, the room, and what the output holds in the end.
-    let cases: [(&[u64], u64, &str); 5] = [
-        (&[0], 1000, ""),
-        (&[1], 1000, first),
-        (&[], 10, ""),
-        (&[], 32, first),
-        (&[], 33, TEXT),
+    // The room, the calls that fail, of the output and of the notes; the status, and what both hold in the end.
+    let cases: [(u64, &[u64], &[u64], u8, &str, &str); 6] = [
+        (1000, &[0], &[], 10, "", "sink fault\n"),
+        (1000, &[1], &[], 10, first, "sink fault\n"),
+        (10, &[], &[], 10, "", "sink fault\n"),
+        (32, &[], &[], 10, first, "sink fault\n"),
+        (33, &[], &[], 0, TEXT, ""),
+        // A fault of the notes changes no status.
+        (10, &[], &[0], 10, "", ""),
     ];
-    for (out, room, text) in cases {
+    for (room, out, notes, status, text, note) in cases {
         let faults = Faults {
-            out,
             room,
+            out,
+            notes,
             ..NO_FAULTS
         };
         let ended = search(alloc, &WORDS, Some(file.as_slice()), faults)?;
-        assert_eq!(rt;
-            ended.status,
-            if room == 33 { 0 } else { 10 },
-            "room {room}"
+        assert!(rt;
+            ended.is(status, text, note),
+            "room {room}: {}{}",
+            ended.text,
+            ended.notes
         );
-        assert_eq!(rt; ended.text.as_str(), text, "room {room}");
-        let note = if room == 33 { "" } else { "sink fault\n" };
-        assert_eq!(rt; ended.notes.as_str(), note, "room {room}");
     }
-    // A fault of the notes changes no status.
-    let faults = Faults {
-        notes: &[0],
-        room: 10,
-        ..NO_FAULTS
-    };
-    let ended = search(alloc, &WORDS, Some(file.as_slice()), faults)?;
-    assert_eq!(rt; ended.status, 10);
-    assert_eq!(rt; ended.notes.as_str(), "");
     Ok(())
 }
 
@@ -332,21 +324,8 @@ fn calm_objects_are_searched_to_the_end(rt: HostRuntime) -> Result<(), Fail> {
     inputs.put("file", file.as_slice())?;
     let mut out = MemSink::open(alloc, 1000, &[])?;
     let mut calm = CalmSink::new();
-    assert_eq!(rt;
-        run(alloc, words.as_slice(), &mut inputs, &mut out, &mut calm),
-        0
-    );
-    assert_eq!(rt; out.body(), TEXT.as_bytes());
-    assert_eq!(rt;
-        run(
-            alloc,
-            words.as_slice(),
-            &mut inputs,
-            &mut CalmSink::new(),
-            &mut calm
-        ),
-        0
-    );
+    let status = run(alloc, words.as_slice(), &mut inputs, &mut out, &mut calm);
+    assert!(rt; status == 0 && out.body() == TEXT.as_bytes());
     Ok(())
 }
 
@@ -355,24 +334,21 @@ fn data_up_to_the_limit_are_searched(rt: HostRuntime) -> Result<(), Fail> {
     let alloc = rt.alloc();
     let lines = "NCHAN 4096\nNBIT 8\nTSAMP 64\nFREQ 1382\nBW -400\n";
     let words = with_word(8, "0");
-    for (len, status, text) in [
-        (8191, 0, "END 0 0 1\n"),
-        (8192, 0, "END 0 0 2\n"),
-        (100_000, 0, "END 0 0 24\n"),
-        (1_000_000, 0, "END 0 0 244\n"),
-        (16_777_217, 8, ""),
+    for (len, status, text, note) in [
+        (8191, 0, "END 0 0 1\n", ""),
+        (8192, 0, "END 0 0 2\n", ""),
+        (100_000, 0, "END 0 0 24\n", ""),
+        (1_000_000, 0, "END 0 0 244\n", ""),
+        (16_777_217, 8, "", "more than 16777216 bytes\n"),
     ] {
         let bytes = vec![in alloc; 0u8; len]?;
         let file = file_of(alloc, lines, 4096, bytes.as_slice())?;
         let ended = search(alloc, &words, Some(file.as_slice()), NO_FAULTS)?;
-        assert_eq!(rt; ended.status, status, "{len} bytes");
-        assert_eq!(rt; ended.text.as_str(), text, "{len} bytes");
-        let note = if status == 8 {
-            "more than 16777216 bytes\n"
-        } else {
-            ""
-        };
-        assert_eq!(rt; ended.notes.as_str(), note, "{len} bytes");
+        assert!(rt;
+            ended.is(status, text, note),
+            "{len} bytes: {}",
+            ended.notes
+        );
     }
     Ok(())
 }
