@@ -1,10 +1,11 @@
 -- Laws of the rows of a plan's tables; the functions of this crate carry them.
-use Rattle.std.specs.Prelude.{◌≡◌, ℕ, ◌+◌, ◌-◌, ◌*◌, ◌≤◌, ◌<◌, List, length, slice_index}
+use Rattle.std.specs.Prelude.{◌≡◌, ℕ, ◌+◌, ◌-◌, ◌*◌, ◌^◌, ◌≤◌, ◌<◌, List, length, slice_index}
 use Rattle.dada_model.specs.Bounds.{most_delay}
 use Rattle.subband_plan.specs.declared.nodes.Node.{Node}
-use Rattle.subband_plan.specs.Nodes.{HasKept, least_row, split_of, upper_half, lower_half, node_at}
+use Rattle.subband_plan.specs.declared.rows.Rows.{Rows}
+use Rattle.subband_plan.specs.Nodes.{Planned, IsPlan, HasKept, least_row, split_of, upper_half, lower_half, node_at}
 use Rattle.subband_plan.specs.NodeLaws.{AreLaid}
-use Rattle.subband_plan.specs.Rows.{AreStarts, row_of}
+use Rattle.subband_plan.specs.Rows.{AreRows, AreStarts, row_of}
 
 -- the rows of a node are numbered from its start up to the next node's, and the halves have the rows that it asks for
 pub record AreNumbered (edges : List ℕ) (nodes : List Node) (starts : List ℕ) : Type 0 where
@@ -25,3 +26,14 @@ pub record AreNumbered (edges : List ℕ) (nodes : List Node) (starts : List ℕ
 abbrev pub RowsAreNumbered : Type 0
 RowsAreNumbered = (edges : List ℕ) (nodes : List Node) (starts : List ℕ) → AreLaid edges nodes →
     AreStarts nodes starts → AreNumbered edges nodes starts
+
+-- how many rows there are, and how much is kept of them, at most
+pub record AreFew (rows : Rows) : Type 0 where
+  pub count : length rows.merges.items ≤ 2 ^ 26
+  pub tails : (r : ℕ) → slice_index rows.tails.items r ≤ most_delay
+  pub held : (r : ℕ) → r ≤ length rows.tails.items → slice_index rows.held.items r ≤ most_delay * r
+  pub rise : (q r : ℕ) → q ≤ r → r ≤ length rows.tails.items →
+      slice_index rows.held.items q ≤ slice_index rows.held.items r
+
+abbrev pub RowsAreFew : Type 0
+RowsAreFew = (p : Planned) (rows : Rows) → IsPlan p → AreRows p rows → AreFew rows

@@ -1,7 +1,7 @@
 -- The rows of tables that are carried from chunk to chunk: how they are numbered, of which rows each is made, and how
 -- much of each is kept.
--- Source: Zackay & Ofek, ApJ 835:11, 2017, section 2 (a row is a row of the upper half, which ends earlier, added to one
--- of the lower half); the order of the rows is this project's profile.
+-- Source: Zackay & Ofek, ApJ 835:11, 2017, section 2 (a row is a row of the upper half, which ends earlier, added to
+-- one of the lower half); the order of the rows is this project's profile.
 use Rattle.std.specs.Prelude.{◌≡◌, ℕ, ◌+◌, ◌-◌, ◌≤◌, ◌<◌, List, length, slice_index, slice_index_or}
 use Rattle.dada_model.specs.Bounds.{most_delay}
 use Rattle.subband_plan.specs.declared.nodes.Node.{Node}

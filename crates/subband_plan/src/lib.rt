@@ -9,4 +9,4 @@ mod rows;
 
 pub use nodes::{Node, asked_rows_are_there};
 pub use plan::{Plan, plans_are_laid};
-pub use rows::{Merge, Rows, rows_are_numbered};
+pub use rows::{Merge, Rows, rows_are_few, rows_are_numbered};

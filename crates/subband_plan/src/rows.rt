@@ -4,11 +4,11 @@ ghost use Rattle.dada_model.specs.Bounds.{most_delay};
 ghost use Rattle.subband_plan.specs.Nodes.{HasKept, node_at};
 ghost use Rattle.subband_plan.specs.NodeLaws.{AreLaid};
 ghost use Rattle.subband_plan.specs.Rows.{AreStarts, IsMade, IsWithin, AreWithin, AreTails, AreHeld, AreRows, row_of};
-ghost use Rattle.subband_plan.specs.RowLaws.{RowsAreNumbered};
+ghost use Rattle.subband_plan.specs.RowLaws.{RowsAreFew, RowsAreNumbered};
 ghost use Rattle.subband_plan.specs.Merging.{AreMerges};
 
 use crate::nodes::{Node, asked_rows_are_there};
-use crate::plan::Plan;
+use crate::plan::{Plan, plans_are_laid};
 use psr_base::Memory;
 use std::alloc::Global;
 
@@ -186,4 +186,12 @@ pub fn rows_are_numbered()
     ensures { RowsAreNumbered }
 {
     asked_rows_are_there();
+}
+
+/// There are no more than 2^26 rows, and of each at most as many values are kept as the longest delay has spectra.
+pub fn rows_are_few()
+    ensures { RowsAreFew }
+{
+    plans_are_laid();
+    rows_are_numbered();
 }

@@ -10,8 +10,10 @@ hold_tails-requires-clause-few c =
     c.in_ok-starts.ensures in
     let fit = rows_fit c.args.plan.now.edges nodes starts c.all_nodes-nodes.ensures.laid are in
     let slice = ap (λ xs. slice_index xs (length nodes)) c.as_slice.ensures.value in
-    let same : length c.as_slice-3.result.now ≡ length c.in_ok-tails.tails.items = ap length c.as_slice-3.ensures.value in
-    let merges : length c.as_slice-2.result.now ≡ length c.in_ok-merges.merges.items = ap length c.as_slice-2.ensures.value in
+    let same : length c.as_slice-3.result.now ≡ length c.in_ok-tails.tails.items =
+    ap length c.as_slice-3.ensures.value in
+    let merges : length c.as_slice-2.result.now ≡ length c.in_ok-merges.merges.items =
+    ap length c.as_slice-2.ensures.value in
     let entries = c.in_ok-tails.ensures.tails.entries in
     let count = c.in_ok-merges.ensures.entries in
     omega (arith, fit, slice, same, merges, entries, count)
