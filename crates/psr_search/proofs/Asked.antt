@@ -8,7 +8,7 @@ use Rattle.dada_model.specs.Observation.{Observation}
 use Rattle.search_model.specs.declared.search.Search.{Search}
 use Rattle.psr_search.specs.Request.{Asks, pulses_only}
 use Rattle.psr_search.specs.File.{IsRead, data_of, most_data}
-use Rattle.psr_search.specs.Text.{text_of}
+use Rattle.search_model.specs.Observed.{search_text}
 use Rattle.psr_search.specs.Stop.{StopsAt, IsReadingStop}
 use Rattle.psr_search.specs.Outcome.{ForFile}
 use Rattle.psr_search.specs.Ends.{EndsReading, EndsWriting, EndsBy}
@@ -90,7 +90,7 @@ module _ (words : List (List ℕ)) (told : Told) (before after : ℕ) (is_calm :
 
   -- a text was written, whole or its front
   pub ends_writing : (Took : List ℕ → Type 0) (o : Observation) (bytes text : List ℕ) →
-      ((file : List ℕ) → told.bytes_under name ≡ Some file → IsRead file o bytes) → text ≡ text_of o s bytes →
+      ((file : List ℕ) → told.bytes_under name ≡ Some file → IsRead file o bytes) → text ≡ search_text o s bytes →
       Took text → after ≡ before →
       EndsWriting words seen_inputs Took
   ends_writing Took o bytes text read is took quiet = record {
@@ -109,8 +109,8 @@ module _ (words : List (List ℕ)) (told : Told) (before after : ℕ) (is_calm :
           it.accepted,
           (
             short,
-            ap (λ (x : Search). text_of o x (data_of file it.header))
-                (sym (one_search words s q name other asks also)) ∙ ap (text_of o s) (sym it.whole) ∙ sym is,
+            ap (λ (x : Search). search_text o x (data_of file it.header))
+                (sym (one_search words s q name other asks also)) ∙ ap (search_text o s) (sym it.whole) ∙ sym is,
           ),
         );
   }

@@ -16,8 +16,8 @@ use Rattle.search_model.specs.Search.{widths, delays, fold_delays, periods}
 use Rattle.search_model.specs.Detection.{is_detected}
 use Rattle.search_model.specs.Candidates.{pulse_at, pulses, folds, folds_at, if_detected, plain_cells}
 use Rattle.search_model.specs.CandidateText.{candidate_line, plain_labels, end_line, is_pulse, is_fold, candidate_text}
-use Rattle.psr_search.specs.Text.{labels_of, found_in}
-use Rattle.psr_search.specs.Direct.{band, found_at, found_ending, found, lines_of, found_text}
+use Rattle.search_model.specs.Observed.{candidates_of}
+use Rattle.psr_search.specs.Direct.{band, found_at, found_ending, found, labels_of, lines_of, found_text}
 use Rattle.psr_search.specs.declared.direct.Direct.{Direct}
 
 -- ---- one end and one delay
@@ -124,7 +124,7 @@ all_pulses s =
     let count : s.search.max_delay + 1 - 0 ≡ vec_len s.tracks = omega (arith, s.all_delays) in
     ap ends s.plain ∙ ap (λ (n : ℕ). flat_map (λ u. found_ending s u n) (range_with_len 0 (band s).spectra)) count
 
-found_all : (s : Direct) → found_in s.observation s.search s.bytes.items ≡ found s (band s).spectra
+found_all : (s : Direct) → candidates_of s.observation s.search s.bytes.items ≡ found s (band s).spectra
 found_all s =
     ap (λ (ps : List Candidate). ps ++ folds (band s) (edges s.observation) (plain_cells s.observation.channels)
     s.search) (all_pulses s)

@@ -12,7 +12,7 @@ use Rattle.search_model.specs.Search.{IsInRange}
 use Rattle.search_model.specs.Paths.{entry, path}
 use Rattle.psr_search.specs.Request.{pulses_only, Asks}
 use Rattle.psr_search.specs.File.{IsAccepted, data_of}
-use Rattle.psr_search.specs.Text.{text_of}
+use Rattle.search_model.specs.Observed.{search_text}
 use Rattle.psr_search.specs.Sample.{sample_words, sample_header, sample_data, sample_file, sample_text, SampleIsFound}
 
 header : HeaderText
@@ -43,7 +43,7 @@ observation_is = refl
 search : Search
 search = pulses_only 1 1000 2000 700
 
-text_is : text_of observation search sample_data ≡ sample_text
+text_is : search_text observation search sample_data ≡ sample_text
 unfolding observation search edges edge signed_edge path entry dm dispersion_span digits
 text_is = refl
 
@@ -122,15 +122,15 @@ same_observation h o same is = let there = ap (λ (x : HeaderText). observation_
 
 -- what was written of an accepted sample
 written : (h : HeaderText) (o : Observation) (old new : SinkSeen) → IsAccepted sample_file h o →
-    WroteAll (text_of o search (data_of sample_file h)) old new → WroteAll sample_text old new
+    WroteAll (search_text o search (data_of sample_file h)) old new → WroteAll sample_text old new
 written h o old new is wrote =
     let headers = same_header h is.header in
     let observations = same_observation h o headers is.observation in
     let P : List ℕ → Type 0 = λ text. WroteAll text old new in
-    let text : text_of o search (data_of sample_file h) ≡ sample_text =
-    ap (λ (x : Observation). text_of x search (data_of sample_file h)) (sym observations)
-    ∙ ap (λ (x : HeaderText). text_of observation search (data_of sample_file x)) (sym headers)
-    ∙ ap (text_of observation search) data_is ∙ text_is in
+    let text : search_text o search (data_of sample_file h) ≡ sample_text =
+    ap (λ (x : Observation). search_text x search (data_of sample_file h)) (sym observations)
+    ∙ ap (λ (x : HeaderText). search_text observation search (data_of sample_file x)) (sym headers)
+    ∙ ap (search_text observation search) data_is ∙ text_is in
     subst P text wrote
 
 pub found : (is_calm : Type 0) → SampleIsFound is_calm

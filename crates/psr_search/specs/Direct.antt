@@ -1,16 +1,16 @@
 -- What a search that is ready will print.
 use Rattle.std.specs.Prelude.{ℕ, List, vec_len}
 use Rattle.std.specs.List.{flat_map, range_with_len}
-use Rattle.dada_model.specs.Observation.{edges}
+use Rattle.dada_model.specs.Observation.{Observation, edges, dm}
 use Rattle.search_model.specs.declared.candidate.Candidate.{Candidate}
 use Rattle.search_model.specs.Samples.{Filterbank}
 use Rattle.search_model.specs.Candidates.{pulses_at, plain_cells}
-use Rattle.search_model.specs.CandidateText.{candidate_line}
-use Rattle.psr_search.specs.Text.{band_of, labels_of, text_of}
+use Rattle.search_model.specs.CandidateText.{Labels, plain_labels, candidate_line}
+use Rattle.search_model.specs.Observed.{observed, search_text}
 use Rattle.psr_search.specs.declared.direct.Direct.{Direct}
 
 abbrev pub band : Direct → Filterbank
-band s = band_of s.observation s.bytes.items
+band s = observed s.observation s.bytes.items
 
 -- the pulses that end at spectrum u with delay d
 abbrev pub found_at : Direct → ℕ → ℕ → List Candidate
@@ -24,10 +24,14 @@ found_ending s u n = flat_map (λ d. found_at s u d) (range_with_len 0 n)
 abbrev pub found : Direct → ℕ → List Candidate
 found s n = flat_map (λ u. found_ending s u (vec_len s.tracks)) (range_with_len 0 n)
 
+-- what the lines of an observation say besides their candidates
+abbrev pub labels_of : Observation → Labels
+labels_of o = plain_labels (dm o) o.channels
+
 -- the lines of candidates
 abbrev pub lines_of : Direct → List Candidate → List ℕ
 lines_of s list = flat_map (candidate_line (labels_of s.observation)) list
 
 -- the whole text
 abbrev pub found_text : Direct → List ℕ
-found_text s = text_of s.observation s.search s.bytes.items
+found_text s = search_text s.observation s.search s.bytes.items

@@ -1,5 +1,4 @@
 pub mod Request
-pub mod Text
 pub mod Samples
 pub mod File
 pub mod Stop

@@ -11,7 +11,7 @@ use Rattle.psr_search.specs.declared.stop.HeaderCause.{HeaderCause}
 use Rattle.psr_search.specs.Request.{Asks}
 use Rattle.psr_search.specs.File.{IsAccepted, Accepted, IsCause, data_of, most_data}
 use Rattle.psr_search.specs.Stop.{status_of, note_of, StopsAt}
-use Rattle.psr_search.specs.Text.{text_of}
+use Rattle.search_model.specs.Observed.{search_text}
 
 -- P holds of the search that the words ask for and of the bytes of the file that they name, where those are told
 abbrev pub ForFile : List (List ℕ) → Told → (Search → List ℕ → Type 0) → Type 0
@@ -19,7 +19,7 @@ ForFile words told P = (s : Search) (name : List ℕ) → Asks words s name → 
 
 -- P holds of the text of all data of the file, which is accepted
 abbrev pub HasText : (List ℕ → Type 0) → Search → List ℕ → Type 0
-HasText P s file = Accepted file (λ h o. (length (data_of file h) ≤ most_data) × P (text_of o s (data_of file h)))
+HasText P s file = Accepted file (λ h o. (length (data_of file h) ≤ most_data) × P (search_text o s (data_of file h)))
 
 -- the notes took the line of a stop with the status, or its front at a fault of theirs; what it says of the file is so
 pub record NotesStop (words : List (List ℕ)) (told : Told) (before after : SinkSeen) (status : ℕ) : Type 0 where

@@ -2,17 +2,17 @@ use Rattle.std.proofs.Common.{◌≡◌, List, ℕ, Err, ◌∙◌, ap, map, str
 use Rattle.dada_model.specs.Observation.{Observation}
 use Rattle.search_model.specs.declared.search.Search.{Search}
 use Rattle.psr_base.specs.Written.{WroteAll, WroteFront}
-use Rattle.psr_search.specs.Text.{text_of}
+use Rattle.search_model.specs.Observed.{search_text}
 use Rattle.psr_search.specs.Direct.{found_text}
 use Rattle.psr_search.specs.declared.direct.Direct.{Direct}
 use Rattle.psr_search.proofs.Asked.{ends_reading, ends_without_memory, ends_writing}
 use Rattle.psr_search.proofs.top.search.Goals as goal
 
 text_of_direct : (d : Direct) (o : Observation) (s : Search) (bytes : List ℕ) → d.observation ≡ o → d.search ≡ s →
-    d.bytes.items ≡ bytes → found_text d ≡ text_of o s bytes
+    d.bytes.items ≡ bytes → found_text d ≡ search_text o s bytes
 text_of_direct d o s bytes observation search same =
-    ap (λ (x : Observation). text_of x d.search d.bytes.items) observation
-    ∙ ap (λ (x : Search). text_of o x d.bytes.items) search ∙ ap (text_of o s) same
+    ap (λ (x : Observation). search_text x d.search d.bytes.items) observation
+    ∙ ap (λ (x : Search). search_text o x d.bytes.items) search ∙ ap (search_text o s) same
 
 pub returns-in-Err : goal.returns-in-Err
 returns-in-Err g c =
