@@ -59,7 +59,8 @@ parts_can_be_merged books few parts =
     record {
       few = few;
       rise = All-from_get_or IsRising (kept_lists books) []
-          (λ k h. let small : k < length books = omega arith in subst IsRising (sym (at k [] small)) (parts k small).rises);
+          (λ k h. let small : k < length books = omega arith in
+          subst IsRising (sym (at k [] small)) (parts k small).rises);
       searched = All-from_get_or (All IsSearched) (kept_lists books) []
           (λ k h. let small : k < length books = omega arith in
           subst (All IsSearched) (sym (at k [] small)) (parts k small).searched);

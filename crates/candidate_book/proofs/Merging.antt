@@ -182,7 +182,8 @@ module _ (books : List (Option Booked)) where
 
   module _ (can : CanBeMerged books) (places later : List ℕ) (found : Next)
       (first : IsFirst (next_at books places) (length books) found)
-      (moves : later ≡ set places found.book (get_or places found.book 0 + 1)) (room : length books ≤ length places) where
+      (moves : later ≡ set places found.book (get_or places found.book 0 + 1))
+      (room : length books ≤ length places) where
     c : Candidate
     c = found.candidate
 
@@ -194,7 +195,9 @@ module _ (books : List (Option Booked)) where
         Precedes c d
     unfolding c i
     after_first k within other d h = elim (next_cases (next_at books places k)) [
-      | inl none ↦ absurd (no_member d (subst (λ xs. Contains xs d) (drop_ends (kept_at books k) (get_or places k 0) none) h))
+      | inl none ↦
+          let ended = drop_ends (kept_at books k) (get_or places k 0) none in
+          absurd (no_member d (subst (λ xs. Contains xs d) ended h))
       | inr one ↦
           let next = one.0 in
           let is = one.1 in
@@ -258,7 +261,8 @@ module _ (books : List (Option Booked)) where
       IsFirst (next_at books places) (length books) found → IsSearched found.candidate
   found_is_searched can places found first =
       let count = lists_count in
-      let lists = All-get_or (All IsSearched) (kept_lists books) found.book [] (omega (arith, first.within)) can.searched in
+      let lists = All-get_or (All IsSearched) (kept_lists books) found.book [] (omega (arith, first.within))
+      can.searched in
       All-contains IsSearched (kept_at books found.book) found.candidate
       (subst (All IsSearched) (list_at found.book [] first.within) lists)
       (next_member (kept_at books found.book) (get_or places found.book 0) found.candidate first.is_next)

@@ -67,17 +67,18 @@ pub one_passed : (labels : Labels) (books : List (Option Booked)) (later : List 
     Pending (lines_of labels done ++ candidate_line labels c) page old now →
     PartsMerge (length books) (left_at books later) rest →
     PassedOn labels books later more page old now merged
-one_passed labels books later totals more page old now done c rest merged is counted pulses folds lines merges = record {
-  done = done ++ c ∷ [];
-  left = rest;
-  splits = is ∙ sym (append_assoc done (c ∷ []) rest);
-  lines = subst (λ text. Pending text page old now) (sym (one_line_more labels done c)) lines;
-  counted = record {
-    pulses = pulses ∙ ap (λ (n : ℕ). n + cond (is_pulse c) 1 0) counted.pulses ∙ sym (one_counted is_pulse done c);
-    folds = folds ∙ ap (λ (n : ℕ). n + cond (is_fold c) 1 0) counted.folds ∙ sym (one_counted is_fold done c);
-  };
-  merges = merges;
-}
+one_passed labels books later totals more page old now done c rest merged is counted pulses folds lines merges =
+    record {
+      done = done ++ c ∷ [];
+      left = rest;
+      splits = is ∙ sym (append_assoc done (c ∷ []) rest);
+      lines = subst (λ text. Pending text page old now) (sym (one_line_more labels done c)) lines;
+      counted = record {
+        pulses = pulses ∙ ap (λ (n : ℕ). n + cond (is_pulse c) 1 0) counted.pulses ∙ sym (one_counted is_pulse done c);
+        folds = folds ∙ ap (λ (n : ℕ). n + cond (is_fold c) 1 0) counted.folds ∙ sym (one_counted is_fold done c);
+      };
+      merges = merges;
+    }
 
 -- a fault at a candidate's line: the front of all lines was written
 pub line_failed : (labels : Labels) (old now : SinkSeen) (done : List Candidate) (c : Candidate)

@@ -31,7 +31,8 @@ loop-i-preserved c =
       | in-Some+then-comes_before w ↦
           let candidate = w.in-Some.candidate in
           let small : get_or places i 0 < 2 ^ 32 = search rules in
-          let precedes : ForSome found (λ one. Precedes candidate one.candidate) = w.comes_before.ensures.0 w.if-comes_before.true in
+          let precedes : ForSome found (λ one. Precedes candidate one.candidate) =
+          w.comes_before.ensures.0 w.if-comes_before.true in
           rw w.found-is (record {
             first = first_is_new next i candidate found before.first (at ∙ w.in-Some.is) precedes;
             bound = λ x e. subst (λ (y : Next). get_or places y.book 0 < 2 ^ 32) (same_Some _ x e) small;

@@ -97,7 +97,8 @@ loop-next-preserved g c =
           one_passed labels books c.advance.new.places c.loop-next.totals c.count.new.self c.push.new.self old
           (g.K.Sink.seen c.push.new.sink) far.done found.candidate step.0 merged is far.counted
           c.count.ensures.pulses c.count.ensures.folds
-          (subst (λ text. Pending (lines_of labels far.done ++ text) c.push.new.self old (g.K.Sink.seen c.push.new.sink))
+          (subst (λ text. Pending (lines_of labels far.done ++ text) c.push.new.self old
+          (g.K.Sink.seen c.push.new.sink))
           line passed)
           step.2;
     }

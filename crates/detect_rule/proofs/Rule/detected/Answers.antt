@@ -16,4 +16,6 @@ overflow_mul-result-4 c =
     let cells = c.from-2.ensures in
     let low = c.self.invariant.snr_range in
     let deviation = c.self.invariant.sd_range in
-    omega (arith, product_fits c.from-snr.result c.from-sd.result c.from-2.result (omega arith) (omega arith) (omega arith))
+    let small = product_fits c.from-snr.result c.from-sd.result c.from-2.result (omega arith) (omega arith)
+    (omega arith) in
+    omega (arith, small)
