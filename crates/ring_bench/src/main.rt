@@ -1,17 +1,23 @@
-//! Moves blocks through a ring, from one writer to several readers, each in a thread of its own.
+//! Moves blocks through a ring, from one writer to several readers, each in a thread of its own. Each block is written
+//! from its number, and every byte that is read is compared.
 //!
-//! With no words it moves a few blocks in each of nine ways, and prints what was moved. With the words SIZE READERS BLOCKS it moves blocks in that way,
-//! and prints how many blocks and bytes each reader got in a second.
+//! With no words it moves a few blocks in each of nine ways, and then some to readers that detach, attach and retire.
+//! With the words SIZE READERS BLOCKS it moves blocks in that way, and prints how long it took and how many blocks and
+//! bytes each reader got in a second. Other words are refused, with status 2.
 #![tactic(auto)]
 
-mod workers;
+mod crew;
+mod fault;
+mod moving;
+mod threads;
 
-use ring_ends::{Ring, RingShape};
+use crate::moving::{move_blocks, soak};
+use ring_ends::RingShape;
+use std::process::ExitCode;
 use std::rt::Clock;
 use std::thread::Threads;
 use std::time::Instant;
 use std::{env, io};
-use workers::{open_workers, run_workers};
 
 const SIZES: [u32; 3] = [64, 4096, 524_288];
 
@@ -19,6 +25,12 @@ const READERS: [u32; 3] = [1, 4, 8];
 
 /// How many blocks are moved where no words say so.
 const FEW: u64 = 40;
+
+/// How many blocks the soak moves.
+const SOAKED: u64 = 3000;
+
+/// Words that are not the three numbers.
+const FAULTY_WORDS: u8 = 2;
 
 /// One way to move blocks.
 #[derive(Clone, Copy)]
@@ -28,42 +40,80 @@ struct Way {
     blocks: u64,
 }
 
-// How many blocks the slowest end moved, where there was memory and a ring can have these measures.
-fn slowest<R: Threads + Sync + AllocGlobal>(rt: &R, way: Way) -> Option<u64> {
-    let shape = RingShape {
-        buffers: 8,
-        size: way.size,
-        readers: way.readers,
-        max_blocks: 1 << 58,
-    };
-    if shape.check().is_err() {
-        return None;
+impl Way {
+    /// Eight buffers, for as many blocks as a ring may carry.
+    fn shape(self) -> RingShape {
+        RingShape {
+            buffers: 8,
+            size: self.size,
+            readers: self.readers,
+            max_blocks: (1 << 59) - 1,
+        }
     }
-    let Ok((ring, writer, readers)) = Ring::open(rt.alloc(), shape) else {
-        return None;
-    };
-    let mut workers = open_workers(rt.alloc(), &ring, writer, readers, way.blocks).ok()?;
-    run_workers(rt, workers.as_mut_slice());
-    workers.iter().map(|worker| worker.moved()).min()
 }
 
 // Prints what was moved in one way.
 fn show<R: Threads + Sync + AllocGlobal + Print>(rt: &R, way: Way) -> io::Result<()> {
     let Way { size, readers, .. } = way;
-    match slowest(rt, way) {
-        Some(blocks) => println!(rt; "size {size}, readers {readers}: {blocks} blocks"),
-        None => println!(rt; "size {size}, readers {readers}: no ring"),
+    match move_blocks(rt, way.shape(), way.blocks) {
+        Ok(moved) => {
+            println!(rt; "size {size}, readers {readers}: {moved} blocks to each")
+        }
+        Err(fault) => println!(rt; "size {size}, readers {readers}: {fault}"),
     }
 }
 
-// The same, with what each reader got in a second.
-fn measure<R: Threads + Sync + AllocGlobal + Print + Clock>(rt: &R, way: Way) -> io::Result<()> {
+// Prints how fast blocks were moved.
+fn show_rate<R: Print>(rt: &R, way: Way, moved: u64, micros: u128) -> io::Result<()> {
+    let Way { size, readers, .. } = way;
+    let rate = u128::from(moved) * 1_000_000 / micros.max(1);
+    let bytes = rate * u128::from(size);
+    let millis = micros / 1000;
+    println!(rt; "size {size}, readers {readers}: {moved} blocks to each in {millis} ms")?;
+    println!(rt; "{rate} blocks and {bytes} bytes in a second")
+}
+
+// Moves blocks in one way, and prints how fast, or why not. It answers the status.
+fn measure<R: Threads + Sync + AllocGlobal + Print + Clock>(rt: &R, way: Way) -> io::Result<u8> {
     let start = Instant::now(rt)?;
-    show(rt, way)?;
-    let micros = start.elapsed(rt)?.as_micros().max(1);
-    let blocks = u128::from(way.blocks) * 1_000_000 / micros;
-    let bytes = blocks * u128::from(way.size);
-    println!(rt; "{blocks} blocks and {bytes} bytes in a second")
+    match move_blocks(rt, way.shape(), way.blocks) {
+        Ok(moved) => {
+            show_rate(rt, way, moved, start.elapsed(rt)?.as_micros())?;
+            Ok(0)
+        }
+        Err(fault) => {
+            println!(rt; "{fault}")?;
+            Ok(fault.status())
+        }
+    }
+}
+
+// Prints what came of readers that detach, attach and retire.
+fn show_soak<R: Threads + Sync + AllocGlobal + Print>(rt: &R) -> io::Result<()> {
+    match soak(rt, SOAKED) {
+        Ok([stayed, returned, left]) => {
+            println!(rt; "soak of {SOAKED}: {stayed} to the reader that stays")?;
+            println!(rt; "{returned} to the one that detaches, {left} to the one that retires")
+        }
+        Err(fault) => println!(rt; "soak: {fault}"),
+    }
+}
+
+// The few blocks in each of the nine ways, and the soak.
+fn show_all<R: Threads + Sync + AllocGlobal + Print>(rt: &R) -> io::Result<()> {
+    for size in SIZES {
+        for readers in READERS {
+            show(
+                rt,
+                Way {
+                    size,
+                    readers,
+                    blocks: FEW,
+                },
+            )?;
+        }
+    }
+    show_soak(rt)
 }
 
 // The three numbers of the words, if there are three.
@@ -78,22 +128,26 @@ fn way_of(words: &[String]) -> Option<Way> {
     })
 }
 
-fn main(rt: HostRuntime) -> io::Result<()> {
-    let words: Vec<String> = env::args(&rt)?.skip(1).collect(rt.alloc())?;
-    if let Some(way) = way_of(words.as_slice()) {
-        return measure(&rt, way);
+// Answers the words, and says the program's status.
+fn answer<R: Threads + Sync + AllocGlobal + Print + Clock>(
+    rt: &R,
+    words: &[String],
+) -> io::Result<u8> {
+    if words.is_empty() {
+        show_all(rt)?;
+        return Ok(0);
     }
-    for size in SIZES {
-        for readers in READERS {
-            show(
-                &rt,
-                Way {
-                    size,
-                    readers,
-                    blocks: FEW,
-                },
-            )?;
+    match way_of(words) {
+        Some(way) => measure(rt, way),
+        None => {
+            println!(rt; "words: SIZE READERS BLOCKS, three numbers")?;
+            Ok(FAULTY_WORDS)
         }
     }
-    Ok(())
+}
+
+fn main(rt: HostRuntime) -> io::Result<ExitCode> {
+    let words: Vec<String> = env::args(&rt)?.skip(1).collect(rt.alloc())?;
+    let status = answer(&rt, words.as_slice())?;
+    Ok(ExitCode::from(status))
 }

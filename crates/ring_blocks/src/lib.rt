@@ -5,12 +5,14 @@ ghost use Rattle.std.specs.Prelude.{◌≡◌, ℕ, ◌<◌, ◌≤◌, ◌^◌,
 
 use std::alloc::{AllocError, Global};
 use std::collections::LinkedList;
+use thiserror::Error;
 
 #[cfg(test)]
 mod tests;
 
 /// There was no memory.
-#[derive(Clone, Copy, PartialEq, Eq, Debug)]
+#[derive(Clone, Copy, PartialEq, Eq, Debug, Error)]
+#[error("no memory")]
 pub struct Memory;
 
 impl From<AllocError> for Memory {

@@ -17,7 +17,8 @@ apart b n k more less same =
     let next : suc (n / b) * b ≤ k / b * b = mul-le-mul_right b rounds in
     omega (arith, suc-mul (n / b) b)
 
-begun_cases : (writing : Bool) (h : ℕ) → (h + (if writing then 1 else 0) ≡ h) ⊎ ((writing ≡ true) × (h + (if writing then 1 else 0) ≡ h + 1))
+begun_cases : (writing : Bool) (h : ℕ) → (h + (if writing then 1 else 0) ≡ h)
+    ⊎ ((writing ≡ true) × (h + (if writing then 1 else 0) ≡ h + 1))
 begun_cases true h = inr (refl, refl)
 begun_cases false h = inl (omega arith)
 
@@ -27,7 +28,8 @@ module _ {L : Type 0} where
     among = ⊎_elim (λ e. omega arith) (λ t. let e = t.1 in omega arith) (begun_cases m.writing (height m));
     last = λ k more begun. ⊎_elim
         (λ e. let behind = s.counts i r is registered in apart buffers n k more (omega arith))
-        (λ t. let e = t.1 in let room = room_at buffers limit m i r s is registered t.0 in apart buffers n k more (omega arith))
+        (λ t. let e = t.1 in let room = room_at buffers limit m i r s is registered t.0 in
+            apart buffers n k more (omega arith))
         (begun_cases m.writing (height m));
   }
 
@@ -43,24 +45,35 @@ module _ {L : Type 0} where
   other is not_full = λ i c e. let f : is_full (Answer.Full i c) ≡ false = ap is_full (sym e ∙ is) ∙ not_full in cc
 
   -- where a Full comes from
-  full_or_not : (buffers limit : ℕ) (m : Machine L) (e : Event L) (a : Answer L) (m' : Machine L) → Does buffers limit m e a m' →
-      ((i : ℕ) × (r : Reader) × (IsReader m i r) × (IsRegistered r) × (r.cleared + buffers ≤ height m) × (a ≡ Answer.Full i r.cleared))
+  full_or_not : (buffers limit : ℕ) (m : Machine L) (e : Event L) (a : Answer L) (m' : Machine L) →
+      Does buffers limit m e a m' →
+      ((i : ℕ) × (r : Reader) × (IsReader m i r) × (IsRegistered r) × (r.cleared + buffers ≤ height m)
+          × (a ≡ Answer.Full i r.cleared))
       ⊎ IsOther a
   unfolding is_full
   full_or_not buffers limit m (Event.Look i) a m' (inl (r, is, gone, answer, after)) = inr (other answer refl)
-  full_or_not buffers limit m (Event.Look i) a m' (inr (inl (r, is, registered, below, answer, after))) = inl (i, r, is, registered, below, answer)
-  full_or_not buffers limit m (Event.Look i) a m' (inr (inr (inl (r, is, registered, above, answer, after)))) = inr (other answer refl)
+  full_or_not buffers limit m (Event.Look i) a m' (inr (inl (r, is, registered, below, answer, after))) =
+      inl (i, r, is, registered, below, answer)
+  full_or_not buffers limit m (Event.Look i) a m' (inr (inr (inl (r, is, registered, above, answer, after)))) =
+      inr (other answer refl)
   full_or_not buffers limit m (Event.Look i) a m' (inr (inr (inr (none, refused)))) = inr (other refused.0 refl)
   full_or_not buffers limit m Event.WriterTake a m' (inl (writing, refused)) = inr (other refused.0 refl)
-  full_or_not buffers limit m Event.WriterTake a m' (inr (inl (writing, spent, answer, after))) = inr (other answer refl)
-  full_or_not buffers limit m Event.WriterTake a m' (inr (inr (inl (writing, more, lacks, refused)))) = inr (other refused.0 refl)
-  full_or_not buffers limit m Event.WriterTake a m' (inr (inr (inr (writing, more, room, answer, after)))) = inr (other answer refl)
+  full_or_not buffers limit m Event.WriterTake a m' (inr (inl (writing, spent, answer, after))) =
+      inr (other answer refl)
+  full_or_not buffers limit m Event.WriterTake a m' (inr (inr (inl (writing, more, lacks, refused)))) =
+      inr (other refused.0 refl)
+  full_or_not buffers limit m Event.WriterTake a m' (inr (inr (inr (writing, more, room, answer, after)))) =
+      inr (other answer refl)
   full_or_not buffers limit m (Event.Seal label) a m' (inl (writing, answer, after)) = inr (other answer refl)
   full_or_not buffers limit m (Event.Seal label) a m' (inr (writing, refused)) = inr (other refused.0 refl)
-  full_or_not buffers limit m (Event.ReaderTake i) a m' (inl (r, is, idle, none, answer, after)) = inr (other answer refl)
-  full_or_not buffers limit m (Event.ReaderTake i) a m' (inr (inl (r, j, is, idle, some_left, holds, answer, after))) = inr (other answer refl)
-  full_or_not buffers limit m (Event.ReaderTake i) a m' (inr (inr (inl (r, label, is, idle, nobody, at, answer, after)))) = inr (other answer refl)
-  full_or_not buffers limit m (Event.ReaderTake i) a m' (inr (inr (inr (not_idle, refused)))) = inr (other refused.0 refl)
+  full_or_not buffers limit m (Event.ReaderTake i) a m' (inl (r, is, idle, none, answer, after)) =
+      inr (other answer refl)
+  full_or_not buffers limit m (Event.ReaderTake i) a m'
+      (inr (inl (r, j, is, idle, some_left, holds, answer, after))) = inr (other answer refl)
+  full_or_not buffers limit m (Event.ReaderTake i) a m'
+      (inr (inr (inl (r, label, is, idle, nobody, at, answer, after)))) = inr (other answer refl)
+  full_or_not buffers limit m (Event.ReaderTake i) a m' (inr (inr (inr (not_idle, refused)))) =
+      inr (other refused.0 refl)
   full_or_not buffers limit m (Event.Give i) a m' (inl (r, is, out, answer, after)) = inr (other answer refl)
   full_or_not buffers limit m (Event.Give i) a m' (inr (not_out, refused)) = inr (other refused.0 refl)
   full_or_not buffers limit m (Event.Clear i) a m' (inl (r, is, read, answer, after)) = inr (other answer refl)
@@ -72,9 +85,11 @@ module _ {L : Type 0} where
   full_or_not buffers limit m (Event.Attach i) a m' (inl (r, is, detached, answer, after)) = inr (other answer refl)
   full_or_not buffers limit m (Event.Attach i) a m' (inr (not_detached, refused)) = inr (other refused.0 refl)
 
-  pub full_by_reader : (buffers limit : ℕ) (m : Machine L) (e : Event L) (a : Answer L) (m' : Machine L) → IsSound buffers limit m → 0 < buffers → Does buffers limit m e a m' → FullByReader buffers m a
+  pub full_by_reader : (buffers limit : ℕ) (m : Machine L) (e : Event L) (a : Answer L) (m' : Machine L) →
+      IsSound buffers limit m → 0 < buffers → Does buffers limit m e a m' → FullByReader buffers m a
   full_by_reader buffers limit m e a m' s some does j c full = ⊎_elim
-      (λ (i, r, is, registered, below, answer). let both : Answer.Full i r.cleared ≡ Answer.Full j c = sym answer ∙ full in
+      (λ (i, r, is, registered, below, answer). let both : Answer.Full i r.cleared ≡ Answer.Full j c =
+          sym answer ∙ full in
       let reader : i ≡ j = cc in let count : r.cleared ≡ c = cc in
       let behind = s.counts i r is registered in let next : height m ≡ c + buffers = omega arith in
       let P : ℕ → Type 0 = λ k. IsReader m k r in (

@@ -16,22 +16,28 @@ module _ {A : Type 0} where
   get_set-other (x ∷ xs) (suc i) (suc j) a ne = get_set-other xs i j a (λ e. ne (ap suc e))
 
   -- what a list has after a write: the new value there, or what stood elsewhere
-  pub get_set-cases : (xs : List A) (i j : ℕ) (a b : A) → slice_get (slice_set xs i a) j ≡ Some b → ((j ≡ i) × (b ≡ a)) ⊎ ((j ≢ i) × (slice_get xs j ≡ Some b))
+  pub get_set-cases : (xs : List A) (i j : ℕ) (a b : A) → slice_get (slice_set xs i a) j ≡ Some b →
+      ((j ≡ i) × (b ≡ a)) ⊎ ((j ≢ i) × (slice_get xs j ≡ Some b))
   get_set-cases [] i j a b e = cc
   get_set-cases (x ∷ xs) zero zero a b e = inl (refl, cc)
   get_set-cases (x ∷ xs) zero (suc j) a b e = inr ((λ h. omega arith), e)
   get_set-cases (x ∷ xs) (suc i) zero a b e = inr ((λ h. omega arith), e)
-  get_set-cases (x ∷ xs) (suc i) (suc j) a b e = ⊎_elim (λ t. inl (ap suc t.0, t.1)) (λ t. let n = t.0 in inr ((λ h. n (omega arith)), t.1)) (get_set-cases xs i j a b e)
+  get_set-cases (x ∷ xs) (suc i) (suc j) a b e = ⊎_elim (λ t. inl (ap suc t.0, t.1))
+      (λ t. let n = t.0 in inr ((λ h. n (omega arith)), t.1)) (get_set-cases xs i j a b e)
 
   -- a fact of each element after a write: of the new value at its place, and of what stood elsewhere
-  pub each_after : (P : ℕ → A → Type 0) (xs : List A) (i : ℕ) (a : A) → P i a → ((j : ℕ) (b : A) → slice_get xs j ≡ Some b → P j b) → (j : ℕ) (b : A) → slice_get (slice_set xs i a) j ≡ Some b → P j b
+  pub each_after : (P : ℕ → A → Type 0) (xs : List A) (i : ℕ) (a : A) → P i a →
+      ((j : ℕ) (b : A) → slice_get xs j ≡ Some b → P j b) → (j : ℕ) (b : A) →
+      slice_get (slice_set xs i a) j ≡ Some b → P j b
   each_after P xs i a here else j b e = ⊎_elim
-      (λ t. let Q : A → Type 0 = λ c. P j c in let R : ℕ → Type 0 = λ k. P k a in subst Q (sym t.1) (subst R (sym t.0) here))
+      (λ t. let Q : A → Type 0 = λ c. P j c in let R : ℕ → Type 0 = λ k. P k a in
+          subst Q (sym t.1) (subst R (sym t.0) here))
       (λ t. else j b t.1)
       (get_set-cases xs i j a b e)
 
 -- the number at a place after a write: the new one, at that place, or the old one
-pub index_set-cases : (xs : List ℕ) (i j c : ℕ) → ((j ≡ i) × (slice_index (slice_set xs i c) j ≡ c)) ⊎ (slice_index (slice_set xs i c) j ≡ slice_index xs j)
+pub index_set-cases : (xs : List ℕ) (i j c : ℕ) → ((j ≡ i) × (slice_index (slice_set xs i c) j ≡ c))
+    ⊎ (slice_index (slice_set xs i c) j ≡ slice_index xs j)
 index_set-cases [] i j c = inr refl
 index_set-cases (x ∷ xs) zero zero c = inl (refl, refl)
 index_set-cases (x ∷ xs) zero (suc j) c = inr refl

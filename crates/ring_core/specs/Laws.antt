@@ -1,6 +1,7 @@
 -- What the table of events comes to, in words of its own.
 use Rattle.std.specs.Prelude.{◌≡◌, ◌≢◌, ℕ, ◌+◌, ◌%◌, ◌<◌, ◌≤◌, Some, slice_get, if◌then◌else◌}
-use Rattle.ring_core.specs.Machine.{Machine, Reader, Event, Answer, IsReader, IsRegistered, Holds, height}
+use Rattle.ring_core.specs.Machine.{Machine, Reader, Event, Answer, IsReader, IsRegistered, Holds, Reached, height, greatest}
+use Rattle.ring_core.specs.Sound.{IsSound}
 
 -- of the first `begun` blocks, n is the last one that lies in its buffer
 pub record StandsAmong (buffers begun n : ℕ) : Type 0 where
@@ -33,3 +34,8 @@ module _ {L : Type 0} where
   FullByReader buffers m a = (i c : ℕ) → a ≡ Answer.Full i c →
       (r : Reader) × (IsReader m i r) × (IsRegistered r) × (r.cleared ≡ c)
       × (c % buffers ≡ height m % buffers) × (StandsAmong buffers (height m) c)
+
+-- whatever events leave of a new ring is sound
+abbrev pub ReachedIsSound : Type 0 → Type 0
+ReachedIsSound L = (buffers limit readers : ℕ) (m : Machine L) → limit ≤ greatest →
+    Reached buffers limit readers m → IsSound buffers limit m

@@ -1,5 +1,5 @@
 pub mod Machine
 pub mod Sound
-pub mod Ring
+pub mod State
 pub mod Kept
 pub mod Laws

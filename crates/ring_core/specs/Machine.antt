@@ -1,5 +1,6 @@
 -- The ring between one writer and its readers as a machine over plain data, for labels of any type (PSRDADA manual:
--- a ring of data blocks with one writer and several readers; a block is written again only after each reader cleared it).
+-- a ring of data blocks with one writer and several readers; a block is written again only after each reader cleared
+-- it).
 -- Block number n lies in buffer n modulo buffers. "Length minus buffers" is over numbers with sign: c ≤ h - buffers is
 -- written c + buffers ≤ h.
 use Rattle.std.specs.Prelude.{◌≡◌, ◌≢◌, ℕ, ◌+◌, ◌<◌, ◌≤◌, ◌⊎◌, Bool, true, false, List, [], ◌∷◌, ◌++◌, length, replicate, Some, slice_get, slice_index, slice_set, EachIndex, SomeIndex}
@@ -26,7 +27,8 @@ IsRegistered r = r.phase ≢ Phase.Retired
 abbrev pub IsIdle : Reader → Type 0
 IsIdle r = (r.phase ≡ Phase.Ready) ⊎ (r.phase ≡ Phase.Read)
 
--- the labels of the sealed blocks, whether the writer holds a buffer, what it remembers of each reader's count, and the readers
+-- the labels of the sealed blocks, whether the writer holds a buffer, what it remembers of each reader's count, and
+-- the readers
 pub record Machine (L : Type 0) : Type 0 where
   pub sealed : List L
   pub writing : Bool
@@ -153,7 +155,8 @@ module _ {L : Type 0} where
   -- one event after another
   abbrev pub Runs : (buffers limit : ℕ) → Machine L → List (Event L) → List (Answer L) → Machine L → Type 0
   Runs buffers limit m [] [] m' = m' ≡ m
-  Runs buffers limit m (e ∷ es) (a ∷ as') m' = (n : Machine L) × (Does buffers limit m e a n) × (Runs buffers limit n es as' m')
+  Runs buffers limit m (e ∷ es) (a ∷ as') m' = (n : Machine L) × (Does buffers limit m e a n)
+      × (Runs buffers limit n es as' m')
   Runs buffers limit m [] (a ∷ as') m' = ⊥
   Runs buffers limit m (e ∷ es) [] m' = ⊥
 

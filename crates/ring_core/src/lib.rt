@@ -5,14 +5,16 @@ ghost use Rattle.std.specs.Prelude.{◌≡◌, ℕ, ◌+◌, ◌^◌, ◌<◌, �
 ghost use Rattle.std.specs.Prelude.{false, IsTrue, IfOk, IfSome, IfNone};
 ghost use Rattle.ring_core.specs.Machine.{Machine, at_first, with_reader, remembers, Holds, IsIdle, HasRoom, LacksRoom, height};
 ghost use Rattle.ring_core.specs.Machine as machine;
-ghost use Rattle.ring_core.specs.Ring.{Ring, IsRing, IsOnly, reader_of, event_of, answer_of, Steps, RunsTo};
-ghost use Rattle.ring_core.specs.Laws.{GetsNext, FullByReader, KeepsUncleared, HoldsAlone};
+ghost use Rattle.ring_core.specs.State.{CoreState, IsSoundCore, IsOnly, reader_of, event_of, answer_of, Steps, RunsTo};
+ghost use Rattle.ring_core.specs.Laws.{GetsNext, FullByReader, KeepsUncleared, HoldsAlone, ReachedIsSound};
 
 use std::alloc::{AllocError, Global};
 use std::marker::Model;
+use thiserror::Error;
 
 /// There was not enough memory.
-#[derive(Debug, Clone, Copy, PartialEq, Eq)]
+#[derive(Debug, Clone, Copy, PartialEq, Eq, Error)]
+#[error("no memory")]
 pub struct Memory;
 
 /// How many buffers and readers a ring has, and how many blocks it carries at most.
@@ -106,9 +108,9 @@ pub struct Core {
 }
 
 impl Model for Core {
-    ghost use Rattle.ring_core.specs.Ring.{Ring};
+    ghost use Rattle.ring_core.specs.State.{CoreState};
 
-    ghost Value = { Ring };
+    ghost Value = { CoreState };
 
     ghost use Rattle.ring_core.specs.Kept.{ring_of, IsKept};
 
@@ -144,7 +146,7 @@ impl Core {
         // By the table, exactly, and there is no other way.
         ensures steps { Steps self.old (event_of event) (answer_of result) self.new }
         ensures only { IsOnly self.old (event_of event) (answer_of result) self.new }
-        ensures ring { IsRing self.new }
+        ensures ring { IsSoundCore self.new }
 
         // What that comes to.
         ensures next { GetsNext self.old.machine (event_of event) (answer_of result) }
@@ -177,7 +179,7 @@ impl Core {
     /// Reader `i`, where there is one.
     fn reader(&self, i: u32) -> Option<Reader>
         ensures at { slice_get self.now.machine.readers i ≡ option_map reader_of result }
-        ensures ring { IsRing self.now }
+        ensures ring { IsSoundCore self.now }
     {
         let place = i as usize;
         if place < self.readers.len() {
@@ -189,7 +191,7 @@ impl Core {
 
     fn set_reader(&mut self, i: u32, reader: Reader)
         requires there { i < length self.old.machine.readers }
-        requires ring { IsRing (record self.old { machine = with_reader self.old.machine i (reader_of reader) }) }
+        requires ring { IsSoundCore (record self.old { machine = with_reader self.old.machine i (reader_of reader) }) }
         ensures { self.new ≡ record self.old { machine = with_reader self.old.machine i (reader_of reader) } }
     {
         self.readers[i as usize] = reader;
@@ -197,7 +199,7 @@ impl Core {
 
     fn remember(&mut self, i: u32, count: u64)
         requires there { i < length self.old.machine.low }
-        requires ring { IsRing (record self.old { machine = remembers self.old.machine i count }) }
+        requires ring { IsSoundCore (record self.old { machine = remembers self.old.machine i count }) }
         ensures { self.new ≡ record self.old { machine = remembers self.old.machine i count } }
     {
         self.low[i as usize] = count;
@@ -435,11 +437,18 @@ impl Core {
 /// The events one after another. Their answers are dropped.
 pub fn run(core: &mut Core, events: &[Event])
     ensures runs { RunsTo core.old (map event_of events.now) core.new }
-    ensures ring { IsRing core.new }
+    ensures ring { IsSoundCore core.new }
 {
     // The proof reads here what every core keeps.
     let _ = &core.shape;
     for event in events {
         let _ = core.apply(*event);
     }
+}
+
+/// A law, which does nothing when it runs: what events leave of a new ring is sound, for labels of
+/// any type.
+pub fn reached_is_sound<L>()
+    ensures { ReachedIsSound L }
+{
 }

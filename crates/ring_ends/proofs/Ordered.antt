@@ -4,30 +4,30 @@ use Rattle.std.proofs.lemmas.Option.{slice_get_within}
 use Rattle.ring_ends.specs.declared.ring.Ring.{Ring}
 use Rattle.ring_ends.specs.declared.passes.EndedReader.{EndedReader}
 use Rattle.ring_ends.specs.Passes.{ring_shape, ended_knows, EndedFrom}
-use Rattle.ring_ends.specs.Ended.{Gives, AllReaders}
+use Rattle.ring_ends.specs.Ended.{Gives, AllReaders, AreInOrder}
 
--- reader j stands at place j
-abbrev pub StandsAt : Ring → List (Option EndedReader) → ℕ → Type 0
-StandsAt ring readers j = (e : EndedReader) × Gives readers j e × EndedFrom ring e × ((ended_knows e).number ≡ j)
-
-module _ (ring : Ring) (readers : List (Option EndedReader)) (count : length readers ≡ (ring_shape ring).readers) (stands : (j : ℕ) → j < length readers → StandsAt ring readers j) where
+module _ (ring : Ring) (readers : List (Option EndedReader)) (order : AreInOrder ring readers) where
   number_at : (j : ℕ) (e : EndedReader) → Gives readers j e → (ended_knows e).number ≡ j
-  number_at j e gives = let h = stands j (slice_get_within readers j (Some e) gives) in
-      subst (λ (x : EndedReader). (ended_knows x).number ≡ j) (ap (λ (o : Option (Option EndedReader)). unwrap_or (unwrap_or o None) e) (sym h.1 ∙ gives)) h.3
+  number_at j e gives = let h = order.each j (slice_get_within readers j (Some e) gives) in
+      subst (λ (x : EndedReader). (ended_knows x).number ≡ j)
+          (ap (λ (o : Option (Option EndedReader)). unwrap_or (unwrap_or o None) e) (sym h.1 ∙ gives)) h.3
 
   pub in_order : AllReaders ring readers
   in_order = record {
-    count = count;
-    each = λ j near. let h = stands j near in (h.0, h.1, h.2);
+    count = order.count;
+    each = λ j near. let h = order.each j near in (h.0, h.1, h.2);
     once = λ j k e f at_j at_k same. sym (number_at j e at_j) ∙ (same ∙ number_at k f at_k);
-    all = λ i near. let h = stands i (omega arith) in (i, h.0, h.1, h.3);
+    all = λ i near. let count = order.count in let h = order.each i (omega arith) in (i, h.0, h.1, h.3);
   }
 
-pub three : (ring : Ring) (a b c : EndedReader) → (ring_shape ring).readers ≡ 3 → EndedFrom ring a × ((ended_knows a).number ≡ 0) → EndedFrom ring b × ((ended_knows b).number ≡ 1) → EndedFrom ring c × ((ended_knows c).number ≡ 2)
-    → AllReaders ring (Some a ∷ Some b ∷ Some c ∷ [])
-three ring a b c count first second third = in_order ring (Some a ∷ Some b ∷ Some c ∷ []) (sym count) stands
+pub three : (ring : Ring) (a b c : EndedReader) → (ring_shape ring).readers ≡ 3 →
+    EndedFrom ring a × ((ended_knows a).number ≡ 0) → EndedFrom ring b × ((ended_knows b).number ≡ 1) →
+    EndedFrom ring c × ((ended_knows c).number ≡ 2) → AllReaders ring (Some a ∷ Some b ∷ Some c ∷ [])
+three ring a b c count first second third =
+    in_order ring (Some a ∷ Some b ∷ Some c ∷ []) record { count = sym count; each = stands }
   where
-    stands : (j : ℕ) → j < 3 → StandsAt ring (Some a ∷ Some b ∷ Some c ∷ []) j
+    stands : (j : ℕ) → j < 3 → (e : EndedReader) × Gives (Some a ∷ Some b ∷ Some c ∷ []) j e × EndedFrom ring e
+        × ((ended_knows e).number ≡ j)
     stands zero near = (a, refl, first.0, first.1)
     stands (suc zero) near = (b, refl, second.0, second.1)
     stands (suc (suc zero)) near = (c, refl, third.0, third.1)

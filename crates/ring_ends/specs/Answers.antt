@@ -5,8 +5,8 @@ use Rattle.ring_blocks.specs.declared.Mark.{Mark}
 use Rattle.ring_blocks.specs.declared.Mark.TheVariants.{More, End, Cut}
 use Rattle.ring_words.specs.declared.views.ReaderView.{ReaderView}
 use Rattle.ring_words.specs.declared.views.WriterView.{WriterView}
-use Rattle.ring_words.specs.Views.{after_hit, after_miss, after_give}
-use Rattle.ring_words.specs.Seats.{home_word}
+use Rattle.ring_words.specs.Views.{after_seal, after_hit, after_miss, after_give}
+use Rattle.ring_words.specs.Steps.{home_word}
 use Rattle.ring_ends.specs.declared.answers.WriteStop.{WriteStop}
 use Rattle.ring_ends.specs.declared.answers.WriteStop.TheVariants.{Full, Spent}
 use Rattle.ring_ends.specs.declared.answers.ReadStop.{ReadStop}
@@ -19,34 +19,35 @@ FitsMark size More bytes = length bytes ≡ size
 FitsMark size End bytes = length bytes < size
 FitsMark size Cut bytes = length bytes ≡ 0
 
--- the writer's view w after looks, of which w' tells
-abbrev pub looked_as : WriterView → WriterView → WriterView
-looked_as w w' = record w { low = w'.low; looks = w'.looks; last_look = w'.last_look }
-
--- looking at the first n readers in turn, the writer saw each past the block in the buffer of the next
-pub record IsSeenPast (w : WriterView) (n : ℕ) (w' : WriterView) : Type 0 where
-  pub seen : (i : ℕ) → i < n → length w.sealed < slice_index w'.low i + w.shape.buffers
+-- The writer, which knew w, looked at the first n readers in turn: what it saw of the others before stays.
+pub record LookedAtFirst (w : WriterView) (n : ℕ) (w' : WriterView) : Type 0 where
   pub looks : w'.looks ≡ w.looks + n
-  pub rest : w' ≡ looked_as w w'
+  pub last : (i : ℕ) → n ≡ i + 1 → w'.last_look ≡ Some (i, slice_index w'.low i)
+  pub others : (i : ℕ) → n ≤ i → slice_index w'.low i ≡ slice_index w.low i
+  pub rest : w' ≡ record w { low = w'.low; looks = w'.looks; last_look = w'.last_look }
 
--- The block was sealed as number n. Each reader was seen past the block that lay in its buffer before
+-- it saw each of the first n past the block in the buffer of the next
+abbrev pub SawPast : WriterView → ℕ → WriterView → Type 0
+SawPast w n w' = (i : ℕ) → i < n → length w.sealed < slice_index w'.low i + w.shape.buffers
+
+-- the block was sealed as number n, and before that each reader was seen past the block that lay in its buffer
 pub record IsWritten (w : WriterView) (entry : Entry) (n : ℕ) (w' : WriterView) : Type 0 where
   pub number : n ≡ length w.sealed
   pub within : n < w.shape.max_blocks
-  pub sealed : w'.sealed ≡ w.sealed ++ entry ∷ []
-  pub seen : (i : ℕ) → i < w.shape.readers → n < slice_index w'.low i + w.shape.buffers
-  pub looks : w'.looks ≤ w.looks + w.shape.readers
-  pub rest : w' ≡ record (looked_as w w') { sealed = w.sealed ++ entry ∷ [] }
+  pub looked : WriterView
+  pub in_turn : LookedAtFirst w w.shape.readers looked
+  pub past : SawPast w w.shape.readers looked
+  pub view : w' ≡ after_seal looked entry
 
--- Nothing was sealed: looking at each reader in turn, the writer saw that reader i had cleared c blocks, and not the one in the buffer of the next
+-- Nothing was sealed: looking at each reader in turn, the writer saw first of reader i that it had cleared c blocks,
+-- and not the one in the buffer of the next
 pub record IsFull (w : WriterView) (i c : ℕ) (w' : WriterView) : Type 0 where
   pub within : length w.sealed < w.shape.max_blocks
   pub reader : i < w.shape.readers
-  pub looks : w'.looks ≡ w.looks + (i + 1)
-  pub last_look : w'.last_look ≡ Some (i, c)
+  pub in_turn : LookedAtFirst w (i + 1) w'
+  pub past : SawPast w i w'
+  pub count : slice_index w'.low i ≡ c
   pub late : c + w.shape.buffers ≤ length w.sealed
-  pub first : (j : ℕ) → j < i → length w.sealed < slice_index w'.low j + w.shape.buffers
-  pub rest : w' ≡ looked_as w w'
 
 -- why a write sealed nothing
 abbrev pub IsWriteStop : WriterView → WriteStop → WriterView → Type 0
@@ -65,7 +66,8 @@ pub record IsRead (r : ReaderView) (into : List ℕ) (t : Taken) (r' : ReaderVie
   pub mark : t.mark ≡ entry.mark
   pub bytes : into' ≡ entry.bytes ++ drop (length entry.bytes) into
 
--- Why a read took nothing: its try found a word, whose first part is 1 more than the number of the block in that buffer, and 0 where there is none, and whose
+-- Why a read took nothing: its try found a word, whose first part is 1 more than the number of the block in that
+-- buffer, and 0 where there is none, and whose
 -- last part tells who had it. Empty: the block is an older one. Busy: it is the wanted one, and another reader had it
 pub record FoundOlder (r : ReaderView) (block seen : ℕ) (r' : ReaderView) : Type 0 where
   pub word : ℕ

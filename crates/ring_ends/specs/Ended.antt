@@ -34,5 +34,17 @@ Gives readers j e = slice_get readers j ≡ Some (Some e)
 pub record AllReaders (ring : Ring) (readers : List (Option EndedReader)) : Type 0 where
   pub count : length readers ≡ (ring_shape ring).readers
   pub each : (j : ℕ) → j < length readers → (e : EndedReader) × Gives readers j e × EndedFrom ring e
-  pub once : (j k : ℕ) (e f : EndedReader) → Gives readers j e → Gives readers k f → (ended_knows e).number ≡ (ended_knows f).number → j ≡ k
-  pub all : (i : ℕ) → i < (ring_shape ring).readers → (j : ℕ) × (e : EndedReader) × Gives readers j e × ((ended_knows e).number ≡ i)
+  pub once : (j k : ℕ) (e f : EndedReader) → Gives readers j e → Gives readers k f →
+      (ended_knows e).number ≡ (ended_knows f).number → j ≡ k
+  pub all : (i : ℕ) → i < (ring_shape ring).readers → (j : ℕ) × (e : EndedReader) × Gives readers j e
+      × ((ended_knows e).number ≡ i)
+
+-- as many readers of the ring as it has, and reader j at place j
+pub record AreInOrder (ring : Ring) (readers : List (Option EndedReader)) : Type 0 where
+  pub count : length readers ≡ (ring_shape ring).readers
+  pub each : (j : ℕ) → j < length readers →
+      (e : EndedReader) × Gives readers j e × EndedFrom ring e × ((ended_knows e).number ≡ j)
+
+-- these are all
+abbrev pub OrderIsEnough : Type 0
+OrderIsEnough = (ring : Ring) (readers : List (Option EndedReader)) → AreInOrder ring readers → AllReaders ring readers

@@ -73,4 +73,5 @@ EndedFrom ring ended = Reads ring.words (ended_seat ended)
 
 -- at place i is the pass of reader i, which has done nothing
 abbrev pub HasFreshPass : Ring → List (Option ReaderPass) → ℕ → Type 0
-HasFreshPass ring passes i = (p : ReaderPass) × (slice_get passes i ≡ Some (Some p)) × ReadsFrom ring p × (reader_knows p ≡ fresh_reader (ring_shape ring) i) × (is_read p ≡ false)
+HasFreshPass ring passes i = (p : ReaderPass) × (slice_get passes i ≡ Some (Some p)) × ReadsFrom ring p
+    × (reader_knows p ≡ fresh_reader (ring_shape ring) i) × (is_read p ≡ false)

@@ -19,7 +19,8 @@ pub struct Finished {
     counts: [u64; 8],
     ghost few: { (writer_view seat).shape.readers ≤ 8 },
     ghost settled: { WriterSettled (writer_view seat) },
-    ghost counted: { (i : ℕ) → i < (writer_view seat).shape.readers → slice_index counts i ≡ length (cleared_of (parked_at (writer_view seat) i)) },
+    ghost counted: { (i : ℕ) → i < (writer_view seat).shape.readers
+        → slice_index counts i ≡ length (cleared_of (parked_at (writer_view seat) i)) },
 }
 
 impl Ring {
@@ -38,10 +39,14 @@ impl Ring {
         requires readers { AllReaders self readers.items }
         ensures shape { finished_shape result ≡ ring_shape self }
         ensures sealed { sealed_at_end result ≡ (writer_knows writer).sealed }
-        ensures readers { (j : ℕ) (e : EndedReader) → Gives readers.items j e → reader_at_end result (ended_knows e).number ≡ Some (ended_knows e) }
+        ensures limit { length (sealed_at_end result) ≤ (ring_shape self).max_blocks }
+        ensures readers { (j : ℕ) (e : EndedReader) → Gives readers.items j e
+            → reader_at_end result (ended_knows e).number ≡ Some (ended_knows e) }
         ensures sized { All (λ e. length e.bytes ≤ (ring_shape self).size) (sealed_at_end result) }
-        ensures begins { (i : ℕ) → i < (ring_shape self).readers → Begins (cleared_at_end result i) (sealed_at_end result) }
-        ensures next { (i : ℕ) (r : ReaderView) (e : Entry) → reader_at_end result i ≡ Some r → r.got ≡ Some e → slice_get (sealed_at_end result) (length r.cleared) ≡ Some e }
+        ensures begins { (i : ℕ) → i < (ring_shape self).readers
+            → Begins (cleared_at_end result i) (sealed_at_end result) }
+        ensures next { (i : ℕ) (r : ReaderView) (e : Entry) → reader_at_end result i ≡ Some r
+            → r.got ≡ Some e → slice_get (sealed_at_end result) (length r.cleared) ≡ Some e }
     {
         let Ring { words } = self;
         let WriterPass { mut seat } = writer;

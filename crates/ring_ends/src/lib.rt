@@ -1,10 +1,13 @@
-//! The two ends of a ring: one writer hands blocks of bytes on to up to eight readers, each of which gets all of them, in order.
+//! The two ends of a ring: one writer hands blocks of bytes on to up to eight readers, each of which gets all of them,
+//! in order.
 //!
-//! A block's buffer is written again only after each registered reader cleared the block (PSRDADA manual). No call after `Ring::open` takes memory or waits.
+//! A block's buffer is written again only after each registered reader cleared the block (PSRDADA manual). No call
+//! after `Ring::open` takes memory or waits.
 #![tactic(auto)]
 
 mod answers;
 mod finished;
+mod laws;
 mod passes;
 mod ring;
 #[cfg(test)]
@@ -12,6 +15,7 @@ mod tests;
 
 pub use answers::{ReadStop, Taken, WriteStop};
 pub use finished::Finished;
+pub use laws::order_is_enough;
 pub use passes::{DetachedReader, EndedReader, ReaderPass, RetiredPass, WriterPass};
 pub use ring::Ring;
 pub use ring_blocks::Mark;

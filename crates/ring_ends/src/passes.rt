@@ -94,10 +94,11 @@ impl ReaderPass {
         self.seat.tries()
     }
 
-    /// What the last try found in its buffer: the number plus 1 of the block there, or 0 where there was none, and who had it:
-    /// 0 for nobody, 15 for the writer, or a reader's number plus 1.
+    /// What the last try found in its buffer: the number plus 1 of the block there, or 0 where there was none, and who
+    /// had it: 0 for nobody, 15 for the writer, or a reader's number plus 1.
     pub fn last_try(&self) -> Option<(u64, u32)>
-        ensures { result ≡ option_map (λ word. (word / 16, word % 16)) (reader_knows self.now).last_try }
+        ensures { result
+            ≡ option_map (λ word. (word / 16, word % 16)) (reader_knows self.now).last_try }
     {
         self.seat.last_try()
     }
@@ -122,6 +123,20 @@ impl ReaderPass {
 impl DetachedReader {
     ghost use Rattle.ring_ends.specs.Passes.{reader_knows, is_read, detached_knows, ring_of_reader, ring_of_detached};
 
+    /// The reader's number in its ring, from 0 on.
+    pub fn number(&self) -> u32
+        ensures { result ≡ (detached_knows self.now).number }
+    {
+        self.seat.number()
+    }
+
+    /// How many blocks the reader cleared.
+    pub fn cleared(&self) -> u64
+        ensures { result ≡ length (detached_knows self.now).cleared }
+    {
+        self.seat.cleared()
+    }
+
     /// Goes on reading with the first block that was not cleared.
     pub fn attach(self) -> ReaderPass
         ensures same { reader_knows result ≡ detached_knows self }
@@ -136,8 +151,48 @@ impl DetachedReader {
     }
 }
 
+impl RetiredPass {
+    ghost use Rattle.ring_ends.specs.Passes.{retired_knows};
+
+    /// The reader's number in its ring, from 0 on.
+    pub fn number(&self) -> u32
+        ensures { result ≡ (retired_knows self.now).number }
+    {
+        self.seat.number()
+    }
+
+    /// How many blocks the reader cleared.
+    pub fn cleared(&self) -> u64
+        ensures { result ≡ length (retired_knows self.now).cleared }
+    {
+        self.seat.cleared()
+    }
+}
+
 impl EndedReader {
-    ghost use Rattle.ring_ends.specs.Passes.{ended_seat};
+    ghost use Rattle.ring_ends.specs.Passes.{ended_seat, ended_knows};
+
+    /// The reader's number in its ring, from 0 on.
+    pub fn number(&self) -> u32
+        ensures { result ≡ (ended_knows self.now).number }
+    {
+        match self {
+            EndedReader::Here(pass) => pass.number(),
+            EndedReader::Away(reader) => reader.number(),
+            EndedReader::Retired(pass) => pass.number(),
+        }
+    }
+
+    /// How many blocks the reader cleared.
+    pub fn cleared(&self) -> u64
+        ensures { result ≡ length (ended_knows self.now).cleared }
+    {
+        match self {
+            EndedReader::Here(pass) => pass.cleared(),
+            EndedReader::Away(reader) => reader.cleared(),
+            EndedReader::Retired(pass) => pass.cleared(),
+        }
+    }
 
     pub(crate) fn into_seat(self) -> ReaderSeat
         ensures seat { result ≡ ended_seat self }

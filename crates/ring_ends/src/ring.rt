@@ -20,7 +20,7 @@ impl Ring {
     ghost use Rattle.ring_words.specs.Plays.{ReaderSettled};
     ghost use Rattle.ring_words.specs.Shape.{IsRing};
     ghost use Rattle.ring_ends.specs.Passes.{ring_shape, writer_knows, reader_knows, is_read, retired_knows, WritesTo, ReadsFrom, RetiredFrom, HasFreshPass};
-    ghost use Rattle.ring_ends.specs.Answers.{FitsMark, IsWritten, IsWriteStop, IsRead, IsReadStop, IsSeenPast, IsFull};
+    ghost use Rattle.ring_ends.specs.Answers.{FitsMark, IsWritten, IsWriteStop, IsRead, IsReadStop, LookedAtFirst, SawPast, IsFull};
 
     /// Opens a ring. The pass at place i is that of reader i.
     pub fn open(
@@ -29,9 +29,11 @@ impl Ring {
     ) -> Result<(Ring, WriterPass, ArrayVec<Option<ReaderPass>, 8>), Memory>
         requires { IsRing shape }
         ensures shape { IfOk result (λ r. ring_shape r.0 ≡ shape) }
-        ensures writer { IfOk result (λ r. WritesTo r.0 r.1 × (writer_knows r.1 ≡ seated_writer shape shape.readers)) }
+        ensures writer { IfOk result (λ r. WritesTo r.0 r.1
+            × (writer_knows r.1 ≡ seated_writer shape shape.readers)) }
         ensures count { IfOk result (λ r. length r.2.items ≡ shape.readers) }
-        ensures readers { IfOk result (λ r. EachIndex r.2.items (λ i. HasFreshPass r.0 r.2.items i)) }
+        ensures readers { IfOk result (λ r.
+            EachIndex r.2.items (λ i. HasFreshPass r.0 r.2.items i)) }
         ensures passes { IfOk result (λ r. All (λ o. IsSomeAnd o (ReadsFrom r.0)) r.2.items) }
     {
         let (words, seat, mut seats) = Words::open(alloc, shape)?;
@@ -51,7 +53,8 @@ impl Ring {
 
     /// The measures that it was opened with.
     pub fn shape(&self) -> RingShape
-        ensures { result ≡ ring_shape self.now }
+        ensures shape { result ≡ ring_shape self.now }
+        ensures ring { IsRing result }
     {
         self.words.shape()
     }
@@ -62,7 +65,8 @@ impl Ring {
         requires fits { FitsMark (ring_shape self.now).size mark bytes.now }
         ensures ring { WritesTo self.now pass.new }
         ensures cases { MatchResult result
-            (λ n. IsWritten (writer_knows pass.old) (record { mark = mark; bytes = bytes.now }) n (writer_knows pass.new))
+            (λ n. IsWritten (writer_knows pass.old)
+                (record { mark = mark; bytes = bytes.now }) n (writer_knows pass.new))
             (λ stop. IsWriteStop (writer_knows pass.old) stop (writer_knows pass.new)) }
     {
         let limit = self.words.shape().max_blocks;
@@ -76,7 +80,8 @@ impl Ring {
         Ok(self.words.seal(&mut pass.seat, bytes, mark))
     }
 
-    /// Copies the block that comes after those that the reader cleared to the front of `into`. Until it is cleared, the same block is read again.
+    /// Copies the block that comes after those that the reader cleared to the front of `into`. Until it is cleared, the
+    /// same block is read again.
     pub fn read(&self, pass: &mut ReaderPass, into: &mut [u8]) -> Result<Taken, ReadStop>
         requires ring { ReadsFrom self.now pass.old }
         requires room { (ring_shape self.now).size ≤ length into.old }
@@ -86,7 +91,8 @@ impl Ring {
             (λ stop. IsReadStop (reader_knows pass.old) stop (reader_knows pass.new)) }
         ensures settled { ReaderSettled (reader_knows pass.new) }
         ensures has_read { OnOk result (is_read pass.new ≡ true) }
-        ensures kept { OnErr result ((is_read pass.new ≡ is_read pass.old) × (into.new ≡ into.old)) }
+        ensures kept { OnErr result
+            ((is_read pass.new ≡ is_read pass.old) × (into.new ≡ into.old)) }
     {
         let block = pass.cleared();
         match self.words.reader_take(&mut pass.seat) {
@@ -127,13 +133,15 @@ impl Ring {
         RetiredPass { seat }
     }
 
-    // Looks at each reader in turn, up to the first that has not cleared the block in the buffer of the next, with the count that it saw.
+    // Looks at each reader in turn, up to the first that has not cleared the block in the buffer of the next, with the
+    // count that it saw.
     fn first_late(&self, pass: &mut WriterPass) -> Option<(u32, u64)>
         requires ring { WritesTo self.now pass.old }
         requires within { length (writer_knows pass.old).sealed < (ring_shape self.now).max_blocks }
         ensures ring { WritesTo self.now pass.new }
         ensures cases { MatchOption result
-            (IsSeenPast (writer_knows pass.old) (ring_shape self.now).readers (writer_knows pass.new))
+            (LookedAtFirst (writer_knows pass.old) (ring_shape self.now).readers (writer_knows pass.new)
+            × SawPast (writer_knows pass.old) (ring_shape self.now).readers (writer_knows pass.new))
             (λ late. IsFull (writer_knows pass.old) late.0 late.1 (writer_knows pass.new)) }
     {
         let shape = self.words.shape();
@@ -161,7 +169,8 @@ fn is_late(cleared: u64, sealed: u64, buffers: u32) -> bool
 // What the word says that was found in the buffer of this block.
 fn stop_of(block: u64, word: u64) -> ReadStop
     requires { block < word / 16 → 0 < word % 16 }
-    ensures { result ≡ (if nat_le (word / 16) block then ReadStop.Empty block (word / 16) else ReadStop.Busy block (word % 16 - 1)) }
+    ensures { result ≡ (if nat_le (word / 16) block then ReadStop.Empty block (word / 16)
+        else ReadStop.Busy block (word % 16 - 1)) }
 {
     let seen = word / 16;
     if seen <= block {

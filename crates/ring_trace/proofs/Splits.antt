@@ -21,7 +21,8 @@ one_split s [] [] b b' lacks lacks' e = (refl, cc)
 one_split s [] (x ∷ a') b b' lacks lacks' e = let h : x ≡ s = cc in absurd (lacks' 0 (omega arith) h)
 one_split s (x ∷ a) [] b b' lacks lacks' e = let h : x ≡ s = cc in absurd (lacks 0 (omega arith) h)
 one_split s (x ∷ a) (y ∷ a') b b' lacks lacks' e =
-    let rest = one_split s a a' b b' (lacks_rest s x a lacks) (lacks_rest s y a' lacks') cc in let h : x ≡ y = cc in let t = rest.0 in (cc, rest.1)
+    let rest = one_split s a a' b b' (lacks_rest s x a lacks) (lacks_rest s y a' lacks') cc in let h : x ≡ y = cc in
+        let t = rest.0 in (cc, rest.1)
 
 if_false : (b : Bool) (xs ys : List (List ℕ)) → b ≡ false → (if b then xs else ys) ≡ ys
 if_false true xs ys e = cc
@@ -58,7 +59,8 @@ has_byte s [] b lacks = lacks 0 (omega arith) refl
 has_byte s (x ∷ a) b lacks = has_byte s a b (lacks_rest s x (a ++ s ∷ b) lacks)
 
 -- the three words of a ring's line are one choice
-pub one_ring : (b r n b' r' n' : List ℕ) → Lacks 32 b → Lacks 32 r → Lacks 32 b' → Lacks 32 r' → ring_text b r n ≡ ring_text b' r' n' → (b ≡ b') × (r ≡ r') × (n ≡ n')
+pub one_ring : (b r n b' r' n' : List ℕ) → Lacks 32 b → Lacks 32 r → Lacks 32 b' → Lacks 32 r' →
+    ring_text b r n ≡ ring_text b' r' n' → (b ≡ b') × (r ≡ r') × (n ≡ n')
 one_ring b r n b' r' n' lb lr lb' lr' e =
     let first = one_split 32 b b' (r ++ 32 ∷ n) (r' ++ 32 ∷ n') lb lb' (same_rest (codes "ring ") _ _ e) in
     let second = one_split 32 r r' n n' lr lr' first.1 in
@@ -73,7 +75,8 @@ none_by (Some x) P Q f h = tt
 none_by None P Q f h = f h
 
 -- where the digits are no number, no number stands there
-pub no_number : (r : Option ℕ) (word line digits : List ℕ) → SomeIff r (IsNumber digits) (digits_value 10 digits) → line ≡ word ++ 32 ∷ digits → IfNone r ((n : ℕ) → ¬ IsNumbered word line n)
+pub no_number : (r : Option ℕ) (word line digits : List ℕ) → SomeIff r (IsNumber digits) (digits_value 10 digits) →
+    line ≡ word ++ 32 ∷ digits → IfNone r ((n : ℕ) → ¬ IsNumbered word line n)
 no_number (Some x) word line digits h e = tt
 no_number None word line digits h e = λ n (x, is, number, value).
     let same : 32 ∷ x ≡ 32 ∷ digits = same_rest word (32 ∷ x) (32 ∷ digits) (sym is ∙ e) in
@@ -85,8 +88,10 @@ NoReader readers word line = (i : ℕ) → IsNumbered word line i → ¬ (i < re
 
 -- a line that is none of the forms asks for no event
 pub no_event : (readers : ℕ) (line : List ℕ) → line ≢ codes "take" → ((n : ℕ) → ¬ IsNumbered (codes "seal") line n) →
-    NoReader readers (codes "look") line → NoReader readers (codes "read") line → NoReader readers (codes "give") line → NoReader readers (codes "clear") line →
-    NoReader readers (codes "retire") line → NoReader readers (codes "detach") line → NoReader readers (codes "attach") line →
+    NoReader readers (codes "look") line → NoReader readers (codes "read") line →
+        NoReader readers (codes "give") line → NoReader readers (codes "clear") line →
+    NoReader readers (codes "retire") line → NoReader readers (codes "detach") line →
+        NoReader readers (codes "attach") line →
     (event : Event ℕ) → ¬ AsksFor readers line event
 no_event readers line take seal look read give clear retire detach attach (Event.Look i) h = look i h.0 h.1
 no_event readers line take seal look read give clear retire detach attach Event.WriterTake h = take h

@@ -7,7 +7,8 @@ use Rattle.ring_trace.specs.Text.{IsNumber}
 
 -- the line is this word, one space and the number n
 abbrev pub IsNumbered : List ℕ → List ℕ → ℕ → Type 0
-IsNumbered word line n = (number : List ℕ) × (line ≡ word ++ 32 ∷ number) × (IsNumber number) × (n ≡ digits_value 10 number)
+IsNumbered word line n = (number : List ℕ) × (line ≡ word ++ 32 ∷ number) × (IsNumber number)
+    × (n ≡ digits_value 10 number)
 
 -- `ring` and three words, each after one space
 abbrev pub ring_text : List ℕ → List ℕ → List ℕ → List ℕ
@@ -26,7 +27,8 @@ pub record IsRingLine (line : List ℕ) (shape : Shape) : Type 0 where
   pub blocks : List ℕ
   pub words : line ≡ ring_text buffers readers blocks
   pub numbers : (IsNumber buffers) × (IsNumber readers) × (IsNumber blocks)
-  pub values : (shape.buffers ≡ digits_value 10 buffers) × (shape.readers ≡ digits_value 10 readers) × (shape.max_blocks ≡ digits_value 10 blocks)
+  pub values : (shape.buffers ≡ digits_value 10 buffers) × (shape.readers ≡ digits_value 10 readers)
+      × (shape.max_blocks ≡ digits_value 10 blocks)
   pub in_range : IsInRange shape
 
 -- the line asks for this event, of a ring with so many readers

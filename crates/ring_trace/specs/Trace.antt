@@ -37,7 +37,8 @@ pub record IsWhole (file text : List ℕ) : Type 0 where
 abbrev pub HasNoRing : List ℕ → Type 0
 HasNoRing file =
     (lines_of file ≡ [])
-    ⊎ ((first : List ℕ) × (lines : List (List ℕ)) × (lines_of file ≡ first ∷ lines) × ((shape : Shape) → ¬ IsRingLine first shape))
+    ⊎ ((first : List ℕ) × (lines : List (List ℕ)) × (lines_of file ≡ first ∷ lines)
+        × ((shape : Shape) → ¬ IsRingLine first shape))
 
 -- a later line has not its form, and the text answers the lines before the first such line
 pub record IsCutAt (file text : List ℕ) : Type 0 where

@@ -1,6 +1,6 @@
 // The lines that say the answers.
 ghost use Rattle.std.specs.Prelude.{◌≡◌, ◌+◌, ◌≤◌, ◌++◌, length, decimal, codes};
-ghost use Rattle.ring_core.specs.Ring.{answer_of};
+ghost use Rattle.ring_core.specs.State.{answer_of};
 ghost use Rattle.ring_trace.specs.Events.{answer_line};
 
 use ring_core::Answer;

@@ -1,7 +1,7 @@
 // The lines of a trace: the ring's own, and one for each event.
 ghost use Rattle.std.specs.Prelude.{◌≡◌, ◌≢◌, ℕ, ◌<◌, ◌++◌, ◌∷◌, List, IfSome, IfNone};
 ghost use Rattle.ring_core.specs.Machine as machine;
-ghost use Rattle.ring_core.specs.Ring.{event_of};
+ghost use Rattle.ring_core.specs.State.{event_of};
 ghost use Rattle.ring_core.specs.declared.Shape.{Shape};
 ghost use Rattle.ring_trace.specs.Text.{Lacks};
 ghost use Rattle.ring_trace.specs.Events.{IsNumbered, IsInRange, IsRingLine, AsksFor, ring_text};

@@ -1,4 +1,5 @@
--- What a step leaves alone: buffers, readers and seats that it does not touch. A step of the writer, and one of a reader, from their parts.
+-- What a step leaves alone: buffers, readers and seats that it does not touch. A step of the writer, and one of a
+-- reader, from their parts.
 use Rattle.std.proofs.Common.{◌≡◌, ◌≢◌, ℕ, ◌+◌, ◌%◌, ◌<◌, ◌≤◌, true, false, eqb, cond, List, length, get_or, set, Option, sym, refl, ap, ◌∙◌, subst, ⊎_elim, eq-eqb, ne_eqb}
 use mathlib.Core.Option as maybe
 use mathlib.Core.Option.{some, some-injective}
@@ -14,7 +15,7 @@ use Rattle.ring_words.specs.declared.views.View.{View}
 use Rattle.ring_words.specs.declared.views.ReaderView.{ReaderView}
 use Rattle.ring_words.specs.declared.views.WriterView.{WriterView}
 use Rattle.ring_words.specs.declared.views.View.TheVariants.{Writer, Reader, Spent}
-use Rattle.ring_words.specs.Ring.{Holder, at_home, by_reader, by_writer, Turn, IsNewest, Begins, Held, TurnOk, ReaderOk, WriterOk, Knows, Core, count_word}
+use Rattle.ring_words.specs.Ring.{Holder, at_home, by_reader, by_writer, Turn, IsNewest, Begins, Held, TurnOk, ReaderOk, WriterOk, Knows, KeptBy, count_word}
 use Rattle.ring_words.proofs.Counts.{at_below}
 
 module _ {A : Type 0} where
@@ -29,7 +30,8 @@ module _ {A : Type 0} where
   put_else f i x j other = ap (λ b. cond b x (f j)) (ne_eqb j i other)
 
 -- what is true of the new value at i and of the old ones elsewhere is true of all
-pub at_put : {A : Type 0} (P : ℕ → A → Type 0) (f : ℕ → A) (i : ℕ) (x : A) (n : ℕ) → P i x → ((j : ℕ) → j < n → j ≢ i → P j (f j)) → (j : ℕ) → j < n → P j (put f i x j)
+pub at_put : {A : Type 0} (P : ℕ → A → Type 0) (f : ℕ → A) (i : ℕ) (x : A) (n : ℕ) → P i x →
+    ((j : ℕ) → j < n → j ≢ i → P j (f j)) → (j : ℕ) → j < n → P j (put f i x j)
 at_put {A} P f i x n here others j below = dite (ℕ_discrete j i)
     (λ same. subst (λ (z : ℕ). P z (put f i x z)) (sym same) (subst (λ (z : A). P i z) (sym (put_here f i x)) here))
     (λ other. subst (λ (z : A). P j z) (sym (put_else f i x j other)) (others j below other))
@@ -38,20 +40,30 @@ abbrev pub Homes : Type 0
 Homes = List (maybe.Option Block)
 
 -- What has to stay for a buffer k with the newest n: the block at home, and what its holder knows.
-pub record Stays (shape : RingShape) (w w' : WriterView) (reader reader' : ℕ → ReaderView) (homes homes' : Homes) (k n : ℕ) : Type 0 where
+pub record Stays (shape : RingShape) (w w' : WriterView) (reader reader' : ℕ → ReaderView) (homes homes' : Homes)
+    (k n : ℕ) : Type 0 where
   pub home : get_elem? homes' k ≡ get_elem? homes k
   pub sealed : (m : ℕ) (e : Entry) → get_elem? w.sealed m ≡ some e → get_elem? w'.sealed m ≡ some e
-  pub readers : (i : ℕ) → (reader i).out ≡ true → n ≡ length (reader i).cleared + 1 → ((reader' i).out ≡ true) × (n ≡ length (reader' i).cleared + 1)
-  pub writer : w.out ≡ true → k ≡ length w.sealed % shape.buffers → (w'.out ≡ true) × (k ≡ length w'.sealed % shape.buffers)
+  pub readers : (i : ℕ) → (reader i).out ≡ true → n ≡ length (reader i).cleared + 1 → ((reader' i).out ≡ true)
+      × (n ≡ length (reader' i).cleared + 1)
+  pub writer : w.out ≡ true → k ≡ length w.sealed % shape.buffers → (w'.out ≡ true)
+      × (k ≡ length w'.sealed % shape.buffers)
 
 module _ (shape : RingShape) where
-  pub held_kept : (w w' : WriterView) (reader reader' : ℕ → ReaderView) (homes homes' : Homes) (k n : ℕ) → Stays shape w w' reader reader' homes homes' k n → (h : Holder) → Held shape w reader homes k n h → Held shape w' reader' homes' k n h
-  held_kept w w' reader reader' homes homes' k n stays at_home held = (held.0, stays.home ∙ held.1, held.2, λ m e. stays.sealed m _ (held.3 m e))
-  held_kept w w' reader reader' homes homes' k n stays (by_reader i) held = let t = stays.readers i held.1 held.2 in (held.0, t.0, t.1)
+  pub held_kept : (w w' : WriterView) (reader reader' : ℕ → ReaderView) (homes homes' : Homes) (k n : ℕ) →
+      Stays shape w w' reader reader' homes homes' k n → (h : Holder) → Held shape w reader homes k n h →
+      Held shape w' reader' homes' k n h
+  held_kept w w' reader reader' homes homes' k n stays at_home held =
+      (held.0, stays.home ∙ held.1, held.2, λ m e. stays.sealed m _ (held.3 m e))
+  held_kept w w' reader reader' homes homes' k n stays (by_reader i) held = let t = stays.readers i held.1 held.2 in
+      (held.0, t.0, t.1)
   held_kept w w' reader reader' homes homes' k n stays by_writer held = stays.writer held.0 held.1
 
-  pub turn_kept : (w w' : WriterView) (reader reader' : ℕ → ReaderView) (words words' : List ℕ) (homes homes' : Homes) (k : ℕ) (t : Turn) → get_or words' k 0 ≡ get_or words k 0
-      → IsNewest shape.buffers (length w'.sealed) k t.newest → Stays shape w w' reader reader' homes homes' k t.newest → TurnOk shape w reader words homes k t → TurnOk shape w' reader' words' homes' k t
+  pub turn_kept : (w w' : WriterView) (reader reader' : ℕ → ReaderView) (words words' : List ℕ) (homes homes' : Homes)
+      (k : ℕ) (t : Turn) → get_or words' k 0 ≡ get_or words k 0
+      → IsNewest shape.buffers (length w'.sealed) k t.newest →
+          Stays shape w w' reader reader' homes homes' k t.newest → TurnOk shape w reader words homes k t →
+          TurnOk shape w' reader' words' homes' k t
   turn_kept w w' reader reader' words words' homes homes' k t word newest stays ok = record {
     shows = word ∙ ok.shows;
     newest = newest;
@@ -63,7 +75,8 @@ module _ (shape : RingShape) where
       → Begins r.cleared w'.sealed
       → (r.retired ≡ false → length w'.sealed ≤ length r.cleared + shape.buffers)
       → ((e : Entry) → get_elem? w.sealed (length r.cleared) ≡ some e → get_elem? w'.sealed (length r.cleared) ≡ some e)
-      → ((turn (length r.cleared % shape.buffers)).holder ≡ by_reader i → (turn' (length r.cleared % shape.buffers)).holder ≡ by_reader i)
+      → ((turn (length r.cleared % shape.buffers)).holder ≡ by_reader i →
+          (turn' (length r.cleared % shape.buffers)).holder ≡ by_reader i)
       → get_or w'.low i 0 ≤ count_word r
       → ReaderOk shape w words turn i r → ReaderOk shape w' words' turn' i r
   reader_kept w w' words words' turn turn' i r word begins within got holder low ok = record {
@@ -78,29 +91,37 @@ module _ (shape : RingShape) where
   }
 
   -- the seat j after a change of the seat i, which then knows v
-  seats : (K : ℕ → View → Type 0) (views : List View) (i : ℕ) (v : View) → K i v → ((j : ℕ) (u : View) → j ≢ i → get_elem? views j ≡ some u → K j u) → (j : ℕ) (u : View) → get_elem? (set views i v) j ≡ some u → K j u
-  seats K views i v here others j u is = ⊎_elim (λ (t : (j ≡ i) × (v ≡ u)). subst (λ (x : ℕ × View). K x.0 x.1) (λ z. (sym t.0 z, t.1 z)) here)
+  seats : (K : ℕ → View → Type 0) (views : List View) (i : ℕ) (v : View) → K i v →
+      ((j : ℕ) (u : View) → j ≢ i → get_elem? views j ≡ some u → K j u) → (j : ℕ) (u : View) →
+      get_elem? (set views i v) j ≡ some u → K j u
+  seats K views i v here others j u is = ⊎_elim (λ (t : (j ≡ i) × (v ≡ u)).
+      subst (λ (x : ℕ × View). K x.0 x.1) (λ z. (sym t.0 z, t.1 z)) here)
       (λ (t : (j ≢ i) × (get_elem? views j ≡ some u)). others j u t.0 t.1) (at_set views i j v u is)
 
-  module _ (s : State Block View) (w : WriterView) (at : ℕ) (reader : ℕ → ReaderView) (place : ℕ → ℕ) (turn : ℕ → Turn) (c : Core shape s w at reader place turn) where
+  module _ (s : State Block View) (w : WriterView) (at : ℕ) (reader : ℕ → ReaderView) (place : ℕ → ℕ)
+      (turn : ℕ → Turn) (c : KeptBy shape s w at reader place turn) where
     -- a seat with a writer's view is the writer's
     pub is_writer : (j : ℕ) (v : WriterView) → get_elem? s.views j ≡ some (Writer v) → (v ≡ w) × (j ≡ at)
     is_writer j v is = c.each_seat j (Writer v) is
 
-    pub is_reader : (j : ℕ) (r : ReaderView) → get_elem? s.views j ≡ some (Reader r) → (r.number < shape.readers) × (r ≡ reader r.number) × (place r.number ≡ j)
+    pub is_reader : (j : ℕ) (r : ReaderView) → get_elem? s.views j ≡ some (Reader r) → (r.number < shape.readers)
+        × (r ≡ reader r.number) × (place r.number ≡ j)
     is_reader j r is = c.each_seat j (Reader r) is
 
-    other_knows : (w' : WriterView) (j : ℕ) → j ≢ at → (v : View) → Knows shape w at reader place j v → Knows shape w' at reader place j v
+    other_knows : (w' : WriterView) (j : ℕ) → j ≢ at → (v : View) → Knows shape w at reader place j v →
+        Knows shape w' at reader place j v
     other_knows w' j other (Writer v) k = absurd (other k.1)
     other_knows w' j other (Reader r) k = k
     other_knows w' j other Spent k = tt
 
     -- a step of the writer, after which it knows w', with the readers as they parked
     pub writer_step : (w' : WriterView) (turn' : ℕ → Turn) (words' : List ℕ) (homes' : Homes)
-        → length words' ≡ length s.words → length homes' ≡ length s.homes → w'.parked ≡ w.parked → WriterOk shape w' turn'
+        → length words' ≡ length s.words → length homes' ≡ length s.homes → w'.parked ≡ w.parked →
+            WriterOk shape w' turn'
         → ((k : ℕ) → k < shape.buffers → TurnOk shape w' reader words' homes' k (turn' k))
         → ((i : ℕ) → i < shape.readers → ReaderOk shape w' words' turn' i (reader i))
-        → Core shape (record { words = words'; homes = homes'; views = set s.views at (Writer w') }) w' at reader place turn'
+        → KeptBy shape (record { words = words'; homes = homes'; views =
+            set s.views at (Writer w') }) w' at reader place turn'
     writer_step w' turn' words' homes' wide deep parked writer turns readers = record {
       ring = c.ring;
       wide = wide ∙ c.wide;
@@ -109,16 +130,20 @@ module _ (shape : RingShape) where
       each_turn = turns;
       each_reader = readers;
       seated = set_here s.views at (Writer w') (at_below s.views at (Writer w) c.seated);
-      each_seat = seats (Knows shape w' at reader place) s.views at (Writer w') (refl, refl) (λ j u other is. other_knows w' j other u (c.each_seat j u is));
+      each_seat = seats (Knows shape w' at reader place) s.views at (Writer w') (refl, refl)
+          (λ j u other is. other_knows w' j other u (c.each_seat j u is));
       all_parked = ap (λ (l : List (Option ReaderView)). length l) parked ∙ c.all_parked;
       parked = λ i r is. c.parked i r (ap (λ (l : List (Option ReaderView)). get_elem? l i) (sym parked) ∙ is);
     }
 
-    module _ (id : ℕ) (r : ReaderView) (here : get_elem? s.views id ≡ some (Reader r)) (r' : ReaderView) (same : r'.number ≡ r.number) where
+    module _ (id : ℕ) (r : ReaderView) (here : get_elem? s.views id ≡ some (Reader r)) (r' : ReaderView)
+        (same : r'.number ≡ r.number) where
       reader_apart : at ≢ id
-      reader_apart e = let clash : Writer w ≡ Reader r = some-injective _ _ (sym c.seated ∙ (ap (λ (j : ℕ). get_elem? s.views j) e ∙ here)) in cc
+      reader_apart e = let clash : Writer w ≡ Reader r = some-injective _ _
+          (sym c.seated ∙ (ap (λ (j : ℕ). get_elem? s.views j) e ∙ here)) in cc
 
-      others_know : (j : ℕ) → j ≢ id → (v : View) → Knows shape w at reader place j v → Knows shape w at (put reader r.number r') place j v
+      others_know : (j : ℕ) → j ≢ id → (v : View) → Knows shape w at reader place j v →
+          Knows shape w at (put reader r.number r') place j v
       others_know j other (Writer v) k = k
       others_know j other (Reader q) k = let mine = (is_reader id r here).2 in
           (k.0, k.1 ∙ sym (put_else reader r.number r' q.number (λ e. other (sym k.2 ∙ (ap place e ∙ mine)))), k.2)
@@ -129,7 +154,8 @@ module _ (shape : RingShape) where
           → length words' ≡ length s.words → length homes' ≡ length s.homes → WriterOk shape w turn'
           → ((k : ℕ) → k < shape.buffers → TurnOk shape w (put reader r.number r') words' homes' k (turn' k))
           → ((i : ℕ) → i < shape.readers → ReaderOk shape w words' turn' i (put reader r.number r' i))
-          → Core shape (record { words = words'; homes = homes'; views = set s.views id (Reader r') }) w at (put reader r.number r') place turn'
+          → KeptBy shape (record { words = words'; homes = homes'; views = set s.views id (Reader r') }) w at
+              (put reader r.number r') place turn'
       reader_step turn' words' homes' wide deep writer turns readers = let mine = is_reader id r here in record {
         ring = c.ring;
         wide = wide ∙ c.wide;
@@ -139,8 +165,10 @@ module _ (shape : RingShape) where
         each_reader = readers;
         seated = set_else s.views id at (Reader r') reader_apart ∙ c.seated;
         each_seat = seats (Knows shape w at (put reader r.number r') place) s.views id (Reader r')
-            (subst (λ (i : ℕ). (i < shape.readers) × (r' ≡ put reader r.number r' i) × (place i ≡ id)) (sym same) (mine.0, sym (put_here reader r.number r'), mine.2))
+            (subst (λ (i : ℕ). (i < shape.readers) × (r' ≡ put reader r.number r' i) × (place i ≡ id)) (sym same)
+                (mine.0, sym (put_here reader r.number r'), mine.2))
             (λ j u other is. others_know j other u (c.each_seat j u is));
         all_parked = c.all_parked;
-        parked = λ i q is. let t = c.parked i q is in (t.0, t.1 ∙ sym (put_else reader r.number r' i (λ e. reader_apart (sym t.2 ∙ (ap place e ∙ mine.2)))), t.2);
+        parked = λ i q is. let t = c.parked i q is in (t.0, t.1
+            ∙ sym (put_else reader r.number r' i (λ e. reader_apart (sym t.2 ∙ (ap place e ∙ mine.2)))), t.2);
       }

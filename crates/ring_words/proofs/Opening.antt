@@ -25,7 +25,8 @@ slice_get_longer (x ∷ xs) m zero a e = e
 slice_get_longer (x ∷ xs) m (suc i) a e = slice_get_longer xs m i a e
 
 -- so many readers have their seats
-pub record Opening (shape : RingShape) (n : ℕ) (words : Words) (writer : WriterSeat) (seats : List (Option ReaderSeat)) : Type 0 where
+pub record Opening (shape : RingShape) (n : ℕ) (words : Words) (writer : WriterSeat)
+    (seats : List (Option ReaderSeat)) : Type 0 where
   pub shaped : shape_of words ≡ shape
   pub writes : Writes words writer
   pub rest : writer_view writer ≡ seated_writer shape n
@@ -36,31 +37,42 @@ abbrev all : RingShape → List (Option ReaderView)
 all shape = listed (λ i. Some (fresh_reader shape i)) shape.readers
 
 -- the reader whose turn it is
-next_reader : (shape : RingShape) (n : ℕ) → n < shape.readers → drop n (all shape) ≡ Some (fresh_reader shape n) ∷ drop (suc n) (all shape)
-next_reader shape n near = drop_at (all shape) n (Some (fresh_reader shape n)) (at_listed (λ i. Some (fresh_reader shape i)) shape.readers n near)
+next_reader : (shape : RingShape) (n : ℕ) → n < shape.readers →
+    drop n (all shape) ≡ Some (fresh_reader shape n) ∷ drop (suc n) (all shape)
+next_reader shape n near = drop_at (all shape) n (Some (fresh_reader shape n))
+    (at_listed (λ i. Some (fresh_reader shape i)) shape.readers n near)
 
-pub next_parked : (shape : RingShape) (n : ℕ) → n < shape.readers → parked_at (seated_writer shape n) n ≡ Some (fresh_reader shape n)
-next_parked shape n near = ap (λ (l : List (Option ReaderView)). get_or (replicate n None ++ l) n None) (next_reader shape n near)
-    ∙ (ap (λ (k : ℕ). get_or (replicate n None ++ Some (fresh_reader shape n) ∷ drop (suc n) (all shape)) k None) (sym (length-replicate n None))
+pub next_parked : (shape : RingShape) (n : ℕ) → n < shape.readers →
+    parked_at (seated_writer shape n) n ≡ Some (fresh_reader shape n)
+next_parked shape n near = ap (λ (l : List (Option ReaderView)). get_or (replicate n None ++ l) n None)
+    (next_reader shape n near)
+    ∙ (ap (λ (k : ℕ). get_or (replicate n None ++ Some (fresh_reader shape n) ∷ drop (suc n) (all shape)) k None)
+        (sym (length-replicate n None))
     ∙ get_or-append_seam (replicate n None) (Some (fresh_reader shape n)) (drop (suc n) (all shape)) None)
 
-pub next_rest : (shape : RingShape) (n : ℕ) → n < shape.readers → after_split (seated_writer shape n) ≡ seated_writer shape (n + 1)
-next_rest shape n near = ap (λ (l : List (Option ReaderView)). let w : WriterView = record (fresh_writer shape) { parked = l; split = n + 1 } in w)
+pub next_rest : (shape : RingShape) (n : ℕ) → n < shape.readers →
+    after_split (seated_writer shape n) ≡ seated_writer shape (n + 1)
+next_rest shape n near = ap (λ (l : List (Option ReaderView)).
+    let w : WriterView = record (fresh_writer shape) { parked = l; split = n + 1 } in w)
     (ap (λ (l : List (Option ReaderView)). set (replicate n None ++ l) n None) (next_reader shape n near)
-    ∙ (ap (λ (k : ℕ). set (replicate n None ++ Some (fresh_reader shape n) ∷ drop (suc n) (all shape)) k None) (sym (length-replicate n None))
+    ∙ (ap (λ (k : ℕ). set (replicate n None ++ Some (fresh_reader shape n) ∷ drop (suc n) (all shape)) k None)
+        (sym (length-replicate n None))
     ∙ (set-append_seam (replicate n None) (Some (fresh_reader shape n)) (drop (suc n) (all shape)) None
     ∙ (sym (append_assoc (replicate n None) (None ∷ []) (drop (suc n) (all shape)))
     ∙ (ap (λ (l : List (Option ReaderView)). l ++ drop (suc n) (all shape)) (replicate-append-replicate n 1 None)
     ∙ ap (λ (k : ℕ). replicate (n + 1) None ++ drop k (all shape)) (let e : suc n ≡ n + 1 = omega arith in e))))))
 
 -- one more has its seat
-pub seats_more : (words : Words) (seats : List (Option ReaderSeat)) (n : ℕ) (s : ReaderSeat) → length seats ≡ n → IsFreshReader words n s → ((i : ℕ) → i < n → HasFreshReader words seats i)
+pub seats_more : (words : Words) (seats : List (Option ReaderSeat)) (n : ℕ) (s : ReaderSeat) → length seats ≡ n →
+    IsFreshReader words n s → ((i : ℕ) → i < n → HasFreshReader words seats i)
     → (i : ℕ) → i < n + 1 → HasFreshReader words (seats ++ Some s ∷ []) i
 seats_more words seats n s long new old i near = dite (ℕ_discrete i n)
-    (λ same. (s, got_at (seats ++ Some s ∷ []) i (Some s) (at_last seats (Some s) i (long ∙ sym same)), subst (λ (k : ℕ). IsFreshReader words k s) (sym same) new))
+    (λ same. (s, got_at (seats ++ Some s ∷ []) i (Some s) (at_last seats (Some s) i (long ∙ sym same)),
+        subst (λ (k : ℕ). IsFreshReader words k s) (sym same) new))
     (λ other. let h = old i (omega arith) in (h.0, slice_get_longer seats (Some s ∷ []) i (Some h.0) h.1, h.2))
 
-pub each_room : (size : ℕ) (blocks : List Block) → All (λ b. room_of b ≡ size) blocks → (k : ℕ) (b : Block) → get_elem? blocks k ≡ some b → room_of b ≡ size
+pub each_room : (size : ℕ) (blocks : List Block) → All (λ b. room_of b ≡ size) blocks → (k : ℕ) (b : Block) →
+    get_elem? blocks k ≡ some b → room_of b ≡ size
 each_room size blocks rooms k b is = ap room_of (sym (element blocks k b is)) ∙ rooms k b (at_below blocks k b is)
   where
     element : (l : List Block) (i : ℕ) (a : Block) → get_elem? l i ≡ some a → get_or l i a ≡ a

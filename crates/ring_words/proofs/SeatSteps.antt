@@ -15,25 +15,28 @@ use Rattle.ring_words.specs.declared.views.WriterView.{WriterView}
 use Rattle.ring_words.specs.declared.views.View.TheVariants.{Writer, Reader, Spent}
 use Rattle.ring_words.specs.Shape.{IsRing}
 use Rattle.ring_words.specs.Views.{listed, fresh_reader, fresh_writer, parked_at, after_split, after_join}
-use Rattle.ring_words.specs.Ring.{at_home, Turn, Knows, Core, Kept}
+use Rattle.ring_words.specs.Ring.{at_home, Turn, Knows, KeptBy, Kept}
 use Rattle.ring_words.proofs.Counts.{at_below, same_at}
 use Rattle.ring_words.proofs.Listed.{at_listed, length-listed, listed_alike}
 use Rattle.ring_words.proofs.Frames.{put, put_here, put_else, turn_kept, reader_kept, is_reader}
 use Rattle.ring_words.proofs.WriterSteps.{as_writer}
 
 module _ {A : Type 0} where
-  at_snoc_where : (l : List A) (a b : A) (j : ℕ) → get_elem? (l ++ a ∷ []) j ≡ some b → (get_elem? l j ≡ some b) ⊎ ((j ≡ length l) × (a ≡ b))
+  at_snoc_where : (l : List A) (a b : A) (j : ℕ) → get_elem? (l ++ a ∷ []) j ≡ some b → (get_elem? l j ≡ some b)
+      ⊎ ((j ≡ length l) × (a ≡ b))
   at_snoc_where [] a b zero e = inr (refl, some-injective a b e)
   at_snoc_where [] a b (suc j) e = absurd (some-ne-none b (sym e))
   at_snoc_where (x ∷ xs) a b zero e = inl e
-  at_snoc_where (x ∷ xs) a b (suc j) e = ⊎_elim (λ t. inl t) (λ (t : (j ≡ length xs) × (a ≡ b)). let n = t.0 in inr (omega arith, t.1)) (at_snoc_where xs a b j e)
+  at_snoc_where (x ∷ xs) a b (suc j) e = ⊎_elim (λ t. inl t)
+      (λ (t : (j ≡ length xs) × (a ≡ b)). let n = t.0 in inr (omega arith, t.1)) (at_snoc_where xs a b j e)
 
   at_from_or : (l : List A) (i : ℕ) (a d : A) → i < length l → get_or l i d ≡ a → get_elem? l i ≡ some a
   at_from_or [] i a d h e = absurd (omega arith)
   at_from_or (x ∷ xs) zero a d h e = ap (λ (y : A). some y) e
   at_from_or (x ∷ xs) (suc i) a d h e = at_from_or xs i a d (omega arith) e
 
-  both_there : (l : List A) (i : ℕ) → i < length l → (a : A) × (get_elem? (map some l) i ≡ some (some a)) × (get_elem? l i ≡ some a)
+  both_there : (l : List A) (i : ℕ) → i < length l → (a : A) × (get_elem? (map some l) i ≡ some (some a))
+      × (get_elem? l i ≡ some a)
   both_there [] i h = absurd (omega arith)
   both_there (x ∷ xs) zero h = (x, refl, refl)
   both_there (x ∷ xs) (suc i) h = both_there xs i (omega arith)
@@ -43,13 +46,18 @@ abbrev with_parked : WriterView → List (Option ReaderView) → ℕ → WriterV
 with_parked w ps n = record w { parked = ps; split = n }
 
 module _ (shape : RingShape) where
-  module _ (s : State Block View) (w : WriterView) (at : ℕ) (reader : ℕ → ReaderView) (place : ℕ → ℕ) (turn : ℕ → Turn) (c : Core shape s w at reader place turn) where
+  module _ (s : State Block View) (w : WriterView) (at : ℕ) (reader : ℕ → ReaderView) (place : ℕ → ℕ)
+      (turn : ℕ → Turn) (c : KeptBy shape s w at reader place turn) where
     -- nothing but seats changes
-    reseated : (ps : List (Option ReaderView)) (n : ℕ) (views' : List View) (place' : ℕ → ℕ) → get_elem? views' at ≡ some (Writer (with_parked w ps n))
+    reseated : (ps : List (Option ReaderView)) (n : ℕ) (views' : List View) (place' : ℕ → ℕ) →
+        get_elem? views' at ≡ some (Writer (with_parked w ps n))
         → ((j : ℕ) (v : View) → get_elem? views' j ≡ some v → Knows shape (with_parked w ps n) at reader place' j v)
-        → length ps ≡ shape.readers → ((i : ℕ) (r : ReaderView) → get_elem? ps i ≡ some (Some r) → (i < shape.readers) × (r ≡ reader i) × (place' i ≡ at))
-        → Core shape (record { words = s.words; homes = s.homes; views = views' }) (with_parked w ps n) at reader place' turn
-    reseated ps n views' place' seated each_seat all_parked parked = let w' : WriterView = with_parked w ps n in let wr = c.writer in record {
+        → length ps ≡ shape.readers → ((i : ℕ) (r : ReaderView) → get_elem? ps i ≡ some (Some r) → (i < shape.readers)
+            × (r ≡ reader i) × (place' i ≡ at))
+        → KeptBy shape (record { words = s.words; homes = s.homes; views = views' })
+            (with_parked w ps n) at reader place' turn
+    reseated ps n views' place' seated each_seat all_parked parked = let w' : WriterView = with_parked w ps n in
+        let wr = c.writer in record {
       ring = c.ring;
       wide = c.wide;
       deep = c.deep;
@@ -62,13 +70,16 @@ module _ (shape : RingShape) where
         room = wr.room;
         look = wr.look;
       };
-      each_turn = λ k near. let ok = c.each_turn k near in turn_kept shape w w' reader reader s.words s.words s.homes s.homes k (turn k) refl ok.newest record {
+      each_turn = λ k near. let ok = c.each_turn k near in
+          turn_kept shape w w' reader reader s.words s.words s.homes s.homes k (turn k) refl ok.newest record {
         home = refl;
         sealed = λ m e is. is;
         readers = λ i out newest. (out, newest);
         writer = λ out is. (out, is);
       } ok;
-      each_reader = λ i near. let ok = c.each_reader i near in reader_kept shape w w' s.words s.words turn turn i (reader i) refl ok.begins ok.within (λ e is. is) (λ h. h) ok.low ok;
+      each_reader = λ i near. let ok = c.each_reader i near in
+          reader_kept shape w w' s.words s.words turn turn i (reader i) refl ok.begins ok.within (λ e is. is)
+          (λ h. h) ok.low ok;
       seated = seated;
       each_seat = each_seat;
       all_parked = all_parked;
@@ -76,53 +87,75 @@ module _ (shape : RingShape) where
     }
 
     -- another seat than the writer's stays what it is, where its reader keeps it
-    stays_seated : (w' : WriterView) (place' : ℕ → ℕ) (j : ℕ) → j ≢ at → ((i : ℕ) → place i ≡ j → place' i ≡ j) → (v : View) → Knows shape w at reader place j v → Knows shape w' at reader place' j v
+    stays_seated : (w' : WriterView) (place' : ℕ → ℕ) (j : ℕ) → j ≢ at → ((i : ℕ) → place i ≡ j → place' i ≡ j) →
+        (v : View) → Knows shape w at reader place j v → Knows shape w' at reader place' j v
     stays_seated w' place' j other keeps (Writer v) k = absurd (other k.1)
     stays_seated w' place' j other keeps (Reader r) k = (k.0, k.1, keeps r.number k.2)
     stays_seated w' place' j other keeps Spent k = tt
 
     split_core : (r : ReaderView) → w.split < shape.readers → parked_at w w.split ≡ Some r
-        → Core shape (record { words = s.words; homes = s.homes; views = set s.views at (Writer (after_split w)) ++ Reader r ∷ [] }) (after_split w) at reader (put place w.split (length s.views)) turn
-    split_core r near is = let i : ℕ = w.split in let w' : WriterView = after_split w in let new : ℕ = length s.views in let place' : ℕ → ℕ = put place i new in let all = c.all_parked in
-        let here = at_from_or w.parked i (Some r) None (omega arith) is in let p = c.parked i r here in let number : r.number ≡ i = ap (λ (q : ReaderView). q.number) p.1 ∙ (c.each_reader i near).number in
-        let moved : (k j : ℕ) → j ≢ at → place k ≡ j → place' k ≡ j = λ k j other is'. put_else place i new k (λ e. other (sym is' ∙ (ap place e ∙ p.2))) ∙ is' in
+        → KeptBy shape (record { words = s.words; homes = s.homes; views =
+            set s.views at (Writer (after_split w)) ++ Reader r ∷ [] }) (after_split w) at reader
+            (put place w.split (length s.views)) turn
+    split_core r near is = let i : ℕ = w.split in let w' : WriterView = after_split w in
+        let new : ℕ = length s.views in let place' : ℕ → ℕ = put place i new in let all = c.all_parked in
+        let here = at_from_or w.parked i (Some r) None (omega arith) is in let p = c.parked i r here in
+            let number : r.number ≡ i = ap (λ (q : ReaderView). q.number) p.1 ∙ (c.each_reader i near).number in
+        let moved : (k j : ℕ) → j ≢ at → place k ≡ j → place' k
+            ≡ j = λ k j other is'. put_else place i new k (λ e. other (sym is' ∙ (ap place e ∙ p.2))) ∙ is' in
         reseated (set w.parked i None) (i + 1) (set s.views at (Writer w') ++ Reader r ∷ []) place'
-        (at_longer (set s.views at (Writer w')) (Reader r ∷ []) at (Writer w') (set_here s.views at (Writer w') (at_below s.views at (Writer w) c.seated)))
+        (at_longer (set s.views at (Writer w')) (Reader r ∷ []) at (Writer w')
+            (set_here s.views at (Writer w') (at_below s.views at (Writer w) c.seated)))
         (λ j v is'. ⊎_elim
         (λ (old : get_elem? (set s.views at (Writer w')) j ≡ some v). ⊎_elim
-        (λ (t : (j ≡ at) × (Writer w' ≡ v)). subst (λ (x : ℕ × View). Knows shape w' at reader place' x.0 x.1) (λ z. (sym t.0 z, t.1 z)) (refl, refl))
-        (λ (t : (j ≢ at) × (get_elem? s.views j ≡ some v)). stays_seated w' place' j t.0 (λ k. moved k j t.0) v (c.each_seat j v t.1))
+        (λ (t : (j ≡ at) × (Writer w' ≡ v)). subst (λ (x : ℕ × View). Knows shape w' at reader place' x.0 x.1)
+            (λ z. (sym t.0 z, t.1 z)) (refl, refl))
+        (λ (t : (j ≢ at) × (get_elem? s.views j ≡ some v)).
+            stays_seated w' place' j t.0 (λ k. moved k j t.0) v (c.each_seat j v t.1))
         (at_set s.views at j (Writer w') v old))
-        (λ (t : (j ≡ length (set s.views at (Writer w'))) × (Reader r ≡ v)). subst (λ (u : View). Knows shape w' at reader place' j u) t.1
-        (subst (λ (k : ℕ). (k < shape.readers) × (r ≡ reader k) × (place' k ≡ j)) (sym number) (near, p.1, put_here place i new ∙ (sym (length-set s.views at (Writer w')) ∙ sym t.0))))
+        (λ (t : (j ≡ length (set s.views at (Writer w'))) × (Reader r ≡ v)).
+            subst (λ (u : View). Knows shape w' at reader place' j u) t.1
+        (subst (λ (k : ℕ). (k < shape.readers) × (r ≡ reader k) × (place' k ≡ j)) (sym number)
+            (near, p.1, put_here place i new ∙ (sym (length-set s.views at (Writer w')) ∙ sym t.0))))
         (at_snoc_where (set s.views at (Writer w')) (Reader r) v j is'))
         (length-set w.parked i None ∙ all)
         (λ k q is'. ⊎_elim
         (λ (t : (k ≡ i) × (None ≡ Some q)). let clash = t.1 in cc)
-        (λ (t : (k ≢ i) × (get_elem? w.parked k ≡ some (Some q))). let old = c.parked k q t.1 in (old.0, old.1, put_else place i new k t.0 ∙ old.2))
+        (λ (t : (k ≢ i) × (get_elem? w.parked k ≡ some (Some q))). let old = c.parked k q t.1 in
+            (old.0, old.1, put_else place i new k t.0 ∙ old.2))
         (at_set w.parked i k None (Some q) is'))
 
     join_core : (other : ℕ) (r : ReaderView) → other ≢ at → get_elem? s.views other ≡ some (Reader r)
-        → Core shape (record { words = s.words; homes = s.homes; views = set (set s.views at (Writer (after_join w r))) other Spent }) (after_join w r) at reader (put place r.number at) turn
-    join_core other r apart there = let w' : WriterView = after_join w r in let i : ℕ = r.number in let place' : ℕ → ℕ = put place i at in let known = is_reader shape s w at reader place turn c other r there in
+        → KeptBy shape (record { words = s.words; homes = s.homes; views =
+            set (set s.views at (Writer (after_join w r))) other Spent }) (after_join w r) at reader
+            (put place r.number at) turn
+    join_core other r apart there = let w' : WriterView = after_join w r in let i : ℕ = r.number in
+        let place' : ℕ → ℕ = put place i at in let known = is_reader shape s w at reader place turn c other r there in
         let both : List View = set s.views at (Writer w') in
         reseated (set w.parked i (Some r)) w.split (set both other Spent) place'
-        (set_else both other at Spent (λ e. apart (sym e)) ∙ set_here s.views at (Writer w') (at_below s.views at (Writer w) c.seated))
+        (set_else both other at Spent (λ e. apart (sym e))
+            ∙ set_here s.views at (Writer w') (at_below s.views at (Writer w) c.seated))
         (λ j v is. ⊎_elim
         (λ (t : (j ≡ other) × (Spent ≡ v)). subst (λ (u : View). Knows shape w' at reader place' j u) t.1 tt)
         (λ (t : (j ≢ other) × (get_elem? both j ≡ some v)). ⊎_elim
-        (λ (u : (j ≡ at) × (Writer w' ≡ v)). subst (λ (x : ℕ × View). Knows shape w' at reader place' x.0 x.1) (λ z. (sym u.0 z, u.1 z)) (refl, refl))
-        (λ (u : (j ≢ at) × (get_elem? s.views j ≡ some v)). stays_seated w' place' j u.0 (λ k is'. put_else place i at k (λ e. t.0 (sym is' ∙ (ap place e ∙ known.2))) ∙ is') v (c.each_seat j v u.1))
+        (λ (u : (j ≡ at) × (Writer w' ≡ v)). subst (λ (x : ℕ × View). Knows shape w' at reader place' x.0 x.1)
+            (λ z. (sym u.0 z, u.1 z)) (refl, refl))
+        (λ (u : (j ≢ at) × (get_elem? s.views j ≡ some v)).
+            stays_seated w' place' j u.0 (λ k is'. put_else place i at k (λ e. t.0 (sym is' ∙ (ap place e ∙ known.2)))
+            ∙ is') v (c.each_seat j v u.1))
         (at_set s.views at j (Writer w') v t.1))
         (at_set both other j Spent v is))
         (length-set w.parked i (Some r) ∙ c.all_parked)
         (λ k q is. ⊎_elim
         (λ (t : (k ≡ i) × (Some r ≡ Some q)). let same : r ≡ q = ap (λ (o : Option ReaderView). unwrap_or o r) t.1 in
-        subst (λ (x : ReaderView × ℕ). (x.1 < shape.readers) × (x.0 ≡ reader x.1) × (place' x.1 ≡ at)) (λ z. (same z, sym t.0 z)) (known.0, known.1, put_here place i at))
-        (λ (t : (k ≢ i) × (get_elem? w.parked k ≡ some (Some q))). let old = c.parked k q t.1 in (old.0, old.1, put_else place i at k t.0 ∙ old.2))
+        subst (λ (x : ReaderView × ℕ). (x.1 < shape.readers) × (x.0 ≡ reader x.1) × (place' x.1 ≡ at))
+            (λ z. (same z, sym t.0 z)) (known.0, known.1, put_here place i at))
+        (λ (t : (k ≢ i) × (get_elem? w.parked k ≡ some (Some q))). let old = c.parked k q t.1 in
+            (old.0, old.1, put_else place i at k t.0 ∙ old.2))
         (at_set w.parked i k (Some r) (Some q) is))
 
-  pub splits : (id : ℕ) (v : WriterView) (r : ReaderView) → v.split < shape.readers → parked_at v v.split ≡ Some r → Splits (Kept shape) id (Writer v) (Writer (after_split v)) (Reader r)
+  pub splits : (id : ℕ) (v : WriterView) (r : ReaderView) → v.split < shape.readers → parked_at v v.split ≡ Some r →
+      Splits (Kept shape) id (Writer v) (Writer (after_split v)) (Reader r)
   splits id v r near is s kept at = let a = as_writer shape s kept id v at in record {
     w = after_split v;
     at = id;
@@ -133,23 +166,29 @@ module _ (shape : RingShape) where
     reached = a.reached;
   }
 
-  pub joins : (id : ℕ) (v : WriterView) (other : ℕ) (r : ReaderView) → Joins (Kept shape) id (Writer v) other (Reader r) (Writer (after_join v r)) Spent
+  pub joins : (id : ℕ) (v : WriterView) (other : ℕ) (r : ReaderView) →
+      Joins (Kept shape) id (Writer v) other (Reader r) (Writer (after_join v r)) Spent
   joins id v other r s kept at apart there = let a = as_writer shape s kept id v at in record {
     w = after_join v r;
     at = id;
     reader = a.reader;
     place = put a.place r.number id;
     turn = a.turn;
-    core = join_core s v id a.reader a.place a.turn a.core other r apart (sym (set_else s.views id other (Writer (after_join v r)) apart) ∙ there);
+    core = join_core s v id a.reader a.place a.turn a.core other r apart
+        (sym (set_else s.views id other (Writer (after_join v r)) apart) ∙ there);
     reached = a.reached;
   }
 
-  first_seat : (v : View) (j : ℕ) → get_elem? (Writer (fresh_writer shape) ∷ []) j ≡ some v → Knows shape (fresh_writer shape) 0 (fresh_reader shape) (λ _. 0) j v
-  first_seat v zero e = subst (λ (u : View). Knows shape (fresh_writer shape) 0 (fresh_reader shape) (λ _. 0) 0 u) (some-injective (Writer (fresh_writer shape)) v e) (refl, refl)
+  first_seat : (v : View) (j : ℕ) → get_elem? (Writer (fresh_writer shape) ∷ []) j ≡ some v →
+      Knows shape (fresh_writer shape) 0 (fresh_reader shape) (λ _. 0) j v
+  first_seat v zero e = subst (λ (u : View). Knows shape (fresh_writer shape) 0 (fresh_reader shape) (λ _. 0) 0 u)
+      (some-injective (Writer (fresh_writer shape)) v e) (refl, refl)
   first_seat v (suc j) e = absurd (some-ne-none v (sym e))
 
-  pub starts : (words : List ℕ) (blocks : List Block) → IsRing shape → length words ≡ shape.buffers + shape.readers → ((i : ℕ) → i < length words → get_or words i 0 ≡ 0) → length blocks ≡ shape.buffers
-      → ((k : ℕ) (b : Block) → get_elem? blocks k ≡ some b → room_of b ≡ shape.size) → Kept shape (opening words blocks (Writer (fresh_writer shape)))
+  pub starts : (words : List ℕ) (blocks : List Block) → IsRing shape → length words ≡ shape.buffers + shape.readers →
+      ((i : ℕ) → i < length words → get_or words i 0 ≡ 0) → length blocks ≡ shape.buffers
+      → ((k : ℕ) (b : Block) → get_elem? blocks k ≡ some b → room_of b ≡ shape.size) →
+          Kept shape (opening words blocks (Writer (fresh_writer shape)))
   starts words blocks ring wide zeros deep rooms = record {
     w = fresh_writer shape;
     at = 0;
@@ -187,9 +226,15 @@ module _ (shape : RingShape) where
       seated = refl;
       each_seat = λ j v is. first_seat v j is;
       all_parked = length-listed (λ (i : ℕ). Some (fresh_reader shape i)) shape.readers;
-      parked = λ i r is. let long = length-listed (λ (k : ℕ). Some (fresh_reader shape k)) shape.readers in let below = at_below (listed (λ k. Some (fresh_reader shape k)) shape.readers) i (Some r) is in let near : i < shape.readers = omega arith in
-          (near, ap (λ (o : Option ReaderView). unwrap_or o r) (same_at (listed (λ k. Some (fresh_reader shape k)) shape.readers) i (Some r) (Some (fresh_reader shape i)) is (at_listed (λ k. Some (fresh_reader shape k)) shape.readers i near)), refl);
+      parked = λ i r is. let long = length-listed (λ (k : ℕ). Some (fresh_reader shape k)) shape.readers in
+          let below = at_below (listed (λ k. Some (fresh_reader shape k)) shape.readers) i (Some r) is in
+          let near : i < shape.readers = omega arith in
+          (near, ap (λ (o : Option ReaderView). unwrap_or o r)
+              (same_at (listed (λ k. Some (fresh_reader shape k)) shape.readers) i (Some r)
+              (Some (fresh_reader shape i)) is (at_listed
+              (λ k. Some (fresh_reader shape k)) shape.readers i near)), refl);
     };
-    reached = subst (λ (l : List Standing). Reached {L = Entry} shape.buffers shape.max_blocks shape.readers (record { sealed = []; writing = false; low = replicate shape.readers 0; readers = l }))
+    reached = subst (λ (l : List Standing). Reached {L = Entry} shape.buffers shape.max_blocks shape.readers
+        (record { sealed = []; writing = false; low = replicate shape.readers 0; readers = l }))
         (sym (listed_alike (record { cleared = 0; phase = Phase.Ready }) shape.readers)) at_begin;
   }

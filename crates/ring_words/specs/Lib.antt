@@ -3,4 +3,5 @@ pub mod Views
 pub mod Ring
 pub mod Plays
 pub mod Hands
+pub mod Steps
 pub mod Seats

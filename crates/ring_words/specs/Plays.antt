@@ -13,8 +13,10 @@ use Rattle.ring_words.specs.declared.views.View.TheVariants.{Writer, Reader}
 use Rattle.ring_words.specs.Views.{writer_of, reader_of, parked_at, after_look, after_writer_take, after_seal, after_hit, after_miss, after_give, after_clear, after_retire}
 use Rattle.ring_words.specs.Ring.{standing}
 
--- Some list of events leaves the machine `old`, which shows what the seat knew. Then the event has this answer, and leaves `new`, which shows what the seat knows.
-pub record IsEvent (shape : RingShape) (event : Event Entry) (answer : Answer Entry) (before after : Machine Entry → Type 0) : Type 0 where
+-- Some list of events leaves the machine `old`, which shows what the seat knew. Then the event has this answer, and
+-- leaves `new`, which shows what the seat knows.
+pub record IsEvent (shape : RingShape) (event : Event Entry) (answer : Answer Entry)
+    (before after : Machine Entry → Type 0) : Type 0 where
   pub old : Machine Entry
   pub new : Machine Entry
   pub reached : Reached shape.buffers shape.max_blocks shape.readers old
@@ -44,14 +46,18 @@ look_answer w i n =
 
 -- and where a reader tries to take a block in vain, and finds the word n in its buffer
 abbrev pub miss_answer : ReaderView → ℕ → Answer Entry
-miss_answer r n = if nat_le (n / 16) (length r.cleared) then Answer.Empty (length r.cleared) else Answer.Busy (length r.cleared) (n % 16 - 1)
+miss_answer r n =
+    if nat_le (n / 16) (length r.cleared) then Answer.Empty (length r.cleared)
+    else Answer.Busy (length r.cleared) (n % 16 - 1)
 
--- What each step of the writer tells of its own view. A reader without a seat cleared a beginning of what was sealed, and what it got is the next block.
+-- What each step of the writer tells of its own view. A reader without a seat cleared a beginning of what was sealed,
+-- and what it got is the next block.
 pub record WriterSettled (w : WriterView) : Type 0 where
   pub limit : length w.sealed ≤ w.shape.max_blocks
   pub sized : All (λ e. length e.bytes ≤ w.shape.size) w.sealed
   pub begins : (i : ℕ) (r : ReaderView) → parked_at w i ≡ Some r → take (length r.cleared) w.sealed ≡ r.cleared
-  pub next : (i : ℕ) (r : ReaderView) (e : Entry) → parked_at w i ≡ Some r → r.got ≡ Some e → slice_get w.sealed (length r.cleared) ≡ Some e
+  pub next : (i : ℕ) (r : ReaderView) (e : Entry) → parked_at w i ≡ Some r → r.got ≡ Some e →
+      slice_get w.sealed (length r.cleared) ≡ Some e
 
 -- what each step of a reader tells of its own view
 pub record ReaderSettled (r : ReaderView) : Type 0 where
@@ -65,7 +71,8 @@ pub record ReaderSettled (r : ReaderView) : Type 0 where
 pub record Looked (st : Step Block) (m : Me Block View) (n : ℕ) (m' : Me Block View) : Type 0 where
   pub seat : m' ≡ (Writer (after_look (writer_of m.0) (st.word - st.slots) n), m.1)
   pub settled : WriterSettled (writer_of m'.0)
-  pub event : IsWriterEvent (writer_of m.0) (Event.Look (st.word - st.slots)) (look_answer (writer_of m.0) (st.word - st.slots) n) (writer_of m'.0)
+  pub event : IsWriterEvent (writer_of m.0) (Event.Look (st.word - st.slots))
+      (look_answer (writer_of m.0) (st.word - st.slots) n) (writer_of m'.0)
 
 -- the writer finds the word that it expects, and takes the block
 pub record WriterTook (st : Step Block) (m : Me Block View) (n : ℕ) (m' : Me Block View) : Type 0 where
@@ -74,13 +81,15 @@ pub record WriterTook (st : Step Block) (m : Me Block View) (n : ℕ) (m' : Me B
   pub block : Block
   pub slots : m'.1 ≡ (st.word, block) ∷ m.1
   pub room : room_of block ≡ (writer_of m.0).shape.size
-  pub event : IsWriterEvent (writer_of m.0) Event.WriterTake (Answer.Taken (length (writer_of m.0).sealed)) (writer_of m'.0)
+  pub event : IsWriterEvent (writer_of m.0) Event.WriterTake (Answer.Taken (length (writer_of m.0).sealed))
+      (writer_of m'.0)
 
 -- the writer gives the block b back as the next one
 pub record SealedBlock (m m' : Me Block View) (b : Block) : Type 0 where
   pub seat : m' ≡ (Writer (after_seal (writer_of m.0) (entry_of b)), [])
   pub settled : WriterSettled (writer_of m'.0)
-  pub event : IsWriterEvent (writer_of m.0) (Event.Seal (entry_of b)) (Answer.Sealed (length (writer_of m.0).sealed)) (writer_of m'.0)
+  pub event : IsWriterEvent (writer_of m.0) (Event.Seal (entry_of b)) (Answer.Sealed (length (writer_of m.0).sealed))
+      (writer_of m'.0)
 
 -- what is true of the block that was taken last
 abbrev pub OfBlock : List (ℕ × Block) → (Block → Type 0) → Type 0
@@ -97,16 +106,19 @@ pub record Hit (st : Step Block) (m : Me Block View) (n : ℕ) (m' : Me Block Vi
   pub view : m'.0 ≡ Reader (after_hit (reader_of m.0) n (entry_of block))
   pub room : room_of block ≡ (reader_of m.0).shape.size
   pub same : (e : Entry) → (reader_of m.0).got ≡ Some e → e ≡ entry_of block
-  pub event : IsReaderEvent (reader_of m.0) (Event.ReaderTake (reader_of m.0).number) (Answer.Got (length (reader_of m.0).cleared) (entry_of block)) (reader_of m'.0)
+  pub event : IsReaderEvent (reader_of m.0) (Event.ReaderTake (reader_of m.0).number)
+      (Answer.Got (length (reader_of m.0).cleared) (entry_of block)) (reader_of m'.0)
 
 -- the word n of that buffer shows an older block, or the wanted one with another reader
 abbrev pub IsMiss : ReaderView → ℕ → Type 0
-IsMiss r n = (n / 16 ≤ length r.cleared) ⊎ ((n / 16 ≡ length r.cleared + 1) × ((j : ℕ) × (n % 16 ≡ j + 1) × (j < r.shape.readers) × (j ≢ r.number)))
+IsMiss r n = (n / 16 ≤ length r.cleared) ⊎ ((n / 16 ≡ length r.cleared + 1)
+    × ((j : ℕ) × (n % 16 ≡ j + 1) × (j < r.shape.readers) × (j ≢ r.number)))
 
 pub record Missed (m : Me Block View) (n : ℕ) (m' : Me Block View) : Type 0 where
   pub seat : m' ≡ (Reader (after_miss (reader_of m.0) n), m.1)
   pub why : IsMiss (reader_of m.0) n
-  pub event : IsReaderEvent (reader_of m.0) (Event.ReaderTake (reader_of m.0).number) (miss_answer (reader_of m.0) n) (reader_of m'.0)
+  pub event : IsReaderEvent (reader_of m.0) (Event.ReaderTake (reader_of m.0).number) (miss_answer (reader_of m.0) n)
+      (reader_of m'.0)
 
 pub record Tried (st : Step Block) (m : Me Block View) (n : ℕ) (m' : Me Block View) : Type 0 where
   pub hit : n ≡ st.first → Hit st m n m'
@@ -121,7 +133,8 @@ pub record Gave (st : Step Block) (m : Me Block View) (n : ℕ) (m' : Me Block V
 pub record Cleared (st : Step Block) (m : Me Block View) (n : ℕ) (m' : Me Block View) : Type 0 where
   pub seat : m' ≡ (Reader (after_clear (reader_of m.0)), m.1)
   pub settled : ReaderSettled (reader_of m'.0)
-  pub event : IsReaderEvent (reader_of m.0) (Event.Clear (reader_of m.0).number) (Answer.Cleared (length (reader_of m.0).cleared + 1)) (reader_of m'.0)
+  pub event : IsReaderEvent (reader_of m.0) (Event.Clear (reader_of m.0).number)
+      (Answer.Cleared (length (reader_of m.0).cleared + 1)) (reader_of m'.0)
 
 pub record Retired (st : Step Block) (m : Me Block View) (n : ℕ) (m' : Me Block View) : Type 0 where
   pub seat : m' ≡ (Reader (after_retire (reader_of m.0)), m.1)

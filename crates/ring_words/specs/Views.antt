@@ -14,7 +14,16 @@ listed f (suc n) = listed f n ++ f n ∷ []
 
 -- a reader that has done nothing
 abbrev pub fresh_reader : RingShape → ℕ → ReaderView
-fresh_reader shape i = record { shape = shape; number = i; cleared = []; got = None; out = false; retired = false; tries = 0; last_try = None }
+fresh_reader shape i = record {
+  shape = shape;
+  number = i;
+  cleared = [];
+  got = None;
+  out = false;
+  retired = false;
+  tries = 0;
+  last_try = None;
+}
 
 -- a writer that has done nothing, and has all readers
 abbrev pub fresh_writer : RingShape → WriterView
@@ -111,4 +120,7 @@ joined v u = v
 
 -- a writer that has done nothing, where n readers got their seats
 abbrev pub seated_writer : RingShape → ℕ → WriterView
-seated_writer shape n = record (fresh_writer shape) { parked = replicate n None ++ drop n (fresh_writer shape).parked; split = n }
+seated_writer shape n = record (fresh_writer shape) {
+  parked = replicate n None ++ drop n (fresh_writer shape).parked;
+  split = n;
+}

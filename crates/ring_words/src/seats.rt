@@ -96,10 +96,11 @@ impl ReaderSeat {
         self.tries
     }
 
-    /// What the last try found in the buffer: the number plus 1 of its block, or 0 where there was none, and who held it:
-    /// 0 for nobody, 15 for the writer, or a reader's number plus 1.
+    /// What the last try found in the buffer: the number plus 1 of its block, or 0 where there was none, and who held
+    /// it: 0 for nobody, 15 for the writer, or a reader's number plus 1.
     pub fn last_try(&self) -> Option<(u64, u32)>
-        ensures { result ≡ option_map (λ word. (word / 16, word % 16)) (reader_view self.now).last_try }
+        ensures { result
+            ≡ option_map (λ word. (word / 16, word % 16)) (reader_view self.now).last_try }
     {
         self.last_try.map(|word| (word / 16, (word % 16) as u32))
     }

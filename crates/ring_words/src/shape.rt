@@ -1,6 +1,8 @@
 //! The measures of a ring.
 ghost use Rattle.std.specs.Prelude.{MatchResult};
 
+use thiserror::Error;
+
 /// The measures of a ring, which never change.
 #[derive(Clone, Copy, PartialEq, Eq, Debug)]
 pub struct RingShape {
@@ -14,11 +16,15 @@ pub struct RingShape {
 }
 
 /// The first measure that a ring cannot have.
-#[derive(Clone, Copy, PartialEq, Eq, Debug)]
+#[derive(Clone, Copy, PartialEq, Eq, Debug, Error)]
 pub enum ShapeFault {
+    #[error("a ring has 2 to 64 buffers")]
     Buffers,
+    #[error("a block has 1 to 2^24 bytes")]
     Size,
+    #[error("a ring has 1 to 8 readers")]
     Readers,
+    #[error("a ring carries 1 to 2^59 - 1 blocks")]
     Blocks,
 }
 

@@ -46,9 +46,9 @@ pub enum View {
 }
 
 /// The rule of the ring's table.
-pub struct Ring;
+pub struct RingRule;
 
-impl TableRule<Block, View, RingShape> for Ring {
+impl TableRule<Block, View, RingShape> for RingRule {
     ghost use Rattle.ring_words.specs.Ring.{Kept, first_view};
 
     ghost holds = { Kept };

@@ -6,7 +6,7 @@ ghost use Rattle.ring_words.specs.Shape.{IsRing};
 use crate::plays::{Clear, Deal, Give, Look, Park, Retire, Seal, Try, WriterTake};
 use crate::seats::{ReaderSeat, WriterSeat};
 use crate::shape::RingShape;
-use crate::views::{Ring, View};
+use crate::views::{RingRule, View};
 use arrayvec::ArrayVec;
 use atomic_table::Table;
 use ring_blocks::{Block, Mark};
@@ -22,7 +22,7 @@ const RETIRED: u64 = u64::MAX;
 /// The words and slots of a ring. Threads share it by reference.
 #[derive(Drop)]
 pub struct Words {
-    table: Table<Block, View, RingShape, Ring, Global>,
+    table: Table<Block, View, RingShape, RingRule, Global>,
     shape: RingShape,
     ghost ring: { IsRing shape },
     ghost keyed: { table.shared.key ≡ shape },
@@ -32,10 +32,9 @@ pub struct Words {
 
 impl Words {
     ghost use Rattle.std.specs.Prelude.{ℕ, ◌≤◌, Some, true, false, slice_index, EachIndex, OnOk, IfErr, IsSome};
-    ghost use Rattle.ring_core.specs.Machine.{Event, Answer};
-    ghost use Rattle.ring_words.specs.Views.{fresh_reader, fresh_writer, seated_writer, parked_at, after_split, after_look, after_writer_take, after_seal, after_give, after_clear, after_retire, after_join};
-    ghost use Rattle.ring_words.specs.Plays.{IsWriterEvent, IsReaderEvent, look_answer, WriterSettled};
-    ghost use Rattle.ring_words.specs.Seats.{shape_of, writer_view, reader_view, Writes, Reads, IsFreshReader, HasFreshReader, TookBlock, MissedBlock, CopiedBlock};
+    ghost use Rattle.ring_words.specs.Views.{fresh_reader, fresh_writer, seated_writer, parked_at, after_split, after_join};
+    ghost use Rattle.ring_words.specs.Steps.{SeesRoom, SawCount, TookBuffer, SealedEntry, TookBlock, MissedBlock, CopiedBlock, GaveBuffer, ClearedBlock, RetiredReader};
+    ghost use Rattle.ring_words.specs.Seats.{shape_of, writer_view, reader_view, Writes, Reads, IsFreshReader, HasFreshReader};
 
     /// Lays out a ring with every block at home. The seat at place i is that of reader i.
     pub fn open(
@@ -44,9 +43,11 @@ impl Words {
     ) -> Result<(Words, WriterSeat, ArrayVec<Option<ReaderSeat>, 8>), Memory>
         requires { IsRing shape }
         ensures shape { IfOk result (λ r. shape_of r.0 ≡ shape) }
-        ensures writer { IfOk result (λ r. Writes r.0 r.1 × (writer_view r.1 ≡ seated_writer shape shape.readers)) }
+        ensures writer { IfOk result (λ r. Writes r.0 r.1
+            × (writer_view r.1 ≡ seated_writer shape shape.readers)) }
         ensures count { IfOk result (λ r. length r.2.items ≡ shape.readers) }
-        ensures readers { IfOk result (λ r. EachIndex r.2.items (λ i. HasFreshReader r.0 r.2.items i)) }
+        ensures readers { IfOk result (λ r.
+            EachIndex r.2.items (λ i. HasFreshReader r.0 r.2.items i)) }
     {
         let (words, mut writer) = Words::lay(alloc, shape)?;
         let mut readers = ArrayVec::new();
@@ -60,7 +61,8 @@ impl Words {
     fn lay(alloc: Global, shape: RingShape) -> Result<(Words, WriterSeat), Memory>
         requires { IsRing shape }
         ensures shape { IfOk result (λ r. shape_of r.0 ≡ shape) }
-        ensures writer { IfOk result (λ r. Writes r.0 r.1 × (writer_view r.1 ≡ fresh_writer shape)) }
+        ensures writer { IfOk result (λ r. Writes r.0 r.1
+            × (writer_view r.1 ≡ fresh_writer shape)) }
     {
         let words = vec![in alloc; 0u64; (shape.buffers + shape.readers) as usize]?;
         let blocks = open_blocks(alloc, shape.buffers, shape.size)?;
@@ -84,7 +86,8 @@ impl Words {
         requires seat { Writes self.now writer.old }
         requires near { number < (shape_of self.now).readers }
         requires next { (writer_view writer.old).split ≡ number }
-        requires fresh { parked_at (writer_view writer.old) number ≡ Some (fresh_reader (shape_of self.now) number) }
+        requires fresh { parked_at (writer_view writer.old) number
+            ≡ Some (fresh_reader (shape_of self.now) number) }
         ensures seat { Writes self.now writer.new }
         ensures rest { writer_view writer.new ≡ after_split (writer_view writer.old) }
         ensures reader { IsFreshReader self.now number result }
@@ -111,9 +114,7 @@ impl Words {
         requires seat { Writes self.now writer.old }
         requires reader { reader < (shape_of self.now).readers }
         ensures seat { Writes self.now writer.new }
-        ensures view { writer_view writer.new ≡ after_look (writer_view writer.old) reader result }
-        ensures settled { WriterSettled (writer_view writer.new) }
-        ensures event { IsWriterEvent (writer_view writer.old) (Event.Look reader) (look_answer (writer_view writer.old) reader result) (writer_view writer.new) }
+        ensures saw { SawCount (writer_view writer.old) reader result (writer_view writer.new) }
     {
         let word = self.count_word_of(reader);
         let found = self.table.shared.load::<Look>(&mut writer.seat, word);
@@ -127,10 +128,9 @@ impl Words {
         requires seat { Writes self.now writer.old }
         requires home { (writer_view writer.old).out ≡ false }
         requires blocks { length (writer_view writer.old).sealed < (shape_of self.now).max_blocks }
-        requires room { (i : ℕ) → i < (shape_of self.now).readers → length (writer_view writer.old).sealed < slice_index (writer_view writer.old).low i + (shape_of self.now).buffers }
+        requires room { SeesRoom (shape_of self.now) (writer_view writer.old) }
         ensures seat { Writes self.now writer.new }
-        ensures view { writer_view writer.new ≡ after_writer_take (writer_view writer.old) }
-        ensures event { IsWriterEvent (writer_view writer.old) Event.WriterTake (Answer.Taken (length (writer_view writer.old).sealed)) (writer_view writer.new) }
+        ensures took { TookBuffer (writer_view writer.old) (writer_view writer.new) }
     {
         let found = self.passed_word(writer.sealed);
         self.table.shared.compare_exchange::<WriterTake>(
@@ -147,10 +147,8 @@ impl Words {
         requires out { (writer_view writer.old).out ≡ true }
         requires fits { length bytes.now ≤ (shape_of self.now).size }
         ensures seat { Writes self.now writer.new }
-        ensures number { result ≡ length (writer_view writer.old).sealed }
-        ensures view { writer_view writer.new ≡ after_seal (writer_view writer.old) (record { mark = mark; bytes = bytes.now }) }
-        ensures settled { WriterSettled (writer_view writer.new) }
-        ensures event { IsWriterEvent (writer_view writer.old) (Event.Seal (record { mark = mark; bytes = bytes.now })) (Answer.Sealed result) (writer_view writer.new) }
+        ensures sealed { SealedEntry (writer_view writer.old)
+            (record { mark = mark; bytes = bytes.now }) result (writer_view writer.new) }
     {
         let number = writer.sealed;
         let slot = self.slot_of(number);
@@ -165,15 +163,16 @@ impl Words {
         number
     }
 
-    /// Tries to take the buffer of the reader's next block. An error is the word that stood there: 16 times the number plus 1 of the block in it
-    /// (0 where there was none), and who held it.
+    /// Tries to take the buffer of the reader's next block. An error is the word that stood there: 16 times the number
+    /// plus 1 of the block in it (0 where there was none), and who held it.
     pub fn reader_take(&self, reader: &mut ReaderSeat) -> Result<(), u64>
         requires seat { Reads self.now reader.old }
         requires home { (reader_view reader.old).out ≡ false }
         requires registered { (reader_view reader.old).retired ≡ false }
         ensures seat { Reads self.now reader.new }
         ensures taken { OnOk result (TookBlock (reader_view reader.old) (reader_view reader.new)) }
-        ensures missed { IfErr result (λ n. MissedBlock (reader_view reader.old) n (reader_view reader.new)) }
+        ensures missed { IfErr result (λ n.
+            MissedBlock (reader_view reader.old) n (reader_view reader.new)) }
     {
         let home = home_word(reader.cleared);
         let found = self.table.shared.compare_exchange::<Try>(
@@ -187,15 +186,15 @@ impl Words {
         if found == home { Ok(()) } else { Err(found) }
     }
 
-    /// Copies the block that the reader holds to the front of `into`, and gives its buffer back. It answers how many bytes there are, and the mark.
+    /// Copies the block that the reader holds to the front of `into`, and gives its buffer back. It answers how many
+    /// bytes there are, and the mark.
     pub fn give(&self, reader: &mut ReaderSeat, into: &mut [u8]) -> (u32, Mark)
         requires seat { Reads self.now reader.old }
         requires out { (reader_view reader.old).out ≡ true }
         requires room { (shape_of self.now).size ≤ length into.old }
         ensures seat { Reads self.now reader.new }
-        ensures view { reader_view reader.new ≡ after_give (reader_view reader.old) }
+        ensures gave { GaveBuffer (reader_view reader.old) (reader_view reader.new) }
         ensures copied { CopiedBlock (reader_view reader.old) into.old into.new result.0 result.1 }
-        ensures event { IsReaderEvent (reader_view reader.old) (Event.Give (reader_view reader.old).number) Answer.Given (reader_view reader.new) }
     {
         let slot = self.slot_of(reader.cleared);
         let block = reader.seat.slot_mut(&self.table.shared, slot);
@@ -214,9 +213,7 @@ impl Words {
         requires registered { (reader_view reader.old).retired ≡ false }
         requires got { IsSome (reader_view reader.old).got }
         ensures seat { Reads self.now reader.new }
-        ensures view { reader_view reader.new ≡ after_clear (reader_view reader.old) }
-        ensures count { result ≡ length (reader_view reader.new).cleared }
-        ensures event { IsReaderEvent (reader_view reader.old) (Event.Clear (reader_view reader.old).number) (Answer.Cleared result) (reader_view reader.new) }
+        ensures cleared { ClearedBlock (reader_view reader.old) result (reader_view reader.new) }
     {
         let count = reader.cleared + 1;
         self.table
@@ -232,8 +229,7 @@ impl Words {
         requires home { (reader_view reader.old).out ≡ false }
         requires registered { (reader_view reader.old).retired ≡ false }
         ensures seat { Reads self.now reader.new }
-        ensures view { reader_view reader.new ≡ after_retire (reader_view reader.old) }
-        ensures event { IsReaderEvent (reader_view reader.old) (Event.Retire (reader_view reader.old).number) Answer.Retired (reader_view reader.new) }
+        ensures retired { RetiredReader (reader_view reader.old) (reader_view reader.new) }
     {
         self.table.shared.store::<Retire>(
             &mut reader.seat,
@@ -248,7 +244,8 @@ impl Words {
         requires reader_seat { Reads self.now reader }
         requires home { (reader_view reader).out ≡ false }
         ensures seat { Writes self.now writer.new }
-        ensures view { writer_view writer.new ≡ after_join (writer_view writer.old) (reader_view reader) }
+        ensures view { writer_view writer.new
+            ≡ after_join (writer_view writer.old) (reader_view reader) }
     {
         let ReaderSeat {
             seat,

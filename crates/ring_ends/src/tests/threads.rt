@@ -127,7 +127,8 @@ fn write_and_read<R: Threads + Sync>(
         { write_blocks(ring, writer) },
         || -> (ReaderPass, bool)
             requires { ((ring_shape ring.now).size ≡ 8) × ReadsFrom ring.now reader }
-            ensures { ReadsFrom ring.entry.now result.0 × ((reader_knows result.0).number ≡ (reader_knows reader).number) }
+            ensures { ReadsFrom ring.entry.now result.0
+                × ((reader_knows result.0).number ≡ (reader_knows reader).number) }
         { read_blocks(ring, reader, BLOCKS) },
     )
 }
@@ -141,18 +142,22 @@ fn read_both<R: Threads + Sync>(
     requires size { (ring_shape ring.now).size ≡ 8 }
     requires second { ReadsFrom ring.now second }
     requires third { ReadsFrom ring.now third }
-    ensures second { RetiredFrom ring.now result.0.0 × ((retired_knows result.0.0).number ≡ (reader_knows second).number) }
-    ensures third { ReadsFrom ring.now result.1.0 × ((reader_knows result.1.0).number ≡ (reader_knows third).number) }
+    ensures second { RetiredFrom ring.now result.0.0
+        × ((retired_knows result.0.0).number ≡ (reader_knows second).number) }
+    ensures third { ReadsFrom ring.now result.1.0
+        × ((reader_knows result.1.0).number ≡ (reader_knows third).number) }
 {
     join(
         rt,
         || -> (RetiredPass, bool)
             requires { ((ring_shape ring.now).size ≡ 8) × ReadsFrom ring.now second }
-            ensures { RetiredFrom ring.entry.now result.0 × ((retired_knows result.0).number ≡ (reader_knows second).number) }
+            ensures { RetiredFrom ring.entry.now result.0
+                × ((retired_knows result.0).number ≡ (reader_knows second).number) }
         { read_ten(ring, second) },
         || -> (ReaderPass, bool)
             requires { ((ring_shape ring.now).size ≡ 8) × ReadsFrom ring.now third }
-            ensures { ReadsFrom ring.entry.now result.0 × ((reader_knows result.0).number ≡ (reader_knows third).number) }
+            ensures { ReadsFrom ring.entry.now result.0
+                × ((reader_knows result.0).number ≡ (reader_knows third).number) }
         { read_again(ring, third) },
     )
 }
@@ -228,12 +233,18 @@ fn run<R: Threads + Sync>(rt: &R, crew: Crew) -> (Finished, bool)
     let ((writer, (first, one)), ((second, two), (third, three))) = join(
         rt,
         || -> (WriterPass, (ReaderPass, bool))
-            requires { IsSync R.row × ((ring_shape ring).size ≡ 8) × WritesTo ring writer × ReadsFrom ring first }
-            ensures { WritesTo ring result.0 × ReadsFrom ring result.1.0 × ((reader_knows result.1.0).number ≡ (reader_knows first).number) }
+            requires { IsSync R.row × ((ring_shape ring).size ≡ 8)
+                × WritesTo ring writer × ReadsFrom ring first }
+            ensures { WritesTo ring result.0 × ReadsFrom ring result.1.0
+                × ((reader_knows result.1.0).number ≡ (reader_knows first).number) }
         { write_and_read(rt, &ring, writer, first) },
         || -> ((RetiredPass, bool), (ReaderPass, bool))
-            requires { IsSync R.row × ((ring_shape ring).size ≡ 8) × ReadsFrom ring second × ReadsFrom ring third }
-            ensures { RetiredFrom ring result.0.0 × ((retired_knows result.0.0).number ≡ (reader_knows second).number) × ReadsFrom ring result.1.0 × ((reader_knows result.1.0).number ≡ (reader_knows third).number) }
+            requires { IsSync R.row × ((ring_shape ring).size ≡ 8)
+                × ReadsFrom ring second × ReadsFrom ring third }
+            ensures { RetiredFrom ring result.0.0
+                × ((retired_knows result.0.0).number ≡ (reader_knows second).number)
+                × ReadsFrom ring result.1.0
+                × ((reader_knows result.1.0).number ≡ (reader_knows third).number) }
         { read_both(rt, &ring, second, third) },
     );
     let first = EndedReader::Here(first);

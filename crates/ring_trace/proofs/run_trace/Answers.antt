@@ -20,6 +20,8 @@ returns-then-is_err-clause-front g c = λ at x known.
     let Q : List ℕ → Type 0 = λ file. IsWhole file text ⊎ IsCut file text in
     record {
       text = text;
-      answers = subst Q same (either c.in-Ok-replay.answers.is_whole (IsWhole c.as_slice.result.now text) (IsCut c.as_slice.result.now text) c.in-Ok-replay.ensures.whole c.in-Ok-replay.ensures.cut);
-      wrote = subst P piece (on_err c.write_all.result (P c.as_slice-2.result.now) (search rules) c.write_all.ensures.front);
+      answers = subst Q same (either c.in-Ok-replay.answers.is_whole (IsWhole c.as_slice.result.now text)
+          (IsCut c.as_slice.result.now text) c.in-Ok-replay.ensures.whole c.in-Ok-replay.ensures.cut);
+      wrote = subst P piece (on_err c.write_all.result (P c.as_slice-2.result.now)
+          (search rules) c.write_all.ensures.front);
     }

@@ -1,15 +1,15 @@
 -- The laws hold of the one step, since the state before it was sound.
 use Rattle.std.proofs.Common.{subst, arith}
-use Rattle.ring_core.specs.Ring.{Ring, IsRing}
+use Rattle.ring_core.specs.State.{CoreState, IsSoundCore}
 use Rattle.ring_core.proofs.Rings.{ring_after}
 use Rattle.ring_core.proofs.Laws.{full_by_reader, keeps_uncleared}
 use Rattle.ring_core.proofs.Only.{only_one}
 use Rattle.ring_core.proofs.Core.apply.Goals as goal
 
-before : (c : goal.After-step) → IsRing c.args.self.now
-before c = let P : Ring → Type 0 = λ r. IsRing r in subst P c.self.view_is c.self.invariant.ring
+before : (c : goal.After-step) → IsSoundCore c.args.self.now
+before c = let P : CoreState → Type 0 = λ r. IsSoundCore r in subst P c.self.view_is c.self.invariant.ring
 
-after : (c : goal.After-step) → IsRing c.step.new.self
+after : (c : goal.After-step) → IsSoundCore c.step.new.self
 after c = ring_after c.args.self.now _ _ c.step.new.self (before c) c.step.ensures
 
 pub returns-clause-ring : goal.returns-clause-ring

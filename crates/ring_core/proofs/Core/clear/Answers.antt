@@ -1,6 +1,6 @@
 use Rattle.std.proofs.Common.{inl, refl, ap}
 use Rattle.ring_core.specs.Machine.{Event, Answer}
-use Rattle.ring_core.specs.Ring.{phase_of}
+use Rattle.ring_core.specs.State.{phase_of}
 use Rattle.ring_core.proofs.Rings.{ring_by}
 use Rattle.ring_core.proofs.Core.clear.Goals as goal
 

@@ -3,4 +3,5 @@ use Rattle.ring_core.specs.Machine.{height}
 use Rattle.ring_core.proofs.Core.has_room.Given as goal
 
 abbrev pub invariant-loop-count : goal.invariant-loop-count
-invariant-loop-count l = (k : ℕ) → k < l.count-index → height l.self.machine < get_or l.self.machine.low k 0 + l.self.shape.buffers
+invariant-loop-count l = (k : ℕ) → k < l.count-index →
+    height l.self.machine < get_or l.self.machine.low k 0 + l.self.shape.buffers

@@ -6,12 +6,15 @@ use Rattle.std.specs.Option.{MatchOption}
 use Rattle.std.specs.Prelude.{IfSome, IfNone}
 use Rattle.ring_trace.proofs.lines.after.Goals as goal
 
-parted : (text front : List ℕ) (r : Option (Bor (List ℕ))) → MatchOption r ((rest : List ℕ) → text ≢ front ++ rest) (λ rest. text ≡ front ++ rest.now) →
+parted : (text front : List ℕ) (r : Option (Bor (List ℕ))) →
+    MatchOption r ((rest : List ℕ) → text ≢ front ++ rest) (λ rest. text ≡ front ++ rest.now) →
     IfSome r (λ rest. text ≡ front ++ rest.now) × IfNone r ((rest : List ℕ) → text ≢ front ++ rest)
 parted text front (Some rest) h = (h, tt)
 parted text front None h = (tt, h)
 
 pub returns : goal.returns
 returns c =
-    let h = parted c.args.text.now c.args.front.now c.strip_prefix.result (strip_prefix_is (λ a b. (eqb-true a b, eq-eqb a b)) c.args.text.now c.args.front.now c.strip_prefix.result c.strip_prefix.ensures.cases) in
+    let h = parted c.args.text.now c.args.front.now c.strip_prefix.result
+        (strip_prefix_is (λ a b. (eqb-true a b,
+        eq-eqb a b)) c.args.text.now c.args.front.now c.strip_prefix.result c.strip_prefix.ensures.cases) in
     record { some = h.0; none = h.1 }

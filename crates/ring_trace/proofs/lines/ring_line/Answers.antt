@@ -8,12 +8,15 @@ use Rattle.ring_trace.proofs.Splits.{lacks_space, one_ring, some_by, none_by}
 use Rattle.ring_trace.proofs.lines.ring_line.Goals as goal
 
 -- the words that were found are those of any ring's line that this is
-found : (line b r n : List ℕ) (shape : Shape) → line ≡ ring_text b r n → Lacks 32 b → Lacks 32 r → (q : IsRingLine line shape) → (b ≡ q.buffers) × (r ≡ q.readers) × (n ≡ q.blocks)
+found : (line b r n : List ℕ) (shape : Shape) → line ≡ ring_text b r n → Lacks 32 b → Lacks 32 r →
+    (q : IsRingLine line shape) → (b ≡ q.buffers) × (r ≡ q.readers) × (n ≡ q.blocks)
 found line b r n shape is lacks lacks' q =
-    one_ring b r n q.buffers q.readers q.blocks lacks lacks' (lacks_space q.buffers q.numbers.0) (lacks_space q.readers q.numbers.1) (sym is ∙ q.words)
+    one_ring b r n q.buffers q.readers q.blocks lacks lacks' (lacks_space q.buffers q.numbers.0)
+        (lacks_space q.readers q.numbers.1) (sym is ∙ q.words)
 
 pub returns-in_default-clause-none : goal.returns-in_default-clause-none
-returns-in_default-clause-none c shape q = c.in_default.ensures.none q.buffers q.readers q.blocks (lacks_space q.buffers q.numbers.0) (lacks_space q.readers q.numbers.1) q.words
+returns-in_default-clause-none c shape q = c.in_default.ensures.none q.buffers q.readers q.blocks
+    (lacks_space q.buffers q.numbers.0) (lacks_space q.readers q.numbers.1) q.words
 
 pub returns-in_default-number-clause-none : goal.returns-in_default-number-clause-none
 returns-in_default-number-clause-none c shape q =
@@ -38,7 +41,8 @@ returns-clause-some c = some_by c.shape.result _ _
       blocks = c.in-Some.blocks.now;
       words = c.in-Some.ensures.words;
       numbers = (c.in-Some-number.ensures.0, c.in-Some-number-2.ensures.0, c.in-Some-number-3.ensures.0);
-      values = (buffers ∙ c.in-Some-number.ensures.1, readers ∙ c.in-Some-number-2.ensures.1, blocks ∙ c.in-Some-number-3.ensures.1);
+      values = (buffers ∙ c.in-Some-number.ensures.1, readers ∙ c.in-Some-number-2.ensures.1, blocks
+          ∙ c.in-Some-number-3.ensures.1);
       in_range = in_range;
     })
     c.shape.ensures.some

@@ -5,7 +5,8 @@ use Rattle.ring_trace.proofs.replay.answer_all.Given as goal
 
 -- the lines that were answered so far, and what they did
 abbrev pub invariant-loop-rest : goal.invariant-loop-rest
-invariant-loop-rest l = (done : List (List ℕ)) × (lines_of l.lines ≡ done ++ lines_of l.rest) × (IsReplayed l.readers l.initial.core done l.core l.text.items)
+invariant-loop-rest l = (done : List (List ℕ)) × (lines_of l.lines ≡ done ++ lines_of l.rest)
+    × (IsReplayed l.readers l.initial.core done l.core l.text.items)
 
 abbrev pub decreases-loop-rest : goal.decreases-loop-rest
 decreases-loop-rest l = length l.rest

@@ -6,10 +6,14 @@ use Rattle.ring_words.proofs.Moves.{clears_at}
 use Rattle.ring_words.proofs.words.Words.clear.Goals as goal
 
 pub store-requires : goal.store-requires
-store-requires c = let t = c.args.self.now in let r = c.args.reader.now in let s = r.seat in let wide = t.wide in let word = c.count_word_of.ensures in let got = some_of (reader_of s.me.0).got c.requires.got in
-    let near : r.number < t.shape.readers = subst (λ (z : RingShape). r.number < z.readers) c.requires.seat.1 r.in_range in (
+store-requires c = let t = c.args.self.now in let r = c.args.reader.now in let s = r.seat in let wide = t.wide in
+    let word = c.count_word_of.ensures in let got = some_of (reader_of s.me.0).got c.requires.got in
+    let near : r.number < t.shape.readers = subst (λ (z : RingShape).
+        r.number < z.readers) c.requires.seat.1 r.in_range in (
       c.requires.seat.0,
       omega arith,
-      clears_at t.table.shared.key t.shape t.keyed t.table.shared.table_id.slots s.id t.deep s.me c.count_word_of.result r.number (r.cleared + 1) r.role word r.number_is c.requires.home c.requires.registered got.0 got.1
+      clears_at t.table.shared.key t.shape t.keyed t.table.shared.table_id.slots s.id t.deep s.me
+          c.count_word_of.result r.number
+          (r.cleared + 1) r.role word r.number_is c.requires.home c.requires.registered got.0 got.1
           (ap (λ (n : ℕ). n + 1) r.count),
     )

@@ -13,7 +13,7 @@ use Rattle.ring_core.specs.declared.Answer.{Answer}
 use Rattle.ring_core.specs.declared.Answer.TheVariants.{Full, Room, RoomRetired, Taken, Spent, Sealed, Got, Empty, Busy, Given, Cleared, Retired, Detached, Attached, Refused}
 
 -- a ring: its shape, and where its machine stands
-pub record Ring : Type 0 where
+pub record CoreState : Type 0 where
   pub shape : Shape
   pub machine : Machine ℕ
 
@@ -56,7 +56,7 @@ answer_of (Attached n) = machine.Answer.Attached n
 answer_of Refused = machine.Answer.Refused
 
 -- a shape in its ranges, with a sound machine
-pub record IsRing (r : Ring) : Type 0 where
+pub record IsSoundCore (r : CoreState) : Type 0 where
   pub two : 2 ≤ r.shape.buffers
   pub few : r.shape.readers ≤ 8
   pub short : r.shape.max_blocks ≤ 1048576
@@ -64,17 +64,17 @@ pub record IsRing (r : Ring) : Type 0 where
   pub sound : IsSound r.shape.buffers r.shape.max_blocks r.machine
 
 -- at the old ring the event has this answer, and leaves the new one
-pub record Steps (old : Ring) (e : machine.Event ℕ) (a : machine.Answer ℕ) (new : Ring) : Type 0 where
+pub record Steps (old : CoreState) (e : machine.Event ℕ) (a : machine.Answer ℕ) (new : CoreState) : Type 0 where
   pub shape : new.shape ≡ old.shape
   pub does : Does old.shape.buffers old.shape.max_blocks old.machine e a new.machine
 
 -- no other answer, and no other state after it, is allowed
-abbrev pub IsOnly : Ring → machine.Event ℕ → machine.Answer ℕ → Ring → Type 0
+abbrev pub IsOnly : CoreState → machine.Event ℕ → machine.Answer ℕ → CoreState → Type 0
 IsOnly old e a new = (b : machine.Answer ℕ) (m : Machine ℕ) →
     Does old.shape.buffers old.shape.max_blocks old.machine e b m → (b ≡ a) × (m ≡ new.machine)
 
 -- the events, one after another, leave the new ring
-pub record RunsTo (old : Ring) (events : List (machine.Event ℕ)) (new : Ring) : Type 0 where
+pub record RunsTo (old : CoreState) (events : List (machine.Event ℕ)) (new : CoreState) : Type 0 where
   pub shape : new.shape ≡ old.shape
   pub answers : List (machine.Answer ℕ)
   pub runs : Runs old.shape.buffers old.shape.max_blocks old.machine events answers new.machine
