@@ -56,9 +56,7 @@ impl Way {
 fn show<R: Threads + Sync + AllocGlobal + Print>(rt: &R, way: Way) -> io::Result<()> {
     let Way { size, readers, .. } = way;
     match move_blocks(rt, way.shape(), way.blocks) {
-        Ok(moved) => {
-            println!(rt; "size {size}, readers {readers}: {moved} blocks to each")
-        }
+        Ok(moved) => { println!(rt; "size {size}, readers {readers}: {moved} blocks to each") }
         Err(fault) => println!(rt; "size {size}, readers {readers}: {fault}"),
     }
 }

@@ -60,10 +60,7 @@ fn take_reader(ring: &Ring, done: &mut Vec<Done>, number: u32) -> Result<EndedRe
 }
 
 // All readers, each at the place of its number.
-fn gather(
-    ring: &Ring,
-    mut done: Vec<Done>,
-) -> Result<ArrayVec<Option<EndedReader>, 8>, BenchFault>
+fn gather(ring: &Ring, mut done: Vec<Done>) -> Result<ArrayVec<Option<EndedReader>, 8>, BenchFault>
     requires { All (IsBack ring.now) done.items }
     ensures { IfOk result (λ readers. AreInOrder ring.now readers.items) }
 {
@@ -113,10 +110,7 @@ pub fn move_blocks<R: Threads + Sync + AllocGlobal>(
 
 /// Moves so many blocks to a reader that stays, one that detaches and attaches all the time, and one that retires, and
 /// answers how many each got.
-pub fn soak<R: Threads + Sync + AllocGlobal>(
-    rt: &R,
-    blocks: u64,
-) -> Result<[u64; 3], BenchFault> {
+pub fn soak<R: Threads + Sync + AllocGlobal>(rt: &R, blocks: u64) -> Result<[u64; 3], BenchFault> {
     let shape = RingShape {
         buffers: 4,
         size: 1000,

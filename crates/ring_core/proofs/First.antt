@@ -18,15 +18,16 @@ module _ {L : Type 0} where
   sound_first buffers limit n = record {
     limited = omega arith;
     one_more = λ e. absurd cc;
-    counts = λ i r is registered. let c = ap (λ (q : Reader). q.cleared) (ready L n i r is) in (omega arith, omega arith);
+    counts = λ i r is registered.
+        let c = ap (λ (q : Reader). q.cleared) (ready L n i r is) in (omega arith, omega arith);
     remembered = λ i r is registered. omega (arith, index_replicate n i);
     room = λ e. absurd cc;
     was_sealed = λ i r is out. let p = ap (λ (q : Reader). q.phase) (ready L n i r is) in
         absurd (⊎_elim (λ e. let f : Phase.Ready ≡ Phase.Out = sym p ∙ e in cc)
-            (λ e. let f : Phase.Ready ≡ Phase.Read = sym p ∙ e in cc) out);
+        (λ e. let f : Phase.Ready ≡ Phase.Read = sym p ∙ e in cc) out);
     alone = λ i j k (r, is, out, count) other.
         let p = ap (λ (q : Reader). q.phase) (ready L n i r is) in let f : Phase.Ready ≡ Phase.Out = sym p
-            ∙ out in absurd cc;
+        ∙ out in absurd cc;
     one_each = length-replicate n 0 ∙ sym (length-replicate n _);
   }
 

@@ -30,9 +30,9 @@ module _ {L : Type 0} where
       MayBecome m r new → (j k n : ℕ) → Holds (with_reader m i new) j n → Holds (with_reader m i new) k n → j ≡ k
   alone_after m i r new alone may j k n one other = ⊎_elim
       (λ t. ⊎_elim (λ u. t.0 ∙ sym u.0) (λ u. absurd (let P : ℕ → Type 0 = λ c. Holds m k c in
-          may.alone t.1 k (subst P (sym t.2) u))) (holds_cases m i new k n other))
+      may.alone t.1 k (subst P (sym t.2) u))) (holds_cases m i new k n other))
       (λ t. ⊎_elim (λ u. absurd (let P : ℕ → Type 0 = λ c. Holds m j c in may.alone u.1 j (subst P (sym u.2) t)))
-          (λ u. alone j k n t u) (holds_cases m i new k n other))
+      (λ u. alone j k n t u) (holds_cases m i new k n other))
       (holds_cases m i new j n one)
 
   moved : (buffers limit : ℕ) (m : Machine L) (i : ℕ) (r new : Reader) → IsSound buffers limit m → IsReader m i r →
@@ -43,7 +43,7 @@ module _ {L : Type 0} where
     counts = each_after (λ (j : ℕ) (q : Reader). IsRegistered q → (q.cleared ≤ height m)
         × (height m ≤ q.cleared + buffers)) m.readers i new
         (λ registered. let may' = may.registered registered in let was = s.counts i r here may'.0 in
-            (may'.2, omega arith))
+        (may'.2, omega arith))
         s.counts;
     remembered = each_after (λ (j : ℕ) (q : Reader). IsRegistered q → slice_index m.low j ≤ q.cleared) m.readers i new
         (λ registered. let may' = may.registered registered in let was = s.remembered i r here may'.0 in omega arith)
@@ -69,7 +69,7 @@ module _ {L : Type 0} where
     room = λ writing j h. ⊎_elim
         (λ t. let above = room writing in omega arith)
         (λ e. let h' : j < length m.low = omega (arith, length-set m.low i c) in let above = s.room writing j h' in
-            omega arith)
+        omega arith)
         (index_set-cases m.low i j c);
     was_sealed = s.was_sealed;
     alone = s.alone;
@@ -119,14 +119,14 @@ module _ {L : Type 0} where
   stays : (buffers limit : ℕ) (m : Machine L) (i : ℕ) (r : Reader) (p : Phase) → IsSound buffers limit m →
       IsReader m i r → IsRegistered r →
       ((p ≡ Phase.Out) ⊎ (p ≡ Phase.Read) → r.cleared < height m) →
-          (p ≡ Phase.Out → (j : ℕ) → ¬ Holds m j r.cleared) →
-          IsSound buffers limit (with_reader m i (record r { phase = p }))
+      (p ≡ Phase.Out → (j : ℕ) → ¬ Holds m j r.cleared) →
+      IsSound buffers limit (with_reader m i (record r { phase = p }))
   stays buffers limit m i r p s is registered was_sealed alone =
       moved buffers limit m i r (record r { phase = p }) s is record {
-    registered = λ h. (registered, omega arith, (s.counts i r is registered).0);
-    was_sealed = was_sealed;
-    alone = alone;
-  }
+        registered = λ h. (registered, omega arith, (s.counts i r is registered).0);
+        was_sealed = was_sealed;
+        alone = alone;
+      }
 
   -- a reader that neither holds a block nor has read one
   rests : (buffers limit : ℕ) (m : Machine L) (i : ℕ) (r : Reader) (p : Phase) → IsSound buffers limit m →
@@ -134,24 +134,24 @@ module _ {L : Type 0} where
       p ≢ Phase.Out → p ≢ Phase.Read → IsSound buffers limit (with_reader m i (record r { phase = p }))
   rests buffers limit m i r p s is registered not_out not_read =
       stays buffers limit m i r p s is registered (λ h. absurd (⊎_elim (λ e. not_out e) (λ e. not_read e) h))
-          (λ e. absurd (not_out e))
+      (λ e. absurd (not_out e))
 
   looks_keep : (buffers limit : ℕ) (m : Machine L) (i : ℕ) (a : Answer L) (m' : Machine L) → limit ≤ greatest →
       IsSound buffers limit m → Does buffers limit m (Event.Look i) a m' → IsSound buffers limit m'
   looks_keep buffers limit m i a m' fits s (inl (r, is, gone, answer, after)) =
       as_is buffers limit m' _ (remembering buffers limit m i greatest s
       (λ q is_q registered. let same : Some r ≡ Some q = sym is ∙ is_q in let e : r ≡ q = cc in
-          absurd (registered (ap (λ (x : Reader). x.phase) (sym e) ∙ gone)))
+      absurd (registered (ap (λ (x : Reader). x.phase) (sym e) ∙ gone)))
       (λ writing. let more = s.one_more writing in omega arith)) after
   looks_keep buffers limit m i a m' fits s (inr (inl (r, is, registered, below, answer, after))) =
       as_is buffers limit m' _ (remembering buffers limit m i r.cleared s
       (λ q is_q registered'. let same : Some r ≡ Some q = sym is ∙ is_q in let e : r ≡ q = cc in
-          let e' = ap (λ (x : Reader). x.cleared) e in omega arith)
+      let e' = ap (λ (x : Reader). x.cleared) e in omega arith)
       (λ writing. room_at buffers limit m i r s is registered writing)) after
   looks_keep buffers limit m i a m' fits s (inr (inr (inl (r, is, registered, above, answer, after)))) =
       as_is buffers limit m' _ (remembering buffers limit m i r.cleared s
       (λ q is_q registered'. let same : Some r ≡ Some q = sym is ∙ is_q in let e : r ≡ q = cc in
-          let e' = ap (λ (x : Reader). x.cleared) e in omega arith)
+      let e' = ap (λ (x : Reader). x.cleared) e in omega arith)
       (λ writing. above)) after
   looks_keep buffers limit m i a m' fits s (inr (inr (inr (none, refused)))) = as_is buffers limit m' m s refused.1
 
@@ -178,17 +178,20 @@ module _ {L : Type 0} where
   does_keeps buffers limit m (Event.ReaderTake i) a m' fits s
       (inr (inr (inl (r, label, is, idle, nobody, at, answer, after)))) = as_is buffers limit m' _
       (stays buffers limit m i r Phase.Out s is (idle_registered r idle)
-          (λ h. slice_get_within m.sealed r.cleared label at) (λ e. nobody)) after
+      (λ h. slice_get_within m.sealed r.cleared label at) (λ e. nobody)) after
   does_keeps buffers limit m (Event.ReaderTake i) a m' fits s (inr (inr (inr (not_idle, refused)))) =
       as_is buffers limit m' m s refused.1
   does_keeps buffers limit m (Event.Give i) a m' fits s (inl (r, is, out, answer, after)) = as_is buffers limit m' _
       (stays buffers limit m i r Phase.Read s is (λ gone. let e : Phase.Out ≡ Phase.Retired = sym out ∙ gone in cc)
-          (λ h. s.was_sealed i r is (inl out)) (λ e. absurd cc)) after
+      (λ h. s.was_sealed i r is (inl out)) (λ e. absurd cc)) after
   does_keeps buffers limit m (Event.Give i) a m' fits s (inr (not_out, refused)) = as_is buffers limit m' m s refused.1
   does_keeps buffers limit m (Event.Clear i) a m' fits s (inl (r, is, read, answer, after)) = as_is buffers limit m' _
       (moved buffers limit m i r (record { cleared = r.cleared + 1; phase = Phase.Ready }) s is record {
-        registered = λ h. ((λ gone. let e : Phase.Read ≡ Phase.Retired = sym read ∙ gone in cc), omega arith,
-            (let below = s.was_sealed i r is (inr read) in omega arith));
+        registered = λ h. (
+          (λ gone. let e : Phase.Read ≡ Phase.Retired = sym read ∙ gone in cc),
+          omega arith,
+          (let below = s.was_sealed i r is (inr read) in omega arith),
+        );
         was_sealed = λ h. absurd (⊎_elim (λ (e : Phase.Ready ≡ Phase.Out). cc)
             (λ (e : Phase.Ready ≡ Phase.Read). cc) h);
         alone = λ e. absurd cc;
@@ -206,7 +209,7 @@ module _ {L : Type 0} where
   does_keeps buffers limit m (Event.Attach i) a m' fits s (inl (r, is, detached, answer, after)) =
       as_is buffers limit m' _
       (rests buffers limit m i r Phase.Ready s is (λ gone. let e : Phase.Detached ≡ Phase.Retired =
-          sym detached ∙ gone in cc) (λ e. cc) (λ e. cc)) after
+      sym detached ∙ gone in cc) (λ e. cc) (λ e. cc)) after
   does_keeps buffers limit m (Event.Attach i) a m' fits s (inr (not_detached, refused)) =
       as_is buffers limit m' m s refused.1
 

@@ -29,7 +29,7 @@ module _ {L : Type 0} where
     last = λ k more begun. ⊎_elim
         (λ e. let behind = s.counts i r is registered in apart buffers n k more (omega arith))
         (λ t. let e = t.1 in let room = room_at buffers limit m i r s is registered t.0 in
-            apart buffers n k more (omega arith))
+        apart buffers n k more (omega arith))
         (begun_cases m.writing (height m));
   }
 
@@ -48,7 +48,7 @@ module _ {L : Type 0} where
   full_or_not : (buffers limit : ℕ) (m : Machine L) (e : Event L) (a : Answer L) (m' : Machine L) →
       Does buffers limit m e a m' →
       ((i : ℕ) × (r : Reader) × (IsReader m i r) × (IsRegistered r) × (r.cleared + buffers ≤ height m)
-          × (a ≡ Answer.Full i r.cleared))
+      × (a ≡ Answer.Full i r.cleared))
       ⊎ IsOther a
   unfolding is_full
   full_or_not buffers limit m (Event.Look i) a m' (inl (r, is, gone, answer, after)) = inr (other answer refl)
@@ -89,7 +89,7 @@ module _ {L : Type 0} where
       IsSound buffers limit m → 0 < buffers → Does buffers limit m e a m' → FullByReader buffers m a
   full_by_reader buffers limit m e a m' s some does j c full = ⊎_elim
       (λ (i, r, is, registered, below, answer). let both : Answer.Full i r.cleared ≡ Answer.Full j c =
-          sym answer ∙ full in
+      sym answer ∙ full in
       let reader : i ≡ j = cc in let count : r.cleared ≡ c = cc in
       let behind = s.counts i r is registered in let next : height m ≡ c + buffers = omega arith in
       let P : ℕ → Type 0 = λ k. IsReader m k r in (

@@ -31,7 +31,7 @@ module _ {A : Type 0} where
       slice_get (slice_set xs i a) j ≡ Some b → P j b
   each_after P xs i a here else j b e = ⊎_elim
       (λ t. let Q : A → Type 0 = λ c. P j c in let R : ℕ → Type 0 = λ k. P k a in
-          subst Q (sym t.1) (subst R (sym t.0) here))
+      subst Q (sym t.1) (subst R (sym t.0) here))
       (λ t. else j b t.1)
       (get_set-cases xs i j a b e)
 

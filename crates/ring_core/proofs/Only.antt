@@ -13,9 +13,9 @@ module _ {L : Type 0} where
   two_ways : (m : Machine L) (i : ℕ) (P : Reader → Type 0) (f : Reader → Answer L) (g : Reader → Machine L)
       (a : Answer L) (m' : Machine L) (b : Answer L) (m'' : Machine L) →
       ((r : Reader) × (IsReader m i r) × (P r) × (a ≡ f r) × (m' ≡ g r)) ⊎ ((r : Reader) → IsReader m i r → ¬ P r)
-          × (IsRefused m a m') →
+      × (IsRefused m a m') →
       ((r : Reader) × (IsReader m i r) × (P r) × (b ≡ f r) × (m'' ≡ g r)) ⊎ ((r : Reader) → IsReader m i r → ¬ P r)
-          × (IsRefused m b m'') →
+      × (IsRefused m b m'') →
       (b ≡ a) × (m'' ≡ m')
   two_ways m i P f g a m' b m'' (inl (r, is, p, x, y)) (inl (q, is', p', x', y')) =
       let e = one_reader m i r q is is' in (x' ∙ (ap f e ∙ sym x), y' ∙ (ap g e ∙ sym y))

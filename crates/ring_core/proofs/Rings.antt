@@ -22,16 +22,20 @@ pub ring_after : (old : CoreState) (e : Event ℕ) (a : Answer ℕ) (new : CoreS
 ring_after old e a new r steps =
     let P : CoreState → Type 0 = λ x. IsSoundCore x in
     let same : new ≡ record old { machine = new.machine } =
-        ap (λ (s : Shape). record { shape = s; machine = new.machine }) steps.shape in
+    ap (λ (s : Shape). record { shape = s; machine = new.machine }) steps.shape in
     subst P (sym same) (ring_by old e a new.machine r steps.does)
 
 -- a run goes on by one step
 runs_on : (buffers limit : ℕ) (m : Machine ℕ) (events : List (Event ℕ)) (answers : List (Answer ℕ)) (n : Machine ℕ)
     (e : Event ℕ) (a : Answer ℕ) (n' : Machine ℕ) →
     Runs buffers limit m events answers n → Does buffers limit n e a n' →
-        Runs buffers limit m (events ++ e ∷ []) (answers ++ a ∷ []) n'
-runs_on buffers limit m [] [] n e a n' is does = (n', (let P : Machine ℕ → Type 0 =
-    λ x. Does buffers limit x e a n' in subst P is does), refl)
+    Runs buffers limit m (events ++ e ∷ []) (answers ++ a ∷ []) n'
+runs_on buffers limit m [] [] n e a n' is does = (
+  n',
+  (let P : Machine ℕ → Type 0 =
+      λ x. Does buffers limit x e a n' in subst P is does),
+  refl,
+)
 runs_on buffers limit m [] (b ∷ answers) n e a n' runs does = absurd runs
 runs_on buffers limit m (f ∷ events) [] n e a n' runs does = absurd runs
 runs_on buffers limit m (f ∷ events) (b ∷ answers) n e a n' (k, first, runs) does =
@@ -45,5 +49,5 @@ run_by old events mid e a new runs steps = record {
   runs = runs_on old.shape.buffers old.shape.max_blocks old.machine events runs.answers mid.machine e a new.machine
       runs.runs
       (let P : Shape → Type 0 = λ s. Does s.buffers s.max_blocks mid.machine e a new.machine in
-          subst P runs.shape steps.does);
+      subst P runs.shape steps.does);
 }

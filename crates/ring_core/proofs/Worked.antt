@@ -16,15 +16,25 @@ full = record { sealed = 70 ∷ 71 ∷ []; writing = false; low = 0 ∷ 0 ∷ []
 
 -- reader 0 cleared it too
 abbrev cleared : Machine ℕ
-cleared = record { sealed = 70 ∷ 71 ∷ []; writing = false; low = 0 ∷ 0 ∷ []; readers =
-    pair 1 Phase.Ready 1 Phase.Ready }
+cleared = record {
+  sealed = 70 ∷ 71 ∷ [];
+  writing = false;
+  low = 0 ∷ 0 ∷ [];
+  readers =
+      pair 1 Phase.Ready 1 Phase.Ready;
+}
 
 abbrev looked : Machine ℕ
 looked = record cleared { low = 1 ∷ 0 ∷ [] }
 
 abbrev retired : Machine ℕ
-retired = record { sealed = 70 ∷ 71 ∷ []; writing = true; low = 1 ∷ 1 ∷ []; readers =
-    pair 1 Phase.Ready 1 Phase.Retired }
+retired = record {
+  sealed = 70 ∷ 71 ∷ [];
+  writing = true;
+  low = 1 ∷ 1 ∷ [];
+  readers =
+      pair 1 Phase.Ready 1 Phase.Retired;
+}
 
 takes_first : Does 2 8 (at_first ℕ 2) Event.WriterTake (Answer.Taken 0) (record (at_first ℕ 2) { writing = true })
 takes_first = inr (inr (inr (refl, (λ e. omega arith), (λ i h. omega arith), refl, refl)))

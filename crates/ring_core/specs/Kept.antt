@@ -5,8 +5,13 @@ use Rattle.ring_core.specs.State.{CoreState, IsSoundCore, reader_of}
 use Rattle.ring_core.specs.declared.Core.TheInside.{Inside}
 
 abbrev pub machine_of : Inside → Machine ℕ
-machine_of a = record { sealed = a.sealed.items; writing = a.writing; low = a.low.items; readers =
-    map reader_of a.readers.items }
+machine_of a = record {
+  sealed = a.sealed.items;
+  writing = a.writing;
+  low = a.low.items;
+  readers =
+      map reader_of a.readers.items;
+}
 
 abbrev pub ring_of : Inside → CoreState
 ring_of a = record { shape = a.shape; machine = machine_of a }

@@ -191,15 +191,18 @@ impl Core {
 
     fn set_reader(&mut self, i: u32, reader: Reader)
         requires there { i < length self.old.machine.readers }
-        requires ring { IsSoundCore (record self.old { machine = with_reader self.old.machine i (reader_of reader) }) }
-        ensures { self.new ≡ record self.old { machine = with_reader self.old.machine i (reader_of reader) } }
+        requires ring { IsSoundCore
+            (record self.old { machine = with_reader self.old.machine i (reader_of reader) }) }
+        ensures { self.new
+            ≡ record self.old { machine = with_reader self.old.machine i (reader_of reader) } }
     {
         self.readers[i as usize] = reader;
     }
 
     fn remember(&mut self, i: u32, count: u64)
         requires there { i < length self.old.machine.low }
-        requires ring { IsSoundCore (record self.old { machine = remembers self.old.machine i count }) }
+        requires ring { IsSoundCore
+            (record self.old { machine = remembers self.old.machine i count }) }
         ensures { self.new ≡ record self.old { machine = remembers self.old.machine i count } }
     {
         self.low[i as usize] = count;
@@ -450,5 +453,4 @@ pub fn run(core: &mut Core, events: &[Event])
 /// any type.
 pub fn reached_is_sound<L>()
     ensures { ReachedIsSound L }
-{
-}
+{}

@@ -48,7 +48,7 @@ module _ (ring : Ring) (all : List (Option EndedReader)) (ok : AllReaders ring a
   pub join_more : (readers readers' : List (Option EndedReader)) (n : ℕ) (w v v' : WriterView) (counts : List ℕ)
       (e : EndedReader) (number count : ℕ) → Joining all readers n w v counts → Gives all n e
       → readers' ≡ remove readers 0 → v' ≡ after_join v (ended_knows e) → number ≡ (ended_knows e).number →
-          number < 8 → count ≡ length (ended_knows e).cleared → (ended_knows e).number < length v.parked
+      number < 8 → count ≡ length (ended_knows e).cleared → (ended_knows e).number < length v.parked
       → Joining all readers' (n + 1) w v' (set counts number count)
   join_more readers readers' n w v v' counts e number count before here gone view number_is small count_is near =
       let r : ReaderView = ended_knows e in let wide = before.wide in
@@ -62,22 +62,22 @@ module _ (ring : Ring) (all : List (Option EndedReader)) (ok : AllReaders ring a
             (λ same. let one : e ≡ f = gives_one all n e f here (ap (λ (k : ℕ). slice_get all k) (sym same) ∙ gives) in
             subst (λ (x : EndedReader). parked_at v' (ended_knows x).number ≡ Some (ended_knows x)) one
             (ap (λ (l : List (Option ReaderView)). get_or l r.number None) parks
-                ∙ get_or-set_same v.parked r.number (Some r) None near))
+            ∙ get_or-set_same v.parked r.number (Some r) None near))
             (λ earlier. let other : (ended_knows f).number ≢ r.number = λ same.
-                earlier (ok.once j n f e gives here same) in
+            earlier (ok.once j n f e gives here same) in
             ap (λ (l : List (Option ReaderView)). get_or l (ended_knows f).number None) parks
-                ∙ (get_or-set_other v.parked r.number (ended_knows f).number (Some r) None other
-                ∙ before.parked j f (omega arith) gives));
+            ∙ (get_or-set_other v.parked r.number (ended_knows f).number (Some r) None other
+            ∙ before.parked j f (omega arith) gives));
         counted = λ j f below gives. dite (ℕ_discrete j n)
             (λ same. let one : e ≡ f = gives_one all n e f here (ap (λ (k : ℕ). slice_get all k) (sym same) ∙ gives) in
             subst (λ (x : EndedReader). get_or (set counts number count) (ended_knows x).number 0
-                ≡ length (ended_knows x).cleared) one
+            ≡ length (ended_knows x).cleared) one
             (ap (λ (k : ℕ). get_or (set counts number count) k 0) (sym number_is)
-                ∙ (get_or-set_same counts number count 0 (omega arith) ∙ count_is)))
+            ∙ (get_or-set_same counts number count 0 (omega arith) ∙ count_is)))
             (λ earlier. let other : (ended_knows f).number ≢ number = λ same.
-                earlier (ok.once j n f e gives here (same ∙ number_is)) in
+            earlier (ok.once j n f e gives here (same ∙ number_is)) in
             get_or-set_other counts number (ended_knows f).number count 0 other
-                ∙ before.counted j f (omega arith) gives);
+            ∙ before.counted j f (omega arith) gives);
       }
 
   -- after the last one, and a look
@@ -93,9 +93,11 @@ module _ (ring : Ring) (all : List (Option EndedReader)) (ok : AllReaders ring a
     -- each reader is there
     each_parked : (i : ℕ) → i < (ring_shape ring).readers → (r : ReaderView) × (parked_at v i ≡ Some r)
         × (get_or counts i 0 ≡ length r.cleared)
-    each_parked i near = let h = ok.all i near in let e : EndedReader = h.1 in
-        (ended_knows e, ap (parked_at v) (sym h.3) ∙ joined.parked h.0 e h.2,
-            ap (λ (k : ℕ). get_or counts k 0) (sym h.3) ∙ joined.counted h.0 e h.2)
+    each_parked i near = let h = ok.all i near in let e : EndedReader = h.1 in (
+      ended_knows e,
+      ap (parked_at v) (sym h.3) ∙ joined.parked h.0 e h.2,
+      ap (λ (k : ℕ). get_or counts k 0) (sym h.3) ∙ joined.counted h.0 e h.2,
+    )
 
     pub each_counted : (i : ℕ) → i < (ring_shape ring).readers → get_or counts i 0 ≡ length (cleared_of (parked_at v i))
     each_counted i near = let h = each_parked i near in
@@ -104,6 +106,8 @@ module _ (ring : Ring) (all : List (Option EndedReader)) (ok : AllReaders ring a
     pub each_begins : WriterSettled v → (i : ℕ) → i < (ring_shape ring).readers →
         Begins (cleared_of (parked_at v i)) v.sealed
     each_begins settled i near = let h = each_parked i near in
-        subst (λ (o : Option ReaderView). Begins (cleared_of o) v.sealed) (sym h.1)
-        (drop (length h.0.cleared) v.sealed, sym (take-append-drop (length h.0.cleared) v.sealed)
-            ∙ ap (λ (l : List Entry). l ++ drop (length h.0.cleared) v.sealed) (settled.begins i h.0 h.1))
+        subst (λ (o : Option ReaderView). Begins (cleared_of o) v.sealed) (sym h.1) (
+          drop (length h.0.cleared) v.sealed,
+          sym (take-append-drop (length h.0.cleared) v.sealed)
+              ∙ ap (λ (l : List Entry). l ++ drop (length h.0.cleared) v.sealed) (settled.begins i h.0 h.1),
+        )

@@ -23,8 +23,14 @@ pub passes_more : (ring : Ring) (passes : List (Option ReaderPass)) (n : ℕ) (p
     ReadsFrom ring p → reader_knows p ≡ fresh_reader (ring_shape ring) n → p.has_read ≡ false
     → ((i : ℕ) → i < n → HasFreshPass ring passes i) → (i : ℕ) → i < n + 1 → HasFreshPass ring (passes ++ Some p ∷ []) i
 passes_more ring passes n p long reads new unread old i near = dite (ℕ_discrete i n)
-    (λ same. (p, at_end passes (Some p) i (long ∙ sym same), reads, new
-        ∙ ap (λ (k : ℕ). fresh_reader (ring_shape ring) k) (sym same), unread))
+    (λ same. (
+      p,
+      at_end passes (Some p) i (long ∙ sym same),
+      reads,
+      new
+          ∙ ap (λ (k : ℕ). fresh_reader (ring_shape ring) k) (sym same),
+      unread,
+    ))
     (λ other. let h = old i (omega arith) in (h.0, longer passes (Some p ∷ []) i (Some h.0) h.1, h.2, h.3, h.4))
 
 -- what is taken out at place n

@@ -10,7 +10,7 @@ module _ (ring : Ring) (readers : List (Option EndedReader)) (order : AreInOrder
   number_at : (j : ℕ) (e : EndedReader) → Gives readers j e → (ended_knows e).number ≡ j
   number_at j e gives = let h = order.each j (slice_get_within readers j (Some e) gives) in
       subst (λ (x : EndedReader). (ended_knows x).number ≡ j)
-          (ap (λ (o : Option (Option EndedReader)). unwrap_or (unwrap_or o None) e) (sym h.1 ∙ gives)) h.3
+      (ap (λ (o : Option (Option EndedReader)). unwrap_or (unwrap_or o None) e) (sym h.1 ∙ gives)) h.3
 
   pub in_order : AllReaders ring readers
   in_order = record {

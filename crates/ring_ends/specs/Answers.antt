@@ -30,13 +30,17 @@ pub record LookedAtFirst (w : WriterView) (n : ℕ) (w' : WriterView) : Type 0 w
 abbrev pub SawPast : WriterView → ℕ → WriterView → Type 0
 SawPast w n w' = (i : ℕ) → i < n → length w.sealed < slice_index w'.low i + w.shape.buffers
 
+-- it looked at all readers in turn, and saw each past it
+pub record SawAllPast (w w' : WriterView) : Type 0 where
+  pub in_turn : LookedAtFirst w w.shape.readers w'
+  pub past : SawPast w w.shape.readers w'
+
 -- the block was sealed as number n, and before that each reader was seen past the block that lay in its buffer
 pub record IsWritten (w : WriterView) (entry : Entry) (n : ℕ) (w' : WriterView) : Type 0 where
   pub number : n ≡ length w.sealed
   pub within : n < w.shape.max_blocks
   pub looked : WriterView
-  pub in_turn : LookedAtFirst w w.shape.readers looked
-  pub past : SawPast w w.shape.readers looked
+  pub saw : SawAllPast w looked
   pub view : w' ≡ after_seal looked entry
 
 -- Nothing was sealed: looking at each reader in turn, the writer saw first of reader i that it had cleared c blocks,

@@ -20,7 +20,7 @@ impl Ring {
     ghost use Rattle.ring_words.specs.Plays.{ReaderSettled};
     ghost use Rattle.ring_words.specs.Shape.{IsRing};
     ghost use Rattle.ring_ends.specs.Passes.{ring_shape, writer_knows, reader_knows, is_read, retired_knows, WritesTo, ReadsFrom, RetiredFrom, HasFreshPass};
-    ghost use Rattle.ring_ends.specs.Answers.{FitsMark, IsWritten, IsWriteStop, IsRead, IsReadStop, LookedAtFirst, SawPast, IsFull};
+    ghost use Rattle.ring_ends.specs.Answers.{FitsMark, IsWritten, IsWriteStop, IsRead, IsReadStop, SawAllPast, IsFull};
 
     /// Opens a ring. The pass at place i is that of reader i.
     pub fn open(
@@ -66,7 +66,7 @@ impl Ring {
         ensures ring { WritesTo self.now pass.new }
         ensures cases { MatchResult result
             (λ n. IsWritten (writer_knows pass.old)
-                (record { mark = mark; bytes = bytes.now }) n (writer_knows pass.new))
+            (record { mark = mark; bytes = bytes.now }) n (writer_knows pass.new))
             (λ stop. IsWriteStop (writer_knows pass.old) stop (writer_knows pass.new)) }
     {
         let limit = self.words.shape().max_blocks;
@@ -87,7 +87,8 @@ impl Ring {
         requires room { (ring_shape self.now).size ≤ length into.old }
         ensures ring { ReadsFrom self.now pass.new }
         ensures cases { MatchResult result
-            (λ taken. IsRead (reader_knows pass.old) into.old taken (reader_knows pass.new) into.new)
+            (λ taken. IsRead (reader_knows pass.old) into.old
+            taken (reader_knows pass.new) into.new)
             (λ stop. IsReadStop (reader_knows pass.old) stop (reader_knows pass.new)) }
         ensures settled { ReaderSettled (reader_knows pass.new) }
         ensures has_read { OnOk result (is_read pass.new ≡ true) }
@@ -140,8 +141,7 @@ impl Ring {
         requires within { length (writer_knows pass.old).sealed < (ring_shape self.now).max_blocks }
         ensures ring { WritesTo self.now pass.new }
         ensures cases { MatchOption result
-            (LookedAtFirst (writer_knows pass.old) (ring_shape self.now).readers (writer_knows pass.new)
-            × SawPast (writer_knows pass.old) (ring_shape self.now).readers (writer_knows pass.new))
+            (SawAllPast (writer_knows pass.old) (writer_knows pass.new))
             (λ late. IsFull (writer_knows pass.old) late.0 late.1 (writer_knows pass.new)) }
     {
         let shape = self.words.shape();

@@ -10,7 +10,8 @@ mod threads;
 
 // The measures of a ring of blocks of 8 bytes.
 fn shape(buffers: u32, readers: u32, max_blocks: u64) -> RingShape
-    ensures { result ≡ record { buffers = buffers; size = 8; readers = readers; max_blocks = max_blocks } }
+    ensures { result
+        ≡ record { buffers = buffers; size = 8; readers = readers; max_blocks = max_blocks } }
 {
     RingShape {
         buffers,

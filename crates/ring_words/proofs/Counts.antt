@@ -23,7 +23,7 @@ newest_else b h h' k n pos is small other old = record {
       other (same ∙ sym (mod-eq_of_lt (subst (λ (x : ℕ). x < b) same small))) in omega arith;
   last = λ m e. let l = old.last m e in let below = l.1 in let near = l.2 in
       let apart : h ≢ m + b = λ same. other (sym l.0 ∙ (sym (add-mod_right m b)
-          ∙ ap (λ (x : ℕ). x % b) (sym same))) in (l.0, omega arith, omega arith);
+      ∙ ap (λ (x : ℕ). x % b) (sym same))) in (l.0, omega arith, omega arith);
 }
 
 -- in the buffer of the block to be sealed next, the newest is a whole round behind it
@@ -31,14 +31,14 @@ pub newest_next : (b h n : ℕ) → 0 < b → IsNewest b h (h % b) n → n ≡ (
 newest_next b h zero pos old = let short = old.none refl in let small : h % b < b = omega arith in omega arith
 newest_next b h (suc m) pos old = let l = old.last m (omega arith) in let below = l.1 in let near = l.2 in
     let same : h ≡ m + b = one_turn h (m + b) b (omega arith) (omega arith) (sym l.0 ∙ sym (add-mod_right m b)) in
-        omega arith
+    omega arith
 
 -- in the buffer of the block that a reader comes to, no block is newer than that one
 pub newest_own : (b h c n : ℕ) → 0 < b → h ≤ c + b → IsNewest b h (c % b) n → n ≤ c + 1
 newest_own b h c zero pos near old = omega arith
 newest_own b h c (suc m) pos near old = dite (dec_le m c) (λ le. omega arith)
     (λ more. let l = old.last m (omega arith) in let below = l.1 in
-        let same : c ≡ m = one_turn c m b (omega arith) (omega arith) (sym l.0) in omega arith)
+    let same : c ≡ m = one_turn c m b (omega arith) (omega arith) (sym l.0) in omega arith)
 
 -- where that block was sealed, it is the newest
 pub newest_reached : (b h c n : ℕ) → 0 < b → c < h → h ≤ c + b → IsNewest b h (c % b) n → n ≡ c + 1

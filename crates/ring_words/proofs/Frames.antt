@@ -62,8 +62,8 @@ module _ (shape : RingShape) where
   pub turn_kept : (w w' : WriterView) (reader reader' : ℕ → ReaderView) (words words' : List ℕ) (homes homes' : Homes)
       (k : ℕ) (t : Turn) → get_or words' k 0 ≡ get_or words k 0
       → IsNewest shape.buffers (length w'.sealed) k t.newest →
-          Stays shape w w' reader reader' homes homes' k t.newest → TurnOk shape w reader words homes k t →
-          TurnOk shape w' reader' words' homes' k t
+      Stays shape w w' reader reader' homes homes' k t.newest → TurnOk shape w reader words homes k t →
+      TurnOk shape w' reader' words' homes' k t
   turn_kept w w' reader reader' words words' homes homes' k t word newest stays ok = record {
     shows = word ∙ ok.shows;
     newest = newest;
@@ -76,7 +76,7 @@ module _ (shape : RingShape) where
       → (r.retired ≡ false → length w'.sealed ≤ length r.cleared + shape.buffers)
       → ((e : Entry) → get_elem? w.sealed (length r.cleared) ≡ some e → get_elem? w'.sealed (length r.cleared) ≡ some e)
       → ((turn (length r.cleared % shape.buffers)).holder ≡ by_reader i →
-          (turn' (length r.cleared % shape.buffers)).holder ≡ by_reader i)
+      (turn' (length r.cleared % shape.buffers)).holder ≡ by_reader i)
       → get_or w'.low i 0 ≤ count_word r
       → ReaderOk shape w words turn i r → ReaderOk shape w' words' turn' i r
   reader_kept w w' words words' turn turn' i r word begins within got holder low ok = record {
@@ -117,11 +117,15 @@ module _ (shape : RingShape) where
     -- a step of the writer, after which it knows w', with the readers as they parked
     pub writer_step : (w' : WriterView) (turn' : ℕ → Turn) (words' : List ℕ) (homes' : Homes)
         → length words' ≡ length s.words → length homes' ≡ length s.homes → w'.parked ≡ w.parked →
-            WriterOk shape w' turn'
+        WriterOk shape w' turn'
         → ((k : ℕ) → k < shape.buffers → TurnOk shape w' reader words' homes' k (turn' k))
         → ((i : ℕ) → i < shape.readers → ReaderOk shape w' words' turn' i (reader i))
-        → KeptBy shape (record { words = words'; homes = homes'; views =
-            set s.views at (Writer w') }) w' at reader place turn'
+        → KeptBy shape (record {
+          words = words';
+          homes = homes';
+          views =
+              set s.views at (Writer w');
+        }) w' at reader place turn'
     writer_step w' turn' words' homes' wide deep parked writer turns readers = record {
       ring = c.ring;
       wide = wide ∙ c.wide;
@@ -155,7 +159,7 @@ module _ (shape : RingShape) where
           → ((k : ℕ) → k < shape.buffers → TurnOk shape w (put reader r.number r') words' homes' k (turn' k))
           → ((i : ℕ) → i < shape.readers → ReaderOk shape w words' turn' i (put reader r.number r' i))
           → KeptBy shape (record { words = words'; homes = homes'; views = set s.views id (Reader r') }) w at
-              (put reader r.number r') place turn'
+          (put reader r.number r') place turn'
       reader_step turn' words' homes' wide deep writer turns readers = let mine = is_reader id r here in record {
         ring = c.ring;
         wide = wide ∙ c.wide;
@@ -166,9 +170,13 @@ module _ (shape : RingShape) where
         seated = set_else s.views id at (Reader r') reader_apart ∙ c.seated;
         each_seat = seats (Knows shape w at (put reader r.number r') place) s.views id (Reader r')
             (subst (λ (i : ℕ). (i < shape.readers) × (r' ≡ put reader r.number r' i) × (place i ≡ id)) (sym same)
-                (mine.0, sym (put_here reader r.number r'), mine.2))
+            (mine.0, sym (put_here reader r.number r'), mine.2))
             (λ j u other is. others_know j other u (c.each_seat j u is));
         all_parked = c.all_parked;
-        parked = λ i q is. let t = c.parked i q is in (t.0, t.1
-            ∙ sym (put_else reader r.number r' i (λ e. reader_apart (sym t.2 ∙ (ap place e ∙ mine.2)))), t.2);
+        parked = λ i q is. let t = c.parked i q is in (
+          t.0,
+          t.1
+              ∙ sym (put_else reader r.number r' i (λ e. reader_apart (sym t.2 ∙ (ap place e ∙ mine.2)))),
+          t.2,
+        );
       }

@@ -31,9 +31,12 @@ one_entry : (l : List (ℕ × Block)) (k n : ℕ) (entry : Entry) → map entry_
     × (l ≡ (k, b) ∷ []) × (room_of b ≡ n) × (entry ≡ entry_of b)
 unfolding first_or
 one_entry [] k n entry e = cc
-one_entry (x ∷ []) k n entry e = let p = ap (first_or (k, n, entry)) e in
-    (x.1, ap (λ (y : ℕ × ℕ × Entry). (y.0, x.1) ∷ []) p, ap (λ (y : ℕ × ℕ × Entry). y.1) p,
-    sym (ap (λ (y : ℕ × ℕ × Entry). y.2) p))
+one_entry (x ∷ []) k n entry e = let p = ap (first_or (k, n, entry)) e in (
+  x.1,
+  ap (λ (y : ℕ × ℕ × Entry). (y.0, x.1) ∷ []) p,
+  ap (λ (y : ℕ × ℕ × Entry). y.1) p,
+  sym (ap (λ (y : ℕ × ℕ × Entry). y.2) p),
+)
 one_entry (x ∷ y ∷ l) k n entry e = let tails : map entry_at (y ∷ l) ≡ [] = cc in cc
 
 -- the writer with a buffer out holds it alone
@@ -45,7 +48,7 @@ writer_holds w l hand out = one_room l (length w.sealed % w.shape.buffers) w.sha
 held_entry : (r : ReaderView) (l : List (ℕ × Block)) (o : Option Entry) → o ≢ None →
     map entry_at l ≡ map (λ e. (length r.cleared % r.shape.buffers, r.shape.size, e)) (got_list o)
     → (b : Block) × (l ≡ (length r.cleared % r.shape.buffers, b) ∷ []) × (room_of b ≡ r.shape.size)
-        × (o ≡ Some (entry_of b))
+    × (o ≡ Some (entry_of b))
 held_entry r l None some_one hand = absurd (some_one refl)
 held_entry r l (Some e) some_one hand = let t = one_entry l
     (length r.cleared % r.shape.buffers) r.shape.size e hand in (t.0, t.1, t.2, ap (λ (x : Entry). Some x) t.3)
@@ -54,7 +57,7 @@ held_entry r l (Some e) some_one hand = let t = one_entry l
 pub reader_holds : (r : ReaderView) (l : List (ℕ × Block)) → map entry_at l ≡ entries_out r → r.out ≡ true →
     r.got ≢ None
     → (b : Block) × (l ≡ (length r.cleared % r.shape.buffers, b) ∷ []) × (room_of b ≡ r.shape.size)
-        × (r.got ≡ Some (entry_of b))
+    × (r.got ≡ Some (entry_of b))
 reader_holds r l hand out some_one = held_entry r l r.got some_one
     (hand ∙ ap (λ (z : Bool). cond z (map (λ e. (length r.cleared % r.shape.buffers, r.shape.size, e))
     (got_list r.got)) []) out)
@@ -70,7 +73,7 @@ pub writer_with : (me : Me Block View) (k : ℕ) (b : Block) → me.0 ≡ Writer
     map room_at me.1 ≡ rooms_out (writer_of me.0) → (writer_of me.0).out ≡ true →
     k ≡ length (writer_of me.0).sealed % (writer_of me.0).shape.buffers
     → ◌≡◌ {A = Me Block View} (me.0, (k, b) ∷ rest me.1)
-        (Writer (writer_of me.0), (length (writer_of me.0).sealed % (writer_of me.0).shape.buffers, b) ∷ [])
+    (Writer (writer_of me.0), (length (writer_of me.0).sealed % (writer_of me.0).shape.buffers, b) ∷ [])
 writer_with me k b role hand out at = let h = writer_holds (writer_of me.0) me.1 hand out in
     λ i. (role i, (at i, b) ∷ rest (h.1 i))
 
@@ -78,7 +81,7 @@ pub reader_with : (me : Me Block View) (k : ℕ) (b : Block) → me.0 ≡ Reader
     map entry_at me.1 ≡ entries_out (reader_of me.0) → (reader_of me.0).out ≡ true → (reader_of me.0).got ≢ None
     → k ≡ length (reader_of me.0).cleared % (reader_of me.0).shape.buffers
     → ◌≡◌ {A = Me Block View} (me.0, (k, b) ∷ rest me.1)
-        (Reader (reader_of me.0), (length (reader_of me.0).cleared % (reader_of me.0).shape.buffers, b) ∷ [])
+    (Reader (reader_of me.0), (length (reader_of me.0).cleared % (reader_of me.0).shape.buffers, b) ∷ [])
 reader_with me k b role hand out some_one at = let h = reader_holds (reader_of me.0) me.1 hand out some_one in
     λ i. (role i, (at i, b) ∷ rest (h.1 i))
 
@@ -93,7 +96,7 @@ pub reader_slot : (me : Me Block View) (k : ℕ) → map entry_at me.1 ≡ entri
     (reader_of me.0).out ≡ true → (reader_of me.0).got ≢ None →
     k ≡ length (reader_of me.0).cleared % (reader_of me.0).shape.buffers
     → (b : Block) × (me.1 ≡ (k, b) ∷ rest me.1) × (room_of b ≡ (reader_of me.0).shape.size)
-        × ((reader_of me.0).got ≡ Some (entry_of b))
+    × ((reader_of me.0).got ≡ Some (entry_of b))
 reader_slot me k hand out some_one at = let h = reader_holds (reader_of me.0) me.1 hand out some_one in
     (h.0, h.1 ∙ (λ i. (sym at i, h.0) ∷ rest (sym h.1 i)), h.2, h.3)
 

@@ -48,7 +48,7 @@ module _ {A : Type 0} where
   at_listed f zero i h = absurd (omega arith)
   at_listed f (suc n) i h = dite (ℕ_discrete i n)
       (λ same. subst (λ (k : ℕ). get_elem? (listed f n ++ f n ∷ []) k ≡ some (f k)) (sym same)
-          (at_last (listed f n) (f n) n (length-listed f n)))
+      (at_last (listed f n) (f n) n (length-listed f n)))
       (λ other. at_longer (listed f n) (f n ∷ []) i (f i) (at_listed f n i (omega arith)))
 
   pub listed_at : (f : ℕ → A) (n i : ℕ) (a : A) → slice_get (listed f n) i ≡ Some a → (i < n) × (f i ≡ a)
@@ -68,12 +68,12 @@ module _ {A : Type 0} where
   listed_set f g (suc n) i x h here others = dite (ℕ_discrete i n)
       (λ same. ap (λ (l : List A). l ++ g n ∷ []) (listed_same g f n (λ j less. others j (λ e. omega arith)))
       ∙ (ap (λ (y : A). listed f n ++ y ∷ []) (ap g (sym same) ∙ here)
-          ∙ sym (set_last (listed f n) (f n) x i (length-listed f n ∙ sym same))))
+      ∙ sym (set_last (listed f n) (f n) x i (length-listed f n ∙ sym same))))
       (λ other. let long = length-listed f n in let inside : i < n = omega arith in
-          let within : i < length (listed f n) = omega arith in
+      let within : i < length (listed f n) = omega arith in
       ap (λ (l : List A). l ++ g n ∷ []) (listed_set f g n i x inside here others)
       ∙ (ap (λ (y : A). set (listed f n) i x ++ y ∷ []) (others n (λ e. other (sym e)))
-          ∙ sym (set_before (listed f n) (f n) x i within)))
+      ∙ sym (set_before (listed f n) (f n) x i within)))
 
   pub listed_alike : (a : A) (n : ℕ) → listed (λ _. a) n ≡ replicate n a
   listed_alike a zero = refl

@@ -47,7 +47,7 @@ pub next_parked : (shape : RingShape) (n : ℕ) → n < shape.readers →
 next_parked shape n near = ap (λ (l : List (Option ReaderView)). get_or (replicate n None ++ l) n None)
     (next_reader shape n near)
     ∙ (ap (λ (k : ℕ). get_or (replicate n None ++ Some (fresh_reader shape n) ∷ drop (suc n) (all shape)) k None)
-        (sym (length-replicate n None))
+    (sym (length-replicate n None))
     ∙ get_or-append_seam (replicate n None) (Some (fresh_reader shape n)) (drop (suc n) (all shape)) None)
 
 pub next_rest : (shape : RingShape) (n : ℕ) → n < shape.readers →
@@ -56,7 +56,7 @@ next_rest shape n near = ap (λ (l : List (Option ReaderView)).
     let w : WriterView = record (fresh_writer shape) { parked = l; split = n + 1 } in w)
     (ap (λ (l : List (Option ReaderView)). set (replicate n None ++ l) n None) (next_reader shape n near)
     ∙ (ap (λ (k : ℕ). set (replicate n None ++ Some (fresh_reader shape n) ∷ drop (suc n) (all shape)) k None)
-        (sym (length-replicate n None))
+    (sym (length-replicate n None))
     ∙ (set-append_seam (replicate n None) (Some (fresh_reader shape n)) (drop (suc n) (all shape)) None
     ∙ (sym (append_assoc (replicate n None) (None ∷ []) (drop (suc n) (all shape)))
     ∙ (ap (λ (l : List (Option ReaderView)). l ++ drop (suc n) (all shape)) (replicate-append-replicate n 1 None)
@@ -67,8 +67,11 @@ pub seats_more : (words : Words) (seats : List (Option ReaderSeat)) (n : ℕ) (s
     IsFreshReader words n s → ((i : ℕ) → i < n → HasFreshReader words seats i)
     → (i : ℕ) → i < n + 1 → HasFreshReader words (seats ++ Some s ∷ []) i
 seats_more words seats n s long new old i near = dite (ℕ_discrete i n)
-    (λ same. (s, got_at (seats ++ Some s ∷ []) i (Some s) (at_last seats (Some s) i (long ∙ sym same)),
-        subst (λ (k : ℕ). IsFreshReader words k s) (sym same) new))
+    (λ same. (
+      s,
+      got_at (seats ++ Some s ∷ []) i (Some s) (at_last seats (Some s) i (long ∙ sym same)),
+      subst (λ (k : ℕ). IsFreshReader words k s) (sym same) new,
+    ))
     (λ other. let h = old i (omega arith) in (h.0, slice_get_longer seats (Some s ∷ []) i (Some h.0) h.1, h.2))
 
 pub each_room : (size : ℕ) (blocks : List Block) → All (λ b. room_of b ≡ size) blocks → (k : ℕ) (b : Block) →

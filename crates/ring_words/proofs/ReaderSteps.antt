@@ -43,8 +43,8 @@ module _ (shape : RingShape) (s : State Block View) (w : WriterView) (at : ℕ) 
   settles i inside = let ok = c.each_reader i inside in let r : ReaderView = reader i in let wr = c.writer in
       let short = begins_short r.cleared w.sealed ok.begins in let limit = wr.limit in
       subst (λ (z : RingShape). (length r.cleared ≤ z.max_blocks) × All (λ e. length e.bytes ≤ z.size) r.cleared
-          × ((e : Entry) → r.got ≡ Some e → (length r.cleared < z.max_blocks) × (length e.bytes ≤ z.size)) →
-          ReaderSettled r) ok.shaped (λ t. record { limit = t.0; sized = t.1; next = t.2 }) (
+      × ((e : Entry) → r.got ≡ Some e → (length r.cleared < z.max_blocks) × (length e.bytes ≤ z.size)) →
+      ReaderSettled r) ok.shaped (λ t. record { limit = t.0; sized = t.1; next = t.2 }) (
         omega arith,
         (λ m d below. let e : Entry = get_or r.cleared m d in
             wr.sized m e (ap (λ (l : List Entry). get_elem? l m) ok.begins.1
@@ -77,50 +77,57 @@ module _ (shape : RingShape) (s : State Block View) (w : WriterView) (at : ℕ) 
         → IsEvent r.shape e a (ShowsReader r) (ShowsReader r')
     event live e a r' same reached does = subst (λ (z : RingShape). IsEvent z e a (ShowsReader r) (ShowsReader r'))
         (sym mine.shaped) record {
-      old = shown shape w reader;
-      new = shown shape w (put reader r.number r');
-      reached = reached;
-      does = does;
-      shows_before = is_shown shape.buffers shape.max_blocks shape w reader r.number inside
-          ∙ ap (λ (q : ReaderView). Some (standing q)) (sym itself);
-      shows_after = subst (λ (j : ℕ). slice_get (listed (λ k. standing (put reader r.number r' k)) shape.readers) j
-          ≡ Some (standing r')) (sym same)
-          (shows_new shape.buffers shape.max_blocks shape w reader r.number inside r itself live r');
-    }
+          old = shown shape w reader;
+          new = shown shape w (put reader r.number r');
+          reached = reached;
+          does = does;
+          shows_before = is_shown shape.buffers shape.max_blocks shape w reader r.number inside
+              ∙ ap (λ (q : ReaderView). Some (standing q)) (sym itself);
+          shows_after = subst (λ (j : ℕ). slice_get (listed (λ k. standing (put reader r.number r' k)) shape.readers) j
+              ≡ Some (standing r')) (sym same)
+              (shows_new shape.buffers shape.max_blocks shape w reader r.number inside r itself live r');
+        }
 
     -- a buffer that the step leaves alone
     other_turn : (r' : ReaderView) (words' : List ℕ) (homes' : Homes) (k : ℕ) → k < shape.buffers →
         get_or words' k 0 ≡ get_or s.words k 0 → get_elem? homes' k ≡ get_elem? s.homes k
         → (r.out ≡ true → (turn k).newest ≡ length r.cleared + 1 → ⊥) →
-            TurnOk shape w (put reader r.number r') words' homes' k (turn k)
+        TurnOk shape w (put reader r.number r') words' homes' k (turn k)
     other_turn r' words' homes' k near word home not_mine = let ok = c.each_turn k near in
         turn_kept shape w w reader (put reader r.number r') s.words words' s.homes homes' k
         (turn k) word ok.newest record {
-      home = home;
-      sealed = λ m e is. is;
-      readers = λ j out n. dite (ℕ_discrete j r.number)
-          (λ e. let mine_out : r.out ≡ true = ap (λ (q : ReaderView). q.out) (itself ∙ ap reader (sym e)) ∙ out in
-          let mine_newest : (turn k).newest ≡ length r.cleared + 1 = n
+          home = home;
+          sealed = λ m e is. is;
+          readers = λ j out n. dite (ℕ_discrete j r.number)
+              (λ e. let mine_out : r.out ≡ true = ap (λ (q : ReaderView). q.out) (itself ∙ ap reader (sym e)) ∙ out in
+              let mine_newest : (turn k).newest ≡ length r.cleared + 1 = n
               ∙ ap (λ (q : ReaderView). length q.cleared + 1) (ap reader e ∙ sym itself) in
               absurd (not_mine mine_out mine_newest))
-          (λ other. let same = put_else reader r.number r' j other in
-          (ap (λ (q : ReaderView). q.out) same ∙ out, n ∙ ap (λ (q : ReaderView). length q.cleared + 1) (sym same)));
-      writer = λ o e. (o, e);
-    } ok
+              (λ other. let same = put_else reader r.number r' j other in (
+                ap (λ (q : ReaderView). q.out) same ∙ out,
+                n
+                    ∙ ap (λ (q : ReaderView). length q.cleared + 1) (sym same),
+              ));
+          writer = λ o e. (o, e);
+        } ok
 
     -- a step on the buffer of the block that comes next, whose holder was h
     turn_step : (r' : ReaderView) → r'.number ≡ r.number → (h : Holder) → (turn buffer).holder ≡ h →
         (h ≡ by_writer → ⊥) → ((j : ℕ) → j ≢ r.number → h ≡ by_reader j → ⊥)
         → (t : Turn) (word : ℕ) (homes' : Homes) → length homes' ≡ length s.homes →
-            ((k : ℕ) → k ≢ buffer → get_elem? homes' k ≡ get_elem? s.homes k)
+        ((k : ℕ) → k ≢ buffer → get_elem? homes' k ≡ get_elem? s.homes k)
         → TurnOk shape w (put reader r.number r') (set s.words buffer word) homes' buffer t
         → ReaderOk shape w (set s.words buffer word) (put turn buffer t) r.number r'
-        → KeptBy shape (record { words = set s.words buffer word; homes = homes'; views =
-            set s.views id (Reader r') }) w at (put reader r.number r') place (put turn buffer t)
+        → KeptBy shape (record {
+          words = set s.words buffer word;
+          homes = homes';
+          views =
+              set s.views id (Reader r');
+        }) w at (put reader r.number r') place (put turn buffer t)
     turn_step r' same h was no_writer no_other t word homes' deep homes_else turn_here mine' = let wr = c.writer in
         let near_here = buffer_small in
         reader_step shape s w at reader place turn c id r here r' same (put turn buffer t)
-            (set s.words buffer word) homes' (length-set s.words buffer word) deep
+        (set s.words buffer word) homes' (length-set s.words buffer word) deep
         record {
           shaped = wr.shaped;
           lows = wr.lows;
@@ -130,43 +137,43 @@ module _ (shape : RingShape) (s : State Block View) (w : WriterView) (at : ℕ) 
             dite (ℕ_discrete (length w.sealed % shape.buffers) buffer)
                 (λ e. absurd (no_writer (sym was ∙ (ap (λ (k : ℕ). (turn k).holder) (sym e) ∙ o.0))))
                 (λ other. ap (λ (x : Turn). x.holder) (put_else turn buffer t (length w.sealed % shape.buffers) other)
-                    ∙ o.0),
+                ∙ o.0),
             o.1,
           );
           room = wr.room;
           look = wr.look;
         }
         (at_put (λ k x. TurnOk shape w (put reader r.number r')
-            (set s.words buffer word) homes' k x) turn buffer t shape.buffers turn_here
+        (set s.words buffer word) homes' k x) turn buffer t shape.buffers turn_here
         (λ k near other. other_turn r' (set s.words buffer word) homes' k near
-            (get_or-set_other s.words buffer k word 0 other) (homes_else k other)
+        (get_or-set_other s.words buffer k word 0 other) (homes_else k other)
         (λ out n. let last = (c.each_turn k near).newest.last (length r.cleared) n in other (sym last.0))))
         (at_put (λ j q. ReaderOk shape w (set s.words buffer word)
-            (put turn buffer t) j q) reader r.number r' shape.readers mine'
+        (put turn buffer t) j q) reader r.number r' shape.readers mine'
         (λ j near other. let ok = c.each_reader j near in
-            reader_kept shape w w s.words (set s.words buffer word) turn (put turn buffer t) j (reader j)
+        reader_kept shape w w s.words (set s.words buffer word) turn (put turn buffer t) j (reader j)
         (get_or-set_other s.words buffer (shape.buffers + j) word 0 (λ e. omega arith)) ok.begins ok.within (λ e is. is)
         (λ holds. dite (ℕ_discrete (length (reader j).cleared % shape.buffers) buffer)
         (λ e. absurd (no_other j other (sym was ∙ (ap (λ (k : ℕ). (turn k).holder) (sym e) ∙ holds))))
         (λ elsewhere. ap (λ (x : Turn). x.holder) (put_else turn buffer t
-            (length (reader j).cleared % shape.buffers) elsewhere) ∙ holds))
+        (length (reader j).cleared % shape.buffers) elsewhere) ∙ holds))
         ok.low ok))
 
     -- a step that changes no buffer and no other reader's count, of a reader with nothing out
     count_step : (r' : ReaderView) → r'.number ≡ r.number → r.out ≡ false → (words' : List ℕ) →
         length words' ≡ length s.words
         → ((k : ℕ) → k < shape.buffers → get_or words' k 0 ≡ get_or s.words k 0) →
-            ((j : ℕ) → j ≢ r.number → get_or words' (shape.buffers + j) 0 ≡ get_or s.words (shape.buffers + j) 0)
+        ((j : ℕ) → j ≢ r.number → get_or words' (shape.buffers + j) 0 ≡ get_or s.words (shape.buffers + j) 0)
         → ReaderOk shape w words' turn r.number r'
         → KeptBy shape (record { words = words'; homes = s.homes; views = set s.views id (Reader r') }) w at
-            (put reader r.number r') place turn
+        (put reader r.number r') place turn
     count_step r' same home words' wide turns counts mine' =
         reader_step shape s w at reader place turn c id r here r' same turn words' s.homes wide refl c.writer
         (λ k near. other_turn r' words' s.homes k near (turns k near) refl (λ out n. cc))
         (at_put (λ j q. ReaderOk shape w words' turn j q) reader r.number r' shape.readers mine'
         (λ j near other. let ok = c.each_reader j near in
-            reader_kept shape w w s.words words' turn turn j (reader j) (counts j other) ok.begins ok.within
-            (λ e is. is) (λ h. h) ok.low ok))
+        reader_kept shape w w s.words words' turn turn j (reader j) (counts j other) ok.begins ok.within
+        (λ e is. is) (λ h. h) ok.low ok))
 
     -- the number of a holder is below 16
     code_small : (h : Holder) → Held shape w reader s.homes buffer (turn buffer).newest h → holder_code h < 16
@@ -186,20 +193,28 @@ module _ (shape : RingShape) (s : State Block View) (w : WriterView) (at : ℕ) 
     hit_core : (b : Block) (n : ℕ) → r.out ≡ false → r.retired ≡ false → (turn buffer).holder ≡ at_home →
         (turn buffer).newest ≡ length r.cleared + 1 → get_elem? w.sealed (length r.cleared) ≡ some (entry_of b)
         → (word : ℕ) → word ≡ 16 * (length r.cleared + 1) + (r.number + 1)
-        → KeptBy shape (record { words = set s.words buffer word; homes = set s.homes buffer none; views =
-            set s.views id (Reader (after_hit r n (entry_of b))) }) w at
-            (put reader r.number (after_hit r n (entry_of b))) place (put turn buffer taken_turn)
+        → KeptBy shape (record {
+          words = set s.words buffer word;
+          homes = set s.homes buffer none;
+          views =
+              set s.views id (Reader (after_hit r n (entry_of b)));
+        }) w at
+        (put reader r.number (after_hit r n (entry_of b))) place (put turn buffer taken_turn)
     unfolding taken_turn
     hit_core b n home live free newest next word is = let r' : ReaderView = after_hit r n (entry_of b) in
         let small = buffer_small in let wide = c.wide in let near = inside in
         let new = put_here reader r.number r' in let ok = mine in let twice = ap (λ (x : ℕ). 16 * x) newest in
         turn_step r' refl at_home free (λ e. cc) (λ j _ e. cc) taken_turn word (set s.homes buffer none)
-            (length-set s.homes buffer none) (λ k other. set_else s.homes buffer k none other)
+        (length-set s.homes buffer none) (λ k other. set_else s.homes buffer k none other)
         record {
           shows = get_or-set_same s.words buffer word 0 (omega arith) ∙ omega arith;
           newest = (c.each_turn buffer small).newest;
-          held = (near, ap (λ (q : ReaderView). q.out) new, newest
-              ∙ ap (λ (q : ReaderView). length q.cleared + 1) (sym new));
+          held = (
+            near,
+            ap (λ (q : ReaderView). q.out) new,
+            newest
+                ∙ ap (λ (q : ReaderView). length q.cleared + 1) (sym new),
+          );
         }
         record {
           number = refl;
@@ -213,45 +228,57 @@ module _ (shape : RingShape) (s : State Block View) (w : WriterView) (at : ℕ) 
         }
 
     -- the reader finds the buffer otherwise
-    miss_core : (n : ℕ) → r.out ≡ false → KeptBy shape (record { words = s.words; homes = s.homes; views =
-        set s.views id (Reader (after_miss r n)) }) w at (put reader r.number (after_miss r n)) place turn
+    miss_core : (n : ℕ) → r.out ≡ false → KeptBy shape (record {
+      words = s.words;
+      homes = s.homes;
+      views =
+          set s.views id (Reader (after_miss r n));
+    }) w at (put reader r.number (after_miss r n)) place turn
     miss_core n home = let ok = mine in count_step (after_miss r n) refl home s.words refl (λ k near. refl)
         (λ j other. refl) record {
-      number = refl;
-      shaped = ok.shaped;
-      shows = ok.shows;
-      begins = ok.begins;
-      within = ok.within;
-      got = ok.got;
-      out = ok.out;
-      low = ok.low;
-    }
+          number = refl;
+          shaped = ok.shaped;
+          shows = ok.shows;
+          begins = ok.begins;
+          within = ok.within;
+          got = ok.got;
+          out = ok.out;
+          low = ok.low;
+        }
 
     given_turn : Turn
     given_turn = record { newest = (turn buffer).newest; holder = at_home }
 
     give_core : (b : Block) → r.out ≡ true → room_of b ≡ shape.size → r.got ≡ Some (entry_of b) → (word : ℕ) →
         word ≡ 16 * (length r.cleared + 1)
-        → KeptBy shape (record { words = set s.words buffer word; homes = set s.homes buffer (some b); views =
-            set s.views id (Reader (after_give r)) }) w at (put reader r.number (after_give r)) place
-            (put turn buffer given_turn)
+        → KeptBy shape (record {
+          words = set s.words buffer word;
+          homes = set s.homes buffer (some b);
+          views =
+              set s.views id (Reader (after_give r));
+        }) w at (put reader r.number (after_give r)) place
+        (put turn buffer given_turn)
     unfolding given_turn
     give_core b out room_is got word is = let r' : ReaderView = after_give r in let small = buffer_small in
         let wide = c.wide in let deep = c.deep in let near = inside in let ok = mine in
         let was : (turn buffer).holder ≡ by_reader r.number = (ok.out out).1 in
         let held = subst (λ (h : Holder). Held shape w reader s.homes buffer (turn buffer).newest h) was
-            (c.each_turn buffer small).held in
+        (c.each_turn buffer small).held in
         let newest : (turn buffer).newest ≡ length r.cleared + 1 = held.2
-            ∙ ap (λ (q : ReaderView). length q.cleared + 1) (sym itself) in
+        ∙ ap (λ (q : ReaderView). length q.cleared + 1) (sym itself) in
         let next = (ok.got (entry_of b) got).1 in
         turn_step r' refl (by_reader r.number) was (λ e. cc)
-            (λ j other e. other (sym (ap (holder_or 0) e))) given_turn word (set s.homes buffer (some b))
-            (length-set s.homes buffer (some b)) (λ k other. set_else s.homes buffer k (some b) other)
+        (λ j other e. other (sym (ap (holder_or 0) e))) given_turn word (set s.homes buffer (some b))
+        (length-set s.homes buffer (some b)) (λ k other. set_else s.homes buffer k (some b) other)
         record {
           shows = get_or-set_same s.words buffer word 0 (omega arith) ∙ omega arith;
           newest = (c.each_turn buffer small).newest;
-          held = (b, set_here s.homes buffer (some b) (omega arith), room_is,
-              λ m n. ap (λ (i : ℕ). get_elem? w.sealed i) (let e : m ≡ length r.cleared = omega arith in e) ∙ next);
+          held = (
+            b,
+            set_here s.homes buffer (some b) (omega arith),
+            room_is,
+            λ m n. ap (λ (i : ℕ). get_elem? w.sealed i) (let e : m ≡ length r.cleared = omega arith in e) ∙ next,
+          );
         }
         record {
           number = refl;
@@ -266,20 +293,24 @@ module _ (shape : RingShape) (s : State Block View) (w : WriterView) (at : ℕ) 
 
     clear_core : (e : Entry) → r.out ≡ false → r.retired ≡ false → r.got ≡ Some e → (word : ℕ) →
         word ≡ length r.cleared + 1
-        → KeptBy shape (record { words = set s.words (shape.buffers + r.number) word; homes = s.homes; views =
-            set s.views id (Reader (after_clear r)) }) w at (put reader r.number (after_clear r)) place turn
+        → KeptBy shape (record {
+          words = set s.words (shape.buffers + r.number) word;
+          homes = s.homes;
+          views =
+              set s.views id (Reader (after_clear r));
+        }) w at (put reader r.number (after_clear r)) place turn
     clear_core e home live got word is = let near = inside in let wide = c.wide in let ok = mine in
         let next = (ok.got e got).1 in
         let longer = length-append r.cleared (e ∷ []) in let low = ok.low in let count = live_count r live in
         count_step (after_clear r) refl home (set s.words (shape.buffers + r.number) word)
-            (length-set s.words (shape.buffers + r.number) word)
+        (length-set s.words (shape.buffers + r.number) word)
         (λ k small. get_or-set_other s.words (shape.buffers + r.number) k word 0 (λ z. omega arith))
-            (λ j other. get_or-set_other s.words (shape.buffers + r.number) (shape.buffers + j) word 0
-            (λ z. other (omega arith)))
+        (λ j other. get_or-set_other s.words (shape.buffers + r.number) (shape.buffers + j) word 0
+        (λ z. other (omega arith)))
         (subst (λ (l : List Entry). ReaderOk shape w (set s.words (shape.buffers + r.number) word) turn r.number
-            (record r { cleared = r.cleared ++ l; got = None })) (sym (ap got_list got))
+        (record r { cleared = r.cleared ++ l; got = None })) (sym (ap got_list got))
         (let r' : ReaderView = record r { cleared = r.cleared ++ e ∷ []; got = None } in
-            let count' : count_word r' ≡ length (r.cleared ++ e ∷ []) = live_count r' live in record {
+        let count' : count_word r' ≡ length (r.cleared ++ e ∷ []) = live_count r' live in record {
           number = refl;
           shaped = ok.shaped;
           shows = get_or-set_same s.words (shape.buffers + r.number) word 0 (omega arith) ∙ omega arith;
@@ -291,17 +322,21 @@ module _ (shape : RingShape) (s : State Block View) (w : WriterView) (at : ℕ) 
         }))
 
     retire_core : r.out ≡ false → r.retired ≡ false
-        → KeptBy shape (record { words = set s.words (shape.buffers + r.number) greatest; homes = s.homes; views =
-            set s.views id (Reader (after_retire r)) }) w at (put reader r.number (after_retire r)) place turn
+        → KeptBy shape (record {
+          words = set s.words (shape.buffers + r.number) greatest;
+          homes = s.homes;
+          views =
+              set s.views id (Reader (after_retire r));
+        }) w at (put reader r.number (after_retire r)) place turn
     retire_core home live = let near = inside in let wide = c.wide in let ok = mine in let low = ok.low in
         let count = live_count r live in
         let short = begins_short r.cleared w.sealed ok.begins in let limit = c.writer.limit in
-            let most = c.ring.most_blocks in
+        let most = c.ring.most_blocks in
         count_step (after_retire r) refl home (set s.words (shape.buffers + r.number) greatest)
-            (length-set s.words (shape.buffers + r.number) greatest)
+        (length-set s.words (shape.buffers + r.number) greatest)
         (λ k small. get_or-set_other s.words (shape.buffers + r.number) k greatest 0 (λ z. omega arith))
-            (λ j other. get_or-set_other s.words (shape.buffers + r.number) (shape.buffers + j) greatest 0
-            (λ z. other (omega arith)))
+        (λ j other. get_or-set_other s.words (shape.buffers + r.number) (shape.buffers + j) greatest 0
+        (λ z. other (omega arith)))
         record {
           number = refl;
           shaped = ok.shaped;
@@ -323,7 +358,7 @@ module _ (shape : RingShape) (s : State Block View) (w : WriterView) (at : ℕ) 
     busy_answer n j newest code = let same : j ≡ n % 16 - 1 = omega arith in
         ap (λ (k : ℕ). let x : Answer Entry = Answer.Busy (length r.cleared) k in x) same
         ∙ sym (ap (λ z. cond z (Answer.Empty (length r.cleared)) (Answer.Busy (length r.cleared) (n % 16 - 1)))
-            (ne_leb (n / 16) (length r.cleared) (omega arith)))
+        (ne_leb (n / 16) (length r.cleared) (omega arith)))
 
     -- why the word n, which is not the one that the reader wants, is there, and which event it is
     abbrev Explained : ℕ → Type 0
@@ -335,7 +370,7 @@ module _ (shape : RingShape) (s : State Block View) (w : WriterView) (at : ℕ) 
       explains_empty none_left = let small = buffer_small in let ok = c.each_turn buffer small in
           let code = code_small (turn buffer).holder ok.held in
           let near = newest_own shape.buffers (length w.sealed) (length r.cleared) (turn buffer).newest (omega arith)
-              (omega arith) ok.newest in
+          (omega arith) ok.newest in
           let older : (turn buffer).newest ≤ length r.cleared = not_past (turn buffer).newest ok.newest in
           let read : n / 16 ≤ length r.cleared = omega arith in (
             inl read,
@@ -343,7 +378,7 @@ module _ (shape : RingShape) (s : State Block View) (w : WriterView) (at : ℕ) 
                 (Event.ReaderTake r.number) a (shown shape w (put reader r.number (after_miss r n))))
                 (empty_answer n read)
                 (does_empty shape.buffers shape.max_blocks shape w reader r.number inside r itself live n home
-                    none_left),
+                none_left),
           )
         where
           not_past : (x : ℕ) → IsNewest shape.buffers (length w.sealed) buffer x → x ≤ length r.cleared
@@ -354,30 +389,37 @@ module _ (shape : RingShape) (s : State Block View) (w : WriterView) (at : ℕ) 
           (turn buffer).holder ≡ h → Explained n
       explains_busy some_left other at_home held_by = let small = buffer_small in let ok = c.each_turn buffer small in
           let near = newest_reached shape.buffers (length w.sealed) (length r.cleared) (turn buffer).newest
-              (omega arith) some_left (mine.within live) ok.newest in
+          (omega arith) some_left (mine.within live) ok.newest in
           let code = ap holder_code held_by in absurd (other (omega arith))
       explains_busy some_left other by_writer held_by = let small = buffer_small in let ok = c.each_turn buffer small in
           let held = subst (λ (h : Holder). Held shape w reader s.homes buffer
-              (turn buffer).newest h) held_by ok.held in
+          (turn buffer).newest h) held_by ok.held in
           let room = c.writer.room held.0 r.number inside in let low = mine.low in let count = live_count r live in
           absurd (apart shape.buffers (length r.cleared) (length w.sealed) some_left (omega arith) (sym held.1))
       explains_busy some_left other (by_reader j) held_by = let small = buffer_small in
           let ok = c.each_turn buffer small in
           let near = newest_reached shape.buffers (length w.sealed) (length r.cleared) (turn buffer).newest
-              (omega arith) some_left (mine.within live) ok.newest in
+          (omega arith) some_left (mine.within live) ok.newest in
           let held = subst (λ (h : Holder). Held shape w reader s.homes buffer
-              (turn buffer).newest h) held_by ok.held in
+          (turn buffer).newest h) held_by ok.held in
           let held_near = held.0 in let most = c.ring.most_readers in let newest = held.2 in
-              let code = ap holder_code held_by in
+          let code = ap holder_code held_by in
           let got = ((c.each_reader j held.0).out held.1).0 in
           let read : n / 16 ≡ length r.cleared + 1 = omega arith in let rest : n % 16 ≡ j + 1 = omega arith in (
-            inr (read, (j, rest, subst (λ (z : RingShape). j < z.readers) (sym mine.shaped) held.0,
-                (λ e. not_self (ap (λ (q : ReaderView). q.out) (ap reader e ∙ sym itself)) held.1))),
+            inr (
+              read,
+              (
+                j,
+                rest,
+                subst (λ (z : RingShape). j < z.readers) (sym mine.shaped) held.0,
+                (λ e. not_self (ap (λ (q : ReaderView). q.out) (ap reader e ∙ sym itself)) held.1),
+              ),
+            ),
             subst (λ (a : Answer Entry). Does shape.buffers shape.max_blocks (shown shape w reader)
                 (Event.ReaderTake r.number) a (shown shape w (put reader r.number (after_miss r n))))
                 (busy_answer n j read rest)
                 (does_busy shape.buffers shape.max_blocks shape w reader r.number inside r itself live n j home
-                    some_left held.0 ((c.each_reader j held.0).got got.0 got.1).0 held.1 (omega arith)),
+                some_left held.0 ((c.each_reader j held.0).got got.0 got.1).0 held.1 (omega arith)),
           )
         where
           not_self : {z : Bool} → z ≡ r.out → z ≡ true → ⊥
@@ -398,34 +440,34 @@ module _ (shape : RingShape) where
   pub tries : (slots id : ℕ) (r : ReaderView) (held : List (ℕ × Block)) (old new : ℕ) → r.out ≡ false →
       r.retired ≡ false → old ≡ 16 * (length r.cleared + 1) → new ≡ old + (r.number + 1)
       → Allows (Kept shape) slots id (Reader r, held) (length r.cleared % shape.buffers)
-          (λ n. either (eqb n old) new n) (Tried (step slots (length r.cleared % shape.buffers) old new none)
-          (Reader r, held))
+      (λ n. either (eqb n old) new n) (Tried (step slots (length r.cleared % shape.buffers) old new none)
+      (Reader r, held))
   tries slots id r held old new home live is new_is s kept _ here small =
       let k : ℕ = length r.cleared % shape.buffers in let n : ℕ = get_or s.words k 0 in let c = kept.core in
-          let i : ℕ = r.number in
+      let i : ℕ = r.number in
       let near = inside shape s kept.w kept.at kept.reader kept.place kept.turn c id r here in
-          let k_small = buffer_small shape s kept.w kept.at kept.reader kept.place kept.turn c id r here in
+      let k_small = buffer_small shape s kept.w kept.at kept.reader kept.place kept.turn c id r here in
       let ok = c.each_turn k k_small in let shows = ok.shows in
-          let code = code_small shape s kept.w kept.at kept.reader kept.place kept.turn c id r here
-          (kept.turn k).holder ok.held in
+      let code = code_small shape s kept.w kept.at kept.reader kept.place kept.turn c id r here
+      (kept.turn k).holder ok.held in
       dite (ℕ_discrete n old)
       (λ found.
       let newest : (kept.turn k).newest ≡ length r.cleared + 1 = omega arith in
-          let nobody : holder_code (kept.turn k).holder ≡ 0 = omega arith in
+      let nobody : holder_code (kept.turn k).holder ≡ 0 = omega arith in
       let free = at_zero shape s kept.w kept.at kept.reader kept.place kept.turn c id r here
-          (kept.turn k).holder nobody in
+      (kept.turn k).holder nobody in
       let block = subst (λ (h : Holder). Held shape kept.w kept.reader s.homes k (kept.turn k).newest h) free ok.held in
       let next = block.3 (length r.cleared) newest in let e : Entry = entry_of block.0 in
-          let r' : ReaderView = after_hit r n e in
+      let r' : ReaderView = after_hit r n e in
       let core = hit_core shape s kept.w kept.at kept.reader kept.place kept.turn c id r here block.0 n home live free
-          newest next new (omega arith) in
+      newest next new (omega arith) in
       let does = does_hit shape.buffers shape.max_blocks shape kept.w kept.reader i near r
-          (itself shape s kept.w kept.at kept.reader kept.place kept.turn c id r here) live n e home next
+      (itself shape s kept.w kept.at kept.reader kept.place kept.turn c id r here) live n e home next
       (λ j inside_j out same. let taken = ((c.each_reader j inside_j).out out).1 in
       let clash : by_reader j ≡ at_home = sym taken ∙ (ap (λ (x : ℕ). (kept.turn (x % shape.buffers)).holder) same
-          ∙ free) in (cc)) in
+      ∙ free) in (cc)) in
       let turn' : ℕ → Turn = put kept.turn k
-          (taken_turn shape s kept.w kept.at kept.reader kept.place kept.turn c id r here) in (
+      (taken_turn shape s kept.w kept.at kept.reader kept.place kept.turn c id r here) in (
         Reader r',
         takes k block.0,
         block.1,
@@ -435,8 +477,12 @@ module _ (shape : RingShape) where
           reader = put kept.reader i r';
           place = kept.place;
           turn = turn';
-          core = subst (λ (z : Bool). KeptBy shape (record { words = set s.words k (either z new n); homes =
-              set s.homes k none; views = set s.views id (Reader r') }) kept.w kept.at
+          core = subst (λ (z : Bool). KeptBy shape (record {
+            words = set s.words k (either z new n);
+            homes =
+                set s.homes k none;
+            views = set s.views id (Reader r');
+          }) kept.w kept.at
               (put kept.reader i r') kept.place turn') (sym (eq-eqb n old found)) core;
           reached = by_event _ (Event.ReaderTake i) (Answer.Got (length r.cleared) e) _ kept.reached does;
         },
@@ -458,9 +504,9 @@ module _ (shape : RingShape) where
       ))
       (λ other.
       let r' : ReaderView = after_miss r n in let core =
-          miss_core shape s kept.w kept.at kept.reader kept.place kept.turn c id r here n home in
+      miss_core shape s kept.w kept.at kept.reader kept.place kept.turn c id r here n home in
       let why = explains shape s kept.w kept.at kept.reader kept.place kept.turn c id r here n shows home live
-          (λ e. other (e ∙ sym is)) in (
+      (λ e. other (e ∙ sym is)) in (
         Reader r',
         keeps,
         tt,
@@ -470,8 +516,12 @@ module _ (shape : RingShape) where
           reader = put kept.reader i r';
           place = kept.place;
           turn = kept.turn;
-          core = subst (λ (ws : List ℕ). KeptBy shape (record { words = ws; homes = s.homes; views =
-              set s.views id (Reader r') }) kept.w kept.at (put kept.reader i r') kept.place kept.turn)
+          core = subst (λ (ws : List ℕ). KeptBy shape (record {
+            words = ws;
+            homes = s.homes;
+            views =
+                set s.views id (Reader r');
+          }) kept.w kept.at (put kept.reader i r') kept.place kept.turn)
               (sym (ap (λ z. set s.words k (either z new n)) (ne_eqb n old other) ∙ set-get_or s.words k 0)) core;
           reached = by_event _ (Event.ReaderTake i) (miss_answer r n) _ kept.reached why.1;
         },
@@ -490,21 +540,21 @@ module _ (shape : RingShape) where
   pub gives_back : (slots id : ℕ) (r : ReaderView) (b : Block) (word : ℕ) → r.out ≡ true → room_of b ≡ shape.size →
       r.got ≡ Some (entry_of b) → word ≡ 16 * (length r.cleared + 1)
       → Allows (Kept shape) slots id (Reader r, (length r.cleared % shape.buffers, b) ∷ [])
-          (length r.cleared % shape.buffers) (λ _. word)
+      (length r.cleared % shape.buffers) (λ _. word)
       (λ _. Gave (step slots (length r.cleared % shape.buffers) word 0 none)
-          (Reader r, (length r.cleared % shape.buffers, b) ∷ []) word)
+      (Reader r, (length r.cleared % shape.buffers, b) ∷ []) word)
   gives_back slots id r b word out room_is got is s kept _ here small =
       let k : ℕ = length r.cleared % shape.buffers in let c = kept.core in let i : ℕ = r.number in
       let r' : ReaderView = after_give r in
       let near = inside shape s kept.w kept.at kept.reader kept.place kept.turn c id r here in
-          let own = mine shape s kept.w kept.at kept.reader kept.place kept.turn c id r here in
-          let live = (own.got (entry_of b) got).0 in
+      let own = mine shape s kept.w kept.at kept.reader kept.place kept.turn c id r here in
+      let live = (own.got (entry_of b) got).0 in
       let core = give_core shape s kept.w kept.at kept.reader kept.place kept.turn c id r here b out room_is got word
-          is in
+      is in
       let does = does_give shape.buffers shape.max_blocks shape kept.w kept.reader i near r
-          (itself shape s kept.w kept.at kept.reader kept.place kept.turn c id r here) live out (entry_of b) got in
+      (itself shape s kept.w kept.at kept.reader kept.place kept.turn c id r here) live out (entry_of b) got in
       let turn' : ℕ → Turn = put kept.turn k
-          (given_turn shape s kept.w kept.at kept.reader kept.place kept.turn c id r here) in (
+      (given_turn shape s kept.w kept.at kept.reader kept.place kept.turn c id r here) in (
         Reader r',
         gives,
         tt,
@@ -528,16 +578,16 @@ module _ (shape : RingShape) where
   pub clears : (slots id : ℕ) (r : ReaderView) (held : List (ℕ × Block)) (e : Entry) (word : ℕ) → r.out ≡ false →
       r.retired ≡ false → r.got ≡ Some e → word ≡ length r.cleared + 1
       → Allows (Kept shape) slots id (Reader r, held) (shape.buffers + r.number) (λ _. word)
-          (λ _. Cleared (step slots (shape.buffers + r.number) word 0 none) (Reader r, held) word)
+      (λ _. Cleared (step slots (shape.buffers + r.number) word 0 none) (Reader r, held) word)
   clears slots id r held e word home live got is s kept _ here small = let c = kept.core in let i : ℕ = r.number in
       let r' : ReaderView = after_clear r in
       let near = inside shape s kept.w kept.at kept.reader kept.place kept.turn c id r here in
       let core = clear_core shape s kept.w kept.at kept.reader kept.place kept.turn c id r here e home live got word
-          is in
+      is in
       let longer : length r'.cleared ≡ length r.cleared + 1 = ap
-          (λ (o : Option Entry). length (r.cleared ++ got_list o)) got ∙ length-append r.cleared (e ∷ []) in
+      (λ (o : Option Entry). length (r.cleared ++ got_list o)) got ∙ length-append r.cleared (e ∷ []) in
       let does = does_clear shape.buffers shape.max_blocks shape kept.w kept.reader i near r
-          (itself shape s kept.w kept.at kept.reader kept.place kept.turn c id r here) live home e got longer in (
+      (itself shape s kept.w kept.at kept.reader kept.place kept.turn c id r here) live home e got longer in (
         Reader r',
         keeps,
         tt,
@@ -560,13 +610,13 @@ module _ (shape : RingShape) where
 
   pub retires : (slots id : ℕ) (r : ReaderView) (held : List (ℕ × Block)) → r.out ≡ false → r.retired ≡ false
       → Allows (Kept shape) slots id (Reader r, held) (shape.buffers + r.number) (λ _. greatest)
-          (λ _. Retired (step slots (shape.buffers + r.number) greatest 0 none) (Reader r, held) greatest)
+      (λ _. Retired (step slots (shape.buffers + r.number) greatest 0 none) (Reader r, held) greatest)
   retires slots id r held home live s kept _ here small = let c = kept.core in let i : ℕ = r.number in
       let r' : ReaderView = after_retire r in
       let near = inside shape s kept.w kept.at kept.reader kept.place kept.turn c id r here in
       let core = retire_core shape s kept.w kept.at kept.reader kept.place kept.turn c id r here home live in
       let does = does_retire shape.buffers shape.max_blocks shape kept.w kept.reader i near r
-          (itself shape s kept.w kept.at kept.reader kept.place kept.turn c id r here) live home in (
+      (itself shape s kept.w kept.at kept.reader kept.place kept.turn c id r here) live home in (
         Reader r',
         keeps,
         tt,

@@ -53,38 +53,38 @@ module _ (shape : RingShape) where
         get_elem? views' at ≡ some (Writer (with_parked w ps n))
         → ((j : ℕ) (v : View) → get_elem? views' j ≡ some v → Knows shape (with_parked w ps n) at reader place' j v)
         → length ps ≡ shape.readers → ((i : ℕ) (r : ReaderView) → get_elem? ps i ≡ some (Some r) → (i < shape.readers)
-            × (r ≡ reader i) × (place' i ≡ at))
+        × (r ≡ reader i) × (place' i ≡ at))
         → KeptBy shape (record { words = s.words; homes = s.homes; views = views' })
-            (with_parked w ps n) at reader place' turn
+        (with_parked w ps n) at reader place' turn
     reseated ps n views' place' seated each_seat all_parked parked = let w' : WriterView = with_parked w ps n in
         let wr = c.writer in record {
-      ring = c.ring;
-      wide = c.wide;
-      deep = c.deep;
-      writer = record {
-        shaped = wr.shaped;
-        lows = wr.lows;
-        limit = wr.limit;
-        sized = wr.sized;
-        out = wr.out;
-        room = wr.room;
-        look = wr.look;
-      };
-      each_turn = λ k near. let ok = c.each_turn k near in
-          turn_kept shape w w' reader reader s.words s.words s.homes s.homes k (turn k) refl ok.newest record {
-        home = refl;
-        sealed = λ m e is. is;
-        readers = λ i out newest. (out, newest);
-        writer = λ out is. (out, is);
-      } ok;
-      each_reader = λ i near. let ok = c.each_reader i near in
-          reader_kept shape w w' s.words s.words turn turn i (reader i) refl ok.begins ok.within (λ e is. is)
-          (λ h. h) ok.low ok;
-      seated = seated;
-      each_seat = each_seat;
-      all_parked = all_parked;
-      parked = parked;
-    }
+          ring = c.ring;
+          wide = c.wide;
+          deep = c.deep;
+          writer = record {
+            shaped = wr.shaped;
+            lows = wr.lows;
+            limit = wr.limit;
+            sized = wr.sized;
+            out = wr.out;
+            room = wr.room;
+            look = wr.look;
+          };
+          each_turn = λ k near. let ok = c.each_turn k near in
+              turn_kept shape w w' reader reader s.words s.words s.homes s.homes k (turn k) refl ok.newest record {
+                home = refl;
+                sealed = λ m e is. is;
+                readers = λ i out newest. (out, newest);
+                writer = λ out is. (out, is);
+              } ok;
+          each_reader = λ i near. let ok = c.each_reader i near in
+              reader_kept shape w w' s.words s.words turn turn i (reader i) refl ok.begins ok.within (λ e is. is)
+              (λ h. h) ok.low ok;
+          seated = seated;
+          each_seat = each_seat;
+          all_parked = all_parked;
+          parked = parked;
+        }
 
     -- another seat than the writer's stays what it is, where its reader keeps it
     stays_seated : (w' : WriterView) (place' : ℕ → ℕ) (j : ℕ) → j ≢ at → ((i : ℕ) → place i ≡ j → place' i ≡ j) →
@@ -94,64 +94,72 @@ module _ (shape : RingShape) where
     stays_seated w' place' j other keeps Spent k = tt
 
     split_core : (r : ReaderView) → w.split < shape.readers → parked_at w w.split ≡ Some r
-        → KeptBy shape (record { words = s.words; homes = s.homes; views =
-            set s.views at (Writer (after_split w)) ++ Reader r ∷ [] }) (after_split w) at reader
-            (put place w.split (length s.views)) turn
+        → KeptBy shape (record {
+          words = s.words;
+          homes = s.homes;
+          views =
+              set s.views at (Writer (after_split w)) ++ Reader r ∷ [];
+        }) (after_split w) at reader
+        (put place w.split (length s.views)) turn
     split_core r near is = let i : ℕ = w.split in let w' : WriterView = after_split w in
         let new : ℕ = length s.views in let place' : ℕ → ℕ = put place i new in let all = c.all_parked in
         let here = at_from_or w.parked i (Some r) None (omega arith) is in let p = c.parked i r here in
-            let number : r.number ≡ i = ap (λ (q : ReaderView). q.number) p.1 ∙ (c.each_reader i near).number in
+        let number : r.number ≡ i = ap (λ (q : ReaderView). q.number) p.1 ∙ (c.each_reader i near).number in
         let moved : (k j : ℕ) → j ≢ at → place k ≡ j → place' k
-            ≡ j = λ k j other is'. put_else place i new k (λ e. other (sym is' ∙ (ap place e ∙ p.2))) ∙ is' in
+        ≡ j = λ k j other is'. put_else place i new k (λ e. other (sym is' ∙ (ap place e ∙ p.2))) ∙ is' in
         reseated (set w.parked i None) (i + 1) (set s.views at (Writer w') ++ Reader r ∷ []) place'
         (at_longer (set s.views at (Writer w')) (Reader r ∷ []) at (Writer w')
-            (set_here s.views at (Writer w') (at_below s.views at (Writer w) c.seated)))
+        (set_here s.views at (Writer w') (at_below s.views at (Writer w) c.seated)))
         (λ j v is'. ⊎_elim
         (λ (old : get_elem? (set s.views at (Writer w')) j ≡ some v). ⊎_elim
         (λ (t : (j ≡ at) × (Writer w' ≡ v)). subst (λ (x : ℕ × View). Knows shape w' at reader place' x.0 x.1)
-            (λ z. (sym t.0 z, t.1 z)) (refl, refl))
+        (λ z. (sym t.0 z, t.1 z)) (refl, refl))
         (λ (t : (j ≢ at) × (get_elem? s.views j ≡ some v)).
-            stays_seated w' place' j t.0 (λ k. moved k j t.0) v (c.each_seat j v t.1))
+        stays_seated w' place' j t.0 (λ k. moved k j t.0) v (c.each_seat j v t.1))
         (at_set s.views at j (Writer w') v old))
         (λ (t : (j ≡ length (set s.views at (Writer w'))) × (Reader r ≡ v)).
-            subst (λ (u : View). Knows shape w' at reader place' j u) t.1
+        subst (λ (u : View). Knows shape w' at reader place' j u) t.1
         (subst (λ (k : ℕ). (k < shape.readers) × (r ≡ reader k) × (place' k ≡ j)) (sym number)
-            (near, p.1, put_here place i new ∙ (sym (length-set s.views at (Writer w')) ∙ sym t.0))))
+        (near, p.1, put_here place i new ∙ (sym (length-set s.views at (Writer w')) ∙ sym t.0))))
         (at_snoc_where (set s.views at (Writer w')) (Reader r) v j is'))
         (length-set w.parked i None ∙ all)
         (λ k q is'. ⊎_elim
         (λ (t : (k ≡ i) × (None ≡ Some q)). let clash = t.1 in cc)
         (λ (t : (k ≢ i) × (get_elem? w.parked k ≡ some (Some q))). let old = c.parked k q t.1 in
-            (old.0, old.1, put_else place i new k t.0 ∙ old.2))
+        (old.0, old.1, put_else place i new k t.0 ∙ old.2))
         (at_set w.parked i k None (Some q) is'))
 
     join_core : (other : ℕ) (r : ReaderView) → other ≢ at → get_elem? s.views other ≡ some (Reader r)
-        → KeptBy shape (record { words = s.words; homes = s.homes; views =
-            set (set s.views at (Writer (after_join w r))) other Spent }) (after_join w r) at reader
-            (put place r.number at) turn
+        → KeptBy shape (record {
+          words = s.words;
+          homes = s.homes;
+          views =
+              set (set s.views at (Writer (after_join w r))) other Spent;
+        }) (after_join w r) at reader
+        (put place r.number at) turn
     join_core other r apart there = let w' : WriterView = after_join w r in let i : ℕ = r.number in
         let place' : ℕ → ℕ = put place i at in let known = is_reader shape s w at reader place turn c other r there in
         let both : List View = set s.views at (Writer w') in
         reseated (set w.parked i (Some r)) w.split (set both other Spent) place'
         (set_else both other at Spent (λ e. apart (sym e))
-            ∙ set_here s.views at (Writer w') (at_below s.views at (Writer w) c.seated))
+        ∙ set_here s.views at (Writer w') (at_below s.views at (Writer w) c.seated))
         (λ j v is. ⊎_elim
         (λ (t : (j ≡ other) × (Spent ≡ v)). subst (λ (u : View). Knows shape w' at reader place' j u) t.1 tt)
         (λ (t : (j ≢ other) × (get_elem? both j ≡ some v)). ⊎_elim
         (λ (u : (j ≡ at) × (Writer w' ≡ v)). subst (λ (x : ℕ × View). Knows shape w' at reader place' x.0 x.1)
-            (λ z. (sym u.0 z, u.1 z)) (refl, refl))
+        (λ z. (sym u.0 z, u.1 z)) (refl, refl))
         (λ (u : (j ≢ at) × (get_elem? s.views j ≡ some v)).
-            stays_seated w' place' j u.0 (λ k is'. put_else place i at k (λ e. t.0 (sym is' ∙ (ap place e ∙ known.2)))
-            ∙ is') v (c.each_seat j v u.1))
+        stays_seated w' place' j u.0 (λ k is'. put_else place i at k (λ e. t.0 (sym is' ∙ (ap place e ∙ known.2)))
+        ∙ is') v (c.each_seat j v u.1))
         (at_set s.views at j (Writer w') v t.1))
         (at_set both other j Spent v is))
         (length-set w.parked i (Some r) ∙ c.all_parked)
         (λ k q is. ⊎_elim
         (λ (t : (k ≡ i) × (Some r ≡ Some q)). let same : r ≡ q = ap (λ (o : Option ReaderView). unwrap_or o r) t.1 in
         subst (λ (x : ReaderView × ℕ). (x.1 < shape.readers) × (x.0 ≡ reader x.1) × (place' x.1 ≡ at))
-            (λ z. (same z, sym t.0 z)) (known.0, known.1, put_here place i at))
+        (λ z. (same z, sym t.0 z)) (known.0, known.1, put_here place i at))
         (λ (t : (k ≢ i) × (get_elem? w.parked k ≡ some (Some q))). let old = c.parked k q t.1 in
-            (old.0, old.1, put_else place i at k t.0 ∙ old.2))
+        (old.0, old.1, put_else place i at k t.0 ∙ old.2))
         (at_set w.parked i k (Some r) (Some q) is))
 
   pub splits : (id : ℕ) (v : WriterView) (r : ReaderView) → v.split < shape.readers → parked_at v v.split ≡ Some r →
@@ -188,7 +196,7 @@ module _ (shape : RingShape) where
   pub starts : (words : List ℕ) (blocks : List Block) → IsRing shape → length words ≡ shape.buffers + shape.readers →
       ((i : ℕ) → i < length words → get_or words i 0 ≡ 0) → length blocks ≡ shape.buffers
       → ((k : ℕ) (b : Block) → get_elem? blocks k ≡ some b → room_of b ≡ shape.size) →
-          Kept shape (opening words blocks (Writer (fresh_writer shape)))
+      Kept shape (opening words blocks (Writer (fresh_writer shape)))
   starts words blocks ring wide zeros deep rooms = record {
     w = fresh_writer shape;
     at = 0;
@@ -228,11 +236,14 @@ module _ (shape : RingShape) where
       all_parked = length-listed (λ (i : ℕ). Some (fresh_reader shape i)) shape.readers;
       parked = λ i r is. let long = length-listed (λ (k : ℕ). Some (fresh_reader shape k)) shape.readers in
           let below = at_below (listed (λ k. Some (fresh_reader shape k)) shape.readers) i (Some r) is in
-          let near : i < shape.readers = omega arith in
-          (near, ap (λ (o : Option ReaderView). unwrap_or o r)
-              (same_at (listed (λ k. Some (fresh_reader shape k)) shape.readers) i (Some r)
-              (Some (fresh_reader shape i)) is (at_listed
-              (λ k. Some (fresh_reader shape k)) shape.readers i near)), refl);
+          let near : i < shape.readers = omega arith in (
+            near,
+            ap (λ (o : Option ReaderView). unwrap_or o r)
+                (same_at (listed (λ k. Some (fresh_reader shape k)) shape.readers) i (Some r)
+                (Some (fresh_reader shape i)) is (at_listed
+                (λ k. Some (fresh_reader shape k)) shape.readers i near)),
+            refl,
+          );
     };
     reached = subst (λ (l : List Standing). Reached {L = Entry} shape.buffers shape.max_blocks shape.readers
         (record { sealed = []; writing = false; low = replicate shape.readers 0; readers = l }))

@@ -67,7 +67,7 @@ module _ (b limit : ℕ) (shape : RingShape) (w : WriterView) (reader : ℕ → 
   looks_at : (i n : ℕ) (r : ReaderView) → slice_get (listed (λ j. standing (reader j)) shape.readers) i
       ≡ Some (standing r) → length r.cleared < greatest → n ≡ count_word r → (z : Bool) → r.retired ≡ z
       → Does b limit (shown shape w reader) (Event.Look i) (look_row b (length w.sealed) i n)
-          (shown shape (after_look w i n) reader)
+      (shown shape (after_look w i n) reader)
   looks_at i n r there small is true retired = let e : n ≡ greatest = is
       ∙ ap (λ z. cond z greatest (length r.cleared)) retired in
       inl (
@@ -81,29 +81,43 @@ module _ (b limit : ℕ) (shape : RingShape) (w : WriterView) (reader : ℕ → 
   looks_at i n r there small is false retired = let e : n ≡ length r.cleared = is
       ∙ ap (λ z. cond z greatest (length r.cleared)) retired in
       let other = ap (λ z. cond z (Answer.RoomRetired i)
-          (cond (leb (n + b) (length w.sealed)) (Answer.Full i n) (Answer.Room i n)))
-          (ne_eqb n greatest (λ t. omega arith)) in
+      (cond (leb (n + b) (length w.sealed)) (Answer.Full i n) (Answer.Room i n)))
+      (ne_eqb n greatest (λ t. omega arith)) in
       let new = ap (λ k. shown shape (after_look w i k) reader) e in let here = is_registered r retired in
       ⊎_elim
       (λ (t : (leb (n + b) (length w.sealed) ≡ true) × (n + b ≤ length w.sealed)). let f = t.1 in
-      inr (inl (standing r, there, here, (omega arith), other
-          ∙ (ap (λ z. cond z (Answer.Full i n) (Answer.Room i n)) t.0
-          ∙ ap (λ (k : ℕ). let x : Answer Entry = Answer.Full i k in x) e), new)))
+      inr (inl (
+        standing r,
+        there,
+        here,
+        (omega arith),
+        other
+            ∙ (ap (λ z. cond z (Answer.Full i n) (Answer.Room i n)) t.0
+            ∙ ap (λ (k : ℕ). let x : Answer Entry = Answer.Full i k in x) e),
+        new,
+      )))
       (λ (t : (leb (n + b) (length w.sealed) ≡ false) × (length w.sealed < n + b)). let f = t.1 in
-      inr (inr (inl (standing r, there, here, (omega arith), other
-          ∙ (ap (λ z. cond z (Answer.Full i n) (Answer.Room i n)) t.0
-          ∙ ap (λ (k : ℕ). let x : Answer Entry = Answer.Room i k in x) e), new))))
+      inr (inr (inl (
+        standing r,
+        there,
+        here,
+        (omega arith),
+        other
+            ∙ (ap (λ z. cond z (Answer.Full i n) (Answer.Room i n)) t.0
+            ∙ ap (λ (k : ℕ). let x : Answer Entry = Answer.Room i k in x) e),
+        new,
+      ))))
       (leb_tells (n + b) (length w.sealed))
 
   pub does_look : (i n : ℕ) → i < shape.readers → length (reader i).cleared < greatest → n ≡ count_word (reader i)
       → Does b limit (shown shape w reader) (Event.Look i) (look_row b (length w.sealed) i n)
-          (shown shape (after_look w i n) reader)
+      (shown shape (after_look w i n) reader)
   does_look i n inside small is = looks_at i n (reader i) (is_shown i inside) small is (reader i).retired refl
 
   pub does_writer_take : w.out ≡ false → length w.sealed < limit →
       ((i : ℕ) → i < length w.low → length w.sealed < get_or w.low i 0 + b)
       → Does b limit (shown shape w reader) Event.WriterTake (Answer.Taken (length w.sealed))
-          (shown shape (after_writer_take w) reader)
+      (shown shape (after_writer_take w) reader)
   does_writer_take home below room = inr (inr (inr (home, (λ e. omega arith), room, refl, refl)))
 
   pub does_seal : (e : Entry) → w.out ≡ true → Does b limit (shown shape w reader) (Event.Seal e)
@@ -120,17 +134,17 @@ module _ (b limit : ℕ) (shape : RingShape) (w : WriterView) (reader : ℕ → 
     changed r' st same = ap (λ (l : List Standing). let x : Machine Entry =
         record { sealed = w.sealed; writing = w.out; low = w.low; readers = l } in x)
         (listed_set (λ j. standing (reader j)) (λ j. standing (put reader i r' j)) shape.readers i st inside
-            (ap standing (put_here reader i r') ∙ same) (λ j other. ap standing (put_else reader i r' j other)))
+        (ap standing (put_here reader i r') ∙ same) (λ j other. ap standing (put_else reader i r' j other)))
 
     -- and with it as it was
     unchanged : (r' : ReaderView) → standing r' ≡ standing r → shown shape w (put reader i r') ≡ shown shape w reader
     unchanged r' same = ap (λ (l : List Standing). let x : Machine Entry =
         record { sealed = w.sealed; writing = w.out; low = w.low; readers = l } in x)
         (listed_same (λ j. standing (put reader i r' j)) (λ j. standing (reader j)) shape.readers
-            (λ j _. dite (ℕ_discrete j i)
+        (λ j _. dite (ℕ_discrete j i)
         (λ e. ap (λ (k : ℕ). standing (put reader i r' k)) e
-            ∙ (ap standing (put_here reader i r') ∙ (same
-            ∙ (ap standing is ∙ ap (λ (k : ℕ). standing (reader k)) (sym e)))))
+        ∙ (ap standing (put_here reader i r') ∙ (same
+        ∙ (ap standing is ∙ ap (λ (k : ℕ). standing (reader k)) (sym e)))))
         (λ other. ap standing (put_else reader i r' j other))))
 
     pub shows_new : (r' : ReaderView) → slice_get (listed (λ j. standing (put reader i r' j)) shape.readers) i
@@ -142,7 +156,7 @@ module _ (b limit : ℕ) (shape : RingShape) (w : WriterView) (reader : ℕ → 
     pub does_hit : (n : ℕ) (e : Entry) → r.out ≡ false → get_elem? w.sealed (length r.cleared) ≡ some e
         → ((j : ℕ) → j < shape.readers → (reader j).out ≡ true → length (reader j).cleared ≢ length r.cleared)
         → Does b limit (shown shape w reader) (Event.ReaderTake i) (Answer.Got (length r.cleared) e)
-            (shown shape w (put reader i (after_hit r n e)))
+        (shown shape w (put reader i (after_hit r n e)))
     does_hit n e home at free = inr (inr (inl (
       standing r,
       e,
@@ -151,7 +165,7 @@ module _ (b limit : ℕ) (shape : RingShape) (w : WriterView) (reader : ℕ → 
       (λ j (h : Holds (shown shape w reader) j (length r.cleared)).
           let q = listed_at (λ k. standing (reader k)) shape.readers j h.0 h.1 in
           free j q.0 (is_out_from (reader j).retired (reader j).out (is_some (reader j).got)
-              (ap (λ (x : Standing). x.phase) q.1 ∙ h.2)) (ap (λ (x : Standing). x.cleared) q.1 ∙ h.3)),
+          (ap (λ (x : Standing). x.phase) q.1 ∙ h.2)) (ap (λ (x : Standing). x.cleared) q.1 ∙ h.3)),
       got_at w.sealed (length r.cleared) e at,
       refl,
       changed (after_hit r n e) (record { cleared = length r.cleared; phase = Phase.Out })
@@ -160,13 +174,13 @@ module _ (b limit : ℕ) (shape : RingShape) (w : WriterView) (reader : ℕ → 
 
     pub does_empty : (n : ℕ) → r.out ≡ false → length w.sealed ≤ length r.cleared
         → Does b limit (shown shape w reader) (Event.ReaderTake i) (Answer.Empty (length r.cleared))
-            (shown shape w (put reader i (after_miss r n)))
+        (shown shape w (put reader i (after_miss r n)))
     does_empty n home none = inl (standing r, there, is_idle r going home, none, refl, unchanged (after_miss r n) refl)
 
     pub does_busy : (n j : ℕ) → r.out ≡ false → length r.cleared < length w.sealed → j < shape.readers →
         (reader j).retired ≡ false → (reader j).out ≡ true → length (reader j).cleared ≡ length r.cleared
         → Does b limit (shown shape w reader) (Event.ReaderTake i) (Answer.Busy (length r.cleared) j)
-            (shown shape w (put reader i (after_miss r n)))
+        (shown shape w (put reader i (after_miss r n)))
     does_busy n j home some_left near live out same = inr (inl (
       standing r,
       j,
@@ -193,7 +207,7 @@ module _ (b limit : ℕ) (shape : RingShape) (w : WriterView) (reader : ℕ → 
     pub does_clear : r.out ≡ false → (e : Entry) → r.got ≡ Some e →
         length (after_clear r).cleared ≡ length r.cleared + 1
         → Does b limit (shown shape w reader) (Event.Clear i) (Answer.Cleared (length r.cleared + 1))
-            (shown shape w (put reader i (after_clear r)))
+        (shown shape w (put reader i (after_clear r)))
     does_clear home e got long = inl (
       standing r,
       there,
@@ -205,5 +219,10 @@ module _ (b limit : ℕ) (shape : RingShape) (w : WriterView) (reader : ℕ → 
 
     pub does_retire : r.out ≡ false → Does b limit (shown shape w reader) (Event.Retire i) Answer.Retired
         (shown shape w (put reader i (after_retire r)))
-    does_retire home = inl (standing r, there, is_idle r going home, refl,
-        changed (after_retire r) (record { cleared = length r.cleared; phase = Phase.Retired }) refl)
+    does_retire home = inl (
+      standing r,
+      there,
+      is_idle r going home,
+      refl,
+      changed (after_retire r) (record { cleared = length r.cleared; phase = Phase.Retired }) refl,
+    )

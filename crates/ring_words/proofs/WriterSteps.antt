@@ -43,14 +43,14 @@ module _ (shape : RingShape) where
       get_elem? s.views id ≡ some (Writer v) → AsWriter shape s id v
   as_writer s kept id v at = let same =
       is_writer shape s kept.w kept.at kept.reader kept.place kept.turn kept.core id v at in record {
-    reader = kept.reader;
-    place = kept.place;
-    turn = kept.turn;
-    core = subst (λ (x : WriterView × ℕ). KeptBy shape s x.0 x.1 kept.reader kept.place kept.turn)
-        (λ i. (sym same.0 i, sym same.1 i)) kept.core;
-    reached = subst (λ (x : WriterView). Reached shape.buffers shape.max_blocks shape.readers
-        (shown shape x kept.reader)) (sym same.0) kept.reached;
-  }
+        reader = kept.reader;
+        place = kept.place;
+        turn = kept.turn;
+        core = subst (λ (x : WriterView × ℕ). KeptBy shape s x.0 x.1 kept.reader kept.place kept.turn)
+            (λ i. (sym same.0 i, sym same.1 i)) kept.core;
+        reached = subst (λ (x : WriterView). Reached shape.buffers shape.max_blocks shape.readers
+            (shown shape x kept.reader)) (sym same.0) kept.reached;
+      }
 
   module _ (s : State Block View) (w : WriterView) (at : ℕ) (reader : ℕ → ReaderView) (place : ℕ → ℕ)
       (turn : ℕ → Turn) (c : KeptBy shape s w at reader place turn) where
@@ -62,7 +62,7 @@ module _ (shape : RingShape) where
       begins = λ i r is. let p = c.parked i r (at_from_option w.parked i r is) in let ok = c.each_reader i p.0 in
           subst (λ (q : ReaderView). take (length q.cleared) w.sealed ≡ q.cleared) (sym p.1)
           (ap (λ (l : List Entry). take (length (reader i).cleared) l) ok.begins.1
-              ∙ take-append_seam (reader i).cleared ok.begins.0);
+          ∙ take-append_seam (reader i).cleared ok.begins.0);
       next = λ i r e is got. let p = c.parked i r (at_from_option w.parked i r is) in let ok = c.each_reader i p.0 in
           subst (λ (q : ReaderView). slice_get w.sealed (length q.cleared) ≡ Some e) (sym p.1)
           (got_at w.sealed (length (reader i).cleared) e (ok.got e (ap (λ (q : ReaderView). q.got) (sym p.1) ∙ got)).1);
@@ -81,24 +81,24 @@ module _ (shape : RingShape) where
         → IsEvent w.shape e (row w.shape.buffers) (ShowsWriter w) (ShowsWriter w')
     event e row w' reached does = subst (λ (z : RingShape).
         IsEvent z e (row z.buffers) (ShowsWriter w) (ShowsWriter w')) (sym c.writer.shaped) record {
-      old = shown shape w reader;
-      new = shown shape w' reader;
-      reached = reached;
-      does = does;
-      shows_before = (refl, refl, refl);
-      shows_after = (refl, refl, refl);
-    }
+          old = shown shape w reader;
+          new = shown shape w' reader;
+          reached = reached;
+          does = does;
+          shows_before = (refl, refl, refl);
+          shows_after = (refl, refl, refl);
+        }
 
     -- a buffer that nobody changes, in a step of the writer that leaves what is sealed
     same_turns : (w' : WriterView) → w'.sealed ≡ w.sealed → (k : ℕ) (t : Turn) → (w.out ≡ true → w'.out ≡ true) →
         TurnOk shape w reader s.words s.homes k t → TurnOk shape w' reader s.words s.homes k t
     same_turns w' same k t out ok = turn_kept shape w w' reader reader s.words s.words s.homes s.homes k t refl
         (subst (λ (l : List Entry). IsNewest shape.buffers (length l) k t.newest) (sym same) ok.newest) record {
-      home = refl;
-      sealed = λ m e is. ap (λ (l : List Entry). get_elem? l m) same ∙ is;
-      readers = λ i o n. (o, n);
-      writer = λ o k. (out o, k ∙ ap (λ (l : List Entry). length l % shape.buffers) (sym same));
-    } ok
+          home = refl;
+          sealed = λ m e is. ap (λ (l : List Entry). get_elem? l m) same ∙ is;
+          readers = λ i o n. (o, n);
+          writer = λ o k. (out o, k ∙ ap (λ (l : List Entry). length l % shape.buffers) (sym same));
+        } ok
 
     looked_core : (j n : ℕ) → j < shape.readers → n ≡ count_word (reader j) →
         KeptBy shape (record { words = s.words; homes = s.homes; views = set s.views at (Writer (after_look w j n)) })
@@ -114,7 +114,7 @@ module _ (shape : RingShape) where
           out = wr.out;
           room = λ out i near. dite (ℕ_discrete i j)
               (λ e. let old = wr.room out j inside in let above = (c.each_reader j inside).low in
-                  let now = get_or-set_same w.low j n 0 (omega arith) in
+              let now = get_or-set_same w.low j n 0 (omega arith) in
               subst (λ (z : ℕ). length w.sealed < get_or (set w.low j n) z 0 + shape.buffers) (sym e) (omega arith))
               (λ other. let old = wr.room out i near in let now = get_or-set_other w.low j i n 0 other in omega arith);
           look = λ i x e. let p = ap (λ (o : Option (ℕ × ℕ)). unwrap_or o (0, 0)) e in
@@ -122,10 +122,10 @@ module _ (shape : RingShape) where
         }
         (λ k near. same_turns w' refl k (turn k) (λ o. o) (c.each_turn k near))
         (λ i near. let ok = c.each_reader i near in reader_kept shape w w' s.words s.words turn turn i
-            (reader i) refl ok.begins ok.within (λ e is. is) (λ h. h)
+        (reader i) refl ok.begins ok.within (λ e is. is) (λ h. h)
         (dite (ℕ_discrete i j)
         (λ e. let now = get_or-set_same w.low j n 0 (omega arith) in
-            subst (λ (z : ℕ). get_or (set w.low j n) z 0 ≤ count_word (reader z)) (sym e) (omega arith))
+        subst (λ (z : ℕ). get_or (set w.low j n) z 0 ≤ count_word (reader z)) (sym e) (omega arith))
         (λ other. let now = get_or-set_other w.low j i n 0 other in let old = ok.low in omega arith))
         ok)
 
@@ -134,13 +134,13 @@ module _ (shape : RingShape) where
       → Allows (Kept shape) slots id (Writer v, held) word (λ n. n) (Looked (step slots word 0 0 none) (Writer v, held))
   looks slots id word v held deep low high s kept _ at small =
       let a = as_writer s kept id v at in let n : ℕ = get_or s.words word 0 in let j : ℕ = word - slots in
-          let inside : j < shape.readers = omega arith in let there : word ≡ shape.buffers + j = omega arith in
+      let inside : j < shape.readers = omega arith in let there : word ≡ shape.buffers + j = omega arith in
       let is : n ≡ count_word (a.reader j) = ap (λ (i : ℕ). get_or s.words i 0) there
-          ∙ (a.core.each_reader j inside).shows in
+      ∙ (a.core.each_reader j inside).shows in
       let w' : WriterView = after_look v j n in
       let core = looked_core s v id a.reader a.place a.turn a.core j n inside is in
       let does = does_look shape.buffers shape.max_blocks shape v a.reader j n inside
-          (count_small s v id a.reader a.place a.turn a.core j inside) is in (
+      (count_small s v id a.reader a.place a.turn a.core j inside) is in (
         Writer w',
         keeps,
         tt,
@@ -150,8 +150,12 @@ module _ (shape : RingShape) where
           reader = a.reader;
           place = a.place;
           turn = a.turn;
-          core = subst (λ (ws : List ℕ). KeptBy shape (record { words = ws; homes = s.homes; views =
-              set s.views id (Writer w') }) w' id a.reader a.place a.turn) (sym (set-get_or s.words word 0)) core;
+          core = subst (λ (ws : List ℕ). KeptBy shape (record {
+            words = ws;
+            homes = s.homes;
+            views =
+                set s.views id (Writer w');
+          }) w' id a.reader a.place a.turn) (sym (set-get_or s.words word 0)) core;
           reached = by_event _ (Event.Look j) (look_row shape.buffers (length v.sealed) j n) _ a.reached does;
         },
         record {
@@ -180,9 +184,9 @@ module _ (shape : RingShape) where
     no_reader home room (by_reader i) is = let ok = c.each_turn here here_small in
         let k = subst (λ (h : Holder). Held shape v reader s.homes here (turn here).newest h) is ok.held in
         let mine = c.each_reader i k.0 in let got = (mine.out k.1).0 in
-            let live = live_count (reader i) (mine.got got.0 got.1).0 in
+        let live = live_count (reader i) (mine.got got.0 got.1).0 in
         let last = ok.newest.last (length (reader i).cleared) k.2 in let below = last.1 in let seen = room i k.0 in
-            let low = mine.low in
+        let low = mine.low in
         absurd (apart shape.buffers (length (reader i).cleared) (length v.sealed) below (omega arith) (sym last.0))
 
     free : v.out ≡ false → ((i : ℕ) → i < shape.readers → length v.sealed < get_or v.low i 0 + shape.buffers) →
@@ -195,14 +199,18 @@ module _ (shape : RingShape) where
     taken_core : v.out ≡ false → length v.sealed < shape.max_blocks →
         ((i : ℕ) → i < shape.readers → length v.sealed < get_or v.low i 0 + shape.buffers) → (word : ℕ) →
         word ≡ 16 * (turn here).newest + 15
-        → KeptBy shape (record { words = set s.words here word; homes = set s.homes here none; views =
-            set s.views at (Writer (after_writer_take v)) }) (after_writer_take v) at reader place
-            (put turn here taken_turn)
+        → KeptBy shape (record {
+          words = set s.words here word;
+          homes = set s.homes here none;
+          views =
+              set s.views at (Writer (after_writer_take v));
+        }) (after_writer_take v) at reader place
+        (put turn here taken_turn)
     unfolding taken_turn
     taken_core home below room word is = let wr = c.writer in let w' : WriterView = after_writer_take v in
         let free_here = free home room in let small = here_small in let wide = c.wide in
         writer_step shape s v at reader place turn c w' (put turn here taken_turn) (set s.words here word)
-            (set s.homes here none) (length-set s.words here word) (length-set s.homes here none) refl
+        (set s.homes here none) (length-set s.words here word) (length-set s.homes here none) refl
         record {
           shaped = wr.shaped;
           lows = wr.lows;
@@ -213,15 +221,15 @@ module _ (shape : RingShape) where
           look = wr.look;
         }
         (at_put (λ k t. TurnOk shape w' reader (set s.words here word)
-            (set s.homes here none) k t) turn here taken_turn shape.buffers
+        (set s.homes here none) k t) turn here taken_turn shape.buffers
         record {
           shows = get_or-set_same s.words here word 0 (omega arith) ∙ is;
           newest = (c.each_turn here small).newest;
           held = (refl, refl);
         }
         (λ k near other. let ok = c.each_turn k near in
-            turn_kept shape v w' reader reader s.words (set s.words here word) s.homes (set s.homes here none) k
-            (turn k)
+        turn_kept shape v w' reader reader s.words (set s.words here word) s.homes (set s.homes here none) k
+        (turn k)
         (get_or-set_other s.words here k word 0 other) ok.newest
         record {
           home = set_else s.homes here k none other;
@@ -230,12 +238,12 @@ module _ (shape : RingShape) where
           writer = λ o e. absurd (other e);
         } ok))
         (λ i near. let ok = c.each_reader i near in reader_kept shape v w' s.words (set s.words here word) turn
-            (put turn here taken_turn) i (reader i)
+        (put turn here taken_turn) i (reader i)
         (get_or-set_other s.words here (shape.buffers + i) word 0 (λ e. omega arith)) ok.begins ok.within (λ e at'. at')
         (λ h. dite (ℕ_discrete (length (reader i).cleared % shape.buffers) here)
         (λ e. let clash : by_reader i ≡ at_home = sym h ∙ (ap (λ (k : ℕ). (turn k).holder) e ∙ free_here) in cc)
         (λ other. ap (λ (t : Turn). t.holder) (put_else turn here taken_turn
-            (length (reader i).cleared % shape.buffers) other) ∙ h))
+        (length (reader i).cleared % shape.buffers) other) ∙ h))
         ok.low ok)
 
     sealed_turn : Turn
@@ -243,19 +251,23 @@ module _ (shape : RingShape) where
 
     sealed_core : (b : Block) → v.out ≡ true → room_of b ≡ shape.size → length (entry_of b).bytes ≤ shape.size →
         (word : ℕ) → word ≡ 16 * (length v.sealed + 1)
-        → KeptBy shape (record { words = set s.words here word; homes = set s.homes here (some b); views =
-            set s.views at (Writer (after_seal v (entry_of b))) }) (after_seal v (entry_of b)) at reader place
-            (put turn here sealed_turn)
+        → KeptBy shape (record {
+          words = set s.words here word;
+          homes = set s.homes here (some b);
+          views =
+              set s.views at (Writer (after_seal v (entry_of b)));
+        }) (after_seal v (entry_of b)) at reader place
+        (put turn here sealed_turn)
     unfolding sealed_turn
     sealed_core b out room_is fits word is = let wr = c.writer in let e : Entry = entry_of b in
         let w' : WriterView = after_seal v e in let small = here_small in let wide = c.wide in let deep = c.deep in
         let two = c.ring.two_buffers in
         let below = (wr.out out).1 in let longer : length (v.sealed ++ e ∷ [])
-            ≡ length v.sealed + 1 = length-append v.sealed (e ∷ []) in
+        ≡ length v.sealed + 1 = length-append v.sealed (e ∷ []) in
         let stays : (m : ℕ) (x : Entry) → get_elem? v.sealed m ≡ some x →
-            get_elem? (v.sealed ++ e ∷ []) m ≡ some x = λ m x at'. at_longer v.sealed (e ∷ []) m x at' in
+        get_elem? (v.sealed ++ e ∷ []) m ≡ some x = λ m x at'. at_longer v.sealed (e ∷ []) m x at' in
         writer_step shape s v at reader place turn c w' (put turn here sealed_turn) (set s.words here word)
-            (set s.homes here (some b)) (length-set s.words here word) (length-set s.homes here (some b)) refl
+        (set s.homes here (some b)) (length-set s.words here word) (length-set s.homes here (some b)) refl
         record {
           shaped = wr.shaped;
           lows = wr.lows;
@@ -267,17 +279,17 @@ module _ (shape : RingShape) where
           look = wr.look;
         }
         (at_put (λ k t. TurnOk shape w' reader (set s.words here word)
-            (set s.homes here (some b)) k t) turn here sealed_turn shape.buffers
+        (set s.homes here (some b)) k t) turn here sealed_turn shape.buffers
         record {
           shows = get_or-set_same s.words here word 0 (omega arith) ∙ omega arith;
           newest = newest_here shape.buffers (length v.sealed) (length (v.sealed ++ e ∷ [])) (omega arith) longer;
           held = (b, set_here s.homes here (some b) (omega arith), room_is, λ m n. at_last v.sealed e m (omega arith));
         }
         (λ k near other. let ok = c.each_turn k near in
-            turn_kept shape v w' reader reader s.words (set s.words here word) s.homes (set s.homes here (some b)) k
-            (turn k)
+        turn_kept shape v w' reader reader s.words (set s.words here word) s.homes (set s.homes here (some b)) k
+        (turn k)
         (get_or-set_other s.words here k word 0 other) (newest_else shape.buffers (length v.sealed)
-            (length (v.sealed ++ e ∷ [])) k (turn k).newest (omega arith) longer near other ok.newest)
+        (length (v.sealed ++ e ∷ [])) k (turn k).newest (omega arith) longer near other ok.newest)
         record {
           home = set_else s.homes here k (some b) other;
           sealed = stays;
@@ -285,14 +297,14 @@ module _ (shape : RingShape) where
           writer = λ o at'. absurd (other at');
         } ok))
         (λ i near. let ok = c.each_reader i near in let seen = wr.room out i near in let low = ok.low in
-            reader_kept shape v w' s.words (set s.words here word) turn (put turn here sealed_turn) i (reader i)
+        reader_kept shape v w' s.words (set s.words here word) turn (put turn here sealed_turn) i (reader i)
         (get_or-set_other s.words here (shape.buffers + i) word 0 (λ e. omega arith))
-            (begins_more (reader i).cleared v.sealed (e ∷ []) ok.begins)
+        (begins_more (reader i).cleared v.sealed (e ∷ []) ok.begins)
         (λ live. let count = live_count (reader i) live in omega arith) (stays (length (reader i).cleared))
         (λ h. dite (ℕ_discrete (length (reader i).cleared % shape.buffers) here)
         (λ e. let clash : by_reader i ≡ by_writer = sym h ∙ (ap (λ (k : ℕ). (turn k).holder) e ∙ (wr.out out).0) in cc)
         (λ other. ap (λ (t : Turn). t.holder) (put_else turn here sealed_turn
-            (length (reader i).cleared % shape.buffers) other) ∙ h))
+        (length (reader i).cleared % shape.buffers) other) ∙ h))
         ok.low ok)
 
   pub takes_out : (slots id : ℕ) (v : WriterView) (held : List (ℕ × Block)) (old new : ℕ) → v.out ≡ false →
@@ -300,23 +312,23 @@ module _ (shape : RingShape) where
       → ((i : ℕ) → i < shape.readers → length v.sealed < get_or v.low i 0 + shape.buffers)
       → old ≡ 16 * ((length v.sealed + 1) - shape.buffers) → new ≡ old + 15
       → Allows (Kept shape) slots id (Writer v, held) (length v.sealed % shape.buffers)
-          (λ n. either (eqb n old) new n) (WriterTook (step slots (length v.sealed % shape.buffers) old new none)
-          (Writer v, held))
+      (λ n. either (eqb n old) new n) (WriterTook (step slots (length v.sealed % shape.buffers) old new none)
+      (Writer v, held))
   takes_out slots id v held old new home below room is new_is s kept _ at small =
       let a = as_writer s kept id v at in let k : ℕ = length v.sealed % shape.buffers in
-          let n : ℕ = get_or s.words k 0 in let c = a.core in
+      let n : ℕ = get_or s.words k 0 in let c = a.core in
       let k_small : k < shape.buffers = here_small s v id a.reader a.place a.turn c in let two = c.ring.two_buffers in
       let ok = c.each_turn k k_small in let free_here = free s v id a.reader a.place a.turn c home room in
       let newest = newest_next shape.buffers (length v.sealed) (a.turn k).newest (omega arith) ok.newest in
       let held_at_home = subst (λ (h : Holder). Held shape v a.reader s.homes k
-          (a.turn k).newest h) free_here ok.held in
+      (a.turn k).newest h) free_here ok.held in
       let code = ap holder_code free_here in let shows = ok.shows in let twice = ap (λ (x : ℕ). 16 * x) newest in
       let found : n ≡ old = omega arith in
       let w' : WriterView = after_writer_take v in
       let core = taken_core s v id a.reader a.place a.turn c home below room new (omega arith) in
       let lows = c.writer.lows in
       let does = does_writer_take shape.buffers shape.max_blocks shape v a.reader home below
-          (λ i near. room i (omega arith)) in (
+      (λ i near. room i (omega arith)) in (
         Writer w',
         takes k held_at_home.0,
         held_at_home.1,
@@ -326,8 +338,12 @@ module _ (shape : RingShape) where
           reader = a.reader;
           place = a.place;
           turn = put a.turn k (taken_turn s v id a.reader a.place a.turn c);
-          core = subst (λ (z : Bool). KeptBy shape (record { words = set s.words k (either z new n); homes =
-              set s.homes k none; views = set s.views id (Writer w') }) w' id a.reader a.place
+          core = subst (λ (z : Bool). KeptBy shape (record {
+            words = set s.words k (either z new n);
+            homes =
+                set s.homes k none;
+            views = set s.views id (Writer w');
+          }) w' id a.reader a.place
               (put a.turn k (taken_turn s v id a.reader a.place a.turn c))) (sym (eq-eqb n old found)) core;
           reached = by_event _ Event.WriterTake (Answer.Taken (length v.sealed)) _ a.reached does;
         },
@@ -345,12 +361,12 @@ module _ (shape : RingShape) where
   pub seals : (slots id : ℕ) (v : WriterView) (b : Block) (word : ℕ) → v.out ≡ true → room_of b ≡ shape.size →
       length (entry_of b).bytes ≤ shape.size → word ≡ 16 * (length v.sealed + 1)
       → Allows (Kept shape) slots id (Writer v, (length v.sealed % shape.buffers, b) ∷ [])
-          (length v.sealed % shape.buffers) (λ _. word)
+      (length v.sealed % shape.buffers) (λ _. word)
       (λ _. Sealed (step slots (length v.sealed % shape.buffers) word 0 none)
-          (Writer v, (length v.sealed % shape.buffers, b) ∷ []) word)
+      (Writer v, (length v.sealed % shape.buffers, b) ∷ []) word)
   seals slots id v b word out room_is fits is s kept _ at small =
       let a = as_writer s kept id v at in let k : ℕ = length v.sealed % shape.buffers in let c = a.core in
-          let w' : WriterView = after_seal v (entry_of b) in
+      let w' : WriterView = after_seal v (entry_of b) in
       let core = sealed_core s v id a.reader a.place a.turn c b out room_is fits word is in
       let does = does_seal shape.buffers shape.max_blocks shape v a.reader (entry_of b) out in
       let told : SealedBlock (Writer v, (k, b) ∷ []) (Writer w', []) b = record {

@@ -21,6 +21,6 @@ loop-event-preserved c =
       runs = subst P (sym (ap (map event_of) more ∙ map-append event_of (take i events)
           (get_or events i (Look 0) ∷ [])))
           (run_by c.args.core.now _ c.loop-event.core _ _ c.apply.new.self c.loop-event.invariant.runs
-              c.apply.ensures.steps);
+          c.apply.ensures.steps);
       ring = c.apply.ensures.ring;
     }

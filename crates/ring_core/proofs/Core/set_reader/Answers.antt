@@ -11,11 +11,14 @@ use Rattle.ring_core.proofs.Core.set_reader.Goals as goal
 
 as_set : (a : Inside) (now : CoreState) (i : ℕ) (r : Held) → ring_of a ≡ now →
     ring_of (record a { readers = with_item a.readers i r })
-        ≡ record now { machine = with_reader now.machine i (reader_of r) }
+    ≡ record now { machine = with_reader now.machine i (reader_of r) }
 as_set a now i r is =
-    ap (λ (l : List Reader). record { shape = a.shape; machine =
-        record { sealed = a.sealed.items; writing = a.writing; low = a.low.items; readers = l } })
-        (map-set reader_of a.readers.items i r)
+    ap (λ (l : List Reader). record {
+      shape = a.shape;
+      machine =
+          record { sealed = a.sealed.items; writing = a.writing; low = a.low.items; readers = l };
+    })
+    (map-set reader_of a.readers.items i r)
     ∙ ap (λ (x : CoreState). record x { machine = with_reader x.machine i (reader_of r) }) is
 
 pub invariant_of-self : goal.invariant_of-self

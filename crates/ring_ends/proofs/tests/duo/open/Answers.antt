@@ -12,10 +12,10 @@ invariant_of-result c = let opened = c.in-Ok.ensures in let count = opened.count
     let one : all ≡ drop 0 all = refl in
     let rest = left_over all all c.remove.new.self.items 0 (Some a.0) a.1 one c.remove.ensures.items in
     let first : a.0 ≡ c.in_ok-first.first = ap (λ (o : Option ReaderPass). unwrap_or o a.0)
-        (sym (removed all all 0 (Some a.0) c.remove.result a.1 one c.remove.ensures.value) ∙ c.in_ok-first.was) in
+    (sym (removed all all 0 (Some a.0) c.remove.result a.1 one c.remove.ensures.value) ∙ c.in_ok-first.was) in
     let second : b.0 ≡ c.in_ok-second.second = ap (λ (o : Option ReaderPass). unwrap_or o b.0)
-        (sym (removed all c.remove.new.self.items 1 (Some b.0) c.remove-2.result b.1 rest c.remove-2.ensures.value)
-        ∙ c.in_ok-second.was) in
+    (sym (removed all c.remove.new.self.items 1 (Some b.0) c.remove-2.result b.1 rest c.remove-2.ensures.value)
+    ∙ c.in_ok-second.was) in
     record {
       size = ap (λ (z : RingShape). z.size) opened.shape ∙ c.requires.size;
       writes = opened.writer.0;

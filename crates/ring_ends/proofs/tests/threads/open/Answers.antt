@@ -10,19 +10,19 @@ pub invariant_of-result : goal.invariant_of-result
 invariant_of-result c = let opened = c.in-Ok.ensures in let count = opened.count in let three = c.requires.three in
     let all : List (Option ReaderPass) = c.in-Ok.readers.items in
     let a = opened.readers 0 (omega arith) in let b = opened.readers 1 (omega arith) in
-        let d = opened.readers 2 (omega arith) in
+    let d = opened.readers 2 (omega arith) in
     let one : all ≡ drop 0 all = refl in
     let two = left_over all all c.remove.new.self.items 0 (Some a.0) a.1 one c.remove.ensures.items in
     let rest = left_over all c.remove.new.self.items c.remove-2.new.self.items 1
-        (Some b.0) b.1 two c.remove-2.ensures.items in
+    (Some b.0) b.1 two c.remove-2.ensures.items in
     let first : a.0 ≡ c.in_ok-first.first = ap (λ (o : Option ReaderPass). unwrap_or o a.0)
-        (sym (removed all all 0 (Some a.0) c.remove.result a.1 one c.remove.ensures.value) ∙ c.in_ok-first.was) in
+    (sym (removed all all 0 (Some a.0) c.remove.result a.1 one c.remove.ensures.value) ∙ c.in_ok-first.was) in
     let second : b.0 ≡ c.in_ok-second.second = ap (λ (o : Option ReaderPass). unwrap_or o b.0)
-        (sym (removed all c.remove.new.self.items 1 (Some b.0) c.remove-2.result b.1 two c.remove-2.ensures.value)
-        ∙ c.in_ok-second.was) in
+    (sym (removed all c.remove.new.self.items 1 (Some b.0) c.remove-2.result b.1 two c.remove-2.ensures.value)
+    ∙ c.in_ok-second.was) in
     let third : d.0 ≡ c.in_ok-third.third = ap (λ (o : Option ReaderPass). unwrap_or o d.0)
-        (sym (removed all c.remove-2.new.self.items 2 (Some d.0) c.remove-3.result d.1 rest c.remove-3.ensures.value)
-        ∙ c.in_ok-third.was) in
+    (sym (removed all c.remove-2.new.self.items 2 (Some d.0) c.remove-3.result d.1 rest c.remove-3.ensures.value)
+    ∙ c.in_ok-third.was) in
     record {
       size = ap (λ (z : RingShape). z.size) opened.shape ∙ c.requires.size;
       readers = ap (λ (z : RingShape). z.readers) opened.shape ∙ c.requires.three;

@@ -9,7 +9,7 @@ pub store-requires : goal.store-requires
 store-requires c = let t = c.args.self.now in let r = c.args.reader.now in let s = r.seat in let wide = t.wide in
     let word = c.count_word_of.ensures in let got = some_of (reader_of s.me.0).got c.requires.got in
     let near : r.number < t.shape.readers = subst (λ (z : RingShape).
-        r.number < z.readers) c.requires.seat.1 r.in_range in (
+    r.number < z.readers) c.requires.seat.1 r.in_range in (
       c.requires.seat.0,
       omega arith,
       clears_at t.table.shared.key t.shape t.keyed t.table.shared.table_id.slots s.id t.deep s.me

@@ -16,7 +16,7 @@ new-requires c = let n : ℕ = c.args.shape.buffers + c.args.shape.readers in
     starts c.args.shape c.as_slice.result.now c.in_ok-blocks.blocks.items c.requires
     (ap (λ (l : List ℕ). length l) words ∙ length-replicate n 0)
     (λ i near. let long : length c.as_slice.result.now ≡ n = ap (λ (l : List ℕ). length l) words
-        ∙ length-replicate n 0 in ap (λ (l : List ℕ). get_or l i 0) words ∙ get_or-replicate n i 0 0 (omega arith))
+    ∙ length-replicate n 0 in ap (λ (l : List ℕ). get_or l i 0) words ∙ get_or-replicate n i 0 0 (omega arith))
     c.in_ok-blocks.ensures.count
     (each_room c.args.shape.size c.in_ok-blocks.blocks.items c.in_ok-blocks.ensures.room)
 
@@ -24,9 +24,9 @@ pub invariant_of-writer-clause-parks : goal.invariant_of-writer-clause-parks
 invariant_of-writer-clause-parks c = let seat = ap (λ (m : Me Block View). m.0) c.in-Ok.ensures.ok.4 in
     let long = length-listed (λ (i : ℕ). Some (fresh_reader c.args.shape i)) c.args.shape.readers in
     ap (λ (v : View). length (writer_of v).parked) seat
-        ∙ (long ∙ sym (ap (λ (v : View). (writer_of v).shape.readers) seat))
+    ∙ (long ∙ sym (ap (λ (v : View). (writer_of v).shape.readers) seat))
 
 pub invariant_of-writer-clause-lows : goal.invariant_of-writer-clause-lows
 invariant_of-writer-clause-lows c = let seat = ap (λ (m : Me Block View). m.0) c.in-Ok.ensures.ok.4 in
     ap (λ (v : View). length (writer_of v).low) seat ∙ (length-replicate c.args.shape.readers 0
-        ∙ sym (ap (λ (v : View). (writer_of v).shape.readers) seat))
+    ∙ sym (ap (λ (v : View). (writer_of v).shape.readers) seat))
