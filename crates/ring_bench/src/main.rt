@@ -89,7 +89,8 @@ fn measure<R: Threads + Sync + AllocGlobal + Print + Clock>(rt: &R, way: Way) ->
 // Prints what came of readers that detach, attach and retire.
 fn show_soak<R: Threads + Sync + AllocGlobal + Print>(rt: &R) -> io::Result<()> {
     match soak(rt, SOAKED) {
-        Ok([stayed, returned, left]) => {
+        Ok(got) => {
+            let [stayed, returned, left] = got;
             println!(rt; "soak of {SOAKED}: {stayed} to the reader that stays")?;
             println!(rt; "{returned} to the one that detaches, {left} to the one that retires")
         }

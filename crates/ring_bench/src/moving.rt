@@ -13,7 +13,28 @@ use ring_ends::{EndedReader, Finished, ReaderPass, Ring, RingShape, WriterPass, 
 use std::alloc::{AllocError, Global};
 use std::thread::Threads;
 
-// Gives each reader its job, the last reader first. Reader i goes on as the manner i modulo 3.
+// The job of a reader, with space of its own. Reader i goes on as the manner i modulo 3.
+fn open_job(
+    alloc: Global,
+    ring: &Ring,
+    pass: ReaderPass,
+    manners: [Manner; 3],
+    blocks: u64,
+) -> Result<Job, AllocError>
+    requires { ReadsFrom ring.now pass }
+    ensures { IfOk result (λ job. IsAt ring.now job) }
+{
+    let manner = manners[(pass.number() % 3) as usize];
+    let into = open_space(alloc, ring.shape().size)?;
+    Ok(Job {
+        pass,
+        into,
+        manner,
+        blocks,
+    })
+}
+
+// Gives each reader its job, the last reader first.
 fn open_jobs(
     alloc: Global,
     ring: &Ring,
@@ -24,18 +45,11 @@ fn open_jobs(
     requires { All (λ o. IsSomeAnd o (ReadsFrom ring.now)) readers.items }
     ensures { IfOk result (λ jobs. All (IsAt ring.now) jobs.items) }
 {
-    let size = ring.shape().size;
     let mut jobs = Vec::new(alloc);
     while let Some(next) = readers.pop() {
         let Some(pass) = next else { unreachable!() };
-        let manner = manners[(pass.number() % 3) as usize];
-        let into = open_space(alloc, size)?;
-        jobs.push(Job {
-            pass,
-            into,
-            manner,
-            blocks,
-        })?;
+        let job = open_job(alloc, ring, pass, manners, blocks)?;
+        jobs.push(job)?;
     }
     Ok(jobs)
 }
@@ -72,6 +86,16 @@ fn gather(ring: &Ring, mut done: Vec<Done>) -> Result<ArrayVec<Option<EndedReade
     Ok(readers)
 }
 
+// Ends a ring whose readers stand at the places of their numbers.
+fn end(ring: Ring, writer: WriterPass, readers: ArrayVec<Option<EndedReader>, 8>) -> Finished
+    requires writer { WritesTo ring writer }
+    requires readers { AreInOrder ring readers.items }
+    ensures { finished_shape result ≡ ring_shape ring }
+{
+    order_is_enough();
+    ring.finish(writer, readers)
+}
+
 // Moves so many blocks, and ends the ring.
 fn run<R: Threads + Sync + AllocGlobal>(
     rt: &R,
@@ -89,9 +113,8 @@ fn run<R: Threads + Sync + AllocGlobal>(
     let jobs = open_jobs(alloc, &ring, readers, manners, blocks)?;
     let space = open_space(alloc, shape.size)?;
     let (writer, done) = run_threads(rt, &ring, (writer, space), jobs, blocks);
-    let readers = gather(&ring, done?)?;
-    order_is_enough();
-    Ok(ring.finish(writer, readers))
+    let gathered = gather(&ring, done?)?;
+    Ok(end(ring, writer, gathered))
 }
 
 /// Moves so many blocks, and answers how many the slowest reader got.

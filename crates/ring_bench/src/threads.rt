@@ -30,7 +30,8 @@ fn is_full_of(block: &[u8], byte: u8) -> bool
 {
     let mut right = true;
     for b in block {
-        right &= *b == byte;
+        let same = *b == byte;
+        right = right && same;
     }
     right
 }

@@ -4,7 +4,7 @@ use Rattle.std.proofs.Common.{arith, refl, sym, ap, subst, ◌∙◌, drop, ne_e
 use Rattle.std.proofs.Math.Seq.{drop-append_seam}
 use Rattle.std.specs.Str.Parse.{digits_value}
 use Rattle.ring_core.specs.Machine.{Event}
-use Rattle.ring_trace.specs.Text.{Lacks, IsNumber, lines_of, with_byte}
+use Rattle.ring_trace.specs.Text.{Lacks, IsNumber, trace_lines, with_byte}
 use Rattle.ring_trace.specs.Events.{IsNumbered, AsksFor, ring_text}
 use Rattle.std.proofs.lemmas.Str.Parse.{digit_at}
 
@@ -22,21 +22,21 @@ one_split s [] (x ∷ a') b b' lacks lacks' e = let h : x ≡ s = cc in absurd (
 one_split s (x ∷ a) [] b b' lacks lacks' e = let h : x ≡ s = cc in absurd (lacks 0 (omega arith) h)
 one_split s (x ∷ a) (y ∷ a') b b' lacks lacks' e =
     let rest = one_split s a a' b b' (lacks_rest s x a lacks) (lacks_rest s y a' lacks') cc in let h : x ≡ y = cc in
-        let t = rest.0 in (cc, rest.1)
+    let t = rest.0 in (cc, rest.1)
 
 if_false : (b : Bool) (xs ys : List (List ℕ)) → b ≡ false → (if b then xs else ys) ≡ ys
 if_false true xs ys e = cc
 if_false false xs ys e = refl
 
 -- a line up to its line feed, and the lines after it
-pub lines_split : (line text : List ℕ) → Lacks 10 line → lines_of (line ++ 10 ∷ text) ≡ line ∷ lines_of text
+pub lines_split : (line text : List ℕ) → Lacks 10 line → trace_lines (line ++ 10 ∷ text) ≡ line ∷ trace_lines text
 lines_split [] text lacks = refl
 lines_split (b ∷ line) text lacks =
     if_false (b == 10) _ _ (ne_eqb b 10 (lacks 0 (omega arith)))
     ∙ ap (with_byte b) (lines_split line text (lacks_rest 10 b line lacks))
 
 -- a last line that lacks its line feed
-pub lines_last : (line : List ℕ) → 0 < length line → Lacks 10 line → lines_of line ≡ line ∷ []
+pub lines_last : (line : List ℕ) → 0 < length line → Lacks 10 line → trace_lines line ≡ line ∷ []
 lines_last [] some lacks = absurd (omega arith)
 lines_last (b ∷ []) some lacks = if_false (b == 10) _ _ (ne_eqb b 10 (lacks 0 (omega arith)))
 lines_last (b ∷ c ∷ line) some lacks =
@@ -89,9 +89,9 @@ NoReader readers word line = (i : ℕ) → IsNumbered word line i → ¬ (i < re
 -- a line that is none of the forms asks for no event
 pub no_event : (readers : ℕ) (line : List ℕ) → line ≢ codes "take" → ((n : ℕ) → ¬ IsNumbered (codes "seal") line n) →
     NoReader readers (codes "look") line → NoReader readers (codes "read") line →
-        NoReader readers (codes "give") line → NoReader readers (codes "clear") line →
+    NoReader readers (codes "give") line → NoReader readers (codes "clear") line →
     NoReader readers (codes "retire") line → NoReader readers (codes "detach") line →
-        NoReader readers (codes "attach") line →
+    NoReader readers (codes "attach") line →
     (event : Event ℕ) → ¬ AsksFor readers line event
 no_event readers line take seal look read give clear retire detach attach (Event.Look i) h = look i h.0 h.1
 no_event readers line take seal look read give clear retire detach attach Event.WriterTake h = take h

@@ -15,8 +15,8 @@ abbrev pub IsSilent : ℕ → Type 0
 IsSilent status = (status ≡ 2) ⊎ (status ≡ 5) ⊎ (status ≡ 6) ⊎ (status ≡ 8)
 
 -- a status at which the file was read whole, and lines of it were judged
-abbrev pub IsAnswered : ℕ → Type 0
-IsAnswered status = (status ≡ 0) ⊎ (status ≡ 3) ⊎ (status ≡ 10)
+abbrev pub IsReadWhole : ℕ → Type 0
+IsReadWhole status = (status ≡ 0) ⊎ (status ≡ 3) ⊎ (status ≡ 10)
 
 abbrev pub IsStatus : ℕ → Type 0
-IsStatus status = IsSilent status ⊎ IsAnswered status
+IsStatus status = IsSilent status ⊎ IsReadWhole status

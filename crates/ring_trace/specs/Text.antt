@@ -8,9 +8,9 @@ with_byte b [] = (b ∷ []) ∷ []
 with_byte b (line ∷ lines) = (b ∷ line) ∷ lines
 
 -- the lines of a text: each ends at a line feed, which the last may lack
-abbrev pub lines_of : List ℕ → List (List ℕ)
-lines_of [] = []
-lines_of (b ∷ text) = if b == 10 then [] ∷ lines_of text else with_byte b (lines_of text)
+abbrev pub trace_lines : List ℕ → List (List ℕ)
+trace_lines [] = []
+trace_lines (b ∷ text) = if b == 10 then [] ∷ trace_lines text else with_byte b (trace_lines text)
 
 -- none of the bytes is this one
 abbrev pub Lacks : ℕ → List ℕ → Type 0

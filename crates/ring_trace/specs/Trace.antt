@@ -1,11 +1,10 @@
 -- A whole trace, and the answers to it.
-use Rattle.std.specs.Prelude.{◌≡◌, ◌⊎◌, ⊤, ℕ, List, [], ◌∷◌, ◌++◌, Option}
+use Rattle.std.specs.Prelude.{◌≡◌, ◌⊎◌, ⊤, ℕ, List, [], ◌∷◌, ◌++◌}
 use Rattle.std.specs.List.{flat_map}
-use Rattle.std.specs.Io.KnownBytes.{append_known}
-use Rattle.psr_base.specs.Written.{SinkSeen, WroteFront}
+use Rattle.psr_base.specs.Written.{SinkSeen, WroteAll, WroteFront}
 use Rattle.ring_core.specs.Machine.{Machine, Event, Answer, Runs, at_first}
 use Rattle.ring_core.specs.declared.Shape.{Shape}
-use Rattle.ring_trace.specs.Text.{lines_of}
+use Rattle.ring_trace.specs.Text.{trace_lines}
 use Rattle.ring_trace.specs.Events.{IsRingLine, AsksFor, answer_line}
 
 -- each line asks for one of the events, in order
@@ -29,16 +28,16 @@ pub record IsWhole (file text : List ℕ) : Type 0 where
   pub shape : Shape
   pub first : List ℕ
   pub lines : List (List ℕ)
-  pub of_file : lines_of file ≡ first ∷ lines
+  pub of_file : trace_lines file ≡ first ∷ lines
   pub ring : IsRingLine first shape
   pub answered : IsAnswered shape lines text
 
 -- there is no first line, or it has not its form
 abbrev pub HasNoRing : List ℕ → Type 0
 HasNoRing file =
-    (lines_of file ≡ [])
-    ⊎ ((first : List ℕ) × (lines : List (List ℕ)) × (lines_of file ≡ first ∷ lines)
-        × ((shape : Shape) → ¬ IsRingLine first shape))
+    (trace_lines file ≡ [])
+    ⊎ ((first : List ℕ) × (lines : List (List ℕ)) × (trace_lines file ≡ first ∷ lines)
+    × ((shape : Shape) → ¬ IsRingLine first shape))
 
 -- a later line has not its form, and the text answers the lines before the first such line
 pub record IsCutAt (file text : List ℕ) : Type 0 where
@@ -47,7 +46,7 @@ pub record IsCutAt (file text : List ℕ) : Type 0 where
   pub lines : List (List ℕ)
   pub bad : List ℕ
   pub later : List (List ℕ)
-  pub of_file : lines_of file ≡ first ∷ (lines ++ bad ∷ later)
+  pub of_file : trace_lines file ≡ first ∷ (lines ++ bad ∷ later)
   pub ring : IsRingLine first shape
   pub answered : IsAnswered shape lines text
   pub asks_for_none : (event : Event ℕ) → ¬ AsksFor shape.readers bad event
@@ -57,16 +56,16 @@ abbrev pub IsCut : List ℕ → List ℕ → Type 0
 IsCut file text = (HasNoRing file × (text ≡ [])) ⊎ IsCutAt file text
 
 -- the answers to all lines of the file were appended
-pub record AppendsAll (file : List ℕ) (old new : Option (List ℕ)) : Type 0 where
+pub record AppendsAll (file : List ℕ) (old new : SinkSeen) : Type 0 where
   pub text : List ℕ
   pub whole : IsWhole file text
-  pub written : new ≡ append_known old text
+  pub wrote : WroteAll text old new
 
 -- the answers to the lines before the first that has not its form were appended
-pub record AppendsCut (file : List ℕ) (old new : Option (List ℕ)) : Type 0 where
+pub record AppendsCut (file : List ℕ) (old new : SinkSeen) : Type 0 where
   pub text : List ℕ
   pub cut : IsCut file text
-  pub written : new ≡ append_known old text
+  pub wrote : WroteAll text old new
 
 -- the front of those answers was appended
 pub record AppendsFront (file : List ℕ) (old new : SinkSeen) : Type 0 where

@@ -18,9 +18,11 @@ pub(crate) fn read_file<I: Inputs>(
     ensures whole { IfOk result (λ bytes. ForSome ((I.told inputs.old).bytes_under name.now)
         (λ file. bytes.items ≡ file)) }
     ensures within { IfOk result (λ bytes. vec_len bytes ≤ MOST_BYTES) }
-    ensures too_long { result ≡ Err DataFault.TooLong → ForSome ((I.told inputs.old).bytes_under name.now)
-        (λ file. MOST_BYTES < length file) }
-    ensures failed { result ≡ Err DataFault.Failed → Rose (I.faults inputs.old) (I.faults inputs.new) }
+    ensures too_long { result ≡ Err DataFault.TooLong
+        → ForSome ((I.told inputs.old).bytes_under name.now) (λ file. MOST_BYTES < length file) }
+    ensures failed { result ≡ Err DataFault.Failed
+        → Rose (I.faults inputs.old) (I.faults inputs.new) }
+    ensures quiet { result ≢ Err DataFault.Failed → I.faults inputs.new ≡ I.faults inputs.old }
     ensures count { I.faults inputs.old ≤ I.faults inputs.new }
     ensures serves { I.is_calm inputs.old → IsSome ((I.told inputs.old).bytes_under name.now)
         → result ≢ Err DataFault.Failed }

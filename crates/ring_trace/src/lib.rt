@@ -5,7 +5,7 @@ ghost use Rattle.std.specs.Prelude.{◌≡◌, ◌≢◌, ◌<◌, ◌≤◌, �
 ghost use Rattle.std.specs.Option.{ForSome};
 ghost use Rattle.psr_base.specs.Count.{Rose};
 ghost use Rattle.ring_trace.specs.Trace.{AppendsAll, AppendsCut, AppendsFront};
-ghost use Rattle.ring_trace.specs.Run.{file_told, IsSilent, IsAnswered, IsStatus};
+ghost use Rattle.ring_trace.specs.Run.{file_told, IsSilent, IsReadWhole, IsStatus};
 
 mod answers;
 mod file;
@@ -46,21 +46,22 @@ pub fn run_trace<I: Inputs, K: Sink>(
 
     // The answers to all lines, to those before the first that has not its form, or a front of them.
     ensures whole { result ≡ 0 → ForSome (file_told (I.told inputs.old) words.now)
-        (λ file. AppendsAll file (K.seen out.old).written (K.seen out.new).written) }
+        (λ file. AppendsAll file (K.seen out.old) (K.seen out.new)) }
     ensures cut { result ≡ 3 → ForSome (file_told (I.told inputs.old) words.now)
-        (λ file. AppendsCut file (K.seen out.old).written (K.seen out.new).written) }
+        (λ file. AppendsCut file (K.seen out.old) (K.seen out.new)) }
     ensures front { result ≡ 10 → ForSome (file_told (I.told inputs.old) words.now)
         (λ file. AppendsFront file (K.seen out.old) (K.seen out.new)) }
-    ensures silent { IsSilent result → (K.seen out.new).written ≡ (K.seen out.old).written }
+    ensures silent { IsSilent result → K.seen out.new ≡ K.seen out.old }
 
     // Where the others come from.
     ensures words { (result ≡ 2) ↔ (length words.now ≢ 2) }
     ensures inputs { result ≡ 6 → Rose (I.faults inputs.old) (I.faults inputs.new) }
+    ensures inputs_quiet { result ≢ 6 → I.faults inputs.new ≡ I.faults inputs.old }
     ensures calm { I.is_calm inputs.old → IsSome (file_told (I.told inputs.old) words.now)
         → result ≢ 6 }
     ensures long { result ≡ 8 → ForSome (file_told (I.told inputs.old) words.now)
         (λ file. 1048576 < length file) }
-    ensures short { IsAnswered result → ForSome (file_told (I.told inputs.old) words.now)
+    ensures short { IsReadWhole result → ForSome (file_told (I.told inputs.old) words.now)
         (λ file. length file ≤ 1048576) }
     ensures out { result ≡ 10 → Rose ((K.seen out.old).faults) ((K.seen out.new).faults) }
     ensures inputs_count { I.faults inputs.old ≤ I.faults inputs.new }

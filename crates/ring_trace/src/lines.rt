@@ -37,8 +37,8 @@ fn ring_words(line: &[u8]) -> Option<(&[u8], &[u8], &[u8])>
         ≡ ring_text words.0.now words.1.now words.2.now) }
     ensures first { IfSome result (λ words. Lacks 32 words.0.now) }
     ensures second { IfSome result (λ words. Lacks 32 words.1.now) }
-    ensures none { IfNone result ((buffers readers blocks : List ℕ) → Lacks 32 buffers → Lacks 32 readers
-        → line.now ≢ ring_text buffers readers blocks) }
+    ensures none { IfNone result ((buffers readers blocks : List ℕ)
+        → Lacks 32 buffers → Lacks 32 readers → line.now ≢ ring_text buffers readers blocks) }
 {
     let Some(rest) = after(line, b"ring ") else {
         return None;

@@ -1,7 +1,7 @@
 // A trace, replayed line by line.
 ghost use Rattle.std.specs.Prelude.{◌≡◌, ℕ, List, [], true, false, IfOk};
 ghost use Rattle.ring_core.specs.Machine as machine;
-ghost use Rattle.ring_trace.specs.Text.{lines_of};
+ghost use Rattle.ring_trace.specs.Text.{trace_lines};
 ghost use Rattle.ring_trace.specs.Events.{AsksFor};
 ghost use Rattle.ring_trace.specs.Trace.{IsWhole, IsCut};
 ghost use Rattle.ring_trace.specs.Replay.{IsStep, IsReplayed, ReplaysSome};
@@ -51,9 +51,9 @@ fn answer_all(
     readers: u32,
 ) -> Result<Answers, AllocError>
     ensures whole { IfOk result (λ answers. answers.is_whole ≡ true
-        → IsReplayed readers core.old (lines_of lines.now) core.new answers.text.items) }
+        → IsReplayed readers core.old (trace_lines lines.now) core.new answers.text.items) }
     ensures cut { IfOk result (λ answers. answers.is_whole ≡ false
-        → ReplaysSome readers core.old (lines_of lines.now) core.new answers.text.items) }
+        → ReplaysSome readers core.old (trace_lines lines.now) core.new answers.text.items) }
 {
     let mut text = Vec::new(alloc);
     let mut rest = lines;

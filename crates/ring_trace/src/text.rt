@@ -1,7 +1,7 @@
 // The lines and the numbers of a text of bytes.
 ghost use Rattle.std.specs.Prelude.{◌≡◌, ◌≢◌, ℕ, ◌<◌, ◌++◌, ◌∷◌, length, SomeIff, IfSome, IfNone};
 ghost use Rattle.std.specs.Str.Parse.{digits_value};
-ghost use Rattle.ring_trace.specs.Text.{Lacks, IsNumber, lines_of};
+ghost use Rattle.ring_trace.specs.Text.{Lacks, IsNumber, trace_lines};
 
 /// What stands before the first `byte`, and what stands after it.
 pub(crate) fn split_at_first(text: &[u8], byte: u8) -> Option<(&[u8], &[u8])>
@@ -20,7 +20,7 @@ pub(crate) fn split_at_first(text: &[u8], byte: u8) -> Option<(&[u8], &[u8])>
 /// The first line of a text that has one, and what comes after it.
 pub(crate) fn first_line(text: &[u8]) -> (&[u8], &[u8])
     requires { 0 < length text.now }
-    ensures lines { lines_of text.now ≡ result.0.now ∷ lines_of result.1.now }
+    ensures lines { trace_lines text.now ≡ result.0.now ∷ trace_lines result.1.now }
     ensures shorter { length result.1.now < length text.now }
 {
     match split_at_first(text, b'\n') {

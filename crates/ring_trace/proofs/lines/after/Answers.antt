@@ -15,6 +15,8 @@ parted text front None h = (tt, h)
 pub returns : goal.returns
 returns c =
     let h = parted c.args.text.now c.args.front.now c.strip_prefix.result
-        (strip_prefix_is (λ a b. (eqb-true a b,
-        eq-eqb a b)) c.args.text.now c.args.front.now c.strip_prefix.result c.strip_prefix.ensures.cases) in
+    (strip_prefix_is (λ a b. (
+      eqb-true a b,
+      eq-eqb a b,
+    )) c.args.text.now c.args.front.now c.strip_prefix.result c.strip_prefix.ensures.cases) in
     record { some = h.0; none = h.1 }

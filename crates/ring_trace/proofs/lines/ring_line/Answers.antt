@@ -12,7 +12,7 @@ found : (line b r n : List ℕ) (shape : Shape) → line ≡ ring_text b r n →
     (q : IsRingLine line shape) → (b ≡ q.buffers) × (r ≡ q.readers) × (n ≡ q.blocks)
 found line b r n shape is lacks lacks' q =
     one_ring b r n q.buffers q.readers q.blocks lacks lacks' (lacks_space q.buffers q.numbers.0)
-        (lacks_space q.readers q.numbers.1) (sym is ∙ q.words)
+    (lacks_space q.readers q.numbers.1) (sym is ∙ q.words)
 
 pub returns-in_default-clause-none : goal.returns-in_default-clause-none
 returns-in_default-clause-none c shape q = c.in_default.ensures.none q.buffers q.readers q.blocks
@@ -41,8 +41,12 @@ returns-clause-some c = some_by c.shape.result _ _
       blocks = c.in-Some.blocks.now;
       words = c.in-Some.ensures.words;
       numbers = (c.in-Some-number.ensures.0, c.in-Some-number-2.ensures.0, c.in-Some-number-3.ensures.0);
-      values = (buffers ∙ c.in-Some-number.ensures.1, readers ∙ c.in-Some-number-2.ensures.1, blocks
-          ∙ c.in-Some-number-3.ensures.1);
+      values = (
+        buffers ∙ c.in-Some-number.ensures.1,
+        readers ∙ c.in-Some-number-2.ensures.1,
+        blocks
+            ∙ c.in-Some-number-3.ensures.1,
+      );
       in_range = in_range;
     })
     c.shape.ensures.some

@@ -9,7 +9,7 @@ pub returns-in_default-split_at_first-clause-none : goal.returns-in_default-spli
 returns-in_default-split_at_first-clause-none c buffers readers blocks lacks lacks' is =
     let P : List ℕ → Type 0 = λ t. Lacks 32 t in
     has_byte 32 buffers _ (subst P (same_rest (codes "ring ") _ _
-        (sym c.in-Some.ensures.some ∙ is)) c.in_default-split_at_first.ensures.none)
+    (sym c.in-Some.ensures.some ∙ is)) c.in_default-split_at_first.ensures.none)
 
 pub returns-in-None-clause-none : goal.returns-in-None-clause-none
 returns-in-None-clause-none c buffers readers blocks lacks lacks' is =

@@ -33,7 +33,7 @@ pub loop-byte-preserved : goal.loop-byte-preserved
 loop-byte-preserved c =
     let more = digits_value_more 10 c.args.text.now c.loop-byte.byte-index c.loop-byte-test.true in
     let value = c.loop-byte.invariant.value in let tens = c.in-Some-checked_mul.ensures.1 in
-        let sum = c.in-Some-checked_add.ensures.1 in
+    let sum = c.in-Some-checked_add.ensures.1 in
     let digit = c.in-Some.ensures.value.1 ∙ ap digit_value c.from.ensures in let same = c.from-in-loop-byte.ensures in
     let P : ℕ → Type 0 = λ b. digit_value b < 10 in record {
       digits = below_more _ _ c.loop-byte.invariant.digits (subst P c.from.ensures c.in-Some.ensures.value.0);
@@ -48,8 +48,11 @@ returns c =
     let value : c.loop-byte.value ≡ digits_value 10 text = c.loop-byte.invariant.value ∙ ap (digits_value 10) all in
     let some : 0 < length text = grind (arith, nat_tests, c.is_empty.ensures, c.if-is_empty.false) in (
       record {
-        digits = (some, all_by_place text (λ k h. c.loop-byte.invariant.digits k
-            (let past = c.loop-byte-test.false in omega arith)));
+        digits = (
+          some,
+          all_by_place text (λ k h. c.loop-byte.invariant.digits k
+              (let past = c.loop-byte-test.false in omega arith)),
+        );
         few = let short = c.if-text-gt-MOST_DIGITS.false in omega arith;
         fits = let fits = c.loop-byte.invariant.fits in omega arith;
       },
