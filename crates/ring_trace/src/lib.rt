@@ -5,7 +5,7 @@ ghost use Rattle.std.specs.Prelude.{◌≡◌, ◌≢◌, ◌<◌, ◌≤◌, �
 ghost use Rattle.std.specs.Option.{ForSome};
 ghost use Rattle.psr_base.specs.Count.{Rose};
 ghost use Rattle.ring_trace.specs.Trace.{AppendsAll, AppendsCut, AppendsFront};
-ghost use Rattle.ring_trace.specs.Run.{file_told, IsSilent, IsReadWhole, IsStatus};
+ghost use Rattle.ring_trace.specs.Run.{Outcome, file_told, IsSilent, IsReadWhole, IsStatus};
 
 mod answers;
 mod file;
@@ -37,6 +37,24 @@ enum Status {
 /// file name, 6 where the file can't be read, 8 where it is too long, 5 for want of memory, 3
 /// where a line has not its form, 10 where `out` fails.
 pub fn run_trace<I: Inputs, K: Sink>(
+    alloc: Global,
+    words: &[String],
+    inputs: &mut I,
+    out: &mut K,
+) -> u8
+    ensures { Outcome words.now
+        (record {
+          told = I.told inputs.old;
+          faults_before = I.faults inputs.old;
+          faults_after = I.faults inputs.new;
+        })
+        (I.is_calm inputs.old) (K.seen out.old) (K.seen out.new) result }
+{
+    answer_words(alloc, words, inputs, out)
+}
+
+// The same, a clause for each cause.
+fn answer_words<I: Inputs, K: Sink>(
     alloc: Global,
     words: &[String],
     inputs: &mut I,
@@ -83,8 +101,7 @@ pub fn run_trace<I: Inputs, K: Sink>(
         return Status::Out as u8;
     }
     if answers.is_whole {
-        Status::Whole as u8
-    } else {
-        Status::Cut as u8
+        return Status::Whole as u8;
     }
+    Status::Cut as u8
 }

@@ -1,27 +1,19 @@
-use Rattle.std.proofs.Common.{◌≡◌, Bool, true, false, ◌⊎◌, inl, inr, List, ℕ, Result, Ok, Err, is_err, OnErr, refl, subst, rules}
-use Rattle.psr_base.specs.Written.{WroteFront}
-use Rattle.ring_trace.specs.Trace.{IsWhole, IsCut}
 use Rattle.ring_trace.proofs.run_trace.Goals as goal
 
-on_err : {T E : Type 0} (r : Result T E) (P : Type 0) → is_err r ≡ true → OnErr r P → P
-on_err (Ok x) P e p = absurd cc
-on_err (Err x) P e p = p
-
-either : (b : Bool) (P Q : Type 0) → (b ≡ true → P) → (b ≡ false → Q) → P ⊎ Q
-either true P Q p q = inl (p refl)
-either false P Q p q = inr (q refl)
-
-pub returns-then-is_err-clause-front : goal.returns-then-is_err-clause-front
-returns-then-is_err-clause-front g c = λ at x known.
-    let text = c.in-Ok-replay.answers.text.items in
-    let same : c.as_slice.result.now ≡ x = search rules in
-    let piece : c.as_slice-2.result.now ≡ text = search rules in
-    let P : List ℕ → Type 0 = λ t. WroteFront t (g.K.Sink.seen c.args.out.now) (g.K.Sink.seen c.write_all.new.sink) in
-    let Q : List ℕ → Type 0 = λ file. IsWhole file text ⊎ IsCut file text in
-    record {
-      text = text;
-      answers = subst Q same (either c.in-Ok-replay.answers.is_whole (IsWhole c.as_slice.result.now text)
-          (IsCut c.as_slice.result.now text) c.in-Ok-replay.ensures.whole c.in-Ok-replay.ensures.cut);
-      wrote = subst P piece (on_err c.write_all.result (P c.as_slice-2.result.now)
-          (search rules) c.write_all.ensures.front);
-    }
+pub returns : goal.returns
+returns g c = let e = c.answer_words.ensures in record {
+  known = e.known;
+  whole = e.whole;
+  cut = e.cut;
+  front = e.front;
+  silent = e.silent;
+  words_refused = e.words;
+  too_long = e.long;
+  short = e.short;
+  read_fault = e.inputs;
+  calm = e.calm;
+  inputs_quiet = e.inputs_quiet;
+  sink_fault = e.out;
+  inputs_count = e.inputs_count;
+  out_count = e.out_count;
+}
