@@ -22,9 +22,11 @@ impl Model for Book {
 
     ghost Value = { Booked };
 
-    ghost view = { λ book. record { limit = book.limit; kept = book.first.items; count = book.added } };
+    ghost view = { λ book.
+        record { limit = book.limit; kept = book.first.items; count = book.added } };
 
-    ghost invariant = { λ book. (vec_len book.first ≤ book.limit) × (book.limit ≤ vec_capacity book.first)
+    ghost invariant = { λ book. (vec_len book.first ≤ book.limit)
+        × (book.limit ≤ vec_capacity book.first)
         × (book.limit < 2 ^ 32) };
 }
 
@@ -43,7 +45,8 @@ impl Book {
     /// Counts a candidate, and keeps it where there are less than the limit.
     pub fn add(&mut self, candidate: Candidate)
         requires { self.old.count < 2 ^ 63 }
-        ensures { let limit = self.old.limit in (list : List Candidate) → self.old ≡ book_of limit list
+        ensures { let limit = self.old.limit in (list : List Candidate)
+            → self.old ≡ book_of limit list
             → self.new ≡ book_of limit (list ++ candidate ∷ []) }
     {
         self.added += 1;

@@ -90,7 +90,8 @@ fn push_word(line: &mut Line, number: u64)
 // Appends the last two numbers of a line, and its end.
 fn push_last_words(line: &mut Line, first: u64, second: u64)
     requires { length line.old + 42 ≤ 256 }
-    ensures text { line.new ≡ line.old ++ decimal first ++ codes " " ++ decimal second ++ codes "\n" }
+    ensures text { line.new
+        ≡ line.old ++ decimal first ++ codes " " ++ decimal second ++ codes "\n" }
     ensures bound { length line.new ≤ length line.old + 42 }
 {
     push_word(line, first);

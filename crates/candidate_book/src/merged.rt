@@ -30,7 +30,8 @@ impl Totals {
     // Counts a candidate.
     fn count(&mut self, candidate: &Candidate)
         requires { self.old.pulses + self.old.folds < 2 ^ 63 }
-        ensures pulses { self.new.pulses ≡ self.old.pulses + (if is_pulse candidate.now then 1 else 0) }
+        ensures pulses { self.new.pulses
+            ≡ self.old.pulses + (if is_pulse candidate.now then 1 else 0) }
         ensures folds { self.new.folds ≡ self.old.folds + (if is_fold candidate.now then 1 else 0) }
     {
         match candidate {

@@ -1,7 +1,7 @@
 //! Adds rows and folds series, again and again.
 //!
-//! With no words it does a little of each, and prints sums. With the words `rows LENGTH REPEATS` it adds rows of so many
-//! values, with `fold PERIOD HALVINGS REPEATS` it folds 2^HALVINGS rows of PERIOD values; it then prints the time.
+//! With no words it does a little of each, and prints sums. With the words `rows LENGTH REPEATS` it adds rows of so
+//! many values, with `fold PERIOD HALVINGS REPEATS` it folds 2^HALVINGS rows of PERIOD values; it then prints the time.
 #![tactic(auto)]
 
 mod work;
