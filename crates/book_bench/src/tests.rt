@@ -1,6 +1,6 @@
 // The merged text: what stands in it, in which order, and what a sink has of it that fails.
 use crate::checks::can_be_merged;
-use crate::made::{book_of, observation};
+use crate::made::{book_of, observation, seven_books};
 use candidate_book::{Book, Candidate, SinkStop, Totals, write_merged};
 use obs_plan::Observation;
 use psr_base::{MemSink, Memory};
@@ -128,20 +128,35 @@ fn books_are_merged_in_the_order_of_candidates(rt: HostRuntime) -> Result<(), Fa
 }
 
 #[test]
-fn a_sink_that_fails_has_a_front(rt: HostRuntime) -> Result<(), Fail> {
+fn a_narrow_sink_has_a_front(rt: HostRuntime) -> Result<(), Fail> {
     let Some(obs) = observation(rt.alloc()) else {
         return Err("an observation".into());
     };
     let books = two_books(rt.alloc())?;
     let text = text_of(rt.alloc(), &LINES)?;
-    let mut failing = MemSink::open(rt.alloc(), 1000, &[0])?;
-    assert_eq!(rt; write(&books, &obs, 10, &mut failing)?, None);
-    assert_eq!(rt; failing.body().len(), 0);
     let mut narrow = MemSink::open(rt.alloc(), 10, &[])?;
     assert_eq!(rt; write(&books, &obs, 10, &mut narrow)?, None);
     assert!(rt; text.as_slice().starts_with(narrow.body()));
     let mut exact = MemSink::open(rt.alloc(), text.len() as u64, &[])?;
     assert!(rt; write(&books, &obs, 10, &mut exact)?.is_some());
+    Ok(())
+}
+
+#[test]
+fn a_sink_that_fails_has_a_front(rt: HostRuntime) -> Result<(), Fail> {
+    let Some(obs) = observation(rt.alloc()) else {
+        return Err("an observation".into());
+    };
+    let books = seven_books(rt.alloc(), 60)?;
+    let mut whole = MemSink::open(rt.alloc(), 20000, &[])?;
+    assert!(rt; write(books.as_slice(), &obs, 60, &mut whole)?.is_some());
+    // The text is written in three calls.
+    for call in 0..3u64 {
+        let mut failing = MemSink::open(rt.alloc(), 20000, &[call])?;
+        assert_eq!(rt; write(books.as_slice(), &obs, 60, &mut failing)?, None);
+        assert!(rt; failing.body().len() < whole.body().len());
+        assert!(rt; whole.body().starts_with(failing.body()));
+    }
     Ok(())
 }
 
