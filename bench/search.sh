@@ -1,5 +1,5 @@
 #!/usr/bin/env bash
-# How long a search of noise takes: 256 channels, 4096 spectra, 257 delays, 404 million cells.
+# How long a search of noise takes: 256 channels, 4096 spectra, 257 delays, 390 million cells.
 set -eu
 cd "$(dirname "$0")/../crates/psr_search_main"
 cpu=$(grep -qw avx2 /proc/cpuinfo && echo --cpu=x86-64-v3 || true)

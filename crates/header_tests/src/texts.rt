@@ -74,7 +74,7 @@ fn the_first_field_with_a_keyword_gives_its_value(rt: HostRuntime) -> Result<(),
 
 #[test]
 fn bytes_have_a_size_or_their_first_refusal(rt: HostRuntime) -> Result<(), Fail> {
-    let cases: [(&[u8], usize, Result<usize, HeaderFault>); 27] = [
+    let cases: [(&[u8], usize, Result<usize, HeaderFault>); 42] = [
         (b"", 0, Err(HeaderFault::Short { had: 0 })),
         (b"", 4095, Err(HeaderFault::Short { had: 4095 })),
         (b"", 4096, Ok(4096)),
@@ -117,6 +117,25 @@ fn bytes_have_a_size_or_their_first_refusal(rt: HostRuntime) -> Result<(), Fail>
         (b"NCHAN 2\0\xff\n", 4096, Ok(4096)),
         (b"\xff", 4095, Err(HeaderFault::Short { had: 4095 })),
         (b"HDR_SIZE 1e3\n\xff", 4096, Err(HeaderFault::BadSize)),
+        (b"HDR_SIZE\t8192\n", 8192, Ok(8192)),
+        (b"HDR_SIZE 8192\r\n", 8192, Ok(8192)),
+        (b" \tHDR_SIZE\x0b8192\x0c\n", 8192, Ok(8192)),
+        (b"HDR_SIZE 8192\rHDR_SIZE 4096\n", 8192, Ok(8192)),
+        (b"HDR_SIZE 8192 4096\n", 8192, Ok(8192)),
+        (b"HDR_SIZE 8192", 8192, Ok(8192)),
+        (b"HDR_SIZE#x 8192\n", 8192, Ok(4096)),
+        (b"HDR_SIZE 8192#x\n", 8192, Ok(8192)),
+        (b"HDR_SIZE 81#92\n", 8192, Err(HeaderFault::BadSize)),
+        (b"HDR_SIZE # 4096\nHDR_SIZE 8192\n", 8192, Ok(8192)),
+        (b"HDR_SIZES 8192\n", 8192, Ok(4096)),
+        (b"hdr_size 8192\n", 8192, Ok(4096)),
+        (b"HDR_SIZE .\n", 4096, Err(HeaderFault::BadSize)),
+        (b"NCHAN \x7f\n", 4096, Ok(4096)),
+        (
+            b"\x80NCHAN 2\n",
+            4096,
+            Err(HeaderFault::NotText { place: 0 }),
+        ),
         (
             b"HDR_SIZE 8192\n\xff",
             4096,

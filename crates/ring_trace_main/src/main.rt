@@ -3,17 +3,28 @@
 
 use psr_base::{RealInputs, RealSink};
 use ring_trace::run_trace;
+use std::env;
+use std::io::ErrorKind;
 use std::process::ExitCode;
-use std::{env, io};
 
-fn words(rt: &HostRuntime) -> io::Result<Vec<String>> {
-    let words = env::args(rt)?.collect(rt.alloc())?;
-    Ok(words)
+/// The status of want of memory.
+const NO_MEMORY: u8 = 5;
+
+// The command words. Those that can't be had, as ones that are no UTF-8, are answered like faulty
+// words; `None` stands for want of memory.
+fn command_words(rt: &HostRuntime) -> Option<Vec<String>> {
+    let args = match env::args(rt) {
+        Ok(args) => args,
+        Err(error) if error.kind() == ErrorKind::OutOfMemory => return None,
+        Err(_) => return Some(Vec::new(rt.alloc())),
+    };
+    args.collect(rt.alloc()).ok()
 }
 
 fn main(rt: HostRuntime) -> ExitCode {
-    // Words that can't be had are answered like faulty ones.
-    let words = words(&rt).unwrap_or(Vec::new(rt.alloc()));
+    let Some(words) = command_words(&rt) else {
+        return ExitCode::from(NO_MEMORY);
+    };
     let mut inputs = RealInputs::new(&rt);
     let mut out = RealSink::out(&rt);
     let status = run_trace(rt.alloc(), words.as_slice(), &mut inputs, &mut out);
