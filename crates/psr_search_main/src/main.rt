@@ -3,9 +3,9 @@
 
 use psr_base::{RealInputs, RealSink, write_all};
 use psr_search::{Stop, run};
+use std::env;
 use std::io::ErrorKind;
 use std::process::ExitCode;
-use std::env;
 
 // The command words. Those that can't be had, as ones that are no UTF-8, are answered like faulty
 // words, and want of memory is told apart.
