@@ -1,9 +1,9 @@
--- One trial, and one block, more is merged.
-use Rattle.std.proofs.Common.{◌≡◌, ℕ, ◌+◌, ◌*◌, ◌/◌, ◌%◌, ◌<◌, ◌≤◌, inl, inr, List, length, slice_index, take, drop, ◌∙◌, ap, subst, arith}
+-- A pair of trials, and a block, more is merged.
+use Rattle.std.proofs.Common.{◌≡◌, ℕ, ◌+◌, ◌*◌, ◌/◌, ◌%◌, ◌<◌, ◌≤◌, inl, inr, List, length, slice_index, take, drop, ◌∙◌, refl, sym, ap, subst, arith}
 use Rattle.std.proofs.lemmas.Bool.{cases_lt}
 use Rattle.std.proofs.lemmas.List.{get_or-take, get_or-drop}
 use Rattle.std.proofs.lemmas.Nat.{mul-add-lt}
-use Rattle.std.proofs.Math.Nat.{add-mod-mod, mod-lt, mul-le-mul_right}
+use Rattle.std.proofs.Math.Nat.{mod-lt, mul-le-mul_right}
 use borrow.Rule.Slice.PartMut.{put_mid}
 use Rattle.fdmt_rows.specs.Rows.{wrapping_sum}
 use Rattle.fast_fold.specs.Merging.{AddsTurned, IsMerged, AreMerged, at, merged_at}
@@ -27,42 +27,68 @@ second_half halves p rows i n q phase le =
     ∙ get_or-drop (rows * p) halves (i * p + q) 0
     ∙ ap (λ k. slice_index halves k) (omega arith)
 
-pub trial_more : (old new first second halves : List ℕ) (p rows j n n' m : ℕ)
-    → 0 < p → j < 2 * rows → 2 * rows * p ≡ length old → length new ≡ n → n ≡ p → p ≤ n'
+-- a value of a trial that was added of the rows of both halves
+trial_of : (row first second halves : List ℕ) (p rows i n turn m q : ℕ)
+    → 0 < p → i < rows → q < p → p ≤ n → m ≡ p
     → first ≡ take (rows * p) halves → second ≡ drop (rows * p) halves
-    → m ≡ p
-    → AddsTurned new (take n' (drop (j / 2 * p) first)) (take n' (drop (j / 2 * p) second)) m ((j + 1) / 2 % p)
-    → IsMerged old halves p rows j
-    → IsMerged (put_mid (j * p) n old new) halves p rows (j + 1)
-trial_more old new first second halves p rows j n n' m phases lt long long_new whole le is_first is_second is_period
-    adds so_far i q below phase =
-    let room : (j + 1) * p ≤ 2 * rows * p = mul-le-mul_right p (let l : j + 1 ≤ 2 * rows = omega arith in l) in
-    elim (cases_lt i j) [
+    → AddsTurned row (take n (drop (i * p) first)) (take n (drop (i * p) second)) m turn
+    → slice_index row q ≡ wrapping_sum (at halves p (0 + i) q) (at halves p (rows + i) ((q + turn) % p))
+trial_of row first second halves p rows i n turn m q phases lt phase le is_period is_first is_second adds =
+    let inside : (q + turn) % p < p = mod-lt (q + turn) phases in
+    adds q (omega arith)
+    ∙ ap (λ m. wrapping_sum (slice_index (take n (drop (i * p) first)) q)
+    (slice_index (take n (drop (i * p) second)) ((q + turn) % m))) is_period
+    ∙ ap (λ xs. wrapping_sum (slice_index (take n (drop (i * p) xs)) q)
+    (slice_index (take n (drop (i * p) second)) ((q + turn) % p))) is_first
+    ∙ ap (λ x. wrapping_sum x (slice_index (take n (drop (i * p) second)) ((q + turn) % p)))
+    (first_half halves p rows i n q lt phase le)
+    ∙ ap (λ xs. wrapping_sum (at halves p (0 + i) q)
+    (slice_index (take n (drop (i * p) xs)) ((q + turn) % p))) is_second
+    ∙ ap (λ y. wrapping_sum (at halves p (0 + i) q) y)
+    (second_half halves p rows i n ((q + turn) % p) inside le)
+
+-- the row and the turn of a trial
+of_trial : (halves : List ℕ) (p rows i j turn q : ℕ) → i / 2 ≡ j → (i + 1) / 2 ≡ turn
+    → wrapping_sum (at halves p (0 + j) q) (at halves p (rows + j) ((q + turn) % p))
+    ≡ merged_at halves p 0 rows i q
+of_trial halves p rows i j turn q is_row is_turn = rw (is_row, is_turn) refl
+
+pub pair_more : (old new first second halves : List ℕ) (p rows j n n' m : ℕ)
+    → 0 < p → j < rows → 2 * rows * p ≡ length old → length new ≡ n → n ≡ 2 * p
+    → p ≤ n' → m ≡ p
+    → first ≡ take (rows * p) halves → second ≡ drop (rows * p) halves
+    → AddsTurned new (take n' (drop (j * p) first)) (take n' (drop (j * p) second)) m j
+    → AddsTurned (drop m new) (take n' (drop (j * p) first)) (take n' (drop (j * p) second)) m (j + 1)
+    → IsMerged old halves p rows (2 * j)
+    → IsMerged (put_mid (2 * (j * p)) n old new) halves p rows (2 * (j + 1))
+pair_more old new first second halves p rows j n n' m phases lt long long_new whole le is_period is_first is_second adds_even adds_odd so_far i q below phase =
+    let room : (j + 1) * p ≤ rows * p = mul-le-mul_right p (let l : j + 1 ≤ rows = omega arith in l) in
+    let merged = put_mid (2 * (j * p)) n old new in
+    let P : ℕ → Type 0 = λ i. at merged p i q ≡ merged_at halves p 0 rows i q in
+    elim (cases_lt i (2 * j)) [
       | inl h ↦
-          let fits : (i + 1) * p ≤ j * p = mul-le-mul_right p (let l : i + 1 ≤ j = omega arith in l) in
-          put_before (j * p) n old new (i * p + q) (omega arith) (omega arith)
+          let fits : (i + 1) * p ≤ 2 * j * p = mul-le-mul_right p (let l : i + 1 ≤ 2 * j = omega arith in l) in
+          put_before (2 * (j * p)) n old new (i * p + q) (omega arith) (omega arith)
           ∙ so_far i q h phase
-      | inr h ↦
-          let is : j ≡ i = omega arith in
-          let P : ℕ → Type 0 = λ i. at (put_mid (j * p) n old new) p i q ≡ merged_at halves p 0 rows i q in
-          let half : j / 2 < rows = omega arith in
-          let turn : ℕ = (j + 1) / 2 in
-          let turned : (q + turn % p) % m ≡ (q + turn) % p =
-          ap (λ m. (q + turn % p) % m) is_period ∙ add-mod-mod q turn p in
-          let inside : (q + turn) % p < p = mod-lt (q + turn) phases in
-          subst P is
-          (put_within (j * p) n old new (j * p + q) q (omega arith) (omega arith) (omega arith) long_new
-          ∙ adds q (omega arith)
-          ∙ ap (λ k. wrapping_sum (slice_index (take n' (drop (j / 2 * p) first)) q)
-          (slice_index (take n' (drop (j / 2 * p) second)) k)) turned
-          ∙ ap (λ xs. wrapping_sum (slice_index (take n' (drop (j / 2 * p) xs)) q)
-          (slice_index (take n' (drop (j / 2 * p) second)) ((q + turn) % p))) is_first
-          ∙ ap (λ x. wrapping_sum x (slice_index (take n' (drop (j / 2 * p) second)) ((q + turn) % p)))
-          (first_half halves p rows (j / 2) n' q half phase le)
-          ∙ ap (λ xs. wrapping_sum (at halves p (0 + j / 2) q)
-          (slice_index (take n' (drop (j / 2 * p) xs)) ((q + turn) % p))) is_second
-          ∙ ap (λ y. wrapping_sum (at halves p (0 + j / 2) q) y)
-          (second_half halves p rows (j / 2) n' ((q + turn) % p) inside le))
+      | inr h ↦ elim (cases_lt i (2 * j + 1)) [
+            | inl h' ↦
+                let is : 2 * j ≡ i = omega arith in
+                subst P is
+                (put_within (2 * (j * p)) n old new (2 * j * p + q) q (omega arith) (omega arith) (omega arith) long_new
+                ∙ trial_of new first second halves p rows j n' j m q phases lt phase le is_period is_first is_second
+                adds_even
+                ∙ of_trial halves p rows (2 * j) j j q (omega arith) (omega arith))
+            | inr h' ↦
+                let is : 2 * j + 1 ≡ i = omega arith in
+                subst P is
+                (put_within (2 * (j * p)) n old new ((2 * j + 1) * p + q) (p + q) (omega arith) (omega arith)
+                (omega arith) long_new
+                ∙ ap (λ k. slice_index new (k + q)) (sym is_period)
+                ∙ sym (get_or-drop m new q 0)
+                ∙ trial_of (drop m new) first second halves p rows j n' (j + 1) m q phases lt phase le is_period is_first
+                is_second adds_odd
+                ∙ of_trial halves p rows (2 * j + 1) j (j + 1) q (omega arith) (omega arith))
+          ]
     ]
 
 -- a value of a block, in the whole

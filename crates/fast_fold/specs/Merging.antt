@@ -2,10 +2,14 @@
 use Rattle.std.specs.Prelude.{ℕ, ◌+◌, ◌*◌, ◌/◌, ◌%◌, ◌≡◌, ◌<◌, List, slice_index}
 use Rattle.fdmt_rows.specs.Rows.{wrapping_sum}
 
--- each value of a row is one of `first` and one of `second`, which is turned within itself, added
-abbrev pub AddsTurned : List ℕ → List ℕ → List ℕ → ℕ → ℕ → Type 0
-AddsTurned out first second p turn = (q : ℕ) → q < p
+-- each of the first values of a row is one of `first` and one of `second`, which is turned within itself, added
+abbrev pub AddsTurnedTo : ℕ → List ℕ → List ℕ → List ℕ → ℕ → ℕ → Type 0
+AddsTurnedTo end out first second p turn = (q : ℕ) → q < end
     → slice_index out q ≡ wrapping_sum (slice_index first q) (slice_index second ((q + turn) % p))
+
+-- each value of a row is such a sum
+abbrev pub AddsTurned : List ℕ → List ℕ → List ℕ → ℕ → ℕ → Type 0
+AddsTurned out first second p turn = AddsTurnedTo p out first second p turn
 
 -- phase q of row i
 abbrev pub at : List ℕ → ℕ → ℕ → ℕ → ℕ

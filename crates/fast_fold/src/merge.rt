@@ -1,19 +1,63 @@
 // Rows of sums, merged.
-ghost use Rattle.std.specs.Prelude.{◌≡◌, ◌+◌, ◌*◌, ◌^◌, ◌<◌, ◌≤◌, length};
+ghost use Rattle.std.specs.Prelude.{◌≡◌, ◌+◌, ◌*◌, ◌%◌, ◌^◌, ◌<◌, ◌≤◌, length, slice_index, drop};
+ghost use Rattle.fdmt_rows.specs.Rows.{wrapping_sum};
+ghost use Rattle.fdmt_rows.specs.Writes.{Writes};
 ghost use Rattle.fast_fold.specs.Merging.{AddsTurned, IsMerged, AreMerged};
 
 use fdmt_rows::add_rows;
 
-// Adds a row and another that is turned within itself: its value at `q + turn` goes to place `q`.
-fn add_turned(out: &mut [u32], first: &[u32], second: &[u32], turn: usize)
+// So many phases of two trials are made at a time, so that what both read is still at hand for the second.
+const PIECE: usize = 512;
+
+// Adds a part of a row and of another that is turned within itself: its value at `q + turn` goes to place `q`.
+fn add_turned(out: &mut [u32], first: &[u32], second: &[u32], turn: usize, from: usize, end: usize)
     requires first { length first.now ≡ length out.old }
     requires second { length second.now ≡ length out.old }
     requires turn { turn < length out.old }
-    ensures { AddsTurned out.new first.now second.now (length out.old) turn }
+    requires part { from ≤ end }
+    requires within { end ≤ length out.old }
+    ensures { Writes out.old out.new from end (λ q. wrapping_sum (slice_index first.now q)
+        (slice_index second.now ((q + turn) % length out.old))) }
 {
     let cut = out.len() - turn;
-    add_rows(&mut out[..cut], &first[..cut], &second[turn..]);
-    add_rows(&mut out[cut..], &first[cut..], &second[..turn]);
+    let (a, b) = (from.min(cut), end.min(cut));
+    add_rows(&mut out[a..b], &first[a..b], &second[a + turn..b + turn]);
+    let (c, d) = (from.max(cut), end.max(cut));
+    add_rows(&mut out[c..d], &first[c..d], &second[c - cut..d - cut]);
+}
+
+// Adds two rows twice; in `odd` the second is turned one phase more than in `even`.
+fn add_twice(even: &mut [u32], odd: &mut [u32], first: &[u32], second: &[u32], turn: usize)
+    requires phases { 0 < length even.old }
+    requires same { length odd.old ≡ length even.old }
+    requires first { length first.now ≡ length even.old }
+    requires second { length second.now ≡ length even.old }
+    requires small { turn < 2 ^ 32 }
+    ensures even { AddsTurned even.new first.now second.now (length even.old) turn }
+    ensures odd { AddsTurned odd.new first.now second.now (length even.old) (turn + 1) }
+{
+    let period = even.len();
+    let mut done = 0;
+    while done < period {
+        let end = done + PIECE.min(period - done);
+        add_turned(even, first, second, turn % period, done, end);
+        add_turned(odd, first, second, (turn + 1) % period, done, end);
+        done = end;
+    }
+}
+
+// Merges two rows into two neighbouring trials.
+fn merge_pair(pair: &mut [u32], first: &[u32], second: &[u32], turn: usize)
+    requires phases { 0 < length first.now }
+    requires size { length pair.old ≡ 2 * length first.now }
+    requires second { length second.now ≡ length first.now }
+    requires small { turn < 2 ^ 32 }
+    ensures even { AddsTurned pair.new first.now second.now (length first.now) turn }
+    ensures odd { AddsTurned (drop (length first.now) pair.new) first.now second.now (length first.now)
+        (turn + 1) }
+{
+    let (even, odd) = pair.split_at_mut(first.len());
+    add_twice(even, odd, first, second, turn);
 }
 
 // Merges a block of its halves, each of which has `rows` trials of `period` phases.
@@ -21,18 +65,17 @@ fn merge_block(out: &mut [u32], halves: &[u32], period: usize, rows: usize)
     requires phases { 0 < period }
     requires size { 2 * rows * period ≡ length out.old }
     requires same { length halves.now ≡ length out.old }
+    requires small { length out.old ≤ 2 ^ 32 }
     ensures { IsMerged out.new halves.now period rows (2 * rows) }
 {
     let (first, second) = halves.split_at(rows * period);
-    for j in 0..2 * rows {
-        let row = j * period;
-        let half = j / 2 * period;
-        let turn = (j + 1) / 2 % period;
-        add_turned(
-            &mut out[row..row + period],
+    for j in 0..rows {
+        let half = j * period;
+        merge_pair(
+            &mut out[2 * half..2 * half + 2 * period],
             &first[half..half + period],
             &second[half..half + period],
-            turn,
+            j,
         );
     }
 }

@@ -1,18 +1,32 @@
-use Rattle.std.proofs.Common.{ℕ, ◌≡◌, ◌-◌, length, drop, ◌++◌, refl, ◌∙◌, arith, length-append, length-drop}
-use Rattle.std.proofs.lemmas.List.{length-take-le}
-use Rattle.fast_fold.proofs.Parts.{part_length}
-use Rattle.fast_fold.proofs.Turned.{adds_turned}
+use Rattle.std.proofs.Common.{ℕ, ◌≡◌, ◌-◌, ◌+◌, ◌≤◌, length, ◌∙◌, arith}
+use borrow.Rule.Slice.PartMut.{put_mid}
+use Rattle.fast_fold.proofs.Parts.{part_length, put_length}
+use Rattle.fast_fold.proofs.Turned.{part_added, turned_part}
 use Rattle.fast_fold.proofs.merge.add_turned.Goals as goal
 
 pub returns : goal.returns
 returns c =
     let out = c.args.out.now in
-    let cut : ℕ = length out - c.args.turn in
-    let front : length c.add_rows.new.out ≡ cut = c.add_rows.auto.out ∙ length-take-le cut out (omega arith) in
-    let whole : length (c.add_rows.new.out ++ drop cut out) ≡ length out =
-    rw (length-append, length-drop) (omega arith) in
-    let back : length c.add_rows-2.new.out ≡ c.args.turn =
-    c.add_rows-2.auto.out ∙ part_length cut _ (c.add_rows.new.out ++ drop cut out) (omega arith) ∙ omega arith in
-    adds_turned out c.args.first.now c.args.second.now c.add_rows.new.out c.add_rows-2.new.out _ c.args.turn cut _ _ _
-    refl front (omega arith) c.requires.turn refl (omega arith) (omega arith) (omega arith)
-    c.add_rows.ensures.wrapping c.add_rows-2.ensures.wrapping
+    let a : ℕ = c.min-a.result in
+    let b : ℕ = c.min-b.result in
+    let e : ℕ = c.max-c.result in
+    let f : ℕ = c.max-d.result in
+    let turn : ℕ = c.args.turn in
+    let cut : ℕ = length out - turn in
+    let inside : a + (b - a) ≤ length out = omega (arith, c.min-a.ensures, c.min-b.ensures, c.requires.part) in
+    let inside' : e + (f - e) ≤ length out =
+    omega (arith, c.max-c.ensures, c.max-d.ensures, c.requires.part, c.requires.within) in
+    let a_b : a ≤ b = omega (arith, c.min-a.ensures, c.min-b.ensures, c.requires.part) in
+    let e_f : e ≤ f = omega (arith, c.max-c.ensures, c.max-d.ensures, c.requires.part) in
+    let mid = put_mid a (b - a) out c.add_rows.new.out in
+    let front : length c.add_rows.new.out ≡ b - a = c.add_rows.auto.out ∙ part_length a (b - a) out inside in
+    let long : length mid ≡ length out = put_length a (b - a) out c.add_rows.new.out inside front in
+    let back : length c.add_rows-2.new.out ≡ f - e =
+    c.add_rows-2.auto.out ∙ part_length e (f - e) mid (omega arith) in
+    turned_part out mid _ c.args.first.now c.args.second.now (length out) turn c.args.from c.args.end a b e f
+    c.requires.turn c.requires.part c.requires.within
+    c.min-a.ensures c.min-b.ensures c.max-c.ensures c.max-d.ensures
+    (part_added out c.args.first.now c.args.second.now c.add_rows.new.out a b _ (a + turn) _ _
+    a_b (omega arith) front (omega arith) (omega arith) (omega arith) c.add_rows.ensures.wrapping)
+    (part_added mid c.args.first.now c.args.second.now c.add_rows-2.new.out e f _ (e - cut) _ _
+    e_f (omega arith) back (omega arith) (omega arith) (omega arith) c.add_rows-2.ensures.wrapping)
