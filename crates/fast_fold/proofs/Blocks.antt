@@ -71,24 +71,24 @@ pair_more old new first second halves p rows j n n' m phases lt long long_new wh
           put_before (2 * (j * p)) n old new (i * p + q) (omega arith) (omega arith)
           ∙ so_far i q h phase
       | inr h ↦ elim (cases_lt i (2 * j + 1)) [
-            | inl h' ↦
-                let is : 2 * j ≡ i = omega arith in
-                subst P is
-                (put_within (2 * (j * p)) n old new (2 * j * p + q) q (omega arith) (omega arith) (omega arith) long_new
-                ∙ trial_of new first second halves p rows j n' j m q phases lt phase le is_period is_first is_second
-                adds_even
-                ∙ of_trial halves p rows (2 * j) j j q (omega arith) (omega arith))
-            | inr h' ↦
-                let is : 2 * j + 1 ≡ i = omega arith in
-                subst P is
-                (put_within (2 * (j * p)) n old new ((2 * j + 1) * p + q) (p + q) (omega arith) (omega arith)
-                (omega arith) long_new
-                ∙ ap (λ k. slice_index new (k + q)) (sym is_period)
-                ∙ sym (get_or-drop m new q 0)
-                ∙ trial_of (drop m new) first second halves p rows j n' (j + 1) m q phases lt phase le is_period is_first
-                is_second adds_odd
-                ∙ of_trial halves p rows (2 * j + 1) j (j + 1) q (omega arith) (omega arith))
-          ]
+        | inl h' ↦
+            let is : 2 * j ≡ i = omega arith in
+            subst P is
+            (put_within (2 * (j * p)) n old new (2 * j * p + q) q (omega arith) (omega arith) (omega arith) long_new
+            ∙ trial_of new first second halves p rows j n' j m q phases lt phase le is_period is_first is_second
+            adds_even
+            ∙ of_trial halves p rows (2 * j) j j q (omega arith) (omega arith))
+        | inr h' ↦
+            let is : 2 * j + 1 ≡ i = omega arith in
+            subst P is
+            (put_within (2 * (j * p)) n old new ((2 * j + 1) * p + q) (p + q) (omega arith) (omega arith)
+            (omega arith) long_new
+            ∙ ap (λ k. slice_index new (k + q)) (sym is_period)
+            ∙ sym (get_or-drop m new q 0)
+            ∙ trial_of (drop m new) first second halves p rows j n' (j + 1) m q phases lt phase le is_period is_first
+            is_second adds_odd
+            ∙ of_trial halves p rows (2 * j + 1) j (j + 1) q (omega arith) (omega arith))
+      ]
     ]
 
 -- a value of a block, in the whole

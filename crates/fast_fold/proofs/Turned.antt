@@ -48,26 +48,26 @@ pub turned_part : (old mid new first second : List ℕ) (p turn from end a b c d
     → Writes old new from end (λ q. wrapping_sum (slice_index first q) (slice_index second ((q + turn) % p)))
 turned_part old mid new first second p turn from end a b c d small part within is_a is_b is_c is_d front back = record {
   before = λ k lt. back.before k (omega arith) ∙ elim (cases_lt k a) [
-      | inl h ↦ front.before k h
-      | inr h ↦ front.after k (omega arith)
-    ];
+    | inl h ↦ front.before k h
+    | inr h ↦ front.after k (omega arith)
+  ];
   written = λ k ge lt. elim (cases_lt k (p - turn)) [
-      | inl h ↦
-          back.before k (omega arith)
-          ∙ front.written k (omega arith) (omega arith)
-          ∙ ap (λ i. wrapping_sum (slice_index first k) (slice_index second i))
-          (let is : a + turn + (k - a) ≡ turn + k = omega arith in
-          is ∙ sym (turned_before p turn k (omega arith)))
-      | inr h ↦
-          back.written k (omega arith) (omega arith)
-          ∙ ap (λ i. wrapping_sum (slice_index first k) (slice_index second i))
-          (let is : c - (p - turn) + (k - c) ≡ k - (p - turn) = omega arith in
-          is ∙ sym (turned_after p turn k (omega arith) small (omega arith)))
-    ];
+    | inl h ↦
+        back.before k (omega arith)
+        ∙ front.written k (omega arith) (omega arith)
+        ∙ ap (λ i. wrapping_sum (slice_index first k) (slice_index second i))
+        (let is : a + turn + (k - a) ≡ turn + k = omega arith in
+        is ∙ sym (turned_before p turn k (omega arith)))
+    | inr h ↦
+        back.written k (omega arith) (omega arith)
+        ∙ ap (λ i. wrapping_sum (slice_index first k) (slice_index second i))
+        (let is : c - (p - turn) + (k - c) ≡ k - (p - turn) = omega arith in
+        is ∙ sym (turned_after p turn k (omega arith) small (omega arith)))
+  ];
   after = λ k past. elim (cases_lt k d) [
-      | inl h ↦ back.before k (omega arith) ∙ front.after k (omega arith)
-      | inr h ↦ back.after k h ∙ front.after k (omega arith)
-    ];
+    | inl h ↦ back.before k (omega arith) ∙ front.after k (omega arith)
+    | inr h ↦ back.after k h ∙ front.after k (omega arith)
+  ];
 }
 
 -- one part more

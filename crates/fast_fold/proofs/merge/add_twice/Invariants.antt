@@ -1,4 +1,4 @@
-use Rattle.std.proofs.Common.{◌-◌, ◌+◌, ◌≡◌, ◌≤◌, length}
+use Rattle.std.proofs.Common.{◌-◌, ◌+◌, ◌≤◌}
 use Rattle.fast_fold.specs.Merging.{AddsTurnedTo}
 use Rattle.fast_fold.proofs.merge.add_twice.Given as goal
 
