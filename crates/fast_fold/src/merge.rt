@@ -20,10 +20,18 @@ fn add_turned(out: &mut [u32], first: &[u32], second: &[u32], turn: usize, from:
         (slice_index second.now ((q + turn) % length out.old))) }
 {
     let cut = out.len() - turn;
-    let (a, b) = (from.min(cut), end.min(cut));
-    add_rows(&mut out[a..b], &first[a..b], &second[a + turn..b + turn]);
-    let (c, d) = (from.max(cut), end.max(cut));
-    add_rows(&mut out[c..d], &first[c..d], &second[c - cut..d - cut]);
+    let (left, right) = (from.min(cut), end.min(cut));
+    add_rows(
+        &mut out[left..right],
+        &first[left..right],
+        &second[left + turn..right + turn],
+    );
+    let (left, right) = (from.max(cut), end.max(cut));
+    add_rows(
+        &mut out[left..right],
+        &first[left..right],
+        &second[left - cut..right - cut],
+    );
 }
 
 // Adds two rows twice; in `odd` the second is turned one phase more than in `even`.
