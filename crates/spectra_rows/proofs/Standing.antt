@@ -1,0 +1,165 @@
+-- What an unpacker stands for.
+use Rattle.std.proofs.Common.{◌≡◌, ℕ, ◌+◌, ◌-◌, ◌*◌, ◌/◌, ◌%◌, ◌<◌, ◌≤◌, Bool, true, false, List, ◌++◌, length, take, drop, slice_index, get_or, ◌∙◌, sym, ap, subst, arith, inl, inr, length-append}
+use Rattle.std.proofs.lemmas.Bool.{cases_lt}
+use Rattle.std.specs.List.{range_with_len}
+use Rattle.std.specs.Prelude.{map}
+use Rattle.std.proofs.Math.Nat.{div-mul-le_self, mul-le-mul_right}
+use Rattle.std.proofs.lemmas.Nat.{le-div, div-mul-add, div_below, div-add-mod', mod_below}
+use Rattle.std.proofs.lemmas.List.{length-take-le, length-drop, get_or-take, get_or-drop, drop-drop, drop-append-le}
+use Rattle.std.proofs.lemmas.List.FromFn.{length-map-range_with_len, get_or-map-range_with_len}
+use Rattle.search_model.specs.Samples.{sample_bytes, sample_at, samples_of}
+use Rattle.spectra_rows.specs.Unpacking.{Unpacking, AreValues, StandsFor, spectrum_bytes, whole_spectra, unpacked, with_bytes, without_spectra}
+use Rattle.spectra_rows.specs.Cells.{AreUnpacked, IsSound, cell, place_of}
+use Rattle.spectra_rows.proofs.Alike.{sample_alike, some_bytes}
+
+-- the place of a sample lies within the spectra
+pub within_spectra : (n t place count : ℕ) → place < n → t < count → t * n + place + 1 ≤ count * n
+within_spectra n t place count here low =
+    let next : t + 1 ≤ count = omega arith in
+    let part : (t + 1) * n ≤ count * n = mul-le-mul_right n next in
+    omega arith
+
+-- and so do its bytes
+pub within_bytes : (n s t place count limit : ℕ) → place < n → t < count → count * (n * s) ≤ limit
+    → (t * n + place) * s + s ≤ limit
+within_bytes n s t place count limit here low fits =
+    let part : (t * n + place + 1) * s ≤ count * n * s =
+    mul-le-mul_right s (within_spectra n t place count here low) in
+    omega arith
+
+place_below : (n c : ℕ) (is_falling : Bool) → c < n → place_of n is_falling c < n
+place_below n c true here = here
+place_below n c false here = omega arith
+
+-- rows stand for other bytes that agree as far as the spectra go
+pub cells_kept : (n : ℕ) (is_falling : Bool) (nbit npol chunk : ℕ) (a b rows : List ℕ) (count limit : ℕ)
+    → AreValues nbit npol → count * (n * sample_bytes nbit npol) ≤ limit
+    → ((k : ℕ) → k < limit → slice_index b k ≡ slice_index a k)
+    → AreUnpacked n is_falling nbit npol chunk a rows count → AreUnpacked n is_falling nbit npol chunk b rows count
+cells_kept n is_falling nbit npol chunk a b rows count limit values fits agree cells = λ c t here low.
+    let s = sample_bytes nbit npol in
+    let place = place_of n is_falling c in
+    let i = t * n + place in
+    let room = within_bytes n s t place count limit (place_below n c is_falling here) low fits in
+    cells c t here low
+    ∙ sym (sample_alike b a i i nbit npol values (λ k lt. agree (i * s + k) (omega arith)))
+
+-- ---- how many spectra
+
+quotient_of : (q w r n : ℕ) → r < w → n ≡ q * w + r → n / w ≡ q
+quotient_of q w r n small is = ap (λ x. x / w) is ∙ div-mul-add q w r small
+
+-- bytes to samples to spectra
+two_quotients : (q n s r length : ℕ) → 0 < s → r < n * s → length ≡ q * (n * s) + r → length / s / n ≡ q
+two_quotients q n s r length some small is =
+    let part = r / s in
+    let split : r / s * s + r % s ≡ r = div-add-mod' r s in
+    let rest : r % s < s = mod_below r s some in
+    let below : part < n = div_below r s n some small in
+    let samples : length / s ≡ q * n + part = quotient_of (q * n + part) s (r % s) length rest (omega arith) in
+    ap (λ x. x / n) samples ∙ div-mul-add q n part below
+
+module _ (n : ℕ) (is_falling : Bool) (nbit npol chunk spectrum filled ready : ℕ) (held rows : List ℕ)
+    (sound : IsSound n is_falling nbit npol chunk spectrum filled ready held rows) where
+  abbrev view : Unpacking
+  view = record {
+    channels = n;
+    is_falling = is_falling;
+    nbit = nbit;
+    npol = npol;
+    chunk = chunk;
+    pending = take filled held;
+  }
+
+  bytes_held : length (take filled held) ≡ filled
+  bytes_held =
+      let room = sound.held_room in
+      let within = sound.within in
+      length-take-le filled held (omega arith)
+
+  pub ready_is : ready ≡ whole_spectra view
+  ready_is =
+      let whole = sound.whole in
+      let part = sound.part in
+      let is : length (take filled held) ≡ ready * spectrum + (filled - ready * spectrum) = bytes_held ∙ omega arith in
+      sym (ap (λ w. length (take filled held) / w) (sym sound.spectrum_is)
+      ∙ quotient_of ready spectrum (filled - ready * spectrum) _ (omega arith) is)
+
+  -- the bytes that are given up, and those that are held
+  all_bytes : (bytes : List ℕ) (gone : ℕ) → StandsFor view bytes gone → length bytes ≡ gone * spectrum + filled
+  all_bytes bytes gone stands =
+      let g : gone * (n * sample_bytes nbit npol) ≡ gone * spectrum = ap (λ w. gone * w) (sym sound.spectrum_is) in
+      let given = stands.given_up in
+      let rest : filled ≡ length bytes - gone * (n * sample_bytes nbit npol) =
+      sym bytes_held ∙ ap length stands.kept ∙ length-drop (gone * (n * sample_bytes nbit npol)) bytes in
+      omega arith
+
+  pub spectra_are : (bytes : List ℕ) (gone : ℕ) → StandsFor view bytes gone
+      → (unpacked view bytes).spectra ≡ gone + ready
+  spectra_are bytes gone stands =
+      let s = sample_bytes nbit npol in
+      let all = all_bytes bytes gone stands in
+      let is = sound.spectrum_is in
+      let whole = sound.whole in
+      let part = sound.part in
+      let w : (gone + ready) * (n * s) ≡ (gone + ready) * spectrum = ap (λ w. (gone + ready) * w) (sym is) in
+      ap (λ x. x / n) (length-map-range_with_len (λ k. sample_at nbit npol bytes k) 0 (length bytes / s))
+      ∙ two_quotients (gone + ready) n s (filled - ready * spectrum) (length bytes) (some_bytes nbit npol sound.values)
+      (omega arith) (omega arith)
+
+  pub cells_are : (bytes : List ℕ) (gone c t : ℕ) → StandsFor view bytes gone → c < n → t < whole_spectra view
+      → slice_index rows (c * chunk + t) ≡ (unpacked view bytes).value c (gone + t)
+  cells_are bytes gone c t stands here low =
+      let s = sample_bytes nbit npol in
+      let place = place_of n is_falling c in
+      let inside = place_below n c is_falling here in
+      let i = t * n + place in
+      let j = (gone + t) * n + place in
+      let is = sound.spectrum_is in
+      let whole = sound.whole in
+      let small : t < ready = omega (arith, ready_is, low) in
+      let w : ready * (n * s) ≡ ready * spectrum = ap (λ w. ready * w) (sym is) in
+      let room = within_bytes n s t place ready filled inside small (omega arith) in
+      let all = all_bytes bytes gone stands in
+      let v : gone * (n * s) ≡ gone * spectrum = ap (λ w. gone * w) (sym is) in
+      let some = some_bytes nbit npol sound.values in
+      let there : j + 1 ≤ length bytes / s = le-div (j + 1) (length bytes) s some (omega arith) in
+      sound.cells c t here small
+      ∙ sample_alike held bytes i j nbit npol sound.values
+      (λ k lt.
+      let e : gone * (n * s) + (i * s + k) ≡ j * s + k = omega arith in
+      sym (get_or-take filled held (i * s + k) 0 (omega arith))
+      ∙ ap (λ xs. slice_index xs (i * s + k)) stands.kept
+      ∙ get_or-drop (gone * (n * s)) bytes (i * s + k) 0
+      ∙ ap (λ x. slice_index bytes x) e)
+      ∙ sym (get_or-map-range_with_len (λ k. sample_at nbit npol bytes k) 0 (length bytes / s) j j 0 (omega arith)
+      (omega arith))
+
+-- ---- what the calls leave
+
+pub more_bytes : (u : Unpacking) (piece before : List ℕ) (gone : ℕ) → StandsFor u before gone
+    → StandsFor (with_bytes u piece) (before ++ piece) gone
+more_bytes u piece before gone stands = record {
+  given_up =
+      let given = stands.given_up in
+      let long = length-append before piece in
+      omega arith;
+  kept = ap (λ xs. xs ++ piece) stands.kept
+      ∙ sym (drop-append-le (gone * spectrum_bytes u) before piece stands.given_up);
+}
+
+pub fewer_bytes : (u : Unpacking) (bytes : List ℕ) (gone : ℕ) → StandsFor u bytes gone
+    → StandsFor (without_spectra u) bytes (gone + whole_spectra u)
+fewer_bytes u bytes gone stands =
+    let w = spectrum_bytes u in
+    let q = whole_spectra u in
+    let sum : gone * w + q * w ≡ (gone + q) * w = omega arith in
+    record {
+      given_up =
+          let given = stands.given_up in
+          let part : q * w ≤ length u.pending = div-mul-le_self (length u.pending) w in
+          let rest : length u.pending ≡ length bytes - gone * w = ap length stands.kept ∙ length-drop (gone * w) bytes in
+          omega arith;
+      kept = ap (λ xs. drop (q * w) xs) stands.kept ∙ drop-drop (q * w) (gone * w) bytes
+          ∙ ap (λ k. drop k bytes) sum;
+    }

@@ -1,0 +1,10 @@
+//! Data bytes, cut anywhere, as rows of samples: a row for each channel, from the highest frequency down.
+#![tactic(auto)]
+
+mod held;
+mod layout;
+mod rows;
+mod samples;
+mod unpacker;
+
+pub use unpacker::Unpacker;

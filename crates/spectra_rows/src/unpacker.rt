@@ -1,0 +1,135 @@
+// Bytes that are pushed, as rows.
+ghost use Rattle.std.specs.Prelude.{◌≡◌, ℕ, ◌+◌, ◌-◌, ◌*◌, ◌<◌, ◌≤◌, ◌⊎◌, ◌++◌, List, [], length, take, min, slice_index, IfOk};
+ghost use Rattle.spectra_rows.specs.Unpacking.{Unpacking, StandsFor, spectrum_bytes, whole_spectra, unpacked, opened, with_bytes, without_spectra};
+ghost use Rattle.spectra_rows.specs.Cells.{IsSound};
+
+use crate::held::{give_up, hold};
+use crate::layout::Layout;
+use crate::rows::unpack;
+use psr_base::Memory;
+use std::alloc::Global;
+use std::marker::Model;
+
+/// Data bytes that are pushed in pieces, as rows of samples of up to a chunk of spectra.
+#[derive(Drop)]
+pub struct Unpacker {
+    layout: Layout,
+    spectrum: usize,
+    held: Vec<u8>,
+    filled: usize,
+    ready: usize,
+    rows: Vec<u32>,
+}
+
+impl Model for Unpacker {
+    ghost Value = { Unpacking };
+
+    ghost view = { λ u. record {
+      channels = u.layout.channels;
+      is_falling = u.layout.is_falling;
+      nbit = u.layout.nbit;
+      npol = u.layout.npol;
+      chunk = u.layout.chunk;
+      pending = take u.filled u.held.items;
+    } };
+
+    ghost invariant = { λ u. IsSound u.layout.channels u.layout.is_falling u.layout.nbit u.layout.npol
+        u.layout.chunk u.spectrum u.filled u.ready u.held.items u.rows.items };
+}
+
+impl Unpacker {
+    /// Takes the memory for up to `chunk` spectra of so many channels, whose frequency falls along a spectrum
+    /// or rises, of values of `nbit` bits and `npol` polarisations.
+    pub fn open(
+        alloc: Global,
+        channels: u32,
+        falling: bool,
+        nbit: u32,
+        npol: u32,
+        chunk: u32,
+    ) -> Result<Unpacker, Memory>
+        requires some_channels { 2 ≤ channels }
+        requires most_channels { channels ≤ 4096 }
+        requires bits { (nbit ≡ 8) ⊎ (nbit ≡ 16) }
+        requires polarisations { (npol ≡ 1) ⊎ (npol ≡ 2) }
+        requires some_spectra { 1 ≤ chunk }
+        requires most_spectra { chunk ≤ 65536 }
+        ensures opened { IfOk result (λ u. u ≡ opened channels falling nbit npol chunk) }
+        ensures nothing { IfOk result (λ u. StandsFor u [] 0) }
+    {
+        let layout = Layout {
+            channels: channels as usize,
+            is_falling: falling,
+            nbit,
+            npol,
+            chunk: chunk as usize,
+        };
+        let spectrum = layout.channels * (layout.npol as usize * (layout.nbit as usize / 8));
+        Ok(Unpacker {
+            layout,
+            spectrum,
+            held: vec![in alloc; 0; layout.chunk * spectrum]?,
+            filled: 0,
+            ready: 0,
+            rows: vec![in alloc; 0; layout.channels * layout.chunk]?,
+        })
+    }
+
+    /// Takes bytes until `chunk` spectra are whole or all bytes are taken, and answers how many it took. A part
+    /// of a spectrum is kept.
+    pub fn push(&mut self, bytes: &[u8]) -> usize
+        ensures count { result ≡ min (self.old.chunk * spectrum_bytes self.old
+            - length self.old.pending) (length bytes.now) }
+        ensures holds { self.new ≡ with_bytes self.old (take result bytes.now) }
+        ensures pieces { (before : List ℕ) (gone : ℕ) → StandsFor self.old before gone
+            → StandsFor self.new (before ++ take result bytes.now) gone }
+    {
+        let count = (self.held.len() - self.filled).min(bytes.len());
+        hold(self.held.as_mut_slice(), self.filled, &bytes[..count]);
+        self.filled += count;
+        let ready = self.filled / self.spectrum;
+        unpack(
+            self.rows.as_mut_slice(),
+            self.held.as_slice(),
+            self.layout,
+            self.ready,
+            ready,
+        );
+        self.ready = ready;
+        count
+    }
+
+    /// How many whole spectra are held: those that were pushed and not given up.
+    pub fn spectra(&self) -> u32
+        ensures whole { result ≡ whole_spectra self.now }
+        ensures room { result ≤ self.now.chunk }
+        ensures counts { (bytes : List ℕ) (gone : ℕ) → StandsFor self.now bytes gone
+            → (unpacked self.now bytes).spectra ≡ gone + result }
+    {
+        self.ready as u32
+    }
+
+    /// The samples of the spectra that are held: a row of `chunk` places for each channel, the highest frequency
+    /// first. The values past the spectra that are held mean nothing.
+    pub fn rows(&self) -> &[u32]
+        ensures long { length result.now ≡ self.now.channels * self.now.chunk }
+        ensures samples { (bytes : List ℕ) (gone c t : ℕ) → StandsFor self.now bytes gone
+            → c < self.now.channels → t < whole_spectra self.now
+            → slice_index result.now (c * self.now.chunk + t)
+            ≡ (unpacked self.now bytes).value c (gone + t) }
+    {
+        self.rows.as_slice()
+    }
+
+    /// Gives up the whole spectra that are held. A part of a spectrum is kept.
+    pub fn taken(&mut self)
+        ensures part { self.new ≡ without_spectra self.old }
+        ensures given_up { (bytes : List ℕ) (gone : ℕ) → StandsFor self.old bytes gone
+            → StandsFor self.new bytes (gone + whole_spectra self.old) }
+    {
+        let start = self.ready * self.spectrum;
+        give_up(self.held.as_mut_slice(), start, self.filled);
+        self.filled -= start;
+        self.ready = 0;
+    }
+}
