@@ -163,3 +163,63 @@ fewer_bytes u bytes gone stands =
       kept = ap (λ xs. drop (q * w) xs) stands.kept ∙ drop-drop (q * w) (gone * w) bytes
           ∙ ap (λ k. drop k bytes) sum;
     }
+
+-- an unpacker that holds `count` bytes more, and has unpacked all whole spectra
+pub filled_on : (n : ℕ) (is_falling : Bool) (nbit npol chunk spectrum filled ready : ℕ) (held rows : List ℕ)
+    → IsSound n is_falling nbit npol chunk spectrum filled ready held rows
+    → (count : ℕ) (more given kept before after left : List ℕ)
+    → kept ≡ more → left ≡ after → given ≡ more → before ≡ rows
+    → length more ≡ length held → length after ≡ length before
+    → ((k : ℕ) → k < filled → slice_index more k ≡ slice_index held k)
+    → filled + count ≤ length held
+    → (AreUnpacked n is_falling nbit npol chunk given before ready
+    → AreUnpacked n is_falling nbit npol chunk given after ((filled + count) / spectrum))
+    → IsSound n is_falling nbit npol chunk spectrum (filled + count) ((filled + count) / spectrum) kept left
+filled_on n is_falling nbit npol chunk spectrum filled ready held rows sound count more given kept before after left
+    kept_is left_is given_is before_is long tall same fits turn =
+    let is = sound.spectrum_is in
+    let whole = sound.whole in
+    let room = sound.held_room in
+    let some = sound.some_bytes in
+    let total = filled + count in
+    let split : total / spectrum * spectrum + total % spectrum ≡ total = div-add-mod' total spectrum in
+    let rest : total % spectrum < spectrum = mod_below total spectrum some in
+    let w : ready * (n * sample_bytes nbit npol) ≡ ready * spectrum = ap (λ w. ready * w) (sym is) in
+    let old : AreUnpacked n is_falling nbit npol chunk more rows ready =
+    cells_kept n is_falling nbit npol chunk held more rows ready filled sound.values (omega arith) same sound.cells in
+    let Cells : List ℕ → List ℕ → ℕ → Type 0 = λ xs ys k. AreUnpacked n is_falling nbit npol chunk xs ys k in
+    let ready_before : Cells given before ready =
+    subst (λ (xs : List ℕ). Cells xs before ready) (sym given_is)
+    (subst (λ (ys : List ℕ). Cells more ys ready) (sym before_is) old) in
+    record {
+      some_channels = sound.some_channels;
+      most_channels = sound.most_channels;
+      some_spectra = sound.some_spectra;
+      most_spectra = sound.most_spectra;
+      values = sound.values;
+      spectrum_is = is;
+      some_bytes = some;
+      held_room = ap length kept_is ∙ long ∙ room;
+      rows_room = ap length left_is ∙ tall ∙ ap length before_is ∙ sound.rows_room;
+      within = omega arith;
+      whole = omega arith;
+      part = omega arith;
+      cells = subst (λ (xs : List ℕ). Cells xs left (total / spectrum)) (given_is ∙ sym kept_is)
+          (subst (λ (ys : List ℕ). Cells given ys (total / spectrum)) (sym left_is) (turn ready_before));
+    }
+
+-- the bytes behind the whole spectra, moved to the front
+pub view_without : (n : ℕ) (is_falling : Bool) (nbit npol chunk spectrum filled ready : ℕ) (held rows : List ℕ)
+    (sound : IsSound n is_falling nbit npol chunk spectrum filled ready held rows) (given moved kept : List ℕ)
+    → given ≡ held → kept ≡ moved
+    → take (filled - ready * spectrum) moved ≡ drop (ready * spectrum) (take filled given)
+    → take (filled - ready * spectrum) kept
+    ≡ (without_spectra (view n is_falling nbit npol chunk spectrum filled ready held rows sound)).pending
+view_without n is_falling nbit npol chunk spectrum filled ready held rows sound given moved kept given_is kept_is turn =
+    let q = ready_is n is_falling nbit npol chunk spectrum filled ready held rows sound in
+    let bytes : ready * spectrum
+    ≡ length (take filled held) / (n * sample_bytes nbit npol) * (n * sample_bytes nbit npol) =
+    ap (λ w. ready * w) sound.spectrum_is ∙ ap (λ k. k * (n * sample_bytes nbit npol)) q in
+    ap (λ xs. take (filled - ready * spectrum) xs) kept_is ∙ turn
+    ∙ ap (λ xs. drop (ready * spectrum) (take filled xs)) given_is
+    ∙ ap (λ k. drop k (take filled held)) bytes
