@@ -1,6 +1,6 @@
 -- Samples that are read from two lists of bytes.
-use Rattle.std.proofs.Common.{◌≡◌, ℕ, ◌+◌, ◌-◌, ◌*◌, ◌/◌, ◌<◌, ◌≤◌, ◌⊎◌, inl, inr, Bool, List, length, slice_index, ◌∙◌, sym, ap, subst, arith}
-use Rattle.search_model.specs.Samples.{sample_bytes, sample_at, value_at}
+use Rattle.std.proofs.Common.{◌≡◌, ℕ, ◌+◌, ◌*◌, ◌<◌, inl, inr, List, slice_index, ◌∙◌, sym, ap, subst, arith}
+use Rattle.search_model.specs.Samples.{sample_bytes, sample_at}
 use Rattle.spectra_rows.specs.Unpacking.{AreValues}
 
 -- there are four kinds of samples

@@ -1,15 +1,12 @@
 -- What an unpacker stands for.
-use Rattle.std.proofs.Common.{◌≡◌, ℕ, ◌+◌, ◌-◌, ◌*◌, ◌/◌, ◌%◌, ◌<◌, ◌≤◌, Bool, true, false, List, ◌++◌, length, take, drop, slice_index, get_or, ◌∙◌, sym, ap, subst, arith, inl, inr, length-append}
-use Rattle.std.proofs.lemmas.Bool.{cases_lt}
-use Rattle.std.specs.List.{range_with_len}
-use Rattle.std.specs.Prelude.{map}
+use Rattle.std.proofs.Common.{◌≡◌, ℕ, ◌+◌, ◌-◌, ◌*◌, ◌/◌, ◌%◌, ◌<◌, ◌≤◌, Bool, true, false, List, ◌++◌, length, take, drop, slice_index, ◌∙◌, sym, ap, subst, arith, length-append}
 use Rattle.std.proofs.Math.Nat.{div-mul-le_self, mul-le-mul_right}
 use Rattle.std.proofs.lemmas.Nat.{le-div, div-mul-add, div_below, div-add-mod', mod_below}
 use Rattle.std.proofs.lemmas.List.{length-take-le, length-drop, get_or-take, get_or-drop, drop-drop, drop-append-le}
 use Rattle.std.proofs.lemmas.List.FromFn.{length-map-range_with_len, get_or-map-range_with_len}
-use Rattle.search_model.specs.Samples.{sample_bytes, sample_at, samples_of}
+use Rattle.search_model.specs.Samples.{sample_bytes, sample_at}
 use Rattle.spectra_rows.specs.Unpacking.{Unpacking, AreValues, StandsFor, spectrum_bytes, whole_spectra, unpacked, with_bytes, without_spectra}
-use Rattle.spectra_rows.specs.Cells.{AreUnpacked, IsSound, cell, place_of}
+use Rattle.spectra_rows.specs.Cells.{AreUnpacked, IsSound, place_of}
 use Rattle.spectra_rows.proofs.Alike.{sample_alike, some_bytes}
 
 -- the place of a sample lies within the spectra

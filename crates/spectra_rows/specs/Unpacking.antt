@@ -1,5 +1,5 @@
 -- What contracts see of an unpacker, and the data bytes that it stands for.
-use Rattle.std.specs.Prelude.{ℕ, ◌+◌, ◌*◌, ◌/◌, ◌≡◌, ◌≤◌, ◌⊎◌, ◌++◌, Bool, List, [], length, drop}
+use Rattle.std.specs.Prelude.{ℕ, ◌*◌, ◌/◌, ◌≡◌, ◌≤◌, ◌⊎◌, ◌++◌, Bool, List, [], length, drop}
 use Rattle.search_model.specs.Samples.{Filterbank, sample_bytes, samples_of, filterbank}
 
 -- Spectra of so many channels; `pending` has the bytes of the spectra that are not given up, and of a part of a

@@ -1,4 +1,4 @@
-use Rattle.std.proofs.Common.{◌≡◌, ◌+◌, ◌*◌, refl, arith}
+use Rattle.std.proofs.Common.{◌+◌, ◌*◌, refl, arith}
 use Rattle.spectra_rows.proofs.Parts.{stored, eight}
 use Rattle.spectra_rows.proofs.rows.write_lanes.Goals as goal
 

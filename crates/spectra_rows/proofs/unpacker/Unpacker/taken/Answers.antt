@@ -1,4 +1,4 @@
-use Rattle.std.proofs.Common.{◌≡◌, ℕ, ◌+◌, ◌-◌, ◌*◌, ◌++◌, List, length, take, drop, ◌∙◌, sym, ap, subst, arith}
+use Rattle.std.proofs.Common.{◌≡◌, ℕ, ◌+◌, ◌-◌, ◌*◌, ◌++◌, List, length, take, drop, ◌∙◌, sym, ap, subst}
 use Rattle.std.proofs.lemmas.List.{take_at}
 use Rattle.spectra_rows.specs.Unpacking.{Unpacking, StandsFor, whole_spectra, without_spectra}
 use Rattle.spectra_rows.proofs.Standing.{view_without, fewer_bytes}
