@@ -1,0 +1,33 @@
+// Few bytes, of which the rows are plain to see.
+use psr_base::Memory;
+use spectra_rows::Unpacker;
+use std::process::Abort;
+
+#[test]
+fn a_part_of_a_spectrum_is_kept(rt: HostRuntime) -> Result<(), Memory> {
+    let mut unpacker = Unpacker::open(rt.alloc(), 3, true, 8, 1, 2)?;
+    assert_eq!(rt; unpacker.push(&[10, 0, 0, 20]), 4);
+    assert_eq!(rt; unpacker.spectra(), 1);
+    unpacker.taken();
+    assert_eq!(rt; unpacker.spectra(), 0);
+    assert_eq!(rt; unpacker.push(&[0, 30, 7]), 3);
+    assert_eq!(rt; unpacker.spectra(), 1);
+    let rows = unpacker.rows();
+    assert_eq!(rt; rows.len(), 6);
+    assert_eq!(rt; rows[0], 20);
+    assert_eq!(rt; rows[2], 0);
+    assert_eq!(rt; rows[4], 30);
+    Ok(())
+}
+
+#[test]
+fn two_channels_in_chunks_of_two(rt: HostRuntime) -> Result<(), Memory> {
+    let mut unpacker = Unpacker::open(rt.alloc(), 2, true, 8, 1, 2)?;
+    assert_eq!(rt; unpacker.push(&[10, 0, 0]), 3);
+    assert_eq!(rt; unpacker.spectra(), 1);
+    assert_eq!(rt; unpacker.push(&[20, 0, 0]), 1);
+    assert_eq!(rt; unpacker.rows(), [10_u32, 0, 0, 20].as_slice());
+    unpacker.taken();
+    assert_eq!(rt; unpacker.push(&[0, 0]), 2);
+    Ok(())
+}
