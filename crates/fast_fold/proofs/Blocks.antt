@@ -61,7 +61,8 @@ pub pair_more : (old new first second halves : List ℕ) (p rows j n n' m : ℕ)
     → AddsTurned (drop m new) (take n' (drop (j * p) first)) (take n' (drop (j * p) second)) m (j + 1)
     → IsMerged old halves p rows (2 * j)
     → IsMerged (put_mid (2 * (j * p)) n old new) halves p rows (2 * (j + 1))
-pair_more old new first second halves p rows j n n' m phases lt long long_new whole le is_period is_first is_second adds_even adds_odd so_far i q below phase =
+pair_more old new first second halves p rows j n n' m phases lt long long_new whole le is_period is_first is_second
+    adds_even adds_odd so_far i q below phase =
     let room : (j + 1) * p ≤ rows * p = mul-le-mul_right p (let l : j + 1 ≤ rows = omega arith in l) in
     let merged = put_mid (2 * (j * p)) n old new in
     let P : ℕ → Type 0 = λ i. at merged p i q ≡ merged_at halves p 0 rows i q in

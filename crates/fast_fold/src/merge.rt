@@ -61,8 +61,8 @@ fn merge_pair(pair: &mut [u32], first: &[u32], second: &[u32], turn: usize)
     requires second { length second.now ≡ length first.now }
     requires small { turn < 2 ^ 32 }
     ensures even { AddsTurned pair.new first.now second.now (length first.now) turn }
-    ensures odd { AddsTurned (drop (length first.now) pair.new) first.now second.now (length first.now)
-        (turn + 1) }
+    ensures odd { AddsTurned (drop (length first.now) pair.new) first.now second.now
+        (length first.now) (turn + 1) }
 {
     let (even, odd) = pair.split_at_mut(first.len());
     add_twice(even, odd, first, second, turn);

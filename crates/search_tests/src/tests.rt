@@ -7,7 +7,7 @@ use std::alloc::Global;
 use std::test::Fail;
 
 const OBSERVATION: &str =
-    "HDR_SIZE 4096\nNCHAN 2\nNBIT 8\nNPOL 1\nNDIM 1\nTSAMP 64\nFREQ 1400\nBW -200\nUTC_START 2024-01-02-03:04:05\nOBS_OFFSET 0\n";
+    "HDR_SIZE 4096\nNCHAN 2\nNBIT 8\nNPOL 1\nNDIM 1\nTSAMP 64\nFREQ 1400\nBW -200\nOBS_OFFSET 0\n";
 
 const PULSE: [u8; 6] = [10, 0, 0, 20, 0, 0];
 

@@ -18,7 +18,8 @@ four_kinds P a b c d nbit npol values = elim values.bits [
 ]
 
 pub some_bytes : (nbit npol : ℕ) → AreValues nbit npol → 0 < sample_bytes nbit npol
-some_bytes = four_kinds (λ nbit npol. 0 < sample_bytes nbit npol) (omega arith) (omega arith) (omega arith) (omega arith)
+some_bytes = four_kinds (λ nbit npol. 0 < sample_bytes nbit npol) (omega arith) (omega arith) (omega arith)
+    (omega arith)
 
 -- bytes of 8 bits and one polarisation are the samples
 pub plain_sample : (bytes : List ℕ) (i : ℕ) → slice_index bytes i ≡ sample_at 8 1 bytes i

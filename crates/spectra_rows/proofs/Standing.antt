@@ -155,7 +155,8 @@ fewer_bytes u bytes gone stands =
       given_up =
           let given = stands.given_up in
           let part : q * w ≤ length u.pending = div-mul-le_self (length u.pending) w in
-          let rest : length u.pending ≡ length bytes - gone * w = ap length stands.kept ∙ length-drop (gone * w) bytes in
+          let rest : length u.pending ≡ length bytes - gone * w = ap length stands.kept
+          ∙ length-drop (gone * w) bytes in
           omega arith;
       kept = ap (λ xs. drop (q * w) xs) stands.kept ∙ drop-drop (q * w) (gone * w) bytes
           ∙ ap (λ k. drop k bytes) sum;

@@ -33,8 +33,8 @@ impl Model for Unpacker {
       pending = take u.filled u.held.items;
     } };
 
-    ghost invariant = { λ u. IsSound u.layout.channels u.layout.is_falling u.layout.nbit u.layout.npol
-        u.layout.chunk u.spectrum u.filled u.ready u.held.items u.rows.items };
+    ghost invariant = { λ u. IsSound u.layout.channels u.layout.is_falling u.layout.nbit
+        u.layout.npol u.layout.chunk u.spectrum u.filled u.ready u.held.items u.rows.items };
 }
 
 impl Unpacker {

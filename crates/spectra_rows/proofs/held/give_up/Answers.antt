@@ -7,7 +7,8 @@ moved : (old new : List ℕ) (start filled : ℕ) → start ≤ filled → fille
     → take (filled - start) new ≡ drop start (take filled old)
 moved old new start filled order fits same is =
     let front : length (take filled old) ≡ filled = length-take-le filled old fits in
-    let mine : length (take (filled - start) new) ≡ filled - start = length-take-le (filled - start) new (omega arith) in
+    let mine : length (take (filled - start) new) ≡ filled - start =
+    length-take-le (filled - start) new (omega arith) in
     let theirs : length (drop start (take filled old)) ≡ filled - start =
     length-drop start (take filled old) ∙ ap (λ n. n - start) front in
     ext_get_or 0 _ _ (mine ∙ sym theirs)

@@ -11,7 +11,8 @@ invariant_of-self c =
     let rows_is : take f.rows.len (c.unpack.new.rows ++ drop (length c.unpack.new.rows) f.rows.items)
     ≡ c.unpack.new.rows =
     take_at c.unpack.new.rows _ f.rows.len (c.unpack.auto.rows ∙ c.as_mut_slice-2.ensures.len) in
-    filled_on f.layout.channels f.layout.is_falling f.layout.nbit f.layout.npol f.layout.chunk f.spectrum f.filled f.ready
+    filled_on f.layout.channels f.layout.is_falling f.layout.nbit f.layout.npol f.layout.chunk f.spectrum f.filled
+    f.ready
     f.held.items f.rows.items
     c.self.invariant c.min-count.result c.hold.new.held c.as_slice.result.now _ c.as_mut_slice-2.result.now
     c.unpack.new.rows _
