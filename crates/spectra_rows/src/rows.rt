@@ -1,4 +1,4 @@
-// Spectra into rows. Sixteen spectra are turned at a time, so that a row gets a whole line of the cache.
+// Spectra into rows. So many are turned at a time that a row gets whole lines of the cache.
 ghost use Rattle.std.specs.Prelude.{◌≡◌, ℕ, ◌+◌, ◌*◌, ◌<◌, ◌≤◌, length, slice_index};
 ghost use Rattle.search_model.specs.Samples.{sample_bytes};
 ghost use Rattle.spectra_rows.specs.Unpacking.{AreValues};
@@ -9,7 +9,7 @@ use crate::samples::sample;
 use std::simd::prelude::*;
 
 /// How many spectra are turned at a time.
-const BLOCK: usize = 16;
+const BLOCK: usize = 32;
 
 /// How many values are stored at a time.
 const LANES: usize = 8;
