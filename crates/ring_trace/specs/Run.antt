@@ -50,5 +50,6 @@ pub record Outcome (words : List (String Global)) (inputs : InputsSeen) (is_calm
   pub calm : is_calm → IsSome (file_told inputs.told words) → status ≢ 6
   pub inputs_quiet : status ≢ 6 → inputs.faults_after ≡ inputs.faults_before
   pub sink_fault : status ≡ 10 → Rose out_before.faults out_after.faults
+  pub out_quiet : status ≢ 10 → out_after.faults ≡ out_before.faults
   pub inputs_count : inputs.faults_before ≤ inputs.faults_after
   pub out_count : out_before.faults ≤ out_after.faults

@@ -5,20 +5,21 @@ ghost use Rattle.std.specs.Prelude.{◌≡◌, ◌≢◌, ◌<◌, ◌≤◌, �
 ghost use Rattle.std.specs.Option.{ForSome};
 ghost use Rattle.psr_base.specs.Count.{Rose};
 ghost use Rattle.ring_trace.specs.Trace.{AppendsAll, AppendsCut, AppendsFront};
-ghost use Rattle.ring_trace.specs.Run.{Outcome, file_told, IsSilent, IsReadWhole, IsStatus};
+ghost use Rattle.ring_trace.specs.Run.{Outcome, file_told, most_bytes, IsSilent, IsReadWhole, IsStatus};
 
 mod answers;
-mod file;
 mod lines;
 mod replay;
 #[cfg(test)]
 mod tests;
 mod text;
 
-use crate::file::read_file;
 use crate::replay::replay;
-use psr_base::{DataFault, Inputs, Sink, write_all};
+use psr_base::{DataFault, Inputs, Sink, read_file, write_all};
 use std::alloc::Global;
+
+/// The most bytes of a trace.
+const MOST_BYTES: usize = 1_048_576;
 
 /// How a run ends, as the program's status.
 enum Status {
@@ -78,17 +79,18 @@ fn answer_words<I: Inputs, K: Sink>(
     ensures calm { I.is_calm inputs.old → IsSome (file_told (I.told inputs.old) words.now)
         → result ≢ 6 }
     ensures long { result ≡ 8 → ForSome (file_told (I.told inputs.old) words.now)
-        (λ file. 1048576 < length file) }
+        (λ file. most_bytes < length file) }
     ensures short { IsReadWhole result → ForSome (file_told (I.told inputs.old) words.now)
-        (λ file. length file ≤ 1048576) }
+        (λ file. length file ≤ most_bytes) }
     ensures out { result ≡ 10 → Rose ((K.seen out.old).faults) ((K.seen out.new).faults) }
+    ensures out_quiet { result ≢ 10 → (K.seen out.new).faults ≡ (K.seen out.old).faults }
     ensures inputs_count { I.faults inputs.old ≤ I.faults inputs.new }
     ensures out_count { (K.seen out.old).faults ≤ (K.seen out.new).faults }
 {
     if words.len() != 2 {
         return Status::Words as u8;
     }
-    let file = match read_file(alloc, inputs, words[1].as_str()) {
+    let file = match read_file(alloc, inputs, words[1].as_str(), MOST_BYTES) {
         Ok(file) => file,
         Err(DataFault::Failed) => return Status::Inputs as u8,
         Err(DataFault::TooLong) => return Status::TooLong as u8,

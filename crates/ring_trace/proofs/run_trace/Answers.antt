@@ -14,6 +14,7 @@ returns g c = let e = c.answer_words.ensures in record {
   calm = e.calm;
   inputs_quiet = e.inputs_quiet;
   sink_fault = e.out;
+  out_quiet = e.out_quiet;
   inputs_count = e.inputs_count;
   out_count = e.out_count;
 }
