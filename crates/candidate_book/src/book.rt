@@ -45,9 +45,10 @@ impl Book {
     /// Counts a candidate, and keeps it where there are less than the limit.
     pub fn add(&mut self, candidate: Candidate)
         requires { self.old.count < 2 ^ 63 }
-        ensures { let limit = self.old.limit in (list : List Candidate)
+        ensures list { let limit = self.old.limit in (list : List Candidate)
             → self.old ≡ book_of limit list
             → self.new ≡ book_of limit (list ++ candidate ∷ []) }
+        ensures count { self.new.count ≡ self.old.count + 1 }
     {
         self.added += 1;
         if self.first.len() < self.limit as usize {
