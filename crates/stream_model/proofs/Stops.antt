@@ -4,9 +4,9 @@ use Rattle.std.specs.Prelude.{nat_lt, ◌==◌, if◌then◌else◌, filter_map}
 use Rattle.std.specs.List.{range_with_len, cons_option}
 use Rattle.std.proofs.lemmas.Bool.{cases_eq, ltb-false, le-ltb, eqb-true, eq-eqb}
 use Rattle.dada_model.specs.Fields.{HeaderText, HeaderRefusal, header_of, fields_of}
-use Rattle.dada_model.specs.Observation.{Observation}
 use Rattle.obs_plan.specs.Later.{profile_of, later_offset_of}
 use Rattle.obs_plan.specs.declared.fault.ObsFault.{ObsFault}
+use Rattle.obs_plan.specs.declared.profile.Profile.{Profile}
 use Rattle.stream_model.specs.WalkLaws.{Continues}
 use Rattle.stream_model.specs.Walk.{FileStream, file_at, begin_of, transfer_of, observation_at, WalkStop, Whole, Gap, TooLong, first_or_whole, first_of_two, header_stop, later_stop, offset_stop, length_stop, stop_at, data_between}
 
@@ -62,11 +62,11 @@ never_offset k expected (Ok found) = by_test (found == expected)
     by_test true = λ e. cc
     by_test false = λ e. cc
 
-never_later : (k : ℕ) (first : Observation) (before : ℕ) (r : Result HeaderText HeaderRefusal) →
-    later_stop k first before r ≢ Some Whole
-never_later k first before (Err refusal) = λ e. cc
-never_later k first before (Ok header) =
-    never_offset k (first.obs_offset + before) (later_offset_of (profile_of first) (fields_of header.text))
+never_later : (k : ℕ) (profile : Profile) (expected : ℕ) (r : Result HeaderText HeaderRefusal) →
+    later_stop k profile expected r ≢ Some Whole
+never_later k profile expected (Err refusal) = λ e. cc
+never_later k profile expected (Ok header) =
+    never_offset k expected (later_offset_of profile (fields_of header.text))
 
 never_two : (a b : Option WalkStop) → a ≢ Some Whole → b ≢ Some Whole → first_of_two a b ≢ Some Whole
 never_two (Some stop) b first second = first
@@ -80,9 +80,11 @@ never_long false k = λ e. cc
 pub never_whole : (s : FileStream) (k : ℕ) → stop_at s k ≢ Some Whole
 unfolding stop_at header_stop length_stop
 never_whole s k =
+    let begin = begin_of s (transfer_of s.starts k) in
+    let first = observation_at (file_at s begin) in
     never_two (header_stop s k) (length_stop s k)
-    (never_later k (observation_at (file_at s (begin_of s (transfer_of s.starts k))))
-    (length (data_between s.files (begin_of s (transfer_of s.starts k)) k)) (header_of (file_at s k)))
+    (never_later k (profile_of first) (first.obs_offset + length (data_between s.files begin k))
+    (header_of (file_at s k)))
     (never_long (nat_lt s.max_bytes (length (data_between s.files 0 (k + 1)))) k)
 
 -- ---- headers that continue
@@ -101,40 +103,40 @@ offset_goes_on k expected r is =
     ap (offset_stop k expected) is
     ∙ ap (λ (b : Bool). if b then None else Some (Gap k expected expected)) (eq-eqb expected expected refl)
 
-later_header : (k : ℕ) (first : Observation) (before : ℕ) (r : Result HeaderText HeaderRefusal) →
-    later_stop k first before r ≡ None → (header : HeaderText) × (r ≡ Ok header)
-    × (later_offset_of (profile_of first) (fields_of header.text) ≡ Ok (first.obs_offset + before))
-later_header k first before (Err refusal) none = absurd cc
-later_header k first before (Ok header) none = (
-  header,
-  refl,
-  goes_on k (first.obs_offset + before) (later_offset_of (profile_of first) (fields_of header.text))
-      none,
-)
+later_header : (k : ℕ) (profile : Profile) (expected : ℕ) (r : Result HeaderText HeaderRefusal) →
+    later_stop k profile expected r ≡ None → (header : HeaderText) × (r ≡ Ok header)
+    × (later_offset_of profile (fields_of header.text) ≡ Ok expected)
+later_header k profile expected (Err refusal) none = absurd cc
+later_header k profile expected (Ok header) none =
+    (header, refl, goes_on k expected (later_offset_of profile (fields_of header.text)) none)
+
+-- the OBS_OFFSET that is expected of file k of a transfer
+abbrev expected_at : FileStream → ℕ → ℕ → ℕ
+expected_at s t k =
+    (observation_at (file_at s (begin_of s t))).obs_offset + length (data_between s.files (begin_of s t) k)
+
+abbrev profile_at : FileStream → ℕ → Profile
+profile_at s t = profile_of (observation_at (file_at s (begin_of s t)))
 
 -- the header of a file, where its transfer is known
 pub stop_of_header : (s : FileStream) (t k : ℕ) → transfer_of s.starts k ≡ t →
-    header_stop s k ≡ later_stop k (observation_at (file_at s (begin_of s t)))
-    (length (data_between s.files (begin_of s t) k)) (header_of (file_at s k))
+    header_stop s k ≡ later_stop k (profile_at s t) (expected_at s t k) (header_of (file_at s k))
 unfolding header_stop
 stop_of_header s t k is =
-    ap (λ (n : ℕ). later_stop k (observation_at (file_at s (begin_of s n)))
-    (length (data_between s.files (begin_of s n) k)) (header_of (file_at s k))) is
+    ap (λ (n : ℕ). later_stop k (profile_at s n) (expected_at s n k) (header_of (file_at s k))) is
 
 pub continues : (s : FileStream) (t k : ℕ) → transfer_of s.starts k ≡ t → header_stop s k ≡ None → Continues s t k
 continues s t k is none =
-    let it = later_header k (observation_at (file_at s (begin_of s t)))
-    (length (data_between s.files (begin_of s t) k)) (header_of (file_at s k)) (sym (stop_of_header s t k is) ∙ none) in
+    let it = later_header k (profile_at s t) (expected_at s t k) (header_of (file_at s k))
+    (sym (stop_of_header s t k is) ∙ none) in
     record { header = it.0; is_header = it.1; goes_on = it.2 }
 
-pub none_of_continues : (s : FileStream) (t k : ℕ) → transfer_of s.starts k ≡ t → Continues s t k → header_stop s k ≡
-    None
+pub none_of_continues : (s : FileStream) (t k : ℕ) → transfer_of s.starts k ≡ t → Continues s t k →
+    header_stop s k ≡ None
 none_of_continues s t k is it =
-    let first = observation_at (file_at s (begin_of s t)) in
-    let before = length (data_between s.files (begin_of s t) k) in
     stop_of_header s t k is
-    ∙ ap (later_stop k first before) it.is_header
-    ∙ offset_goes_on k (first.obs_offset + before) _ it.goes_on
+    ∙ ap (later_stop k (profile_at s t) (expected_at s t k)) it.is_header
+    ∙ offset_goes_on k (expected_at s t k) _ it.goes_on
 
 -- ---- both stops
 

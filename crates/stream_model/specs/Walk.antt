@@ -8,6 +8,7 @@ use Rattle.dada_model.specs.Fields.{Field, fields_of, HeaderText, HeaderRefusal,
 use Rattle.dada_model.specs.Observation.{Observation, observation_in}
 use Rattle.obs_plan.specs.Later.{profile_of, later_offset_of}
 use Rattle.obs_plan.specs.declared.fault.ObsFault.{ObsFault}
+use Rattle.obs_plan.specs.declared.profile.Profile.{Profile}
 use Rattle.ring_blocks.specs.declared.Entry.{Entry}
 use Rattle.stream_model.specs.Blocks.{whole_stream, abandoned_stream}
 
@@ -76,18 +77,18 @@ abbrev pub offset_stop : ℕ → ℕ → Result ℕ ObsFault → Option WalkStop
 offset_stop k expected (Err fault) = Some (BadFields k fault)
 offset_stop k expected (Ok found) = if found == expected then None else Some (Gap k expected found)
 
--- what is wrong with a header that comes after so many data bytes of an observation
-abbrev pub later_stop : ℕ → Observation → ℕ → Result HeaderText HeaderRefusal → Option WalkStop
-later_stop k first before (Err refusal) = Some (BadText k refusal)
-later_stop k first before (Ok header) =
-    offset_stop k (first.obs_offset + before) (later_offset_of (profile_of first) (fields_of header.text))
+-- what is wrong with a header of an observation with this profile, where its OBS_OFFSET is expected to be this one
+abbrev pub later_stop : ℕ → Profile → ℕ → Result HeaderText HeaderRefusal → Option WalkStop
+later_stop k profile expected (Err refusal) = Some (BadText k refusal)
+later_stop k profile expected (Ok header) = offset_stop k expected (later_offset_of profile (fields_of header.text))
 
 -- why the header of file k stops the walk: it is judged as that of a later file of its transfer, after the data of the
 -- transfer's files before it. The law is above that the first file of a transfer never stops it
 unfoldable pub header_stop : FileStream → ℕ → Option WalkStop
 header_stop s k =
     let begin = begin_of s (transfer_of s.starts k) in
-    later_stop k (observation_at (file_at s begin)) (length (data_between s.files begin k)) (header_of (file_at s k))
+    let first = observation_at (file_at s begin) in
+    later_stop k (profile_of first) (first.obs_offset + length (data_between s.files begin k)) (header_of (file_at s k))
 
 -- why the data of file k do: with those of all files before it they are more than the limit
 unfoldable pub length_stop : FileStream → ℕ → Option WalkStop
