@@ -1,4 +1,6 @@
 -- The delays at the edges of a band.
+-- Source: Zackay & Ofek, ApJ 835:11, 2017, section 2 (a path through the channels); the bounds are this project's
+-- choice.
 use Rattle.dada_model.specs.Bounds.{most_delay}
 use Rattle.std.specs.Prelude.{◌≡◌, ℕ, ◌+◌, ◌-◌, ◌^◌, ◌≤◌, ◌<◌, List, length, slice_index}
 

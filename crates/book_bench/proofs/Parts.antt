@@ -7,9 +7,9 @@ use Rattle.std.proofs.lemmas.List.Quantifiers.{all_pairs_push}
 use Rattle.search_model.specs.declared.candidate.Candidate.{Candidate}
 use Rattle.search_model.specs.Candidates.{delay_of}
 use Rattle.search_model.specs.Order.{Precedes, IsRising}
-use Rattle.candidate_book.specs.Book.{Booked}
+use Rattle.candidate_book.specs.Book.{BookContents}
 use Rattle.candidate_book.specs.Conditions.{kept_in, kept_lists, IsSearched, CanBeMerged}
-use Rattle.candidate_book.specs.Laws.{OrderIsStrict}
+use Rattle.search_model.specs.CandidateLaws.{OrderIsStrict}
 use Rattle.book_bench.specs.Parts.{IsPart, Continues, EndsWith}
 
 no_member : {X : Type 0} (x : X) → Contains {X = X} [] x → ⊥
@@ -50,7 +50,7 @@ ends_more n k list last x order ends continues = λ c h. elim (Contains-push_cas
 ]
 
 -- parts of all books
-pub parts_can_be_merged : (books : List (Option Booked)) → length books ≤ 7 →
+pub parts_can_be_merged : (books : List (Option BookContents)) → length books ≤ 7 →
     ((k : ℕ) → k < length books → IsPart (length books) k (kept_in (get_or books k None))) → CanBeMerged books
 parts_can_be_merged books few parts =
     let n = length books in

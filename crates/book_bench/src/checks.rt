@@ -6,7 +6,9 @@ ghost use Rattle.std.specs.Option.{ForSome};
 ghost use Rattle.search_model.specs.Search.{box_widths};
 ghost use Rattle.book_bench.specs.Parts.{IsPart, Continues};
 
-use candidate_book::{Book, Candidate, order_is_strict};
+use candidate_book::{Book, Candidate};
+// A law: it does nothing when it runs, and the proofs use what it ensures.
+use search_model::order_is_strict;
 
 const WIDTHS: [u32; 6] = [1, 2, 4, 8, 16, 32];
 

@@ -6,29 +6,29 @@ use Rattle.std.proofs.lemmas.List.Sums.{sum_by-take-drop, sum_by-take-le, sum_by
 use Rattle.std.proofs.lemmas.Nat.{pow-add, pow_pos}
 use Rattle.std.proofs.Math.Nat.{mod-eq_of_lt, mul-le-mul_right}
 use Rattle.std.proofs.Math.Pow.{pow_mono}
-use Rattle.fdmt_rows.specs.Rows.{sum_of, wrapping_sum}
+use Rattle.fdmt_rows.specs.Rows.{sum_from, wrapping_sum}
 use Rattle.box_sums.specs.Tables.{AreBoxes}
 
-pub two_boxes : (row : List ℕ) (k n m : ℕ) → sum_of row k (n + m) ≡ sum_of row k n + sum_of row (k + n) m
+pub two_boxes : (row : List ℕ) (k n m : ℕ) → sum_from row k (n + m) ≡ sum_from row k n + sum_from row (k + n) m
 two_boxes row k n m =
     let ys = drop k row in
     let cut = sum_by-take-drop (λ x. x) (take (n + m) ys) n in
-    let first : sum_by (λ x. x) (take n (take (n + m) ys)) ≡ sum_of row k n =
+    let first : sum_by (λ x. x) (take n (take (n + m) ys)) ≡ sum_from row k n =
     ap (λ xs. sum_by (λ x. x) xs) (take-take n (n + m) ys (omega arith)) in
-    let second : sum_by (λ x. x) (drop n (take (n + m) ys)) ≡ sum_of row (k + n) m =
+    let second : sum_by (λ x. x) (drop n (take (n + m) ys)) ≡ sum_from row (k + n) m =
     ap (λ xs. sum_by (λ x. x) xs) (drop-take n m ys ∙ ap (λ xs. take m xs) (drop-drop n k row)) in
     omega (arith, cut, first, second)
 
-pub wider_sums : (row : List ℕ) (k n m : ℕ) → n ≤ m → sum_of row k n ≤ sum_of row k m
+pub wider_sums : (row : List ℕ) (k n m : ℕ) → n ≤ m → sum_from row k n ≤ sum_from row k m
 wider_sums row k n m le =
     let h = sum_by-take-le (λ x. x) (take m (drop k row)) n in
-    let e : sum_by (λ x. x) (take n (take m (drop k row))) ≡ sum_of row k n =
+    let e : sum_by (λ x. x) (take n (take m (drop k row))) ≡ sum_from row k n =
     ap (λ xs. sum_by (λ x. x) xs) (take-take n m (drop k row) le) in
     omega (arith, h, e)
 
 pub level_more : (old new row : List ℕ) (stride level levels width total count : ℕ)
     → level < levels → width ≡ 2 ^ level → total ≤ stride → count ≡ total + 1 - 2 * width
-    → ((i : ℕ) → sum_of row i (2 ^ levels) < 2 ^ 32)
+    → ((i : ℕ) → sum_from row i (2 ^ levels) < 2 ^ 32)
     → ((i : ℕ) → i < count → slice_index new ((level + 1) * stride + i)
     ≡ wrapping_sum (slice_index old (level * stride + i)) (slice_index old (level * stride + (width + i))))
     → ((k : ℕ) → k < (level + 1) * stride → slice_index new k ≡ slice_index old k)
@@ -44,33 +44,33 @@ level_more old new row stride level levels width total count more is short is_co
           below (m * stride + i) (omega arith) ∙ are m i (omega arith) room
       | inr h ↦
           let is_top : level + 1 ≡ m = omega arith in
-          let P : ℕ → Type 0 = λ m. slice_index new (m * stride + i) ≡ sum_of row i (2 ^ m) in
+          let P : ℕ → Type 0 = λ m. slice_index new (m * stride + i) ≡ sum_from row i (2 ^ m) in
           let inside : i + 2 ^ (level + 1) ≤ total = subst (λ (m : ℕ). i + 2 ^ m ≤ total) (sym is_top) room in
           let fewer : 2 ^ (level + 1) ≤ 2 ^ levels = pow_mono (let l : level + 1 ≤ levels = omega arith in l) in
           let grows = wider_sums row i (2 ^ (level + 1)) (2 ^ levels) fewer in
           let fit = fits i in
-          let both : sum_of row i (2 ^ level) + sum_of row (i + 2 ^ level) (2 ^ level) ≡ sum_of row i (2 ^
+          let both : sum_from row i (2 ^ level) + sum_from row (i + 2 ^ level) (2 ^ level) ≡ sum_from row i (2 ^
           (level + 1)) =
-          sym (two_boxes row i (2 ^ level) (2 ^ level)) ∙ ap (λ n. sum_of row i n) (sym twice) in
+          sym (two_boxes row i (2 ^ level) (2 ^ level)) ∙ ap (λ n. sum_from row i n) (sym twice) in
           subst P is_top
           (doubled i (omega arith)
           ∙ ap (λ x. wrapping_sum x (slice_index old (level * stride + (width + i)))) (are level i (omega arith)
           (omega arith))
-          ∙ ap (λ y. wrapping_sum (sum_of row i (2 ^ level)) y)
+          ∙ ap (λ y. wrapping_sum (sum_from row i (2 ^ level)) y)
           (ap (λ k. slice_index old (level * stride + k)) (let e : width + i ≡ i + 2 ^ level = omega arith in e)
           ∙ are level (i + 2 ^ level) (omega arith) (omega arith))
           ∙ ap (λ x. x % 2 ^ 32) both
-          ∙ mod-eq_of_lt (let lt : sum_of row i (2 ^ (level + 1)) < 2 ^ 32 = omega arith in lt))
+          ∙ mod-eq_of_lt (let lt : sum_from row i (2 ^ (level + 1)) < 2 ^ 32 = omega arith in lt))
     ]
 
 -- the boxes of one value
 pub one_wide : (row front rest : List ℕ) (stride m i : ℕ) → front ≡ row → m ≤ 0 → i + 2 ^ m ≤ length row
-    → slice_index (front ++ rest) (m * stride + i) ≡ sum_of row i (2 ^ m)
+    → slice_index (front ++ rest) (m * stride + i) ≡ sum_from row i (2 ^ m)
 one_wide row front rest stride m i same le room =
     let zero : 0 ≡ m = omega arith in
     let inside : i < length row = let P : ℕ → Type 0 = λ m. i + 2 ^ m ≤ length row in
     let one : i + 2 ^ 0 ≤ length row = subst P (sym zero) room in omega arith in
-    let P : ℕ → Type 0 = λ m. slice_index (front ++ rest) (m * stride + i) ≡ sum_of row i (2 ^ m) in
+    let P : ℕ → Type 0 = λ m. slice_index (front ++ rest) (m * stride + i) ≡ sum_from row i (2 ^ m) in
     let long : length front ≡ length row = ap length same in
     let cut = sum_by_more (λ x. x) (drop i row) 0 0 (let l : 0 < length (drop i row) = rw length-drop
     (omega arith) in l) in

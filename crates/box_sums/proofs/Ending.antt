@@ -2,7 +2,7 @@
 use Rattle.std.proofs.Common.{◌≡◌, ℕ, zero, suc, ◌+◌, ◌-◌, ◌<◌, ◌≤◌, List, length, sum, take, drop, replicate, ◌∷◌, ◌++◌, ◌∙◌, sym, ap, arith}
 use Rattle.std.proofs.lemmas.List.{take-take, drop-drop, drop-take}
 use Rattle.std.proofs.lemmas.List.Sums.{sum_by-cons}
-use Rattle.fdmt_rows.specs.Rows.{sum_of}
+use Rattle.fdmt_rows.specs.Rows.{sum_from}
 use Rattle.box_sums.specs.Rows.{sum_ending, Keeps}
 
 -- zeros before a list add nothing
@@ -25,7 +25,7 @@ front (suc r) n xs =
     ∙ ap (λ ys. 0 ∷ ys) (front r n xs)
 
 pub box_is_ending : (row xs : List ℕ) (reach n k w : ℕ) → Keeps row reach n xs → k < n → w ≤ reach + 1
-    → sum_of row (reach + 1 - w + k) w ≡ sum_ending xs (length xs - n + k) w
+    → sum_from row (reach + 1 - w + k) w ≡ sum_ending xs (length xs - n + k) w
 box_is_ending row xs reach n k w keeps lt narrow =
     let start : ℕ = reach + 1 - w + k in
     let end : ℕ = length xs - n + k in

@@ -7,7 +7,7 @@ use Rattle.std.proofs.lemmas.List.Elements.{All-from_get_or}
 use Rattle.std.proofs.lemmas.List.Sums.{sum_by-le}
 use Rattle.std.proofs.lemmas.Nat.{pow_below}
 use Rattle.std.proofs.Math.Nat.{mul-le-mul_right}
-use Rattle.fdmt_rows.specs.Rows.{sum_of}
+use Rattle.fdmt_rows.specs.Rows.{sum_from}
 use Rattle.box_sums.specs.Kept.{row_at}
 use Rattle.box_sums.specs.Rows.{sum_ending, Keeps}
 use Rattle.box_sums.specs.Tables.{AreBoxes, AreUpTo}
@@ -134,10 +134,10 @@ fed_boxes boxes new kept table fed values stride at reach n levels widest m same
     let fits : i + 2 ^ m' ≤ reach + n = omega (arith, room, count) in
     ap (λ xs. slice_index xs (m' * stride + i)) same_boxes
     ∙ are m' i (omega (arith, le, lower)) (omega (arith, fits, long))
-    ∙ ap (λ xs. sum_of xs i (2 ^ m')) is_values
+    ∙ ap (λ xs. sum_from xs i (2 ^ m')) is_values
     ∙ ap (λ xs. sum xs) (inner_part (reach + n) i (2 ^ m') part fits)
     ∙ ap (λ xs. sum xs) (sym (inner_part stride i (2 ^ m') part (omega arith)))
-    ∙ ap (λ xs. sum_of (row_at xs stride at) i (2 ^ m')) (sym same_kept)
+    ∙ ap (λ xs. sum_from (row_at xs stride at) i (2 ^ m')) (sym same_kept)
 
 pub box_read : (table xs : List ℕ) (stride at reach n k w : ℕ)
     → Keeps (row_at table stride at) reach n xs → k < n → w ≤ reach + 1 → reach + n ≤ stride
@@ -160,7 +160,7 @@ row_read boxes kept xs stride at reach n k w level count power are keeps lt same
     ∙ ap (λ m. slice_index boxes m) (let e : level * stride +
     (reach + 1 - w) + k ≡ level * stride + start = omega arith in e)
     ∙ are level start (omega arith) (omega (arith, power))
-    ∙ ap (λ m. sum_of (row_at kept stride at) start m) power
+    ∙ ap (λ m. sum_from (row_at kept stride at) start m) power
     ∙ box_is_ending (row_at kept stride at) xs reach n k w keeps lt narrow
 
 pub drop_small : (bound n : ℕ) (xs : List ℕ) → AreUpTo bound xs → AreUpTo bound (drop n xs)

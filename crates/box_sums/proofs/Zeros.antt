@@ -2,10 +2,10 @@
 use Rattle.std.proofs.Common.{◌≡◌, ℕ, ◌+◌, ◌-◌, ◌*◌, ◌^◌, ◌<◌, ◌≤◌, inl, inr, [], length, slice_index, take, drop, replicate, ◌++◌, ◌∙◌, sym, ap, subst, arith}
 use Rattle.std.proofs.lemmas.Bool.{cases_lt}
 use Rattle.std.proofs.lemmas.List.{length-replicate, get_or-replicate, get_or_past, get_or-take, get_or-drop, append-nil}
-use Rattle.fdmt_rows.specs.Rows.{sum_of}
+use Rattle.fdmt_rows.specs.Rows.{sum_from}
 use Rattle.box_sums.specs.Kept.{row_at}
 use Rattle.box_sums.specs.Rows.{Keeps, IsWidth}
-use Rattle.box_sums.specs.Tables.{AreBoxes, AreUpTo, IsSound}
+use Rattle.box_sums.specs.Tables.{AreBoxes, AreUpTo, TablesAreSound}
 use Rattle.box_sums.proofs.Parts.{part_length, part_at, part_small, same_values}
 use Rattle.box_sums.proofs.Feeding.{sum_bound}
 
@@ -47,11 +47,11 @@ zero_boxes n rows stride at total m m' i le room =
     let small = part_small 0 (at * stride) stride (replicate rows 0) (zeros_are_small 0 rows) in
     let none = sum_bound 0 (2 ^ m') (drop i row) (λ k. subst (λ (x : ℕ). x ≤ 0) (sym (get_or-drop i row k 0))
     (small (i + k))) in
-    zero_at n (m' * stride + i) ∙ (let zero : 0 ≡ sum_of row i (2 ^ m') = omega (arith, none) in zero)
+    zero_at n (m' * stride + i) ∙ (let zero : 0 ≡ sum_from row i (2 ^ m') = omega (arith, none) in zero)
 
 pub zeros_sound : (first last chunk widest bound : ℕ)
     → first ≤ last → last ≤ 8192 → 1 ≤ chunk → chunk ≤ 65536 → IsWidth widest → bound * widest < 2 ^ 32
-    → IsSound first last chunk widest bound first (replicate (last - first + 1) 0)
+    → TablesAreSound first last chunk widest bound first (replicate (last - first + 1) 0)
     (replicate ((last - first + 1) * (widest - 1 + chunk)) 0) (replicate (6 * (widest - 1 + chunk)) 0)
 zeros_sound first last chunk widest bound order few some most width fits =
     let stride : ℕ = widest - 1 + chunk in

@@ -1,4 +1,5 @@
 -- Sums of the last values of a list.
+-- Source: this project's choice.
 use Rattle.std.specs.Prelude.{ℕ, ◌+◌, ◌-◌, ◌≡◌, ◌<◌, ◌≤◌, ◌==◌, ◌++◌, List, IsTrue, length, sum, sum_by, take, drop, replicate, slice_index, nat_le, if◌then◌else◌}
 use Rattle.std.specs.List.{list_any, range_with_len}
 use Rattle.search_model.specs.Search.{box_widths}

@@ -1,6 +1,7 @@
 -- The tables that stand behind.
+-- Source: this project's choice.
 use Rattle.std.specs.Prelude.{ℕ, ◌+◌, ◌-◌, ◌*◌, ◌^◌, ◌≡◌, ◌<◌, ◌≤◌, List, length, slice_index}
-use Rattle.fdmt_rows.specs.Rows.{sum_of}
+use Rattle.fdmt_rows.specs.Rows.{sum_from}
 use Rattle.box_sums.specs.Rows.{IsWidth}
 use Rattle.box_sums.specs.Kept.{row_at}
 
@@ -11,10 +12,10 @@ AreUpTo bound xs = (k : ℕ) → slice_index xs k ≤ bound
 -- row m of the boxes has the sums of 2^m neighbours of the first `total` values of a row, for m up to `levels`
 abbrev pub AreBoxes : List ℕ → ℕ → ℕ → List ℕ → ℕ → Type 0
 AreBoxes boxes stride levels row total = (m i : ℕ) → m ≤ levels → i + 2 ^ m ≤ total
-    → slice_index boxes (m * stride + i) ≡ sum_of row i (2 ^ m)
+    → slice_index boxes (m * stride + i) ≡ sum_from row i (2 ^ m)
 
 -- what stands behind is as large as it has to be, and the boxes are those of the row that was fed last
-pub record IsSound (first last chunk widest bound newest : ℕ) (fed kept boxes : List ℕ) : Type 0 where
+pub record TablesAreSound (first last chunk widest bound newest : ℕ) (fed kept boxes : List ℕ) : Type 0 where
   pub order : first ≤ last
   pub few_rows : last ≤ 8192
   pub some : 1 ≤ chunk

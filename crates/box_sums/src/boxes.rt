@@ -1,9 +1,9 @@
 // Rows that are fed, and boxes over them.
 ghost use Rattle.std.specs.Prelude.{◌≡◌, ℕ, ◌+◌, ◌-◌, ◌*◌, ◌^◌, ◌<◌, ◌≤◌, ◌≢◌, ◌++◌, List, [], length, sum, slice_index, take, drop, replicate, IfOk};
 ghost use Rattle.std.specs.List.{All};
-ghost use Rattle.box_sums.specs.Kept.{Kept, StandsFor, HasRow, AreAlike, IsOpened, last_feed};
+ghost use Rattle.box_sums.specs.Kept.{RowTails, StandsForRow, KeepsRow, AreAlike, IsOpened, last_feed};
 ghost use Rattle.box_sums.specs.Rows.{IsWidth, SumsAddValues, sum_ending};
-ghost use Rattle.box_sums.specs.Tables.{IsSound};
+ghost use Rattle.box_sums.specs.Tables.{TablesAreSound};
 
 use crate::keep::keep_row;
 use crate::sums::fill_boxes;
@@ -29,7 +29,7 @@ pub struct Boxes {
 }
 
 impl Model for Boxes {
-    ghost Value = { Kept };
+    ghost Value = { RowTails };
 
     ghost view = { λ b. record {
       first = b.first;
@@ -42,7 +42,7 @@ impl Model for Boxes {
       newest = b.newest;
     } };
 
-    ghost invariant = { λ b. IsSound b.first b.last b.chunk b.widest b.bound b.newest b.fed.items
+    ghost invariant = { λ b. TablesAreSound b.first b.last b.chunk b.widest b.bound b.newest b.fed.items
         b.kept.items b.boxes.items };
 }
 
@@ -64,8 +64,8 @@ impl Boxes {
         requires width { IsWidth widest }
         requires fits { bound * widest < 2 ^ 32 }
         ensures opened { IfOk result (λ b. IsOpened b first last chunk widest bound) }
-        ensures counts { IfOk result (λ b. (d : ℕ) → HasRow b d → last_feed b d ≡ 0) }
-        ensures none { IfOk result (λ b. (d : ℕ) → HasRow b d → StandsFor b d []) }
+        ensures counts { IfOk result (λ b. (d : ℕ) → KeepsRow b d → last_feed b d ≡ 0) }
+        ensures none { IfOk result (λ b. (d : ℕ) → KeepsRow b d → StandsForRow b d []) }
     {
         let stride = widest as usize - 1 + chunk as usize;
         let rows = (last - first) as usize + 1;
@@ -84,18 +84,18 @@ impl Boxes {
 
     /// Feeds row `d` with its next values.
     pub fn feed_row(&mut self, d: u32, row: &[u32])
-        requires row { HasRow self.old d }
+        requires row { KeepsRow self.old d }
         requires short { length row.now ≤ self.old.chunk }
         requires small { All (λ x. x ≤ self.old.bound) row.now }
         ensures alike { AreAlike self.new self.old }
         ensures newest { self.new.newest ≡ d }
         ensures count { last_feed self.new d ≡ length row.now }
-        ensures counts { (e : ℕ) → HasRow self.old e → e ≢ d
+        ensures counts { (e : ℕ) → KeepsRow self.old e → e ≢ d
             → last_feed self.new e ≡ last_feed self.old e }
-        ensures own { (xs : List ℕ) → StandsFor self.old d xs
-            → StandsFor self.new d (xs ++ row.now) }
-        ensures others { (e : ℕ) (xs : List ℕ) → HasRow self.old e → e ≢ d
-            → StandsFor self.old e xs → StandsFor self.new e xs }
+        ensures own { (xs : List ℕ) → StandsForRow self.old d xs
+            → StandsForRow self.new d (xs ++ row.now) }
+        ensures others { (e : ℕ) (xs : List ℕ) → KeepsRow self.old e → e ≢ d
+            → StandsForRow self.old e xs → StandsForRow self.new e xs }
     {
         let at = (d - self.first) as usize;
         let reach = self.widest as usize - 1;
@@ -116,11 +116,11 @@ impl Boxes {
     /// The sum of the `w` values of row `d` that end at the `k`-th value of its last feed. Values before the
     /// first count 0.
     pub fn sum(&self, d: u32, k: u32, w: u32) -> u32
-        requires row { HasRow self.now d }
+        requires row { KeepsRow self.now d }
         requires place { k < last_feed self.now d }
         requires width { IsWidth w }
         requires narrow { w ≤ self.now.widest }
-        ensures { (xs : List ℕ) → StandsFor self.now d xs
+        ensures { (xs : List ℕ) → StandsForRow self.now d xs
             → result ≡ sum_ending xs (length xs - last_feed self.now d + k) w }
     {
         let at = (d - self.first) as usize;
@@ -136,7 +136,7 @@ impl Boxes {
         requires width { IsWidth w }
         requires narrow { w ≤ self.now.widest }
         ensures long { length result.now ≡ last_feed self.now d }
-        ensures sums { (xs : List ℕ) (k : ℕ) → StandsFor self.now d xs → k < last_feed self.now d
+        ensures sums { (xs : List ℕ) (k : ℕ) → StandsForRow self.now d xs → k < last_feed self.now d
             → slice_index result.now k
             ≡ sum_ending xs (length xs - last_feed self.now d + k) w }
     {

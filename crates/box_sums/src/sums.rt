@@ -1,6 +1,6 @@
 // Sums of neighbours, by doubling.
 ghost use Rattle.std.specs.Prelude.{◌≡◌, ℕ, ◌+◌, ◌*◌, ◌^◌, ◌<◌, ◌≤◌, length, slice_index};
-ghost use Rattle.fdmt_rows.specs.Rows.{wrapping_sum, sum_of};
+ghost use Rattle.fdmt_rows.specs.Rows.{wrapping_sum, sum_from};
 ghost use Rattle.box_sums.specs.Tables.{AreBoxes};
 
 use fdmt_rows::add_rows;
@@ -36,7 +36,7 @@ pub fn fill_boxes(boxes: &mut [u32], stride: usize, levels: usize, row: &[u32])
     requires room { (levels + 1) * stride ≤ length boxes.old }
     requires short { length row.now ≤ stride }
     requires wide { 2 ^ levels ≤ length row.now + 1 }
-    requires fits { (i : ℕ) → sum_of row.now i (2 ^ levels) < 2 ^ 32 }
+    requires fits { (i : ℕ) → sum_from row.now i (2 ^ levels) < 2 ^ 32 }
     ensures { AreBoxes boxes.new stride levels row.now (length row.now) }
 {
     boxes[..row.len()].copy_from_slice(row);

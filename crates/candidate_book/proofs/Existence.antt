@@ -5,9 +5,9 @@ use Rattle.std.proofs.lemmas.List.Elements.{All-head, All-tail, Contains-get_or}
 use Rattle.std.proofs.lemmas.List.Kept.{AllPairs-cons}
 use Rattle.search_model.specs.declared.candidate.Candidate.{Candidate}
 use Rattle.search_model.specs.Candidates.{delay_of}
+use Rattle.search_model.specs.CandidateLaws.{OrderIsStrict}
 use Rattle.search_model.specs.Order.{Precedes, IsRising, IsMergeOf}
 use Rattle.candidate_book.specs.Conditions.{ShareNoDelay}
-use Rattle.candidate_book.proofs.Order.{precedes_follows, precedes_or_shares}
 use Rattle.candidate_book.proofs.Members.{no_member, member_head, member_tail, member_cases, pairs_tail, pairs_head}
 
 abbrev Comparable : Candidate → Candidate → Type 0
@@ -22,9 +22,9 @@ record Joined (Member : Candidate → Type 0) : Type 0 where
   rises : IsRising list
   members : (c : Candidate) → Contains list c ↔ Member c
 
-insert : (x : Candidate) (xs : List Candidate) → IsRising xs → ((y : Candidate) → Contains xs y → Comparable x y) →
+insert : OrderIsStrict → (x : Candidate) (xs : List Candidate) → IsRising xs → ((y : Candidate) → Contains xs y → Comparable x y) →
     Joined (λ c. (x ≡ c) ⊎ Contains xs c)
-insert x [] rises compares = record {
+insert order x [] rises compares = record {
   list = x ∷ [];
   rises = λ i j d below small. absurd (omega arith);
   members = λ c. (
@@ -35,13 +35,13 @@ insert x [] rises compares = record {
     ],
   );
 }
-insert x (y ∷ ys) rises compares = elim (compares y (member_head y ys)) [
+insert order x (y ∷ ys) rises compares = elim (compares y (member_head y ys)) [
   | inl before ↦ record {
     list = x ∷ y ∷ ys;
     rises = AllPairs-cons Precedes x (y ∷ ys)
         (all_members (Precedes x) (y ∷ ys) (λ z h. elim (member_cases y ys z h) [
           | inl same ↦ subst (Precedes x) same before
-          | inr tail ↦ precedes_follows x y z before (pairs_head Precedes y ys rises z tail)
+          | inr tail ↦ order.follows x y z before (pairs_head Precedes y ys rises z tail)
         ])) rises;
     members = λ c. (
       member_cases x (y ∷ ys) c,
@@ -52,7 +52,7 @@ insert x (y ∷ ys) rises compares = elim (compares y (member_head y ys)) [
     );
   }
   | inr after ↦
-      let more = insert x ys (pairs_tail Precedes y ys rises) (λ z h. compares z (member_tail y ys z h)) in
+      let more = insert order x ys (pairs_tail Precedes y ys rises) (λ z h. compares z (member_tail y ys z h)) in
       record {
         list = y ∷ more.list;
         rises = AllPairs-cons Precedes y more.list
@@ -79,10 +79,10 @@ insert x (y ∷ ys) rises compares = elim (compares y (member_head y ys)) [
       }
 ]
 
-insert_all : (xs ys : List Candidate) → IsRising xs → IsRising ys →
+insert_all : OrderIsStrict → (xs ys : List Candidate) → IsRising xs → IsRising ys →
     ((x y : Candidate) → Contains xs x → Contains ys y → Comparable x y) →
     Joined (λ c. Contains xs c ⊎ Contains ys c)
-insert_all [] ys first second compares = record {
+insert_all order [] ys first second compares = record {
   list = ys;
   rises = second;
   members = λ c. (
@@ -93,10 +93,10 @@ insert_all [] ys first second compares = record {
     ],
   );
 }
-insert_all (x ∷ xs) ys first second compares =
-    let more = insert_all xs ys (pairs_tail Precedes x xs first) second
+insert_all order (x ∷ xs) ys first second compares =
+    let more = insert_all order xs ys (pairs_tail Precedes x xs first) second
     (λ a b ha hb. compares a b (member_tail x xs a ha) hb) in
-    let one = insert x more.list more.rises (λ z h. elim ((more.members z).0 h) [
+    let one = insert order x more.list more.rises (λ z h. elim ((more.members z).0 h) [
       | inl tail ↦ inl (pairs_head Precedes x xs first z tail)
       | inr other ↦ compares x z (member_head x xs) other
     ]) in
@@ -131,19 +131,19 @@ any_cases : (xs : List Candidate) (lists : List (List Candidate)) (c : Candidate
 any_cases xs lists c (zero, list, small, is, h) = inl (subst (λ ys. Contains ys c) (sym is) h)
 any_cases xs lists c (suc k, list, small, is, h) = inr (k, list, omega arith, is, h)
 
-pub lists_merge : (lists : List (List Candidate)) → All IsRising lists → AllPairs ShareNoDelay lists →
+pub lists_merge : OrderIsStrict → (lists : List (List Candidate)) → All IsRising lists → AllPairs ShareNoDelay lists →
     (merged : List Candidate) × IsMergeOf lists merged
-lists_merge [] rise apart = (
+lists_merge order [] rise apart = (
   [],
   record {
     rises = λ i j d below small. absurd (omega arith);
     members = λ c. (λ h. absurd (no_member c h), λ (k, list, small, is, h). absurd (omega arith));
   },
 )
-lists_merge (xs ∷ lists) rise apart =
-    let more = lists_merge lists (All-tail IsRising xs lists rise) (pairs_tail ShareNoDelay xs lists apart) in
-    let joined = insert_all xs more.0 (All-head IsRising xs lists rise) more.1.rises
-    (λ x y hx hy. elim (precedes_or_shares x y) [
+lists_merge order (xs ∷ lists) rise apart =
+    let more = lists_merge order lists (All-tail IsRising xs lists rise) (pairs_tail ShareNoDelay xs lists apart) in
+    let joined = insert_all order xs more.0 (All-head IsRising xs lists rise) more.1.rises
+    (λ x y hx hy. elim (order.compares x y) [
       | inl before ↦ inl before
       | inr (inl after) ↦ inr after
       | inr (inr same) ↦ absurd (apart_from xs lists apart x y hx ((more.1.members y).0 hy) same)

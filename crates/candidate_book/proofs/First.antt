@@ -4,10 +4,10 @@ use Rattle.std.specs.Option.{ForSome}
 use Rattle.std.proofs.lemmas.Bool.{cases_lt}
 use Rattle.std.proofs.lemmas.Option.{none-some, same_Some}
 use Rattle.search_model.specs.declared.candidate.Candidate.{Candidate}
+use Rattle.search_model.specs.CandidateLaws.{OrderIsStrict}
 use Rattle.search_model.specs.Order.{Precedes}
 use Rattle.candidate_book.specs.First.{IsFirst, FindsFirst}
 use Rattle.candidate_book.specs.declared.merge.Next.{Next}
-use Rattle.candidate_book.proofs.Order.{precedes_never, precedes_follows}
 
 -- k is below i, or i itself
 below_or_at : (k i : ℕ) → k < i + 1 → (k < i) ⊎ (k ≡ i)
@@ -51,21 +51,21 @@ first_past_later next i c (Some found) is stands later = record {
 }
 
 -- it does, so it is found
-pub first_is_new : (next : ℕ → Option Candidate) (i : ℕ) (c : Candidate) (found : Option Next) →
+pub first_is_new : OrderIsStrict → (next : ℕ → Option Candidate) (i : ℕ) (c : Candidate) (found : Option Next) →
     FindsFirst next i found → next i ≡ Some c → ForSome found (λ one. Precedes c one.candidate) →
     IsFirst next (i + 1) (record { book = i; candidate = c })
-first_is_new next i c found finds stands before = record {
+first_is_new order next i c found finds stands before = record {
   within = omega arith;
   is_next = stands;
   first = λ k h other other_stands. elim (below_or_at k i h) [
     | inl below ↦ earlier found finds before k below other other_stands
     | inr at ↦ λ precedes.
         let same : c ≡ other = same_Some c other (sym stands ∙ subst (λ n. next n ≡ Some other) at other_stands) in
-        precedes_never c (subst (λ y. Precedes y c) (sym same) precedes)
+        order.never c (subst (λ y. Precedes y c) (sym same) precedes)
   ];
 } where
   earlier : (found : Option Next) → FindsFirst next i found → ForSome found (λ one. Precedes c one.candidate) →
       (k : ℕ) → k < i → (other : Candidate) → next k ≡ Some other → Precedes other c → ⊥
   earlier None none before k below other stands precedes = none-some other (sym (none k below) ∙ stands)
   earlier (Some one) is before k below other stands precedes =
-      is.first k below other stands (precedes_follows other c one.candidate precedes (before one refl))
+      is.first k below other stands (order.follows other c one.candidate precedes (before one refl))

@@ -1,4 +1,3 @@
-pub mod Order
 pub mod Existence
 pub mod First
 pub mod Members

@@ -6,12 +6,12 @@ use Rattle.std.proofs.lemmas.List.{get_or-map, length-map}
 use Rattle.std.proofs.lemmas.List.Elements.{All-get_or, All-contains}
 use Rattle.search_model.specs.declared.candidate.Candidate.{Candidate}
 use Rattle.search_model.specs.Candidates.{delay_of}
+use Rattle.search_model.specs.CandidateLaws.{OrderIsStrict}
 use Rattle.search_model.specs.Order.{Precedes, IsRising, IsMergeOf}
-use Rattle.candidate_book.specs.Book.{Booked}
+use Rattle.candidate_book.specs.Book.{BookContents}
 use Rattle.candidate_book.specs.Conditions.{kept_in, kept_lists, IsSearched, ShareNoDelay, CanBeMerged}
 use Rattle.candidate_book.specs.First.{kept_at, next_at, IsFirst}
 use Rattle.candidate_book.specs.declared.merge.Next.{Next}
-use Rattle.candidate_book.proofs.Order.{precedes_never, precedes_follows, precedes_or_shares}
 use Rattle.candidate_book.proofs.Members.{is_or_not, no_member, member_head, member_tail, member_cases, pairs_tail, pairs_head, pairs_drop, drop_next, drop_ends, next_member, next_cases}
 
 -- the merged list of the parts 0 to n - 1
@@ -20,7 +20,7 @@ pub record PartsMerge (n : ℕ) (part : ℕ → List Candidate) (merged : List C
   pub members : (c : Candidate) → Contains merged c ↔ ((k : ℕ) × (k < n) × Contains (part k) c)
 
 -- what is left of book k from its place on
-abbrev pub left_at : List (Option Booked) → List ℕ → ℕ → List Candidate
+abbrev pub left_at : List (Option BookContents) → List ℕ → ℕ → List Candidate
 left_at books places k = drop (get_or places k 0) (kept_at books k)
 
 -- c begins part i, and precedes all others
@@ -32,7 +32,7 @@ pub record Begins (n i : ℕ) (part later : ℕ → List Candidate) (c : Candida
   rises : IsRising (part i)
   ahead : (k : ℕ) → k < n → k ≢ i → (d : Candidate) → Contains (part k) d → Precedes c d
 
-module _ (n i : ℕ) (part later : ℕ → List Candidate) (c : Candidate) (more : List Candidate)
+module _ (order : OrderIsStrict) (n i : ℕ) (part later : ℕ → List Candidate) (c : Candidate) (more : List Candidate)
     (first : Begins n i part later c more) where
   begins_rises : IsRising (c ∷ more)
   begins_rises = subst IsRising first.begins first.rises
@@ -75,7 +75,7 @@ module _ (n i : ℕ) (part later : ℕ → List Candidate) (c : Candidate) (more
             elim (stays from.0 h from.2) [
               | inl same ↦ sym same
               | inr after ↦ absurd
-                  (precedes_never c (precedes_follows c h c (stood from.0 h from.1 after).1 before))
+                  (order.never c (order.follows c h c (stood from.0 h from.1 after).1 before))
             ]
       ]
 
@@ -86,7 +86,7 @@ module _ (n i : ℕ) (part later : ℕ → List Candidate) (c : Candidate) (more
       elim (stays from.0 x from.2) [
         | inr after ↦ (from.0, from.1, after)
         | inl same ↦ absurd
-            (precedes_never h (subst (Precedes h) (sym (is ∙ same)) (pairs_head Precedes h t merge.rises x inside)))
+            (order.never h (subst (Precedes h) (sym (is ∙ same)) (pairs_head Precedes h t merge.rises x inside)))
       ]
 
   from_rest : (h : Candidate) (t : List Candidate) → PartsMerge n part (h ∷ t) → h ≡ c → (x : Candidate) →
@@ -95,7 +95,7 @@ module _ (n i : ℕ) (part later : ℕ → List Candidate) (c : Candidate) (more
       let before = stood k x within after in
       elim (member_cases h t x ((merge.members x).1 (k, within, before.0))) [
         | inr tail ↦ tail
-        | inl same ↦ absurd (precedes_never c (subst (Precedes c) (sym same ∙ is) before.1))
+        | inl same ↦ absurd (order.never c (subst (Precedes c) (sym same ∙ is) before.1))
       ]
 
   -- so the merged list begins with c, and the rest merges what is left
@@ -135,7 +135,7 @@ same_parts n part other merged same merge = record {
 
 -- ---- books
 
-module _ (books : List (Option Booked)) where
+module _ (books : List (Option BookContents)) where
   list_at : (k : ℕ) (d : List Candidate) → k < length books → get_or (kept_lists books) k d ≡ kept_at books k
   list_at k d within = get_or-map kept_in books k None d within
 
@@ -180,7 +180,7 @@ module _ (books : List (Option Booked)) where
         );
       }
 
-  module _ (can : CanBeMerged books) (places later : List ℕ) (found : Next)
+  module _ (order : OrderIsStrict) (can : CanBeMerged books) (places later : List ℕ) (found : Next)
       (first : IsFirst (next_at books places) (length books) found)
       (moves : later ≡ set places found.book (get_or places found.book 0 + 1))
       (room : length books ≤ length places) where
@@ -203,7 +203,7 @@ module _ (books : List (Option Booked)) where
           let is = one.1 in
           let from = drop_next (kept_at books k) (get_or places k 0) next is in
           let rises = pairs_drop Precedes (get_or places k 0) (kept_at books k) (book_rises can k within) in
-          let before : Precedes c next = elim (precedes_or_shares c next) [
+          let before : Precedes c next = elim (order.compares c next) [
             | inl precedes ↦ precedes
             | inr (inl after) ↦ absurd (first.first k within next is after)
             | inr (inr same) ↦ absurd
@@ -214,7 +214,7 @@ module _ (books : List (Option Booked)) where
           elim (member_cases next (drop (suc (get_or places k 0)) (kept_at books k)) d
           (subst (λ xs. Contains xs d) from h)) [
             | inl same ↦ subst (Precedes c) same before
-            | inr tail ↦ precedes_follows c next d before
+            | inr tail ↦ order.follows c next d before
                 (pairs_head Precedes next _ (subst IsRising from rises) d tail)
           ]
     ]
@@ -246,7 +246,7 @@ module _ (books : List (Option Booked)) where
         (rest : List Candidate) × (merged ≡ found.candidate ∷ rest)
         × PartsMerge (length books) (left_at books later) rest
     unfolding c i
-    next_is_found merged merge = takes_first _ _ _ _ _ _ begins merged merge
+    next_is_found merged merge = takes_first order _ _ _ _ _ _ begins merged merge
 
   -- where no book has a candidate left, nor has the merged list
   pub none_left : (places : List ℕ) (merged : List Candidate) →

@@ -1,5 +1,5 @@
 -- Books that can be merged to one text: each is in order, and no two share a delay.
--- Source: this project's profile.
+-- Source: this project's choice.
 use Rattle.std.specs.Prelude.{◌≤◌, ◌≢◌, List, [], map, length, All, AllPairs, Contains, Option, Some, None}
 use Rattle.dada_model.specs.Bounds.{most_delay}
 use Rattle.search_model.specs.declared.candidate.Candidate.{Candidate}
@@ -7,14 +7,14 @@ use Rattle.search_model.specs.declared.candidate.Candidate.TheVariants.{Pulse, F
 use Rattle.search_model.specs.Search.{box_widths}
 use Rattle.search_model.specs.Candidates.{delay_of}
 use Rattle.search_model.specs.Order.{IsRising}
-use Rattle.candidate_book.specs.Book.{Booked}
+use Rattle.candidate_book.specs.Book.{BookContents}
 
 -- what the book of a place keeps
-abbrev pub kept_in : Option Booked → List Candidate
+abbrev pub kept_in : Option BookContents → List Candidate
 kept_in None = []
 kept_in (Some book) = book.kept
 
-abbrev pub kept_lists : List (Option Booked) → List (List Candidate)
+abbrev pub kept_lists : List (Option BookContents) → List (List Candidate)
 kept_lists books = map kept_in books
 
 -- its delay, its width and its halvings are ones that a search can have
@@ -26,7 +26,7 @@ IsSearched (Fold delay _ halvings _ _ _) = (delay ≤ most_delay) × (1 ≤ halv
 abbrev pub ShareNoDelay : List Candidate → List Candidate → Type 0
 ShareNoDelay xs ys = (x y : Candidate) → Contains xs x → Contains ys y → delay_of x ≢ delay_of y
 
-pub record CanBeMerged (books : List (Option Booked)) : Type 0 where
+pub record CanBeMerged (books : List (Option BookContents)) : Type 0 where
   pub few : length books ≤ 7
   pub rise : All IsRising (kept_lists books)
   pub apart : AllPairs ShareNoDelay (kept_lists books)

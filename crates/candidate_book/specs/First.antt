@@ -1,17 +1,18 @@
 -- The first of the candidates that stand next in several books.
+-- Source: this project's choice.
 use Rattle.std.specs.Prelude.{◌≡◌, ℕ, ◌<◌, List, slice_get, slice_index, slice_index_or, Option, Some, None}
 use Rattle.search_model.specs.declared.candidate.Candidate.{Candidate}
 use Rattle.search_model.specs.Order.{Precedes}
-use Rattle.candidate_book.specs.Book.{Booked}
+use Rattle.candidate_book.specs.Book.{BookContents}
 use Rattle.candidate_book.specs.Conditions.{kept_in}
 use Rattle.candidate_book.specs.declared.merge.Next.{Next}
 
 -- what book k keeps
-abbrev pub kept_at : List (Option Booked) → ℕ → List Candidate
+abbrev pub kept_at : List (Option BookContents) → ℕ → List Candidate
 kept_at books k = kept_in (slice_index_or books k None)
 
 -- its candidate at the place that it was written to
-abbrev pub next_at : List (Option Booked) → List ℕ → ℕ → Option Candidate
+abbrev pub next_at : List (Option BookContents) → List ℕ → ℕ → Option Candidate
 next_at books places k = slice_get (kept_at books k) (slice_index places k)
 
 -- the candidate that stands next in one of the first n books, and that none which stands next in them precedes

@@ -1,12 +1,7 @@
--- What lines say, and lines that wait to be written together.
+-- Lines that wait to be written together.
+-- Source: this project's choice.
 use Rattle.std.specs.Prelude.{◌≡◌, ℕ, List, ◌++◌, Result, OnOk, OnErr}
-use Rattle.dada_model.specs.Observation.{Observation, dm}
 use Rattle.psr_base.specs.Written.{SinkSeen, WroteAll, WroteFront}
-use Rattle.search_model.specs.CandidateText.{Labels, plain_labels}
-
--- what the lines of an observation say besides their candidates
-abbrev pub labels_of : Observation → Labels
-labels_of o = plain_labels (dm o) o.channels
 
 -- of a text, a front was written, and the rest waits
 pub record Pending (text waiting : List ℕ) (old now : SinkSeen) : Type 0 where

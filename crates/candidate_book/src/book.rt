@@ -18,9 +18,9 @@ pub struct Book {
 
 impl Model for Book {
     ghost use Rattle.std.specs.Prelude.{◌<◌, ◌≤◌, ◌^◌, vec_len, vec_capacity};
-    ghost use Rattle.candidate_book.specs.Book.{Booked};
+    ghost use Rattle.candidate_book.specs.Book.{BookContents};
 
-    ghost Value = { Booked };
+    ghost Value = { BookContents };
 
     ghost view = { λ book.
         record { limit = book.limit; kept = book.first.items; count = book.added } };

@@ -10,6 +10,6 @@ mod merged;
 mod page;
 
 pub use book::Book;
-pub use laws::{books_have_a_merge, order_is_strict};
+pub use laws::books_have_a_merge;
 pub use merged::{SinkStop, Totals, write_merged};
 pub use search_model::Candidate;

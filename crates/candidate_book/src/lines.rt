@@ -3,7 +3,7 @@ ghost use Rattle.std.specs.Prelude.{◌≡◌, ◌+◌, ◌*◌, ◌^◌, ◌≤
 ghost use Rattle.search_model.specs.CandidateText.{thousandths, candidate_line as line_of, end_line as end_line_of};
 ghost use Rattle.search_model.specs.Candidates.{cells_of, plain_cells};
 ghost use Rattle.candidate_book.specs.Conditions.{IsSearched};
-ghost use Rattle.candidate_book.specs.Lines.{labels_of};
+ghost use Rattle.search_model.specs.Observed.{labels_of};
 
 use obs_plan::Observation;
 use search_model::Candidate;

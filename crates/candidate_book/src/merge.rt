@@ -7,6 +7,8 @@ ghost use Rattle.candidate_book.specs.First.{next_at, FindsFirst};
 
 use crate::book::Book;
 use search_model::Candidate;
+// A law: it does nothing when it runs, and the proofs use what it ensures.
+use search_model::order_is_strict;
 
 /// How many books are merged at most.
 pub(crate) const MOST_BOOKS: usize = 7;
@@ -45,6 +47,7 @@ pub(crate) fn first(books: &[Option<Book>], places: &[usize; MOST_BOOKS]) -> Opt
     ensures first { FindsFirst (next_at books.now places.now) (length books.now) result }
     ensures bound { ForSome result (λ next. slice_index places.now next.book < 2 ^ 32) }
 {
+    order_is_strict();
     let mut found = None;
     for (i, book) in books.iter().enumerate() {
         if let Some(candidate) = candidate_at(book, places[i]) {

@@ -5,7 +5,7 @@ ghost use Rattle.search_model.specs.declared.candidate.Candidate.{Candidate};
 ghost use Rattle.search_model.specs.CandidateText.{is_pulse, is_fold};
 ghost use Rattle.search_model.specs.Order.{IsMergeOf};
 ghost use Rattle.candidate_book.specs.Conditions.{kept_lists, CanBeMerged};
-ghost use Rattle.candidate_book.specs.Lines.{labels_of};
+ghost use Rattle.search_model.specs.Observed.{labels_of};
 ghost use Rattle.candidate_book.specs.Merged.{Listed, WroteText};
 
 use crate::book::Book;
@@ -14,9 +14,10 @@ use crate::merge::{MOST_BOOKS, advance, first};
 use crate::page::Page;
 use obs_plan::Observation;
 use psr_base::{Failed, Sink};
-// A law: it does nothing when it runs, and the proofs use what it ensures.
-use psr_base::pieces_join;
 use search_model::Candidate;
+// Laws: they do nothing when they run, and the proofs use what they ensure.
+use psr_base::pieces_join;
+use search_model::order_is_strict;
 use thiserror::Error;
 
 /// How many candidates there are of each kind.
@@ -68,6 +69,7 @@ fn pass_candidates<K: Sink>(
         → Listed (labels_of obs.now) merged page.new (K.seen sink.old) (K.seen sink.new) result }
 {
     pieces_join();
+    order_is_strict();
     let mut places = [0; MOST_BOOKS];
     let mut totals = Totals {
         pulses: 0,

@@ -11,12 +11,12 @@ use Rattle.dada_model.specs.Number.{number_value}
 use Rattle.dada_model.specs.Fields.{fields_of, value_of, HeaderText, ShortHeader, BadHeaderSize, NotTextAt, before_nul, allowed_size, size_of_value, header_size, header_text, is_above_ascii, header_of, header_bytes}
 use Rattle.dada_model.specs.ChangeLaws.{IsReadBack, IsHeader}
 use Rattle.dada_header.proofs.Scans.{position_some, position_none}
-use Rattle.dada_header.specs.Space.{header_in, IsKept}
+use Rattle.dada_header.specs.Space.{header_in, IsHeaderSpace}
 use Rattle.dada_header.specs.declared.words.Place.{Place}
 use Rattle.dada_header.specs.Places.{at}
 use Rattle.dada_header.specs.declared.faults.HeaderFault.{HeaderFault}
 use Rattle.dada_header.specs.declared.faults.HeaderFault.TheVariants.{Short, NotText, BadSize, Memory}
-use Rattle.dada_header.specs.Faults.{IsSizeRefusal, IsRefusal}
+use Rattle.dada_header.specs.Faults.{IsSizeRefusal, IsHeaderRefusal}
 
 -- ---- refusals
 
@@ -101,7 +101,7 @@ header_in_space space text size padded fits = ap (λ (t : List ℕ). record {
 pub kept : (space text : List ℕ) (size : ℕ) → length space ≡ 65536 →
     take size space ≡ text ++ replicate (size - length text) 0 →
     IsReadBack (record { size = size; text = text }) → IsHeader (record { size = size; text = text }) →
-    IsKept space (length text) size
+    IsHeaderSpace space (length text) size
 unfolding header_bytes
 kept space text size room padded read is =
     let fits : length text ≤ size = is.fits in
@@ -116,7 +116,7 @@ kept space text size room padded read is =
     }
 
 pub kept_zeros : (space : List ℕ) (size : ℕ) → length space ≡ 65536 → space ≡ replicate (length space) 0 →
-    IsReadBack (record { size = size; text = [] }) → size ≤ 65536 → 4096 ≤ size → IsKept space 0 size
+    IsReadBack (record { size = size; text = [] }) → size ≤ 65536 → 4096 ≤ size → IsHeaderSpace space 0 size
 unfolding header_bytes
 kept_zeros space size room zero read most least =
     let whole : size ≡ size - 0 = omega arith in
@@ -142,7 +142,7 @@ pub size_refused : (bytes text value : List ℕ) → text ≡ before_nul (take 4
     header_size bytes ≡ None
 size_refused bytes text value t is e = size_given bytes text value t is ∙ sym e
 
-pub refused_size : (bytes : List ℕ) (fault : HeaderFault) → IsSizeRefusal bytes fault → IsRefusal bytes fault
+pub refused_size : (bytes : List ℕ) (fault : HeaderFault) → IsSizeRefusal bytes fault → IsHeaderRefusal bytes fault
 refused_size bytes (Short had) (low, e) = rw e (short_header bytes low)
 refused_size bytes (NotText place) h = absurd h
 refused_size bytes BadSize (long, bad) = bad_size bytes long bad

@@ -5,7 +5,7 @@ use Rattle.std.proofs.Math.Seq.{take-append-add}
 use Rattle.dada_model.specs.Fields.{fields_of, value_of, header_bytes}
 use Rattle.dada_model.specs.Change.{changed}
 use Rattle.dada_model.specs.ChangeLaws.{IsReadBack, IsHeader, StaysInPlace}
-use Rattle.dada_header.specs.Space.{IsKept}
+use Rattle.dada_header.specs.Space.{IsHeaderSpace}
 use Rattle.dada_header.specs.Changes.{IsEdited}
 use Rattle.dada_header.proofs.HeaderReads.{kept}
 
@@ -14,7 +14,7 @@ pub need_is : (need n size : ℕ) → need ≡ min n (2 ^ 64 - 1) → need < siz
 need_is need n size e low most = omega arith
 
 -- the zeros after a text, from a later place on
-zeros_after : (old : List ℕ) (len last size : ℕ) → IsKept old len size → len ≤ last → last ≤ size →
+zeros_after : (old : List ℕ) (len last size : ℕ) → IsHeaderSpace old len size → len ≤ last → last ≤ size →
     take (size - last) (drop last old) ≡ replicate (size - last) 0
 unfolding header_bytes
 zeros_after old len last size h low high =
@@ -36,7 +36,7 @@ zeros_after old len last size h low high =
     ∙ ap (λ n. replicate {A = ℕ} n 0) rest
 
 -- the changed text, and zeros after it
-pub padded_again : (key value old new : List ℕ) (len last size : ℕ) → IsKept old len size →
+pub padded_again : (key value old new : List ℕ) (len last size : ℕ) → IsHeaderSpace old len size →
     IsEdited key value len old new last → length new ≡ 65536 →
     length (changed key value (take len old)) < size → StaysInPlace key (take len old) (changed key value
     (take len old)) →
@@ -61,12 +61,12 @@ padded_again key value old new len last size h edited room fits stays =
     ∙ ap (λ t. text ++ t) zeros
     ∙ ap (λ n. text ++ replicate {A = ℕ} (size - n) 0) last_is
 
-pub kept_changed : (key value old new : List ℕ) (len last size : ℕ) → IsKept old len size →
+pub kept_changed : (key value old new : List ℕ) (len last size : ℕ) → IsHeaderSpace old len size →
     IsEdited key value len old new last → length new ≡ 65536 →
     length (changed key value (take len old)) < size → StaysInPlace key (take len old) (changed key value
     (take len old)) →
     IsReadBack (record { size = size; text = changed key value (take len old) }) →
-    IsHeader (record { size = size; text = changed key value (take len old) }) → IsKept new last size
+    IsHeader (record { size = size; text = changed key value (take len old) }) → IsHeaderSpace new last size
 kept_changed key value old new len last size h edited room fits stays back is =
     let padded = padded_again key value old new len last size h edited room fits stays in
     rw edited.end (kept new (changed key value (take len old)) size room padded back is)

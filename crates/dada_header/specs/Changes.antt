@@ -1,4 +1,5 @@
 -- What a change of a header's field leaves.
+-- Source: PSRDADA manual (a header is lines of keyword and value); how a field is changed is this project's choice.
 use Rattle.std.specs.Prelude.{◌≡◌, ℕ, ◌^◌, ◌-◌, ◌+◌, ◌<◌, ◌≤◌, min, List, ◌++◌, length, take, drop, Option, Some, None}
 use Rattle.dada_model.specs.Fields.{HeaderText}
 use Rattle.dada_model.specs.Change.{with_value_between, blanked, line_end, field_line, changed}
@@ -15,9 +16,9 @@ pub record IsOverwrite (key value text : List ℕ) (place : Place) : Type 0 wher
 abbrev pub IsAppended : List ℕ → List ℕ → List ℕ → Type 0
 IsAppended key value text = changed key value text ≡ blanked key text ++ (line_end text ++ field_line key value)
 
-abbrev pub IsPlan : List ℕ → List ℕ → List ℕ → Option Place → Type 0
-IsPlan key value text (Some place) = IsOverwrite key value text place
-IsPlan key value text None = IsAppended key value text
+abbrev pub IsChangePlan : List ℕ → List ℕ → List ℕ → Option Place → Type 0
+IsChangePlan key value text (Some place) = IsOverwrite key value text place
+IsChangePlan key value text None = IsAppended key value text
 
 -- a piece stands at a place in bytes, which are as they were before it and after its end
 pub record IsPut (place : ℕ) (piece old new : List ℕ) (last : ℕ) : Type 0 where

@@ -1,4 +1,5 @@
 -- Where the lines of a text end.
+-- Source: PSRDADA manual (a header is lines of keyword and value); where a line ends is this project's choice.
 use Rattle.std.specs.Prelude.{◌≡◌, ℕ, ◌+◌, ◌<◌, ◌≤◌, List, ◌∷◌, ◌++◌, length, drop, slice_range}
 use Rattle.dada_model.specs.FieldLaws.{IsLine}
 

@@ -1,4 +1,5 @@
 -- Where words, fields and values stand.
+-- Source: PSRDADA manual (a header is lines of keyword and value); the grammar is this project's choice.
 use Rattle.std.specs.Prelude.{◌≡◌, ℕ, ◌<◌, ◌≤◌, true, List, ◌∷◌, length, drop, Some, slice_range}
 use Rattle.dada_model.specs.Fields.{without_comment, words_of, field_of_line, fields_of, value_of}
 use Rattle.dada_model.specs.Change.{word_start, word_end, value_start, value_end, has_key, with_value_between, with_value, overwritten}

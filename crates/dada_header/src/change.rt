@@ -1,7 +1,8 @@
 // Changes of a text in the bytes of its header.
 ghost use Rattle.std.specs.Prelude.{◌≡◌, ℕ, ◌+◌, ◌-◌, ◌^◌, ◌≤◌, ◌==◌, min, ◌++◌, IfSome, IfNone, length, take, slice_index_or};
+ghost use Rattle.dada_model.specs.Fields.{most_header};
 ghost use Rattle.dada_model.specs.Change.{line_end, field_line, with_value_between, blanked, changed};
-ghost use Rattle.dada_header.specs.Changes.{IsOverwrite, IsAppended, IsPlan, IsPut, IsReplaced, IsEdited};
+ghost use Rattle.dada_header.specs.Changes.{IsOverwrite, IsAppended, IsChangePlan, IsPut, IsReplaced, IsEdited};
 
 use crate::blank::{blank_fields, fill_spaces};
 use crate::words::Place;
@@ -53,7 +54,7 @@ fn overwritten_place(text: &[u8], key: &[u8], value: &[u8]) -> Option<Place>
 
 // The length of a text to which a line is appended.
 fn appended_len(text: &[u8], key: &[u8], value: &[u8]) -> usize
-    requires { length text.now ≤ 65536 }
+    requires { length text.now ≤ most_header }
     ensures { let line = line_end text.now ++ field_line key.now value.now in
         result ≡ min (length text.now + length line) (2 ^ 64 - 1) }
 {
@@ -63,8 +64,8 @@ fn appended_len(text: &[u8], key: &[u8], value: &[u8]) -> usize
 
 /// Where the value is that another takes the place of, if it does, and the length of the changed text.
 pub(crate) fn plan(text: &[u8], key: &[u8], value: &[u8]) -> (Option<Place>, usize)
-    requires { length text.now ≤ 65536 }
-    ensures plan { IsPlan key.now value.now text.now result.0 }
+    requires { length text.now ≤ most_header }
+    ensures plan { IsChangePlan key.now value.now text.now result.0 }
     ensures need { result.1 ≡ min (length (changed key.now value.now text.now)) (2 ^ 64 - 1) }
 {
     blank_keeps_length();
@@ -119,7 +120,7 @@ pub(crate) fn edit(
     value: &[u8],
 ) -> usize
     requires len { len ≤ length bytes.old }
-    requires plan { IsPlan key.now value.now (take len bytes.old) plan }
+    requires plan { IsChangePlan key.now value.now (take len bytes.old) plan }
     requires room { length (changed key.now value.now (take len bytes.old)) ≤ length bytes.old }
     ensures { IsEdited key.now value.now len bytes.old bytes.new result }
 {

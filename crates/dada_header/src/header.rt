@@ -1,12 +1,12 @@
-// Headers: their size and their text in a space of 65536 bytes.
+// Headers: their size and their text in a space as long as the greatest header.
 ghost use Rattle.std.specs.Prelude.{◌≡◌, ◌≢◌, ℕ, ◌-◌, ◌<◌, ◌≤◌, List, [], ◌++◌, All, length, take, replicate, Ok, Err, Some, None, OnOk, IfOk, IfErr, option_copied, codes, position, ◌==◌};
-ghost use Rattle.dada_model.specs.Fields.{HeaderText, fields_of, value_of, before_nul, header_size, header_text, header_of, header_bytes, is_above_ascii, allowed_size};
+ghost use Rattle.dada_model.specs.Fields.{least_header, most_header, HeaderText, fields_of, value_of, before_nul, header_size, header_text, header_of, header_bytes, is_above_ascii, allowed_size};
 ghost use Rattle.dada_model.specs.Number.{number_value};
 ghost use Rattle.dada_model.specs.Change.{IsWord};
 ghost use Rattle.dada_model.specs.ChangeLaws.{StaysInPlace};
-ghost use Rattle.dada_header.specs.Space.{header_in, IsKept};
+ghost use Rattle.dada_header.specs.Space.{header_in, IsHeaderSpace};
 ghost use Rattle.dada_header.specs.Changes.{IsSet, IsOverfull};
-ghost use Rattle.dada_header.specs.Faults.{IsSizeRefusal, IsRefusal, Explains};
+ghost use Rattle.dada_header.specs.Faults.{IsSizeRefusal, IsHeaderRefusal, ExplainsHeader};
 
 use crate::change::{edit, plan};
 use crate::faults::{HeaderFault, SetFault};
@@ -40,7 +40,7 @@ impl Model for Header {
 
     ghost view = { λ header. header_in header.space.items header.len header.size };
 
-    ghost invariant = { λ header. IsKept header.space.items header.len header.size };
+    ghost invariant = { λ header. IsHeaderSpace header.space.items header.len header.size };
 }
 
 // The place of the first NUL.
@@ -81,12 +81,12 @@ fn first_above_ascii(bytes: &[u8]) -> Option<usize>
 
 // The text of a header whose size is known.
 fn text_of(bytes: &[u8], size: usize) -> Result<&[u8], HeaderFault>
-    requires long { 4096 ≤ length bytes.now }
+    requires long { least_header ≤ length bytes.now }
     requires size { header_size bytes.now ≡ Some size }
     ensures ok { IfOk result (λ text.
         header_of bytes.now ≡ Ok (record { size = size; text = text.now })) }
     ensures len { IfOk result (λ text. length text.now ≤ size) }
-    ensures fault { IfErr result (IsRefusal bytes.now) }
+    ensures fault { IfErr result (IsHeaderRefusal bytes.now) }
 {
     if bytes.len() < size {
         return Err(HeaderFault::Short { had: bytes.len() });
@@ -128,9 +128,9 @@ fn ascii_text(bytes: &[u8]) -> Option<&str>
 }
 
 impl Header {
-    /// A header of 4096 bytes with an empty text.
+    /// A header of the least size with an empty text.
     pub fn blank(alloc: Global) -> Result<Header, Memory>
-        ensures { IfOk result (λ header. header ≡ record { size = 4096; text = [] }) }
+        ensures { IfOk result (λ header. header ≡ record { size = least_header; text = [] }) }
     {
         blank_is_read_back();
         let space = zeros(alloc, MOST)?;
@@ -141,12 +141,12 @@ impl Header {
         })
     }
 
-    /// The size of the header that stands at the beginning of `first`: HDR_SIZE in its first 4096 bytes, or
-    /// 4096 where that is missing.
+    /// The size of the header that stands at the beginning of `first`: HDR_SIZE in its first 4096 bytes, the least size,
+    /// or this size where HDR_SIZE is missing.
     pub fn size_of(first: &[u8]) -> Result<usize, HeaderFault>
         ensures ok { IfOk result (λ size. header_size first.now ≡ Some size) }
-        ensures long { OnOk result (4096 ≤ length first.now) }
-        ensures range { IfOk result (λ size. (4096 ≤ size) × (size ≤ 65536)) }
+        ensures long { OnOk result (least_header ≤ length first.now) }
+        ensures range { IfOk result (λ size. (least_header ≤ size) × (size ≤ most_header)) }
         ensures fault { IfErr result (IsSizeRefusal first.now) }
     {
         if first.len() < LEAST {
@@ -167,7 +167,7 @@ impl Header {
         ensures ok { IfOk result (λ header. header_of bytes.now ≡ Ok header) }
         ensures front { IfOk result (λ header. (file : List ℕ)
             → take header.size file ≡ take header.size bytes.now → header_of file ≡ Ok header) }
-        ensures fault { IfErr result (Explains bytes.now) }
+        ensures fault { IfErr result (ExplainsHeader bytes.now) }
     {
         headers_by_front();
         let mut header = Header::blank(alloc)?;
@@ -178,7 +178,7 @@ impl Header {
     /// Reads a header in place of this one, which stays where the bytes are refused.
     pub fn read_again(&mut self, bytes: &[u8]) -> Result<(), HeaderFault>
         ensures ok { OnOk result (header_of bytes.now ≡ Ok self.new) }
-        ensures fault { IfErr result (λ fault. IsRefusal bytes.now fault × (self.new ≡ self.old)) }
+        ensures fault { IfErr result (λ fault. IsHeaderRefusal bytes.now fault × (self.new ≡ self.old)) }
     {
         headers_are_read_back();
         headers_are_text();
@@ -253,8 +253,8 @@ impl Header {
     /// The size in bytes, from 4096 to 65536.
     pub fn size(&self) -> usize
         ensures size { result ≡ self.now.size }
-        ensures least { 4096 ≤ result }
-        ensures most { result ≤ 65536 }
+        ensures least { least_header ≤ result }
+        ensures most { result ≤ most_header }
     {
         self.size
     }

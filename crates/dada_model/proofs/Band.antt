@@ -12,7 +12,7 @@ use Rattle.dada_model.specs.declared.key.Key.{Key}
 use Rattle.dada_model.specs.declared.key.Key.TheVariants.{Nchan, Nbit, Npol, Tsamp, Freq, Bw, ObsOffset}
 use Rattle.dada_model.specs.Fields.{Field}
 use Rattle.dada_model.specs.Observation.{Observation, Refusal, TooNarrow, signed_edge, number_of, observation_in, is_within, is_in_row, too_narrow, observation_of}
-use Rattle.dada_model.specs.Bounds.{IsInRange, IsBandWidth}
+use Rattle.dada_model.specs.Bounds.{ObservationInRange, IsBandWidth}
 use Rattle.dada_model.specs.Laws.{HasNumberInRow, AcceptedByRows}
 use Rattle.dada_model.proofs.Edges.{difference}
 use Rattle.dada_model.proofs.Accepted.{accepted_is, accepted_at, accepted_wide, accepted_when, number_when, none_when}
@@ -171,7 +171,7 @@ module _ (fields : List Field) (o : Observation) (accepted : observation_of fiel
   in_row_of : (key : Key) → HasNumberInRow fields key
   in_row_of key = number_when fields key (accepted_at fields o accepted key)
 
-  in_range : IsInRange (observation_in fields)
+  in_range : ObservationInRange (observation_in fields)
   unfolding observation_in
   in_range =
       let channels = bounded 2 4096 (number_of fields Nchan) _ (in_row_of Nchan).is (in_row_of Nchan).in_row in
@@ -201,11 +201,11 @@ module _ (fields : List Field) (o : Observation) (accepted : observation_of fiel
         early = offset.1;
       }
 
-  pub IsInRange-accepted : IsInRange o
-  IsInRange-accepted = rw (accepted_is fields o accepted) in_range
+  pub ObservationInRange-accepted : ObservationInRange o
+  ObservationInRange-accepted = rw (accepted_is fields o accepted) in_range
 
   wide_accepted : 1000 * o.channels ≤ o.width_hz
-  wide_accepted = let bounds = IsInRange-accepted in bounds.wide
+  wide_accepted = let bounds = ObservationInRange-accepted in bounds.wide
 
 pub accepted_by_rows : AcceptedByRows
 accepted_by_rows fields o = (

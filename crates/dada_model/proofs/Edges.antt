@@ -5,7 +5,7 @@ use Rattle.std.proofs.lemmas.Int.{ints}
 use Rattle.std.proofs.lemmas.Nat.{le-div, div_below, mul-le}
 use Rattle.std.proofs.lemmas.List.FromFn.{length-map-range_with_len, get_or-map-range_with_len}
 use Rattle.std.proofs.Math.Nat.{mul-le-mul_left, mul-le-mul_right, div-mul-le_self, div-le_of_le-mul}
-use Rattle.dada_model.specs.Bounds.{IsInRange}
+use Rattle.dada_model.specs.Bounds.{ObservationInRange}
 use Rattle.dada_model.specs.Edges.{AreEdges}
 use Rattle.dada_model.specs.Observation.{Observation, signed_edge, edge, edges, dispersion_span}
 
@@ -29,7 +29,7 @@ module _ (f b n k : ℕ) (foot : b + 2000 ≤ 2 * f) (small : k ≤ n) where
   above_foot = let below : b * k ≤ b * n = mul-le-mul_left b small in
       let room : (b + 2000) * n ≤ 2 * f * n = mul-le-mul_right n foot in omega arith
 
-module _ (o : Observation) (r : IsInRange o) where
+module _ (o : Observation) (r : ObservationInRange o) where
   within_band : (k : ℕ) → k ≤ o.channels →
       2000 * o.channels + 2 * o.width_hz * k ≤ 2 * o.centre_hz * o.channels + o.width_hz * o.channels
   within_band k small = above_foot o.centre_hz o.width_hz o.channels k r.foot small
@@ -105,7 +105,7 @@ span_below top foot apart low =
     let line : 2 * top * 2 ^ 71 ≤ (top * top - foot * foot) * 2 ^ 71 = mul-le-mul_right (2 ^ 71) apart_by in
     div-le_of_le-mul (top * top - foot * foot) (omega arith)
 
-module _ (o : Observation) (r : IsInRange o) where
+module _ (o : Observation) (r : ObservationInRange o) where
   dispersion_span_below : dispersion_span o ≤ 2 ^ 71
   unfolding dispersion_span
   dispersion_span_below =
@@ -124,7 +124,7 @@ module _ (o : Observation) (r : IsInRange o) where
       (omega arith) dispersion_span_below in
       omega arith
 
-pub AreEdges-edges : (o : Observation) → IsInRange o → AreEdges o.channels (edges o)
+pub AreEdges-edges : (o : Observation) → ObservationInRange o → AreEdges o.channels (edges o)
 AreEdges-edges o r = record {
   count = length-edges o;
   few = r.few_channels;

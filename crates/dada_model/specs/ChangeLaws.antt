@@ -1,6 +1,7 @@
 -- Laws of headers and of their changes; the functions of this crate carry them.
+-- Source: this project's choice.
 use Rattle.std.specs.Prelude.{◌≡◌, ◌≢◌, ℕ, ◌+◌, ◌<◌, ◌≤◌, ◌⊎◌, true, List, [], ◌∷◌, ◌++◌, All, length, take, slice_index, Some, Ok, codes}
-use Rattle.dada_model.specs.Fields.{without_comment, fields_of, value_of, HeaderText, header_of, header_bytes}
+use Rattle.dada_model.specs.Fields.{without_comment, fields_of, value_of, least_header, most_header, HeaderText, header_of, header_bytes}
 use Rattle.dada_model.specs.Change.{IsWord, has_key, blanked, changed}
 
 -- ---- headers
@@ -14,16 +15,16 @@ HeadersByFront = (bytes file : List ℕ) (header : HeaderText) → header_of byt
 abbrev pub IsReadBack : HeaderText → Type 0
 IsReadBack header = header_of (header_bytes header) ≡ Ok header
 
--- a header of 4096 bytes with an empty text is read back
+-- a header of the least size with an empty text is read back
 abbrev pub BlankIsReadBack : Type 0
-BlankIsReadBack = IsReadBack (record { size = 4096; text = [] })
+BlankIsReadBack = IsReadBack (record { size = least_header; text = [] })
 
 -- the text of a header that is read back is ASCII without NUL, and no longer than its size, which is in its range
 pub record IsHeader (header : HeaderText) : Type 0 where
   pub text : All (λ byte. (0 < byte) × (byte < 128)) header.text
   pub fits : length header.text ≤ header.size
-  pub least : 4096 ≤ header.size
-  pub most : header.size ≤ 65536
+  pub least : least_header ≤ header.size
+  pub most : header.size ≤ most_header
 
 abbrev pub HeadersAreText : Type 0
 HeadersAreText = (header : HeaderText) → IsReadBack header → IsHeader header

@@ -1,4 +1,5 @@
 -- Laws of the fields of a text, word by word and line by line; the functions of this crate carry them.
+-- Source: PSRDADA manual (a header is lines of keyword and value); the grammar is this project's choice.
 use Rattle.std.specs.Prelude.{◌≡◌, ℕ, ◌<◌, ◌≤◌, false, if◌then◌else◌, List, [], ◌∷◌, ◌++◌, All, length, drop, slice_range, ◌==◌, Option, Some, None}
 use Rattle.dada_model.specs.Fields.{words_of, Field, field_of_line, fields_of, value_of}
 use Rattle.dada_model.specs.Change.{word_start, word_end, has_key, with_value, blanked_line, overwritten, blanked}

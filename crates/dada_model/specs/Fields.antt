@@ -50,8 +50,16 @@ pub record HeaderText : Type 0 where
   pub size : ℕ
   pub text : List ℕ
 
--- why bytes are no header: fewer of them than a header has; a size that is no number or outside
--- 4096..=65536; the place of a byte above 127
+-- the least size of a header, and its size where HDR_SIZE is missing
+abbrev pub least_header : ℕ
+least_header = 4096
+
+-- the greatest size of a header
+abbrev pub most_header : ℕ
+most_header = 65536
+
+-- why bytes are no header: fewer of them than a header has; a size that is no number, or below the least or above the
+-- greatest; the place of a byte above 127
 pub data HeaderRefusal : Type 0 where
   ShortHeader : ℕ → HeaderRefusal
   BadHeaderSize : HeaderRefusal
@@ -63,16 +71,16 @@ before_nul bytes = before_first (λ byte. byte == 0) bytes
 
 abbrev pub allowed_size : Option ℤ → Option ℕ
 allowed_size None = None
-allowed_size (Some (pos size)) = if nat_le 4096 size && nat_le size 65536 then Some size else None
+allowed_size (Some (pos size)) = if nat_le least_header size && nat_le size most_header then Some size else None
 allowed_size (Some (negsuc _)) = None
 
 abbrev pub size_of_value : Option (List ℕ) → Option ℕ
-size_of_value None = Some 4096
+size_of_value None = Some least_header
 size_of_value (Some text) = allowed_size (number_value 0 text)
 
--- HDR_SIZE, looked up in the first 4096 bytes alone; `None` where it is refused
+-- HDR_SIZE, looked up in the first bytes alone, as many as the least header has; `None` where it is refused
 unfoldable pub header_size : List ℕ → Option ℕ
-header_size bytes = size_of_value (value_of (codes "HDR_SIZE") (fields_of (before_nul (take 4096 bytes))))
+header_size bytes = size_of_value (value_of (codes "HDR_SIZE") (fields_of (before_nul (take least_header bytes))))
 
 -- the text of a header of a size
 abbrev pub header_text : ℕ → List ℕ → List ℕ
@@ -97,7 +105,7 @@ header_of_size bytes (Some size) =
 -- the header that bytes begin with, or its first refusal; bytes past its size are ignored
 unfoldable pub header_of : List ℕ → Result HeaderText HeaderRefusal
 header_of bytes =
-    if nat_lt (length bytes) 4096
+    if nat_lt (length bytes) least_header
     then Err (ShortHeader (length bytes))
     else header_of_size bytes (header_size bytes)
 

@@ -1,4 +1,5 @@
 -- Laws of the definitions; the functions of this crate carry them.
+-- Source: PSRDADA manual (the keywords); the ranges are this project's choice.
 use Rattle.std.specs.Prelude.{◌≡◌, ℕ, ◌+◌, ◌-◌, ◌*◌, ◌/◌, ◌^◌, ◌<◌, ◌≤◌, ◌⊎◌, ◌↔◌, Bool, true, false, if◌then◌else◌, List, [], ◌∷◌, ◌++◌, All, length, Some, Ok, ℤ, pos, neg_ℤ, unsigned_abs, codes}
 use Rattle.std.specs.Char.{IsAsciiDigit}
 use Rattle.std.specs.Str.Parse.{digits_value}
@@ -7,7 +8,7 @@ use Rattle.dada_model.specs.declared.key.Key.TheVariants.{Bw}
 use Rattle.dada_model.specs.Number.{number_value}
 use Rattle.dada_model.specs.Fields.{Field}
 use Rattle.dada_model.specs.Observation.{Observation, number_of, observation_in, is_in_row, observation_of, edge, edges, dispersion_span}
-use Rattle.dada_model.specs.Bounds.{most_delay, IsInRange, IsBandWidth}
+use Rattle.dada_model.specs.Bounds.{most_delay, ObservationInRange, IsBandWidth}
 use Rattle.dada_model.specs.Edges.{AreEdges}
 
 -- ---- observations
@@ -27,7 +28,7 @@ AcceptedByRows = (fields : List Field) (o : Observation) →
 
 -- an accepted observation lies within its bounds
 abbrev pub AcceptedIsInRange : Type 0
-AcceptedIsInRange = (fields : List Field) (o : Observation) → observation_of fields ≡ Ok o → IsInRange o
+AcceptedIsInRange = (fields : List Field) (o : Observation) → observation_of fields ≡ Ok o → ObservationInRange o
 
 -- the row of BW in natural numbers
 abbrev pub BandsInRow : Type 0
@@ -37,16 +38,16 @@ BandsInRow = (o : Observation) (z : ℤ) → 0 < o.channels → (is_in_row o Bw 
 
 -- an observation within its bounds has such edges
 abbrev pub EdgesFall : Type 0
-EdgesFall = (o : Observation) → IsInRange o → AreEdges o.channels (edges o)
+EdgesFall = (o : Observation) → ObservationInRange o → AreEdges o.channels (edges o)
 
 -- its edge k in natural numbers
 abbrev pub EdgesAreQuotients : Type 0
-EdgesAreQuotients = (o : Observation) (k : ℕ) → IsInRange o → k ≤ o.channels →
+EdgesAreQuotients = (o : Observation) (k : ℕ) → ObservationInRange o → k ≤ o.channels →
     edge o k ≡ (2 * o.centre_hz * o.channels + o.width_hz * o.channels - 2 * o.width_hz * k) / (2000 * o.channels)
 
 -- no number in its dispersion measure reaches 2^122, up to the greatest delay
 abbrev pub DispersionFits : Type 0
-DispersionFits = (o : Observation) (d : ℕ) → IsInRange o → d ≤ most_delay →
+DispersionFits = (o : Observation) (d : ℕ) → ObservationInRange o → d ≤ most_delay →
     d * o.sample_ns * 241 * dispersion_span o < 2 ^ 122
 
 -- ---- number texts

@@ -6,7 +6,7 @@ use Rattle.std.specs.Result.{result_unwrap_or}
 use Rattle.std.specs.Int.{int_div_euclid}
 use Rattle.dada_model.specs.declared.key.Key.{Key}
 use Rattle.dada_model.specs.declared.key.Key.TheVariants.{Nchan, Nbit, Npol, Ndim, Tsamp, Freq, Bw, ObsOffset}
-use Rattle.dada_model.specs.Edges.{top_khz}
+use Rattle.dada_model.specs.Edges.{top_khz, most_centre_hz, most_channels}
 use Rattle.dada_model.specs.Number.{number_value}
 use Rattle.dada_model.specs.Fields.{Field, value_of}
 
@@ -119,12 +119,12 @@ is_within low high z = int_le low z && int_le z high
 
 -- the last column of the table: whether a value lies in its row. BW is judged by the edges of the band.
 abbrev pub is_in_row : Observation → Key → ℤ → Bool
-is_in_row o Nchan z = is_within (pos 2) (pos 4096) z
+is_in_row o Nchan z = is_within (pos 2) (pos most_channels) z
 is_in_row o Nbit z = is_within (pos 8) (pos 8) z || is_within (pos 16) (pos 16) z
 is_in_row o Npol z = is_within (pos 1) (pos 2) z
 is_in_row o Ndim z = is_within (pos 1) (pos 1) z
 is_in_row o Tsamp z = is_within (pos 1) (pos (2 ^ 30)) z
-is_in_row o Freq z = is_within (pos 1000) (pos 16000000000) z
+is_in_row o Freq z = is_within (pos 1000) (pos most_centre_hz) z
 is_in_row o Bw z = not (unsigned_abs z == 0) &&
     (int_le (pos 1) (signed_edge o o.channels) && int_le (signed_edge o 0) (pos top_khz))
 is_in_row o ObsOffset z = is_within (pos 0) (pos (10 ^ 15)) z

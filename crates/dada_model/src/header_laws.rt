@@ -23,7 +23,7 @@ pub fn headers_are_text()
     ensures { HeadersAreText }
 {}
 
-/// A header of 4096 bytes with an empty text is read back from its bytes.
+/// A header of the least size with an empty text is read back from its bytes.
 pub fn blank_is_read_back()
     ensures { BlankIsReadBack }
 {}

@@ -1,5 +1,5 @@
 -- The noise that a sum has to stand out of, and the least sum that does.
--- Source: this project's profile.
+-- Source: this project's choice.
 use Rattle.std.specs.Prelude.{ℕ, ◌^◌, ◌≤◌, ◌<◌, ◌↔◌, Option, Some, None}
 use Rattle.search_model.specs.Detection.{IsDetected}
 

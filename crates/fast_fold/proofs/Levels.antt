@@ -5,7 +5,7 @@ use Rattle.std.proofs.lemmas.Nat.{pow-add, mul-add-lt}
 use Rattle.std.proofs.Math.Nat.{mod-lt, mod-eq_of_lt}
 use Rattle.search_model.specs.Folds.{fold_sum}
 use Rattle.fdmt_rows.specs.Rows.{wrapping_sum}
-use Rattle.fast_fold.specs.Folding.{block_of, AreFolded, place_of}
+use Rattle.fast_fold.specs.Folding.{block_of, AreFolded, sum_place}
 use Rattle.fast_fold.specs.Merging.{AreMerged, at}
 use Rattle.fast_fold.proofs.Halves.{twice, block_halves, block_fits}
 
@@ -63,7 +63,7 @@ folded_none p m ys sums phases same fits = record {
       ∙ get_or-take (2 ^ 0 * p) (drop (b * (2 ^ 0 * p)) ys) q 0 (omega arith)
       ∙ get_or-drop (b * (2 ^ 0 * p)) ys q 0
       ∙ ap (λ k. slice_index ys k) (omega arith) in
-      let place : place_of p 0 b j q ≡ b * p + q =
+      let place : sum_place p 0 b j q ≡ b * p + q =
       ap (λ j. (b * 2 ^ 0 + j) * p + q) (let e : j ≡ 0 = omega arith in e) ∙ omega arith in
       ap (λ k. slice_index sums k) place
       ∙ same (b * p + q) inside

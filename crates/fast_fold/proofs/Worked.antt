@@ -1,7 +1,7 @@
 -- Worked values of the definitions, on the series 1 2 3 4 with the period 2.
 use Rattle.std.proofs.Common.{◌≡◌, [], ◌∷◌, refl}
 use Rattle.search_model.specs.Folds.{fold_sum, shift}
-use Rattle.fast_fold.specs.Folding.{block_of, place_of}
+use Rattle.fast_fold.specs.Folding.{block_of, sum_place}
 
 second_block : block_of (1 ∷ 2 ∷ 3 ∷ 4 ∷ []) 2 0 1 ≡ 3 ∷ 4 ∷ []
 second_block = refl
@@ -16,5 +16,5 @@ last_row_of_trial_3 : shift 2 3 3 ≡ 3
 last_row_of_trial_3 = refl
 
 -- phase 1 of trial 1 of block 0 of two blocks of two rows of five values
-place : place_of 5 1 0 1 1 ≡ 6
+place : sum_place 5 1 0 1 1 ≡ 6
 place = refl

@@ -18,18 +18,18 @@ abbrev pub block_of : List ℕ → ℕ → ℕ → ℕ → List ℕ
 block_of series p r b = take (2 ^ r * p) (drop (b * (2 ^ r * p)) series)
 
 -- the place of phase q of trial j of block b, where a block has 2^r trials of p phases
-abbrev pub place_of : ℕ → ℕ → ℕ → ℕ → ℕ → ℕ
-place_of p r b j q = (b * 2 ^ r + j) * p + q
+abbrev pub sum_place : ℕ → ℕ → ℕ → ℕ → ℕ → ℕ
+sum_place p r b j q = (b * 2 ^ r + j) * p + q
 
 -- after r of m halvings, the sums of each block are the fold sums of all its trials and phases
 pub record AreFolded (p m r : ℕ) (series sums : List ℕ) : Type 0 where
   pub fits : (k : ℕ) → k < 2 ^ m * p → slice_index series k * 2 ^ m < 2 ^ 32
   pub folded : (b j q : ℕ) → b < 2 ^ (m - r) → j < 2 ^ r → q < p
-      → slice_index sums (place_of p r b j q) ≡ fold_sum (block_of series p r b) p r j q
+      → slice_index sums (sum_place p r b j q) ≡ fold_sum (block_of series p r b) p r j q
 
 -- a folder holds the fold sums of a series
-abbrev pub StandsFor : Folding → List ℕ → Type 0
-StandsFor f series = AreFolded f.period f.halvings f.level series f.sums
+abbrev pub StandsForSeries : Folding → List ℕ → Type 0
+StandsForSeries f series = AreFolded f.period f.halvings f.level series f.sums
 
 -- it was loaded with 2^m rows of p values, and r halvings are done
 pub record IsAt (f : Folding) (p m r : ℕ) : Type 0 where

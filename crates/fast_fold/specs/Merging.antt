@@ -1,4 +1,5 @@
 -- How rows of sums are merged, place by place.
+-- Source: Staelin, Proc. IEEE 57:724, 1969 (the addition of two rows, one shifted by half of the trial).
 use Rattle.std.specs.Prelude.{ℕ, ◌+◌, ◌*◌, ◌/◌, ◌%◌, ◌≡◌, ◌<◌, List, slice_index}
 use Rattle.fdmt_rows.specs.Rows.{wrapping_sum}
 

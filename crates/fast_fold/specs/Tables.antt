@@ -1,4 +1,5 @@
 -- The two tables of a folder.
+-- Source: Staelin, Proc. IEEE 57:724, 1969 (folding by halves); the sizes are this project's choice.
 use Rattle.std.specs.Prelude.{ℕ, ◌*◌, ◌^◌, ◌≡◌, ◌<◌, ◌≤◌}
 
 -- the tables of a folder have room for all that it may be loaded with, and were loaded with no more

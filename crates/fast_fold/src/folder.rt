@@ -1,7 +1,7 @@
 // A folder: sums of a series, level by level.
 ghost use Rattle.std.specs.Prelude.{◌≡◌, ℕ, ◌+◌, ◌-◌, ◌*◌, ◌^◌, ◌<◌, ◌≤◌, List, length, slice_index, IfOk};
 ghost use Rattle.search_model.specs.Folds.{fold_sum};
-ghost use Rattle.fast_fold.specs.Folding.{Folding, IsAt, IsLoaded, HaveSameRoom, StandsFor, FoldsSeeRows, block_of};
+ghost use Rattle.fast_fold.specs.Folding.{Folding, IsAt, IsLoaded, HaveSameRoom, StandsForSeries, FoldsSeeRows, block_of};
 ghost use Rattle.fast_fold.specs.Tables.{IsRoomy};
 
 use crate::merge::merge_blocks;
@@ -70,7 +70,7 @@ impl Folder {
         requires fits { (k : ℕ) → k < 2 ^ m * p → slice_index series.now k * 2 ^ m < 2 ^ 32 }
         ensures room { HaveSameRoom self.new self.old }
         ensures level { IsAt self.new p m 0 }
-        ensures sums { StandsFor self.new series.now }
+        ensures sums { StandsForSeries self.new series.now }
     {
         let table = self.sums.as_mut_slice();
         copy_front(table, series, power(m) * p as usize);
@@ -85,7 +85,7 @@ impl Folder {
         requires more { self.old.level < self.old.halvings }
         ensures room { HaveSameRoom self.new self.old }
         ensures level { IsAt self.new self.old.period self.old.halvings (self.old.level + 1) }
-        ensures sums { (series : List ℕ) → StandsFor self.old series → StandsFor self.new series }
+        ensures sums { (series : List ℕ) → StandsForSeries self.old series → StandsForSeries self.new series }
     {
         let rows = power(self.level);
         let blocks = power(self.halvings - self.level - 1);
@@ -115,7 +115,7 @@ impl Folder {
         requires block { block < 2 ^ (self.now.halvings - self.now.level) }
         requires trial { j < 2 ^ self.now.level }
         ensures phases { length result.now ≡ self.now.period }
-        ensures sums { (series : List ℕ) (q : ℕ) → StandsFor self.now series → q < self.now.period
+        ensures sums { (series : List ℕ) (q : ℕ) → StandsForSeries self.now series → q < self.now.period
             → slice_index result.now q
             ≡ fold_sum (block_of series self.now.period self.now.level block) self.now.period
             self.now.level j q }

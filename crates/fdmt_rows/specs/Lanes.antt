@@ -1,4 +1,5 @@
 -- What a search for the greatest value keeps, eight lanes wide.
+-- Source: this project's choice.
 use Rattle.std.specs.Prelude.{ℕ, ◌%◌, ◌≡◌, ◌<◌, ◌≤◌, ◌⊎◌, List, length, slice_index}
 use Rattle.std.specs.List.{Contains}
 

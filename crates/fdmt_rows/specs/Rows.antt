@@ -1,4 +1,5 @@
 -- What the loops over whole rows give. A row is a list of values, and reads as 0 past its end.
+-- Source: this project's choice.
 use Rattle.std.specs.Prelude.{ℕ, ◌+◌, ◌%◌, ◌^◌, ◌≡◌, ◌<◌, ◌≤◌, List, length, sum, slice_index, drop, take}
 use Rattle.std.specs.List.{Contains}
 
@@ -16,8 +17,8 @@ AddsPlainly out a b = (k : ℕ) → slice_index a k + slice_index b k < 2 ^ 32
     → slice_index out k ≡ slice_index a k + slice_index b k
 
 -- the sum of `count` values of a row, from the k-th on
-abbrev pub sum_of : List ℕ → ℕ → ℕ → ℕ
-sum_of row k count = sum (take count (drop k row))
+abbrev pub sum_from : List ℕ → ℕ → ℕ → ℕ
+sum_from row k count = sum (take count (drop k row))
 
 -- the greatest value of a row, 0 where it has none
 pub record IsGreatest (row : List ℕ) (x : ℕ) : Type 0 where

@@ -1,4 +1,5 @@
 -- What a step of a loop over a row leaves.
+-- Source: this project's choice.
 use Rattle.std.specs.Prelude.{ℕ, ◌≡◌, ◌<◌, ◌≤◌, List, slice_index}
 
 -- the values from `from` on, up to `end`, are those given; all others stay

@@ -2,7 +2,7 @@
 #![tactic(auto)]
 
 ghost use Rattle.std.specs.Prelude.{◌≡◌, ℕ, ◌+◌, ◌-◌, ◌<◌, ◌≤◌, ◌^◌, length, slice_index};
-ghost use Rattle.fdmt_rows.specs.Rows.{AddsWrapping, AddsPlainly, IsGreatest, sum_of};
+ghost use Rattle.fdmt_rows.specs.Rows.{AddsWrapping, AddsPlainly, IsGreatest, sum_from};
 
 mod lanes;
 mod maxima;
@@ -37,9 +37,9 @@ pub fn add_to_row(row: &mut [u32], a: &[u32])
 pub fn running(out: &mut [u32], x: &[u32])
     requires longer { length out.old ≤ length x.now }
     requires fits { (k : ℕ) → k < length out.old
-        → sum_of x.now k (length x.now - length out.old + 1) < 2 ^ 32 }
+        → sum_from x.now k (length x.now - length out.old + 1) < 2 ^ 32 }
     ensures { (k : ℕ) → k < length out.new
-        → slice_index out.new k ≡ sum_of x.now k (length x.now - length out.new + 1) }
+        → slice_index out.new k ≡ sum_from x.now k (length x.now - length out.new + 1) }
 {
     let count = out.len();
     out.copy_from_slice(&x[..count]);

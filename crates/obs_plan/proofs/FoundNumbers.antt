@@ -5,7 +5,7 @@ use Rattle.std.specs.Int.{cast_signed, cast_unsigned}
 use Rattle.std.proofs.lemmas.Int.{to_z-of_z}
 use Rattle.psr_base.specs.declared.fixed.NumberFault.{NumberFault}
 use Rattle.psr_base.specs.declared.fixed.NumberFault.TheVariants.{BadNumber as NotNumber, TooLarge}
-use Rattle.psr_base.specs.Fixed.{Explains}
+use Rattle.psr_base.specs.Fixed.{ExplainsNumber}
 use Rattle.dada_model.specs.declared.key.Key.{Key}
 use Rattle.dada_model.specs.declared.key.Key.TheVariants.{Npol, Ndim, ObsOffset}
 use Rattle.dada_model.specs.Number.{number_value}
@@ -48,12 +48,12 @@ default_small _ z e = (cc)
 
 -- why a text isn't read
 pub told_bad : (k : ℕ) (text : List ℕ) (fault : NumberFault) (place : ℕ) → fault ≡ NotNumber place →
-    Explains k text fault → number_value k text ≡ None
-told_bad k text fault place e h = let P : NumberFault → Type 0 = Explains k text in (subst P e h).0
+    ExplainsNumber k text fault → number_value k text ≡ None
+told_bad k text fault place e h = let P : NumberFault → Type 0 = ExplainsNumber k text in (subst P e h).0
 
-pub told_large : (k : ℕ) (text : List ℕ) (fault : NumberFault) → fault ≡ TooLarge → Explains k text fault →
-    Explains k text TooLarge
-told_large k text fault e h = let P : NumberFault → Type 0 = Explains k text in subst P e h
+pub told_large : (k : ℕ) (text : List ℕ) (fault : NumberFault) → fault ≡ TooLarge → ExplainsNumber k text fault →
+    ExplainsNumber k text TooLarge
+told_large k text fault e h = let P : NumberFault → Type 0 = ExplainsNumber k text in subst P e h
 
 -- a number that was read is held as it is
 pub held : (P : ℤ → Type 0) (z : ℤ) → SFits w64 z → P z → P (cast_signed w64 (cast_unsigned w64 z))

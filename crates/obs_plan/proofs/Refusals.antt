@@ -7,13 +7,13 @@ use Rattle.dada_model.specs.Fields.{Field}
 use Rattle.dada_model.specs.Observation.{Refusal, keys, number_of, observation_in, is_in_row, outside, refusal_at, too_narrow, refusals, unless_refused, observation_of}
 use Rattle.obs_plan.specs.declared.fault.ObsFault.{ObsFault}
 use Rattle.obs_plan.specs.declared.fault.ObsFault.TheVariants.{Missing, BadNumber, OutOfProfile, OutOfRange, TooNarrow, Differs, Memory}
-use Rattle.obs_plan.specs.Faults.{IsRefusal, IsRefusedAt, IsRefusedFirst}
+use Rattle.obs_plan.specs.Faults.{IsObservationRefusal, IsRefusedAt, IsRefusedFirst}
 use Rattle.obs_plan.specs.Rows.{IsTaken}
 
 -- ---- faults
 
 pub refusal_map : (P Q : Refusal → Type 0) → ((refusal : Refusal) → P refusal → Q refusal) → (fault : ObsFault) →
-    IsRefusal P fault → IsRefusal Q fault
+    IsObservationRefusal P fault → IsObservationRefusal Q fault
 refusal_map P Q f (Missing key) h = f _ h
 refusal_map P Q f (BadNumber key) h = f _ h
 refusal_map P Q f (OutOfProfile key) h = f _ h
@@ -35,7 +35,7 @@ module _ (fields : List Field) (key : Key) where
   refused_row z e row = rw e (rw row refl)
 
   -- the fault of a value outside its row
-  pub refused_outside : (fault : ObsFault) → IsRefusal (λ refusal. refusal ≡ outside key) fault → (z : ℤ) →
+  pub refused_outside : (fault : ObsFault) → IsObservationRefusal (λ refusal. refusal ≡ outside key) fault → (z : ℤ) →
       number_of fields key ≡ Ok z → is_in_row (observation_in fields) key z ≡ false → IsRefusedAt fields key fault
   refused_outside fault is z e row =
       refusal_map (λ refusal. refusal ≡ outside key) (λ refusal. refusal_at fields key ≡ Some refusal)

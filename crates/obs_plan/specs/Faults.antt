@@ -8,22 +8,22 @@ use Rattle.obs_plan.specs.declared.fault.ObsFault.{ObsFault}
 use Rattle.obs_plan.specs.declared.fault.ObsFault.TheVariants.{Missing, BadNumber, OutOfProfile, OutOfRange, TooNarrow, Differs, Memory}
 
 -- the fault is a refusal of which P holds
-abbrev pub IsRefusal : (Refusal → Type 0) → ObsFault → Type 0
-IsRefusal P (Missing key) = P (model.Missing key)
-IsRefusal P (BadNumber key) = P (model.BadNumber key)
-IsRefusal P (OutOfProfile key) = P (model.OutOfProfile key)
-IsRefusal P (OutOfRange key) = P (model.OutOfRange key)
-IsRefusal P (TooNarrow bw nchan) = P (model.TooNarrow bw nchan)
-IsRefusal P (Differs key) = ⊥
-IsRefusal P Memory = ⊥
+abbrev pub IsObservationRefusal : (Refusal → Type 0) → ObsFault → Type 0
+IsObservationRefusal P (Missing key) = P (model.Missing key)
+IsObservationRefusal P (BadNumber key) = P (model.BadNumber key)
+IsObservationRefusal P (OutOfProfile key) = P (model.OutOfProfile key)
+IsObservationRefusal P (OutOfRange key) = P (model.OutOfRange key)
+IsObservationRefusal P (TooNarrow bw nchan) = P (model.TooNarrow bw nchan)
+IsObservationRefusal P (Differs key) = ⊥
+IsObservationRefusal P Memory = ⊥
 
 -- it is what is refused at a key, and what is refused first
 abbrev pub IsRefusedAt : List Field → Key → ObsFault → Type 0
-IsRefusedAt fields key fault = IsRefusal (λ refusal. refusal_at fields key ≡ Some refusal) fault
+IsRefusedAt fields key fault = IsObservationRefusal (λ refusal. refusal_at fields key ≡ Some refusal) fault
 
 abbrev pub IsRefusedFirst : List Field → ObsFault → Type 0
-IsRefusedFirst fields fault = IsRefusal (λ refusal. observation_of fields ≡ Err refusal) fault
+IsRefusedFirst fields fault = IsObservationRefusal (λ refusal. observation_of fields ≡ Err refusal) fault
 
 -- a header's fault is its first refusal, or want of memory
-abbrev pub Explains : List Field → ObsFault → Type 0
-Explains fields fault = (fault ≡ Memory) ⊎ IsRefusedFirst fields fault
+abbrev pub ExplainsObservation : List Field → ObsFault → Type 0
+ExplainsObservation fields fault = (fault ≡ Memory) ⊎ IsRefusedFirst fields fault

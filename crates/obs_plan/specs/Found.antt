@@ -1,4 +1,5 @@
 -- What a header has for a key.
+-- Source: PSRDADA manual (the keywords); the numbers are this project's choice.
 use Rattle.std.specs.Prelude.{◌≡◌, ◌<◌, ◌≤◌, ◌^◌, List, Ok, Err, ℤ, unsigned_abs}
 use Rattle.dada_model.specs.declared.key.Key.{Key}
 use Rattle.dada_model.specs.Fields.{Field}

@@ -1,4 +1,5 @@
 -- What the numbers of a header stand for.
+-- Source: PSRDADA manual (the keywords); the units are this project's choice.
 use Rattle.dada_model.specs.Observation.{Observation}
 use Rattle.obs_plan.specs.declared.numbers.Numbers.{Numbers}
 

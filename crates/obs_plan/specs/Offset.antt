@@ -1,4 +1,5 @@
 -- What the header of a later file has for a key.
+-- Source: PSRDADA manual (OBS_OFFSET); the ranges are this project's choice.
 use Rattle.std.specs.Prelude.{ℕ, ◌^◌, Bool, false, ◌&&◌, nat_le, if◌then◌else◌, Result, Ok, Err, ℤ, pos, unsigned_abs}
 use Rattle.dada_model.specs.declared.key.Key.TheVariants.{ObsOffset}
 use Rattle.dada_model.specs.Observation.{Refusal, is_within}

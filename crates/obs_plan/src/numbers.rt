@@ -2,7 +2,7 @@
 ghost use Rattle.std.specs.Prelude.{◌≡◌, ℕ, ◌*◌, ◌+◌, ◌<◌, ◌≤◌, Ok, IfOk, IfErr};
 ghost use Rattle.dada_model.specs.Fields.{fields_of};
 ghost use Rattle.dada_model.specs.Observation.{observation_of, edge as edge_of, edges as edges_of, dispersion_span as dispersion_span_of, dm as dm_of, max_sample as max_sample_of};
-ghost use Rattle.dada_model.specs.Bounds.{IsInRange};
+ghost use Rattle.dada_model.specs.Bounds.{most_delay, ObservationInRange};
 ghost use Rattle.obs_plan.specs.Faults.{IsRefusedFirst};
 ghost use Rattle.obs_plan.specs.Later.{profile_of};
 
@@ -17,6 +17,12 @@ use dada_model::{
 };
 use std::alloc::{AllocError, Global};
 
+// The most channels of a band.
+const MOST_CHANNELS: u64 = 4096;
+
+// The greatest centre of a band, in Hz.
+const MOST_CENTRE_HZ: u64 = 16_000_000_000;
+
 /// The numbers of an observation, in its units.
 #[derive(Clone, Copy)]
 pub(crate) struct Numbers {
@@ -28,7 +34,7 @@ pub(crate) struct Numbers {
     pub(crate) width_hz: u64,
     pub(crate) falling: bool,
     pub(crate) obs_offset: u64,
-    ghost in_range: { IsInRange (record {
+    ghost in_range: { ObservationInRange (record {
       channels = channels;
       nbit = nbit;
       npol = npol;
@@ -51,12 +57,12 @@ impl Numbers {
     {
         accepted_by_rows();
         accepted_is_in_range();
-        let channels = number_in(header, Key::Nchan, 2, 4096)?;
+        let channels = number_in(header, Key::Nchan, 2, MOST_CHANNELS)?;
         let nbit = bits(header)?;
         let npol = number_in(header, Key::Npol, 1, 2)?;
         number_in(header, Key::Ndim, 1, 1)?;
         let sample_ns = number_in(header, Key::Tsamp, 1, 1 << 30)?;
-        let centre_hz = number_in(header, Key::Freq, 1000, 16_000_000_000)?;
+        let centre_hz = number_in(header, Key::Freq, 1000, MOST_CENTRE_HZ)?;
         let bw_hz = band(header, channels, centre_hz)?;
         let obs_offset = number_in(header, Key::ObsOffset, 0, 1_000_000_000_000_000)?;
         let width_hz = bw_hz.unsigned_abs();
@@ -113,7 +119,7 @@ impl Numbers {
 
     /// The dispersion measure of a delay of `d` spectra, in thousandths.
     pub(crate) fn dm(&self, d: u32) -> u64
-        requires { d ≤ 8192 }
+        requires { d ≤ most_delay }
         ensures { result ≡ dm_of (shown_by self.now) d }
     {
         dispersion_fits();

@@ -2,9 +2,9 @@
 ghost use Rattle.std.specs.Prelude.{◌≡◌, ◌≤◌, Ok, IfOk, IfErr};
 ghost use Rattle.dada_model.specs.Fields.{fields_of};
 ghost use Rattle.dada_model.specs.Observation.{Observation as Described, observation_of, edges as edges_of, dm as dm_of, max_sample as max_sample_of};
-ghost use Rattle.dada_model.specs.Bounds.{IsInRange};
+ghost use Rattle.dada_model.specs.Bounds.{most_delay, ObservationInRange};
 ghost use Rattle.dada_model.specs.Edges.{AreEdges};
-ghost use Rattle.obs_plan.specs.Faults.{Explains};
+ghost use Rattle.obs_plan.specs.Faults.{ExplainsObservation};
 ghost use Rattle.obs_plan.specs.Later.{profile_of};
 
 use crate::fault::ObsFault;
@@ -42,8 +42,8 @@ impl Observation {
     /// number, or outside its row; last that a channel has less than 1 kHz. It is never `Differs`.
     pub fn of(alloc: Global, header: &Header) -> Result<Observation, ObsFault>
         ensures ok { IfOk result (λ o. observation_of (fields_of header.now.text) ≡ Ok o) }
-        ensures bounds { IfOk result IsInRange }
-        ensures fault { IfErr result (Explains (fields_of header.now.text)) }
+        ensures bounds { IfOk result ObservationInRange }
+        ensures fault { IfErr result (ExplainsObservation (fields_of header.now.text)) }
     {
         let numbers = Numbers::of(header)?;
         let edges = numbers.edges(alloc)?;
@@ -52,7 +52,7 @@ impl Observation {
 
     /// What is said of an observation within its bounds holds of this one. It does nothing.
     pub fn lies_in_range(&self)
-        ensures { IsInRange self.now }
+        ensures { ObservationInRange self.now }
     {
         let _ = &self.numbers;
     }
@@ -124,7 +124,7 @@ impl Observation {
 
     /// The dispersion measure of a delay of `d` spectra across the band, in thousandths of pc/cm^3.
     pub fn dm(&self, d: u32) -> u64
-        requires { d ≤ 8192 }
+        requires { d ≤ most_delay }
         ensures { result ≡ dm_of self.now d }
     {
         self.numbers.dm(d)

@@ -1,8 +1,9 @@
 // The numbers of a header, each judged in its row.
 ghost use Rattle.std.specs.Prelude.{◌≡◌, ℕ, ℤ, ◌+◌, ◌*◌, ◌^◌, ◌<◌, ◌≤◌, ◌↔◌, ◌≤ℤ◌, IsTrue, Ok, pos, false, IfOk, IfErr, unsigned_abs};
+ghost use Rattle.dada_model.specs.Edges.{top_khz, most_centre_hz};
 ghost use Rattle.dada_model.specs.Fields.{fields_of};
 ghost use Rattle.dada_model.specs.Observation.{outside as outside_of, number_of, observation_in, is_in_row, is_within as is_within_of, Observation};
-ghost use Rattle.obs_plan.specs.Faults.{IsRefusal, IsRefusedAt};
+ghost use Rattle.obs_plan.specs.Faults.{IsObservationRefusal, IsRefusedAt};
 ghost use Rattle.obs_plan.specs.Rows.{LargeIsOutside, IsTaken, IsBand};
 
 use crate::fault::ObsFault;
@@ -12,9 +13,12 @@ use dada_model::Key;
 // A law: it does nothing when it runs, and the proofs use what it ensures.
 use dada_model::bands_in_row;
 
+// The greatest edge of a band, in kHz.
+const TOP_KHZ: u64 = 1 << 24;
+
 // The fault of a value outside a key's row.
 fn outside(key: Key) -> ObsFault
-    ensures { IsRefusal (λ refusal. refusal ≡ outside_of key) result }
+    ensures { IsObservationRefusal (λ refusal. refusal ≡ outside_of key) result }
 {
     match key {
         Key::Nbit | Key::Npol | Key::Ndim => ObsFault::OutOfProfile(key),
@@ -74,13 +78,13 @@ pub(crate) fn bits(header: &Header) -> Result<u64, ObsFault>
     }
 }
 
-// Whether a band has its foot at 1 kHz or above and its top at 16777216 kHz or below.
+// Whether a band has its foot at 1 kHz or above and its top at the greatest edge or below.
 fn is_band(width_hz: u64, centre_hz: u64) -> bool
     requires width { width_hz ≤ 2 ^ 63 }
-    requires centre { centre_hz ≤ 16000000000 }
+    requires centre { centre_hz ≤ most_centre_hz }
     ensures { IsTrue result ↔ IsBand width_hz centre_hz }
 {
-    0 < width_hz && width_hz + 2000 <= 2 * centre_hz && 2 * centre_hz + width_hz < 2000 * 16_777_217
+    0 < width_hz && width_hz + 2000 <= 2 * centre_hz && 2 * centre_hz + width_hz < 2000 * (TOP_KHZ + 1)
 }
 
 /// BW in Hz.
@@ -88,9 +92,9 @@ pub(crate) fn band(header: &Header, channels: u64, centre_hz: u64) -> Result<i64
     requires channels { number_of (fields_of header.now.text) Key.Nchan ≡ Ok (pos channels) }
     requires some { 0 < channels }
     requires centre { number_of (fields_of header.now.text) Key.Freq ≡ Ok (pos centre_hz) }
-    requires high { centre_hz ≤ 16000000000 }
+    requires high { centre_hz ≤ most_centre_hz }
     ensures taken { IfOk result (λ z. IsTaken (fields_of header.now.text) Key.Bw z) }
-    ensures narrow { IfOk result (λ z. unsigned_abs z < 2000 * 16777217) }
+    ensures narrow { IfOk result (λ z. unsigned_abs z < 2000 * (top_khz + 1)) }
     ensures fault { IfErr result (IsRefusedAt (fields_of header.now.text) Key.Bw) }
 {
     bands_in_row();

@@ -11,7 +11,7 @@ use Rattle.std.proofs.lemmas.Simd.{map-map}
 use Rattle.std.proofs.lemmas.Slice.Eq.{bytes_eq-Decides}
 use Rattle.std.proofs.lemmas.Map.Views.{Contains-from_any, list_any-from_Contains}
 use Rattle.psr_base.specs.Made.{NamedBytes, Made, HasName, names_in, bodies_in, files_in, longer_by}
-use Rattle.psr_base.specs.Stored.{name_of, is_named, bytes_of, named, IsWithin, all_stored, made_in}
+use Rattle.psr_base.specs.Stored.{name_of, is_stored_as, bytes_of, named, LiesWithin, all_stored, made_in}
 use Rattle.psr_base.specs.declared.stored.StoredFile.{StoredFile}
 
 -- ---- names and bytes of all files
@@ -52,7 +52,7 @@ body_at-stored buffer finished unfinished i file at =
 -- ---- more bytes in the buffer
 
 -- the bytes of a file that lies before them stay
-bytes_of-before : (buffer more : List ℕ) (file : StoredFile) → IsWithin (length buffer) file →
+bytes_of-before : (buffer more : List ℕ) (file : StoredFile) → LiesWithin (length buffer) file →
     bytes_of (buffer ++ more) file ≡ bytes_of buffer file
 bytes_of-before buffer more file within =
     ap (take file.len) (drop-append-le file.start buffer more (omega arith))
@@ -61,14 +61,14 @@ bytes_of-before buffer more file within =
 All-tail : {X : Type 0} (P : X → Type 0) (x : X) (xs : List X) → All P (x ∷ xs) → All P xs
 All-tail P x xs all = λ k d within. all (suc k) d (omega arith)
 
-named-before : (buffer more : List ℕ) (files : List StoredFile) → All (IsWithin (length buffer)) files →
+named-before : (buffer more : List ℕ) (files : List StoredFile) → All (LiesWithin (length buffer)) files →
     map (named (buffer ++ more)) files ≡ map (named buffer) files
 named-before buffer more [] within = refl
 named-before buffer more (file ∷ files) within =
     ap (λ (bytes : List ℕ). let it : NamedBytes = record { name = name_of file; bytes = bytes } in
     it ∷ map (named (buffer ++ more)) files) (bytes_of-before buffer more file (within 0 file (omega arith)))
     ∙ ap (λ (rest : List NamedBytes). named buffer file ∷ rest)
-    (named-before buffer more files (All-tail (IsWithin (length buffer)) file files within))
+    (named-before buffer more files (All-tail (LiesWithin (length buffer)) file files within))
 
 -- the last file has them behind its own
 bytes_of-last : (buffer more : List ℕ) (start len : ℕ) → start + len ≡ length buffer →
@@ -81,7 +81,7 @@ bytes_of-last buffer more start len ends =
     ∙ ap (λ (bytes : List ℕ). bytes ++ more) (sym (take_all len (drop start buffer) (omega (arith, long))))
 
 pub made_in-longer : (buffer more longer : List ℕ) (finished : List StoredFile) (file new : StoredFile) →
-    longer ≡ buffer ++ more → All (IsWithin (length buffer)) finished → file.start + file.len ≡ length buffer →
+    longer ≡ buffer ++ more → All (LiesWithin (length buffer)) finished → file.start + file.len ≡ length buffer →
     name_of new ≡ name_of file → new.start ≡ file.start → new.len ≡ file.len + length more →
     made_in longer finished (Some new) ≡ longer_by more (made_in buffer finished (Some file))
 made_in-longer buffer more longer finished file new is within ends name start len =
@@ -125,10 +125,10 @@ bytes_eq-IsEquivalence = record {
 
 -- whether a file has the name, over the names
 list_any-names : (name : List ℕ) (files : List StoredFile) →
-    list_any (is_named name) files ≡ list_any (bytes_eq name) (map name_of files)
+    list_any (is_stored_as name) files ≡ list_any (bytes_eq name) (map name_of files)
 list_any-names name [] = refl
 list_any-names name (file ∷ files) =
-    ap (λ (b : Bool). b || list_any (is_named name) files) (bytes_eq-IsEquivalence.symm (name_of file) name)
+    ap (λ (b : Bool). b || list_any (is_stored_as name) files) (bytes_eq-IsEquivalence.symm (name_of file) name)
     ∙ ap (λ (rest : Bool). bytes_eq name (name_of file) || rest) (list_any-names name files)
 
 -- the names, where no file is unfinished
@@ -139,7 +139,7 @@ names_in-finished buffer finished None none = names_in-made_in buffer finished N
 names_in-finished buffer finished (Some file) none = absurd (none refl)
 
 pub HasName-any : (buffer : List ℕ) (finished : List StoredFile) (unfinished : Option StoredFile) (name : List ℕ) →
-    ¬ IsSome unfinished → list_any (is_named name) finished ≡ true →
+    ¬ IsSome unfinished → list_any (is_stored_as name) finished ≡ true →
     HasName (made_in buffer finished unfinished) name
 HasName-any buffer finished unfinished name none any =
     let P : List (List ℕ) → Type 0 = λ names. Contains names name in
@@ -149,7 +149,7 @@ HasName-any buffer finished unfinished name none any =
 
 pub any-HasName : (buffer : List ℕ) (finished : List StoredFile) (unfinished : Option StoredFile) (name : List ℕ) →
     ¬ IsSome unfinished → HasName (made_in buffer finished unfinished) name →
-    list_any (is_named name) finished ≡ true
+    list_any (is_stored_as name) finished ≡ true
 any-HasName buffer finished unfinished name none has =
     let P : List (List ℕ) → Type 0 = λ names. Contains names name in
     list_any-names name finished

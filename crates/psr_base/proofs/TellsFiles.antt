@@ -3,7 +3,7 @@ use Rattle.std.proofs.Common.{◌≡◌, ℕ, ◌≤◌, ◌<◌, List, [], ◌�
 use Rattle.std.specs.Option.{option_map, ForSome}
 use Rattle.std.proofs.lemmas.List.{take_all}
 use Rattle.psr_base.specs.Count.{CallCount, FailsNext, Rose}
-use Rattle.psr_base.specs.Made.{Made, FilesLeft, FilesSeen, HasName, Created, AppendedAll, Finished, MakingFails, CanCreate, begun, longer_by, ended, less_a_file, less_bytes}
+use Rattle.psr_base.specs.Made.{Made, FilesLeft, FilesSeen, HasName, Created, AppendedAll, Finished, MakingFails, CanCreate, with_new_file, longer_by, with_all_finished, less_a_file, less_bytes}
 use Rattle.psr_base.specs.InMemory.{told_where}
 use Rattle.psr_base.proofs.Tells.{empty_contains}
 
@@ -35,7 +35,7 @@ free_of-known calls left x known fails =
     empty_contains calls.number (subst P (told_where-known calls.fail left x known).0 fails)
 
 pub Created-told : {T E : Type 0} (r : Result T E) (name : List ℕ) (old new : Made) (fail fail' : List ℕ)
-    (left left' : FilesLeft) (n m : ℕ) → OnOk r (new ≡ begun name old) → fail' ≡ fail →
+    (left left' : FilesLeft) (n m : ℕ) → OnOk r (new ≡ with_new_file name old) → fail' ≡ fail →
     OnOk r (left' ≡ less_a_file left) → OnOk r (m ≡ n) →
     OnOk r (Created name (seen_of old fail left n) (seen_of new fail' left' m))
 Created-told (Ok x) name old new fail fail' left left' n m made same less quiet =
@@ -60,7 +60,7 @@ AppendedAll-told (Ok k) bytes old new fail fail' left left' n m whole made same 
 AppendedAll-told (Err x) bytes old new fail fail' left left' n m whole made same less quiet = tt
 
 pub Finished-told : {T E : Type 0} (r : Result T E) (old new : Made) (fail fail' : List ℕ) (left left' : FilesLeft)
-    (n m : ℕ) → OnOk r (new ≡ ended old) → fail' ≡ fail → left' ≡ left → OnOk r (m ≡ n) →
+    (n m : ℕ) → OnOk r (new ≡ with_all_finished old) → fail' ≡ fail → left' ≡ left → OnOk r (m ≡ n) →
     OnOk r (Finished (seen_of old fail left n) (seen_of new fail' left' m))
 Finished-told (Ok x) old new fail fail' left left' n m made same stays quiet =
     record { made = ap Some made; left = told_where-stays fail fail' left left' same stays; faults = quiet }

@@ -1,4 +1,5 @@
 -- Counts of calls and of faults.
+-- Source: this project's choice.
 use Rattle.std.specs.Prelude.{ℕ, ◌+◌, ◌-◌, ◌^◌, ◌≤◌, min, List, Contains}
 
 -- a count after one more, which stays at the greatest u64

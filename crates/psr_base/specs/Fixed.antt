@@ -1,4 +1,5 @@
 -- Numbers with a fixed count of decimals: where a text stops being one, why one is refused, and how one is written.
+-- Source: this project's choice.
 use Rattle.std.specs.Prelude.{◌≡◌, ℕ, ◌-◌, ◌/◌, ◌%◌, ◌^◌, ◌<◌, ◌≤◌, IsTrue, ◌==◌, if◌then◌else◌, List, [], ◌∷◌, ◌++◌, length, take, replicate, Some, None, ℤ, pos, int_lt, unsigned_abs}
 use Rattle.std.specs.Fmt.{decimal, sign_text}
 use Rattle.dada_model.specs.Number.{is_number, number_value}
@@ -18,9 +19,9 @@ pub record StopsAt (text : List ℕ) (place : ℕ) : Type 0 where
   pub longest : (n : ℕ) → place < n → n ≤ length text → ¬ BeginsNumber (take n text)
 
 -- what a fault says of a text that is read with k decimals
-abbrev pub Explains : ℕ → List ℕ → NumberFault → Type 0
-Explains k text (BadNumber place) = (number_value k text ≡ None) × StopsAt text place
-Explains k text TooLarge = (z : ℤ) × (number_value k text ≡ Some z) × (10 ^ 18 < unsigned_abs z)
+abbrev pub ExplainsNumber : ℕ → List ℕ → NumberFault → Type 0
+ExplainsNumber k text (BadNumber place) = (number_value k text ≡ None) × StopsAt text place
+ExplainsNumber k text TooLarge = (z : ℤ) × (number_value k text ≡ Some z) × (10 ^ 18 < unsigned_abs z)
 
 -- ---- writing
 

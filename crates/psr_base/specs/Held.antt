@@ -1,4 +1,5 @@
 -- What files that are held in memory tell.
+-- Source: this project's choice.
 use Rattle.std.specs.Prelude.{IsSome}
 use Rattle.psr_base.specs.Told.{Told}
 use Rattle.psr_base.specs.NamedFiles.{bytes_in, reading_of}

@@ -1,4 +1,5 @@
 -- What the objects in memory tell.
+-- Source: this project's choice.
 use Rattle.std.specs.Prelude.{ℕ, ◌-◌, ◌≤◌, ◌<◌, List, [], ◌∷◌, Option, Some, None, IsTrue, IsSome, length, vec_len}
 use Rattle.psr_base.specs.Count.{CallCount}
 use Rattle.psr_base.specs.Told.{Told}

@@ -1,4 +1,5 @@
 -- What is seen of files that are made, one after another, and what the calls do to it.
+-- Source: this project's choice.
 use Rattle.std.specs.Prelude.{◌≡◌, ℕ, ◌-◌, ◌≤◌, ◌<◌, List, [], ◌++◌, length, map, Option, Some, None, Result, OnOk, OnErr, Contains, option_to_list}
 use Rattle.std.specs.Option.{option_map, ForSome}
 use Rattle.psr_base.specs.Count.{Rose}
@@ -41,8 +42,8 @@ abbrev pub HasName : Made → List ℕ → Type 0
 HasName made name = Contains (names_in made) name
 
 -- an empty file of that name is begun
-abbrev pub begun : List ℕ → Made → Made
-begun name made = record made { unfinished = Some (record { name = name; bytes = [] }) }
+abbrev pub with_new_file : List ℕ → Made → Made
+with_new_file name made = record made { unfinished = Some (record { name = name; bytes = [] }) }
 
 -- bytes come after those of the unfinished file
 abbrev pub longer_by : List ℕ → Made → Made
@@ -53,8 +54,8 @@ longer_by bytes made =
     }
 
 -- the unfinished file is finished
-abbrev pub ended : Made → Made
-ended made = record { finished = files_in made; unfinished = None }
+abbrev pub with_all_finished : Made → Made
+with_all_finished made = record { finished = files_in made; unfinished = None }
 
 abbrev pub less_a_file : FilesLeft → FilesLeft
 less_a_file left = record left { files = left.files - 1 }
@@ -64,7 +65,7 @@ less_bytes n left = record left { bytes = left.bytes - n }
 
 -- a file was created, which took one of those that are left
 pub record Created (name : List ℕ) (old new : FilesSeen) : Type 0 where
-  pub made : new.made ≡ option_map (begun name) old.made
+  pub made : new.made ≡ option_map (with_new_file name) old.made
   pub left : new.left ≡ option_map less_a_file old.left
   pub faults : new.faults ≡ old.faults
 
@@ -76,7 +77,7 @@ pub record AppendedAll (bytes : List ℕ) (old new : FilesSeen) : Type 0 where
 
 -- a file was finished
 pub record Finished (old new : FilesSeen) : Type 0 where
-  pub made : new.made ≡ option_map ended old.made
+  pub made : new.made ≡ option_map with_all_finished old.made
   pub left : new.left ≡ old.left
   pub faults : new.faults ≡ old.faults
 

@@ -1,4 +1,5 @@
 -- Files in memory, as they are found by name.
+-- Source: this project's choice.
 use Rattle.std.specs.Prelude.{ℕ, Bool, List, [], Option, map, slice_index_or, string_bytes}
 use Rattle.std.specs.Option.{option_map}
 use Rattle.std.specs.List.{position_from}

@@ -1,4 +1,5 @@
 -- The parts of a text that may be a number.
+-- Source: this project's choice.
 use Rattle.std.specs.Prelude.{◌≡◌, ◌≢◌, ℕ, ◌<◌, ◌⊎◌, Bool, List, [], ◌∷◌, ◌++◌, length, slice_index, All, min}
 use Rattle.std.specs.Char.{IsAsciiDigit}
 use Rattle.dada_model.specs.Laws.{IsSign}

@@ -1,4 +1,5 @@
 -- Files that stand in one buffer, one after another.
+-- Source: this project's choice.
 use Rattle.std.specs.Prelude.{ℕ, Bool, ◌+◌, ◌≤◌, List, ◌++◌, map, take, drop, Option, option_to_list}
 use Rattle.std.specs.Option.{option_map}
 use Rattle.std.specs.Str.{bytes_eq}
@@ -8,8 +9,8 @@ use Rattle.psr_base.specs.declared.stored.StoredFile.{StoredFile}
 abbrev pub name_of : StoredFile → List ℕ
 name_of file = file.name.bytes
 
-abbrev pub is_named : List ℕ → StoredFile → Bool
-is_named name file = bytes_eq (name_of file) name
+abbrev pub is_stored_as : List ℕ → StoredFile → Bool
+is_stored_as name file = bytes_eq (name_of file) name
 
 -- its bytes, where the buffer holds those of all files
 abbrev pub bytes_of : List ℕ → StoredFile → List ℕ
@@ -20,8 +21,8 @@ abbrev pub named : List ℕ → StoredFile → NamedBytes
 named buffer file = record { name = name_of file; bytes = bytes_of buffer file }
 
 -- the file lies within the first n bytes of the buffer
-abbrev pub IsWithin : ℕ → StoredFile → Type 0
-IsWithin n file = file.start + file.len ≤ n
+abbrev pub LiesWithin : ℕ → StoredFile → Type 0
+LiesWithin n file = file.start + file.len ≤ n
 
 -- all files in the order of their creation
 abbrev pub all_stored : List StoredFile → Option StoredFile → List StoredFile

@@ -1,4 +1,5 @@
 -- What an object of inputs tells of its files, and how reading moves it.
+-- Source: this project's choice.
 use Rattle.std.specs.Prelude.{◌≡◌, ℕ, ◌+◌, ◌≤◌, min, List, [], length, take, drop, Option, Some, None}
 use Rattle.std.specs.Option.{option_map, option_and_then, ForSome}
 

@@ -11,9 +11,9 @@ megahertz : fixed_text 6 (neg_ℤ (pos 200000000)) ≡ codes "-200.000000"
 unfolding digits
 megahertz = refl
 
-thousandths : fixed_text 3 (pos 24975) ≡ codes "24.975"
+in_thousandths : fixed_text 3 (pos 24975) ≡ codes "24.975"
 unfolding digits
-thousandths = refl
+in_thousandths = refl
 
 whole : fixed_text 0 (pos 1400) ≡ codes "1400"
 unfolding digits

@@ -3,18 +3,18 @@ use Rattle.std.specs.Prelude.{◌≡◌, [], ◌∷◌, Some, None, codes, refl}
 use Rattle.psr_base.specs.Count.{next_count}
 use Rattle.psr_base.specs.Told.{Told, left_to_read, opened, moved_by}
 use Rattle.psr_base.specs.Written.{room_after, first_pieces}
-use Rattle.psr_base.specs.Made.{Made, FilesLeft, files_in, names_in, begun, longer_by, ended, less_a_file, less_bytes}
+use Rattle.psr_base.specs.Made.{Made, FilesLeft, files_in, names_in, with_new_file, longer_by, with_all_finished, less_a_file, less_bytes}
 
 abbrev two_files : Made
-two_files = begun (codes "b")
-    (ended (longer_by (codes "c")
-    (longer_by (codes "ab") (begun (codes "a") (record { finished = []; unfinished = None })))))
+two_files = with_new_file (codes "b")
+    (with_all_finished (longer_by (codes "c")
+    (longer_by (codes "ab") (with_new_file (codes "a") (record { finished = []; unfinished = None })))))
 
 in_order : files_in two_files
     ≡ record { name = codes "a"; bytes = codes "abc" } ∷ record { name = codes "b"; bytes = [] } ∷ []
 in_order = refl
 
-names : names_in (ended two_files) ≡ codes "a" ∷ codes "b" ∷ []
+names : names_in (with_all_finished two_files) ≡ codes "a" ∷ codes "b" ∷ []
 names = refl
 
 -- one of two files, and three of eight bytes

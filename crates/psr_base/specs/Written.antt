@@ -1,4 +1,5 @@
 -- What is seen of a sink, and what writing does to it.
+-- Source: this project's choice.
 use Rattle.std.specs.Prelude.{◌≡◌, ℕ, ◌-◌, ◌+◌, ◌≤◌, ◌<◌, ◌⊎◌, List, [], ◌++◌, length, Option, Result, OnOk, OnErr}
 use Rattle.std.specs.Option.{option_map, ForSome}
 use Rattle.std.specs.List.{flat_map, range_with_len}

@@ -3,7 +3,7 @@ ghost use Rattle.std.specs.Prelude.{◌≡◌, ◌↔◌, IsTrue, [], ℕ, ◌*�
 ghost use Rattle.std.specs.Char.{IsAsciiDigit, digit_value};
 ghost use Rattle.std.specs.Str.Parse.{digits_value, digits_value_after};
 ghost use Rattle.dada_model.specs.Number.{number_value};
-ghost use Rattle.psr_base.specs.Fixed.{Explains, fixed_text, padded, unsigned_text};
+ghost use Rattle.psr_base.specs.Fixed.{ExplainsNumber, fixed_text, padded, unsigned_text};
 ghost use Rattle.psr_base.specs.Spelling.{BeginsWithoutDigit, SplitsSign, SplitsDigits, SplitsFraction, SplitsNumber, capped};
 
 use arrayvec::ArrayString;
@@ -210,7 +210,7 @@ impl Fixed {
         requires { decimals ≤ 9 }
         ensures value { IfOk result (λ z. number_value decimals text.now ≡ Some z) }
         ensures bound { IfOk result (λ z. unsigned_abs z ≤ 10 ^ 18) }
-        ensures fault { IfErr result (λ fault. Explains decimals text.now fault) }
+        ensures fault { IfErr result (λ fault. ExplainsNumber decimals text.now fault) }
     {
         numbers_are_spelled();
         let parts = split_number(text);

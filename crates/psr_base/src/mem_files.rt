@@ -1,7 +1,7 @@
 // Files that are made in memory.
 ghost use Rattle.std.specs.Prelude.{◌≡◌, ◌+◌, ◌≤◌, All, length, vec_len, vec_capacity};
 ghost use Rattle.std.specs.Option.{ForSome};
-ghost use Rattle.psr_base.specs.Stored.{IsWithin, all_stored};
+ghost use Rattle.psr_base.specs.Stored.{LiesWithin, all_stored};
 
 use crate::calls::Calls;
 use crate::faults::{Failed, Memory};
@@ -25,7 +25,7 @@ pub struct MemFiles {
     ghost reserved: { room ≤ vec_capacity bytes },
     ghost fits: { length (all_stored finished.items unfinished) ≤ files },
     ghost within: { vec_len bytes ≤ room },
-    ghost finished_within: { All (IsWithin (vec_len bytes)) finished.items },
+    ghost finished_within: { All (LiesWithin (vec_len bytes)) finished.items },
     ghost unfinished_ends: { ForSome unfinished (λ file. file.start + file.len ≡ vec_len bytes) },
 }
 
@@ -122,7 +122,7 @@ impl MemFiles {
 impl Files for MemFiles {
     ghost use Rattle.std.specs.Prelude.{◌≡◌, ◌≤◌, ◌↔◌, length, IsOk, IfOk, OnOk, OnErr};
     ghost use Rattle.psr_base.specs.Count.{FailsNext, after_call, after_fault};
-    ghost use Rattle.psr_base.specs.Made.{begun, longer_by, ended, less_a_file, less_bytes};
+    ghost use Rattle.psr_base.specs.Made.{with_new_file, longer_by, with_all_finished, less_a_file, less_bytes};
     ghost use Rattle.psr_base.specs.InMemory.{made_of, files_left, files_calls, files_seen, CanMake, IsMaking};
 
     ghost seen = { files_seen };
@@ -133,7 +133,7 @@ impl Files for MemFiles {
         requires closed { ¬ IsMaking self.old }
         ensures answer { IsOk result
             ↔ (CanMake name.now self.old × ¬ FailsNext (files_calls self.old)) }
-        ensures created { OnOk result (made_of self.new ≡ begun name.now (made_of self.old)) }
+        ensures created { OnOk result (made_of self.new ≡ with_new_file name.now (made_of self.old)) }
         ensures left { OnOk result (files_left self.new ≡ less_a_file (files_left self.old)) }
         ensures called { OnOk result (files_calls self.new ≡ after_call (files_calls self.old)) }
         ensures is_open { OnOk result (IsMaking self.new) }
@@ -190,7 +190,7 @@ impl Files for MemFiles {
     fn finish(&mut self) -> Result<(), Failed>
         requires is_open { IsMaking self.old }
         ensures answer { IsOk result ↔ ¬ FailsNext (files_calls self.old) }
-        ensures finished { OnOk result (made_of self.new ≡ ended (made_of self.old)) }
+        ensures finished { OnOk result (made_of self.new ≡ with_all_finished (made_of self.old)) }
         ensures left { files_left self.new ≡ files_left self.old }
         ensures called { OnOk result (files_calls self.new ≡ after_call (files_calls self.old)) }
         ensures closed { OnOk result (¬ IsMaking self.new) }

@@ -1,7 +1,7 @@
 // A file that stands in a buffer beside others.
 ghost use Rattle.std.specs.Prelude.{◌≡◌};
 ghost use Rattle.std.specs.List.{list_any};
-ghost use Rattle.psr_base.specs.Stored.{is_named};
+ghost use Rattle.psr_base.specs.Stored.{is_stored_as};
 
 use arrayvec::ArrayString;
 
@@ -18,7 +18,7 @@ pub(crate) struct StoredFile {
 
 /// One of the files has the name.
 pub(crate) fn is_there(files: &[StoredFile], name: &str) -> bool
-    ensures { result ≡ list_any (is_named name.now) files.now }
+    ensures { result ≡ list_any (is_stored_as name.now) files.now }
 {
     files.iter().any(|file| file.name.as_str() == name)
 }

@@ -7,9 +7,9 @@ use Rattle.psr_base.specs.Written.{SinkSeen}
 use Rattle.dada_model.specs.Observation.{Observation}
 use Rattle.search_model.specs.declared.search.Search.{Search}
 use Rattle.psr_search.specs.Request.{Asks, pulses_only}
-use Rattle.psr_search.specs.File.{IsRead, data_of, most_data}
+use Rattle.psr_search.specs.File.{HoldsData, data_of, most_data}
 use Rattle.search_model.specs.Observed.{search_text}
-use Rattle.psr_search.specs.Stop.{StopsAt, IsReadingStop}
+use Rattle.psr_search.specs.Stop.{IsStopOf, IsReadingStop}
 use Rattle.psr_search.specs.Outcome.{ForFile}
 use Rattle.psr_search.specs.Ends.{EndsReading, EndsWriting, EndsBy}
 use Rattle.psr_search.specs.declared.stop.Stop.{Stop}
@@ -57,7 +57,7 @@ module _ (words : List (List ℕ)) (told : Told) (before after : ℕ) (is_calm :
 
   -- reading stopped
   pub ends_reading : (stop : Stop) → IsReadingStop stop →
-      ((file : List ℕ) → told.bytes_under name ≡ Some file → StopsAt file stop) →
+      ((file : List ℕ) → told.bytes_under name ≡ Some file → IsStopOf file stop) →
       (stop ≡ ReadFault → Rose before after) →
       (is_calm → IsSome (told.bytes_under name) → stop ≢ ReadFault) → (stop ≢ ReadFault → after ≡ before) →
       EndsBy words seen_inputs is_calm seen seen stop
@@ -66,7 +66,7 @@ module _ (words : List (List ℕ)) (told : Told) (before after : ℕ) (is_calm :
     name = name;
     asked = asks;
     kind = kind;
-    says = for_file words told s name (λ file. StopsAt file stop) asks says;
+    says = for_file words told s name (λ file. IsStopOf file stop) asks says;
     failed = failed;
     calm = λ calm q other also file known. serves calm (some_told (told.bytes_under name) file
         (one_file words s q name other file told asks also known));
@@ -90,7 +90,7 @@ module _ (words : List (List ℕ)) (told : Told) (before after : ℕ) (is_calm :
 
   -- a text was written, whole or its front
   pub ends_writing : (Took : List ℕ → Type 0) (o : Observation) (bytes text : List ℕ) →
-      ((file : List ℕ) → told.bytes_under name ≡ Some file → IsRead file o bytes) → text ≡ search_text o s bytes →
+      ((file : List ℕ) → told.bytes_under name ≡ Some file → HoldsData file o bytes) → text ≡ search_text o s bytes →
       Took text → after ≡ before →
       EndsWriting words seen_inputs Took
   ends_writing Took o bytes text read is took quiet = record {

@@ -10,7 +10,7 @@ use Rattle.dada_model.specs.Observation.{Observation}
 use Rattle.band_paths.specs.Edges.{AreDelays, channels_of}
 use Rattle.search_model.specs.Samples.{Filterbank, samples_of, sample_at, sample_bytes, sample_before}
 use Rattle.search_model.specs.Sums.{channel_cells, path_sum_along}
-use Rattle.search_model.specs.Observed.{observed}
+use Rattle.search_model.specs.Observed.{filterbank_of}
 use Rattle.psr_search.specs.Samples.{arranged}
 
 pub channels_of-edges : (n : ℕ) (edges : List ℕ) → AreEdges n edges → channels_of edges ≡ n
@@ -19,7 +19,7 @@ channels_of-edges n edges are = let count = are.count in omega arith
 -- ---- samples of bytes
 
 -- how many spectra there are
-pub spectra_are : (o : Observation) (bytes : List ℕ) → (observed o bytes).spectra ≡ length bytes / sample_bytes o.nbit
+pub spectra_are : (o : Observation) (bytes : List ℕ) → (filterbank_of o bytes).spectra ≡ length bytes / sample_bytes o.nbit
     o.npol / o.channels
 spectra_are o bytes = ap (λ (n : ℕ). n / o.channels) (length-map-range_with_len (sample_at o.nbit o.npol bytes) 0
     (length bytes / sample_bytes o.nbit o.npol))
@@ -45,10 +45,10 @@ sample_is nbit npol bytes i within = get_or-map-range_with_len (sample_at nbit n
 place_is : (n t c : ℕ) → c < n → ((t * n + c) / n ≡ t) × ((t * n + c) % n ≡ c)
 place_is n t c channel = (div-mul-add t n c channel, mul-add-mod_self_right t n c ∙ mod-eq_of_lt channel)
 
-pub arranged_is : (o : Observation) (bytes : List ℕ) (t c : ℕ) → c < o.channels → t < (observed o bytes).spectra →
-    slice_index (arranged o bytes) (t * o.channels + c) ≡ (observed o bytes).value c t
+pub arranged_is : (o : Observation) (bytes : List ℕ) (t c : ℕ) → c < o.channels → t < (filterbank_of o bytes).spectra →
+    slice_index (arranged o bytes) (t * o.channels + c) ≡ (filterbank_of o bytes).value c t
 arranged_is o bytes t c channel spectrum =
-    let band = observed o bytes in
+    let band = filterbank_of o bytes in
     let n = o.channels in
     let rows : (t + 1) * n ≤ band.spectra * n = mul-le-mul_right n (omega arith) in
     let one : (t + 1) * n ≡ t * n + n = omega arith in
@@ -58,9 +58,9 @@ arranged_is o bytes t c channel spectrum =
     ∙ ap (λ (k : ℕ). band.value k ((t * n + c) / n)) place.1 ∙ ap (λ (k : ℕ). band.value c k) place.0
 
 pub arranged_spectra : (o : Observation) (bytes : List ℕ) → 0 < o.channels →
-    length (arranged o bytes) / o.channels ≡ (observed o bytes).spectra
+    length (arranged o bytes) / o.channels ≡ (filterbank_of o bytes).spectra
 arranged_spectra o bytes some =
-    let band = observed o bytes in
+    let band = filterbank_of o bytes in
     ap (λ (k : ℕ). k / o.channels) (length-map-range_with_len (λ (i : ℕ). band.value (i % o.channels) (i / o.channels))
     0 (band.spectra * o.channels)) ∙ mul-div_cancel band.spectra some
 

@@ -16,8 +16,8 @@ use Rattle.search_model.specs.Search.{widths, delays, fold_delays, periods}
 use Rattle.search_model.specs.Detection.{is_detected}
 use Rattle.search_model.specs.Candidates.{pulse_at, pulses, folds, folds_at, if_detected, plain_cells}
 use Rattle.search_model.specs.CandidateText.{candidate_line, plain_labels, end_line, is_pulse, is_fold, candidate_text}
-use Rattle.search_model.specs.Observed.{candidates_of}
-use Rattle.psr_search.specs.Direct.{band, found_at, found_ending, found, labels_of, lines_of, found_text}
+use Rattle.search_model.specs.Observed.{candidates_of, labels_of}
+use Rattle.psr_search.specs.Direct.{band, found_at, found_ending, found, found_lines, found_text}
 use Rattle.psr_search.specs.declared.direct.Direct.{Direct}
 
 -- ---- one end and one delay
@@ -131,25 +131,25 @@ found_all s =
     ∙ ap (λ (fs : List Candidate). found s (band s).spectra ++ fs) (no_folds s) ∙ append-nil (found s (band s).spectra)
 
 -- the lines of what was found, and the END line
-pub text_is : (s : Direct) → found_text s ≡ lines_of s (found s (band s).spectra) ++ end_line
+pub text_is : (s : Direct) → found_text s ≡ found_lines s (found s (band s).spectra) ++ end_line
     (length (found s (band s).spectra)) 0 (band s).spectra
 text_is s =
     let all = found s (band s).spectra in
     let how_many = counts all (found_are_pulses s (band s).spectra) in
     ap (candidate_text (labels_of s.observation) (band s).spectra) (found_all s)
-    ∙ ap (λ (n : ℕ). lines_of s all ++ end_line n (count_by is_fold all) (band s).spectra) how_many.0
-    ∙ ap (λ (n : ℕ). lines_of s all ++ end_line (length all) n (band s).spectra) how_many.1
+    ∙ ap (λ (n : ℕ). found_lines s all ++ end_line n (count_by is_fold all) (band s).spectra) how_many.0
+    ∙ ap (λ (n : ℕ). found_lines s all ++ end_line (length all) n (band s).spectra) how_many.1
 
 -- ---- writing
 
 -- the lines of pieces are the pieces' lines
 pub lines_of_pieces : (s : Direct) (piece : ℕ → List Candidate) (n : ℕ) →
-    first_pieces (λ i. lines_of s (piece i)) n ≡ lines_of s (flat_map piece (range_with_len 0 n))
+    first_pieces (λ i. found_lines s (piece i)) n ≡ found_lines s (flat_map piece (range_with_len 0 n))
 lines_of_pieces s piece n = by_list (range_with_len 0 n)
   where
-    by_list : (xs : List ℕ) → flat_map (λ i. lines_of s (piece i)) xs ≡ lines_of s (flat_map piece xs)
+    by_list : (xs : List ℕ) → flat_map (λ i. found_lines s (piece i)) xs ≡ found_lines s (flat_map piece xs)
     by_list [] = refl
-    by_list (x ∷ xs) = ap (λ (rest : List ℕ). lines_of s (piece x) ++ rest) (by_list xs)
+    by_list (x ∷ xs) = ap (λ (rest : List ℕ). found_lines s (piece x) ++ rest) (by_list xs)
         ∙ sym (flat_map-append (candidate_line (labels_of s.observation)) (piece x) (flat_map piece xs))
 
 -- a text was written, and then another, or its front
@@ -179,7 +179,7 @@ broken_off law xs ys text old new e is first = record {
 
 -- the line of a pulse, made with its dispersion measure
 pub line_is : (s : Direct) (u d m n sum : ℕ) → n ≡ s.observation.channels → m ≡ dm s.observation d →
-    candidate_line (plain_labels (λ _. m) n) (Pulse u d 1 sum) ≡ lines_of s (Pulse u d 1 sum ∷ [])
+    candidate_line (plain_labels (λ _. m) n) (Pulse u d 1 sum) ≡ found_lines s (Pulse u d 1 sum ∷ [])
 line_is s u d m n sum channels is =
     ap (λ (k : ℕ). candidate_line (plain_labels (λ _. m) k) (Pulse u d 1 sum)) channels
     ∙ ap (λ (x : ℕ). candidate_line (plain_labels (λ _. x) s.observation.channels) (Pulse u d 1 sum)) is

@@ -13,7 +13,7 @@ use Rattle.psr_search.specs.declared.stop.HeaderCause.{HeaderCause}
 use Rattle.psr_search.specs.declared.stop.HeaderCause.TheVariants.{Short, NotText, BadSize, Missing, BadNumber, OutOfProfile, OutOfRange, TooNarrow, Differs}
 use Rattle.psr_search.specs.Request.{Asks}
 use Rattle.psr_search.specs.File.{IsAccepted, Accepted, IsCause, IsRefusedBy, data_of, most_data}
-use Rattle.psr_search.specs.Stop.{status_of, note_of, StopsAt}
+use Rattle.psr_search.specs.Stop.{status_of, note_of, IsStopOf}
 use Rattle.psr_search.specs.Outcome.{ForFile, HasText, Outcome, AcceptedIsSearched}
 use Rattle.psr_search.specs.Ends.{EndsAtWords, EndsReading, EndsWriting, EndsBy}
 
@@ -34,7 +34,7 @@ module _ (words : List (List ℕ)) (inputs : InputsSeen) (is_calm : Type 0) (old
       (status_of stop ≡ 6 → Rose inputs.faults_before inputs.faults_after) →
       (is_calm → ForFile words inputs.told (λ s file. status_of stop ≢ 6)) →
       (status_of stop ≢ 6 → inputs.faults_after ≡ inputs.faults_before) → new ≡ old →
-      ForFile words inputs.told (λ s file. StopsAt file stop) → Noted (note_of stop) notes_old notes_new →
+      ForFile words inputs.told (λ s file. IsStopOf file stop) → Noted (note_of stop) notes_old notes_new →
       Outcome words inputs is_calm old new notes_old notes_new (status_of stop)
   quiet_outcome stop known some other asked refused header long rose calm quiet untouched says noted = record {
     known = known;

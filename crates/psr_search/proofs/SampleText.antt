@@ -8,7 +8,7 @@ use Rattle.dada_model.specs.Number.{number_value}
 use Rattle.dada_model.specs.Fields.{HeaderText, is_white, without_comment, words_of, fields_of, value_of, header_size, header_of}
 use Rattle.dada_model.specs.Observation.{Observation, number_of, observation_in, signed_edge, edge, edges, refusal_at, refusals, observation_of, dispersion_span, dm}
 use Rattle.search_model.specs.declared.search.Search.{Search}
-use Rattle.search_model.specs.Search.{IsInRange}
+use Rattle.search_model.specs.Search.{SettingsInRange}
 use Rattle.search_model.specs.Paths.{entry, path}
 use Rattle.psr_search.specs.Request.{pulses_only, Asks}
 use Rattle.psr_search.specs.File.{IsAccepted, data_of}
@@ -55,7 +55,7 @@ plain : search ≡ pulses_only search.max_delay search.mean search.sd search.snr
 unfolding search
 plain = refl
 
-in_range : IsInRange search
+in_range : SettingsInRange search
 unfolding search
 in_range = record {
   delays = record { rise = lit≤ tt; most = lit≤ tt; widest = refl };

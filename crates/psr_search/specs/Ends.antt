@@ -1,4 +1,5 @@
 -- How a search ends, before the notes.
+-- Source: this project's choice.
 use Rattle.std.specs.Prelude.{◌≡◌, ◌≢◌, ℕ, List, Result, Ok, Err}
 use Rattle.psr_base.specs.Count.{Rose}
 use Rattle.psr_base.specs.Told.{InputsSeen}
@@ -7,7 +8,7 @@ use Rattle.search_model.specs.declared.search.Search.{Search}
 use Rattle.psr_search.specs.declared.stop.Stop.{Stop}
 use Rattle.psr_search.specs.declared.stop.Stop.TheVariants.{Words, ReadFault, SinkFault}
 use Rattle.psr_search.specs.Request.{Asks}
-use Rattle.psr_search.specs.Stop.{StopsAt, IsReadingStop}
+use Rattle.psr_search.specs.Stop.{IsStopOf, IsReadingStop}
 use Rattle.psr_search.specs.Outcome.{ForFile, HasText}
 
 -- the words don't ask for a search
@@ -23,7 +24,7 @@ pub record EndsReading (words : List (List ℕ)) (inputs : InputsSeen) (is_calm 
   pub name : List ℕ
   pub asked : Asks words search name
   pub kind : IsReadingStop stop
-  pub says : ForFile words inputs.told (λ s file. StopsAt file stop)
+  pub says : ForFile words inputs.told (λ s file. IsStopOf file stop)
   pub failed : stop ≡ ReadFault → Rose inputs.faults_before inputs.faults_after
   pub calm : is_calm → ForFile words inputs.told (λ s file. stop ≢ ReadFault)
   pub quiet : stop ≢ ReadFault → inputs.faults_after ≡ inputs.faults_before

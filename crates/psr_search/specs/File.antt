@@ -51,7 +51,7 @@ IsCause file (TooNarrow bw nchan) = IsRefusedBy file (model.TooNarrow bw nchan)
 IsCause file (Differs key) = ⊥
 
 -- the file is accepted, and these are its observation and its data
-pub record IsRead (file : List ℕ) (o : Observation) (bytes : List ℕ) : Type 0 where
+pub record HoldsData (file : List ℕ) (o : Observation) (bytes : List ℕ) : Type 0 where
   pub header : HeaderText
   pub accepted : IsAccepted file header o
   pub whole : bytes ≡ data_of file header

@@ -1,4 +1,5 @@
 -- What a search's exit status says.
+-- Source: this project's choice.
 use Rattle.std.specs.Prelude.{◌≡◌, ◌≢◌, ℕ, ◌≤◌, ◌<◌, ◌⊎◌, List, [], ◌∷◌, length, Some, Contains}
 use Rattle.psr_base.specs.Count.{Rose}
 use Rattle.psr_base.specs.Told.{Told, OfFile, InputsSeen}
@@ -10,7 +11,7 @@ use Rattle.psr_search.specs.declared.stop.Stop.{Stop}
 use Rattle.psr_search.specs.declared.stop.HeaderCause.{HeaderCause}
 use Rattle.psr_search.specs.Request.{Asks}
 use Rattle.psr_search.specs.File.{IsAccepted, Accepted, IsCause, data_of, most_data}
-use Rattle.psr_search.specs.Stop.{status_of, note_of, StopsAt}
+use Rattle.psr_search.specs.Stop.{status_of, note_of, IsStopOf}
 use Rattle.search_model.specs.Observed.{search_text}
 
 -- P holds of the search that the words ask for and of the bytes of the file that they name, where those are told
@@ -25,7 +26,7 @@ HasText P s file = Accepted file (λ h o. (length (data_of file h) ≤ most_data
 pub record NotesStop (words : List (List ℕ)) (told : Told) (before after : SinkSeen) (status : ℕ) : Type 0 where
   pub stop : Stop
   pub answered : status ≡ status_of stop
-  pub cause : ForFile words told (λ s file. StopsAt file stop)
+  pub cause : ForFile words told (λ s file. IsStopOf file stop)
   pub line : Noted (note_of stop) before after
 
 -- The outcome of a search for these words over these inputs, which may be calm: how it ended, by its status, what the

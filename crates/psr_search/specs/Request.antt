@@ -1,11 +1,12 @@
 -- The words that ask for a search. Today they are exactly twelve: the program's name, --mean V, --sd V, --snr V,
 -- --max-delay V, --widths 1 and a file's name.
+-- Source: this project's choice.
 use Rattle.std.specs.Prelude.{◌≡◌, ℕ, ◌+◌, List, [], length, codes, Some, pos}
 use Rattle.std.specs.List.{slice_index_or}
 use Rattle.std.specs.Str.Parse.{digits_value}
 use Rattle.dada_model.specs.Number.{IsWholeNumber, number_value}
 use Rattle.search_model.specs.declared.search.Search.{Search}
-use Rattle.search_model.specs.Search.{IsInRange}
+use Rattle.search_model.specs.Search.{SettingsInRange}
 
 -- boxes of one spectrum, the delays from 0 up to `most`, and no folds; the noise as the settings have it
 abbrev pub pulses_only : ℕ → ℕ → ℕ → ℕ → Search
@@ -51,4 +52,4 @@ pub record Asks (words : List (List ℕ)) (s : Search) (name : List ℕ) : Type 
   pub one_width : word_at words 10 ≡ codes "1"
   pub file : word_at words 11 ≡ name
   pub plain : s ≡ pulses_only s.max_delay s.mean s.sd s.snr
-  pub in_range : IsInRange s
+  pub in_range : SettingsInRange s

@@ -60,10 +60,10 @@ IsObservationStop (obs.Differs key) stop = stop ≡ Header (Differs key)
 IsObservationStop obs.Memory stop = stop ≡ Memory
 
 -- what a stop says of the file
-abbrev pub StopsAt : List ℕ → Stop → Type 0
-StopsAt file (Header cause) = IsCause file cause
-StopsAt file TooLong = Accepted file (λ h o. most_data < length (data_of file h))
-StopsAt file _ = Unit {0}
+abbrev pub IsStopOf : List ℕ → Stop → Type 0
+IsStopOf file (Header cause) = IsCause file cause
+IsStopOf file TooLong = Accepted file (λ h o. most_data < length (data_of file h))
+IsStopOf file _ = Unit {0}
 
 -- a stop that reading a file may come to
 abbrev pub IsReadingStop : Stop → Type 0

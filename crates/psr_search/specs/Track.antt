@@ -1,4 +1,5 @@
 -- The tracks of the delays that are searched.
+-- Source: this project's choice.
 use Rattle.std.specs.Prelude.{◌≡◌, ℕ, List, Some, slice_get, slice_index}
 use Rattle.dada_model.specs.Observation.{Observation, edges, dm}
 use Rattle.search_model.specs.Paths.{path}

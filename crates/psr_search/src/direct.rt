@@ -1,9 +1,9 @@
 // The search itself: path sums added cell by cell, judged, and written as they are found.
 ghost use Rattle.std.specs.Prelude.{◌≡◌, ℕ, ◌+◌, ◌^◌, ◌≤◌, ◌<◌, [], ◌∷◌, ◌++◌, All, length, Some, IfOk, IfSome, option_to_list, map, vec_len};
-ghost use Rattle.dada_model.specs.Bounds.{IsInRange as InBounds};
+ghost use Rattle.dada_model.specs.Bounds.{ObservationInRange};
 ghost use Rattle.dada_model.specs.Observation.{edges};
 ghost use Rattle.psr_base.specs.Written.{Wrote};
-ghost use Rattle.search_model.specs.Search.{IsInRange};
+ghost use Rattle.search_model.specs.Search.{SettingsInRange};
 ghost use Rattle.search_model.specs.Sums.{path_sum as path_sum_of};
 ghost use Rattle.search_model.specs.declared.candidate.Candidate.{Candidate};
 ghost use Rattle.psr_search.specs.File.{most_data};
@@ -33,18 +33,18 @@ pub(crate) struct Direct {
     /// A track for each delay from 0 on.
     tracks: Vec<Track>,
     search: Search,
-    ghost bounds: { InBounds observation },
+    ghost bounds: { ObservationInRange observation },
     ghost short: { length bytes.items ≤ most_data },
     ghost arranged: { samples.items ≡ arranged_of observation bytes.items },
     ghost small: { All (λ x. x ≤ greatest_sample) samples.items },
     ghost tracked: { AreTracks observation tracks.items },
     ghost all_delays: { vec_len tracks ≡ search.max_delay + 1 },
     ghost plain: { search ≡ pulses_only search.max_delay search.mean search.sd search.snr },
-    ghost in_range: { IsInRange search },
+    ghost in_range: { SettingsInRange search },
 }
 
 impl Direct {
-    ghost use Rattle.psr_search.specs.Direct.{band, found_at, found_ending, found, lines_of, found_text};
+    ghost use Rattle.psr_search.specs.Direct.{band, found_at, found_ending, found, found_lines, found_text};
 
     /// Makes the search of an observation's data ready.
     pub(crate) fn open(
@@ -53,10 +53,10 @@ impl Direct {
         bytes: Vec<u8>,
         search: Search,
     ) -> Result<Direct, Memory>
-        requires bounds { InBounds observation }
+        requires bounds { ObservationInRange observation }
         requires short { length bytes.items ≤ most_data }
         requires plain { search ≡ pulses_only search.max_delay search.mean search.sd search.snr }
-        requires in_range { IsInRange search }
+        requires in_range { SettingsInRange search }
         ensures observation { IfOk result (λ s. s.observation ≡ observation) }
         ensures bytes { IfOk result (λ s. s.bytes.items ≡ bytes.items) }
         ensures search { IfOk result (λ s. s.search ≡ search) }
@@ -93,7 +93,7 @@ impl Direct {
 
     // Writes a line for each pulse, and answers how many there are.
     fn write_pulses<K: Sink>(&self, out: &mut K) -> Result<u64, Failed>
-        ensures wrote { Wrote (lines_of self.now (found self.now (band self.now).spectra))
+        ensures wrote { Wrote (found_lines self.now (found self.now (band self.now).spectra))
             (K.seen out.old) (K.seen out.new) result }
         ensures number { IfOk result (λ n. n ≡ length (found self.now (band self.now).spectra)) }
     {
@@ -112,7 +112,7 @@ impl Direct {
     fn write_ending<K: Sink>(&self, u: usize, out: &mut K) -> Result<u64, Failed>
         requires { u < (band self.now).spectra }
         ensures wrote { let found = found_ending self.now u (vec_len self.now.tracks) in
-            Wrote (lines_of self.now found) (K.seen out.old) (K.seen out.new) result }
+            Wrote (found_lines self.now found) (K.seen out.old) (K.seen out.new) result }
         ensures number { IfOk result (λ n.
             n ≡ length (found_ending self.now u (vec_len self.now.tracks))) }
         ensures bound { IfOk result (λ n. n ≤ 8193) }
@@ -133,7 +133,7 @@ impl Direct {
     fn write_at<K: Sink>(&self, u: usize, d: usize, out: &mut K) -> Result<u64, Failed>
         requires end { u < (band self.now).spectra }
         requires delay { d < vec_len self.now.tracks }
-        ensures wrote { Wrote (lines_of self.now (found_at self.now u d))
+        ensures wrote { Wrote (found_lines self.now (found_at self.now u d))
             (K.seen out.old) (K.seen out.new) result }
         ensures number { IfOk result (λ n. n ≡ length (found_at self.now u d)) }
         ensures bound { IfOk result (λ n. n ≤ 1) }

@@ -4,10 +4,10 @@ ghost use Rattle.std.specs.Option.{ForSome};
 ghost use Rattle.psr_base.specs.Count.{Rose};
 ghost use Rattle.psr_base.specs.Told.{OfFile, left_to_read};
 ghost use Rattle.dada_model.specs.Fields.{HeaderText, header_of};
-ghost use Rattle.dada_model.specs.Bounds.{IsInRange};
+ghost use Rattle.dada_model.specs.Bounds.{ObservationInRange};
 ghost use Rattle.psr_search.specs.declared.stop.Stop.{Stop};
-ghost use Rattle.psr_search.specs.File.{IsRead, most_data, IsFrontRead};
-ghost use Rattle.psr_search.specs.Stop.{IsReadingStop, StopsAt};
+ghost use Rattle.psr_search.specs.File.{HoldsData, most_data, IsFrontRead};
+ghost use Rattle.psr_search.specs.Stop.{IsReadingStop, IsStopOf};
 
 use crate::stop::Stop;
 use dada_header::Header;
@@ -34,11 +34,11 @@ pub(crate) fn load<I: Inputs>(
     name: &str,
 ) -> Result<(Observation, Vec<u8>), Stop>
     ensures read { IfOk result (λ l.
-        OfFile (I.told inputs.old) name.now (λ file. IsRead file l.0 l.1.items)) }
-    ensures bounds { IfOk result (λ l. IsInRange l.0) }
+        OfFile (I.told inputs.old) name.now (λ file. HoldsData file l.0 l.1.items)) }
+    ensures bounds { IfOk result (λ l. ObservationInRange l.0) }
     ensures short { IfOk result (λ l. length l.1.items ≤ most_data) }
     ensures stopped { IfErr result (λ stop.
-        OfFile (I.told inputs.old) name.now (λ file. StopsAt file stop)) }
+        OfFile (I.told inputs.old) name.now (λ file. IsStopOf file stop)) }
     ensures kind { IfErr result IsReadingStop }
     ensures failed { result ≡ Err Stop.ReadFault
         → Rose (I.faults inputs.old) (I.faults inputs.new) }
@@ -70,7 +70,7 @@ fn read_header<I: Inputs>(alloc: Global, inputs: &mut I, name: &str) -> Result<H
         (λ file. left_to_read (I.told inputs.new) ≡ Some (drop header.size file))) }
     ensures is_open { OnOk result (I.is_open inputs.new) }
     ensures stopped { IfErr result (λ stop.
-        OfFile (I.told inputs.old) name.now (λ file. StopsAt file stop)) }
+        OfFile (I.told inputs.old) name.now (λ file. IsStopOf file stop)) }
     ensures kind { IfErr result IsReadingStop }
     ensures failed { result ≡ Err Stop.ReadFault
         → Rose (I.faults inputs.old) (I.faults inputs.new) }
@@ -94,7 +94,7 @@ fn header_of_open<I: Inputs>(alloc: Global, inputs: &mut I) -> Result<Header, St
         (λ file. left_to_read (I.told inputs.new) ≡ Some (drop header.size file))) }
     ensures is_open { OnOk result (I.is_open inputs.new) }
     ensures stopped { IfErr result (λ stop.
-        ForSome (left_to_read (I.told inputs.old)) (λ file. StopsAt file stop)) }
+        ForSome (left_to_read (I.told inputs.old)) (λ file. IsStopOf file stop)) }
     ensures kind { IfErr result IsReadingStop }
     ensures failed { result ≡ Err Stop.ReadFault
         → Rose (I.faults inputs.old) (I.faults inputs.new) }

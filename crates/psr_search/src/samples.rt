@@ -2,7 +2,7 @@
 ghost use Rattle.std.specs.Prelude.{◌≡◌, ℕ, ◌+◌, ◌*◌, ◌/◌, ◌<◌, ◌≤◌, ◌⊎◌, All, length, IfOk};
 ghost use Rattle.dada_model.specs.Observation.{Observation as Described};
 ghost use Rattle.search_model.specs.Samples.{value_at, sample_bytes, sample_at, samples_of};
-ghost use Rattle.search_model.specs.Observed.{observed};
+ghost use Rattle.search_model.specs.Observed.{filterbank_of};
 ghost use Rattle.psr_search.specs.Samples.{greatest_sample};
 ghost use Rattle.psr_search.specs.Samples.{arranged as arranged_of};
 
@@ -63,8 +63,8 @@ fn sample(observation: &Observation, bytes: &[u8], i: usize) -> u32
 // The sample of channel `c` of spectrum `t`, where channel 0 is the highest.
 fn sample_of(observation: &Observation, bytes: &[u8], t: usize, c: usize) -> u32
     requires channel { c < observation.now.channels }
-    requires spectrum { t < (observed observation.now bytes.now).spectra }
-    ensures value { result ≡ (observed observation.now bytes.now).value c t }
+    requires spectrum { t < (filterbank_of observation.now bytes.now).spectra }
+    ensures value { result ≡ (filterbank_of observation.now bytes.now).value c t }
     ensures bound { result ≤ greatest_sample }
 {
     let n = observation.channels() as usize;

@@ -1,6 +1,6 @@
 // The command words.
 ghost use Rattle.std.specs.Prelude.{◌≡◌, ℕ, ◌+◌, ◌^◌, ◌<◌, ◌↔◌, IsTrue, length, map, string_bytes, IfSome, IfNone};
-ghost use Rattle.search_model.specs.Search.{IsInRange};
+ghost use Rattle.search_model.specs.Search.{SettingsInRange};
 ghost use Rattle.psr_search.specs.Request.{word_at, HasNumber, HasWhole, Asks};
 ghost use Rattle.psr_search.specs.Request.{pulses_only as pulses_only_of};
 
@@ -14,7 +14,7 @@ pub(crate) struct Words<'a> {
     pub(crate) search: Search,
     pub(crate) name: &'a str,
     ghost plain: { search ≡ pulses_only_of search.max_delay search.mean search.sd search.snr },
-    ghost in_range: { IsInRange search },
+    ghost in_range: { SettingsInRange search },
 }
 
 impl<'a> Words<'a> {

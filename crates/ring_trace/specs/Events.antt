@@ -15,7 +15,7 @@ abbrev pub ring_text : List ℕ → List ℕ → List ℕ → List ℕ
 ring_text buffers readers blocks = codes "ring " ++ (buffers ++ 32 ∷ (readers ++ 32 ∷ blocks))
 
 -- what a ring can be made of
-pub record IsInRange (shape : Shape) : Type 0 where
+pub record ShapeInRange (shape : Shape) : Type 0 where
   pub buffers : (2 ≤ shape.buffers) × (shape.buffers ≤ 64)
   pub readers : (1 ≤ shape.readers) × (shape.readers ≤ 8)
   pub blocks : (1 ≤ shape.max_blocks) × (shape.max_blocks ≤ 1048576)
@@ -29,7 +29,7 @@ pub record IsRingLine (line : List ℕ) (shape : Shape) : Type 0 where
   pub numbers : (IsNumber buffers) × (IsNumber readers) × (IsNumber blocks)
   pub values : (shape.buffers ≡ digits_value 10 buffers) × (shape.readers ≡ digits_value 10 readers)
       × (shape.max_blocks ≡ digits_value 10 blocks)
-  pub in_range : IsInRange shape
+  pub in_range : ShapeInRange shape
 
 -- the line asks for this event, of a ring with so many readers
 abbrev pub AsksFor : ℕ → List ℕ → Event ℕ → Type 0

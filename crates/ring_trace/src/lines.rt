@@ -4,7 +4,7 @@ ghost use Rattle.ring_core.specs.Machine as machine;
 ghost use Rattle.ring_core.specs.State.{event_of};
 ghost use Rattle.ring_core.specs.declared.Shape.{Shape};
 ghost use Rattle.ring_trace.specs.Text.{Lacks};
-ghost use Rattle.ring_trace.specs.Events.{IsNumbered, IsInRange, IsRingLine, AsksFor, ring_text};
+ghost use Rattle.ring_trace.specs.Events.{IsNumbered, ShapeInRange, IsRingLine, AsksFor, ring_text};
 
 use crate::text::{number, split_at_first};
 use ring_core::{Event, Shape};
@@ -54,9 +54,9 @@ fn ring_words(line: &[u8]) -> Option<(&[u8], &[u8], &[u8])>
 
 /// A shape in its ranges.
 fn shape(buffers: u64, readers: u64, max_blocks: u64) -> Option<Shape>
-    ensures some { IfSome result (λ shape. IsInRange shape
+    ensures some { IfSome result (λ shape. ShapeInRange shape
         × (shape.buffers ≡ buffers) × (shape.readers ≡ readers) × (shape.max_blocks ≡ max_blocks)) }
-    ensures none { IfNone result ((shape : Shape) → IsInRange shape
+    ensures none { IfNone result ((shape : Shape) → ShapeInRange shape
         → shape.buffers ≡ buffers → shape.readers ≡ readers → shape.max_blocks ≢ max_blocks) }
 {
     let few = (2..=64).contains(&buffers) && (1..=8).contains(&readers);

@@ -1,6 +1,6 @@
 // Boxes over rows that are fed in pieces.
 ghost use Rattle.std.specs.Prelude.{◌≡◌, ◌≤◌, length};
-ghost use Rattle.box_sums.specs.Kept.{HasRow, last_feed};
+ghost use Rattle.box_sums.specs.Kept.{KeepsRow, last_feed};
 ghost use Rattle.box_sums.specs.Rows.{IsWidth};
 
 use crate::values::values;
@@ -37,7 +37,7 @@ fn sum_of_last(values: &[u32], w: usize) -> u32 {
 
 // The boxes of a width, of which the last feed of row `d` has `count`.
 fn check_width(rt: &impl Abort, boxes: &Boxes, d: u32, w: u32, all: &[u32], count: usize)
-    requires row { HasRow boxes.now d }
+    requires row { KeepsRow boxes.now d }
     requires newest { d ≡ boxes.now.newest }
     requires fed { last_feed boxes.now d ≡ count }
     requires few { count ≤ 16 }

@@ -95,7 +95,7 @@ folded = refl
 
 -- ---- detection
 
--- mean 0, deviation 1, ratio 2, four cells: a sum of 4 is equality, and 3 is below
+-- mean 0, deviation 1, snr 2, four cells: a sum of 4 is equality, and 3 is below
 equality : map (λ sum. is_detected 0 1000 200 sum 4) (3 ∷ 4 ∷ []) ≡ false ∷ true ∷ []
 equality = refl
 

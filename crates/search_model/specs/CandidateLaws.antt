@@ -1,5 +1,6 @@
 -- Laws of the candidate list in the subject's own words; the functions of this crate carry them.
-use Rattle.std.specs.Prelude.{◌≡◌, ℕ, ◌+◌, ◌-◌, ◌*◌, ◌%◌, ◌^◌, ◌≤◌, ◌<◌, ◌↔◌, List, map, Contains}
+-- Source: this project's choice.
+use Rattle.std.specs.Prelude.{◌≡◌, ℕ, ◌+◌, ◌-◌, ◌*◌, ◌%◌, ◌^◌, ◌≤◌, ◌<◌, ◌⊎◌, ◌↔◌, List, map, Contains}
 use Rattle.std.specs.List.{range_with_len}
 use Rattle.search_model.specs.declared.candidate.Candidate.{Candidate}
 use Rattle.search_model.specs.declared.candidate.Candidate.TheVariants.{Pulse, Fold}
@@ -10,7 +11,7 @@ use Rattle.search_model.specs.Folds.{series, fold_sum}
 use Rattle.search_model.specs.Detection.{IsDetected}
 use Rattle.search_model.specs.Search.{box_widths, shard_start}
 use Rattle.search_model.specs.Candidates.{delay_of, candidates, shard_part}
-use Rattle.search_model.specs.Order.{IsRising, IsMergeOf}
+use Rattle.search_model.specs.Order.{Precedes, IsRising, IsMergeOf}
 
 -- a box is searched: it ends at a spectrum, its delay and width are among those of the search, it begins at its delay
 -- or later, and its sum is detected
@@ -62,6 +63,12 @@ CandidatesAreListed = (f : Filterbank) (edges : List ℕ) (cells : ℕ → ℕ) 
 -- and it rises
 abbrev pub CandidatesRise : Type 0
 CandidatesRise = (f : Filterbank) (edges : List ℕ) (cells : ℕ → ℕ) (s : Search) → IsRising (candidates f edges cells s)
+
+-- the order is strict, and of two candidates one precedes the other or they share a delay
+pub record OrderIsStrict : Type 0 where
+  pub never : (x : Candidate) → ¬ Precedes x x
+  pub follows : (x y z : Candidate) → Precedes x y → Precedes y z → Precedes x z
+  pub compares : (x y : Candidate) → Precedes x y ⊎ (Precedes y x ⊎ (delay_of x ≡ delay_of y))
 
 -- rising lists that have the same members are one list; so lists have one merge
 pub record RisingListsAgree : Type 0 where

@@ -1,5 +1,5 @@
 -- The text of a search: a line for each candidate, and the END line.
--- Source: this project's profile.
+-- Source: this project's choice.
 use Rattle.std.specs.Prelude.{ℕ, ◌+◌, ◌/◌, ◌%◌, ◌^◌, Bool, true, false, List, [], ◌∷◌, ◌++◌, codes, count_by}
 use Rattle.std.specs.List.{flat_map}
 use Rattle.std.specs.Fmt.{decimal}
@@ -38,6 +38,10 @@ candidate_line l (Fold delay period halvings trial phase sum) =
     ++ decimal (2 ^ halvings) ++ codes " " ++ decimal trial ++ codes " " ++ decimal phase ++ codes " " ++ decimal sum
     ++ codes " " ++ decimal (cells_of l.cells (Fold delay period halvings trial phase sum)) ++ codes "\n"
 
+-- the lines of a list
+abbrev pub candidate_lines : Labels → List Candidate → List ℕ
+candidate_lines l list = flat_map (candidate_line l) list
+
 -- END, how many pulses, how many folds, how many spectra
 abbrev pub end_line : ℕ → ℕ → ℕ → List ℕ
 end_line pulses folds spectra =
@@ -54,4 +58,4 @@ is_fold (Fold _ _ _ _ _ _) = true
 -- the text of a list of candidates over so many spectra
 abbrev pub candidate_text : Labels → ℕ → List Candidate → List ℕ
 candidate_text l spectra list =
-    flat_map (candidate_line l) list ++ end_line (count_by is_pulse list) (count_by is_fold list) spectra
+    candidate_lines l list ++ end_line (count_by is_pulse list) (count_by is_fold list) spectra

@@ -1,5 +1,5 @@
 -- The candidates of a search over a whole file: all detected pulses, then all detected folds.
--- Source: this project's profile.
+-- Source: this project's choice.
 use Rattle.std.specs.Prelude.{ℕ, ◌+◌, ◌-◌, ◌*◌, ◌^◌, ◌&&◌, List, [], ◌∷◌, ◌++◌, filter, nat_le, nat_lt, if◌then◌else◌}
 use Rattle.std.specs.List.{range_with_len, flat_map}
 use Rattle.search_model.specs.declared.candidate.Candidate.{Candidate}

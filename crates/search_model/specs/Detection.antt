@@ -1,5 +1,5 @@
--- The detection rule: a sum of samples stands out of the noise by the stated ratio, equality included.
--- Source: this project's profile.
+-- The detection rule: a sum of samples stands out of the noise by the stated snr, equality included.
+-- Source: this project's choice.
 use Rattle.std.specs.Prelude.{ℕ, ◌-◌, ◌*◌, ◌^◌, ◌≤◌, ◌<◌, Bool, ◌&&◌, nat_lt, nat_le}
 
 -- how far the sum of so many cells is above their mean, in thousandths, as the mean of a sample is

@@ -1,4 +1,5 @@
 -- Laws of the definitions; the functions of this crate carry them.
+-- Source: Zackay & Ofek, ApJ 835:11, 2017, section 2; the detection rule is this project's choice.
 use Rattle.std.specs.Prelude.{◌≡◌, ℕ, ◌+◌, ◌-◌, ◌*◌, ◌/◌, ◌≤◌, ◌<◌, ◌↔◌, List, length, slice_index, IsTrue}
 use Rattle.dada_model.specs.Edges.{AreEdges}
 use Rattle.dada_model.specs.Observation.{square}

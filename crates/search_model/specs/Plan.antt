@@ -1,5 +1,5 @@
 -- Which searches are refused before they begin, since a table would not hold their sums, folds or parts.
--- Source: this project's profile.
+-- Source: this project's choice.
 use Rattle.std.specs.Prelude.{ℕ, ◌+◌, ◌-◌, ◌*◌, ◌^◌, ◌&&◌, max, length, nat_lt, if◌then◌else◌, Option, Some, None}
 use Rattle.dada_model.specs.Observation.{Observation, max_sample}
 use Rattle.search_model.specs.declared.search.Search.{Search}

@@ -1,4 +1,5 @@
 -- Laws of the samples of data bytes; a function of this crate carries them.
+-- Source: this project's choice.
 use Rattle.std.specs.Prelude.{◌≡◌, ℕ, ◌-◌, ◌*◌, ◌^◌, ◌<◌, ◌≤◌, ◌⊎◌, All, List, ◌++◌, length, slice_index}
 use Rattle.search_model.specs.Samples.{samples_of}
 

@@ -1,5 +1,5 @@
 -- What a search looks for, how its delays are shared, and in which ranges the settings lie.
--- Source: this project's profile.
+-- Source: this project's choice.
 use Rattle.std.specs.Prelude.{ℕ, ◌+◌, ◌-◌, ◌*◌, ◌/◌, ◌%◌, ◌≤◌, ◌==◌, List, [], ◌∷◌, Bool, IsTrue, filter, nat_le}
 use Rattle.std.specs.List.{list_any}
 use Rattle.dada_model.specs.Bounds.{most_delay}
@@ -68,7 +68,7 @@ pub record NoiseInRange (s : Search) : Type 0 where
   pub most_snr : s.snr ≤ 100000
 
 -- each setting lies in its range
-pub record IsInRange (s : Search) : Type 0 where
+pub record SettingsInRange (s : Search) : Type 0 where
   pub delays : DelaysInRange s
   pub folds : FoldsInRange s
   pub parts : PartsInRange s

@@ -1,4 +1,5 @@
 -- Laws of path sums and of sums over a part of the band; the functions of this crate carry them.
+-- Source: Zackay & Ofek, ApJ 835:11, 2017, section 2.
 use Rattle.std.specs.Prelude.{◌≡◌, ℕ, ◌+◌, ◌-◌, ◌*◌, ◌≤◌, ◌<◌, List}
 use Rattle.dada_model.specs.Edges.{AreEdges}
 use Rattle.search_model.specs.Samples.{Filterbank}
@@ -41,12 +42,12 @@ WholeBandIsPathSum = (f : Filterbank) (edges : List ℕ) (d u late : ℕ) → Ar
     node_sum f edges 0 f.channels d u late ≡ late_path_sum f edges u d late
 
 -- from one delay to the next, a split rises by 1 or not at all
-pub record Steps (before after : ℕ) : Type 0 where
+pub record RisesByOneAtMost (before after : ℕ) : Type 0 where
   pub rises : before ≤ after
   pub by_one : after ≤ before + 1
 
 abbrev pub SplitsStep : Type 0
-SplitsStep = (high mid low d : ℕ) → low < mid → mid < high → Steps (split high mid low d) (split high mid low (d + 1))
+SplitsStep = (high mid low d : ℕ) → low < mid → mid < high → RisesByOneAtMost (split high mid low d) (split high mid low (d + 1))
 
 -- a path sum that ends k spectra before u is the path sum that ends there, and 0 before the first spectrum
 pub record LatePathSums : Type 0 where

@@ -3,7 +3,7 @@
 ghost use Rattle.search_model.specs.Laws.{SplitsFit, HalvesJoin, HasOnePath, PathsRise, CellsAreCounted, TestsDetection, DetectionRises};
 ghost use Rattle.search_model.specs.SampleLaws.{SamplesOfBytes};
 ghost use Rattle.search_model.specs.SubbandLaws.{HalvesAdd, OneChannelAdds, OneChannelIsItsSample, TimeShifts, NothingBefore, WholeBandIsPathSum, SplitsStep, LatePathSums, SumsAreBounded};
-ghost use Rattle.search_model.specs.CandidateLaws.{CandidatesAreListed, CandidatesRise, RisingListsAgree, ShardsMerge};
+ghost use Rattle.search_model.specs.CandidateLaws.{CandidatesAreListed, CandidatesRise, OrderIsStrict, RisingListsAgree, ShardsMerge};
 
 /// A half of the band gets no more than the delay of the whole.
 pub fn splits_fit()
@@ -48,6 +48,11 @@ pub fn candidates_are_listed()
 /// The candidate list is in the order of candidates, each once.
 pub fn candidates_rise()
     ensures { CandidatesRise }
+{}
+
+/// The order is strict, and of two candidates one precedes the other or they share a delay.
+pub fn order_is_strict()
+    ensures { OrderIsStrict }
 {}
 
 /// Rising lists with the same members are equal, and lists have one merge.

@@ -34,11 +34,11 @@ pub struct Search {
 }
 
 impl Search {
-    ghost use Rattle.search_model.specs.Search.{IsInRange, DelaysInRange, FoldsInRange, PartsInRange, NoiseInRange};
+    ghost use Rattle.search_model.specs.Search.{SettingsInRange, DelaysInRange, FoldsInRange, PartsInRange, NoiseInRange};
 
     /// Whether each setting lies in its range.
     pub fn in_range(&self) -> bool
-        ensures { IsTrue result ↔ IsInRange self.now }
+        ensures { IsTrue result ↔ SettingsInRange self.now }
     {
         self.delays_in_range()
             && self.folds_in_range()

@@ -5,8 +5,8 @@ use Rattle.std.proofs.lemmas.Nat.{le-div, div-mul-add, div_below, div-add-mod', 
 use Rattle.std.proofs.lemmas.List.{length-take-le, length-drop, get_or-take, get_or-drop, drop-drop, drop-append-le}
 use Rattle.std.proofs.lemmas.List.FromFn.{length-map-range_with_len, get_or-map-range_with_len}
 use Rattle.search_model.specs.Samples.{sample_bytes, sample_at}
-use Rattle.spectra_rows.specs.Unpacking.{Unpacking, AreValues, StandsFor, spectrum_bytes, whole_spectra, unpacked, with_bytes, without_spectra}
-use Rattle.spectra_rows.specs.Cells.{AreUnpacked, IsSound, place_of}
+use Rattle.spectra_rows.specs.Unpacking.{Unpacking, AreValues, StandsForBytes, spectrum_bytes, whole_spectra, unpacked, with_bytes, without_spectra}
+use Rattle.spectra_rows.specs.Cells.{AreUnpacked, RowsAreSound, channel_place}
 use Rattle.spectra_rows.proofs.Alike.{sample_alike, some_bytes}
 
 -- the place of a sample lies within the spectra
@@ -24,7 +24,7 @@ within_bytes n s t place count limit here low fits =
     mul-le-mul_right s (within_spectra n t place count here low) in
     omega arith
 
-place_below : (n c : ℕ) (is_falling : Bool) → c < n → place_of n is_falling c < n
+place_below : (n c : ℕ) (is_falling : Bool) → c < n → channel_place n is_falling c < n
 place_below n c true here = here
 place_below n c false here = omega arith
 
@@ -35,7 +35,7 @@ pub cells_kept : (n : ℕ) (is_falling : Bool) (nbit npol chunk : ℕ) (a b rows
     → AreUnpacked n is_falling nbit npol chunk a rows count → AreUnpacked n is_falling nbit npol chunk b rows count
 cells_kept n is_falling nbit npol chunk a b rows count limit values fits agree cells = λ c t here low.
     let s = sample_bytes nbit npol in
-    let place = place_of n is_falling c in
+    let place = channel_place n is_falling c in
     let i = t * n + place in
     let room = within_bytes n s t place count limit (place_below n c is_falling here) low fits in
     cells c t here low
@@ -57,7 +57,7 @@ two_quotients q n s r length some small is =
     ap (λ x. x / n) samples ∙ div-mul-add q n part below
 
 module _ (n : ℕ) (is_falling : Bool) (nbit npol chunk spectrum filled ready : ℕ) (held rows : List ℕ)
-    (sound : IsSound n is_falling nbit npol chunk spectrum filled ready held rows) where
+    (sound : RowsAreSound n is_falling nbit npol chunk spectrum filled ready held rows) where
   abbrev view : Unpacking
   view = record {
     channels = n;
@@ -83,7 +83,7 @@ module _ (n : ℕ) (is_falling : Bool) (nbit npol chunk spectrum filled ready : 
       ∙ quotient_of ready spectrum (filled - ready * spectrum) _ (omega arith) is)
 
   -- the bytes that are given up, and those that are held
-  all_bytes : (bytes : List ℕ) (gone : ℕ) → StandsFor view bytes gone → length bytes ≡ gone * spectrum + filled
+  all_bytes : (bytes : List ℕ) (gone : ℕ) → StandsForBytes view bytes gone → length bytes ≡ gone * spectrum + filled
   all_bytes bytes gone stands =
       let g : gone * (n * sample_bytes nbit npol) ≡ gone * spectrum = ap (λ w. gone * w) (sym sound.spectrum_is) in
       let given = stands.given_up in
@@ -91,7 +91,7 @@ module _ (n : ℕ) (is_falling : Bool) (nbit npol chunk spectrum filled ready : 
       sym bytes_held ∙ ap length stands.kept ∙ length-drop (gone * (n * sample_bytes nbit npol)) bytes in
       omega arith
 
-  pub spectra_are : (bytes : List ℕ) (gone : ℕ) → StandsFor view bytes gone
+  pub spectra_are : (bytes : List ℕ) (gone : ℕ) → StandsForBytes view bytes gone
       → (unpacked view bytes).spectra ≡ gone + ready
   spectra_are bytes gone stands =
       let s = sample_bytes nbit npol in
@@ -104,11 +104,11 @@ module _ (n : ℕ) (is_falling : Bool) (nbit npol chunk spectrum filled ready : 
       ∙ two_quotients (gone + ready) n s (filled - ready * spectrum) (length bytes) (some_bytes nbit npol sound.values)
       (omega arith) (omega arith)
 
-  pub cells_are : (bytes : List ℕ) (gone c t : ℕ) → StandsFor view bytes gone → c < n → t < whole_spectra view
+  pub cells_are : (bytes : List ℕ) (gone c t : ℕ) → StandsForBytes view bytes gone → c < n → t < whole_spectra view
       → slice_index rows (c * chunk + t) ≡ (unpacked view bytes).value c (gone + t)
   cells_are bytes gone c t stands here low =
       let s = sample_bytes nbit npol in
-      let place = place_of n is_falling c in
+      let place = channel_place n is_falling c in
       let inside = place_below n c is_falling here in
       let i = t * n + place in
       let j = (gone + t) * n + place in
@@ -134,8 +134,8 @@ module _ (n : ℕ) (is_falling : Bool) (nbit npol chunk spectrum filled ready : 
 
 -- ---- what the calls leave
 
-pub more_bytes : (u : Unpacking) (piece before : List ℕ) (gone : ℕ) → StandsFor u before gone
-    → StandsFor (with_bytes u piece) (before ++ piece) gone
+pub more_bytes : (u : Unpacking) (piece before : List ℕ) (gone : ℕ) → StandsForBytes u before gone
+    → StandsForBytes (with_bytes u piece) (before ++ piece) gone
 more_bytes u piece before gone stands = record {
   given_up =
       let given = stands.given_up in
@@ -145,8 +145,8 @@ more_bytes u piece before gone stands = record {
       ∙ sym (drop-append-le (gone * spectrum_bytes u) before piece stands.given_up);
 }
 
-pub fewer_bytes : (u : Unpacking) (bytes : List ℕ) (gone : ℕ) → StandsFor u bytes gone
-    → StandsFor (without_spectra u) bytes (gone + whole_spectra u)
+pub fewer_bytes : (u : Unpacking) (bytes : List ℕ) (gone : ℕ) → StandsForBytes u bytes gone
+    → StandsForBytes (without_spectra u) bytes (gone + whole_spectra u)
 fewer_bytes u bytes gone stands =
     let w = spectrum_bytes u in
     let q = whole_spectra u in
@@ -164,7 +164,7 @@ fewer_bytes u bytes gone stands =
 
 -- an unpacker that holds `count` bytes more, and has unpacked all whole spectra
 pub filled_on : (n : ℕ) (is_falling : Bool) (nbit npol chunk spectrum filled ready : ℕ) (held rows : List ℕ)
-    → IsSound n is_falling nbit npol chunk spectrum filled ready held rows
+    → RowsAreSound n is_falling nbit npol chunk spectrum filled ready held rows
     → (count : ℕ) (more given kept before after left : List ℕ)
     → kept ≡ more → left ≡ after → given ≡ more → before ≡ rows
     → length more ≡ length held → length after ≡ length before
@@ -172,7 +172,7 @@ pub filled_on : (n : ℕ) (is_falling : Bool) (nbit npol chunk spectrum filled r
     → filled + count ≤ length held
     → (AreUnpacked n is_falling nbit npol chunk given before ready
     → AreUnpacked n is_falling nbit npol chunk given after ((filled + count) / spectrum))
-    → IsSound n is_falling nbit npol chunk spectrum (filled + count) ((filled + count) / spectrum) kept left
+    → RowsAreSound n is_falling nbit npol chunk spectrum (filled + count) ((filled + count) / spectrum) kept left
 filled_on n is_falling nbit npol chunk spectrum filled ready held rows sound count more given kept before after left
     kept_is left_is given_is before_is long tall same fits turn =
     let is = sound.spectrum_is in
@@ -208,7 +208,7 @@ filled_on n is_falling nbit npol chunk spectrum filled ready held rows sound cou
 
 -- the bytes behind the whole spectra, moved to the front
 pub view_without : (n : ℕ) (is_falling : Bool) (nbit npol chunk spectrum filled ready : ℕ) (held rows : List ℕ)
-    (sound : IsSound n is_falling nbit npol chunk spectrum filled ready held rows) (given moved kept : List ℕ)
+    (sound : RowsAreSound n is_falling nbit npol chunk spectrum filled ready held rows) (given moved kept : List ℕ)
     → given ≡ held → kept ≡ moved
     → take (filled - ready * spectrum) moved ≡ drop (ready * spectrum) (take filled given)
     → take (filled - ready * spectrum) kept

@@ -1,11 +1,12 @@
 -- The cells of the rows that stand behind.
+-- Source: this project's choice.
 use Rattle.std.specs.Prelude.{ℕ, ◌+◌, ◌-◌, ◌*◌, ◌≡◌, ◌<◌, ◌≤◌, Bool, List, length, slice_index, if◌then◌else◌}
 use Rattle.search_model.specs.Samples.{sample_bytes, sample_at}
 use Rattle.spectra_rows.specs.Unpacking.{AreValues}
 
 -- where a channel, counted from the highest frequency, stands in a spectrum
-abbrev pub place_of : ℕ → Bool → ℕ → ℕ
-place_of channels is_falling c = if is_falling then c else channels - 1 - c
+abbrev pub channel_place : ℕ → Bool → ℕ → ℕ
+channel_place channels is_falling c = if is_falling then c else channels - 1 - c
 
 -- the row that begins at `base` has these values from place `from` on, up to `to`; all others stay
 pub record WritesPart (old new : List ℕ) (base from to : ℕ) (value : ℕ → ℕ) : Type 0 where
@@ -20,10 +21,10 @@ cell channels nbit npol bytes place t = sample_at nbit npol bytes (t * channels 
 -- row c begins at c * chunk, and has the samples of the first `count` spectra of the bytes
 abbrev pub AreUnpacked : ℕ → Bool → ℕ → ℕ → ℕ → List ℕ → List ℕ → ℕ → Type 0
 AreUnpacked channels is_falling nbit npol chunk bytes rows count = (c t : ℕ) → c < channels → t < count
-    → slice_index rows (c * chunk + t) ≡ cell channels nbit npol bytes (place_of channels is_falling c) t
+    → slice_index rows (c * chunk + t) ≡ cell channels nbit npol bytes (channel_place channels is_falling c) t
 
 -- what stands behind is as large as it has to be, and the whole spectra are unpacked
-pub record IsSound (channels : ℕ) (is_falling : Bool) (nbit npol chunk spectrum filled ready : ℕ)
+pub record RowsAreSound (channels : ℕ) (is_falling : Bool) (nbit npol chunk spectrum filled ready : ℕ)
     (held rows : List ℕ) : Type 0 where
   pub some_channels : 2 ≤ channels
   pub most_channels : channels ≤ 4096

@@ -1,4 +1,5 @@
 -- What contracts see of an unpacker, and the data bytes that it stands for.
+-- Source: this project's choice.
 use Rattle.std.specs.Prelude.{ℕ, ◌*◌, ◌/◌, ◌≡◌, ◌≤◌, ◌⊎◌, ◌++◌, Bool, List, [], length, drop}
 use Rattle.search_model.specs.Samples.{Filterbank, sample_bytes, samples_of, filterbank}
 
@@ -25,7 +26,7 @@ abbrev pub unpacked : Unpacking → List ℕ → Filterbank
 unpacked u bytes = filterbank u.channels u.is_falling (samples_of u.nbit u.npol bytes)
 
 -- these bytes were taken since the opening, and the first `gone` of their spectra given up
-pub record StandsFor (u : Unpacking) (bytes : List ℕ) (gone : ℕ) : Type 0 where
+pub record StandsForBytes (u : Unpacking) (bytes : List ℕ) (gone : ℕ) : Type 0 where
   pub given_up : gone * spectrum_bytes u ≤ length bytes
   pub kept : u.pending ≡ drop (gone * spectrum_bytes u) bytes
 
@@ -38,8 +39,8 @@ abbrev pub without_spectra : Unpacking → Unpacking
 without_spectra u = record u { pending = drop (whole_spectra u * spectrum_bytes u) u.pending }
 
 -- opened for such spectra, with no byte
-abbrev pub opened : ℕ → Bool → ℕ → ℕ → ℕ → Unpacking
-opened channels is_falling nbit npol chunk = record {
+abbrev pub unpacking_of : ℕ → Bool → ℕ → ℕ → ℕ → Unpacking
+unpacking_of channels is_falling nbit npol chunk = record {
   channels = channels;
   is_falling = is_falling;
   nbit = nbit;

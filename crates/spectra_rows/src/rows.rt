@@ -2,7 +2,7 @@
 ghost use Rattle.std.specs.Prelude.{◌≡◌, ℕ, ◌+◌, ◌*◌, ◌<◌, ◌≤◌, length, slice_index};
 ghost use Rattle.search_model.specs.Samples.{sample_bytes};
 ghost use Rattle.spectra_rows.specs.Unpacking.{AreValues};
-ghost use Rattle.spectra_rows.specs.Cells.{AreUnpacked, WritesPart, cell, place_of};
+ghost use Rattle.spectra_rows.specs.Cells.{AreUnpacked, WritesPart, cell, channel_place};
 
 use crate::layout::Layout;
 use crate::samples::sample;
@@ -131,7 +131,7 @@ fn write_samples(
 // Where a channel stands in a spectrum.
 fn place_in_spectrum(channels: usize, is_falling: bool, channel: usize) -> usize
     requires { channel < channels }
-    ensures place { result ≡ place_of channels is_falling channel }
+    ensures place { result ≡ channel_place channels is_falling channel }
     ensures within { result < channels }
 {
     if is_falling {
@@ -160,7 +160,7 @@ fn write_channel(
     requires room { layout.channels * layout.chunk ≤ length rows.old }
     ensures { WritesPart rows.old rows.new (channel * layout.chunk) from to
         (cell layout.channels layout.nbit layout.npol bytes.now
-        (place_of layout.channels layout.is_falling channel)) }
+        (channel_place layout.channels layout.is_falling channel)) }
 {
     let place = place_in_spectrum(layout.channels, layout.is_falling, channel);
     let base = channel * layout.chunk;

@@ -1,7 +1,7 @@
 // Bytes that are pushed, as rows.
 ghost use Rattle.std.specs.Prelude.{◌≡◌, ℕ, ◌+◌, ◌-◌, ◌*◌, ◌<◌, ◌≤◌, ◌⊎◌, ◌++◌, List, [], length, take, min, slice_index, IfOk};
-ghost use Rattle.spectra_rows.specs.Unpacking.{Unpacking, StandsFor, spectrum_bytes, whole_spectra, unpacked, opened, with_bytes, without_spectra};
-ghost use Rattle.spectra_rows.specs.Cells.{IsSound};
+ghost use Rattle.spectra_rows.specs.Unpacking.{Unpacking, StandsForBytes, spectrum_bytes, whole_spectra, unpacked, unpacking_of, with_bytes, without_spectra};
+ghost use Rattle.spectra_rows.specs.Cells.{RowsAreSound};
 
 use crate::held::{give_up, hold};
 use crate::layout::Layout;
@@ -33,7 +33,7 @@ impl Model for Unpacker {
       pending = take u.filled u.held.items;
     } };
 
-    ghost invariant = { λ u. IsSound u.layout.channels u.layout.is_falling u.layout.nbit
+    ghost invariant = { λ u. RowsAreSound u.layout.channels u.layout.is_falling u.layout.nbit
         u.layout.npol u.layout.chunk u.spectrum u.filled u.ready u.held.items u.rows.items };
 }
 
@@ -54,8 +54,8 @@ impl Unpacker {
         requires polarisations { (npol ≡ 1) ⊎ (npol ≡ 2) }
         requires some_spectra { 1 ≤ chunk }
         requires most_spectra { chunk ≤ 65536 }
-        ensures opened { IfOk result (λ u. u ≡ opened channels falling nbit npol chunk) }
-        ensures nothing { IfOk result (λ u. StandsFor u [] 0) }
+        ensures opened { IfOk result (λ u. u ≡ unpacking_of channels falling nbit npol chunk) }
+        ensures nothing { IfOk result (λ u. StandsForBytes u [] 0) }
     {
         let layout = Layout {
             channels: channels as usize,
@@ -81,8 +81,8 @@ impl Unpacker {
         ensures count { result ≡ min (self.old.chunk * spectrum_bytes self.old
             - length self.old.pending) (length bytes.now) }
         ensures holds { self.new ≡ with_bytes self.old (take result bytes.now) }
-        ensures pieces { (before : List ℕ) (gone : ℕ) → StandsFor self.old before gone
-            → StandsFor self.new (before ++ take result bytes.now) gone }
+        ensures pieces { (before : List ℕ) (gone : ℕ) → StandsForBytes self.old before gone
+            → StandsForBytes self.new (before ++ take result bytes.now) gone }
     {
         let count = (self.held.len() - self.filled).min(bytes.len());
         hold(self.held.as_mut_slice(), self.filled, &bytes[..count]);
@@ -103,7 +103,7 @@ impl Unpacker {
     pub fn spectra(&self) -> u32
         ensures whole { result ≡ whole_spectra self.now }
         ensures room { result ≤ self.now.chunk }
-        ensures counts { (bytes : List ℕ) (gone : ℕ) → StandsFor self.now bytes gone
+        ensures counts { (bytes : List ℕ) (gone : ℕ) → StandsForBytes self.now bytes gone
             → (unpacked self.now bytes).spectra ≡ gone + result }
     {
         self.ready as u32
@@ -113,7 +113,7 @@ impl Unpacker {
     /// first. The values past the spectra that are held mean nothing.
     pub fn rows(&self) -> &[u32]
         ensures long { length result.now ≡ self.now.channels * self.now.chunk }
-        ensures samples { (bytes : List ℕ) (gone c t : ℕ) → StandsFor self.now bytes gone
+        ensures samples { (bytes : List ℕ) (gone c t : ℕ) → StandsForBytes self.now bytes gone
             → c < self.now.channels → t < whole_spectra self.now
             → slice_index result.now (c * self.now.chunk + t)
             ≡ (unpacked self.now bytes).value c (gone + t) }
@@ -124,8 +124,8 @@ impl Unpacker {
     /// Gives up the whole spectra that are held. A part of a spectrum is kept.
     pub fn taken(&mut self)
         ensures part { self.new ≡ without_spectra self.old }
-        ensures given_up { (bytes : List ℕ) (gone : ℕ) → StandsFor self.old bytes gone
-            → StandsFor self.new bytes (gone + whole_spectra self.old) }
+        ensures given_up { (bytes : List ℕ) (gone : ℕ) → StandsForBytes self.old bytes gone
+            → StandsForBytes self.new bytes (gone + whole_spectra self.old) }
     {
         let start = self.ready * self.spectrum;
         give_up(self.held.as_mut_slice(), start, self.filled);

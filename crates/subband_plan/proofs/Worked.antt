@@ -1,14 +1,14 @@
 -- Worked values of the definitions.
 use Rattle.std.proofs.Common.{◌≡◌, ℕ, [], ◌∷◌, sum_by, refl}
 use Rattle.subband_plan.specs.declared.nodes.Node.{Node}
-use Rattle.subband_plan.specs.Nodes.{Planned, split_of, tree, nodes_of, row_count, word_count}
+use Rattle.subband_plan.specs.Nodes.{BandPlan, split_of, tree, nodes_of, row_count, word_count}
 
 abbrev node : ℕ → ℕ → ℕ → ℕ → ℕ → Node
 node lo hi first_row last_row tail =
     record { lo = lo; hi = hi; first_row = first_row; last_row = last_row; tail = tail }
 
 -- two channels
-abbrev two : ℕ → ℕ → Planned
+abbrev two : ℕ → ℕ → BandPlan
 two first last = record { edges = 1500000 ∷ 1400000 ∷ 1300000 ∷ []; first = first; last = last }
 
 delays_0_and_1 : nodes_of (two 0 1) ≡ node 0 2 0 1 0 ∷ node 0 1 0 0 1 ∷ node 1 2 0 1 0 ∷ []
@@ -30,7 +30,7 @@ unfolding tree split_of
 words_2_to_4 = refl
 
 -- three channels: the lower half is halved again
-three : Planned
+three : BandPlan
 three = record { edges = 1600000 ∷ 1500000 ∷ 1400000 ∷ 1300000 ∷ []; first = 6; last = 6 }
 
 three_channels : nodes_of three

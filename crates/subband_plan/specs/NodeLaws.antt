@@ -1,10 +1,11 @@
 -- Laws of the nodes of a plan; the functions of this crate carry them.
+-- Source: Zackay & Ofek, ApJ 835:11, 2017, section 2; the order of the nodes is this project's choice.
 use Rattle.std.specs.Prelude.{◌≡◌, ℕ, ◌+◌, ◌-◌, ◌*◌, ◌≤◌, ◌<◌, List, length}
 use Rattle.dada_model.specs.Edges.{AreEdges}
 use Rattle.band_paths.specs.Edges.{channels_of}
 use Rattle.search_model.specs.Paths.{middle}
 use Rattle.subband_plan.specs.declared.nodes.Node.{Node}
-use Rattle.subband_plan.specs.Nodes.{Planned, IsPlan, IsBranch, HasRow, split_of, upper_half, lower_half, root, nodes_of, node_at}
+use Rattle.subband_plan.specs.Nodes.{BandPlan, IsPlan, IsBranch, HasRow, split_of, upper_half, lower_half, root, nodes_of, node_at}
 
 -- the number of the lower half of node k; the upper half is node k + 1
 abbrev pub lower_number : Node → ℕ → ℕ
@@ -25,7 +26,7 @@ pub record AreLaid (edges : List ℕ) (nodes : List Node) : Type 0 where
 
 -- a plan over n channels has 2 n - 1 nodes, the whole band first, and the halves of each are among them
 abbrev pub PlansAreLaid : Type 0
-PlansAreLaid = (p : Planned) → IsPlan p → (AreLaid p.edges (nodes_of p)) × (node_at (nodes_of p) 0 ≡ root p)
+PlansAreLaid = (p : BandPlan) → IsPlan p → (AreLaid p.edges (nodes_of p)) × (node_at (nodes_of p) 0 ≡ root p)
 
 -- of a node's row, the rows that it asks of the halves are rows of theirs
 pub record HalvesHave (edges : List ℕ) (n : Node) (d : ℕ) : Type 0 where

@@ -9,7 +9,7 @@ use Rattle.search_model.specs.Paths.{middle, split_at}
 use Rattle.subband_plan.specs.declared.nodes.Node.{Node}
 
 -- what contracts see in a plan: the edges of the channels in kHz, the highest first, and the delays of the whole band
-pub record Planned : Type 0 where
+pub record BandPlan : Type 0 where
   pub edges : List ℕ
   pub first : ℕ
   pub last : ℕ
@@ -50,11 +50,11 @@ tree (suc depth) edges n =
     ]
 
 -- the whole band
-abbrev pub root : Planned → Node
+abbrev pub root : BandPlan → Node
 root p = record { lo = 0; hi = channels_of p.edges; first_row = p.first; last_row = p.last; tail = 0 }
 
 -- the nodes of a plan; 4096 channels are halved 12 times
-abbrev pub nodes_of : Planned → List Node
+abbrev pub nodes_of : BandPlan → List Node
 nodes_of p = tree 12 p.edges (root p)
 
 -- node k
@@ -70,7 +70,7 @@ abbrev pub word_count : ℕ → Node → ℕ
 word_count chunk n = row_count n * (chunk + n.tail)
 
 -- what a plan is made for
-pub record IsPlan (p : Planned) : Type 0 where
+pub record IsPlan (p : BandPlan) : Type 0 where
   pub band : AreEdges (channels_of p.edges) p.edges
   pub order : p.first ≤ p.last
   pub few : p.last ≤ most_delay

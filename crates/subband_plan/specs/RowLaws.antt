@@ -1,9 +1,10 @@
 -- Laws of the rows of a plan's tables; the functions of this crate carry them.
+-- Source: Zackay & Ofek, ApJ 835:11, 2017, section 2; the order of the rows is this project's choice.
 use Rattle.std.specs.Prelude.{◌≡◌, ℕ, ◌+◌, ◌-◌, ◌*◌, ◌^◌, ◌≤◌, ◌<◌, List, length, slice_index}
 use Rattle.dada_model.specs.Bounds.{most_delay}
 use Rattle.subband_plan.specs.declared.nodes.Node.{Node}
 use Rattle.subband_plan.specs.declared.rows.Rows.{Rows}
-use Rattle.subband_plan.specs.Nodes.{Planned, IsPlan, HasKept, least_row, split_of, upper_half, lower_half, node_at}
+use Rattle.subband_plan.specs.Nodes.{BandPlan, IsPlan, HasKept, least_row, split_of, upper_half, lower_half, node_at}
 use Rattle.subband_plan.specs.NodeLaws.{AreLaid}
 use Rattle.subband_plan.specs.Rows.{AreRows, AreStarts, row_of}
 
@@ -36,4 +37,4 @@ pub record AreFew (rows : Rows) : Type 0 where
       slice_index rows.held.items q ≤ slice_index rows.held.items r
 
 abbrev pub RowsAreFew : Type 0
-RowsAreFew = (p : Planned) (rows : Rows) → IsPlan p → AreRows p rows → AreFew rows
+RowsAreFew = (p : BandPlan) (rows : Rows) → IsPlan p → AreRows p rows → AreFew rows

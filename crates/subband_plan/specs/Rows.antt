@@ -7,7 +7,7 @@ use Rattle.dada_model.specs.Bounds.{most_delay}
 use Rattle.subband_plan.specs.declared.nodes.Node.{Node}
 use Rattle.subband_plan.specs.declared.rows.Merge.{Merge}
 use Rattle.subband_plan.specs.declared.rows.Rows.{Rows}
-use Rattle.subband_plan.specs.Nodes.{Planned, HasKept, least_row, kept_count, split_of, upper_half, lower_half, nodes_of, node_at}
+use Rattle.subband_plan.specs.Nodes.{BandPlan, HasKept, least_row, kept_count, split_of, upper_half, lower_half, nodes_of, node_at}
 use Rattle.subband_plan.specs.NodeLaws.{lower_number}
 
 -- where things of these sizes begin that stand one after another, and where the last one ends
@@ -67,7 +67,7 @@ abbrev pub AreHeld : List ℕ → List ℕ → Type 0
 AreHeld tails held = ArePlaces (λ r. slice_index tails r) (length tails) held
 
 -- the rows of the tables of a plan
-pub record AreRows (p : Planned) (rows : Rows) : Type 0 where
+pub record AreRows (p : BandPlan) (rows : Rows) : Type 0 where
   pub starts : AreStarts (nodes_of p) rows.starts.items
   pub count : length rows.merges.items ≡ slice_index rows.starts.items (length (nodes_of p))
   pub made : AreMade p.edges (nodes_of p) rows.starts.items rows.merges.items

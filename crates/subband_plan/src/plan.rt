@@ -3,9 +3,9 @@ ghost use Rattle.std.specs.Prelude.{◌≡◌, ℕ, ◌+◌, ◌-◌, ◌*◌, �
 ghost use Rattle.dada_model.specs.Bounds.{most_delay};
 ghost use Rattle.dada_model.specs.Edges.{AreEdges};
 ghost use Rattle.band_paths.specs.Edges.{channels_of};
-ghost use Rattle.subband_plan.specs.Nodes.{Planned, IsPlan, nodes_of, node_at, row_count, word_count};
+ghost use Rattle.subband_plan.specs.Nodes.{BandPlan, IsPlan, nodes_of, node_at, row_count, word_count};
 ghost use Rattle.subband_plan.specs.NodeLaws.{AreLaid, PlansAreLaid};
-ghost use Rattle.subband_plan.specs.Plans.{planned, IsKept};
+ghost use Rattle.subband_plan.specs.Plans.{band_plan, HoldsNodes};
 
 use crate::nodes::{Node, asked_rows_are_there};
 use psr_base::Memory;
@@ -23,11 +23,11 @@ pub struct Plan {
 }
 
 impl Model for Plan {
-    ghost Value = { Planned };
+    ghost Value = { BandPlan };
 
-    ghost view = { λ p. planned p.edges.items p.first p.last };
+    ghost view = { λ p. band_plan p.edges.items p.first p.last };
 
-    ghost invariant = { λ p. IsKept (planned p.edges.items p.first p.last) p.nodes.items };
+    ghost invariant = { λ p. HoldsNodes (band_plan p.edges.items p.first p.last) p.nodes.items };
 }
 
 impl Plan {

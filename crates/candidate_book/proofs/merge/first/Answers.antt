@@ -4,7 +4,7 @@ use Rattle.std.proofs.lemmas.Bool.{false≢true}
 use Rattle.std.proofs.lemmas.List.{get_or_read}
 use Rattle.std.proofs.lemmas.Option.{same_Some}
 use Rattle.search_model.specs.Order.{Precedes}
-use Rattle.candidate_book.specs.Book.{Booked}
+use Rattle.candidate_book.specs.Book.{BookContents}
 use Rattle.candidate_book.specs.Conditions.{kept_in}
 use Rattle.candidate_book.specs.First.{next_at}
 use Rattle.candidate_book.specs.declared.merge.Next.{Next}
@@ -26,7 +26,7 @@ loop-i-preserved c =
     let book : c.index-books-i.result ≡ get_or books i None =
     get_or_read books i c.index-books-i.result (omega arith) c.index-books-i.is None in
     let at : next i ≡ c.candidate_at.result =
-    sym (c.candidate_at.ensures.value ∙ ap (λ (b : Option Booked). slice_get (kept_in b) (get_or places i 0)) book) in
+    sym (c.candidate_at.ensures.value ∙ ap (λ (b : Option BookContents). slice_get (kept_in b) (get_or places i 0)) book) in
     elim c.match-candidate_at.branch [
       | in-Some+then-comes_before w ↦
           let candidate = w.in-Some.candidate in
@@ -34,7 +34,7 @@ loop-i-preserved c =
           let precedes : ForSome found (λ one. Precedes candidate one.candidate) =
           w.comes_before.ensures.0 w.if-comes_before.true in
           rw w.found-is (record {
-            first = first_is_new next i candidate found before.first (at ∙ w.in-Some.is) precedes;
+            first = first_is_new c.order_is_strict.ensures next i candidate found before.first (at ∙ w.in-Some.is) precedes;
             bound = λ x e. subst (λ (y : Next). get_or places y.book 0 < 2 ^ 32) (same_Some _ x e) small;
           })
       | in-Some+else-comes_before w ↦

@@ -4,9 +4,10 @@ use Rattle.std.proofs.lemmas.List.Elements.{All-replicate}
 use Rattle.std.proofs.lemmas.Result.{err_from_is_err_and}
 use Rattle.psr_base.specs.Written.{WroteFront}
 use Rattle.search_model.specs.declared.candidate.Candidate.{Candidate}
-use Rattle.search_model.specs.CandidateText.{candidate_line}
-use Rattle.candidate_book.specs.Lines.{labels_of, Pending}
-use Rattle.candidate_book.specs.Merged.{AreTotals, lines_of}
+use Rattle.search_model.specs.CandidateText.{candidate_line, candidate_lines}
+use Rattle.search_model.specs.Observed.{labels_of}
+use Rattle.candidate_book.specs.Lines.{Pending}
+use Rattle.candidate_book.specs.Merged.{AreTotals}
 use Rattle.candidate_book.proofs.Merging.{next_is_found, none_left, found_is_searched, all_left}
 use Rattle.candidate_book.proofs.Passing.{PassedOn, nothing_passed, one_passed, line_failed, all_passed, one_kind}
 use Rattle.candidate_book.proofs.Places.{sum_of, sum_moves, sum_is_small, moves_within, begins_at}
@@ -89,15 +90,15 @@ loop-next-preserved g c =
       counted = omega (arith, c.count.ensures.pulses, c.count.ensures.folds, before.counted, one_kind found.candidate);
       passed = λ merged merge.
           let far = before.passed merged merge in
-          let step = next_is_found books c.requires.books places c.advance.new.places found first moves room
+          let step = next_is_found books c.order_is_strict.ensures c.requires.books places c.advance.new.places found first moves room
           far.left far.merges in
           let is : merged ≡ far.done ++ found.candidate ∷ step.0 =
           far.splits ∙ ap (λ (xs : List Candidate). far.done ++ xs) step.1 in
-          let passed = (c.in_ok-push.ensures (lines_of labels far.done) old far.lines).pending in
+          let passed = (c.in_ok-push.ensures (candidate_lines labels far.done) old far.lines).pending in
           one_passed labels books c.advance.new.places c.loop-next.totals c.count.new.self c.push.new.self old
           (g.K.Sink.seen c.push.new.sink) far.done found.candidate step.0 merged is far.counted
           c.count.ensures.pulses c.count.ensures.folds
-          (subst (λ text. Pending (lines_of labels far.done ++ text) c.push.new.self old
+          (subst (λ text. Pending (candidate_lines labels far.done ++ text) c.push.new.self old
           (g.K.Sink.seen c.push.new.sink))
           line passed)
           step.2;
@@ -118,17 +119,17 @@ returns-in_err-push g c =
     let p = err_from_is_err_and c.from_residual.result c.from_residual.ensures.1 in
     rw p.1 (λ merged merge.
     let far = before.passed merged merge in
-    let step = next_is_found books c.requires.books places c.advance.new.places found c.in-Some.ensures.first moves
+    let step = next_is_found books c.order_is_strict.ensures c.requires.books places c.advance.new.places found c.in-Some.ensures.first moves
     room far.left far.merges in
     let is : merged ≡ far.done ++ found.candidate ∷ step.0 =
     far.splits ∙ ap (λ (xs : List Candidate). far.done ++ xs) step.1 in
-    let front = (c.in_err-push.ensures (lines_of labels far.done) old far.lines).front in
+    let front = (c.in_err-push.ensures (candidate_lines labels far.done) old far.lines).front in
     record {
       lines = record {
         pending = tt;
         front = line_failed labels old (g.K.Sink.seen c.push.new.sink) far.done found.candidate step.0 merged
             c.pieces_join.ensures.pieces is
-            (subst (λ text. WroteFront (lines_of labels far.done ++ text) old (g.K.Sink.seen c.push.new.sink)) line
+            (subst (λ text. WroteFront (candidate_lines labels far.done ++ text) old (g.K.Sink.seen c.push.new.sink)) line
             front);
       };
       totals = tt;
@@ -144,7 +145,7 @@ returns g c =
     let all = all_passed labels far.done far.left merged far.splits none in
     record {
       lines = record {
-        pending = subst (λ list. Pending (lines_of labels list) c.loop-next.page (g.K.Sink.seen c.args.sink.now)
+        pending = subst (λ list. Pending (candidate_lines labels list) c.loop-next.page (g.K.Sink.seen c.args.sink.now)
             (g.K.Sink.seen c.loop-next.sink)) all far.lines;
         front = tt;
       };

@@ -3,7 +3,7 @@ use Rattle.std.specs.Prelude.{All}
 use Rattle.search_model.specs.declared.candidate.Candidate.{Candidate}
 use Rattle.search_model.specs.Order.{IsMergeOf}
 use Rattle.candidate_book.specs.Conditions.{kept_lists}
-use Rattle.candidate_book.specs.Lines.{labels_of}
+use Rattle.search_model.specs.Observed.{labels_of}
 use Rattle.candidate_book.proofs.Passing.{PassedOn}
 use Rattle.candidate_book.proofs.Places.{sum_of}
 use Rattle.candidate_book.proofs.merged.pass_candidates.Given as goal

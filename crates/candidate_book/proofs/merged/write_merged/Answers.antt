@@ -1,9 +1,9 @@
 use Rattle.std.proofs.Common.{◌≡◌, ◌++◌, subst, ◌∙◌}
 use Rattle.std.proofs.lemmas.Result.{err_from_is_err_and}
 use Rattle.psr_base.specs.Written.{WroteAll, WroteFront}
-use Rattle.search_model.specs.CandidateText.{end_line}
-use Rattle.candidate_book.specs.Lines.{labels_of, Pending}
-use Rattle.candidate_book.specs.Merged.{lines_of}
+use Rattle.search_model.specs.CandidateText.{candidate_lines, end_line}
+use Rattle.search_model.specs.Observed.{labels_of}
+use Rattle.candidate_book.specs.Lines.{Pending}
 use Rattle.candidate_book.proofs.Passing.{text_is, all_written, front_written}
 use Rattle.candidate_book.proofs.merged.write_merged.Goals as goal
 
@@ -16,7 +16,7 @@ returns-in_err-totals g c =
     record {
       text = record {
         all = tt;
-        front = c.pieces_join.ensures.pieces.breaks_off (lines_of labels merged) _ _ _ front;
+        front = c.pieces_join.ensures.pieces.breaks_off (candidate_lines labels merged) _ _ _ front;
       };
       totals = tt;
     })
@@ -32,8 +32,8 @@ returns-in_err-push g c =
     let listed = c.in_ok-totals.ensures merged merge in
     let line : c.as_bytes.result.now ≡ end_line totals.pulses totals.folds c.args.spectra =
     c.as_bytes.ensures ∙ c.end_line-line.ensures.text in
-    let front = (c.in_err-push.ensures (lines_of labels merged) old listed.lines.pending).front in
-    let whole = subst (λ text. WroteFront (lines_of labels merged ++ text) old new) line front in
+    let front = (c.in_err-push.ensures (candidate_lines labels merged) old listed.lines.pending).front in
+    let whole = subst (λ text. WroteFront (candidate_lines labels merged ++ text) old new) line front in
     record {
       text = record {
         all = tt;
@@ -55,8 +55,8 @@ returns-in_err-flush g c =
     let listed = c.in_ok-totals.ensures merged merge in
     let line : c.as_bytes.result.now ≡ end_line totals.pulses totals.folds c.args.spectra =
     c.as_bytes.ensures ∙ c.end_line-line.ensures.text in
-    let pending = (c.in_ok-push.ensures (lines_of labels merged) old listed.lines.pending).pending in
-    let whole = subst (λ text. Pending (lines_of labels merged ++ text) c.push.new.self old middle) line pending in
+    let pending = (c.in_ok-push.ensures (candidate_lines labels merged) old listed.lines.pending).pending in
+    let whole = subst (λ text. Pending (candidate_lines labels merged ++ text) c.push.new.self old middle) line pending in
     let front = front_written _ c.push.new.self old middle new c.pieces_join.ensures.pieces whole
     c.in_err-flush.ensures.wrote.front in
     record {
@@ -78,8 +78,8 @@ returns g c = λ merged merge.
     let listed = c.in_ok-totals.ensures merged merge in
     let line : c.as_bytes.result.now ≡ end_line totals.pulses totals.folds c.args.spectra =
     c.as_bytes.ensures ∙ c.end_line-line.ensures.text in
-    let pending = (c.in_ok-push.ensures (lines_of labels merged) old listed.lines.pending).pending in
-    let whole = subst (λ text. Pending (lines_of labels merged ++ text) c.push.new.self old middle) line pending in
+    let pending = (c.in_ok-push.ensures (candidate_lines labels merged) old listed.lines.pending).pending in
+    let whole = subst (λ text. Pending (candidate_lines labels merged ++ text) c.push.new.self old middle) line pending in
     let all = all_written _ c.push.new.self old middle new c.pieces_join.ensures.pieces whole
     c.in_ok-flush.ensures.wrote.all in
     record {

@@ -3,7 +3,7 @@ use Rattle.std.specs.List.{range_with_len}
 use Rattle.std.proofs.lemmas.List.FromFn.{map-range_with_len_more}
 use Rattle.std.proofs.lemmas.List.Elements.{All-append}
 use Rattle.std.proofs.Math.Nat.{div-lt_iff_lt-mul}
-use Rattle.search_model.specs.Observed.{observed}
+use Rattle.search_model.specs.Observed.{filterbank_of}
 use Rattle.psr_search.specs.Samples.{greatest_sample}
 use Rattle.psr_search.proofs.Bands.{spectra_are}
 use Rattle.psr_search.proofs.samples.arranged.Goals as goal
@@ -21,7 +21,7 @@ sample_of-requires-clause-spectrum c =
     let n = c.channels-n.result in
     let some : 0 < n = omega (arith, c.channels-n.ensures, c.lies_in_range.ensures.few_channels) in
     let before : c.loop-i.i / n < c.spectra_in.result = (div-lt_iff_lt-mul some).1 c.loop-i-test.true in
-    let is : c.spectra_in.result ≡ (observed o c.args.bytes.now).spectra = c.spectra_in.ensures.value
+    let is : c.spectra_in.result ≡ (filterbank_of o c.args.bytes.now).spectra = c.spectra_in.ensures.value
     ∙ sym (spectra_are o c.args.bytes.now) in
     let P : ℕ → Type 0 = λ k. c.loop-i.i / n < k in
     subst P is before
@@ -29,7 +29,7 @@ sample_of-requires-clause-spectrum c =
 pub loop-i-preserved : goal.loop-i-preserved
 loop-i-preserved c =
     let o = c.args.observation.now in
-    let band = observed o c.args.bytes.now in
+    let band = filterbank_of o c.args.bytes.now in
     let i = c.loop-i.i in
     let before = c.loop-i.invariant in
     let sample = c.sample_of.result in
@@ -49,7 +49,7 @@ loop-i-preserved c =
 pub returns-clause-samples : goal.returns-clause-samples
 returns-clause-samples c =
     let o = c.args.observation.now in
-    let band = observed o c.args.bytes.now in
+    let band = filterbank_of o c.args.bytes.now in
     let is : c.spectra_in.result ≡ band.spectra = c.spectra_in.ensures.value ∙ sym (spectra_are o c.args.bytes.now) in
     let end : c.loop-i.i ≡ c.spectra_in.result * c.channels-n.result =
     omega (arith, c.loop-i-test.false, c.loop-i.auto.i-end) in

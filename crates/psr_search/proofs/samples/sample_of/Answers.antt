@@ -3,13 +3,13 @@ use Rattle.std.specs.Prelude.{if◌then◌else◌, slice_index}
 use Rattle.std.proofs.Math.Nat.{div-le_self}
 use Rattle.dada_model.specs.Observation.{Observation}
 use Rattle.search_model.specs.Samples.{samples_of, sample_bytes, sample_at}
-use Rattle.search_model.specs.Observed.{observed}
+use Rattle.search_model.specs.Observed.{filterbank_of}
 use Rattle.psr_search.proofs.Bands.{spectra_are, within_spectra, sample_is}
 use Rattle.psr_search.proofs.samples.sample_of.Goals as goal
 
 -- the place of channel k lies in the bytes
 place_within : (o : Observation) (bytes : List ℕ) (t k n : ℕ) → n ≡ o.channels → k < o.channels →
-    t < (observed o bytes).spectra → t * n + k < length bytes / sample_bytes o.nbit o.npol
+    t < (filterbank_of o bytes).spectra → t * n + k < length bytes / sample_bytes o.nbit o.npol
 place_within o bytes t k n same channel spectrum =
     let P : ℕ → Type 0 = λ m. t * m + k < length bytes / sample_bytes o.nbit o.npol in
     let Q : ℕ → Type 0 = λ m. t < m in
@@ -17,7 +17,7 @@ place_within o bytes t k n same channel spectrum =
     (subst Q (spectra_are o bytes) spectrum))
 
 place_small : (o : Observation) (bytes : List ℕ) (t k n : ℕ) → n ≡ o.channels → k < o.channels →
-    t < (observed o bytes).spectra → t * n + k < length bytes
+    t < (filterbank_of o bytes).spectra → t * n + k < length bytes
 place_small o bytes t k n same channel spectrum =
     let within = place_within o bytes t k n same channel spectrum in
     let less : length bytes / sample_bytes o.nbit o.npol ≤ length bytes =
@@ -26,7 +26,7 @@ place_small o bytes t k n same channel spectrum =
 
 -- the sample at a place, as the band has it
 sample_there : (o : Observation) (bytes : List ℕ) (t k n : ℕ) → n ≡ o.channels → k < o.channels →
-    t < (observed o bytes).spectra →
+    t < (filterbank_of o bytes).spectra →
     sample_at o.nbit o.npol bytes (t * n + k) ≡ slice_index (samples_of o.nbit o.npol bytes) (t * o.channels + k)
 sample_there o bytes t k n same channel spectrum =
     ap (λ (m : ℕ). sample_at o.nbit o.npol bytes (t * m + k)) same

@@ -2,11 +2,11 @@ use Rattle.std.proofs.Common.{ℕ, ◌+◌, ◌-◌, ◌≤◌, List, length, ta
 use Rattle.std.specs.List.{All}
 use Rattle.std.proofs.lemmas.List.Elements.{All-take, All-drop}
 use Rattle.std.proofs.lemmas.List.Sums.{sum_by-le}
-use Rattle.fdmt_rows.specs.Rows.{sum_of}
+use Rattle.fdmt_rows.specs.Rows.{sum_from}
 use Rattle.rows_tests.proofs.rows.neighbours_are_added.Goals as goal
 
 -- a few small values have a small sum
-small_sum : (xs : List ℕ) (k n : ℕ) → All (λ x. x ≤ 100) xs → n ≤ 1000 → sum_of xs k n ≤ 100000
+small_sum : (xs : List ℕ) (k n : ℕ) → All (λ x. x ≤ 100) xs → n ≤ 1000 → sum_from xs k n ≤ 100000
 small_sum xs k n all few =
     let total = sum_by-le (λ x. x) 100 (take n (drop k xs)) (All-take (λ x. x ≤ 100) n (drop k xs) (All-drop
     (λ x. x ≤ 100) k xs all)) in

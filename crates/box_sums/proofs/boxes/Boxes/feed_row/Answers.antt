@@ -1,7 +1,7 @@
 use Rattle.std.proofs.Common.{ℕ, ◌≡◌, ◌≢◌, ◌+◌, ◌-◌, ◌*◌, ◌^◌, ◌<◌, ◌≤◌, ◌++◌, List, length, take, drop, slice_index, ◌∙◌, sym, ap, subst, arith}
 use Rattle.std.proofs.lemmas.List.{get_or_read, take_at, length-set, get_or-set_other}
 use Rattle.std.specs.List.{All}
-use Rattle.box_sums.specs.Kept.{Kept, StandsFor, last_feed, row_at}
+use Rattle.box_sums.specs.Kept.{RowTails, StandsForRow, last_feed, row_at}
 use Rattle.box_sums.specs.Rows.{Keeps}
 use Rattle.box_sums.specs.Tables.{AreUpTo}
 use Rattle.box_sums.proofs.Feeding.{fed_own, fed_other, fed_boxes, sum_fits, drop_small, all_up_to, set_up_to}
@@ -25,7 +25,7 @@ fill_boxes-requires-clause-fits c = λ i.
     let stride : ℕ = f.widest - 1 + f.chunk in
     let total : ℕ = f.widest - 1 + length c.args.row.now in
     let place : ℕ = (c.args.d - f.first) * stride in
-    let bound : f.bound ≡ c.args.self.now.bound = ap (λ (b : Kept). b.bound) c.self.view_is in
+    let bound : f.bound ≡ c.args.self.now.bound = ap (λ (b : RowTails). b.bound) c.self.view_is in
     let kept = kept_is_small f.bound f.kept.items c.as_mut_slice.result.now c.keep_row.new.table
     c.as_slice.result.now c.args.row.now
     c.as_mut_slice.ensures.value
@@ -47,10 +47,10 @@ invariant_of-self c =
     let reach : ℕ = f.widest - 1 in
     let stride : ℕ = reach + f.chunk in
     let n : ℕ = length c.args.row.now in
-    let first : f.first ≡ c.args.self.now.first = ap (λ (b : Kept). b.first) c.self.view_is in
-    let last : f.last ≡ c.args.self.now.last = ap (λ (b : Kept). b.last) c.self.view_is in
-    let chunk : f.chunk ≡ c.args.self.now.chunk = ap (λ (b : Kept). b.chunk) c.self.view_is in
-    let bound : f.bound ≡ c.args.self.now.bound = ap (λ (b : Kept). b.bound) c.self.view_is in
+    let first : f.first ≡ c.args.self.now.first = ap (λ (b : RowTails). b.first) c.self.view_is in
+    let last : f.last ≡ c.args.self.now.last = ap (λ (b : RowTails). b.last) c.self.view_is in
+    let chunk : f.chunk ≡ c.args.self.now.chunk = ap (λ (b : RowTails). b.chunk) c.self.view_is in
+    let bound : f.bound ≡ c.args.self.now.bound = ap (λ (b : RowTails). b.bound) c.self.view_is in
     let above = c.requires.row.above in
     let below = c.requires.row.below in
     let rows = c.self.invariant.fed_room in
@@ -97,13 +97,13 @@ returns-clause-own c = λ xs stands.
     let at : ℕ = c.args.d - f.first in
     let reach : ℕ = f.widest - 1 in
     let stride : ℕ = reach + f.chunk in
-    let first : f.first ≡ c.args.self.now.first = ap (λ (b : Kept). b.first) c.self.view_is in
-    let last : f.last ≡ c.args.self.now.last = ap (λ (b : Kept). b.last) c.self.view_is in
+    let first : f.first ≡ c.args.self.now.first = ap (λ (b : RowTails). b.first) c.self.view_is in
+    let last : f.last ≡ c.args.self.now.last = ap (λ (b : RowTails). b.last) c.self.view_is in
     let inside : at < length f.fed.items =
     (let rows = c.self.invariant.fed_room in let below = c.requires.row.below in let above = c.requires.row.above in
     omega (arith, rows, below, above, first, last)) in
     let keeps : Keeps (row_at f.kept.items stride at) reach (slice_index f.fed.items at) xs =
-    subst (λ (b : Kept). StandsFor b c.args.d xs) (sym c.self.view_is) stands in
+    subst (λ (b : RowTails). StandsForRow b c.args.d xs) (sym c.self.view_is) stands in
     fed_own f.kept.items c.as_mut_slice.result.now c.keep_row.new.table _ f.fed.items c.args.row.now xs stride at
     reach c.index.result.now
     c.as_mut_slice.ensures.value
@@ -117,11 +117,11 @@ pub returns-clause-counts : goal.returns-clause-counts
 returns-clause-counts c = λ e has other.
     let f = c.self.inside in
     let at : ℕ = c.args.d - f.first in
-    let first : f.first ≡ c.args.self.now.first = ap (λ (b : Kept). b.first) c.self.view_is in
+    let first : f.first ≡ c.args.self.now.first = ap (λ (b : RowTails). b.first) c.self.view_is in
     let apart : e - f.first ≢ at = λ same. other
     (let above = c.requires.row.above in let mine = has.above in omega (arith, above, mine, same, first)) in
     get_or-set_other f.fed.items at (e - f.first) (length c.args.row.now) 0 apart
-    ∙ ap (λ (b : Kept). last_feed b e) c.self.view_is
+    ∙ ap (λ (b : RowTails). last_feed b e) c.self.view_is
 
 pub returns-clause-others : goal.returns-clause-others
 returns-clause-others c = λ e xs has other stands.
@@ -129,12 +129,12 @@ returns-clause-others c = λ e xs has other stands.
     let at : ℕ = c.args.d - f.first in
     let reach : ℕ = f.widest - 1 in
     let stride : ℕ = reach + f.chunk in
-    let first : f.first ≡ c.args.self.now.first = ap (λ (b : Kept). b.first) c.self.view_is in
+    let first : f.first ≡ c.args.self.now.first = ap (λ (b : RowTails). b.first) c.self.view_is in
     let apart : e - f.first ≢ at =
     λ same. other (let above = c.requires.row.above in let mine = has.above in omega
     (arith, above, mine, same, first)) in
     let keeps : Keeps (row_at f.kept.items stride (e - f.first)) reach (slice_index f.fed.items (e - f.first)) xs =
-    subst (λ (b : Kept). StandsFor b e xs) (sym c.self.view_is) stands in
+    subst (λ (b : RowTails). StandsForRow b e xs) (sym c.self.view_is) stands in
     fed_other f.kept.items c.as_mut_slice.result.now c.keep_row.new.table _ f.fed.items xs stride at
     (e - f.first) reach (length c.args.row.now)
     c.as_mut_slice.ensures.value

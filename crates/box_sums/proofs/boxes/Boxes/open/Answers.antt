@@ -2,7 +2,7 @@ use Rattle.std.proofs.Common.{ℕ, ◌+◌, ◌-◌, ◌*◌, ◌≤◌, List, [
 use Rattle.std.proofs.Math.Nat.{mul-le-mul_right}
 use Rattle.box_sums.specs.Kept.{row_at}
 use Rattle.box_sums.specs.Rows.{Keeps}
-use Rattle.box_sums.specs.Tables.{IsSound}
+use Rattle.box_sums.specs.Tables.{TablesAreSound}
 use Rattle.box_sums.proofs.Zeros.{zero_at, zeros_keep, zeros_sound}
 use Rattle.box_sums.proofs.boxes.Boxes.open.Goals as goal
 
@@ -10,11 +10,11 @@ pub invariant_of-result : goal.invariant_of-result
 invariant_of-result c =
     let a = c.args in
     let stride : ℕ = a.widest - 1 + a.chunk in
-    let P : List ℕ → Type 0 = λ fed. IsSound a.first a.last a.chunk a.widest a.bound a.first fed
+    let P : List ℕ → Type 0 = λ fed. TablesAreSound a.first a.last a.chunk a.widest a.bound a.first fed
     c.in_ok-zeros-2.field-0.items c.in_ok-zeros-3.field-0.items in
-    let Q : List ℕ → Type 0 = λ kept. IsSound a.first a.last a.chunk a.widest a.bound a.first
+    let Q : List ℕ → Type 0 = λ kept. TablesAreSound a.first a.last a.chunk a.widest a.bound a.first
     (replicate (a.last - a.first + 1) 0) kept c.in_ok-zeros-3.field-0.items in
-    let R : List ℕ → Type 0 = λ boxes. IsSound a.first a.last a.chunk a.widest a.bound a.first
+    let R : List ℕ → Type 0 = λ boxes. TablesAreSound a.first a.last a.chunk a.widest a.bound a.first
     (replicate (a.last - a.first + 1) 0) (replicate ((a.last - a.first + 1) * stride) 0) boxes in
     subst P (sym c.in_ok-zeros.ensures) (subst Q (sym c.in_ok-zeros-2.ensures) (subst R (sym c.in_ok-zeros-3.ensures)
     (zeros_sound a.first a.last a.chunk a.widest a.bound c.requires.order c.requires.rows c.requires.some

@@ -1,6 +1,6 @@
 use Rattle.std.proofs.Common.{ℕ, ◌≡◌, ◌*◌, ◌^◌, ◌-◌, ◌<◌, ◌≤◌, List, length, ◌∙◌, sym, ap, subst, arith}
 use Rattle.std.proofs.lemmas.List.{take_at}
-use Rattle.fast_fold.specs.Folding.{Folding, StandsFor, AreFolded}
+use Rattle.fast_fold.specs.Folding.{Folding, StandsForSeries, AreFolded}
 use Rattle.fast_fold.specs.Merging.{AreMerged}
 use Rattle.fast_fold.proofs.Levels.{folded_more}
 use Rattle.fast_fold.proofs.Room.{loaded_fits, all_blocks}
@@ -56,7 +56,7 @@ returns-clause-sums c = λ series stands.
     ap (λ v. v.items) c.swap.ensures.x_after
     ∙ take_at c.merge_blocks.new.out _ f.spare.len (c.merge_blocks.auto.out ∙ c.as_mut_slice.ensures.len) in
     let old : AreFolded f.period f.halvings f.level series f.sums.items =
-    subst (λ (f : Folding). StandsFor f series) (sym c.self.view_is) stands in
+    subst (λ (f : Folding). StandsForSeries f series) (sym c.self.view_is) stands in
     let are : AreMerged c.swap.new.x.items f.sums.items f.period (2 ^ f.level) (2 ^ (f.halvings - f.level - 1)) =
     merged_same c.merge_blocks.new.out c.swap.new.x.items _ f.sums.items f.period _ _ _ _ (sym items)
     c.as_slice.ensures.value c.power-rows.ensures.value c.power-blocks.ensures.value c.merge_blocks.ensures in

@@ -6,7 +6,7 @@ use Rattle.psr_search.specs.declared.direct.Direct.{Direct}
 use Rattle.psr_search.specs.declared.track.Track.{Track}
 use Rattle.search_model.specs.declared.candidate.Candidate.TheVariants.{Pulse}
 use Rattle.psr_search.specs.Track.{IsTrack}
-use Rattle.psr_search.specs.Direct.{found_at, lines_of}
+use Rattle.psr_search.specs.Direct.{found_at, found_lines}
 use Rattle.psr_search.proofs.Found.{line_is}
 use Rattle.psr_search.proofs.direct.Direct.write_at.Goals as goal
 
@@ -14,9 +14,9 @@ use Rattle.psr_search.proofs.direct.Direct.write_at.Goals as goal
 line_of_found : (s : Direct) (u d sum n : ℕ) (t : Track) (bytes line : List ℕ) → IsTrack s.observation d t →
     n ≡ s.observation.channels → bytes ≡ line →
     line ≡ candidate_line (plain_labels (λ _. t.dm) n) (Pulse u d 1 sum) → Pulse u d 1 sum ∷ [] ≡ found_at s u d →
-    bytes ≡ lines_of s (found_at s u d)
+    bytes ≡ found_lines s (found_at s u d)
 line_of_found s u d sum n t bytes line track channels same is found = same ∙ is
-    ∙ line_is s u d t.dm n sum channels track.dm ∙ ap (lines_of s) found
+    ∙ line_is s u d t.dm n sum channels track.dm ∙ ap (found_lines s) found
 
 track_of : (s : Direct) (d : ℕ) (t : Track) → vec_len s.tracks ≡ length s.tracks.items → d < vec_len s.tracks →
     t ≡ get_or s.tracks.items d t → IsTrack s.observation d t

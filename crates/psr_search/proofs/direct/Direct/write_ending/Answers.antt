@@ -1,7 +1,7 @@
 use Rattle.std.proofs.Common.{◌≡◌, ℕ, ◌+◌, List, length, vec_len, ◌∙◌, ap, subst, arith, length-append}
 use Rattle.psr_base.specs.Written.{WroteAll, WroteFront, first_pieces}
 use Rattle.search_model.specs.declared.candidate.Candidate.{Candidate}
-use Rattle.psr_search.specs.Direct.{found_at, found_ending, lines_of}
+use Rattle.psr_search.specs.Direct.{found_at, found_ending, found_lines}
 use Rattle.psr_search.proofs.Ranges.{flat_map_range_more}
 use Rattle.psr_search.proofs.Found.{lines_of_pieces}
 use Rattle.psr_search.proofs.direct.Direct.write_ending.Goals as goal
@@ -11,7 +11,7 @@ returns-in-Err-clause-wrote g c =
     let s = c.args.self.now in
     let seen = g.K.Sink.seen in
     let n = vec_len s.tracks in
-    let piece = λ (d : ℕ). lines_of s (found_at s c.args.u d) in
+    let piece = λ (d : ℕ). found_lines s (found_at s c.args.u d) in
     let P : List ℕ → Type 0 = λ text. WroteFront text (seen c.args.out.now) (seen c.write_at.new.out) in
     record {
       all = tt;
@@ -25,7 +25,7 @@ pub loop-d-preserved : goal.loop-d-preserved
 loop-d-preserved g c =
     let s = c.args.self.now in
     let seen = g.K.Sink.seen in
-    let piece = λ (d : ℕ). lines_of s (found_at s c.args.u d) in
+    let piece = λ (d : ℕ). found_lines s (found_at s c.args.u d) in
     let longer : length (found_ending s c.args.u (c.loop-d.d + 1)) ≡ length (found_ending s c.args.u c.loop-d.d) +
     length (found_at s c.args.u c.loop-d.d) =
     ap (length {A = Candidate}) (flat_map_range_more (found_at s c.args.u) 0 c.loop-d.d c.loop-d.d (omega arith))
@@ -42,7 +42,7 @@ returns-clause-wrote g c =
     let s = c.args.self.now in
     let seen = g.K.Sink.seen in
     let n = vec_len s.tracks in
-    let piece = λ (d : ℕ). lines_of s (found_at s c.args.u d) in
+    let piece = λ (d : ℕ). found_lines s (found_at s c.args.u d) in
     let end : c.loop-d.d ≡ n = omega (arith, c.len-d-end.ensures, c.loop-d-test.false, c.loop-d.auto.d-end) in
     let P : List ℕ → Type 0 = λ text. WroteAll text (seen c.args.out.now) (seen c.loop-d.out) in
     record {

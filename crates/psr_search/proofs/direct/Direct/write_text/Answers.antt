@@ -1,6 +1,6 @@
 use Rattle.std.proofs.Common.{◌≡◌, ℕ, List, ◌++◌, length, ◌∙◌, ap, sym}
 use Rattle.search_model.specs.CandidateText.{end_line}
-use Rattle.psr_search.specs.Direct.{band, found, lines_of, found_text}
+use Rattle.psr_search.specs.Direct.{band, found, found_lines, found_text}
 use Rattle.psr_search.proofs.Found.{text_is, joined, broken_off}
 use Rattle.psr_search.proofs.direct.Direct.write_text.Goals as goal
 
@@ -8,7 +8,7 @@ pub returns-in-Ok : goal.returns-in-Ok
 returns-in-Ok g c =
     let s = c.args.self.now in
     let seen = g.K.Sink.seen in
-    let lines = lines_of s (found s (band s).spectra) in
+    let lines = found_lines s (found s (band s).spectra) in
     let line : end_line (length (found s (band s).spectra)) 0 (band s).spectra ≡ c.as_bytes.result.now =
     sym (c.as_bytes.ensures ∙ c.end_line.ensures ∙ ap (λ (n : ℕ). end_line n 0 c.spectra.result) c.in-Ok.ensures.number
     ∙ ap (λ (n : ℕ). end_line (length (found s (band s).spectra)) 0 n) c.spectra.ensures.value) in
@@ -21,5 +21,5 @@ returns-in-Err g c =
     let s = c.args.self.now in
     let seen = g.K.Sink.seen in
     let all = found s (band s).spectra in
-    broken_off c.pieces_join.ensures.pieces (lines_of s all) (end_line (length all) 0 (band s).spectra) (found_text s)
+    broken_off c.pieces_join.ensures.pieces (found_lines s all) (end_line (length all) 0 (band s).spectra) (found_text s)
     (seen c.args.out.now) (seen c.write_pulses.new.out) c.in-Err.failed (text_is s) c.in-Err.ensures.wrote.front

@@ -1,5 +1,5 @@
 use Rattle.std.proofs.Common.{◌≡◌, ℕ, ◌+◌, List, subst}
-use Rattle.spectra_rows.specs.Unpacking.{Unpacking, StandsFor, whole_spectra, unpacked}
+use Rattle.spectra_rows.specs.Unpacking.{Unpacking, StandsForBytes, whole_spectra, unpacked}
 use Rattle.spectra_rows.proofs.Standing.{ready_is, spectra_are}
 use Rattle.spectra_rows.proofs.unpacker.Unpacker.spectra.Goals as goal
 
@@ -11,6 +11,6 @@ returns-clause-whole c =
 pub returns-clause-counts : goal.returns-clause-counts
 returns-clause-counts c =
     subst (λ (u : Unpacking).
-    (bytes : List ℕ) (gone : ℕ) → StandsFor u bytes gone → (unpacked u bytes).spectra ≡ gone + c.self.inside.ready)
+    (bytes : List ℕ) (gone : ℕ) → StandsForBytes u bytes gone → (unpacked u bytes).spectra ≡ gone + c.self.inside.ready)
     c.self.view_is
     (spectra_are _ _ _ _ _ _ _ _ _ _ c.self.invariant)

@@ -1,6 +1,6 @@
 use Rattle.std.proofs.Common.{◌≡◌, ℕ, ◌+◌, ◌-◌, ◌*◌, ◌++◌, List, length, take, drop, ◌∙◌, sym, ap, subst}
 use Rattle.std.proofs.lemmas.List.{take_at}
-use Rattle.spectra_rows.specs.Unpacking.{Unpacking, StandsFor, whole_spectra, without_spectra}
+use Rattle.spectra_rows.specs.Unpacking.{Unpacking, StandsForBytes, whole_spectra, without_spectra}
 use Rattle.spectra_rows.proofs.Standing.{view_without, fewer_bytes}
 use Rattle.spectra_rows.proofs.unpacker.Unpacker.taken.Goals as goal
 
@@ -26,5 +26,5 @@ returns-clause-part c =
 
 pub returns-clause-given_up : goal.returns-clause-given_up
 returns-clause-given_up c = λ bytes gone stands.
-    subst (λ (u : Unpacking). StandsFor u bytes (gone + whole_spectra c.args.self.now)) (sym (returns-clause-part c))
+    subst (λ (u : Unpacking). StandsForBytes u bytes (gone + whole_spectra c.args.self.now)) (sym (returns-clause-part c))
     (fewer_bytes c.args.self.now bytes gone stands)
