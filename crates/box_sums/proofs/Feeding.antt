@@ -8,7 +8,7 @@ use Rattle.std.proofs.lemmas.List.Sums.{sum_by-le}
 use Rattle.std.proofs.lemmas.Nat.{pow_below}
 use Rattle.std.proofs.Math.Nat.{mul-le-mul_right}
 use Rattle.fdmt_rows.specs.Rows.{sum_from}
-use Rattle.box_sums.specs.Kept.{row_at}
+use Rattle.box_sums.specs.Tails.{row_at}
 use Rattle.box_sums.specs.Rows.{sum_ending, Keeps}
 use Rattle.box_sums.specs.Tables.{AreBoxes, AreUpTo}
 use Rattle.box_sums.proofs.Parts.{part_small, part_at}

@@ -5,7 +5,7 @@ use Rattle.std.proofs.lemmas.Nat.{mul-add-lt}
 use Rattle.std.proofs.Math.Nat.{mul-le-mul_right}
 use Rattle.std.proofs.lemmas.List.{get_or_append_left, get_or-append_right, get_or-take, get_or-drop, get_or_past, length-take-le, same_lists, get_or_default}
 use borrow.Rule.Slice.PartMut.{put_mid, post_of, same_len_mid}
-use Rattle.box_sums.specs.Kept.{row_at}
+use Rattle.box_sums.specs.Tails.{row_at}
 use Rattle.box_sums.specs.Tables.{AreUpTo}
 
 pub put_before : (a n : ℕ) (xs ys : List ℕ) (k : ℕ) → k < a → a ≤ length xs

@@ -3,7 +3,7 @@ use Rattle.std.proofs.Common.{◌≡◌, ℕ, ◌+◌, ◌-◌, ◌*◌, ◌^◌
 use Rattle.std.proofs.lemmas.Bool.{cases_lt}
 use Rattle.std.proofs.lemmas.List.{length-replicate, get_or-replicate, get_or_past, get_or-take, get_or-drop, append-nil}
 use Rattle.fdmt_rows.specs.Rows.{sum_from}
-use Rattle.box_sums.specs.Kept.{row_at}
+use Rattle.box_sums.specs.Tails.{row_at}
 use Rattle.box_sums.specs.Rows.{Keeps, IsWidth}
 use Rattle.box_sums.specs.Tables.{AreBoxes, AreUpTo, TablesAreSound}
 use Rattle.box_sums.proofs.Parts.{part_length, part_at, part_small, same_values}

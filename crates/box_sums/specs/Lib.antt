@@ -1,3 +1,3 @@
-pub mod Kept
+pub mod Tails
 pub mod Rows
 pub mod Tables

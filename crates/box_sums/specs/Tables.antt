@@ -3,7 +3,7 @@
 use Rattle.std.specs.Prelude.{ℕ, ◌+◌, ◌-◌, ◌*◌, ◌^◌, ◌≡◌, ◌<◌, ◌≤◌, List, length, slice_index}
 use Rattle.fdmt_rows.specs.Rows.{sum_from}
 use Rattle.box_sums.specs.Rows.{IsWidth}
-use Rattle.box_sums.specs.Kept.{row_at}
+use Rattle.box_sums.specs.Tails.{row_at}
 
 -- no value is above the bound
 abbrev pub AreUpTo : ℕ → List ℕ → Type 0

@@ -1,7 +1,7 @@
 // Rows that are fed, and boxes over them.
 ghost use Rattle.std.specs.Prelude.{◌≡◌, ℕ, ◌+◌, ◌-◌, ◌*◌, ◌^◌, ◌<◌, ◌≤◌, ◌≢◌, ◌++◌, List, [], length, sum, slice_index, take, drop, replicate, IfOk};
 ghost use Rattle.std.specs.List.{All};
-ghost use Rattle.box_sums.specs.Kept.{RowTails, StandsForRow, KeepsRow, AreAlike, IsOpened, last_feed};
+ghost use Rattle.box_sums.specs.Tails.{RowTails, StandsForRow, KeepsRow, AreAlike, IsOpened, last_feed};
 ghost use Rattle.box_sums.specs.Rows.{IsWidth, SumsAddValues, sum_ending};
 ghost use Rattle.box_sums.specs.Tables.{TablesAreSound};
 
@@ -42,8 +42,8 @@ impl Model for Boxes {
       newest = b.newest;
     } };
 
-    ghost invariant = { λ b. TablesAreSound b.first b.last b.chunk b.widest b.bound b.newest b.fed.items
-        b.kept.items b.boxes.items };
+    ghost invariant = { λ b. TablesAreSound b.first b.last b.chunk b.widest b.bound b.newest
+        b.fed.items b.kept.items b.boxes.items };
 }
 
 impl Boxes {

@@ -1,6 +1,6 @@
 // What is kept of a row: the values that later boxes need, and the last feed.
 ghost use Rattle.std.specs.Prelude.{◌≡◌, ℕ, ◌+◌, ◌*◌, ◌<◌, ◌≤◌, ◌≢◌, ◌++◌, length, take, drop, slice_index};
-ghost use Rattle.box_sums.specs.Kept.{row_at};
+ghost use Rattle.box_sums.specs.Tails.{row_at};
 ghost use Rattle.box_sums.specs.Tables.{AreUpTo};
 
 // Moves `reach` values that begin at `before` to the front.

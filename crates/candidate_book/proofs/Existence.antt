@@ -22,7 +22,8 @@ record Joined (Member : Candidate → Type 0) : Type 0 where
   rises : IsRising list
   members : (c : Candidate) → Contains list c ↔ Member c
 
-insert : OrderIsStrict → (x : Candidate) (xs : List Candidate) → IsRising xs → ((y : Candidate) → Contains xs y → Comparable x y) →
+insert : OrderIsStrict → (x : Candidate) (xs : List Candidate) → IsRising xs →
+    ((y : Candidate) → Contains xs y → Comparable x y) →
     Joined (λ c. (x ≡ c) ⊎ Contains xs c)
 insert order x [] rises compares = record {
   list = x ∷ [];

@@ -39,7 +39,8 @@ one_counted p done c = sum_by_push (λ (x : Candidate). cond (p x) 1 0) done c
 -- the lines of done, of one more, and of the rest are those of the merged list
 pub lines_split : (labels : Labels) (done : List Candidate) (c : Candidate) (rest merged : List Candidate) →
     merged ≡ done ++ c ∷ rest →
-    candidate_lines labels merged ≡ (candidate_lines labels done ++ candidate_line labels c) ++ candidate_lines labels rest
+    candidate_lines labels merged
+    ≡ (candidate_lines labels done ++ candidate_line labels c) ++ candidate_lines labels rest
 lines_split labels done c rest merged is =
     ap (candidate_lines labels) is ∙ flat_map-append (candidate_line labels) done (c ∷ rest)
     ∙ ap (λ (t : List ℕ). candidate_lines labels done ++ t) (flat_map-cons (candidate_line labels) c rest)
@@ -83,10 +84,12 @@ one_passed labels books later totals more page old now done c rest merged is cou
 -- a fault at a candidate's line: the front of all lines was written
 pub line_failed : (labels : Labels) (old now : SinkSeen) (done : List Candidate) (c : Candidate)
     (rest merged : List Candidate) → PiecesJoin → merged ≡ done ++ c ∷ rest →
-    WroteFront (candidate_lines labels done ++ candidate_line labels c) old now → WroteFront (candidate_lines labels merged) old now
+    WroteFront (candidate_lines labels done ++ candidate_line labels c) old now →
+    WroteFront (candidate_lines labels merged) old now
 line_failed labels old now done c rest merged join is front =
     subst (λ text. WroteFront text old now) (sym (lines_split labels done c rest merged is))
-    (join.breaks_off (candidate_lines labels done ++ candidate_line labels c) (candidate_lines labels rest) old now front)
+    (join.breaks_off (candidate_lines labels done ++ candidate_line labels c)
+    (candidate_lines labels rest) old now front)
 
 -- as it ends: all lines were passed on
 pub all_passed : (labels : Labels) (done left merged : List Candidate) → merged ≡ done ++ left → left ≡ [] →

@@ -141,8 +141,8 @@ impl Header {
         })
     }
 
-    /// The size of the header that stands at the beginning of `first`: HDR_SIZE in its first 4096 bytes, the least size,
-    /// or this size where HDR_SIZE is missing.
+    /// The size of the header that stands at the beginning of `first`: HDR_SIZE in its first 4096 bytes, the least
+    /// size, or this size where HDR_SIZE is missing.
     pub fn size_of(first: &[u8]) -> Result<usize, HeaderFault>
         ensures ok { IfOk result (λ size. header_size first.now ≡ Some size) }
         ensures long { OnOk result (least_header ≤ length first.now) }
@@ -178,7 +178,8 @@ impl Header {
     /// Reads a header in place of this one, which stays where the bytes are refused.
     pub fn read_again(&mut self, bytes: &[u8]) -> Result<(), HeaderFault>
         ensures ok { OnOk result (header_of bytes.now ≡ Ok self.new) }
-        ensures fault { IfErr result (λ fault. IsHeaderRefusal bytes.now fault × (self.new ≡ self.old)) }
+        ensures fault { IfErr result (λ fault.
+            IsHeaderRefusal bytes.now fault × (self.new ≡ self.old)) }
     {
         headers_are_read_back();
         headers_are_text();

@@ -85,7 +85,8 @@ impl Folder {
         requires more { self.old.level < self.old.halvings }
         ensures room { HaveSameRoom self.new self.old }
         ensures level { IsAt self.new self.old.period self.old.halvings (self.old.level + 1) }
-        ensures sums { (series : List ℕ) → StandsForSeries self.old series → StandsForSeries self.new series }
+        ensures sums { (series : List ℕ) → StandsForSeries self.old series
+            → StandsForSeries self.new series }
     {
         let rows = power(self.level);
         let blocks = power(self.halvings - self.level - 1);
@@ -115,7 +116,8 @@ impl Folder {
         requires block { block < 2 ^ (self.now.halvings - self.now.level) }
         requires trial { j < 2 ^ self.now.level }
         ensures phases { length result.now ≡ self.now.period }
-        ensures sums { (series : List ℕ) (q : ℕ) → StandsForSeries self.now series → q < self.now.period
+        ensures sums { (series : List ℕ) (q : ℕ) → StandsForSeries self.now series
+            → q < self.now.period
             → slice_index result.now q
             ≡ fold_sum (block_of series self.now.period self.now.level block) self.now.period
             self.now.level j q }

@@ -84,7 +84,9 @@ fn is_band(width_hz: u64, centre_hz: u64) -> bool
     requires centre { centre_hz ≤ most_centre_hz }
     ensures { IsTrue result ↔ IsBand width_hz centre_hz }
 {
-    0 < width_hz && width_hz + 2000 <= 2 * centre_hz && 2 * centre_hz + width_hz < 2000 * (TOP_KHZ + 1)
+    0 < width_hz
+        && width_hz + 2000 <= 2 * centre_hz
+        && 2 * centre_hz + width_hz < 2000 * (TOP_KHZ + 1)
 }
 
 /// BW in Hz.

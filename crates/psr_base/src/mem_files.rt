@@ -133,7 +133,8 @@ impl Files for MemFiles {
         requires closed { ¬ IsMaking self.old }
         ensures answer { IsOk result
             ↔ (CanMake name.now self.old × ¬ FailsNext (files_calls self.old)) }
-        ensures created { OnOk result (made_of self.new ≡ with_new_file name.now (made_of self.old)) }
+        ensures created { OnOk result
+            (made_of self.new ≡ with_new_file name.now (made_of self.old)) }
         ensures left { OnOk result (files_left self.new ≡ less_a_file (files_left self.old)) }
         ensures called { OnOk result (files_calls self.new ≡ after_call (files_calls self.old)) }
         ensures is_open { OnOk result (IsMaking self.new) }

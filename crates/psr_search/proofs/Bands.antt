@@ -19,8 +19,8 @@ channels_of-edges n edges are = let count = are.count in omega arith
 -- ---- samples of bytes
 
 -- how many spectra there are
-pub spectra_are : (o : Observation) (bytes : List ℕ) → (filterbank_of o bytes).spectra ≡ length bytes / sample_bytes o.nbit
-    o.npol / o.channels
+pub spectra_are : (o : Observation) (bytes : List ℕ) →
+    (filterbank_of o bytes).spectra ≡ length bytes / sample_bytes o.nbit o.npol / o.channels
 spectra_are o bytes = ap (λ (n : ℕ). n / o.channels) (length-map-range_with_len (sample_at o.nbit o.npol bytes) 0
     (length bytes / sample_bytes o.nbit o.npol))
 

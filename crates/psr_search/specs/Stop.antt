@@ -39,7 +39,7 @@ note_of Words = codes "words refused\n"
 note_of (Header cause) = codes "header of file 0 refused: " ++ cause_text cause ++ codes "\n"
 note_of Memory = codes "no memory\n"
 note_of ReadFault = codes "read fault\n"
-note_of TooLong = codes "more than 16777216 bytes\n"
+note_of TooLong = codes "more than " ++ decimal most_data ++ codes " bytes\n"
 note_of SinkFault = codes "sink fault\n"
 
 -- the stop of a header's fault

@@ -16,7 +16,7 @@ use psr_base::{DataFault, Inputs, fill, read_to_end};
 use std::alloc::Global;
 
 /// The most data bytes that are searched.
-const MOST_DATA: usize = 16_777_216;
+pub(crate) const MOST_DATA: usize = 16_777_216;
 
 /// The least size of a header, in bytes.
 const LEAST_HEADER: usize = 4096;

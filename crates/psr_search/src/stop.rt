@@ -3,6 +3,7 @@ ghost use Rattle.std.specs.Prelude.{◌≡◌, ◌≤◌, ◌+◌, ◌++◌, len
 ghost use Rattle.std.specs.Fmt.{decimal};
 ghost use Rattle.dada_model.specs.Observation.{keyword};
 
+use crate::opening::MOST_DATA;
 use dada_header::HeaderFault;
 use dada_model::Key;
 use obs_plan::ObsFault;
@@ -97,7 +98,11 @@ impl Stop {
             }
             Stop::Memory => line.push_str("no memory\n"),
             Stop::ReadFault => line.push_str("read fault\n"),
-            Stop::TooLong => line.push_str("more than 16777216 bytes\n"),
+            Stop::TooLong => {
+                line.push_str("more than ");
+                line.push_number(MOST_DATA as u64);
+                line.push_str(" bytes\n");
+            }
             Stop::SinkFault => line.push_str("sink fault\n"),
         }
         line

@@ -1,6 +1,6 @@
 // Boxes over rows that are fed in pieces.
 ghost use Rattle.std.specs.Prelude.{◌≡◌, ◌≤◌, length};
-ghost use Rattle.box_sums.specs.Kept.{KeepsRow, last_feed};
+ghost use Rattle.box_sums.specs.Tails.{KeepsRow, last_feed};
 ghost use Rattle.box_sums.specs.Rows.{IsWidth};
 
 use crate::values::values;

@@ -2,7 +2,7 @@
 use Rattle.std.proofs.Common.{◌≡◌, ℕ, ◌+◌, ◌-◌, ◌*◌, ◌/◌, ◌%◌, ◌≤◌, ◌<◌, arith}
 use Rattle.std.proofs.lemmas.Nat.{mul-le, le-div, div_below}
 use Rattle.dada_model.specs.Observation.{square}
-use Rattle.search_model.specs.SubbandLaws.{RisesByOneAtMost}
+use Rattle.search_model.specs.SubbandLaws.{StepsByOne}
 use Rattle.search_model.specs.Paths.{split}
 
 square_below : (a b : ℕ) → a < b → square a < square b
@@ -35,7 +35,7 @@ pub split_le : (high mid low d : ℕ) → low < mid → mid < high → split hig
 split_le high mid low d lm mh = rounded _ _ d (part_below high mid low lm mh)
 
 -- from d to d + 1 the rounded part rises by 1 or not at all
-rounded_steps : (p q d : ℕ) → p < q → RisesByOneAtMost ((2 * d * p + q) / (2 * q)) ((2 * (d + 1) * p + q) / (2 * q))
+rounded_steps : (p q d : ℕ) → p < q → StepsByOne ((2 * d * p + q) / (2 * q)) ((2 * (d + 1) * p + q) / (2 * q))
 rounded_steps p q d h =
     let more : 2 * (d + 1) * p + q ≡ 2 * d * p + q + 2 * p = omega arith in
     let a = 2 * d * p + q in
@@ -48,5 +48,5 @@ rounded_steps p q d h =
     }
 
 pub split_steps : (high mid low d : ℕ) → low < mid → mid < high →
-    RisesByOneAtMost (split high mid low d) (split high mid low (d + 1))
+    StepsByOne (split high mid low d) (split high mid low (d + 1))
 split_steps high mid low d lm mh = rounded_steps _ _ d (part_below high mid low lm mh)

@@ -42,12 +42,13 @@ WholeBandIsPathSum = (f : Filterbank) (edges : List ℕ) (d u late : ℕ) → Ar
     node_sum f edges 0 f.channels d u late ≡ late_path_sum f edges u d late
 
 -- from one delay to the next, a split rises by 1 or not at all
-pub record RisesByOneAtMost (before after : ℕ) : Type 0 where
+pub record StepsByOne (before after : ℕ) : Type 0 where
   pub rises : before ≤ after
   pub by_one : after ≤ before + 1
 
 abbrev pub SplitsStep : Type 0
-SplitsStep = (high mid low d : ℕ) → low < mid → mid < high → RisesByOneAtMost (split high mid low d) (split high mid low (d + 1))
+SplitsStep = (high mid low d : ℕ) → low < mid → mid < high →
+    StepsByOne (split high mid low d) (split high mid low (d + 1))
 
 -- a path sum that ends k spectra before u is the path sum that ends there, and 0 before the first spectrum
 pub record LatePathSums : Type 0 where

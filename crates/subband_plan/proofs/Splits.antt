@@ -4,13 +4,13 @@ use Rattle.dada_model.specs.Edges.{AreEdges}
 use Rattle.band_paths.specs.Edges.{channels_of}
 use Rattle.search_model.specs.Paths.{middle}
 use Rattle.search_model.specs.Laws.{SplitsFit}
-use Rattle.search_model.specs.SubbandLaws.{RisesByOneAtMost, SplitsStep}
+use Rattle.search_model.specs.SubbandLaws.{StepsByOne, SplitsStep}
 use Rattle.subband_plan.specs.declared.nodes.Node.{Node}
 use Rattle.subband_plan.specs.Nodes.{IsBranch, HasRow, split_of, upper_half, lower_half}
 use Rattle.subband_plan.specs.NodeLaws.{HalvesHave, AreBranches}
 
 -- what rises by 1 or not at all from one number to the next, over k numbers
-rises_by : (f : ℕ → ℕ) → ((d : ℕ) → RisesByOneAtMost (f d) (f (d + 1))) → (d k : ℕ) →
+rises_by : (f : ℕ → ℕ) → ((d : ℕ) → StepsByOne (f d) (f (d + 1))) → (d k : ℕ) →
     (f d ≤ f (d + k)) × (f (d + k) ≤ f d + k)
 rises_by f step d zero = let e : d + zero ≡ d = omega arith in rw e (omega arith, omega arith)
 rises_by f step d (suc k) =
@@ -20,7 +20,7 @@ rises_by f step d (suc k) =
     rw e (omega (arith, prior.0, next.rises), omega (arith, prior.1, next.by_one))
 
 -- from d to e
-rises_to : (f : ℕ → ℕ) → ((d : ℕ) → RisesByOneAtMost (f d) (f (d + 1))) → (d e : ℕ) → d ≤ e →
+rises_to : (f : ℕ → ℕ) → ((d : ℕ) → StepsByOne (f d) (f (d + 1))) → (d e : ℕ) → d ≤ e →
     (f d ≤ f e) × (f e + d ≤ f d + e)
 rises_to f step d e h =
     let k : ℕ = e - d in
@@ -29,7 +29,7 @@ rises_to f step d e h =
     (r.0, omega (arith, r.1))
 
 node_steps : SplitsStep → (edges : List ℕ) (n : Node) → AreEdges (channels_of edges) edges → IsBranch edges n →
-    n.lo + 2 ≤ n.hi → (d : ℕ) → RisesByOneAtMost (split_of edges n d) (split_of edges n (d + 1))
+    n.lo + 2 ≤ n.hi → (d : ℕ) → StepsByOne (split_of edges n d) (split_of edges n (d + 1))
 unfolding split_of
 node_steps steps edges n band branch two d =
     let within = branch.within in

@@ -20,13 +20,15 @@ loop-i-preserved c =
     let books = c.args.books.now in
     let places = c.args.places.now in
     let next = next_at books places in
+    let order = c.order_is_strict.ensures in
     let i = c.loop-i.i in
     let found = c.loop-i.found in
     let before = c.loop-i.invariant in
     let book : c.index-books-i.result ≡ get_or books i None =
     get_or_read books i c.index-books-i.result (omega arith) c.index-books-i.is None in
     let at : next i ≡ c.candidate_at.result =
-    sym (c.candidate_at.ensures.value ∙ ap (λ (b : Option BookContents). slice_get (kept_in b) (get_or places i 0)) book) in
+    sym (c.candidate_at.ensures.value ∙ ap (λ (b : Option BookContents).
+    slice_get (kept_in b) (get_or places i 0)) book) in
     elim c.match-candidate_at.branch [
       | in-Some+then-comes_before w ↦
           let candidate = w.in-Some.candidate in
@@ -34,7 +36,7 @@ loop-i-preserved c =
           let precedes : ForSome found (λ one. Precedes candidate one.candidate) =
           w.comes_before.ensures.0 w.if-comes_before.true in
           rw w.found-is (record {
-            first = first_is_new c.order_is_strict.ensures next i candidate found before.first (at ∙ w.in-Some.is) precedes;
+            first = first_is_new order next i candidate found before.first (at ∙ w.in-Some.is) precedes;
             bound = λ x e. subst (λ (y : Next). get_or places y.book 0 < 2 ^ 32) (same_Some _ x e) small;
           })
       | in-Some+else-comes_before w ↦

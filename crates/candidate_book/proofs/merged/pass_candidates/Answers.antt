@@ -90,7 +90,8 @@ loop-next-preserved g c =
       counted = omega (arith, c.count.ensures.pulses, c.count.ensures.folds, before.counted, one_kind found.candidate);
       passed = λ merged merge.
           let far = before.passed merged merge in
-          let step = next_is_found books c.order_is_strict.ensures c.requires.books places c.advance.new.places found first moves room
+          let step = next_is_found books c.order_is_strict.ensures c.requires.books places
+          c.advance.new.places found first moves room
           far.left far.merges in
           let is : merged ≡ far.done ++ found.candidate ∷ step.0 =
           far.splits ∙ ap (λ (xs : List Candidate). far.done ++ xs) step.1 in
@@ -119,7 +120,8 @@ returns-in_err-push g c =
     let p = err_from_is_err_and c.from_residual.result c.from_residual.ensures.1 in
     rw p.1 (λ merged merge.
     let far = before.passed merged merge in
-    let step = next_is_found books c.order_is_strict.ensures c.requires.books places c.advance.new.places found c.in-Some.ensures.first moves
+    let step = next_is_found books c.order_is_strict.ensures c.requires.books places
+    c.advance.new.places found c.in-Some.ensures.first moves
     room far.left far.merges in
     let is : merged ≡ far.done ++ found.candidate ∷ step.0 =
     far.splits ∙ ap (λ (xs : List Candidate). far.done ++ xs) step.1 in
@@ -129,7 +131,8 @@ returns-in_err-push g c =
         pending = tt;
         front = line_failed labels old (g.K.Sink.seen c.push.new.sink) far.done found.candidate step.0 merged
             c.pieces_join.ensures.pieces is
-            (subst (λ text. WroteFront (candidate_lines labels far.done ++ text) old (g.K.Sink.seen c.push.new.sink)) line
+            (subst (λ text. WroteFront (candidate_lines labels far.done ++ text) old
+            (g.K.Sink.seen c.push.new.sink)) line
             front);
       };
       totals = tt;

@@ -56,7 +56,8 @@ returns-in_err-flush g c =
     let line : c.as_bytes.result.now ≡ end_line totals.pulses totals.folds c.args.spectra =
     c.as_bytes.ensures ∙ c.end_line-line.ensures.text in
     let pending = (c.in_ok-push.ensures (candidate_lines labels merged) old listed.lines.pending).pending in
-    let whole = subst (λ text. Pending (candidate_lines labels merged ++ text) c.push.new.self old middle) line pending in
+    let whole =
+    subst (λ text. Pending (candidate_lines labels merged ++ text) c.push.new.self old middle) line pending in
     let front = front_written _ c.push.new.self old middle new c.pieces_join.ensures.pieces whole
     c.in_err-flush.ensures.wrote.front in
     record {
@@ -79,7 +80,8 @@ returns g c = λ merged merge.
     let line : c.as_bytes.result.now ≡ end_line totals.pulses totals.folds c.args.spectra =
     c.as_bytes.ensures ∙ c.end_line-line.ensures.text in
     let pending = (c.in_ok-push.ensures (candidate_lines labels merged) old listed.lines.pending).pending in
-    let whole = subst (λ text. Pending (candidate_lines labels merged ++ text) c.push.new.self old middle) line pending in
+    let whole =
+    subst (λ text. Pending (candidate_lines labels merged ++ text) c.push.new.self old middle) line pending in
     let all = all_written _ c.push.new.self old middle new c.pieces_join.ensures.pieces whole
     c.in_ok-flush.ensures.wrote.all in
     record {

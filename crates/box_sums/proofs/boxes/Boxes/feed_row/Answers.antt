@@ -1,7 +1,7 @@
 use Rattle.std.proofs.Common.{ℕ, ◌≡◌, ◌≢◌, ◌+◌, ◌-◌, ◌*◌, ◌^◌, ◌<◌, ◌≤◌, ◌++◌, List, length, take, drop, slice_index, ◌∙◌, sym, ap, subst, arith}
 use Rattle.std.proofs.lemmas.List.{get_or_read, take_at, length-set, get_or-set_other}
 use Rattle.std.specs.List.{All}
-use Rattle.box_sums.specs.Kept.{RowTails, StandsForRow, last_feed, row_at}
+use Rattle.box_sums.specs.Tails.{RowTails, StandsForRow, last_feed, row_at}
 use Rattle.box_sums.specs.Rows.{Keeps}
 use Rattle.box_sums.specs.Tables.{AreUpTo}
 use Rattle.box_sums.proofs.Feeding.{fed_own, fed_other, fed_boxes, sum_fits, drop_small, all_up_to, set_up_to}

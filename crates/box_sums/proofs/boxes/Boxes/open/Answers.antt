@@ -1,6 +1,6 @@
 use Rattle.std.proofs.Common.{ℕ, ◌+◌, ◌-◌, ◌*◌, ◌≤◌, List, [], replicate, slice_index, ◌∙◌, sym, ap, subst, arith}
 use Rattle.std.proofs.Math.Nat.{mul-le-mul_right}
-use Rattle.box_sums.specs.Kept.{row_at}
+use Rattle.box_sums.specs.Tails.{row_at}
 use Rattle.box_sums.specs.Rows.{Keeps}
 use Rattle.box_sums.specs.Tables.{TablesAreSound}
 use Rattle.box_sums.proofs.Zeros.{zero_at, zeros_keep, zeros_sound}

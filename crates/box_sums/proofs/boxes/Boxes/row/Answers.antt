@@ -1,6 +1,6 @@
 use Rattle.std.proofs.Common.{ℕ, ◌≡◌, ◌+◌, ◌-◌, ◌*◌, ◌<◌, length, take, drop, slice_index, ◌∙◌, sym, ap, subst, arith}
 use Rattle.std.proofs.lemmas.List.{get_or_read}
-use Rattle.box_sums.specs.Kept.{RowTails, StandsForRow, last_feed, row_at}
+use Rattle.box_sums.specs.Tails.{RowTails, StandsForRow, last_feed, row_at}
 use Rattle.box_sums.specs.Rows.{sum_ending, Keeps}
 use Rattle.box_sums.specs.Tables.{AreBoxes}
 use Rattle.box_sums.proofs.Feeding.{row_read}

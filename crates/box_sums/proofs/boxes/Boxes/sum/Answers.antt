@@ -1,5 +1,5 @@
 use Rattle.std.proofs.Common.{ℕ, ◌≡◌, ◌+◌, ◌-◌, ◌*◌, ◌^◌, ◌<◌, List, length, sum, take, drop, slice_index, ◌∙◌, sym, ap, subst, arith}
-use Rattle.box_sums.specs.Kept.{RowTails, StandsForRow, last_feed, row_at}
+use Rattle.box_sums.specs.Tails.{RowTails, StandsForRow, last_feed, row_at}
 use Rattle.box_sums.specs.Rows.{sum_ending, Keeps}
 use Rattle.box_sums.proofs.Feeding.{sum_fits, box_read, drop_small}
 use Rattle.box_sums.proofs.boxes.Boxes.sum.Goals as goal

@@ -21,5 +21,5 @@ returns-in-Err g c =
     let s = c.args.self.now in
     let seen = g.K.Sink.seen in
     let all = found s (band s).spectra in
-    broken_off c.pieces_join.ensures.pieces (found_lines s all) (end_line (length all) 0 (band s).spectra) (found_text s)
-    (seen c.args.out.now) (seen c.write_pulses.new.out) c.in-Err.failed (text_is s) c.in-Err.ensures.wrote.front
+    broken_off c.pieces_join.ensures.pieces (found_lines s all) (end_line (length all) 0 (band s).spectra)
+    (found_text s) (seen c.args.out.now) (seen c.write_pulses.new.out) c.in-Err.failed (text_is s) c.in-Err.ensures.wrote.front

@@ -26,5 +26,6 @@ returns-clause-part c =
 
 pub returns-clause-given_up : goal.returns-clause-given_up
 returns-clause-given_up c = λ bytes gone stands.
-    subst (λ (u : Unpacking). StandsForBytes u bytes (gone + whole_spectra c.args.self.now)) (sym (returns-clause-part c))
+    subst (λ (u : Unpacking). StandsForBytes u bytes (gone + whole_spectra c.args.self.now))
+    (sym (returns-clause-part c))
     (fewer_bytes c.args.self.now bytes gone stands)
