@@ -1,7 +1,7 @@
 // Whether a search of an observation fits the engine.
 ghost use Rattle.std.specs.Prelude.{◌≡◌, ℕ, ◌+◌, ◌-◌, ◌*◌, ◌^◌, ◌≤◌, ◌<◌, ◌&&◌, None, OnOk, IfErr, length, nat_lt};
 ghost use Rattle.dada_model.specs.Observation.{max_sample as max_sample_of};
-ghost use Rattle.search_model.specs.Search.{IsInRange, fold_delays, folds_are_on as folds_are_on_of, delay_count as delay_count_of};
+ghost use Rattle.search_model.specs.Search.{SettingsInRange, fold_delays, folds_are_on as folds_are_on_of, delay_count as delay_count_of};
 ghost use Rattle.search_model.specs.Plan.{plan_refusal, most_added as most_added_of};
 ghost use Rattle.search_engine.specs.Plan.{IsRefusedFirst};
 
@@ -19,7 +19,7 @@ const MOST_FOLD_DELAYS: u32 = 64;
 /// Whether the sums, folds and shards of a search of an observation fit, or the first that does not. It is never
 /// `Memory`.
 pub fn check_plan(observation: &Observation, search: &Search) -> Result<(), PlanFault>
-    requires { IsInRange search.now }
+    requires { SettingsInRange search.now }
     ensures fits { OnOk result (plan_refusal observation.now search.now ≡ None) }
     ensures refused { IfErr result (IsRefusedFirst (plan_refusal observation.now search.now)) }
 {
@@ -54,7 +54,7 @@ pub fn check_plan(observation: &Observation, search: &Search) -> Result<(), Plan
 
 // Whether a sum may pass 32 bits.
 fn is_past_sums(observation: &Observation, search: &Search) -> bool
-    requires { IsInRange search.now }
+    requires { SettingsInRange search.now }
     ensures { result ≡ nat_lt (2 ^ 32 - 1) (max_sample_of observation.now
         * (observation.now.channels + search.now.max_delay) * most_added_of search.now) }
 {
@@ -65,7 +65,7 @@ fn is_past_sums(observation: &Observation, search: &Search) -> bool
 
 // Whether folds are on and one has too many values.
 fn folds_are_too_large(search: &Search) -> bool
-    requires { IsInRange search.now }
+    requires { SettingsInRange search.now }
     ensures { result ≡ (folds_are_on_of search.now
         && nat_lt (2 ^ 22) (search.now.fold_max * 2 ^ search.now.fold_rows)) }
 {
@@ -82,7 +82,7 @@ fn folds_are_on(search: &Search) -> bool
 
 // How many path sums a box or a fold adds up at most.
 fn most_added(search: &Search) -> u32
-    requires { IsInRange search.now }
+    requires { SettingsInRange search.now }
     ensures value { result ≡ most_added_of search.now }
     ensures bound { result ≤ 4096 }
 {
@@ -96,7 +96,7 @@ fn most_added(search: &Search) -> u32
 
 // How many delays are folded where folds are on.
 fn fold_delay_count(search: &Search) -> u32
-    requires { IsInRange search.now }
+    requires { SettingsInRange search.now }
     ensures { result ≡ length (fold_delays search.now) }
 {
     let least = search.min_delay;
