@@ -1,0 +1,16 @@
+-- Passes of two rings that become one.
+use Rattle.std.specs.Prelude.{◌≡◌, ℕ, List, slice_get, Option, Some}
+use Rattle.ring_ends.specs.declared.passes.ReaderPass.{ReaderPass}
+use Rattle.dada_hdu.specs.declared.passes.HduReader.{HduReader}
+
+abbrev pub reader_with : ReaderPass → ReaderPass → HduReader
+reader_with header blocks = record { header = header; blocks = blocks }
+
+-- where there are both, they are one reader
+abbrev pub Pairs : Option ReaderPass → Option ReaderPass → Option HduReader → Type 0
+Pairs headers blocks readers = (h b : ReaderPass) → headers ≡ Some h → blocks ≡ Some b → readers ≡ Some (reader_with h b)
+
+-- at each place
+abbrev pub PairsEach : List (Option ReaderPass) → List (Option ReaderPass) → List (Option HduReader) → Type 0
+PairsEach headers blocks readers = (i : ℕ) (h b : ReaderPass) → slice_get headers i ≡ Some (Some h) →
+    slice_get blocks i ≡ Some (Some b) → slice_get readers i ≡ Some (Some (reader_with h b))

@@ -1,0 +1,69 @@
+//! Readers, however they ended.
+ghost use Rattle.std.specs.Prelude.{◌≡◌, length, option_map};
+
+use crate::passes::{HduDetached, HduReader, HduRetired};
+use ring_ends::EndedReader;
+
+/// A reader of both rings, however it ended.
+#[derive(Drop)]
+pub enum HduEnded {
+    Here(HduReader),
+    Away(HduDetached),
+    Retired(HduRetired),
+}
+
+impl HduEnded {
+    ghost use Rattle.ring_ends.specs.Passes.{ended_knows};
+    ghost use Rattle.dada_hdu.specs.Passes.{header_end, data_end};
+
+    /// The reader's number in its rings, from 0 on.
+    pub fn number(&self) -> u32
+        ensures { result ≡ (ended_knows (data_end self.now)).number }
+    {
+        match self {
+            HduEnded::Here(reader) => reader.number(),
+            HduEnded::Away(reader) => reader.number(),
+            HduEnded::Retired(reader) => reader.number(),
+        }
+    }
+
+    /// How many headers the reader cleared.
+    pub fn cleared_headers(&self) -> u64
+        ensures { result ≡ length (ended_knows (header_end self.now)).cleared }
+    {
+        match self {
+            HduEnded::Here(reader) => reader.header.cleared(),
+            HduEnded::Away(reader) => reader.header.cleared(),
+            HduEnded::Retired(reader) => reader.header.cleared(),
+        }
+    }
+
+    /// How many blocks of data the reader cleared.
+    pub fn cleared_blocks(&self) -> u64
+        ensures { result ≡ length (ended_knows (data_end self.now)).cleared }
+    {
+        match self {
+            HduEnded::Here(reader) => reader.blocks.cleared(),
+            HduEnded::Away(reader) => reader.blocks.cleared(),
+            HduEnded::Retired(reader) => reader.blocks.cleared(),
+        }
+    }
+
+    // As a reader of the header ring, and as one of the data ring.
+    pub(crate) fn into_both(self) -> (EndedReader, EndedReader)
+        ensures header { result.0 ≡ header_end self }
+        ensures blocks { result.1 ≡ data_end self }
+    {
+        match self {
+            HduEnded::Here(HduReader { header, blocks }) => {
+                (EndedReader::Here(header), EndedReader::Here(blocks))
+            }
+            HduEnded::Away(HduDetached { header, blocks }) => {
+                (EndedReader::Away(header), EndedReader::Away(blocks))
+            }
+            HduEnded::Retired(HduRetired { header, blocks }) => {
+                (EndedReader::Retired(header), EndedReader::Retired(blocks))
+            }
+        }
+    }
+}
