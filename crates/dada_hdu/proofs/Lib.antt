@@ -1,3 +1,5 @@
 pub mod Rows
 pub mod Pairing
 pub mod Parting
+pub mod Ordered
+pub mod Opening

@@ -1,32 +1,18 @@
 -- Lists from which the first element is taken, again and again.
-use Rattle.std.proofs.Common.{◌≡◌, ℕ, zero, suc, ◌+◌, ◌<◌, List, [], ◌∷◌, ◌++◌, length, get_or, take, drop, remove, map, Option, Some, None, slice_get, option_map, unwrap_or, sym, refl, ap, ◌∙◌, arith}
-use Rattle.std.proofs.lemmas.Option.{get_or_from_slice_get}
+use Rattle.std.proofs.Common.{◌≡◌, ℕ, zero, suc, ◌+◌, ◌<◌, List, [], ◌∷◌, ◌++◌, length, get_or, drop, remove, Option, Some, slice_get, sym, refl, ap, ◌∙◌, arith}
+use Rattle.std.proofs.lemmas.Option.{get_or_from_slice_get, slice_get_within}
+use Rattle.std.proofs.lemmas.List.{drop_more}
 
 module _ {A : Type 0} where
-  pub drop_first : (l : List A) (n : ℕ) (a : A) → slice_get l n ≡ Some a → drop n l ≡ a ∷ drop (n + 1) l
-  drop_first [] n a e = cc
-  drop_first (x ∷ xs) zero a e = ap (λ (o : Option A). first_of x o ∷ xs) e
-    where
-      first_of : A → Option A → A
-      first_of d None = d
-      first_of d (Some y) = y
-  drop_first (x ∷ xs) (suc n) a e = drop_first xs n a e
-      ∙ ap (λ (k : ℕ). a ∷ drop k (x ∷ xs)) (let same : suc (n + 1) ≡ suc n + 1 = omega arith in same)
-
-  -- there is an element at each place below the length
-  pub stands : (l : List A) (n : ℕ) → n < length l → (a : A) × (slice_get l n ≡ Some a)
-  stands [] n near = absurd (omega arith)
-  stands (x ∷ xs) zero near = (x, refl)
-  stands (x ∷ xs) (suc n) near = stands xs n (omega arith)
-
+  -- what was taken out at place n
   pub removed : (l items : List A) (n : ℕ) (a r : A) → slice_get l n ≡ Some a → items ≡ drop n l →
       r ≡ get_or items 0 r → r ≡ a
-  removed l items n a r at is first = first ∙ ap (λ (m : List A). get_or m 0 r) (is ∙ drop_first l n a at)
+  removed l items n a r at is first = first ∙ (ap (λ (m : List A). get_or m 0 r)
+      (is ∙ drop_more l n r (slice_get_within l n a at)) ∙ get_or_from_slice_get l n a r at)
 
-  pub left_over : (l items items' : List A) (n : ℕ) → n < length l → items ≡ drop n l →
+  pub left_over : (l items items' : List A) (n : ℕ) (r : A) → n < length l → items ≡ drop n l →
       items' ≡ remove items 0 → items' ≡ drop (n + 1) l
-  left_over l items items' n near is gone = let h = stands l n near in
-      gone ∙ ap (λ (m : List A). remove m 0) (is ∙ drop_first l n h.0 h.1)
+  left_over l items items' n r near is gone = gone ∙ ap (λ (m : List A). remove m 0) (is ∙ drop_more l n r near)
 
   pub longer : (l m : List A) (i : ℕ) (a : A) → slice_get l i ≡ Some a → slice_get (l ++ m) i ≡ Some a
   longer [] m i a e = cc
@@ -38,17 +24,3 @@ module _ {A : Type 0} where
   at_end [] a (suc n) e = absurd (omega arith)
   at_end (x ∷ xs) a zero e = absurd (omega arith)
   at_end (x ∷ xs) a (suc n) e = at_end xs a n (omega arith)
-
--- what a map has at a place
-pub map_at : {A B : Type 0} (f : A → B) (l : List A) (n : ℕ) (a : A) → slice_get l n ≡ Some a →
-    slice_get (map f l) n ≡ Some (f a)
-map_at f [] n a e = cc
-map_at f (x ∷ xs) zero a e = ap (option_map f) e
-map_at f (x ∷ xs) (suc n) a e = map_at f xs n a e
-
--- one more element of a map
-pub map_more : {A B : Type 0} (f : A → B) (l : List A) (n : ℕ) (a : A) → slice_get l n ≡ Some a →
-    map f (take (n + 1) l) ≡ map f (take n l) ++ f a ∷ []
-map_more f [] n a e = cc
-map_more f (x ∷ xs) zero a e = ?
-map_more f (x ∷ xs) (suc n) a e = ?

@@ -68,8 +68,7 @@ impl Hdu {
             EachIndex r.2.items (λ i. HasFreshReader r.0 r.2.items i)) }
         ensures passes { IfOk result (λ r. All (λ o. IsSomeAnd o (ReadsBoth r.0)) r.2.items) }
     {
-        let Ok((header, header_writer, header_readers)) =
-            Ring::open(alloc, shape_of_headers(shape))
+        let Ok((header, header_writer, header_readers)) = Ring::open(alloc, shape_of_headers(shape))
         else {
             return Err(Memory);
         };
@@ -101,7 +100,8 @@ impl Hdu {
         ensures blocks { pass.new.blocks ≡ pass.old.blocks }
     {
         headers_are_text();
-        self.header.write(&mut pass.header, header.bytes(), Mark::End)
+        self.header
+            .write(&mut pass.header, header.bytes(), Mark::End)
     }
 
     /// Copies the header that comes after those that the reader cleared to the front of `into`. Until it is cleared,
