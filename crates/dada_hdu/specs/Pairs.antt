@@ -8,7 +8,8 @@ reader_with header blocks = record { header = header; blocks = blocks }
 
 -- where there are both, they are one reader
 abbrev pub Pairs : Option ReaderPass → Option ReaderPass → Option HduReader → Type 0
-Pairs headers blocks readers = (h b : ReaderPass) → headers ≡ Some h → blocks ≡ Some b → readers ≡ Some (reader_with h b)
+Pairs header blocks reader = (h b : ReaderPass) → header ≡ Some h → blocks ≡ Some b →
+    reader ≡ Some (reader_with h b)
 
 -- at each place
 abbrev pub PairsEach : List (Option ReaderPass) → List (Option ReaderPass) → List (Option HduReader) → Type 0

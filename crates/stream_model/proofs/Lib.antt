@@ -1,3 +1,8 @@
+pub mod Entries
+pub mod Blocks
+pub mod Ends
+pub mod ByTransfer
+pub mod WorkedBlocks
 pub mod Stops
 pub mod FileData
 pub mod Transfers

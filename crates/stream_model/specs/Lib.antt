@@ -1,3 +1,4 @@
 pub mod Blocks
+pub mod BlockLaws
 pub mod Walk
 pub mod WalkLaws

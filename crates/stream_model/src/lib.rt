@@ -3,8 +3,13 @@
 //! The definitions are in `specs/`: `Blocks` and `Walk`; laws about them are in `BlockLaws` and `WalkLaws`.
 #![tactic(auto)]
 
+mod block_laws;
 mod walk_laws;
 
+pub use block_laws::{
+    blocks_fit, bytes_are_joined, ends_are_counted, entries_are_of_transfers, streams_are_short,
+    streams_begin, streams_grow, streams_have_transfers, streams_stop_once,
+};
 pub use walk_laws::{
     accepted_is_later, data_grow, files_are_in_transfers, first_files_continue, first_stop_counts,
     headers_continue, no_stop_is_whole, one_transfer_more, transfers_join, walk_joins_data,
