@@ -1,0 +1,5 @@
+pub mod Adding
+pub mod FoldLists
+pub mod Fronts
+pub mod Halvings
+pub mod Ranges

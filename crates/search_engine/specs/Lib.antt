@@ -1,1 +1,4 @@
 pub mod Plan
+pub mod FoldSearch
+pub mod Judging
+pub mod Series

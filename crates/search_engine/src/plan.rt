@@ -107,7 +107,7 @@ fn fold_delay_count(search: &Search) -> u32
 }
 
 // 2^e, as a count of rows.
-fn power(e: u32) -> u32
+pub fn power(e: u32) -> u32
     requires { e ≤ 12 }
     ensures value { result ≡ 2 ^ e }
     ensures bound { result ≤ 4096 }

@@ -1,0 +1,15 @@
+-- The front of a series that is kept.
+use Rattle.std.specs.Prelude.{ℕ, ◌≡◌, List, [], take}
+
+-- at most `most` values are kept, and these are
+pub record Front : Type 0 where
+  pub most : ℕ
+  pub values : List ℕ
+
+-- a front that keeps nothing
+abbrev pub no_front : Front
+no_front = record { most = 0; values = [] }
+
+-- what is kept of these values
+abbrev pub IsFrontOf : Front → List ℕ → Type 0
+IsFrontOf front xs = front.values ≡ take front.most xs
