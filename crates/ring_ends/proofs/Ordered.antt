@@ -1,5 +1,5 @@
 -- Readers that are given in the order in which the ring was opened.
-use Rattle.std.proofs.Common.{◌≡◌, ℕ, zero, suc, ◌<◌, List, [], ◌∷◌, length, Option, None, Some, unwrap_or, sym, refl, ap, ◌∙◌, subst, arith}
+use Rattle.std.proofs.Common.{◌≡◌, ℕ, zero, suc, ◌<◌, List, [], ◌∷◌, Option, None, Some, unwrap_or, sym, refl, ap, ◌∙◌, subst, arith}
 use Rattle.std.proofs.lemmas.Option.{slice_get_within}
 use Rattle.ring_ends.specs.declared.ring.Ring.{Ring}
 use Rattle.ring_ends.specs.declared.passes.EndedReader.{EndedReader}

@@ -15,11 +15,11 @@ use Rattle.ring_words.specs.declared.views.WriterView.{WriterView}
 use Rattle.ring_words.specs.declared.views.View.TheVariants.{Writer, Reader, Spent}
 use Rattle.ring_words.specs.Shape.{IsRing}
 use Rattle.ring_words.specs.Views.{listed, fresh_reader, fresh_writer, parked_at, after_split, after_join}
-use Rattle.ring_words.specs.Ring.{at_home, Turn, Knows, KeptBy, Kept}
+use Rattle.ring_words.specs.Ring.{at_home, Roles, Knows, HoldsFor, RuleHolds}
 use Rattle.ring_words.proofs.Counts.{at_below, same_at}
 use Rattle.ring_words.proofs.Listed.{at_listed, length-listed, listed_alike}
 use Rattle.ring_words.proofs.Frames.{put, put_here, put_else, turn_kept, reader_kept, is_reader}
-use Rattle.ring_words.proofs.WriterSteps.{as_writer}
+use Rattle.ring_words.proofs.WriterSteps.{with_writer, as_writer}
 
 module _ {A : Type 0} where
   at_snoc_where : (l : List A) (a b : A) (j : ℕ) → get_elem? (l ++ a ∷ []) j ≡ some b → (get_elem? l j ≡ some b)
@@ -45,19 +45,22 @@ module _ {A : Type 0} where
 abbrev with_parked : WriterView → List (Option ReaderView) → ℕ → WriterView
 with_parked w ps n = record w { parked = ps; split = n }
 
+-- with another view of the writer, and readers in other places
+abbrev with_places : Roles → WriterView → (ℕ → ℕ) → Roles
+with_places x w place = record x { writer = w; place = place }
+
 module _ (shape : RingShape) where
-  module _ (s : State Block View) (w : WriterView) (at : ℕ) (reader : ℕ → ReaderView) (place : ℕ → ℕ)
-      (turn : ℕ → Turn) (c : KeptBy shape s w at reader place turn) where
+  module _ (s : State Block View) (x : Roles) (c : HoldsFor shape s x) where
     -- nothing but seats changes
     reseated : (ps : List (Option ReaderView)) (n : ℕ) (views' : List View) (place' : ℕ → ℕ) →
-        get_elem? views' at ≡ some (Writer (with_parked w ps n))
-        → ((j : ℕ) (v : View) → get_elem? views' j ≡ some v → Knows shape (with_parked w ps n) at reader place' j v)
-        → length ps ≡ shape.readers → ((i : ℕ) (r : ReaderView) → get_elem? ps i ≡ some (Some r) → (i < shape.readers)
-        × (r ≡ reader i) × (place' i ≡ at))
-        → KeptBy shape (record { words = s.words; homes = s.homes; views = views' })
-        (with_parked w ps n) at reader place' turn
-    reseated ps n views' place' seated each_seat all_parked parked = let w' : WriterView = with_parked w ps n in
-        let wr = c.writer in record {
+        (let x' : Roles = with_places x (with_parked x.writer ps n) place' in
+        get_elem? views' x.seat ≡ some (Writer (with_parked x.writer ps n)) →
+        ((j : ℕ) (v : View) → get_elem? views' j ≡ some v → Knows shape x' j v) → length ps ≡ shape.readers →
+        ((i : ℕ) (r : ReaderView) → get_elem? ps i ≡ some (Some r) → (i < shape.readers) × (r ≡ x.reader i)
+        × (place' i ≡ x.seat)) →
+        HoldsFor shape (record { words = s.words; homes = s.homes; views = views' }) x')
+    reseated ps n views' place' seated each_seat all_parked parked =
+        let x' : Roles = with_places x (with_parked x.writer ps n) place' in let wr = c.writer in record {
           ring = c.ring;
           wide = c.wide;
           deep = c.deep;
@@ -71,15 +74,15 @@ module _ (shape : RingShape) where
             look = wr.look;
           };
           each_turn = λ k near. let ok = c.each_turn k near in
-              turn_kept shape w w' reader reader s.words s.words s.homes s.homes k (turn k) refl ok.newest record {
+              turn_kept shape x x' s.words s.words s.homes s.homes k (x.turn k) refl ok.newest record {
                 home = refl;
                 sealed = λ m e is. is;
                 readers = λ i out newest. (out, newest);
                 writer = λ out is. (out, is);
               } ok;
           each_reader = λ i near. let ok = c.each_reader i near in
-              reader_kept shape w w' s.words s.words turn turn i (reader i) refl ok.begins ok.within (λ e is. is)
-              (λ h. h) ok.low ok;
+              reader_kept shape x x' s.words s.words i (x.reader i) refl ok.begins ok.within (λ e is. is) (λ h. h)
+              ok.low ok;
           seated = seated;
           each_seat = each_seat;
           all_parked = all_parked;
@@ -87,122 +90,124 @@ module _ (shape : RingShape) where
         }
 
     -- another seat than the writer's stays what it is, where its reader keeps it
-    stays_seated : (w' : WriterView) (place' : ℕ → ℕ) (j : ℕ) → j ≢ at → ((i : ℕ) → place i ≡ j → place' i ≡ j) →
-        (v : View) → Knows shape w at reader place j v → Knows shape w' at reader place' j v
+    stays_seated : (w' : WriterView) (place' : ℕ → ℕ) (j : ℕ) → j ≢ x.seat →
+        ((i : ℕ) → x.place i ≡ j → place' i ≡ j) → (v : View) → Knows shape x j v →
+        Knows shape (with_places x w' place') j v
     stays_seated w' place' j other keeps (Writer v) k = absurd (other k.1)
     stays_seated w' place' j other keeps (Reader r) k = (k.0, k.1, keeps r.number k.2)
     stays_seated w' place' j other keeps Spent k = tt
 
-    split_core : (r : ReaderView) → w.split < shape.readers → parked_at w w.split ≡ Some r
-        → KeptBy shape (record {
+    split_core : (r : ReaderView) → x.writer.split < shape.readers → parked_at x.writer x.writer.split ≡ Some r
+        → HoldsFor shape (record {
           words = s.words;
           homes = s.homes;
           views =
-              set s.views at (Writer (after_split w)) ++ Reader r ∷ [];
-        }) (after_split w) at reader
-        (put place w.split (length s.views)) turn
-    split_core r near is = let i : ℕ = w.split in let w' : WriterView = after_split w in
-        let new : ℕ = length s.views in let place' : ℕ → ℕ = put place i new in let all = c.all_parked in
-        let here = at_from_or w.parked i (Some r) None (omega arith) is in let p = c.parked i r here in
+              set s.views x.seat (Writer (after_split x.writer)) ++ Reader r ∷ [];
+        }) (with_places x (after_split x.writer) (put x.place x.writer.split (length s.views)))
+    split_core r near is = let i : ℕ = x.writer.split in let w' : WriterView = after_split x.writer in
+        let new : ℕ = length s.views in let place' : ℕ → ℕ = put x.place i new in
+        let x' : Roles = with_places x w' place' in let all = c.all_parked in
+        let here = at_from_or x.writer.parked i (Some r) None (omega arith) is in let p = c.parked i r here in
         let number : r.number ≡ i = ap (λ (q : ReaderView). q.number) p.1 ∙ (c.each_reader i near).number in
-        let moved : (k j : ℕ) → j ≢ at → place k ≡ j → place' k
-        ≡ j = λ k j other is'. put_else place i new k (λ e. other (sym is' ∙ (ap place e ∙ p.2))) ∙ is' in
-        reseated (set w.parked i None) (i + 1) (set s.views at (Writer w') ++ Reader r ∷ []) place'
-        (at_longer (set s.views at (Writer w')) (Reader r ∷ []) at (Writer w')
-        (set_here s.views at (Writer w') (at_below s.views at (Writer w) c.seated)))
+        let moved : (k j : ℕ) → j ≢ x.seat → x.place k ≡ j → place' k
+        ≡ j = λ k j other is'. put_else x.place i new k (λ e. other (sym is' ∙ (ap x.place e ∙ p.2))) ∙ is' in
+        reseated (set x.writer.parked i None) (i + 1) (set s.views x.seat (Writer w') ++ Reader r ∷ []) place'
+        (at_longer (set s.views x.seat (Writer w')) (Reader r ∷ []) x.seat (Writer w')
+        (set_here s.views x.seat (Writer w') (at_below s.views x.seat (Writer x.writer) c.seated)))
         (λ j v is'. ⊎_elim
-        (λ (old : get_elem? (set s.views at (Writer w')) j ≡ some v). ⊎_elim
-        (λ (t : (j ≡ at) × (Writer w' ≡ v)). subst (λ (x : ℕ × View). Knows shape w' at reader place' x.0 x.1)
+        (λ (old : get_elem? (set s.views x.seat (Writer w')) j ≡ some v). ⊎_elim
+        (λ (t : (j ≡ x.seat) × (Writer w' ≡ v)). subst (λ (y : ℕ × View). Knows shape x' y.0 y.1)
         (λ z. (sym t.0 z, t.1 z)) (refl, refl))
-        (λ (t : (j ≢ at) × (get_elem? s.views j ≡ some v)).
+        (λ (t : (j ≢ x.seat) × (get_elem? s.views j ≡ some v)).
         stays_seated w' place' j t.0 (λ k. moved k j t.0) v (c.each_seat j v t.1))
-        (at_set s.views at j (Writer w') v old))
-        (λ (t : (j ≡ length (set s.views at (Writer w'))) × (Reader r ≡ v)).
-        subst (λ (u : View). Knows shape w' at reader place' j u) t.1
-        (subst (λ (k : ℕ). (k < shape.readers) × (r ≡ reader k) × (place' k ≡ j)) (sym number)
-        (near, p.1, put_here place i new ∙ (sym (length-set s.views at (Writer w')) ∙ sym t.0))))
-        (at_snoc_where (set s.views at (Writer w')) (Reader r) v j is'))
-        (length-set w.parked i None ∙ all)
+        (at_set s.views x.seat j (Writer w') v old))
+        (λ (t : (j ≡ length (set s.views x.seat (Writer w'))) × (Reader r ≡ v)).
+        subst (λ (u : View). Knows shape x' j u) t.1
+        (subst (λ (k : ℕ). (k < shape.readers) × (r ≡ x.reader k) × (place' k ≡ j)) (sym number)
+        (near, p.1, put_here x.place i new ∙ (sym (length-set s.views x.seat (Writer w')) ∙ sym t.0))))
+        (at_snoc_where (set s.views x.seat (Writer w')) (Reader r) v j is'))
+        (length-set x.writer.parked i None ∙ all)
         (λ k q is'. ⊎_elim
         (λ (t : (k ≡ i) × (None ≡ Some q)). let clash = t.1 in cc)
-        (λ (t : (k ≢ i) × (get_elem? w.parked k ≡ some (Some q))). let old = c.parked k q t.1 in
-        (old.0, old.1, put_else place i new k t.0 ∙ old.2))
-        (at_set w.parked i k None (Some q) is'))
+        (λ (t : (k ≢ i) × (get_elem? x.writer.parked k ≡ some (Some q))). let old = c.parked k q t.1 in
+        (old.0, old.1, put_else x.place i new k t.0 ∙ old.2))
+        (at_set x.writer.parked i k None (Some q) is'))
 
-    join_core : (other : ℕ) (r : ReaderView) → other ≢ at → get_elem? s.views other ≡ some (Reader r)
-        → KeptBy shape (record {
+    join_core : (other : ℕ) (r : ReaderView) → other ≢ x.seat → get_elem? s.views other ≡ some (Reader r)
+        → HoldsFor shape (record {
           words = s.words;
           homes = s.homes;
           views =
-              set (set s.views at (Writer (after_join w r))) other Spent;
-        }) (after_join w r) at reader
-        (put place r.number at) turn
-    join_core other r apart there = let w' : WriterView = after_join w r in let i : ℕ = r.number in
-        let place' : ℕ → ℕ = put place i at in let known = is_reader shape s w at reader place turn c other r there in
-        let both : List View = set s.views at (Writer w') in
-        reseated (set w.parked i (Some r)) w.split (set both other Spent) place'
-        (set_else both other at Spent (λ e. apart (sym e))
-        ∙ set_here s.views at (Writer w') (at_below s.views at (Writer w) c.seated))
+              set (set s.views x.seat (Writer (after_join x.writer r))) other Spent;
+        }) (with_places x (after_join x.writer r) (put x.place r.number x.seat))
+    join_core other r apart there = let w' : WriterView = after_join x.writer r in let i : ℕ = r.number in
+        let place' : ℕ → ℕ = put x.place i x.seat in let x' : Roles = with_places x w' place' in
+        let known = is_reader shape s x c other r there in
+        let both : List View = set s.views x.seat (Writer w') in
+        reseated (set x.writer.parked i (Some r)) x.writer.split (set both other Spent) place'
+        (set_else both other x.seat Spent (λ e. apart (sym e))
+        ∙ set_here s.views x.seat (Writer w') (at_below s.views x.seat (Writer x.writer) c.seated))
         (λ j v is. ⊎_elim
-        (λ (t : (j ≡ other) × (Spent ≡ v)). subst (λ (u : View). Knows shape w' at reader place' j u) t.1 tt)
+        (λ (t : (j ≡ other) × (Spent ≡ v)). subst (λ (u : View). Knows shape x' j u) t.1 tt)
         (λ (t : (j ≢ other) × (get_elem? both j ≡ some v)). ⊎_elim
-        (λ (u : (j ≡ at) × (Writer w' ≡ v)). subst (λ (x : ℕ × View). Knows shape w' at reader place' x.0 x.1)
+        (λ (u : (j ≡ x.seat) × (Writer w' ≡ v)). subst (λ (y : ℕ × View). Knows shape x' y.0 y.1)
         (λ z. (sym u.0 z, u.1 z)) (refl, refl))
-        (λ (u : (j ≢ at) × (get_elem? s.views j ≡ some v)).
-        stays_seated w' place' j u.0 (λ k is'. put_else place i at k (λ e. t.0 (sym is' ∙ (ap place e ∙ known.2)))
+        (λ (u : (j ≢ x.seat) × (get_elem? s.views j ≡ some v)).
+        stays_seated w' place' j u.0 (λ k is'. put_else x.place i x.seat k
+        (λ e. t.0 (sym is' ∙ (ap x.place e ∙ known.2)))
         ∙ is') v (c.each_seat j v u.1))
-        (at_set s.views at j (Writer w') v t.1))
+        (at_set s.views x.seat j (Writer w') v t.1))
         (at_set both other j Spent v is))
-        (length-set w.parked i (Some r) ∙ c.all_parked)
+        (length-set x.writer.parked i (Some r) ∙ c.all_parked)
         (λ k q is. ⊎_elim
         (λ (t : (k ≡ i) × (Some r ≡ Some q)). let same : r ≡ q = ap (λ (o : Option ReaderView). unwrap_or o r) t.1 in
-        subst (λ (x : ReaderView × ℕ). (x.1 < shape.readers) × (x.0 ≡ reader x.1) × (place' x.1 ≡ at))
-        (λ z. (same z, sym t.0 z)) (known.0, known.1, put_here place i at))
-        (λ (t : (k ≢ i) × (get_elem? w.parked k ≡ some (Some q))). let old = c.parked k q t.1 in
-        (old.0, old.1, put_else place i at k t.0 ∙ old.2))
-        (at_set w.parked i k (Some r) (Some q) is))
+        subst (λ (y : ReaderView × ℕ). (y.1 < shape.readers) × (y.0 ≡ x.reader y.1) × (place' y.1 ≡ x.seat))
+        (λ z. (same z, sym t.0 z)) (known.0, known.1, put_here x.place i x.seat))
+        (λ (t : (k ≢ i) × (get_elem? x.writer.parked k ≡ some (Some q))). let old = c.parked k q t.1 in
+        (old.0, old.1, put_else x.place i x.seat k t.0 ∙ old.2))
+        (at_set x.writer.parked i k (Some r) (Some q) is))
 
   pub splits : (id : ℕ) (v : WriterView) (r : ReaderView) → v.split < shape.readers → parked_at v v.split ≡ Some r →
-      Splits (Kept shape) id (Writer v) (Writer (after_split v)) (Reader r)
-  splits id v r near is s kept at = let a = as_writer shape s kept id v at in record {
-    w = after_split v;
-    at = id;
-    reader = a.reader;
-    place = put a.place v.split (length s.views);
-    turn = a.turn;
-    core = split_core s v id a.reader a.place a.turn a.core r near is;
-    reached = a.reached;
-  }
+      Splits (RuleHolds shape) id (Writer v) (Writer (after_split v)) (Reader r)
+  splits id v r near is s kept at = let a = as_writer shape s kept id v at in
+      let x : Roles = with_writer a.roles v id in record {
+        roles = with_places x (after_split v) (put x.place v.split (length s.views));
+        core = split_core s x a.core r near is;
+        reached = a.reached;
+      }
 
   pub joins : (id : ℕ) (v : WriterView) (other : ℕ) (r : ReaderView) →
-      Joins (Kept shape) id (Writer v) other (Reader r) (Writer (after_join v r)) Spent
-  joins id v other r s kept at apart there = let a = as_writer shape s kept id v at in record {
-    w = after_join v r;
-    at = id;
-    reader = a.reader;
-    place = put a.place r.number id;
-    turn = a.turn;
-    core = join_core s v id a.reader a.place a.turn a.core other r apart
-        (sym (set_else s.views id other (Writer (after_join v r)) apart) ∙ there);
-    reached = a.reached;
+      Joins (RuleHolds shape) id (Writer v) other (Reader r) (Writer (after_join v r)) Spent
+  joins id v other r s kept at apart there = let a = as_writer shape s kept id v at in
+      let x : Roles = with_writer a.roles v id in record {
+        roles = with_places x (after_join v r) (put x.place r.number id);
+        core = join_core s x a.core other r apart
+            (sym (set_else s.views id other (Writer (after_join v r)) apart) ∙ there);
+        reached = a.reached;
+      }
+
+  -- a writer that has all readers, and no block sealed
+  abbrev first_roles : Roles
+  first_roles = record {
+    writer = fresh_writer shape;
+    seat = 0;
+    reader = fresh_reader shape;
+    place = λ _. 0;
+    turn = λ _. record { newest = 0; holder = at_home };
   }
 
   first_seat : (v : View) (j : ℕ) → get_elem? (Writer (fresh_writer shape) ∷ []) j ≡ some v →
-      Knows shape (fresh_writer shape) 0 (fresh_reader shape) (λ _. 0) j v
-  first_seat v zero e = subst (λ (u : View). Knows shape (fresh_writer shape) 0 (fresh_reader shape) (λ _. 0) 0 u)
+      Knows shape first_roles j v
+  first_seat v zero e = subst (λ (u : View). Knows shape first_roles 0 u)
       (some-injective (Writer (fresh_writer shape)) v e) (refl, refl)
   first_seat v (suc j) e = absurd (some-ne-none v (sym e))
 
   pub starts : (words : List ℕ) (blocks : List Block) → IsRing shape → length words ≡ shape.buffers + shape.readers →
       ((i : ℕ) → i < length words → get_or words i 0 ≡ 0) → length blocks ≡ shape.buffers
       → ((k : ℕ) (b : Block) → get_elem? blocks k ≡ some b → room_of b ≡ shape.size) →
-      Kept shape (opening words blocks (Writer (fresh_writer shape)))
+      RuleHolds shape (opening words blocks (Writer (fresh_writer shape)))
   starts words blocks ring wide zeros deep rooms = record {
-    w = fresh_writer shape;
-    at = 0;
-    reader = fresh_reader shape;
-    place = λ _. 0;
-    turn = λ _. record { newest = 0; holder = at_home };
+    roles = first_roles;
     core = record {
       ring = ring;
       wide = wide;

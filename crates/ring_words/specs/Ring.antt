@@ -55,66 +55,75 @@ pub record IsNewest (buffers h k n : ℕ) : Type 0 where
   pub none : n ≡ 0 → h ≤ k
   pub last : (m : ℕ) → n ≡ m + 1 → (m % buffers ≡ k) × (m < h) × (h ≤ m + buffers)
 
-module _ (shape : RingShape) (w : WriterView) where
+-- What stands behind a state of the table: the writer, and its seat; what each reader knows, and its seat, where a
+-- reader with no seat of its own is in the writer's; and the turn of each buffer.
+pub record Roles : Type 0 where
+  pub writer : WriterView
+  pub seat : ℕ
+  pub reader : ℕ → ReaderView
+  pub place : ℕ → ℕ
+  pub turn : ℕ → Turn
+
+module _ (shape : RingShape) (x : Roles) where
   -- What is true of a buffer with this holder. At home it has the block that was sealed there last.
   -- A reader has the block that comes after those it cleared, and the writer the buffer of the block to be sealed next.
-  abbrev pub Held : (ℕ → ReaderView) → List (maybe.Option Block) → ℕ → ℕ → Holder → Type 0
-  Held reader homes k n at_home = (b : Block) × (get_elem? homes k ≡ some (some b)) × (room_of b ≡ shape.size)
-      × ((m : ℕ) → n ≡ m + 1 → get_elem? w.sealed m ≡ some (entry_of b))
-  Held reader homes k n (by_reader i) = (i < shape.readers) × ((reader i).out ≡ true)
-      × (n ≡ length (reader i).cleared + 1)
-  Held reader homes k n by_writer = (w.out ≡ true) × (k ≡ length w.sealed % shape.buffers)
+  abbrev pub Held : List (maybe.Option Block) → ℕ → ℕ → Holder → Type 0
+  Held homes k n at_home = (b : Block) × (get_elem? homes k ≡ some (some b)) × (room_of b ≡ shape.size)
+      × ((m : ℕ) → n ≡ m + 1 → get_elem? x.writer.sealed m ≡ some (entry_of b))
+  Held homes k n (by_reader i) = (i < shape.readers) × ((x.reader i).out ≡ true)
+      × (n ≡ length (x.reader i).cleared + 1)
+  Held homes k n by_writer = (x.writer.out ≡ true) × (k ≡ length x.writer.sealed % shape.buffers)
 
-  pub record TurnOk (reader : ℕ → ReaderView) (words : List ℕ) (homes : List (maybe.Option Block)) (k : ℕ)
-      (t : Turn) : Type 0 where
+  pub record TurnOk (words : List ℕ) (homes : List (maybe.Option Block)) (k : ℕ) (t : Turn) : Type 0 where
     pub shows : slice_index words k ≡ turn_word t
-    pub newest : IsNewest shape.buffers (length w.sealed) k t.newest
-    pub held : Held reader homes k t.newest t.holder
+    pub newest : IsNewest shape.buffers (length x.writer.sealed) k t.newest
+    pub held : Held homes k t.newest t.holder
 
   -- A reader cleared a beginning of what was sealed. Until it retires no block past that is overwritten, and what it
   -- got is the next one.
-  pub record ReaderOk (words : List ℕ) (turn : ℕ → Turn) (i : ℕ) (r : ReaderView) : Type 0 where
+  pub record ReaderOk (words : List ℕ) (i : ℕ) (r : ReaderView) : Type 0 where
     pub number : r.number ≡ i
     pub shaped : r.shape ≡ shape
     pub shows : slice_index words (shape.buffers + i) ≡ count_word r
-    pub begins : Begins r.cleared w.sealed
-    pub within : r.retired ≡ false → length w.sealed ≤ length r.cleared + shape.buffers
-    pub got : (e : Entry) → r.got ≡ Some e → (r.retired ≡ false) × (get_elem? w.sealed (length r.cleared) ≡ some e)
+    pub begins : Begins r.cleared x.writer.sealed
+    pub within : r.retired ≡ false → length x.writer.sealed ≤ length r.cleared + shape.buffers
+    pub got : (e : Entry) → r.got ≡ Some e → (r.retired ≡ false)
+        × (get_elem? x.writer.sealed (length r.cleared) ≡ some e)
     pub out : r.out ≡ true → ((e : Entry) × (r.got ≡ Some e))
-        × ((turn (length r.cleared % shape.buffers)).holder ≡ by_reader i)
-    pub low : slice_index w.low i ≤ count_word r
+        × ((x.turn (length r.cleared % shape.buffers)).holder ≡ by_reader i)
+    pub low : slice_index x.writer.low i ≤ count_word r
 
   -- While the writer has a buffer, it saw each reader past the block that it overwrites.
-  pub record WriterOk (turn : ℕ → Turn) : Type 0 where
-    pub shaped : w.shape ≡ shape
-    pub lows : length w.low ≡ shape.readers
-    pub limit : length w.sealed ≤ shape.max_blocks
-    pub sized : (m : ℕ) (e : Entry) → get_elem? w.sealed m ≡ some e → length e.bytes ≤ shape.size
-    pub out : w.out ≡ true → ((turn (length w.sealed % shape.buffers)).holder ≡ by_writer)
-        × (length w.sealed < shape.max_blocks)
-    pub room : w.out ≡ true → (i : ℕ) → i < shape.readers → length w.sealed < slice_index w.low i + shape.buffers
-    pub look : (i n : ℕ) → w.last_look ≡ Some (i, n) → slice_index w.low i ≡ n
+  pub record WriterOk : Type 0 where
+    pub shaped : x.writer.shape ≡ shape
+    pub lows : length x.writer.low ≡ shape.readers
+    pub limit : length x.writer.sealed ≤ shape.max_blocks
+    pub sized : (m : ℕ) (e : Entry) → get_elem? x.writer.sealed m ≡ some e → length e.bytes ≤ shape.size
+    pub out : x.writer.out ≡ true → ((x.turn (length x.writer.sealed % shape.buffers)).holder ≡ by_writer)
+        × (length x.writer.sealed < shape.max_blocks)
+    pub room : x.writer.out ≡ true → (i : ℕ) → i < shape.readers →
+        length x.writer.sealed < slice_index x.writer.low i + shape.buffers
+    pub look : (i n : ℕ) → x.writer.last_look ≡ Some (i, n) → slice_index x.writer.low i ≡ n
 
-  -- what the seat j knows: the one writer's seat is `at`, and reader i has the seat `place i`
-  abbrev pub Knows : ℕ → (ℕ → ReaderView) → (ℕ → ℕ) → ℕ → View → Type 0
-  Knows at reader place j (Writer v) = (v ≡ w) × (j ≡ at)
-  Knows at reader place j (Reader r) = (r.number < shape.readers) × (r ≡ reader r.number) × (place r.number ≡ j)
-  Knows at reader place j Spent = Unit {0}
+  -- what the seat j knows: the one writer has its seat, and each reader the seat at its place
+  abbrev pub Knows : ℕ → View → Type 0
+  Knows j (Writer v) = (v ≡ x.writer) × (j ≡ x.seat)
+  Knows j (Reader r) = (r.number < shape.readers) × (r ≡ x.reader r.number) × (x.place r.number ≡ j)
+  Knows j Spent = Unit {0}
 
--- the rule, of the writer w in the seat `at` and the readers; a reader with no seat of its own is in the writer's
-pub record KeptBy (shape : RingShape) (s : State Block View) (w : WriterView) (at : ℕ) (reader : ℕ → ReaderView)
-    (place : ℕ → ℕ) (turn : ℕ → Turn) : Type 0 where
+-- the rule, with what stands behind the state
+pub record HoldsFor (shape : RingShape) (s : State Block View) (x : Roles) : Type 0 where
   pub ring : IsRing shape
   pub wide : length s.words ≡ shape.buffers + shape.readers
   pub deep : length s.homes ≡ shape.buffers
-  pub writer : WriterOk shape w turn
-  pub each_turn : (k : ℕ) → k < shape.buffers → TurnOk shape w reader s.words s.homes k (turn k)
-  pub each_reader : (i : ℕ) → i < shape.readers → ReaderOk shape w s.words turn i (reader i)
-  pub seated : get_elem? s.views at ≡ some (Writer w)
-  pub each_seat : (j : ℕ) (v : View) → get_elem? s.views j ≡ some v → Knows shape w at reader place j v
-  pub all_parked : length w.parked ≡ shape.readers
-  pub parked : (i : ℕ) (r : ReaderView) → get_elem? w.parked i ≡ some (Some r) → (i < shape.readers) × (r ≡ reader i)
-      × (place i ≡ at)
+  pub writer : WriterOk shape x
+  pub each_turn : (k : ℕ) → k < shape.buffers → TurnOk shape x s.words s.homes k (x.turn k)
+  pub each_reader : (i : ℕ) → i < shape.readers → ReaderOk shape x s.words i (x.reader i)
+  pub seated : get_elem? s.views x.seat ≡ some (Writer x.writer)
+  pub each_seat : (j : ℕ) (v : View) → get_elem? s.views j ≡ some v → Knows shape x j v
+  pub all_parked : length x.writer.parked ≡ shape.readers
+  pub parked : (i : ℕ) (r : ReaderView) → get_elem? x.writer.parked i ≡ some (Some r) → (i < shape.readers)
+      × (r ≡ x.reader i) × (x.place i ≡ x.seat)
 
 -- how a reader stands, in the words of the ring as a machine
 abbrev pub phase_of : ReaderView → Phase
@@ -126,20 +135,16 @@ abbrev pub standing : ReaderView → Standing
 standing r = record { cleared = length r.cleared; phase = phase_of r }
 
 -- the machine that the running ring shows
-abbrev pub shown : RingShape → WriterView → (ℕ → ReaderView) → Machine Entry
-shown shape w reader = record {
-  sealed = w.sealed;
-  writing = w.out;
-  low = w.low;
-  readers = listed (λ i. standing (reader i)) shape.readers;
+abbrev pub shown : RingShape → Roles → Machine Entry
+shown shape x = record {
+  sealed = x.writer.sealed;
+  writing = x.writer.out;
+  low = x.writer.low;
+  readers = listed (λ i. standing (x.reader i)) shape.readers;
 }
 
 -- the rule; the machine that the ring shows is one that a list of events leaves
-pub record Kept (shape : RingShape) (s : State Block View) : Type 0 where
-  pub w : WriterView
-  pub at : ℕ
-  pub reader : ℕ → ReaderView
-  pub place : ℕ → ℕ
-  pub turn : ℕ → Turn
-  pub core : KeptBy shape s w at reader place turn
-  pub reached : Reached shape.buffers shape.max_blocks shape.readers (shown shape w reader)
+pub record RuleHolds (shape : RingShape) (s : State Block View) : Type 0 where
+  pub roles : Roles
+  pub core : HoldsFor shape s roles
+  pub reached : Reached shape.buffers shape.max_blocks shape.readers (shown shape roles)

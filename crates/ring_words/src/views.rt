@@ -49,9 +49,9 @@ pub enum View {
 pub struct RingRule;
 
 impl TableRule<Block, View, RingShape> for RingRule {
-    ghost use Rattle.ring_words.specs.Ring.{Kept, first_view};
+    ghost use Rattle.ring_words.specs.Ring.{RuleHolds, first_view};
 
-    ghost holds = { Kept };
+    ghost holds = { RuleHolds };
 
     ghost first = { first_view };
 }
