@@ -3,3 +3,5 @@ pub mod FoldLists
 pub mod Fronts
 pub mod Halvings
 pub mod Ranges
+pub mod Within
+pub mod Worked

@@ -30,11 +30,11 @@ abbrev pub front_of : Fronts → ℕ → Front
 front_of f d = slice_index_or f.fronts (d - f.first) no_front
 
 -- xs are the path sums of delay d that were taken, in order
-abbrev pub StandsForSums : Fronts → ℕ → List ℕ → Type 0
-StandsForSums f d xs = IsFrontOf (front_of f d) xs
+abbrev pub KeepsFrontOf : Fronts → ℕ → List ℕ → Type 0
+KeepsFrontOf f d xs = IsFrontOf (front_of f d) xs
 
 -- both are opened alike
-pub record AreOpenedAlike (f g : Fronts) : Type 0 where
+pub record FoldsAlike (f g : Fronts) : Type 0 where
   pub search : f.search ≡ g.search
   pub channels : f.channels ≡ g.channels
   pub first : f.first ≡ g.first
@@ -42,7 +42,7 @@ pub record AreOpenedAlike (f g : Fronts) : Type 0 where
   pub bound : f.bound ≡ g.bound
 
 -- opened with these
-pub record IsOpenedFor (f : Fronts) (search : Search) (channels first end bound : ℕ) : Type 0 where
+pub record FoldsFor (f : Fronts) (search : Search) (channels first end bound : ℕ) : Type 0 where
   pub search_is : f.search ≡ search
   pub channels_is : f.channels ≡ channels
   pub first_is : f.first ≡ first

@@ -7,7 +7,7 @@ ghost use Rattle.search_model.specs.Candidates.{plain_cells, folds, within_delay
 ghost use Rattle.fast_fold.specs.Folding.{HaveSameRoom};
 ghost use Rattle.search_engine.specs.Judging.{Adds};
 ghost use Rattle.search_engine.specs.Series.{no_front, IsFrontOf};
-ghost use Rattle.search_engine.specs.FoldSearch.{Fronts, HasDelay, StandsForSums, AreOpenedAlike, IsOpenedFor, FoldsFit, AreDelays, AreFronts, AreOfSeries, CanFold, IsReady, is_folded as is_folded_of, most_used as most_used_of, FitFolds, folds_if_folded, folds_of_delays};
+ghost use Rattle.search_engine.specs.FoldSearch.{Fronts, HasDelay, KeepsFrontOf, FoldsAlike, FoldsFor, FoldsFit, AreDelays, AreFronts, AreOfSeries, CanFold, IsReady, is_folded as is_folded_of, most_used as most_used_of, FitFolds, folds_if_folded, folds_of_delays};
 
 use crate::judging::fold_values;
 use crate::series::Series;
@@ -61,8 +61,8 @@ impl FoldSearch {
         requires few { channels ≤ 4096 }
         requires delays { AreDelays search.now first end }
         requires fits { IsTrue (folds_are_on search.now) → FoldsFit search.now bound }
-        ensures opened { IfOk result (λ f. IsOpenedFor f search.now channels first end bound) }
-        ensures none { IfOk result (λ f. (d : ℕ) → HasDelay f d → StandsForSums f d []) }
+        ensures opened { IfOk result (λ f. FoldsFor f search.now channels first end bound) }
+        ensures none { IfOk result (λ f. (d : ℕ) → HasDelay f d → KeepsFrontOf f d []) }
     {
         Ok(FoldSearch {
             search: *search,
@@ -79,11 +79,11 @@ impl FoldSearch {
     pub fn take(&mut self, delay: u32, row: &[u32])
         requires delay { HasDelay self.old delay }
         requires small { All (λ x. x ≤ self.old.bound) row.now }
-        ensures alike { AreOpenedAlike self.new self.old }
-        ensures own { (xs : List ℕ) → StandsForSums self.old delay xs
-            → StandsForSums self.new delay (xs ++ row.now) }
+        ensures alike { FoldsAlike self.new self.old }
+        ensures own { (xs : List ℕ) → KeepsFrontOf self.old delay xs
+            → KeepsFrontOf self.new delay (xs ++ row.now) }
         ensures others { (d : ℕ) (xs : List ℕ) → HasDelay self.old d → d ≢ delay
-            → StandsForSums self.old d xs → StandsForSums self.new d xs }
+            → KeepsFrontOf self.old d xs → KeepsFrontOf self.new d xs }
     {
         let at = (delay - self.first) as usize;
         let front = &mut self.fronts[at];
@@ -96,7 +96,7 @@ impl FoldSearch {
         ensures same { self.new ≡ self.old }
         ensures count { book.new.count ≤ book.old.count + 2 ^ 56 }
         ensures folds { (f : Filterbank) (edges : List ℕ)
-            → ((d : ℕ) → HasDelay self.old d → StandsForSums self.old d (series f edges d))
+            → ((d : ℕ) → HasDelay self.old d → KeepsFrontOf self.old d (series f edges d))
             → Adds book.old book.new (within_delays self.old.first self.old.end
             (folds f edges (plain_cells self.old.channels) self.old.search)) }
     {

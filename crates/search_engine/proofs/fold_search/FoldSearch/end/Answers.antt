@@ -5,7 +5,7 @@ use Rattle.search_model.specs.Candidates.{plain_cells, folds, within_delays}
 use Rattle.candidate_book.specs.Book.{BookContents}
 use Rattle.search_engine.specs.Judging.{Adds}
 use Rattle.search_engine.specs.Series.{Front, no_front, IsFrontOf}
-use Rattle.search_engine.specs.FoldSearch.{Fronts, HasDelay, StandsForSums, AreDelays, AreOfSeries, folds_of_delays}
+use Rattle.search_engine.specs.FoldSearch.{Fronts, HasDelay, KeepsFrontOf, AreDelays, AreOfSeries, folds_of_delays}
 use Rattle.search_engine.proofs.Adding.{adds_same}
 use Rattle.search_engine.proofs.FoldLists.{folds_within}
 use Rattle.search_engine.proofs.fold_search.FoldSearch.end.Goals as goal
@@ -13,7 +13,7 @@ use Rattle.search_engine.proofs.fold_search.FoldSearch.end.Goals as goal
 -- the fronts of all delays are those of the series from the first on
 of_series : (seen : Fronts) (fronts : List Front) (f : Filterbank) (edges : List ℕ) → fronts ≡ seen.fronts →
     length seen.fronts ≡ seen.end - seen.first →
-    ((d : ℕ) → HasDelay seen d → StandsForSums seen d (series f edges d)) → AreOfSeries fronts f edges seen.first
+    ((d : ℕ) → HasDelay seen d → KeepsFrontOf seen d (series f edges d)) → AreOfSeries fronts f edges seen.first
 of_series seen fronts f edges same count all = λ k small.
     let long : length fronts ≡ seen.end - seen.first = ap length same ∙ count in
     let at : seen.first + k - seen.first ≡ k = omega arith in
@@ -27,7 +27,7 @@ ended : (old new : BookContents) (seen : Fronts) (fronts : List Front) (f : Filt
     fronts ≡ seen.fronts → length seen.fronts ≡ seen.end - seen.first → AreDelays seen.search seen.first seen.end →
     (AreOfSeries fronts f edges seen.first →
     Adds old new (folds_of_delays f edges (plain_cells seen.channels) seen.search seen.first (length fronts))) →
-    ((d : ℕ) → HasDelay seen d → StandsForSums seen d (series f edges d)) →
+    ((d : ℕ) → HasDelay seen d → KeepsFrontOf seen d (series f edges d)) →
     Adds old new (within_delays seen.first seen.end (folds f edges (plain_cells seen.channels) seen.search))
 ended old new seen fronts f edges same count delays adds all =
     adds_same old new _ _
@@ -38,7 +38,7 @@ ended old new seen fronts f edges same count delays adds all =
 pub returns-clause-folds : goal.returns-clause-folds
 returns-clause-folds c = λ f edges.
     let inside = c.self.inside in
-    let P : Fronts → Type 0 = λ seen. ((d : ℕ) → HasDelay seen d → StandsForSums seen d (series f edges d)) →
+    let P : Fronts → Type 0 = λ seen. ((d : ℕ) → HasDelay seen d → KeepsFrontOf seen d (series f edges d)) →
     Adds c.args.book.now c.fold_fronts.new.book
     (within_delays seen.first seen.end (folds f edges (plain_cells seen.channels) seen.search)) in
     subst P c.self.view_is
