@@ -1,3 +1,4 @@
+mod FileWords
 mod Digits
 mod Splits
 mod Replays

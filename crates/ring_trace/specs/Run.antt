@@ -1,18 +1,14 @@
 -- The words and the statuses of the program, and what each says.
-use Rattle.std.specs.Prelude.{◌≡◌, ◌≢◌, ◌⊎◌, ◌↔◌, ◌<◌, ◌≤◌, ℕ, List, [], ◌∷◌, length, Option, None, IsSome, String, string_bytes}
-use Rattle.std.specs.Option.{ForSome}
-use Rattle.std.specs.Global.{Global}
+-- Source: this project's choice.
+use Rattle.std.specs.Prelude.{◌≡◌, ◌≢◌, ◌⊎◌, ◌↔◌, ◌<◌, ◌≤◌, ℕ, List, [], ◌∷◌, length}
 use Rattle.psr_base.specs.Count.{Rose}
-use Rattle.psr_base.specs.Told.{Told, InputsSeen}
+use Rattle.psr_base.specs.Told.{Told, OfFile, InputsSeen}
 use Rattle.psr_base.specs.Written.{SinkSeen}
 use Rattle.ring_trace.specs.Trace.{AppendsAll, AppendsCut, AppendsFront}
 
--- the bytes that are told of the file that the second of two words names
-abbrev pub file_told : Told → List (String Global) → Option (List ℕ)
-file_told told (program ∷ name ∷ []) = told.bytes_under (string_bytes name)
-file_told told [] = None
-file_told told (program ∷ []) = None
-file_told told (program ∷ name ∷ more ∷ words) = None
+-- P holds of the bytes of the file that the second of two words names, where those are told
+abbrev pub ForFile : List (List ℕ) → Told → (List ℕ → Type 0) → Type 0
+ForFile words told P = (program name : List ℕ) → words ≡ program ∷ name ∷ [] → OfFile told name P
 
 -- a status at which nothing was written
 abbrev pub IsSilent : ℕ → Type 0
@@ -31,23 +27,23 @@ most_bytes = 1048576
 
 -- The outcome of a replay for these words over these inputs, which may be calm: how it ended, by its status, what the
 -- output took, and which faults were counted.
-pub record Outcome (words : List (String Global)) (inputs : InputsSeen) (is_calm : Type 0)
+pub record Outcome (words : List (List ℕ)) (inputs : InputsSeen) (is_calm : Type 0)
     (out_before out_after : SinkSeen) (status : ℕ) : Type 0 where
   -- there is no other status; 5 is want of memory
   pub known : IsStatus status
   -- the headline: the output has grown by exactly the answers to all lines of the file
-  pub whole : status ≡ 0 → ForSome (file_told inputs.told words) (λ file. AppendsAll file out_before out_after)
+  pub whole : status ≡ 0 → ForFile words inputs.told (λ file. AppendsAll file out_before out_after)
   -- by those to the lines before the first that has not its form, or by the front of them at a fault of the output
-  pub cut : status ≡ 3 → ForSome (file_told inputs.told words) (λ file. AppendsCut file out_before out_after)
-  pub front : status ≡ 10 → ForSome (file_told inputs.told words) (λ file. AppendsFront file out_before out_after)
+  pub cut : status ≡ 3 → ForFile words inputs.told (λ file. AppendsCut file out_before out_after)
+  pub front : status ≡ 10 → ForFile words inputs.told (λ file. AppendsFront file out_before out_after)
   pub silent : IsSilent status → out_after ≡ out_before
   -- 2 exactly where there are not two words, and 8 exactly where the file is too long
   pub words_refused : (status ≡ 2) ↔ (length words ≢ 2)
-  pub too_long : status ≡ 8 → ForSome (file_told inputs.told words) (λ file. most_bytes < length file)
-  pub short : IsReadWhole status → ForSome (file_told inputs.told words) (λ file. length file ≤ most_bytes)
+  pub too_long : status ≡ 8 → ForFile words inputs.told (λ file. most_bytes < length file)
+  pub short : IsReadWhole status → ForFile words inputs.told (λ file. length file ≤ most_bytes)
   -- 6 only where the inputs failed, which calm ones that hold the file don't, and 10 only where the output failed
   pub read_fault : status ≡ 6 → Rose inputs.faults_before inputs.faults_after
-  pub calm : is_calm → IsSome (file_told inputs.told words) → status ≢ 6
+  pub calm : is_calm → ForFile words inputs.told (λ file. status ≢ 6)
   pub inputs_quiet : status ≢ 6 → inputs.faults_after ≡ inputs.faults_before
   pub sink_fault : status ≡ 10 → Rose out_before.faults out_after.faults
   pub out_quiet : status ≢ 10 → out_after.faults ≡ out_before.faults

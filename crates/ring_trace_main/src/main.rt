@@ -2,13 +2,10 @@
 #![tactic(auto)]
 
 use psr_base::{RealInputs, RealSink};
-use ring_trace::run_trace;
+use ring_trace::{Stop, run_trace};
 use std::env;
 use std::io::ErrorKind;
 use std::process::ExitCode;
-
-/// The status of want of memory.
-const NO_MEMORY: u8 = 5;
 
 // The command words. Those that can't be had, as ones that are no UTF-8, are answered like faulty
 // words; `None` stands for want of memory.
@@ -23,7 +20,7 @@ fn command_words(rt: &HostRuntime) -> Option<Vec<String>> {
 
 fn main(rt: HostRuntime) -> ExitCode {
     let Some(words) = command_words(&rt) else {
-        return ExitCode::from(NO_MEMORY);
+        return ExitCode::from(Stop::Memory.status());
     };
     let mut inputs = RealInputs::new(&rt);
     let mut out = RealSink::out(&rt);

@@ -1,6 +1,9 @@
-use Rattle.std.proofs.Common.{◌≡◌, Bool, true, false, ◌⊎◌, inl, inr, List, ℕ, Result, Ok, Err, is_err, OnOk, OnErr, refl, subst, rules}
+use Rattle.std.proofs.Common.{◌≡◌, Bool, true, false, ◌⊎◌, inl, inr, List, ℕ, Result, Ok, Err, is_err, OnOk, OnErr, length, ◌≤◌, string_bytes, refl, subst, rules}
 use Rattle.psr_base.specs.Written.{WroteAll, WroteFront}
-use Rattle.ring_trace.specs.Trace.{IsWhole, IsCut}
+use Rattle.psr_base.specs.Told.{OfFile}
+use Rattle.ring_trace.specs.Trace.{IsWhole, IsCut, AppendsCut, AppendsFront}
+use Rattle.ring_trace.specs.Run.{most_bytes}
+use Rattle.ring_trace.proofs.FileWords.{for_file, two_words}
 use Rattle.ring_trace.proofs.answer_words.Goals as goal
 
 on_err : {T E : Type 0} (r : Result T E) (P : Type 0) → is_err r ≡ true → OnErr r P → P
@@ -15,32 +18,79 @@ either : (b : Bool) (P Q : Type 0) → (b ≡ true → P) → (b ≡ false → Q
 either true P Q p q = inl (p refl)
 either false P Q p q = inr (q refl)
 
-pub returns-then-is_err-clause-front : goal.returns-then-is_err-clause-front
-returns-then-is_err-clause-front g c = λ at x known.
+pub returns-then-is_err : goal.returns-then-is_err
+returns-then-is_err g c =
+    let words = c.args.words.now in
+    let told = g.I.Inputs.told c.args.inputs.now in
+    let old = g.K.Sink.seen c.args.out.now in
+    let new = g.K.Sink.seen c.write_all.new.sink in
+    let file = c.as_slice.result.now in
     let text = c.in-Ok-replay.answers.text.items in
-    let same : c.as_slice.result.now ≡ x = search rules in
     let piece : c.as_slice-2.result.now ≡ text = search rules in
-    let P : List ℕ → Type 0 = λ t. WroteFront t (g.K.Sink.seen c.args.out.now) (g.K.Sink.seen c.write_all.new.sink) in
-    let Q : List ℕ → Type 0 = λ file. IsWhole file text ⊎ IsCut file text in
+    let P : List ℕ → Type 0 = λ t. WroteFront t old new in
+    let front : P text = subst P piece (on_err c.write_all.result (P c.as_slice-2.result.now)
+    (search rules) c.write_all.ensures.front) in
+    let of_file : OfFile told (string_bytes c.index-words-1.result) (λ bytes. file ≡ bytes) = search rules in
+    let short : length file ≤ most_bytes = search rules in
+    let two : length words ≡ 2 = search rules in
     record {
-      text = text;
-      answers = subst Q same (either c.in-Ok-replay.answers.is_whole (IsWhole c.as_slice.result.now text)
-          (IsCut c.as_slice.result.now text) c.in-Ok-replay.ensures.whole c.in-Ok-replay.ensures.cut);
-      wrote = subst P piece (on_err c.write_all.result (P c.as_slice-2.result.now)
-          (search rules) c.write_all.ensures.front);
+      known = inr (inr (inr refl));
+      whole = λ e. absurd cc;
+      cut = λ e. absurd cc;
+      front = λ e. for_file words _ told _ c.index-words-1.is (λ bytes known.
+          let Q : List ℕ → Type 0 = λ xs. AppendsFront xs old new in subst Q (of_file bytes known) (record {
+            text = text;
+            answers = either c.in-Ok-replay.answers.is_whole (IsWhole file text) (IsCut file text)
+                c.in-Ok-replay.ensures.whole c.in-Ok-replay.ensures.cut;
+            wrote = front;
+          }));
+      silent = λ e. search rules;
+      words_refused = two_words words 10 two (λ e. cc);
+      too_long = λ e. absurd cc;
+      short = λ e. for_file words _ told _ c.index-words-1.is (λ bytes known.
+          let Q : List ℕ → Type 0 = λ xs. length xs ≤ most_bytes in subst Q (of_file bytes known) short);
+      read_fault = λ e. absurd cc;
+      calm = λ calm. search rules;
+      inputs_quiet = search rules;
+      sink_fault = λ e. front.rose;
+      out_quiet = λ e. absurd (e refl);
+      inputs_count = search rules;
+      out_count = front.count;
     }
 
-pub returns-clause-cut : goal.returns-clause-cut
-returns-clause-cut g c = λ at x known.
+pub returns : goal.returns
+returns g c =
+    let words = c.args.words.now in
+    let told = g.I.Inputs.told c.args.inputs.now in
+    let old = g.K.Sink.seen c.args.out.now in
+    let new = g.K.Sink.seen c.write_all.new.sink in
+    let file = c.as_slice.result.now in
     let text = c.in-Ok-replay.answers.text.items in
-    let same : c.as_slice.result.now ≡ x = search rules in
     let piece : c.as_slice-2.result.now ≡ text = search rules in
     let not_whole : c.in-Ok-replay.answers.is_whole ≡ false = search rules in
-    let P : List ℕ → Type 0 = λ t. WroteAll t (g.K.Sink.seen c.args.out.now) (g.K.Sink.seen c.write_all.new.sink) in
-    let Q : List ℕ → Type 0 = λ file. IsCut file text in
+    let P : List ℕ → Type 0 = λ t. WroteAll t old new in
+    let all : P text = subst P piece
+    (on_ok c.write_all.result (P c.as_slice-2.result.now) (search rules) c.write_all.ensures.all) in
+    let of_file : OfFile told (string_bytes c.index-words-1.result) (λ bytes. file ≡ bytes) = search rules in
+    let short : length file ≤ most_bytes = search rules in
+    let two : length words ≡ 2 = search rules in
     record {
-      text = text;
-      cut = subst Q same (c.in-Ok-replay.ensures.cut not_whole);
-      wrote = subst P piece
-          (on_ok c.write_all.result (P c.as_slice-2.result.now) (search rules) c.write_all.ensures.all);
+      known = inr (inr (inl refl));
+      whole = λ e. absurd cc;
+      cut = λ e. for_file words _ told _ c.index-words-1.is (λ bytes known.
+          let Q : List ℕ → Type 0 = λ xs. AppendsCut xs old new in subst Q (of_file bytes known)
+          (record { text = text; cut = c.in-Ok-replay.ensures.cut not_whole; wrote = all }));
+      front = λ e. absurd cc;
+      silent = search rules;
+      words_refused = two_words words 3 two (λ e. cc);
+      too_long = λ e. absurd cc;
+      short = λ e. for_file words _ told _ c.index-words-1.is (λ bytes known.
+          let Q : List ℕ → Type 0 = λ xs. length xs ≤ most_bytes in subst Q (of_file bytes known) short);
+      read_fault = λ e. absurd cc;
+      calm = search rules;
+      inputs_quiet = search rules;
+      sink_fault = λ e. absurd cc;
+      out_quiet = λ e. all.faults;
+      inputs_count = search rules;
+      out_count = search rules;
     }
