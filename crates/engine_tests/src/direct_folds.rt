@@ -1,0 +1,91 @@
+// Detected folds by the sum of the definition.
+ghost use Rattle.std.specs.Prelude.{◌≤◌};
+
+use detect_rule::Rule;
+use fold_phase::fold_sum;
+use psr_base::Memory;
+use search_model::{Candidate, Search};
+use std::process::Abort;
+
+/// Whether the series of a delay is folded.
+pub fn is_folded(search: &Search, delay: u32) -> bool {
+    for count in 0..8193_u64 {
+        if u64::from(search.min_delay) + count * u64::from(search.fold_step) == u64::from(delay) {
+            return true;
+        }
+    }
+    false
+}
+
+// The most halvings of which the rows fit into a series.
+fn most_halvings(most: u32, period: u32, room: usize) -> u32
+    ensures { result ≤ 12 }
+{
+    for less in 0..most.min(12) {
+        let halvings = most.min(12) - less;
+        if u64::from(period) << halvings <= room as u64 {
+            return halvings;
+        }
+    }
+    0
+}
+
+// The detected folds of a trial.
+fn list_trial(
+    rt: &impl Abort,
+    list: &mut Vec<Candidate>,
+    rule: &Rule,
+    series: &[u32],
+    cells: u32,
+    of: (u32, u32, u32),
+    trial: u32,
+) -> Result<(), Memory> {
+    let (delay, period, halvings) = of;
+    assert!(rt; 1 <= halvings && halvings <= 12 && trial < 1 << halvings);
+    assert!(rt; u64::from(period) << halvings <= series.len() as u64);
+    let cells = u64::from(cells) << halvings;
+    assert!(rt; cells <= 1 << 26);
+    for phase in 0..period {
+        let sum = fold_sum(series, period, halvings, trial, phase);
+        assert!(rt; sum < 1 << 32);
+        if rule.detected(sum, cells) {
+            list.push(Candidate::Fold {
+                delay,
+                period,
+                halvings,
+                trial,
+                phase,
+                sum: sum as u32,
+            })?;
+        }
+    }
+    Ok(())
+}
+
+/// Lists the detected folds of a delay's series, where a path sum has so many cells.
+pub fn list_delay(
+    rt: &impl Abort,
+    list: &mut Vec<Candidate>,
+    search: &Search,
+    series: &[u32],
+    delay: u32,
+    cells: u32,
+) -> Result<(), Memory> {
+    assert!(rt; search.mean <= 200000000 && search.sd <= 200000000 && search.snr <= 100000);
+    let rule = Rule {
+        mean: search.mean,
+        sd: search.sd,
+        snr: search.snr,
+    };
+    assert!(rt; search.fold_max <= 1 << 20);
+    for period in search.fold_min..search.fold_max + 1 {
+        let halvings = most_halvings(search.fold_rows, period, series.len());
+        if halvings > 0 {
+            for trial in 0..1_u32 << halvings {
+                let of = (delay, period, halvings);
+                list_trial(rt, list, &rule, series, cells, of, trial)?;
+            }
+        }
+    }
+    Ok(())
+}
