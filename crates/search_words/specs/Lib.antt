@@ -1,0 +1,6 @@
+pub mod Table
+pub mod Command
+pub mod Values
+pub mod Transfers
+pub mod Settings
+pub mod Worked

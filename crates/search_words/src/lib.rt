@@ -1,0 +1,16 @@
+//! The settings of the programs, read from their words by clap. The table of options, what the words say and why they
+//! are refused are defined in `specs/`.
+#![tactic(auto)]
+
+mod command;
+mod fault;
+mod opt;
+mod reading;
+mod settings;
+mod table;
+mod transfers;
+mod values;
+
+pub use fault::WordFault;
+pub use opt::Opt;
+pub use settings::Settings;

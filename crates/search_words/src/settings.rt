@@ -1,0 +1,60 @@
+// The settings of the words.
+ghost use Rattle.std.specs.Prelude.{◌≡◌, ◌≢◌, map, string_bytes, Err, IfOk, IfErr};
+
+use crate::fault::WordFault;
+use crate::reading::read;
+use crate::table::Program;
+use search_model::Search;
+use std::alloc::Global;
+
+/// The settings of a program: a search, and how its data are read, shared out and recorded.
+#[derive(Debug, Drop)]
+pub struct Settings {
+    pub search: Search,
+    /// How many buffers the data ring has.
+    pub buffers: u32,
+    /// The size of each, in bytes.
+    pub size: u32,
+    /// How many threads work at once.
+    pub hands: u32,
+    /// How many turns a hand takes at a time.
+    pub turns: u32,
+    /// Whether the data are recorded.
+    pub recording: bool,
+    /// The most data bytes of a recorded file.
+    pub file_size: u64,
+    /// The most data bytes that are read.
+    pub max_bytes: u64,
+    /// The names of the files of all transfers.
+    pub names: Vec<String>,
+    /// How many names stand before each transfer.
+    pub starts: Vec<u32>,
+}
+
+impl Settings {
+    ghost use Rattle.search_words.specs.Command.{IsSimpleLine};
+    ghost use Rattle.search_words.specs.Settings.{AllInRange, settings_seen, ExplainsWords, SaySearch, SayRecord};
+    ghost use Rattle.search_words.specs.declared.table.Program.TheVariants.{PsrSearch, PsrRecord};
+
+    /// The settings that the words of `psr_search` say. The first word is the program's name.
+    pub fn of(alloc: Global, words: &[String]) -> Result<Settings, WordFault>
+        ensures says { IfOk result (λ s. SaySearch (map string_bytes words.now) (settings_seen s)) }
+        ensures in_range { IfOk result (λ s. AllInRange (settings_seen s)) }
+        ensures fault { IfErr result (ExplainsWords PsrSearch (map string_bytes words.now)) }
+        ensures simple { IsSimpleLine PsrSearch (map string_bytes words.now)
+            → result ≢ Err WordFault.Refused }
+    {
+        read(alloc, Program::PsrSearch, words)
+    }
+
+    /// The settings that the words of `psr_record` say. Its search has the defaults, with mean 0 and deviation 1.
+    pub fn of_record(alloc: Global, words: &[String]) -> Result<Settings, WordFault>
+        ensures says { IfOk result (λ s. SayRecord (map string_bytes words.now) (settings_seen s)) }
+        ensures in_range { IfOk result (λ s. AllInRange (settings_seen s)) }
+        ensures fault { IfErr result (ExplainsWords PsrRecord (map string_bytes words.now)) }
+        ensures simple { IsSimpleLine PsrRecord (map string_bytes words.now)
+            → result ≢ Err WordFault.Refused }
+    {
+        read(alloc, Program::PsrRecord, words)
+    }
+}
