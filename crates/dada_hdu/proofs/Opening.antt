@@ -1,13 +1,12 @@
 -- The readers' first passes.
-use Rattle.std.proofs.Common.{◌≡◌, ℕ, ◌<◌, List, length, Option, Some, slice_get, sym, subst, arith, All, IsSomeAnd, EachIndex}
+use Rattle.std.proofs.Common.{ℕ, ◌<◌, List, length, Option, Some, sym, subst, All, IsSomeAnd}
 use Rattle.std.proofs.lemmas.Option.{get_or_from_slice_get}
-use Rattle.ring_words.specs.Views.{fresh_reader}
 use Rattle.ring_ends.specs.declared.passes.ReaderPass.{ReaderPass}
 use Rattle.ring_ends.specs.Passes.{HasFreshPass}
 use Rattle.dada_hdu.specs.declared.hdu.Hdu.{Hdu}
 use Rattle.dada_hdu.specs.declared.passes.HduReader.{HduReader}
 use Rattle.dada_hdu.specs.Pairs.{reader_with, PairsEach}
-use Rattle.dada_hdu.specs.Passes.{header_ring, data_ring, ReadsBoth, IsFreshReader, HasFreshReader}
+use Rattle.dada_hdu.specs.Passes.{header_ring, data_ring, ReadsBoth, HasFreshReader}
 
 pub fresh_pair : (hdu : Hdu) (headers blocks : List (Option ReaderPass)) (readers : List (Option HduReader)) (i : ℕ) →
     PairsEach headers blocks readers → HasFreshPass (header_ring hdu) headers i →

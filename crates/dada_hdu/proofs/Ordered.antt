@@ -1,5 +1,5 @@
 -- Readers that are given in the order of their numbers.
-use Rattle.std.proofs.Common.{◌≡◌, ℕ, ◌<◌, List, length, map, Option, Some, slice_get, option_map, sym, ap, ◌∙◌, subst, arith}
+use Rattle.std.proofs.Common.{◌≡◌, ℕ, ◌<◌, List, length, map, Option, option_map, sym, ap, ◌∙◌, arith}
 use Rattle.std.proofs.lemmas.List.{length-map}
 use Rattle.std.proofs.lemmas.Option.{slice_get-map}
 use Rattle.ring_words.specs.declared.shape.RingShape.{RingShape}
@@ -10,7 +10,7 @@ use Rattle.ring_ends.specs.Ended.{Gives, AreInOrder, OrderIsEnough as RingOrderI
 use Rattle.dada_hdu.specs.declared.hdu.Hdu.{Hdu}
 use Rattle.dada_hdu.specs.declared.ended.HduEnded.{HduEnded}
 use Rattle.dada_hdu.specs.Passes.{header_ring, data_ring, header_end, data_end, header_ends, data_ends}
-use Rattle.dada_hdu.specs.Ended.{GivesBoth, AreBothInOrder, AllReadersOfBoth, OrderIsEnough}
+use Rattle.dada_hdu.specs.Ended.{GivesBoth, AreBothInOrder, OrderIsEnough}
 
 -- what is given as a reader of both rings is given as one of each
 pub gives_part : (part : HduEnded → EndedReader) (readers : List (Option HduEnded)) (j : ℕ) (e : HduEnded) →

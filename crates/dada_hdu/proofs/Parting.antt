@@ -1,5 +1,5 @@
 -- The passes of readers are parted, place by place.
-use Rattle.std.proofs.Common.{◌≡◌, ℕ, ◌+◌, ◌<◌, List, ◌++◌, length, drop, take, map, Option, arith}
+use Rattle.std.proofs.Common.{◌≡◌, ℕ, List, length, drop, take, Option}
 use Rattle.ring_ends.specs.declared.passes.EndedReader.{EndedReader}
 use Rattle.dada_hdu.specs.declared.ended.HduEnded.{HduEnded}
 use Rattle.dada_hdu.specs.Passes.{header_ends, data_ends}

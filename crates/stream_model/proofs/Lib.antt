@@ -3,6 +3,7 @@ pub mod Blocks
 pub mod Ends
 pub mod ByTransfer
 pub mod WorkedBlocks
+pub mod WorkedRecorded
 pub mod Stops
 pub mod FileData
 pub mod Transfers

@@ -1,4 +1,5 @@
 pub mod Blocks
 pub mod BlockLaws
+pub mod Recorded
 pub mod Walk
 pub mod WalkLaws

@@ -1,4 +1,4 @@
-use Rattle.std.proofs.Common.{ℕ, arith}
+use Rattle.std.proofs.Common.{arith}
 use Rattle.std.proofs.lemmas.Option.{slice_get_within}
 use Rattle.dada_hdu.proofs.Pairing.{pair_more}
 use Rattle.dada_hdu.proofs.hdu.readers_of.Goals as goal

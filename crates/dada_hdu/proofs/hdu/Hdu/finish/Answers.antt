@@ -1,4 +1,4 @@
-use Rattle.std.proofs.Common.{◌≡◌, List, Option, sym, subst}
+use Rattle.std.proofs.Common.{List, Option, sym, subst}
 use Rattle.ring_ends.specs.declared.passes.EndedReader.{EndedReader}
 use Rattle.ring_ends.specs.Ended.{Gives}
 use Rattle.dada_hdu.specs.Passes.{header_end, data_end}

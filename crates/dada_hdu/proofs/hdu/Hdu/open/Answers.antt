@@ -1,4 +1,4 @@
-use Rattle.std.proofs.Common.{◌≡◌, ◌<◌, ℕ, length, sym, ap, ◌∙◌, arith}
+use Rattle.std.proofs.Common.{◌≡◌, length, sym, ap, ◌∙◌, arith}
 use Rattle.ring_words.specs.declared.shape.RingShape.{RingShape}
 use Rattle.dada_hdu.proofs.Opening.{fresh_pair, all_fresh}
 use Rattle.dada_hdu.proofs.hdu.Hdu.open.Goals as goal

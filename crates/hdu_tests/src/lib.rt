@@ -1,0 +1,9 @@
+//! Tests of two rings as one.
+#![tactic(auto)]
+
+#[cfg(test)]
+mod both;
+#[cfg(test)]
+mod threads;
+#[cfg(test)]
+mod turns;
