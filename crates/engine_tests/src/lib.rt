@@ -6,3 +6,7 @@
 mod direct_folds;
 #[cfg(test)]
 mod folds;
+#[cfg(test)]
+mod made;
+#[cfg(test)]
+mod plans;
