@@ -1,5 +1,5 @@
 -- The file that the second of two words names.
-use Rattle.std.proofs.Common.{◌≡◌, ◌≢◌, ◌↔◌, ℕ, List, [], ◌∷◌, get_or, map, length, string_bytes, subst, ap, ◌∙◌, sym}
+use Rattle.std.proofs.Common.{◌≡◌, ◌≢◌, ◌↔◌, ℕ, List, [], ◌∷◌, get_or, map, length, string_bytes, subst, ap, ◌∙◌}
 use Rattle.std.proofs.lemmas.List.{length-map}
 use Rattle.std.specs.Prelude.{String}
 use Rattle.std.specs.Global.{Global}

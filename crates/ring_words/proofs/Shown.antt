@@ -10,7 +10,7 @@ use Rattle.ring_core.specs.Machine.{Machine, Phase, Reader as Standing, Event, A
 use Rattle.ring_words.specs.declared.views.ReaderView.{ReaderView}
 use Rattle.ring_words.specs.declared.shape.RingShape.{RingShape}
 use Rattle.ring_words.specs.Views.{listed, after_look, after_writer_take, after_seal, after_hit, after_miss, after_give, after_clear, after_retire}
-use Rattle.ring_words.specs.Ring.{Roles, count_word, phase_of, standing, shown}
+use Rattle.ring_words.specs.Ring.{Roles, count_word, phase_in_view, standing, shown}
 use Rattle.ring_words.proofs.Listed.{got_at, at_listed, listed_at, listed_same, listed_set}
 use Rattle.ring_words.proofs.Frames.{put, put_here, put_else, writer_now, reader_now}
 
@@ -23,7 +23,7 @@ registered true got e = cc
 registered false true e = cc
 registered false false e = cc
 
-pub is_registered : (r : ReaderView) → r.retired ≡ false → phase_of r ≢ Phase.Retired
+pub is_registered : (r : ReaderView) → r.retired ≡ false → phase_in_view r ≢ Phase.Retired
 is_registered r is = subst (λ b. phase b r.out (is_some r.got) ≢ Phase.Retired) (sym is)
     (registered r.out (is_some r.got))
 
@@ -35,11 +35,11 @@ pub is_idle : (r : ReaderView) → r.retired ≡ false → r.out ≡ false → I
 is_idle r is in_place = subst (λ (b : Bool × Bool). (phase b.0 b.1 (is_some r.got) ≡ Phase.Ready)
     ⊎ (phase b.0 b.1 (is_some r.got) ≡ Phase.Read)) (λ i. (sym is i, sym in_place i)) (idle (is_some r.got))
 
-pub is_out : (r : ReaderView) → r.retired ≡ false → r.out ≡ true → phase_of r ≡ Phase.Out
+pub is_out : (r : ReaderView) → r.retired ≡ false → r.out ≡ true → phase_in_view r ≡ Phase.Out
 is_out r is out = ap (λ (b : Bool × Bool). phase b.0 b.1 (is_some r.got)) (λ i. (is i, out i))
 
 pub is_read : (r : ReaderView) (e : Entry) → r.retired ≡ false → r.out ≡ false → r.got ≡ Some e →
-    phase_of r ≡ Phase.Read
+    phase_in_view r ≡ Phase.Read
 is_read r e is in_place got = ap (λ (b : Bool × Bool × Bool). phase b.0 b.1 b.2)
     (λ i. (is i, in_place i, is_some (got i)))
 

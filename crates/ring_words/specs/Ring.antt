@@ -126,13 +126,13 @@ pub record HoldsFor (shape : RingShape) (s : State Block View) (x : Roles) : Typ
       × (r ≡ x.reader i) × (x.place i ≡ x.seat)
 
 -- how a reader stands, in the words of the ring as a machine
-abbrev pub phase_of : ReaderView → Phase
-phase_of r =
+abbrev pub phase_in_view : ReaderView → Phase
+phase_in_view r =
     if r.retired then Phase.Retired
     else (if r.out then Phase.Out else (if is_some r.got then Phase.Read else Phase.Ready))
 
 abbrev pub standing : ReaderView → Standing
-standing r = record { cleared = length r.cleared; phase = phase_of r }
+standing r = record { cleared = length r.cleared; phase = phase_in_view r }
 
 -- the machine that the running ring shows
 abbrev pub shown : RingShape → Roles → Machine Entry
