@@ -121,9 +121,15 @@ ExplainsWords program words (OutOfRange opt) =
     TakesWords program words × (first_out_of_range program (matches_on program words) ≡ Some opt)
 ExplainsWords program words Memory = Unit {0}
 
--- the settings that the words of psr_search say, and those of psr_record
+-- the settings that the words of psr_search say, and those of psr_record; and what a fault says of them
 abbrev pub SaySearch : List Text → SettingsSeen → Type 0
 SaySearch = SaySettings PsrSearch
 
 abbrev pub SayRecord : List Text → SettingsSeen → Type 0
 SayRecord = SaySettings PsrRecord
+
+abbrev pub ExplainsSearch : List Text → WordFault → Type 0
+ExplainsSearch = ExplainsWords PsrSearch
+
+abbrev pub ExplainsRecord : List Text → WordFault → Type 0
+ExplainsRecord = ExplainsWords PsrRecord

@@ -33,14 +33,14 @@ pub struct Settings {
 
 impl Settings {
     ghost use Rattle.search_words.specs.Command.{IsSimpleLine};
-    ghost use Rattle.search_words.specs.Settings.{AllInRange, settings_seen, ExplainsWords, SaySearch, SayRecord};
+    ghost use Rattle.search_words.specs.Settings.{AllInRange, settings_seen, ExplainsSearch, ExplainsRecord, SaySearch, SayRecord};
     ghost use Rattle.search_words.specs.declared.table.Program.TheVariants.{PsrSearch, PsrRecord};
 
     /// The settings that the words of `psr_search` say. The first word is the program's name.
     pub fn of(alloc: Global, words: &[String]) -> Result<Settings, WordFault>
         ensures says { IfOk result (λ s. SaySearch (map string_bytes words.now) (settings_seen s)) }
         ensures in_range { IfOk result (λ s. AllInRange (settings_seen s)) }
-        ensures fault { IfErr result (ExplainsWords PsrSearch (map string_bytes words.now)) }
+        ensures fault { IfErr result (ExplainsSearch (map string_bytes words.now)) }
         ensures simple { IsSimpleLine PsrSearch (map string_bytes words.now)
             → result ≢ Err WordFault.Refused }
     {
@@ -51,7 +51,7 @@ impl Settings {
     pub fn of_record(alloc: Global, words: &[String]) -> Result<Settings, WordFault>
         ensures says { IfOk result (λ s. SayRecord (map string_bytes words.now) (settings_seen s)) }
         ensures in_range { IfOk result (λ s. AllInRange (settings_seen s)) }
-        ensures fault { IfErr result (ExplainsWords PsrRecord (map string_bytes words.now)) }
+        ensures fault { IfErr result (ExplainsRecord (map string_bytes words.now)) }
         ensures simple { IsSimpleLine PsrRecord (map string_bytes words.now)
             → result ≢ Err WordFault.Refused }
     {
