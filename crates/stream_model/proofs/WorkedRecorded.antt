@@ -32,8 +32,8 @@ second_name = refl
 second_header : (file_header sample 1).text
     ≡ lines (codes "NBIT 8" ∷ codes "UTC_START 2024-01-02-03:04:05" ∷ codes "            "
     ∷ codes "OBS_OFFSET 0000000000000004" ∷ codes "FILE_NUMBER 000001" ∷ codes "FILE_SIZE 0000000000000004" ∷ [])
-unfolding sample file_header padded digits changed is_overwritten overwritten blanked line_end has_key with_value blanked_line
-    fields_of words_of without_comment is_white word_start word_end value_start value_end value_of
+unfolding sample file_header padded digits changed is_overwritten overwritten blanked line_end has_key with_value
+    blanked_line fields_of words_of without_comment is_white word_start word_end value_start value_end value_of
 second_header = refl
 
 -- six bytes in files of four
@@ -63,13 +63,13 @@ one_file_without_data = refl
 -- ---- refusals
 
 sample_fits : record_refusal sample 4000000 ≡ None
-unfolding sample record_refusal is_time padded digits changed is_overwritten overwritten blanked line_end has_key with_value
-    blanked_line fields_of words_of without_comment is_white word_start word_end value_start value_end value_of
+unfolding sample record_refusal is_time padded digits changed is_overwritten overwritten blanked line_end
+    has_key with_value blanked_line fields_of words_of without_comment is_white word_start word_end value_start value_end value_of
 sample_fits = refl
 
 too_many : record_refusal sample 4000001 ≡ Some TooManyFiles
-unfolding sample record_refusal is_time padded digits changed is_overwritten overwritten blanked line_end has_key with_value
-    blanked_line fields_of words_of without_comment is_white word_start word_end value_start value_end value_of
+unfolding sample record_refusal is_time padded digits changed is_overwritten overwritten blanked line_end
+    has_key with_value blanked_line fields_of words_of without_comment is_white word_start word_end value_start value_end value_of
 too_many = refl
 
 -- a header of 120 bytes, with the text of a time and of a comment
@@ -82,21 +82,21 @@ small time comment = record {
 
 -- the three lines have 74 bytes
 just_fits : record_refusal (small (codes "2024-01-02-03:04:05") (codes "#aaaaaaaaaaaaa")) 4 ≡ None
-unfolding record_refusal is_time padded digits changed is_overwritten overwritten blanked line_end has_key with_value
-    blanked_line fields_of words_of without_comment is_white word_start word_end value_start value_end value_of
+unfolding record_refusal is_time padded digits changed is_overwritten overwritten blanked line_end
+    has_key with_value blanked_line fields_of words_of without_comment is_white word_start word_end value_start value_end value_of
 just_fits = refl
 
 one_too_long : record_refusal (small (codes "2024-01-02-03:04:05") (codes "#aaaaaaaaaaaaaa")) 4 ≡ Some (NoRoom 120 120)
-unfolding record_refusal is_time padded digits changed is_overwritten overwritten blanked line_end has_key with_value
-    blanked_line fields_of words_of without_comment is_white word_start word_end value_start value_end value_of
+unfolding record_refusal is_time padded digits changed is_overwritten overwritten blanked line_end
+    has_key with_value blanked_line fields_of words_of without_comment is_white word_start word_end value_start value_end value_of
 one_too_long = refl
 
 no_seconds : record_refusal (small (codes "2024-01-02-03:04") (codes "#")) 4 ≡ Some BadTime
-unfolding record_refusal is_time padded digits changed is_overwritten overwritten blanked line_end has_key with_value
-    blanked_line fields_of words_of without_comment is_white word_start word_end value_start value_end value_of
+unfolding record_refusal is_time padded digits changed is_overwritten overwritten blanked line_end
+    has_key with_value blanked_line fields_of words_of without_comment is_white word_start word_end value_start value_end value_of
 no_seconds = refl
 
 no_time : record_refusal (small (codes "#") (codes "#")) 4 ≡ Some NoTime
-unfolding record_refusal is_time padded digits changed is_overwritten overwritten blanked line_end has_key with_value
-    blanked_line fields_of words_of without_comment is_white word_start word_end value_start value_end value_of
+unfolding record_refusal is_time padded digits changed is_overwritten overwritten blanked line_end
+    has_key with_value blanked_line fields_of words_of without_comment is_white word_start word_end value_start value_end value_of
 no_time = refl

@@ -29,7 +29,8 @@ is_time text = has_form (codes "0000-00-00-00:00:00") text
 
 -- ---- files
 
--- what is recorded: the header of the transfer, the OBS_OFFSET of its first data byte, and the most data bytes of a file
+-- what is recorded: the header of the transfer, the OBS_OFFSET of its first data byte, and the most data bytes of a
+-- file
 pub record Recording : Type 0 where
   pub header : HeaderText
   pub offset : ℕ
