@@ -63,13 +63,15 @@ one_file_without_data = refl
 -- ---- refusals
 
 sample_fits : record_refusal sample 4000000 ≡ None
-unfolding sample record_refusal is_time padded digits changed is_overwritten overwritten blanked line_end
-    has_key with_value blanked_line fields_of words_of without_comment is_white word_start word_end value_start value_end value_of
+unfolding sample record_refusal is_time padded digits changed is_overwritten overwritten blanked line_end has_key
+    with_value blanked_line fields_of words_of without_comment is_white word_start word_end value_start value_end
+    value_of
 sample_fits = refl
 
 too_many : record_refusal sample 4000001 ≡ Some TooManyFiles
-unfolding sample record_refusal is_time padded digits changed is_overwritten overwritten blanked line_end
-    has_key with_value blanked_line fields_of words_of without_comment is_white word_start word_end value_start value_end value_of
+unfolding sample record_refusal is_time padded digits changed is_overwritten overwritten blanked line_end has_key
+    with_value blanked_line fields_of words_of without_comment is_white word_start word_end value_start value_end
+    value_of
 too_many = refl
 
 -- a header of 120 bytes, with the text of a time and of a comment
@@ -82,21 +84,21 @@ small time comment = record {
 
 -- the three lines have 74 bytes
 just_fits : record_refusal (small (codes "2024-01-02-03:04:05") (codes "#aaaaaaaaaaaaa")) 4 ≡ None
-unfolding record_refusal is_time padded digits changed is_overwritten overwritten blanked line_end
-    has_key with_value blanked_line fields_of words_of without_comment is_white word_start word_end value_start value_end value_of
+unfolding record_refusal is_time padded digits changed is_overwritten overwritten blanked line_end has_key with_value
+    blanked_line fields_of words_of without_comment is_white word_start word_end value_start value_end value_of
 just_fits = refl
 
 one_too_long : record_refusal (small (codes "2024-01-02-03:04:05") (codes "#aaaaaaaaaaaaaa")) 4 ≡ Some (NoRoom 120 120)
-unfolding record_refusal is_time padded digits changed is_overwritten overwritten blanked line_end
-    has_key with_value blanked_line fields_of words_of without_comment is_white word_start word_end value_start value_end value_of
+unfolding record_refusal is_time padded digits changed is_overwritten overwritten blanked line_end has_key with_value
+    blanked_line fields_of words_of without_comment is_white word_start word_end value_start value_end value_of
 one_too_long = refl
 
 no_seconds : record_refusal (small (codes "2024-01-02-03:04") (codes "#")) 4 ≡ Some BadTime
-unfolding record_refusal is_time padded digits changed is_overwritten overwritten blanked line_end
-    has_key with_value blanked_line fields_of words_of without_comment is_white word_start word_end value_start value_end value_of
+unfolding record_refusal is_time padded digits changed is_overwritten overwritten blanked line_end has_key with_value
+    blanked_line fields_of words_of without_comment is_white word_start word_end value_start value_end value_of
 no_seconds = refl
 
 no_time : record_refusal (small (codes "#") (codes "#")) 4 ≡ Some NoTime
-unfolding record_refusal is_time padded digits changed is_overwritten overwritten blanked line_end
-    has_key with_value blanked_line fields_of words_of without_comment is_white word_start word_end value_start value_end value_of
+unfolding record_refusal is_time padded digits changed is_overwritten overwritten blanked line_end has_key with_value
+    blanked_line fields_of words_of without_comment is_white word_start word_end value_start value_end value_of
 no_time = refl
