@@ -4,10 +4,10 @@ use Rattle.std.specs.Prelude.{if◌then◌else◌}
 use Rattle.std.proofs.lemmas.List.{append-nil, take-append-drop}
 use Rattle.std.proofs.lemmas.Option.{slice_get_within}
 use Rattle.ring_blocks.specs.declared.Entry.{Entry}
-use Rattle.stream_model.specs.Blocks.{full_entry, last_entry, cut_entry, full_entries, transfer_entries, whole_stream, blocks_before_stop, abandoned_stream, is_end, joined_bytes, ended_transfers, transfer_bytes}
+use Rattle.stream_model.specs.Blocks.{last_entry, cut_entry, full_entries, transfer_entries, whole_stream, blocks_before_stop, abandoned_stream, is_end, joined_bytes, ended_transfers, transfer_bytes}
 use Rattle.stream_model.specs.BlockLaws.{EntriesAreOfTransfers, StreamsHaveTransfers}
 use Rattle.stream_model.proofs.Blocks.{joined_full}
-use Rattle.stream_model.proofs.Ends.{ended_append, ended_full, ended_transfer, ended_whole}
+use Rattle.stream_model.proofs.Ends.{ended_full, ended_transfer, ended_whole}
 
 -- ---- entries that come
 

@@ -5,7 +5,7 @@ use Rattle.std.proofs.lemmas.Bool.{leb-true, le-leb, or_left, or_right}
 use Rattle.std.proofs.lemmas.List.{append-nil}
 use Rattle.std.proofs.lemmas.List.Folds.{list_any-append}
 use Rattle.ring_blocks.specs.declared.Entry.{Entry}
-use Rattle.stream_model.specs.Blocks.{full_entry, last_entry, cut_entry, full_entries, transfer_entries, whole_stream, blocks_before_stop, abandoned_stream, is_end, is_cut, ended_transfers, has_cut, is_over}
+use Rattle.stream_model.specs.Blocks.{full_entry, last_entry, cut_entry, full_entries, transfer_entries, whole_stream, blocks_before_stop, abandoned_stream, is_cut, ended_transfers, has_cut, is_over}
 use Rattle.stream_model.specs.BlockLaws.{EndsAreCounted, StreamsStopOnce}
 use Rattle.stream_model.proofs.Entries.{front_of_last}
 

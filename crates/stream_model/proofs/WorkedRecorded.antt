@@ -1,6 +1,6 @@
 -- Worked values of recorded files, computed.
-use Rattle.std.proofs.Common.{◌≡◌, ℕ, true, false, List, [], ◌∷◌, ◌++◌, map, None, Some, refl}
-use Rattle.std.specs.Prelude.{codes, replicate}
+use Rattle.std.proofs.Common.{◌≡◌, ℕ, List, [], ◌∷◌, ◌++◌, None, Some, refl}
+use Rattle.std.specs.Prelude.{codes}
 use Rattle.std.specs.Fmt.{digits}
 use Rattle.dada_model.specs.Fields.{is_white, without_comment, words_of, fields_of, value_of}
 use Rattle.dada_model.specs.Change.{word_start, word_end, value_start, value_end, has_key, with_value, blanked_line, overwritten, blanked, line_end, is_overwritten, changed}

@@ -2,7 +2,7 @@
 -- dada_dbdisk, OBS_OFFSET, FILE_NUMBER, FILE_SIZE; the fixed widths and the names are this project's profile).
 use Rattle.std.specs.Prelude.{ℕ, Bool, true, false, ◌&&◌, nat_lt, nat_le, ◌==◌, ◌+◌, ◌-◌, ◌*◌, ◌/◌, if◌then◌else◌, List, [], ◌∷◌, ◌++◌, length, take, drop, replicate, map, Option, None, Some, unwrap_or, codes}
 use Rattle.std.specs.Fmt.{decimal}
-use Rattle.std.specs.List.{flat_map, range_with_len}
+use Rattle.std.specs.List.{range_with_len}
 use Rattle.dada_model.specs.Change.{changed}
 use Rattle.dada_model.specs.Fields.{HeaderText, fields_of, value_of, header_bytes}
 use Rattle.psr_base.specs.Made.{NamedBytes}
