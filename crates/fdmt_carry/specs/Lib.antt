@@ -1,0 +1,5 @@
+pub mod Tables
+pub mod Making
+pub mod Reading
+pub mod Values
+pub mod Carrying

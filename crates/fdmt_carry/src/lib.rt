@@ -1,0 +1,10 @@
+//! Path sums over a stream of spectra, by tables that are merged chunk by chunk.
+//!
+//! Source: Zackay & Ofek, ApJ 835:11, 2017.
+#![tactic(auto)]
+
+mod carry;
+mod rows;
+mod tables;
+
+pub use carry::Carry;

@@ -1,0 +1,36 @@
+// One row: the values that are kept of it, and after these the values of the next spectra.
+ghost use Rattle.std.specs.Prelude.{◌≡◌, ℕ, ◌+◌, length};
+ghost use Rattle.fdmt_carry.specs.Values.{Begins, GoesOn, GoesOnWith, after};
+
+use fdmt_rows::add_rows;
+
+// The row goes on with the sums of two others, and as much as before is kept of its end.
+pub fn add_next(row: &mut [u32], kept: &mut [u32], upper: &[u32], lower: &[u32])
+    requires size { length row.old ≡ length kept.old + length upper.now }
+    requires same { length lower.now ≡ length upper.now }
+    ensures row { (g : ℕ → ℕ) → Begins g kept.old
+        → GoesOn g (length kept.old) upper.now lower.now → Begins g row.new }
+    ensures kept { (g : ℕ → ℕ) → Begins g kept.old
+        → GoesOn g (length kept.old) upper.now lower.now
+        → Begins (after g (length upper.now)) kept.new }
+{
+    let (front, next) = row.split_at_mut(kept.len());
+    front.copy_from_slice(kept);
+    add_rows(next, upper, lower);
+    kept.copy_from_slice(&row[upper.len()..]);
+}
+
+// The row goes on with samples.
+pub fn copy_next(row: &mut [u32], kept: &mut [u32], samples: &[u32])
+    requires { length row.old ≡ length kept.old + length samples.now }
+    ensures row { (g : ℕ → ℕ) → Begins g kept.old
+        → GoesOnWith g (length kept.old) samples.now → Begins g row.new }
+    ensures kept { (g : ℕ → ℕ) → Begins g kept.old
+        → GoesOnWith g (length kept.old) samples.now
+        → Begins (after g (length samples.now)) kept.new }
+{
+    let (front, next) = row.split_at_mut(kept.len());
+    front.copy_from_slice(kept);
+    next.copy_from_slice(samples);
+    kept.copy_from_slice(&row[samples.len()..]);
+}

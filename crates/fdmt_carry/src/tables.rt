@@ -1,0 +1,508 @@
+// The tables of a plan, and how the next spectra are taken into them.
+ghost use Rattle.std.specs.Prelude.{true, false, ◌≡◌, ℕ, ◌+◌, ◌-◌, ◌*◌, ◌%◌, ◌^◌, ◌<◌, ◌≤◌, List, length, slice_index, IfOk};
+ghost use Rattle.search_model.specs.Samples.{Filterbank};
+ghost use Rattle.band_paths.specs.Edges.{channels_of};
+ghost use Rattle.subband_plan.specs.Nodes.{HasKept};
+ghost use Rattle.subband_plan.specs.Rows.{merge_at};
+ghost use Rattle.fdmt_carry.specs.Tables.{Tables as TablesOf, AreTables, IsRow, node_of, node_count, row_count, held_at, place_at, tail_of, start_of, number_of, place_of, hold_of, next_of, stop_of, HasNext, tables as tables_of};
+ghost use Rattle.fdmt_carry.specs.Making.{IsPair, IsSingle, IsMerge, IsRun, IsPart, AreParts, FitNode, HasRoom, AreHalves, AreSamples, ChannelHas, KeepsRow, KeepsNode, IsMade, ChangesRow, IsNodeMade, KeepsPart, ArePartsMade, lower_of};
+ghost use Rattle.fdmt_carry.specs.Reading.{IsWhole, ArePlain};
+
+use crate::rows::{add_next, copy_next};
+use psr_base::Memory;
+use search_model::{
+    halves_add, nothing_before, one_channel_adds, one_channel_is_its_sample, splits_fit,
+    time_shifts,
+};
+use std::alloc::Global;
+use std::marker::Model;
+use subband_plan::{
+    Merge, Node, Plan, Rows, asked_rows_are_there, plans_are_laid, rows_are_few, rows_are_numbered,
+};
+
+/// The tables of a plan, for up to `chunk` spectra at a time: where each row begins if all stand one after another, each
+/// with what is kept of it in front.
+#[derive(Drop)]
+pub struct Tables {
+    plan: Plan,
+    rows: Rows,
+    chunk: u32,
+}
+
+impl Model for Tables {
+    ghost Value = { TablesOf };
+
+    ghost view = { λ t. tables_of t.plan t.rows t.chunk };
+
+    ghost invariant = { λ t. AreTables (tables_of t.plan t.rows t.chunk) };
+}
+
+impl Tables {
+    /// The tables of a plan.
+    pub fn of(alloc: Global, plan: Plan, chunk: u32) -> Result<Tables, Memory>
+        requires some { 1 ≤ chunk }
+        requires most { chunk ≤ 65536 }
+        ensures plan { IfOk result (λ t. t.plan ≡ plan) }
+        ensures chunk { IfOk result (λ t. t.chunk ≡ chunk) }
+    {
+        plans_are_laid();
+        rows_are_numbered();
+        rows_are_few();
+        let rows = Rows::of(alloc, &plan)?;
+        Ok(Tables { plan, rows, chunk })
+    }
+
+    pub fn plan(&self) -> &Plan
+        ensures { result.now ≡ self.now.plan }
+    {
+        &self.plan
+    }
+
+    /// What holds of tables; it does nothing.
+    pub fn hold(&self)
+        ensures { AreTables self.now }
+    {
+        let _chunk = self.chunk;
+    }
+
+    fn node(&self, k: usize) -> Node
+        requires { k < node_count self.now }
+        ensures { result ≡ node_of self.now k }
+    {
+        self.plan.node(k)
+    }
+
+    fn chunk(&self) -> usize
+        ensures { result ≡ self.now.chunk }
+    {
+        self.chunk as usize
+    }
+
+    // Whether node `k` is a single channel.
+    fn is_single(&self, k: usize) -> bool
+        requires { k < node_count self.now }
+        ensures one { result ≡ true → IsSingle self.now k }
+        ensures two { result ≡ false → IsPair self.now k }
+    {
+        self.hold();
+        let node = self.node(k);
+        node.hi - node.lo < 2
+    }
+
+    // The lower half of node `k`.
+    fn lower(&self, k: usize) -> usize
+        requires { k < node_count self.now }
+        ensures { result ≡ lower_of self.now k }
+    {
+        self.hold();
+        self.node(k).lower_number(k)
+    }
+
+    /// The first node is the whole band; it does nothing.
+    pub fn whole_of(&self)
+        ensures { IsWhole self.now }
+    {
+        self.hold();
+    }
+
+    /// Where no sum over the band passes 32 bits, the values are the sums; it does nothing.
+    pub fn plain(&self)
+        ensures { ArePlain self.now }
+    {
+        self.hold();
+        halves_add();
+        one_channel_adds();
+        one_channel_is_its_sample();
+        nothing_before();
+        splits_fit();
+        time_shifts();
+        asked_rows_are_there();
+    }
+
+    // Where node `k` ends, and where it ends with all nodes below it; it does nothing.
+    fn part_of(&self, k: usize)
+        requires { k < node_count self.now }
+        ensures { IsPart self.now k }
+    {
+        self.hold();
+    }
+
+    // Where the halves of node `k` stand; it does nothing.
+    fn parts_of(&self, k: usize)
+        requires { IsPair self.now k }
+        ensures { AreParts self.now k }
+    {
+        self.hold();
+    }
+
+    // The number of the first row of node `k`.
+    fn start(&self, k: usize) -> usize
+        requires { k ≤ node_count self.now }
+        ensures value { result ≡ start_of self.now k }
+        ensures within { start_of self.now k ≤ row_count self.now }
+    {
+        self.hold();
+        self.rows.starts[k]
+    }
+
+    // How many values are kept of row `r`.
+    fn tail(&self, r: usize) -> usize
+        requires { r < row_count self.now }
+        ensures { result ≡ tail_of self.now r }
+    {
+        self.rows.tails[r] as usize
+    }
+
+    // Where these begin.
+    fn held(&self, r: usize) -> usize
+        requires { r ≤ row_count self.now }
+        ensures { result ≡ held_at self.now r }
+    {
+        self.rows.held[r]
+    }
+
+    // Where row `r` begins: each has what is kept of it, and a chunk.
+    #[tactic(auto, unfolding(crate::specs::Tables::place_at))]
+    fn place_at(&self, r: usize) -> usize
+        requires { r ≤ row_count self.now }
+        ensures { result ≡ place_at self.now r }
+    {
+        r * self.chunk as usize + self.held(r)
+    }
+
+    /// How many values all rows have.
+    pub fn size(&self) -> usize
+        ensures { result ≡ place_at self.now (row_count self.now) }
+    {
+        self.place_at(self.rows.tails.len())
+    }
+
+    /// How many values are kept of all rows.
+    pub fn kept_size(&self) -> usize
+        ensures { result ≡ held_at self.now (row_count self.now) }
+    {
+        self.held(self.rows.tails.len())
+    }
+
+    // The number of the row of delay `d` of node `k`.
+    fn number(&self, k: usize, d: u32) -> usize
+        requires node { k < node_count self.now }
+        requires row { HasKept (node_of self.now k) d }
+        ensures value { result ≡ number_of self.now k d }
+        ensures row { IsRow self.now k result }
+    {
+        self.hold();
+        self.start(k) + (d - self.node(k).least_row()) as usize
+    }
+
+    /// Where the sums of the row of delay `d` of node `k` begin.
+    pub fn place(&self, k: usize, d: u32) -> usize
+        requires node { k < node_count self.now }
+        requires row { HasKept (node_of self.now k) d }
+        ensures value { result ≡ place_at self.now (number_of self.now k d)
+            + tail_of self.now (number_of self.now k d) }
+        ensures room { result + self.now.chunk ≤ place_at self.now (row_count self.now) }
+    {
+        self.hold();
+        let r = self.number(k, d);
+        self.place_at(r) + self.tail(r)
+    }
+
+    // The node after node `k` and those below it.
+    fn next(&self, k: usize) -> usize
+        requires { k < node_count self.now }
+        ensures value { result ≡ next_of self.now k }
+        ensures above { k < result }
+        ensures within { result ≤ node_count self.now }
+    {
+        self.hold();
+        let node = self.node(k);
+        k + (2 * (node.hi - node.lo) as usize - 1)
+    }
+
+    // The node after those whose tables stand where node `k` is made: with all below it, or alone.
+    fn stop(&self, k: usize, whole: bool) -> usize
+        requires { k < node_count self.now }
+        ensures value { result ≡ stop_of self.now whole k }
+        ensures above { k < result }
+        ensures within { result ≤ node_count self.now }
+        ensures end { place_of self.now result ≤ place_of self.now (next_of self.now k) }
+        ensures start { place_of self.now (k + 1) ≤ place_of self.now result }
+    {
+        self.hold();
+        self.part_of(k);
+        if whole { self.next(k) } else { k + 1 }
+    }
+
+    // How many values the rows of the nodes from `from` up to `to` have.
+    fn span(&self, from: usize, to: usize) -> usize
+        requires order { from ≤ to }
+        requires node { to ≤ node_count self.now }
+        ensures { place_of self.now from + result ≡ place_of self.now to }
+    {
+        self.hold();
+        self.place_at(self.start(to)) - self.place_at(self.start(from))
+    }
+
+    // How many values are kept of the rows of the nodes from `from` up to `to`.
+    fn kept_span(&self, from: usize, to: usize) -> usize
+        requires order { from ≤ to }
+        requires node { to ≤ node_count self.now }
+        ensures { hold_of self.now from + result ≡ hold_of self.now to }
+    {
+        self.hold();
+        self.held(self.start(to)) - self.held(self.start(from))
+    }
+
+    // Where row `r` of node `k` begins in the table of the node.
+    fn place_in(&self, k: usize, r: usize) -> usize
+        requires node { k < node_count self.now }
+        requires row { IsRow self.now k r }
+        ensures { place_of self.now k + result ≡ place_at self.now r }
+    {
+        self.hold();
+        self.place_at(r) - self.place_at(self.start(k))
+    }
+
+    // Where the values begin that are kept of row `r` of node `k` among those of the node.
+    fn hold_in(&self, k: usize, r: usize) -> usize
+        requires node { k < node_count self.now }
+        requires row { IsRow self.now k r }
+        ensures { hold_of self.now k + result ≡ held_at self.now r }
+    {
+        self.hold();
+        self.held(r) - self.held(self.start(k))
+    }
+
+    // What row `r` is made of.
+    fn merge_at(&self, r: usize) -> Merge
+        requires { r < row_count self.now }
+        ensures { result ≡ merge_at self.now.rows.merges.items r }
+    {
+        self.rows.merges[r]
+    }
+
+    // What the row of delay `d` of node `k` is made of.
+    fn merge_of(&self, k: usize, d: u32) -> Merge
+        requires node { IsPair self.now k }
+        requires row { HasKept (node_of self.now k) d }
+        ensures { IsMerge self.now k d result }
+    {
+        self.hold();
+        self.merge_at(self.number(k, d))
+    }
+
+    // What the row of delay `d` of a single channel is made of; it does nothing.
+    fn run_of(&self, k: usize, d: u32)
+        requires node { IsSingle self.now k }
+        requires later { 1 ≤ d }
+        requires row { HasKept (node_of self.now k) d }
+        ensures { IsRun self.now k d }
+    {
+        self.hold();
+    }
+
+    // Makes the row of delay `d` of node `k` from rows of its halves.
+    fn merge_row(
+        &self,
+        k: usize,
+        d: u32,
+        table: &mut [u32],
+        kept: &mut [u32],
+        upper: &[u32],
+        lower: &[u32],
+        spectra: usize,
+    )
+        requires node { IsPair self.now k }
+        requires row { HasKept (node_of self.now k) d }
+        requires short { spectra ≤ self.now.chunk }
+        requires own { FitNode self.now k (length table.old) (length kept.old) }
+        requires upper { HasRoom self.now (k + 1) (length upper.now) }
+        requires lower { HasRoom self.now (lower_of self.now k) (length lower.now) }
+        ensures made { (f : Filterbank) (u : ℕ) → AreHalves self.now f u spectra k upper.now lower.now
+            → KeepsRow self.now f u k d kept.old
+            → IsMade self.now f u spectra k d table.new kept.new }
+        ensures rest { ChangesRow self.now k (number_of self.now k d) table.old table.new
+            kept.old kept.new }
+    {
+        self.hold();
+        halves_add();
+        time_shifts();
+        let r = self.number(k, d);
+        let merge = self.merge_of(k, d);
+        let low = self.lower(k);
+        let (a, b) = (merge.upper as usize, merge.lower as usize);
+        let at = self.place_in(k, r);
+        let hold = self.hold_in(k, r);
+        let tail = self.tail(r);
+        let above = self.place_in(k + 1, a) + (self.tail(a) - merge.late as usize);
+        let below = self.place_in(low, b) + self.tail(b);
+        add_next(
+            &mut table[at..at + tail + spectra],
+            &mut kept[hold..hold + tail],
+            &upper[above..above + spectra],
+            &lower[below..below + spectra],
+        );
+    }
+
+    // Makes the rows of node `k` from those of its halves.
+    fn merge(
+        &self,
+        k: usize,
+        table: &mut [u32],
+        kept: &mut [u32],
+        upper: &[u32],
+        lower: &[u32],
+        spectra: usize,
+    )
+        requires node { IsPair self.now k }
+        requires short { spectra ≤ self.now.chunk }
+        requires own { FitNode self.now k (length table.old) (length kept.old) }
+        requires upper { HasRoom self.now (k + 1) (length upper.now) }
+        requires lower { HasRoom self.now (lower_of self.now k) (length lower.now) }
+        ensures { (f : Filterbank) (u : ℕ) → AreHalves self.now f u spectra k upper.now lower.now
+            → KeepsNode self.now f u k kept.old
+            → IsNodeMade self.now f u spectra k table.new kept.new }
+    {
+        self.hold();
+        let node = self.node(k);
+        for d in node.least_row()..node.last_row + 1 {
+            self.merge_row(k, d, table, kept, upper, lower, spectra);
+        }
+    }
+
+    // Makes the row of delay `d` of a single channel from those of lesser delays.
+    fn run_row(&self, k: usize, d: u32, table: &mut [u32], kept: &mut [u32], spectra: usize)
+        requires node { IsSingle self.now k }
+        requires later { 1 ≤ d }
+        requires row { HasKept (node_of self.now k) d }
+        requires short { spectra ≤ self.now.chunk }
+        requires own { FitNode self.now k (length table.old) (length kept.old) }
+        ensures made { (f : Filterbank) (u : ℕ) → f.channels ≡ channels_of self.now.plan.edges
+            → ChannelHas self.now f u spectra k d table.old
+            → KeepsRow self.now f u k d kept.old
+            → IsMade self.now f u spectra k d table.new kept.new }
+        ensures rest { ChangesRow self.now k (number_of self.now k d) table.old table.new
+            kept.old kept.new }
+    {
+        self.hold();
+        one_channel_adds();
+        time_shifts();
+        self.run_of(k, d);
+        let (a, b) = (self.number(k, 0), self.number(k, d - 1));
+        let r = self.number(k, d);
+        let at = self.place_in(k, r);
+        let hold = self.hold_in(k, r);
+        let tail = self.tail(r);
+        let above = self.tail(a) - d as usize;
+        let below = self.place_in(k, b) + self.tail(b);
+        let (before, row) = table.split_at_mut(at);
+        add_next(
+            &mut row[..tail + spectra],
+            &mut kept[hold..hold + tail],
+            &before[above..above + spectra],
+            &before[below..below + spectra],
+        );
+    }
+
+    // Makes the row of delay 0 of a single channel, which has its samples.
+    fn copy_row(&self, k: usize, table: &mut [u32], kept: &mut [u32], samples: &[u32])
+        requires node { IsSingle self.now k }
+        requires short { length samples.now ≤ self.now.chunk }
+        requires own { FitNode self.now k (length table.old) (length kept.old) }
+        ensures made { (f : Filterbank) (u : ℕ) → AreSamples self.now f u k samples.now
+            → KeepsRow self.now f u k 0 kept.old
+            → IsMade self.now f u (length samples.now) k 0 table.new kept.new }
+        ensures rest { ChangesRow self.now k (number_of self.now k 0) table.old table.new
+            kept.old kept.new }
+    {
+        self.hold();
+        one_channel_is_its_sample();
+        time_shifts();
+        let tail = self.tail(self.number(k, 0));
+        copy_next(
+            &mut table[..tail + samples.len()],
+            &mut kept[..tail],
+            samples,
+        );
+    }
+
+    // Makes the rows of a single channel from its samples.
+    fn run(&self, k: usize, table: &mut [u32], kept: &mut [u32], samples: &[u32])
+        requires node { IsSingle self.now k }
+        requires short { length samples.now ≤ self.now.chunk }
+        requires own { FitNode self.now k (length table.old) (length kept.old) }
+        ensures { (f : Filterbank) (u : ℕ) → AreSamples self.now f u k samples.now
+            → KeepsNode self.now f u k kept.old
+            → IsNodeMade self.now f u (length samples.now) k table.new kept.new }
+    {
+        self.hold();
+        self.copy_row(k, table, kept, samples);
+        for d in 1..self.node(k).last_row + 1 {
+            self.run_row(k, d, table, kept, samples.len());
+        }
+    }
+
+    // Makes the rows of a single channel from the next spectra.
+    fn run_channel(
+        &self,
+        k: usize,
+        table: &mut [u32],
+        kept: &mut [u32],
+        rows: &[u32],
+        spectra: usize,
+    )
+        requires node { IsSingle self.now k }
+        requires own { FitNode self.now k (length table.old) (length kept.old) }
+        requires rows { length rows.now ≡ channels_of self.now.plan.edges * self.now.chunk }
+        requires short { spectra ≤ self.now.chunk }
+        ensures { (f : Filterbank) (u : ℕ) → HasNext self.now f u spectra rows.now
+            → KeepsNode self.now f u k kept.old
+            → IsNodeMade self.now f u spectra k table.new kept.new }
+    {
+        self.hold();
+        self.part_of(k);
+        let at = self.node(k).lo as usize * self.chunk();
+        self.run(k, table, kept, &rows[at..at + spectra]);
+    }
+
+    /// Makes the rows of node `k` from the next spectra, and those of all nodes below it; `whole` says whether the
+    /// tables of these stand too.
+    pub fn fill(
+        &self,
+        k: usize,
+        table: &mut [u32],
+        kept: &mut [u32],
+        rows: &[u32],
+        spectra: usize,
+        whole: bool,
+    )
+        requires node { k < node_count self.now }
+        requires room { place_of self.now (next_of self.now k)
+            ≤ place_of self.now k + length table.old }
+        requires tails { hold_of self.now k + length kept.old
+            ≡ hold_of self.now (next_of self.now k) }
+        requires rows { length rows.now ≡ channels_of self.now.plan.edges * self.now.chunk }
+        requires short { spectra ≤ self.now.chunk }
+        ensures { (f : Filterbank) (u : ℕ) → HasNext self.now f u spectra rows.now
+            → KeepsPart self.now f u k kept.old
+            → ArePartsMade self.now f u spectra whole k table.new kept.new }
+    {
+        self.hold();
+        self.part_of(k);
+        let (own, below) = table.split_at_mut(self.span(k, k + 1));
+        let (own_kept, below_kept) = kept.split_at_mut(self.kept_span(k, k + 1));
+        if self.is_single(k) {
+            self.run_channel(k, own, own_kept, rows, spectra);
+            return;
+        }
+        self.parts_of(k);
+        let low = self.lower(k);
+        let (upper_kept, lower_kept) = below_kept.split_at_mut(self.kept_span(k + 1, low));
+        self.fill(k + 1, below, upper_kept, rows, spectra, whole);
+        let made = self.span(k + 1, self.stop(k + 1, whole));
+        let (upper, lower) = below.split_at_mut(made);
+        self.fill(low, lower, lower_kept, rows, spectra, whole);
+        self.merge(k, own, own_kept, upper, lower, spectra);
+    }
+}
