@@ -9,8 +9,8 @@ use Rattle.search_model.specs.Subbands.{node_sum}
 use Rattle.search_model.specs.SubbandLaws.{NothingBefore, WholeBandIsPathSum}
 use Rattle.search_model.specs.Sums.{path_sum}
 use Rattle.subband_plan.specs.Nodes.{HasRow, HasKept, root}
-use Rattle.fdmt_carry.specs.Tables.{Tables, AreTables, AreKept, AreMade, HasNext, node_of, node_count, number_of, tail_of, held_at, place_at, stop_of}
-use Rattle.fdmt_carry.specs.Making.{KeepsPart, ArePartsMade}
+use Rattle.fdmt_carry.specs.Tables.{Tables, AreTables, AreKept, TablesStand, HasNext, node_of, node_count, number_of, tail_of, held_at, place_at, stop_of}
+use Rattle.fdmt_carry.specs.Making.{KeepsPart, PartStands}
 use Rattle.fdmt_carry.specs.Reading.{IsWhole, ArePlain}
 use Rattle.fdmt_carry.specs.Carrying.{IsStream, AreNext, StandsFor, carrying}
 use Rattle.fdmt_carry.proofs.Reading.{zeros_stand}
@@ -53,7 +53,7 @@ all_kept t whole max_sample fed last has kept values f stands =
 pub stands_next : (t : Tables) → IsWhole t → (max_sample fed last spectra : ℕ) (has whole : Bool)
     (kept values kept' values' : List ℕ) (f : Filterbank) →
     StandsFor (carrying t max_sample fed last has kept values) f →
-    ArePartsMade t f fed spectra whole 0 values' kept' →
+    PartStands t f fed spectra whole 0 values' kept' →
     StandsFor (carrying t max_sample (fed + spectra) spectra whole kept' values') f
 stands_next t is max_sample fed last spectra has whole kept values kept' values' f stands made =
     let now : fed ≡ fed + spectra - spectra = omega arith in
@@ -61,10 +61,10 @@ stands_next t is max_sample fed last spectra has whole kept values kept' values'
       stream = stands.stream;
       before = omega arith;
       kept = subst (λ to. AreKept t f (fed + spectra) 0 to kept') is.next made.tails;
-      band = subst (λ u. AreMade t f u spectra 0 1 values') now
+      band = subst (λ u. TablesStand t f u spectra 0 1 values') now
           (λ k ge lt. made.tables k ge (let stop = first_stop t is whole in omega arith));
-      nodes = λ has. subst (λ u. AreMade t f u spectra 0 (node_count t) values') now
-          (subst (λ to. AreMade t f fed spectra 0 to values') (whole_stop t is whole has) made.tables);
+      nodes = λ has. subst (λ u. TablesStand t f u spectra 0 (node_count t) values') now
+          (subst (λ to. TablesStand t f fed spectra 0 to values') (whole_stop t is whole has) made.tables);
     }
   where
     first_stop : (t : Tables) → IsWhole t → (whole : Bool) → 0 < stop_of t whole 0
@@ -89,7 +89,7 @@ band_kept t is d has = has_kept t is 0 d (subst (λ n. HasRow n d) (sym is.head)
 -- a value of a row of a node
 pub value_read : (t : Tables) → IsWhole t → ArePlain t → (max_sample u last k to d i : ℕ) (values : List ℕ)
     (f : Filterbank) → max_sample * (channels_of t.plan.edges + t.plan.last) < 2 ^ 32 →
-    IsStream t.plan max_sample f → AreMade t f u last 0 to values → k < to → k < node_count t → HasKept (node_of t k) d →
+    IsStream t.plan max_sample f → TablesStand t f u last 0 to values → k < to → k < node_count t → HasKept (node_of t k) d →
     i < last →
     slice_index values (place_at t (number_of t k d) + tail_of t (number_of t k d) + i)
     ≡ node_sum f t.plan.edges (node_of t k).lo (node_of t k).hi d (u + i) 0

@@ -2,8 +2,8 @@
 use Rattle.std.proofs.Common.{◌≡◌, ℕ, ◌+◌, ◌≤◌, ◌<◌, true, false, Bool, List, length, take, drop, ◌++◌, arith, sym, ap, subst, ◌∙◌, refl}
 use Rattle.search_model.specs.Samples.{Filterbank}
 use Rattle.band_paths.specs.Edges.{channels_of}
-use Rattle.fdmt_carry.specs.Tables.{Tables, AreTables, ListsNode, AreKept, AreMade, node_count, start_of, held_at, place_at, place_of, hold_of, next_of, stop_of}
-use Rattle.fdmt_carry.specs.Making.{IsSingle, IsPart, AreParts, IsNodeMade, KeepsNode, KeepsPart, ArePartsMade, AreHalves, lower_of}
+use Rattle.fdmt_carry.specs.Tables.{Tables, AreTables, ListsNode, AreKept, TablesStand, node_count, start_of, held_at, place_at, place_of, hold_of, next_of, stop_of}
+use Rattle.fdmt_carry.specs.Making.{IsSingle, IsPart, AreParts, NodeStands, KeepsNode, KeepsPart, PartStands, AreHalves, lower_of}
 use Rattle.fdmt_carry.proofs.Stands.{Stands, stands_front, stands_back, stands_longer, stands_join}
 
 -- one node alone
@@ -66,8 +66,8 @@ pub made_halves : (t : Tables) → AreTables t → (f : Filterbank) (u spectra k
     k + 1 < stop_of t whole (k + 1) → stop_of t whole (k + 1) ≤ node_count t →
     lower_of t k < stop_of t whole (lower_of t k) → spectra ≤ t.chunk →
     place_of t (k + 1) + n ≡ place_of t (stop_of t whole (k + 1)) →
-    ArePartsMade t f u spectra whole (k + 1) below upper_tails →
-    ArePartsMade t f u spectra whole (lower_of t k) lower lower_tails →
+    PartStands t f u spectra whole (k + 1) below upper_tails →
+    PartStands t f u spectra whole (lower_of t k) lower lower_tails →
     AreHalves t f u spectra k (take n below) lower
 made_halves t is f u spectra k n whole below upper_tails lower lower_tails channels parts above within below_stop short
     size upper_made lower_made = record {
@@ -102,18 +102,18 @@ tables_joined : (t : Tables) → AreTables t → (f : Filterbank) (u spectra k :
     place_of t k + length own ≡ place_of t (k + 1) →
     place_of t (k + 1) + length upper ≡ place_of t (stop_of t whole (k + 1)) →
     ListsNode t f u (place_at t) spectra k (place_of t k) own →
-    AreMade t f u spectra (k + 1) (stop_of t whole (k + 1)) upper →
-    AreMade t f u spectra (lower_of t k) (stop_of t whole (lower_of t k)) lower →
-    AreMade t f u spectra k (stop_of t whole k) (own ++ (upper ++ lower))
+    TablesStand t f u spectra (k + 1) (stop_of t whole (k + 1)) upper →
+    TablesStand t f u spectra (lower_of t k) (stop_of t whole (lower_of t k)) lower →
+    TablesStand t f u spectra k (stop_of t whole k) (own ++ (upper ++ lower))
 tables_joined t is f u spectra k true own upper lower part parts short own_size upper_size own_made upper_made lower_made =
     let order = parts.order in
     let lower_above = parts.lower_part.above in
     let lower_end = parts.lower_end in
     let size : place_of t (k + 1) + length upper ≡ place_of t (lower_of t k) = upper_size ∙ ap (place_of t) parts.upper_end in
-    let above : AreMade t f u spectra (k + 1) (lower_of t k) upper =
-    subst (λ to. AreMade t f u spectra (k + 1) to upper) parts.upper_end upper_made in
-    let below : AreMade t f u spectra (lower_of t k) (next_of t k) lower =
-    subst (λ to. AreMade t f u spectra (lower_of t k) to lower) parts.lower_end lower_made in
+    let above : TablesStand t f u spectra (k + 1) (lower_of t k) upper =
+    subst (λ to. TablesStand t f u spectra (k + 1) to upper) parts.upper_end upper_made in
+    let below : TablesStand t f u spectra (lower_of t k) (next_of t k) lower =
+    subst (λ to. TablesStand t f u spectra (lower_of t k) to lower) parts.lower_end lower_made in
     stands_join t is f u (place_at t) spectra t.chunk k (k + 1) (next_of t k) own (upper ++ lower) is.placed short
     (omega arith) part.within own_size (only t f u (place_at t) spectra k own own_made)
     (stands_join t is f u (place_at t) spectra t.chunk (k + 1) (lower_of t k) (next_of t k) upper lower is.placed short
@@ -130,10 +130,10 @@ pub parts_joined : (t : Tables) → AreTables t → (f : Filterbank) (u spectra 
     place_of t k + length own ≡ place_of t (k + 1) → hold_of t k + length own_tails ≡ hold_of t (k + 1) →
     place_of t (k + 1) + n ≡ place_of t (stop_of t whole (k + 1)) → length (take n below) ≡ n →
     hold_of t (k + 1) + length upper_tails ≡ hold_of t (lower_of t k) →
-    IsNodeMade t f u spectra k own own_tails →
-    ArePartsMade t f u spectra whole (k + 1) below upper_tails →
-    ArePartsMade t f u spectra whole (lower_of t k) lower lower_tails →
-    ArePartsMade t f u spectra whole k (own ++ (take n below ++ lower)) (own_tails ++ (upper_tails ++ lower_tails))
+    NodeStands t f u spectra k own own_tails →
+    PartStands t f u spectra whole (k + 1) below upper_tails →
+    PartStands t f u spectra whole (lower_of t k) lower lower_tails →
+    PartStands t f u spectra whole k (own ++ (take n below ++ lower)) (own_tails ++ (upper_tails ++ lower_tails))
 parts_joined t is f u spectra k n whole own own_tails below upper_tails lower lower_tails part parts short within own_size
     own_kept_size size n_is upper_size own_made upper_made lower_made = record {
       tables = tables_joined t is f u spectra k whole own (take n below) lower part parts short own_size
@@ -154,8 +154,8 @@ channel_stop t k false next = refl
 pub channel_made : (t : Tables) → AreTables t → (f : Filterbank) (u spectra k : ℕ) (whole : Bool)
     (own own_tails below below_tails : List ℕ) → IsPart t k → next_of t k ≡ k + 1 → spectra ≤ t.chunk →
     place_of t k + length own ≡ place_of t (k + 1) → hold_of t k + length own_tails ≡ hold_of t (k + 1) →
-    IsNodeMade t f u spectra k own own_tails →
-    ArePartsMade t f u spectra whole k (own ++ below) (own_tails ++ below_tails)
+    NodeStands t f u spectra k own own_tails →
+    PartStands t f u spectra whole k (own ++ below) (own_tails ++ below_tails)
 channel_made t is f u spectra k whole own own_tails below below_tails part next short size kept_size made =
     let within = part.within in
     let stop : stop_of t whole k ≡ k + 1 = channel_stop t k whole next in

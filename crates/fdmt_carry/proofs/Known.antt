@@ -4,12 +4,12 @@ use Rattle.std.proofs.Math.Nat.{mul-le-mul_right}
 use Rattle.band_paths.specs.Edges.{channels_of}
 use Rattle.search_model.specs.Paths.{middle}
 use Rattle.subband_plan.specs.declared.rows.Rows.{Rows}
-use Rattle.subband_plan.specs.Nodes.{Planned, IsPlan, HasKept, nodes_of, split_of}
+use Rattle.subband_plan.specs.Nodes.{BandPlan, IsPlan, HasKept, nodes_of, split_of}
 use Rattle.subband_plan.specs.NodeLaws.{PlansAreLaid}
 use Rattle.subband_plan.specs.Rows.{AreRows, merge_at, row_of}
 use Rattle.subband_plan.specs.RowLaws.{RowsAreNumbered, RowsAreFew, AreFew}
-use Rattle.fdmt_carry.specs.Tables.{Tables, AreTables, ArePlaced, IsRow, tables, node_of, node_count, row_count, held_at, place_at, start_of, tail_of, number_of, next_of}
-use Rattle.fdmt_carry.specs.Making.{IsPair, IsSingle, IsMerge, IsRun, IsPart, AreParts, lower_of}
+use Rattle.fdmt_carry.specs.Tables.{Tables, AreTables, ArePlaced, IsRow, tables, node_of, node_count, all_rows, held_at, place_at, start_of, tail_of, number_of, next_of}
+use Rattle.fdmt_carry.specs.Making.{IsPair, IsSingle, IsMerge, IsRunOn, IsPart, AreParts, lower_of}
 
 rows_placed : (t : Tables) → AreRows t.plan t.rows → AreFew t.rows → t.chunk ≤ 65536 → ArePlaced t (place_at t) t.chunk
 unfolding place_at
@@ -42,7 +42,7 @@ rows_held t rows few =
       fit = λ r within. let held = few.held r within in omega arith;
     }
 
-pub tables_known : PlansAreLaid → RowsAreNumbered → RowsAreFew → (plan : Planned) (rows : Rows) (chunk : ℕ) →
+pub tables_known : PlansAreLaid → RowsAreNumbered → RowsAreFew → (plan : BandPlan) (rows : Rows) (chunk : ℕ) →
     IsPlan plan → AreRows plan rows → 1 ≤ chunk → chunk ≤ 65536 → AreTables (tables plan rows chunk)
 tables_known laid numbered few plan rows chunk is are some most =
     let lays = laid plan is in
@@ -62,7 +62,7 @@ tables_known laid numbered few plan rows chunk is are some most =
 
 -- the rows of a node are before those of the next one
 pub starts_rise : (t : Tables) → AreTables t → (j k : ℕ) → j ≤ k → k ≤ node_count t →
-    (start_of t j ≤ start_of t k) × (start_of t k ≤ row_count t)
+    (start_of t j ≤ start_of t k) × (start_of t k ≤ all_rows t)
 starts_rise t is j k le within =
     let rise = is.numbered.rise k (node_count t) within (omega arith) in
     let count = is.rows.count in
@@ -78,7 +78,7 @@ row_known t is k d node has =
     let starts = starts_rise t is k (k + 1) (omega arith) (omega arith) in
     let end = starts.1 in
     let from : start_of t k ≤ r = omega arith in
-    let below : r < row_count t = omega arith in
+    let below : r < all_rows t = omega arith in
     let next = is.held.next r below in
     record {
       below = below;
@@ -137,7 +137,7 @@ merge_known t is k d pair has =
     }
 
 -- what a row of a single channel is made of
-pub run_known : (t : Tables) → AreTables t → (k d : ℕ) → IsSingle t k → 1 ≤ d → HasKept (node_of t k) d → IsRun t k d
+pub run_known : (t : Tables) → AreTables t → (k d : ℕ) → IsSingle t k → 1 ≤ d → HasKept (node_of t k) d → IsRunOn t k d
 run_known t is k d single later has =
     let n = node_of t k in
     let r : ℕ = number_of t k d in

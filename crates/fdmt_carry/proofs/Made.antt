@@ -9,7 +9,7 @@ use Rattle.subband_plan.specs.Nodes.{split_of}
 use Rattle.fdmt_rows.specs.Rows.{wrapping_sum}
 use Rattle.fdmt_carry.specs.Values.{Begins, GoesOn, GoesOnWith, after}
 use Rattle.fdmt_carry.specs.Tables.{Tables, AreTables, IsRow, node_of, node_count, tail_of, number_of, start_of, held_at, place_at, place_of, hold_of, value_of}
-use Rattle.fdmt_carry.specs.Making.{IsPair, IsSingle, IsMerge, IsRun, ChannelHas, AreSamples, AreHalves, KeepsRow, IsMade, ChangesRow, lower_of}
+use Rattle.fdmt_carry.specs.Making.{IsPair, IsSingle, IsMerge, IsRunOn, ChannelHas, AreSamples, AreHalves, KeepsRow, RowStands, ChangesRow, lower_of}
 use Rattle.fdmt_carry.proofs.Known.{row_known}
 use Rattle.fdmt_carry.proofs.Law.{value_later, merged_value, channel_value, sample_value}
 use Rattle.fdmt_carry.proofs.Parts.{part_begins, put_listed, put_stays, parts_go_on}
@@ -23,7 +23,7 @@ pub row_made : (t : Tables) (f : Filterbank) (u spectra k d at hold m n later : 
     ((g : ℕ → ℕ) → Begins g (take n (drop hold kept)) → Goes g → Begins g row) →
     ((g : ℕ → ℕ) → Begins g (take n (drop hold kept)) → Goes g → Begins (after g later) tail) →
     Goes (value_of t f u k d) → KeepsRow t f u k d kept →
-    IsMade t f u spectra k d (put_mid at m table row) (put_mid hold n kept tail)
+    RowStands t f u spectra k d (put_mid at m table row) (put_mid hold n kept tail)
 row_made t f u spectra k d at hold m n later table kept row tail Goes at_is hold_is m_is n_is later_is in_table in_kept
     row_size tail_size rows tails goes keeps =
     let g : ℕ → ℕ = value_of t f u k d in
@@ -89,7 +89,7 @@ halves_go_on adds shifts t is f u spectra k d above below at_upper at_lower len 
 -- of a single channel, rows that are made before go on with it
 pub channel_goes_on : OneChannelAdds → TimeShifts → (t : Tables) → AreTables t →
     (f : Filterbank) (u spectra k d above below at_row len m1 m2 : ℕ) (before : List ℕ) →
-    IsSingle t k → 1 ≤ d → IsRun t k d → ChannelHas t f u spectra k d before →
+    IsSingle t k → 1 ≤ d → IsRunOn t k d → ChannelHas t f u spectra k d before →
     above ≡ tail_of t (number_of t k 0) - d →
     place_of t k + at_row ≡ place_at t (number_of t k (d - 1)) → below ≡ at_row + tail_of t (number_of t k (d - 1)) →
     len ≡ tail_of t (number_of t k d) → m1 ≡ spectra → m2 ≡ spectra → above + m1 ≤ length before →
@@ -110,7 +110,7 @@ channel_goes_on adds shifts t is f u spectra k d above below at_row len m1 m2 be
 
 -- the rows of lesser delays stand before it
 pub before_has : (t : Tables) → AreTables t → (f : Filterbank) (u spectra k d at : ℕ) (table : List ℕ) → k < node_count t →
-    IsRun t k d → spectra ≤ t.chunk → place_of t k + at ≡ place_at t (number_of t k d) →
+    IsRunOn t k d → spectra ≤ t.chunk → place_of t k + at ≡ place_at t (number_of t k d) →
     ChannelHas t f u spectra k d table → ChannelHas t f u spectra k d (take at table)
 before_has t is f u spectra k d at table node run short at_is has =
     let first_row = row_known t is k 0 node run.zero_kept in

@@ -11,7 +11,7 @@ use Rattle.search_model.specs.Subbands.{node_sum}
 use Rattle.search_model.specs.SubbandLaws.{TimeShifts, NothingBefore}
 use Rattle.subband_plan.specs.Nodes.{split_of}
 use Rattle.subband_plan.specs.NodeLaws.{AskedRowsAreThere}
-use Rattle.fdmt_carry.specs.Tables.{Tables, AreTables, node_of, node_count, row_count, start_of, held_at, place_at, next_of}
+use Rattle.fdmt_carry.specs.Tables.{Tables, AreTables, node_of, node_count, all_rows, start_of, held_at, place_at, next_of}
 use Rattle.fdmt_carry.specs.Making.{lower_of}
 use Rattle.fdmt_carry.specs.Reading.{IsWhole, ArePlain}
 use Rattle.fdmt_carry.proofs.Bounds.{SumLaws, sums_bounded}
@@ -27,7 +27,7 @@ whole_known t is =
     let lo : (node_of t 0).lo ≡ 0 = ap (λ n. n.lo) is.head in
     let hi : (node_of t 0).hi ≡ channels_of t.plan.edges = ap (λ n. n.hi) is.head in
     let starts : start_of t 0 ≡ 0 = is.rows.starts.first in
-    let rows : start_of t (node_count t) ≡ row_count t = sym is.rows.count ∙ sym is.rows.tails.entries in
+    let rows : start_of t (node_count t) ≡ all_rows t = sym is.rows.count ∙ sym is.rows.tails.entries in
     record {
       some = omega arith;
       next = omega arith;

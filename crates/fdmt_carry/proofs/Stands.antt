@@ -4,7 +4,7 @@ use Rattle.std.proofs.lemmas.Bool.{cases_lt}
 use Rattle.std.proofs.lemmas.List.{get_or_append_left, get_or-append_right, get_or-take, get_or-drop}
 use Rattle.search_model.specs.Samples.{Filterbank}
 use Rattle.subband_plan.specs.Nodes.{HasKept}
-use Rattle.fdmt_carry.specs.Tables.{Tables, AreTables, ArePlaced, ListsRow, ListsNode, node_of, node_count, row_count, tail_of, number_of, start_of}
+use Rattle.fdmt_carry.specs.Tables.{Tables, AreTables, ArePlaced, ListsRow, ListsNode, node_of, node_count, all_rows, tail_of, number_of, start_of}
 use Rattle.fdmt_carry.specs.Making.{StaysOutside}
 use Rattle.fdmt_carry.proofs.Known.{starts_rise, row_known}
 
@@ -25,7 +25,7 @@ is_at t is at more k d placed node has =
     let starts = starts_rise t is k (k + 1) (omega arith) (omega arith) in
     let end = starts.1 in
     let start : start_of t k ≤ r = omega arith in
-    let below : r < row_count t = omega arith in
+    let below : r < all_rows t = omega arith in
     let next = placed.next r below in
     let rise = placed.rise (r + 1) (start_of t (k + 1)) (omega arith) end in
     record { from = placed.rise (start_of t k) r start (omega arith); to = omega arith }
@@ -92,8 +92,8 @@ row_stays t is f u at more room k d e base xs ys placed few node has_d has_e ord
     let re : ℕ = number_of t k e in
     let least_d = has_d.least in
     let least_e = has_e.least in
-    let below_d : rd < row_count t = (row_known t is k d node has_d).below in
-    let below_e : re < row_count t = (row_known t is k e node has_e).below in
+    let below_d : rd < all_rows t = (row_known t is k d node has_d).below in
+    let below_e : re < all_rows t = (row_known t is k e node has_e).below in
     elim order [
       | inl earlier ↦
           let rise = placed.rise (rd + 1) re (omega arith) (omega arith) in

@@ -1,11 +1,11 @@
 -- What contracts see of a carry, and the streams of samples that it stands for.
 -- Source: Zackay & Ofek, ApJ 835:11, 2017, section 2 (the dispersion transform, table by table); that a stream is fed
--- chunk by chunk is this project's profile.
+-- chunk by chunk is this project's choice.
 use Rattle.std.specs.Prelude.{◌≡◌, ℕ, ◌+◌, ◌-◌, ◌*◌, ◌^◌, ◌≤◌, ◌<◌, true, false, Bool, List, length, slice_index}
 use Rattle.band_paths.specs.Edges.{channels_of}
 use Rattle.search_model.specs.Samples.{Filterbank}
-use Rattle.subband_plan.specs.Nodes.{Planned}
-use Rattle.fdmt_carry.specs.Tables.{Tables, node_count, row_count, held_at, place_at, AreKept, AreMade}
+use Rattle.subband_plan.specs.Nodes.{BandPlan}
+use Rattle.fdmt_carry.specs.Tables.{Tables, node_count, all_rows, held_at, place_at, AreKept, TablesStand}
 
 -- Tables that were fed `fed` spectra in all and `last` of them by the last call; `has_tables` tells whether that was a
 -- feed, after which the tables of all nodes stand. `tables` says where the rows are, `kept` has the values that are kept
@@ -31,7 +31,7 @@ carrying tables max_sample fed last has_tables kept values = record {
 }
 
 -- opened over a plan, and fed nothing
-pub record IsOpened (c : Carrying) (plan : Planned) (chunk max_sample : ℕ) : Type 0 where
+pub record IsOpened (c : Carrying) (plan : BandPlan) (chunk max_sample : ℕ) : Type 0 where
   pub plan_is : c.tables.plan ≡ plan
   pub chunk_is : c.tables.chunk ≡ chunk
   pub max_sample_is : c.max_sample ≡ max_sample
@@ -47,7 +47,7 @@ pub record IsFed (before after : Carrying) (spectra : ℕ) : Type 0 where
   pub last : after.last ≡ spectra
 
 -- an endless stream of samples of the band, none above `max_sample`
-pub record IsStream (plan : Planned) (max_sample : ℕ) (f : Filterbank) : Type 0 where
+pub record IsStream (plan : BandPlan) (max_sample : ℕ) (f : Filterbank) : Type 0 where
   pub channels : f.channels ≡ channels_of plan.edges
   pub small : (c t : ℕ) → f.value c t ≤ max_sample
 
@@ -62,12 +62,12 @@ pub record StandsFor (c : Carrying) (f : Filterbank) : Type 0 where
   pub stream : IsStream c.tables.plan c.max_sample f
   pub before : c.last ≤ c.fed
   pub kept : AreKept c.tables f c.fed 0 (node_count c.tables) c.kept
-  pub band : AreMade c.tables f (c.fed - c.last) c.last 0 1 c.values
-  pub nodes : c.has_tables ≡ true → AreMade c.tables f (c.fed - c.last) c.last 0 (node_count c.tables) c.values
+  pub band : TablesStand c.tables f (c.fed - c.last) c.last 0 1 c.values
+  pub nodes : c.has_tables ≡ true → TablesStand c.tables f (c.fed - c.last) c.last 0 (node_count c.tables) c.values
 
 -- what holds of a carry
 pub record IsSound (c : Carrying) : Type 0 where
   pub fits : c.max_sample * (channels_of c.tables.plan.edges + c.tables.plan.last) < 2 ^ 32
   pub short : c.last ≤ c.tables.chunk
-  pub kept_room : length c.kept ≡ held_at c.tables (row_count c.tables)
-  pub values_room : length c.values ≡ place_at c.tables (row_count c.tables)
+  pub kept_room : length c.kept ≡ held_at c.tables (all_rows c.tables)
+  pub values_room : length c.values ≡ place_at c.tables (all_rows c.tables)

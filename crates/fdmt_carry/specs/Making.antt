@@ -5,7 +5,7 @@ use Rattle.search_model.specs.Samples.{Filterbank}
 use Rattle.subband_plan.specs.NodeLaws.{lower_number}
 use Rattle.subband_plan.specs.declared.rows.Merge.{Merge}
 use Rattle.subband_plan.specs.Nodes.{HasKept, split_of}
-use Rattle.fdmt_carry.specs.Tables.{Tables, IsRow, node_of, node_count, number_of, tail_of, place_at, held_at, place_of, hold_of, next_of, stop_of, ListsRow, ListsNode, AreKept, AreMade}
+use Rattle.fdmt_carry.specs.Tables.{Tables, IsRow, node_of, node_count, number_of, tail_of, place_at, held_at, place_of, hold_of, next_of, stop_of, ListsRow, ListsNode, AreKept, TablesStand}
 
 -- the lower half of node k
 abbrev pub lower_of : Tables → ℕ → ℕ
@@ -36,7 +36,7 @@ pub record IsMerge (t : Tables) (k d : ℕ) (m : Merge) : Type 0 where
   pub enough : m.late ≤ tail_of t m.upper
 
 -- what the row of delay d of a single channel is made of: the row of delay 0, of which enough is kept, and the row before
-pub record IsRun (t : Tables) (k d : ℕ) : Type 0 where
+pub record IsRunOn (t : Tables) (k d : ℕ) : Type 0 where
   pub zero_kept : HasKept (node_of t k) 0
   pub prior_kept : HasKept (node_of t k) (d - 1)
   pub first : place_at t (number_of t k 0) ≡ place_of t k
@@ -103,7 +103,7 @@ pub record AreSamples (t : Tables) (f : Filterbank) (u k : ℕ) (samples : List 
   pub are : (i : ℕ) → i < length samples → slice_index samples i ≡ f.value (node_of t k).lo (u + i) % 2 ^ 32
 
 -- the row is made, and what is kept of it is that of the spectra after it
-pub record IsMade (t : Tables) (f : Filterbank) (u spectra k d : ℕ) (table kept : List ℕ) : Type 0 where
+pub record RowStands (t : Tables) (f : Filterbank) (u spectra k d : ℕ) (table kept : List ℕ) : Type 0 where
   pub row : TableHas t f u spectra k d table
   pub tail : KeepsRow t f (u + spectra) k d kept
 
@@ -118,16 +118,16 @@ pub record ChangesRow (t : Tables) (k r : ℕ) (table table' kept kept' : List �
   pub kept_stays : StaysOutside (hold_of t k) (held_at t r) (held_at t (r + 1)) kept kept'
 
 -- all rows of node k are made
-abbrev pub IsNodeMade : Tables → Filterbank → ℕ → ℕ → ℕ → List ℕ → List ℕ → Type 0
-IsNodeMade t f u spectra k table kept =
-    (d : ℕ) → HasKept (node_of t k) d → IsMade t f u spectra k d table kept
+abbrev pub NodeStands : Tables → Filterbank → ℕ → ℕ → ℕ → List ℕ → List ℕ → Type 0
+NodeStands t f u spectra k table kept =
+    (d : ℕ) → HasKept (node_of t k) d → RowStands t f u spectra k d table kept
 
 -- the rows of node k and of all nodes below it are kept
 abbrev pub KeepsPart : Tables → Filterbank → ℕ → ℕ → List ℕ → Type 0
 KeepsPart t f u k kept = AreKept t f u k (next_of t k) kept
 
 -- the tables of node k are made
-pub record ArePartsMade (t : Tables) (f : Filterbank) (u spectra : ℕ) (whole : Bool) (k : ℕ)
+pub record PartStands (t : Tables) (f : Filterbank) (u spectra : ℕ) (whole : Bool) (k : ℕ)
     (table kept : List ℕ) : Type 0 where
-  pub tables : AreMade t f u spectra k (stop_of t whole k) table
+  pub tables : TablesStand t f u spectra k (stop_of t whole k) table
   pub tails : KeepsPart t f (u + spectra) k kept

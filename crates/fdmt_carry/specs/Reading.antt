@@ -4,7 +4,7 @@ use Rattle.band_paths.specs.Edges.{channels_of}
 use Rattle.search_model.specs.Samples.{Filterbank}
 use Rattle.search_model.specs.Subbands.{node_sum}
 use Rattle.subband_plan.specs.Nodes.{HasKept, root}
-use Rattle.fdmt_carry.specs.Tables.{Tables, node_of, node_count, row_count, tail_of, number_of, held_at, place_at, place_of, hold_of, next_of, value_of}
+use Rattle.fdmt_carry.specs.Tables.{Tables, node_of, node_count, all_rows, tail_of, number_of, held_at, place_at, place_of, hold_of, next_of, value_of}
 
 -- the first node is the whole band, and all nodes are below it
 pub record IsWhole (t : Tables) : Type 0 where
@@ -12,8 +12,8 @@ pub record IsWhole (t : Tables) : Type 0 where
   pub next : next_of t 0 ≡ node_count t
   pub first : place_of t 0 ≡ 0
   pub first_held : hold_of t 0 ≡ 0
-  pub last : place_of t (node_count t) ≡ place_at t (row_count t)
-  pub last_held : hold_of t (node_count t) ≡ held_at t (row_count t)
+  pub last : place_of t (node_count t) ≡ place_at t (all_rows t)
+  pub last_held : hold_of t (node_count t) ≡ held_at t (all_rows t)
   pub band : node_of t 0 ≡ root t.plan
 
 -- where no sum over the band passes 32 bits, the values past those that are kept are the sums themselves

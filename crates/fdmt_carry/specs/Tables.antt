@@ -1,6 +1,6 @@
 -- Where the rows of all tables stand, and what they list.
 -- Source: Zackay & Ofek, ApJ 835:11, 2017, section 2 (the partial sums of the transform); that values are kept from
--- chunk to chunk is this project's profile.
+-- chunk to chunk is this project's choice.
 use Rattle.std.specs.Prelude.{◌≡◌, ℕ, ◌+◌, ◌-◌, ◌*◌, ◌%◌, ◌^◌, ◌≤◌, ◌<◌, Bool, List, length, slice_index, if◌then◌else◌}
 use Rattle.dada_model.specs.Bounds.{most_delay}
 use Rattle.band_paths.specs.Edges.{channels_of}
@@ -8,18 +8,18 @@ use Rattle.search_model.specs.Samples.{Filterbank}
 use Rattle.search_model.specs.Subbands.{node_sum}
 use Rattle.subband_plan.specs.declared.nodes.Node.{Node}
 use Rattle.subband_plan.specs.declared.rows.Rows.{Rows}
-use Rattle.subband_plan.specs.Nodes.{Planned, IsPlan, HasKept, root, nodes_of, node_at}
+use Rattle.subband_plan.specs.Nodes.{BandPlan, IsPlan, HasKept, root, nodes_of, node_at}
 use Rattle.subband_plan.specs.NodeLaws.{AreLaid}
 use Rattle.subband_plan.specs.RowLaws.{AreNumbered, AreFew}
 use Rattle.subband_plan.specs.Rows.{AreRows, row_of}
 
 -- the tables of a plan, for up to `chunk` spectra at a time
 pub record Tables : Type 0 where
-  pub plan : Planned
+  pub plan : BandPlan
   pub rows : Rows
   pub chunk : ℕ
 
-abbrev pub tables : Planned → Rows → ℕ → Tables
+abbrev pub tables : BandPlan → Rows → ℕ → Tables
 tables plan rows chunk = record { plan = plan; rows = rows; chunk = chunk }
 
 -- node k
@@ -47,8 +47,8 @@ abbrev pub next_of : Tables → ℕ → ℕ
 next_of t k = k + (2 * ((node_of t k).hi - (node_of t k).lo) - 1)
 
 -- how many rows there are
-abbrev pub row_count : Tables → ℕ
-row_count t = length t.rows.tails.items
+abbrev pub all_rows : Tables → ℕ
+all_rows t = length t.rows.tails.items
 
 -- where the values begin that are kept of row r
 abbrev pub held_at : Tables → ℕ → ℕ
@@ -68,9 +68,9 @@ hold_of t k = held_at t (start_of t k)
 -- how many values a row has of which so many are kept, row by row, and that they stand one after another
 pub record ArePlaced (t : Tables) (at : ℕ → ℕ) (more : ℕ) : Type 0 where
   pub first : at 0 ≡ 0
-  pub next : (r : ℕ) → r < row_count t → at (r + 1) ≡ at r + (tail_of t r + more)
-  pub rise : (q r : ℕ) → q ≤ r → r ≤ row_count t → at q ≤ at r
-  pub fit : (r : ℕ) → r ≤ row_count t → at r ≤ 2 ^ 43
+  pub next : (r : ℕ) → r < all_rows t → at (r + 1) ≡ at r + (tail_of t r + more)
+  pub rise : (q r : ℕ) → q ≤ r → r ≤ all_rows t → at q ≤ at r
+  pub fit : (r : ℕ) → r ≤ all_rows t → at r ≤ 2 ^ 43
 
 -- what holds of tables; all follows from the first four
 pub record AreTables (t : Tables) : Type 0 where
@@ -87,7 +87,7 @@ pub record AreTables (t : Tables) : Type 0 where
 
 -- row r is one of node k, and stands where the rows of the node stand
 pub record IsRow (t : Tables) (k r : ℕ) : Type 0 where
-  pub below : r < row_count t
+  pub below : r < all_rows t
   pub from : place_of t k ≤ place_at t r
   pub next : place_at t (r + 1) ≡ place_at t r + (tail_of t r + t.chunk)
   pub to : place_at t (r + 1) ≤ place_of t (k + 1)
@@ -121,8 +121,8 @@ abbrev pub AreKept : Tables → Filterbank → ℕ → ℕ → ℕ → List ℕ 
 AreKept t f u from to xs = (k : ℕ) → from ≤ k → k < to → ListsNode t f u (held_at t) 0 k (hold_of t from) xs
 
 -- the list has their rows, with so many sums each
-abbrev pub AreMade : Tables → Filterbank → ℕ → ℕ → ℕ → ℕ → List ℕ → Type 0
-AreMade t f u spectra from to xs = (k : ℕ) → from ≤ k → k < to →
+abbrev pub TablesStand : Tables → Filterbank → ℕ → ℕ → ℕ → ℕ → List ℕ → Type 0
+TablesStand t f u spectra from to xs = (k : ℕ) → from ≤ k → k < to →
     ListsNode t f u (place_at t) spectra k (place_of t from) xs
 
 -- `rows` has the next spectra of a stream, from spectrum u on

@@ -4,8 +4,8 @@ ghost use Rattle.search_model.specs.Samples.{Filterbank};
 ghost use Rattle.band_paths.specs.Edges.{channels_of};
 ghost use Rattle.subband_plan.specs.Nodes.{HasKept};
 ghost use Rattle.subband_plan.specs.Rows.{merge_at};
-ghost use Rattle.fdmt_carry.specs.Tables.{Tables as TablesOf, AreTables, IsRow, node_of, node_count, row_count, held_at, place_at, tail_of, start_of, number_of, place_of, hold_of, next_of, stop_of, HasNext, tables as tables_of};
-ghost use Rattle.fdmt_carry.specs.Making.{IsPair, IsSingle, IsMerge, IsRun, IsPart, AreParts, FitNode, HasRoom, AreHalves, AreSamples, ChannelHas, KeepsRow, KeepsNode, IsMade, ChangesRow, IsNodeMade, KeepsPart, ArePartsMade, lower_of};
+ghost use Rattle.fdmt_carry.specs.Tables.{Tables as TablesOf, AreTables, IsRow, node_of, node_count, all_rows, held_at, place_at, tail_of, start_of, number_of, place_of, hold_of, next_of, stop_of, HasNext, tables as tables_of};
+ghost use Rattle.fdmt_carry.specs.Making.{IsPair, IsSingle, IsMerge, IsRunOn, IsPart, AreParts, FitNode, HasRoom, AreHalves, AreSamples, ChannelHas, KeepsRow, KeepsNode, RowStands, ChangesRow, NodeStands, KeepsPart, PartStands, lower_of};
 ghost use Rattle.fdmt_carry.specs.Reading.{IsWhole, ArePlain};
 
 use crate::rows::{add_next, copy_next};
@@ -139,7 +139,7 @@ impl Tables {
     fn start(&self, k: usize) -> usize
         requires { k ≤ node_count self.now }
         ensures value { result ≡ start_of self.now k }
-        ensures within { start_of self.now k ≤ row_count self.now }
+        ensures within { start_of self.now k ≤ all_rows self.now }
     {
         self.hold();
         self.rows.starts[k]
@@ -147,7 +147,7 @@ impl Tables {
 
     // How many values are kept of row `r`.
     fn tail(&self, r: usize) -> usize
-        requires { r < row_count self.now }
+        requires { r < all_rows self.now }
         ensures { result ≡ tail_of self.now r }
     {
         self.rows.tails[r] as usize
@@ -155,7 +155,7 @@ impl Tables {
 
     // Where these begin.
     fn held(&self, r: usize) -> usize
-        requires { r ≤ row_count self.now }
+        requires { r ≤ all_rows self.now }
         ensures { result ≡ held_at self.now r }
     {
         self.rows.held[r]
@@ -164,7 +164,7 @@ impl Tables {
     // Where row `r` begins: each has what is kept of it, and a chunk.
     #[tactic(auto, unfolding(crate::specs::Tables::place_at))]
     fn place_at(&self, r: usize) -> usize
-        requires { r ≤ row_count self.now }
+        requires { r ≤ all_rows self.now }
         ensures { result ≡ place_at self.now r }
     {
         r * self.chunk as usize + self.held(r)
@@ -172,14 +172,14 @@ impl Tables {
 
     /// How many values all rows have.
     pub fn size(&self) -> usize
-        ensures { result ≡ place_at self.now (row_count self.now) }
+        ensures { result ≡ place_at self.now (all_rows self.now) }
     {
         self.place_at(self.rows.tails.len())
     }
 
     /// How many values are kept of all rows.
     pub fn kept_size(&self) -> usize
-        ensures { result ≡ held_at self.now (row_count self.now) }
+        ensures { result ≡ held_at self.now (all_rows self.now) }
     {
         self.held(self.rows.tails.len())
     }
@@ -201,7 +201,7 @@ impl Tables {
         requires row { HasKept (node_of self.now k) d }
         ensures value { result ≡ place_at self.now (number_of self.now k d)
             + tail_of self.now (number_of self.now k d) }
-        ensures room { result + self.now.chunk ≤ place_at self.now (row_count self.now) }
+        ensures room { result + self.now.chunk ≤ place_at self.now (all_rows self.now) }
     {
         self.hold();
         let r = self.number(k, d);
@@ -276,7 +276,7 @@ impl Tables {
 
     // What row `r` is made of.
     fn merge_at(&self, r: usize) -> Merge
-        requires { r < row_count self.now }
+        requires { r < all_rows self.now }
         ensures { result ≡ merge_at self.now.rows.merges.items r }
     {
         self.rows.merges[r]
@@ -297,7 +297,7 @@ impl Tables {
         requires node { IsSingle self.now k }
         requires later { 1 ≤ d }
         requires row { HasKept (node_of self.now k) d }
-        ensures { IsRun self.now k d }
+        ensures { IsRunOn self.now k d }
     {
         self.hold();
     }
@@ -321,7 +321,7 @@ impl Tables {
         requires lower { HasRoom self.now (lower_of self.now k) (length lower.now) }
         ensures made { (f : Filterbank) (u : ℕ) → AreHalves self.now f u spectra k upper.now lower.now
             → KeepsRow self.now f u k d kept.old
-            → IsMade self.now f u spectra k d table.new kept.new }
+            → RowStands self.now f u spectra k d table.new kept.new }
         ensures rest { ChangesRow self.now k (number_of self.now k d) table.old table.new
             kept.old kept.new }
     {
@@ -362,7 +362,7 @@ impl Tables {
         requires lower { HasRoom self.now (lower_of self.now k) (length lower.now) }
         ensures { (f : Filterbank) (u : ℕ) → AreHalves self.now f u spectra k upper.now lower.now
             → KeepsNode self.now f u k kept.old
-            → IsNodeMade self.now f u spectra k table.new kept.new }
+            → NodeStands self.now f u spectra k table.new kept.new }
     {
         self.hold();
         let node = self.node(k);
@@ -381,7 +381,7 @@ impl Tables {
         ensures made { (f : Filterbank) (u : ℕ) → f.channels ≡ channels_of self.now.plan.edges
             → ChannelHas self.now f u spectra k d table.old
             → KeepsRow self.now f u k d kept.old
-            → IsMade self.now f u spectra k d table.new kept.new }
+            → RowStands self.now f u spectra k d table.new kept.new }
         ensures rest { ChangesRow self.now k (number_of self.now k d) table.old table.new
             kept.old kept.new }
     {
@@ -412,7 +412,7 @@ impl Tables {
         requires own { FitNode self.now k (length table.old) (length kept.old) }
         ensures made { (f : Filterbank) (u : ℕ) → AreSamples self.now f u k samples.now
             → KeepsRow self.now f u k 0 kept.old
-            → IsMade self.now f u (length samples.now) k 0 table.new kept.new }
+            → RowStands self.now f u (length samples.now) k 0 table.new kept.new }
         ensures rest { ChangesRow self.now k (number_of self.now k 0) table.old table.new
             kept.old kept.new }
     {
@@ -434,7 +434,7 @@ impl Tables {
         requires own { FitNode self.now k (length table.old) (length kept.old) }
         ensures { (f : Filterbank) (u : ℕ) → AreSamples self.now f u k samples.now
             → KeepsNode self.now f u k kept.old
-            → IsNodeMade self.now f u (length samples.now) k table.new kept.new }
+            → NodeStands self.now f u (length samples.now) k table.new kept.new }
     {
         self.hold();
         self.copy_row(k, table, kept, samples);
@@ -458,7 +458,7 @@ impl Tables {
         requires short { spectra ≤ self.now.chunk }
         ensures { (f : Filterbank) (u : ℕ) → HasNext self.now f u spectra rows.now
             → KeepsNode self.now f u k kept.old
-            → IsNodeMade self.now f u spectra k table.new kept.new }
+            → NodeStands self.now f u spectra k table.new kept.new }
     {
         self.hold();
         self.part_of(k);
@@ -486,7 +486,7 @@ impl Tables {
         requires short { spectra ≤ self.now.chunk }
         ensures { (f : Filterbank) (u : ℕ) → HasNext self.now f u spectra rows.now
             → KeepsPart self.now f u k kept.old
-            → ArePartsMade self.now f u spectra whole k table.new kept.new }
+            → PartStands self.now f u spectra whole k table.new kept.new }
     {
         self.hold();
         self.part_of(k);

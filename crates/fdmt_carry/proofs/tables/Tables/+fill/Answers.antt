@@ -1,6 +1,6 @@
 use Rattle.std.proofs.Common.{ℕ, ◌≡◌, ◌+◌, ◌≤◌, ◌<◌, length, take, drop, ap, sym, subst, ◌∙◌, arith}
 use Rattle.fdmt_carry.specs.Tables.{place_of, hold_of, stop_of, node_count}
-use Rattle.fdmt_carry.specs.Making.{KeepsNode, KeepsPart, ArePartsMade, AreHalves, lower_of}
+use Rattle.fdmt_carry.specs.Making.{KeepsNode, KeepsPart, PartStands, AreHalves, lower_of}
 use Rattle.fdmt_carry.proofs.Halves.{KeepsRest, own_kept, below_kept, upper_kept, lower_kept, made_halves, parts_joined, channel_made, channel_next, stop_above}
 use Rattle.fdmt_carry.proofs.tables.Tables.+fill.Goals as goal
 
@@ -62,10 +62,10 @@ returns t c = λ f u next keeps.
     subst (λ j. KeepsPart self f u j c.split_at_mut-upper_kept.result.1.now) (sym low_is)
     (subst (λ xs. KeepsPart self f u low xs) (sym c.split_at_mut-upper_kept.ensures.back)
     (lower_kept self f u k n2 below parts upper_kept_size rest)) in
-    let upper_made : ArePartsMade self f u spectra whole (k + 1) c.fill.new.table c.fill.new.kept =
+    let upper_made : PartStands self f u spectra whole (k + 1) c.fill.new.table c.fill.new.kept =
     c.fill.ensures f u next keeps_upper in
-    let lower_made : ArePartsMade self f u spectra whole low c.fill-2.new.table c.fill-2.new.kept =
-    subst (λ j. ArePartsMade self f u spectra whole j c.fill-2.new.table c.fill-2.new.kept) low_is
+    let lower_made : PartStands self f u spectra whole low c.fill-2.new.table c.fill-2.new.kept =
+    subst (λ j. PartStands self f u spectra whole j c.fill-2.new.table c.fill-2.new.kept) low_is
     (c.fill-2.ensures f u next keeps_lower) in
     let front = c.split_at_mut-upper.ensures.front in
     let halves : AreHalves self f u spectra k c.split_at_mut-upper.result.0.now c.fill-2.new.table =

@@ -2,7 +2,7 @@ use Rattle.std.proofs.Common.{ℕ, ◌≡◌, ◌+◌, ◌-◌, ◌*◌, ◌≤�
 use Rattle.std.proofs.Math.Nat.{mod-eq_of_lt}
 use Rattle.band_paths.specs.Edges.{channels_of}
 use Rattle.fdmt_carry.specs.Tables.{node_of}
-use Rattle.fdmt_carry.specs.Making.{AreSamples, IsNodeMade}
+use Rattle.fdmt_carry.specs.Making.{AreSamples, NodeStands}
 use Rattle.fdmt_carry.proofs.Parts.{part_length, part_at}
 use Rattle.fdmt_carry.proofs.tables.Tables.run_channel.Goals as goal
 
@@ -32,4 +32,4 @@ returns c = λ f u next keeps.
           ∙ next.samples (node_of t k).lo i (let channels = next.channels in omega arith) (omega arith)
           ∙ sym (mod-eq_of_lt (next.fits (node_of t k).lo (u + i)));
     } in
-    subst (λ s. IsNodeMade t f u s k c.run.new.table c.run.new.kept) size (c.run.ensures f u samples keeps)
+    subst (λ s. NodeStands t f u s k c.run.new.table c.run.new.kept) size (c.run.ensures f u samples keeps)
