@@ -2,37 +2,46 @@
 PREFIX ?= /usr/local
 SAMPLE = data/pulse.dada
 SEARCH = --mean 1 --sd 2 --snr 7 --max-delay 1 --widths 1
+MADE = --number 5 --nchan 32 --spectra 256 --delay 20 --period 100 --height 8
+PULSES = --mean 16 --sd 2.828 --snr 19 --max-delay 40 --widths 1
 CPU := $(shell grep -qw avx2 /proc/cpuinfo 2>/dev/null && echo --cpu=x86-64-v3)
 
 .PHONY: help demo test install toolchain
 
 help:
-	@echo 'make demo                    finds the pulse in the sample file, within a minute'
+	@echo 'make demo                    makes an observation with three pulses and finds them, within a minute'
 	@echo 'make test                    the gate: every proof, must-fail edit, test and program'
-	@echo 'make install PREFIX=DIR      proves, builds and installs psr_search and ring_trace (PREFIX: $(PREFIX))'
+	@echo 'make install PREFIX=DIR      proves, builds and installs psr_search, psr_make and ring_trace (PREFIX: $(PREFIX))'
 
 toolchain:
 	@command -v rt >/dev/null || { echo 'this needs rt, the command of the Rattle toolchain, on the PATH' >&2; exit 1; }
 
-# rt try builds without proving, in some twenty seconds; make install builds what is proved.
+# rt try builds without proving, in some twenty seconds for each program; make install builds what is proved.
 demo: toolchain
-	@echo 'Three spectra of two channels: 10 in the upper channel at spectrum 0, and 20 in the lower one at spectrum 1,'
-	@echo 'so a pulse that reaches the foot of the band one spectrum after its top. (Built unproved, by rt try.)'
+	@echo 'An observation of 256 spectra of 32 channels: noise of mean 16 and deviation 2.828, and every 100 spectra a pulse that'
+	@echo 'takes 20 spectra from the top of the band to its foot and adds 8 to each sample. (Built unproved, by rt try.)'
 	@echo
-	@echo '$$ psr_search $(SEARCH) pulse.dada'
-	@cd crates/psr_search_main && rt try -- $(SEARCH) $(SAMPLE) | grep -E '^(PULSE|END) '
+	@echo '$$ psr_make $(MADE) made.dada'
+	@echo '$$ psr_search $(PULSES) made.dada'
+	@folder=$$(mktemp -d) && trap 'rm -rf "$$folder"' EXIT && \
+		(cd crates/psr_make_main && rt try -- $(MADE) "$$folder/made.dada" >/dev/null) && \
+		(cd crates/psr_search_main && rt try -- $(PULSES) "$$folder/made.dada" | grep -E '^(PULSE|END) ')
 	@echo
-	@echo 'PULSE: it ends at spectrum 1 with delay 1, a dispersion measure of 0.104 pc/cm^3; a box of 1 spectrum, the sum'
-	@echo '30 of 3 cells. END: 1 pulse, 0 folds, 3 spectra. Signal to noise: (30 - 3*1) / (2 * sqrt 3) = 7.8.'
+	@echo 'PULSE: the spectrum at which it ends, its delay, its dispersion measure in pc/cm^3, the width of the box, the sum and'
+	@echo 'the number of samples in it. The three pulses end at spectra 20, 120 and 220; their delay is 20, and 19 comes close.'
+	@echo 'END: 5 pulses, 0 folds, 256 spectra.'
 
 test: toolchain
 	@.ci/run
 
-# A program is built by running it once: psr_search on its sample, ring_trace on its own.
+# A program is built by running it once: psr_search on its sample, ring_trace on its own, psr_make in a folder of its own.
 install: toolchain
 	@cd crates/psr_search_main && rt run $(CPU) -- $(SEARCH) $(SAMPLE) >/dev/null
 	@cd crates/ring_trace_main && rt run $(CPU) -- data/trace >/dev/null
+	@folder=$$(mktemp -d) && trap 'rm -rf "$$folder"' EXIT && \
+		cd crates/psr_make_main && rt run $(CPU) -- "$$folder/made.dada" >/dev/null
 	@mkdir -p $(PREFIX)/bin
 	@install crates/psr_search_main/out/psr_search_main $(PREFIX)/bin/psr_search
+	@install crates/psr_make_main/out/psr_make_main $(PREFIX)/bin/psr_make
 	@install crates/ring_trace_main/out/ring_trace_main $(PREFIX)/bin/ring_trace
-	@echo 'installed psr_search and ring_trace into $(PREFIX)/bin'
+	@echo 'installed psr_search, psr_make and ring_trace into $(PREFIX)/bin'

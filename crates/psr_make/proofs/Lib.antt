@@ -1,0 +1,14 @@
+pub mod Adding
+pub mod Bands
+pub mod Bytes
+pub mod Clap
+pub mod DataBytes
+pub mod Digits
+pub mod Filing
+pub mod NoiseSteps
+pub mod Outcomes
+pub mod Parts
+pub mod Ranges
+pub mod Passing
+pub mod SplitMix
+pub mod WorkedNoise

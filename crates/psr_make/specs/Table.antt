@@ -1,0 +1,36 @@
+-- The table of options: their names, which numbers are values, and which one stands where no word gives one.
+-- Source: this project's choice.
+use Rattle.std.specs.Prelude.{ℕ, List, [], ◌∷◌, codes}
+use Rattle.psr_make.specs.declared.opt.Opt.{Opt}
+use Rattle.psr_make.specs.declared.opt.Opt.TheVariants.{Number, Nchan, Spectra, Delay, Period, Height, Nbit, Npol}
+use Rattle.psr_make.specs.declared.opt.Limits.TheVariants.{Between, Either}
+use Rattle.psr_make.specs.declared.opt.Row.{Row}
+
+-- the options in the order in which their values are judged
+abbrev pub all_options : List Opt
+all_options = Number ∷ Nchan ∷ Spectra ∷ Delay ∷ Period ∷ Height ∷ Nbit ∷ Npol ∷ []
+
+-- the name of an option, without its dashes
+abbrev pub option_name : Opt → List ℕ
+option_name Number = codes "number"
+option_name Nchan = codes "nchan"
+option_name Spectra = codes "spectra"
+option_name Delay = codes "delay"
+option_name Period = codes "period"
+option_name Height = codes "height"
+option_name Nbit = codes "nbit"
+option_name Npol = codes "npol"
+
+abbrev pub between : ℕ → ℕ → ℕ → Row
+between least most default = record { limits = Between least most; default = default }
+
+-- the least value, the greatest and the one without a word; delay and period are in spectra
+abbrev pub option_row : Opt → Row
+option_row Number = between 0 9223372036854775807 0
+option_row Nchan = between 2 4096 64
+option_row Spectra = between 0 1048576 4096
+option_row Delay = between 0 8192 64
+option_row Period = between 1 1048576 256
+option_row Height = between 0 200 2
+option_row Nbit = record { limits = Either 8 16; default = 8 }
+option_row Npol = between 1 2 1

@@ -1,0 +1,72 @@
+// What an observation is made from.
+ghost use Rattle.std.specs.Prelude.{◌≡◌, ◌↔◌, ◌≤◌, ◌⊎◌, ◌*◌, IsTrue};
+ghost use Rattle.psr_make.specs.Made.{SpecInRange, value_bytes, cell_bytes, spectrum_bytes};
+
+/// What an observation is made from: the number of its draws, its shape, and its pulses.
+#[derive(Clone, Copy, PartialEq, Eq, Debug)]
+pub struct MakeSpec {
+    pub number: u64,
+    pub channels: u32,
+    pub spectra: u32,
+    /// How many spectra a pulse takes from the top of the band to its foot.
+    pub delay: u32,
+    /// How many spectra there are from one pulse to the next.
+    pub period: u32,
+    /// What a pulse adds to each value that it passes.
+    pub height: u32,
+    /// The bits of a value: 8 or 16.
+    pub nbit: u32,
+    /// The polarisations, of which each has a value: 1 or 2.
+    pub npol: u32,
+}
+
+impl MakeSpec {
+    /// Whether each field lies in its range.
+    pub fn in_range(&self) -> bool
+        ensures { IsTrue result ↔ SpecInRange self.now }
+    {
+        self.number <= 9223372036854775807
+            && (2..=4096).contains(&self.channels)
+            && self.spectra <= 1048576
+            && self.delay <= 8192
+            && (1..=1048576).contains(&self.period)
+            && self.height <= 200
+            && matches!(self.nbit, 8 | 16)
+            && matches!(self.npol, 1 | 2)
+    }
+
+    // The bytes of a value.
+    pub(crate) fn value_bytes(&self) -> usize
+        requires { SpecInRange self.now }
+        ensures { result ≡ value_bytes self.now }
+    {
+        self.nbit as usize / 8
+    }
+
+    // The bytes of a cell: the values of all polarisations of a channel in a spectrum.
+    pub(crate) fn cell_bytes(&self) -> usize
+        requires { SpecInRange self.now }
+        ensures bytes { result ≡ cell_bytes self.now }
+        ensures most { result ≤ 4 }
+    {
+        self.npol as usize * self.nbit as usize / 8
+    }
+
+    // The bytes of a spectrum.
+    pub(crate) fn spectrum_bytes(&self) -> usize
+        requires { SpecInRange self.now }
+        ensures bytes { result ≡ spectrum_bytes self.now }
+        ensures some { 2 ≤ result }
+        ensures most { result ≤ 16384 }
+    {
+        self.channels as usize * self.cell_bytes()
+    }
+
+    // The bytes of all spectra.
+    pub(crate) fn data_bytes(&self) -> usize
+        requires { SpecInRange self.now }
+        ensures { result ≡ self.now.spectra * spectrum_bytes self.now }
+    {
+        self.spectra as usize * self.spectrum_bytes()
+    }
+}

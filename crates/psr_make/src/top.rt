@@ -1,0 +1,46 @@
+// The top call.
+ghost use Rattle.std.specs.Prelude.{map, string_bytes};
+ghost use Rattle.psr_make.specs.Outcome.{Outcome, Ends};
+
+use crate::making::{MakeStop, make};
+use crate::request::Request;
+use crate::stop::Stop;
+use psr_base::{Files, Sink, write_all};
+use std::alloc::Global;
+
+/// Makes the observation that the words ask for in a new file. The first word is the program's name. The exit status is
+/// answered; where it isn't 0, a line to `notes` says why. A fault of `notes` changes nothing.
+pub fn run_make<F: Files, E: Sink>(
+    alloc: Global,
+    words: &[String],
+    files: &mut F,
+    notes: &mut E,
+) -> u8
+    requires { ¬ F.is_open files.old }
+    ensures { Outcome (map string_bytes words.now) (F.seen files.old) (F.seen files.new)
+        (E.seen notes.old) (E.seen notes.new) result }
+{
+    match make_asked(alloc, words, files) {
+        Ok(()) => 0,
+        Err(stop) => {
+            let _ = write_all(notes, stop.note().as_bytes());
+            stop.status()
+        }
+    }
+}
+
+// The same without the notes.
+fn make_asked<F: Files>(alloc: Global, words: &[String], files: &mut F) -> Result<(), Stop>
+    requires { ¬ F.is_open files.old }
+    ensures { Ends (map string_bytes words.now) (F.seen files.old) (F.seen files.new) result }
+{
+    let request = match Request::of(alloc, words) {
+        Ok(request) => request,
+        Err(stop) => return Err(stop),
+    };
+    match make(alloc, &request.spec, request.name, files) {
+        Ok(()) => Ok(()),
+        Err(MakeStop::Memory) => Err(Stop::Memory),
+        Err(MakeStop::FileFault) => Err(Stop::RecordFault),
+    }
+}

@@ -1,0 +1,35 @@
+// The pulses, by the runs of spectra at which they pass a channel.
+ghost use Rattle.std.specs.Prelude.{◌≤◌};
+ghost use Rattle.dada_model.specs.Bounds.{most_delay};
+ghost use Rattle.psr_make.specs.Made.{SpecInRange};
+ghost use Rattle.psr_make.specs.Runs.{IsNextRun};
+
+use crate::spec::MakeSpec;
+
+/// Spectra that follow one another, without the last one.
+#[derive(Clone, Copy)]
+pub(crate) struct Run {
+    pub(crate) start: usize,
+    pub(crate) end: usize,
+}
+
+/// The next spectra within `from..to` at which a pulse passes a channel that pulses enter and leave after
+/// these delays. Where there are none, the run is empty and stands at `to`.
+pub(crate) fn next_run(spec: &MakeSpec, enters: usize, leaves: usize, from: usize, to: usize) -> Run
+    requires spec { SpecInRange spec.now }
+    requires passage { enters ≤ leaves }
+    requires delay { leaves ≤ most_delay }
+    requires order { from ≤ to }
+    requires end { to ≤ spec.now.spectra }
+    ensures { IsNextRun spec.now enters leaves from to result }
+{
+    let period = spec.period as usize;
+    let start = from.saturating_sub(leaves).div_ceil(period) * period;
+    if spec.delay as usize + start >= spec.spectra as usize {
+        return Run { start: to, end: to };
+    }
+    Run {
+        start: from.max(enters + start).min(to),
+        end: to.min(leaves + start + 1),
+    }
+}
