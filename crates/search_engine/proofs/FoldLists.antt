@@ -1,5 +1,5 @@
 -- The folds of a shard's delays.
-use Rattle.std.proofs.Common.{◌≡◌, ℕ, ◌+◌, ◌-◌, ◌≤◌, ◌<◌, Bool, true, false, cond, List, [], ◌∷◌, refl, sym, ap, ◌∙◌, arith, ltb, leb}
+use Rattle.std.proofs.Common.{◌≡◌, ℕ, ◌+◌, ◌-◌, Bool, true, false, cond, List, [], ◌∷◌, refl, sym, ap, ◌∙◌, arith, ltb}
 use Rattle.std.specs.Prelude.{filter, ◌&&◌, ◌==◌, ◌%◌, ◌^◌}
 use Rattle.std.specs.List.{range_with_len, flat_map}
 use Rattle.std.proofs.lemmas.Bool.{leb-false}
@@ -8,9 +8,9 @@ use Rattle.search_model.specs.declared.candidate.Candidate.TheVariants.{Fold}
 use Rattle.search_model.specs.declared.search.Search.{Search}
 use Rattle.search_model.specs.Samples.{Filterbank}
 use Rattle.search_model.specs.Folds.{series, halvings, fold_sum}
-use Rattle.search_model.specs.Search.{folds_are_on, periods, delays, fold_delays}
-use Rattle.search_model.specs.Candidates.{if_detected, fold_at, folds_of_trial, folds_at, folds_of_delay, folds, within_delays}
-use Rattle.search_engine.specs.FoldSearch.{AreDelays, is_folded, folds_if_folded, folds_of_delays}
+use Rattle.search_model.specs.Search.{folds_are_on, periods, delays}
+use Rattle.search_model.specs.Candidates.{fold_at, folds_of_trial, folds_at, folds_of_delay, folds, within_delays}
+use Rattle.search_engine.specs.FoldSearch.{AreDelays, folds_if_folded, folds_of_delays}
 use Rattle.search_engine.proofs.Ranges.{flat_agree}
 use Rattle.search_engine.proofs.Within.{keep_none, keep_if, keep_flat, lies, has_delay, flat_filter, filter_flat, flat_part}
 

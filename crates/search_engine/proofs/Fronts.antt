@@ -1,10 +1,8 @@
 -- The folds of a series are those of the front that folds can use.
-use Rattle.std.proofs.Common.{◌≡◌, ℕ, ◌+◌, ◌-◌, ◌*◌, ◌^◌, ◌≤◌, ◌<◌, List, [], length, take, drop, refl, sym, ap, subst, ◌∙◌, arith, cond, ltb}
-use Rattle.std.specs.List.{range_with_len, flat_map}
+use Rattle.std.proofs.Common.{◌≡◌, ℕ, ◌+◌, ◌-◌, ◌*◌, ◌^◌, ◌≤◌, ◌<◌, List, [], length, take, drop, sym, ap, ◌∙◌, arith, cond, ltb}
 use Rattle.std.proofs.Math.Nat.{mul-le-mul_right}
 use Rattle.std.proofs.lemmas.List.{take-take}
 use Rattle.std.proofs.lemmas.List.FromFn.{length-map-range_with_len}
-use Rattle.search_model.specs.declared.candidate.Candidate.{Candidate}
 use Rattle.search_model.specs.declared.candidate.Candidate.TheVariants.{Fold}
 use Rattle.search_model.specs.declared.search.Search.{Search}
 use Rattle.search_model.specs.Samples.{Filterbank}

@@ -1,5 +1,5 @@
 -- The most halvings that fit, number by number.
-use Rattle.std.proofs.Common.{◌≡◌, ℕ, ◌+◌, ◌-◌, ◌*◌, ◌^◌, ◌≤◌, ◌<◌, inl, inr, List, [], ◌∷◌, ◌++◌, length, take, min, max, zero, suc, refl, sym, ap, ◌∙◌, add-one, pow-suc, arith, leb}
+use Rattle.std.proofs.Common.{◌≡◌, ℕ, ◌+◌, ◌-◌, ◌*◌, ◌^◌, ◌≤◌, ◌<◌, inl, inr, List, [], ◌∷◌, ◌++◌, length, take, max, zero, suc, sym, ap, ◌∙◌, add-one, pow-suc, arith, leb}
 use Rattle.std.specs.Prelude.{fold, filter}
 use Rattle.std.specs.List.{range_with_len}
 use Rattle.std.proofs.Math.Nat.{mul-le-mul_right}

@@ -1,6 +1,5 @@
 -- Worked values of the definitions of folds, computed.
-use Rattle.std.proofs.Common.{◌≡◌, ℕ, Bool, true, false, List, [], ◌∷◌, refl}
-use Rattle.search_model.specs.declared.candidate.Candidate.{Candidate}
+use Rattle.std.proofs.Common.{◌≡◌, true, false, [], ◌∷◌, refl}
 use Rattle.search_model.specs.declared.candidate.Candidate.TheVariants.{Fold}
 use Rattle.search_model.specs.declared.search.Search.{Search}
 use Rattle.search_model.specs.Candidates.{plain_cells}

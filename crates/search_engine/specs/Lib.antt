@@ -1,4 +1,9 @@
-pub mod Plan
+pub mod Engine
 pub mod FoldSearch
 pub mod Judging
+pub mod Levels
+pub mod Plan
+pub mod PulseSearch
+pub mod Pulses
 pub mod Series
+pub mod Sums

@@ -1,12 +1,17 @@
 //! The search of one shard: data bytes, fed in pieces, to a book of candidates.
 #![tactic(auto)]
 
+mod engine;
 mod fault;
 mod fold_search;
 mod judging;
+mod levels;
 mod plan;
+mod pulse_search;
 mod series;
+mod shard;
 
+pub use engine::Engine;
 pub use fault::PlanFault;
 pub use fold_search::FoldSearch;
 pub use plan::check_plan;

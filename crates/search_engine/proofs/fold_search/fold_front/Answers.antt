@@ -3,7 +3,7 @@ use Rattle.std.proofs.lemmas.Bool.{cond-true}
 use Rattle.search_model.specs.Folds.{series}
 use Rattle.search_model.specs.Candidates.{plain_cells, folds_of_delay}
 use Rattle.search_engine.specs.Judging.{folds_of_values}
-use Rattle.search_engine.specs.FoldSearch.{is_folded, most_used, folds_if_folded}
+use Rattle.search_engine.specs.FoldSearch.{is_folded, folds_if_folded}
 use Rattle.search_engine.proofs.Adding.{adds_same}
 use Rattle.search_engine.proofs.Fronts.{values_front, delay_folds}
 use Rattle.search_engine.proofs.fold_search.fold_front.Goals as goal

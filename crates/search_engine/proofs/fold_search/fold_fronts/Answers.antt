@@ -1,6 +1,5 @@
-use Rattle.std.proofs.Common.{◌≡◌, ◌∙◌, ℕ, ◌+◌, ◌<◌, ◌≤◌, List, length, get_or, sym, ap, subst, refl, arith}
+use Rattle.std.proofs.Common.{◌≡◌, ◌∙◌, ℕ, ◌+◌, ◌<◌, length, sym, ap, subst, refl, arith}
 use Rattle.std.proofs.lemmas.List.{get_or_read}
-use Rattle.search_model.specs.declared.candidate.Candidate.{Candidate}
 use Rattle.search_model.specs.Folds.{series}
 use Rattle.search_model.specs.Candidates.{plain_cells}
 use Rattle.search_engine.specs.Series.{Front, no_front, IsFrontOf}

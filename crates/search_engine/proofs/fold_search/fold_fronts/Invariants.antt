@@ -1,4 +1,4 @@
-use Rattle.std.proofs.Common.{ℕ, ◌+◌, ◌-◌, ◌*◌, ◌^◌, ◌≤◌, List}
+use Rattle.std.proofs.Common.{ℕ, ◌+◌, ◌*◌, ◌^◌, ◌≤◌, List}
 use Rattle.search_model.specs.Samples.{Filterbank}
 use Rattle.search_model.specs.Candidates.{plain_cells}
 use Rattle.fast_fold.specs.Folding.{HaveSameRoom}

@@ -1,4 +1,4 @@
-use Rattle.std.proofs.Common.{ℕ, ◌+◌, ◌≤◌, Some}
+use Rattle.std.proofs.Common.{◌+◌, ◌≤◌, Some}
 use Rattle.std.specs.List.{range_with_len, flat_map}
 use Rattle.search_engine.specs.Judging.{Adds, reaching_at}
 use Rattle.search_engine.proofs.judging.add_reaching.Given as goal

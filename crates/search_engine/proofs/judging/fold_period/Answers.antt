@@ -1,4 +1,4 @@
-use Rattle.std.proofs.Common.{◌≡◌, ℕ, ◌+◌, ◌*◌, ◌^◌, ◌<◌, ◌≤◌, List, get_or, arith}
+use Rattle.std.proofs.Common.{ℕ, ◌*◌, ◌^◌, ◌≤◌, get_or, arith}
 use Rattle.std.proofs.Math.Nat.{mul-le-mul_left}
 use Rattle.std.proofs.Math.Pow.{pow_mono}
 use Rattle.search_engine.proofs.Halvings.{rows_rise}

@@ -1,4 +1,4 @@
-use Rattle.std.proofs.Common.{ℕ, ◌+◌, ◌-◌, ◌*◌, ◌^◌, ◌≤◌}
+use Rattle.std.proofs.Common.{◌+◌, ◌-◌, ◌*◌, ◌^◌, ◌≤◌}
 use Rattle.std.specs.List.{range_with_len, flat_map}
 use Rattle.search_model.specs.Candidates.{plain_cells}
 use Rattle.fast_fold.specs.Folding.{HaveSameRoom}

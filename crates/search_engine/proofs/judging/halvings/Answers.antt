@@ -1,4 +1,4 @@
-use Rattle.std.proofs.Common.{◌≡◌, ℕ, ◌+◌, ◌-◌, ◌*◌, ◌^◌, ◌<◌, ◌≤◌, sym, ap, ◌∙◌, arith}
+use Rattle.std.proofs.Common.{◌≡◌, ◌+◌, ◌-◌, ◌*◌, ◌^◌, ◌≤◌, sym, ap, ◌∙◌, arith}
 use Rattle.search_model.specs.Folds.{halvings as halvings_of}
 use Rattle.search_engine.proofs.Halvings.{halvings_all, halvings_stay, twice_as_long}
 use Rattle.search_engine.proofs.judging.halvings.Goals as goal

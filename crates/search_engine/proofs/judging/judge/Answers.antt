@@ -1,4 +1,4 @@
-use Rattle.std.proofs.Common.{◌≡◌, ◌∙◌, [], ap, sym, arith}
+use Rattle.std.proofs.Common.{◌∙◌, [], ap, sym, arith}
 use Rattle.search_engine.specs.Judging.{reaching_folds, detected_folds}
 use Rattle.search_engine.proofs.Adding.{adds_none, adds_same, none_reach, none_at_all, reaching_are_detected}
 use Rattle.search_engine.proofs.judging.judge.Goals as goal

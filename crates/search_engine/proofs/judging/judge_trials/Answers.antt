@@ -1,4 +1,4 @@
-use Rattle.std.proofs.Common.{◌≡◌, ℕ, ◌+◌, ◌^◌, List, sym, ap, ◌∙◌, arith}
+use Rattle.std.proofs.Common.{◌≡◌, ℕ, ◌+◌, ◌^◌, List, ap, arith}
 use Rattle.std.specs.List.{range_with_len, flat_map}
 use Rattle.search_model.specs.declared.candidate.Candidate.{Candidate}
 use Rattle.search_engine.specs.Judging.{folds_of_trial}
@@ -19,7 +19,8 @@ loop-trial-preserved c =
           (before.list cells s values from stands)
           (adds_same c.loop-trial.book c.judge.new.book _ (piece j)
           (profile_folds c.folds_see_rows.ensures cells s of.delay of.period of.halvings j _ _ c.profile.result.now
-          values c.requires.level.period c.requires.level.level long (λ q small. c.profile.ensures.sums values q stands small))
+          values c.requires.level.period c.requires.level.level long
+          (λ q small. c.profile.ensures.sums values q stands small))
           (c.judge.ensures.list cells s from));
       count = omega (arith, before.count, c.judge.ensures.count, long, c.requires.level.period);
     }

@@ -1,4 +1,4 @@
-use Rattle.std.proofs.Common.{◌≡◌, ◌∙◌, ℕ, ◌+◌, ◌-◌, ◌<◌, List, length, get_or, sym, ap, subst, arith}
+use Rattle.std.proofs.Common.{◌≡◌, ◌∙◌, ℕ, ◌+◌, ◌-◌, List, length, get_or, sym, ap, subst, arith}
 use Rattle.search_model.specs.Samples.{Filterbank}
 use Rattle.search_model.specs.Folds.{series}
 use Rattle.search_model.specs.Candidates.{plain_cells, folds, within_delays}

@@ -1,0 +1,99 @@
+-- An engine that was opened, and fed nothing.
+use Rattle.std.proofs.Common.{◌≡◌, ◌∙◌, ℕ, ◌+◌, ◌<◌, false, None, [], refl, sym, ap, subst, arith}
+use Rattle.std.proofs.lemmas.List.Elements.{All-nil}
+use Rattle.dada_model.specs.Bounds.{ObservationInRange}
+use Rattle.dada_model.specs.Edges.{AreEdges}
+use Rattle.dada_model.specs.Observation.{Observation, edges}
+use Rattle.search_model.specs.declared.search.Search.{Search}
+use Rattle.search_model.specs.Plan.{plan_refusal}
+use Rattle.search_model.specs.Search.{SettingsInRange, shard_start}
+use Rattle.candidate_book.specs.Book.{BookContents, book_of}
+use Rattle.spectra_rows.specs.Unpacking.{Unpacking, StandsForBytes, unpacking_of, whole_spectra}
+use Rattle.search_engine.specs.Pulses.{pulses_of_ends}
+use Rattle.search_engine.specs.Sums.{ShardState, sums_of}
+use Rattle.search_engine.specs.Engine.{EngineState, Searches, HoldsData, HasTaken, StandsForData, EngineIsSound, IsOpenedSums, chunk_of}
+
+-- the parts of an engine
+pub record OpenedParts
+    (o : Observation) (s : Search) (k chunk : ℕ) (u : Unpacking) (sums : ShardState) (book : BookContents)
+    : Type 0 where
+  pub bounds : ObservationInRange o
+  pub band : AreEdges o.channels (edges o)
+  pub range : SettingsInRange s
+  pub shard : k < s.shards
+  pub accepted : plan_refusal o s ≡ None
+  pub chunk_is : chunk ≡ chunk_of s
+  pub unpacker : u ≡ unpacking_of o.channels o.is_falling o.nbit o.npol chunk
+  pub nothing : StandsForBytes u [] 0
+  pub path_sums : IsOpenedSums o s k chunk sums
+  pub empty : book ≡ book_of s.max_candidates []
+
+-- the engine of these parts
+abbrev pub opened_state : Search → ℕ → Unpacking → ShardState → BookContents → EngineState
+opened_state s k u sums book = record {
+  search = s;
+  shard = k;
+  fed = 0;
+  has_ended = false;
+  unpacker = u;
+  sums = sums;
+  book = book;
+}
+
+module _ (o : Observation) (s : Search) (k chunk : ℕ) (u : Unpacking) (sums : ShardState) (book : BookContents)
+    (p : OpenedParts o s k chunk u sums book) where
+  opened_searches : Searches o (opened_state s k u sums book)
+  opened_searches = record {
+    bounds = p.bounds;
+    range = p.range;
+    shard = p.shard;
+    accepted = p.accepted;
+    channels = ap (λ (u : Unpacking). u.channels) p.unpacker;
+    is_falling = ap (λ (u : Unpacking). u.is_falling) p.unpacker;
+    nbit = ap (λ (u : Unpacking). u.nbit) p.unpacker;
+    npol = ap (λ (u : Unpacking). u.npol) p.unpacker;
+    chunk = ap (λ (u : Unpacking). u.chunk) p.unpacker ∙ p.chunk_is;
+    plan = p.path_sums.plan;
+    rows = p.path_sums.rows ∙ p.chunk_is;
+    max_sample = p.path_sums.greatest;
+    search = p.path_sums.search_is;
+  }
+
+  -- no spectrum is held
+  opened_part : whole_spectra u < u.chunk
+  opened_part =
+      let some = p.range.parts.least_chunk in
+      let chunk_is = p.chunk_is in
+      let P : Unpacking → Type 0 = λ u. whole_spectra u < u.chunk in
+      subst P (sym p.unpacker) (omega arith)
+
+  opened_holds : HoldsData o [] (opened_state s k u sums book)
+  opened_holds = record {
+    searches = opened_searches;
+    numbers = All-nil (λ (byte : ℕ). byte < 256);
+    count = refl;
+    most = omega arith;
+    pending = (let P : ℕ → Type 0 = λ n. StandsForBytes u [] n in subst P (sym p.path_sums.nothing_fed) p.nothing);
+    sums = λ f begins.
+        let count = p.band.count in
+        let channels = begins.channels in
+        p.path_sums.stands f (record { channels = omega arith; small = begins.small });
+  }
+
+  opened_taken : HasTaken o [] (opened_state s k u sums book)
+  opened_taken = record { holds = opened_holds; part = opened_part }
+
+  pub opened_stands : StandsForData o [] (opened_state s k u sums book)
+  opened_stands = record {
+    taken = opened_taken;
+    book = λ f begins. p.empty ∙ ap (λ n. book_of s.max_candidates (pulses_of_ends (sums_of f (edges o)) s o.channels
+        (shard_start s k) (shard_start s (k + 1)) 0 n)) (sym p.path_sums.nothing_fed);
+  }
+
+  pub opened_sound : EngineIsSound (opened_state s k u sums book)
+  opened_sound = record {
+    observation = o;
+    bytes = [];
+    taken = opened_taken;
+    room = λ _. let empty = ap (λ (b : BookContents). b.count) p.empty in omega arith;
+  }

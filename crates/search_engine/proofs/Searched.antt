@@ -1,0 +1,108 @@
+-- What the book has after the spectra that are held were searched, and after the folds.
+use Rattle.std.proofs.Common.{◌≡◌, ℕ, ◌+◌, ◌-◌, ◌++◌, List, length, sym, ◌∙◌, ap, arith}
+use Rattle.std.specs.List.{range_with_len, flat_map}
+use Rattle.std.proofs.lemmas.List.Concat.{flat_map-append}
+use Rattle.candidate_book.specs.Book.{BookContents, book_of}
+use Rattle.dada_model.specs.Laws.{EdgesFall}
+use Rattle.dada_model.specs.Observation.{Observation, edges}
+use Rattle.search_model.specs.declared.candidate.Candidate.{Candidate}
+use Rattle.search_model.specs.declared.search.Search.{Search}
+use Rattle.search_model.specs.Candidates.{plain_cells, folds, within_delays, shard_part}
+use Rattle.search_model.specs.Observed.{filterbank_of, candidates_of}
+use Rattle.search_model.specs.Samples.{Filterbank}
+use Rattle.search_model.specs.Search.{shard_start}
+use Rattle.search_model.specs.SubbandLaws.{LatePathSums}
+use Rattle.subband_plan.specs.Nodes.{BandPlan}
+use Rattle.search_engine.specs.Engine.{EngineState, Searches}
+use Rattle.search_engine.specs.Judging.{Adds}
+use Rattle.search_engine.specs.Pulses.{pulses_of_end, pulses_of_ends}
+use Rattle.search_engine.specs.Sums.{sums_of, pulses_of_plan, folds_of_plan}
+use Rattle.search_engine.proofs.PlanFits.{shard_rises, shard_delays}
+use Rattle.search_engine.proofs.PulseLists.{part_is_both}
+use Rattle.search_engine.proofs.Ranges.{range_join}
+
+-- what was added to a book of a list
+pub book_with : (b c : BookContents) (limit : ℕ) (list more : List Candidate) → b ≡ book_of limit list → Adds b c more →
+    c ≡ book_of limit (list ++ more)
+book_with b c limit list more is adds =
+    let same : b.limit ≡ limit = ap (λ (x : BookContents). x.limit) is in
+    adds list (is ∙ ap (λ n. book_of n list) (sym same)) ∙ ap (λ n. book_of n (list ++ more)) same
+
+-- the pulses of the shard that end at the first u spectra
+abbrev pub pulses_so_far : Observation → Search → ℕ → Filterbank → ℕ → List Candidate
+pulses_so_far o s k f u =
+    pulses_of_ends (sums_of f (edges o)) s o.channels (shard_start s k) (shard_start s (k + 1)) 0 u
+
+-- the delays of the carry are those of the shard
+pub pulses_are : EdgesFall → (o : Observation) (e : EngineState) (f : Filterbank) (m n : ℕ) → Searches o e →
+    pulses_of_plan f e.sums.carry.tables.plan e.sums.pulses.search m n
+    ≡ pulses_of_ends (sums_of f (edges o)) e.search o.channels (shard_start e.search e.shard)
+    (shard_start e.search (e.shard + 1)) m n
+pulses_are fall o e f m n s =
+    let first = shard_start e.search e.shard in
+    let end = shard_start e.search (e.shard + 1) in
+    let y = sums_of f (edges o) in
+    let rises = shard_rises o e.search e.shard s.range s.accepted in
+    let count = (fall o s.bounds).count in
+    let channels : length (edges o) - 1 ≡ o.channels = omega arith in
+    let last : end - 1 + 1 ≡ end = omega arith in
+    ap (λ (p : BandPlan). pulses_of_plan f p e.sums.pulses.search m n) s.plan
+    ∙ ap (λ (t : Search). pulses_of_ends y t (length (edges o) - 1) first (end - 1 + 1) m n) s.search
+    ∙ ap (λ c. pulses_of_ends y e.search c first (end - 1 + 1) m n) channels
+    ∙ ap (λ b. pulses_of_ends y e.search o.channels first b m n) last
+
+pub folds_are : EdgesFall → (o : Observation) (e : EngineState) (f : Filterbank) → Searches o e →
+    folds_of_plan f e.sums.carry.tables.plan e.sums.pulses.search
+    ≡ within_delays (shard_start e.search e.shard) (shard_start e.search (e.shard + 1))
+    (folds f (edges o) (plain_cells o.channels) e.search)
+folds_are fall o e f s =
+    let first = shard_start e.search e.shard in
+    let end = shard_start e.search (e.shard + 1) in
+    let rises = shard_rises o e.search e.shard s.range s.accepted in
+    let count = (fall o s.bounds).count in
+    let channels : length (edges o) - 1 ≡ o.channels = omega arith in
+    let last : end - 1 + 1 ≡ end = omega arith in
+    ap (λ (p : BandPlan). folds_of_plan f p e.sums.pulses.search) s.plan
+    ∙ ap (λ (t : Search). within_delays first (end - 1 + 1) (folds f (edges o) (plain_cells (length
+    (edges o) - 1)) t)) s.search
+    ∙ ap (λ c. within_delays first (end - 1 + 1) (folds f (edges o) (plain_cells c) e.search)) channels
+    ∙ ap (λ b. within_delays first b (folds f (edges o) (plain_cells o.channels) e.search)) last
+
+-- the ends of so many spectra more
+pub ends_join : (y : ℕ → ℕ → ℕ) (s : Search) (n first end m k : ℕ) →
+    pulses_of_ends y s n first end 0 m ++ pulses_of_ends y s n first end m k ≡ pulses_of_ends y s n first end 0 (m + k)
+ends_join y s n first end m k =
+    let g : ℕ → List Candidate = λ u. pulses_of_end y s n first end u in
+    let start : 0 + m ≡ m = omega arith in
+    sym (ap (flat_map g) (range_join 0 m k) ∙ flat_map-append g (range_with_len 0 m) (range_with_len (0 + m) k)
+    ∙ ap (λ a. flat_map g (range_with_len 0 m) ++ flat_map g (range_with_len a k)) start)
+
+-- the book has the pulses of the spectra that were searched
+pub book_more : EdgesFall → (o : Observation) (e : EngineState) (f : Filterbank) (b : BookContents) (u r : ℕ) →
+    Searches o e → e.book ≡ book_of e.search.max_candidates (pulses_so_far o e.search e.shard f u) →
+    Adds e.book b (pulses_of_plan f e.sums.carry.tables.plan e.sums.pulses.search u r) →
+    b ≡ book_of e.search.max_candidates (pulses_so_far o e.search e.shard f (u + r))
+book_more fall o e f b u r s is adds =
+    let more = pulses_of_plan f e.sums.carry.tables.plan e.sums.pulses.search u r in
+    book_with e.book b e.search.max_candidates (pulses_so_far o e.search e.shard f u) more is adds
+    ∙ ap (λ xs. book_of e.search.max_candidates (pulses_so_far o e.search e.shard f u ++ xs))
+    (pulses_are fall o e f u r s)
+    ∙ ap (λ xs. book_of e.search.max_candidates xs) (ends_join (sums_of f (edges o)) e.search o.channels
+    (shard_start e.search e.shard) (shard_start e.search (e.shard + 1)) u r)
+
+-- and with the folds it has the shard's part of all candidates
+pub book_of_all : LatePathSums → EdgesFall → (o : Observation) (e : EngineState) (bytes : List ℕ) (b c : BookContents) →
+    Searches o e →
+    b ≡ book_of e.search.max_candidates (pulses_so_far o e.search e.shard (filterbank_of o bytes)
+    (filterbank_of o bytes).spectra) →
+    Adds b c (folds_of_plan (filterbank_of o bytes) e.sums.carry.tables.plan e.sums.pulses.search) →
+    c ≡ book_of e.search.max_candidates (shard_part e.search e.shard (candidates_of o e.search bytes))
+book_of_all late fall o e bytes b c s is adds =
+    let f = filterbank_of o bytes in
+    let more = folds_of_plan f e.sums.carry.tables.plan e.sums.pulses.search in
+    book_with b c e.search.max_candidates (pulses_so_far o e.search e.shard f f.spectra) more is adds
+    ∙ ap (λ xs. book_of e.search.max_candidates (pulses_so_far o e.search e.shard f f.spectra ++ xs))
+    (folds_are fall o e f s)
+    ∙ ap (λ xs. book_of e.search.max_candidates xs)
+    (part_is_both late f (edges o) o.channels e.search e.shard (fall o s.bounds)
+    (shard_delays o e.search e.shard s.range s.accepted s.shard))

@@ -1,0 +1,14 @@
+use Rattle.std.proofs.Common.{◌+◌, ◌*◌, ◌≤◌, ℕ, length}
+use Rattle.std.specs.List.{flat_map, range_with_len}
+use Rattle.search_engine.specs.Judging.{Adds}
+use Rattle.search_engine.specs.Levels.{pulses_of_hits}
+use Rattle.search_engine.specs.PulseSearch.{RowsStandFor}
+use Rattle.search_engine.proofs.pulse_search.PulseSearch.report.Given as goal
+
+-- the pulses of the first of these spectra
+abbrev pub invariant-loop-k : goal.invariant-loop-k
+invariant-loop-k l = record {
+  count : l.book.count ≤ l.fn.book.count + l.k * length l.self.hits;
+  pulses : (y : ℕ → ℕ → ℕ) → RowsStandFor y l.self (l.start + l.spectra) → Adds l.fn.book l.book
+      (flat_map (λ u. pulses_of_hits y l.self.search l.self.channels u l.self.hits) (range_with_len l.start l.k));
+}

@@ -1,0 +1,14 @@
+use Rattle.std.proofs.Common.{◌+◌, ◌≤◌, ℕ, take}
+use Rattle.search_engine.specs.Judging.{Adds}
+use Rattle.search_engine.specs.Levels.{pulses_of_hits}
+use Rattle.search_engine.specs.PulseSearch.{RowsStandFor, AreFed}
+use Rattle.search_engine.proofs.pulse_search.PulseSearch.report_end.Given as goal
+
+-- the pulses of the first hits
+abbrev pub invariant-loop-at : goal.invariant-loop-at
+invariant-loop-at l = record {
+  count : l.book.count ≤ l.fn.book.count + l.at;
+  pulses : (y : ℕ → ℕ → ℕ) (n : ℕ) → AreFed l.self l.self.end n → RowsStandFor y l.self (l.start + n)
+      → Adds l.fn.book l.book (pulses_of_hits y l.self.search l.self.channels (l.start + l.k)
+      (take l.at l.self.hits));
+}

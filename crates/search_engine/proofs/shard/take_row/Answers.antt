@@ -1,0 +1,10 @@
+use Rattle.search_engine.proofs.Rows.{taken_more}
+use Rattle.search_engine.proofs.shard.take_row.Goals as goal
+
+pub returns-clause-stands : goal.returns-clause-stands
+returns-clause-stands c = λ y is before.
+    let a = c.args in
+    taken_more y a.pulses.now c.take.new.self a.folds.now c.take-2.new.self a.start a.d a.row.now
+    c.from_delay.result.now c.take.ensures.alike c.take-2.ensures.alike c.requires.delay c.requires.fold
+    c.from_delay.ensures.value is c.take.ensures.own c.take.ensures.others c.take-2.ensures.own c.take-2.ensures.others
+    (λ k stands below. c.take.ensures.hits y a.start k stands below) before

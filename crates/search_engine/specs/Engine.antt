@@ -1,0 +1,122 @@
+-- What contracts see of an engine, and the data bytes that it stands for.
+-- Source: this project's choice.
+use Rattle.std.specs.Prelude.{◌≡◌, ℕ, ◌+◌, ◌-◌, ◌*◌, ◌^◌, ◌≤◌, ◌<◌, All, Bool, true, false, List, None, length, min}
+use Rattle.dada_model.specs.Bounds.{ObservationInRange}
+use Rattle.dada_model.specs.Observation.{Observation, edges, max_sample}
+use Rattle.search_model.specs.declared.search.Search.{Search}
+use Rattle.search_model.specs.Samples.{Filterbank}
+use Rattle.search_model.specs.Search.{SettingsInRange, shard_start}
+use Rattle.search_model.specs.Candidates.{shard_part}
+use Rattle.search_model.specs.Observed.{filterbank_of, candidates_of}
+use Rattle.search_model.specs.Plan.{plan_refusal}
+use Rattle.candidate_book.specs.Book.{BookContents, book_of}
+use Rattle.spectra_rows.specs.Unpacking.{Unpacking, StandsForBytes, whole_spectra}
+use Rattle.subband_plan.specs.Plans.{band_plan}
+use Rattle.fdmt_carry.specs.Carrying as carry
+use Rattle.fdmt_carry.specs.Carrying.{IsStream}
+use Rattle.search_engine.specs.Pulses.{pulses_of_ends}
+use Rattle.search_engine.specs.Sums.{ShardState, StandsForStream, sums_of}
+
+-- The search of one shard: how many bytes it was fed, and whether it ended; what stands behind.
+pub record EngineState : Type 0 where
+  pub search : Search
+  pub shard : ℕ
+  pub fed : ℕ
+  pub has_ended : Bool
+  pub unpacker : Unpacking
+  pub sums : ShardState
+  pub book : BookContents
+
+-- the most bytes that an engine is fed
+abbrev pub most_fed : ℕ
+most_fed = 2 ^ 48 + 2 ^ 28
+
+-- how many spectra are searched at a time
+abbrev pub chunk_of : Search → ℕ
+chunk_of s = min s.chunk 256
+
+-- a stream of samples that begins with the first u spectra of an observation's data bytes
+pub record BeginsWith (o : Observation) (bytes : List ℕ) (u : ℕ) (f : Filterbank) : Type 0 where
+  pub channels : f.channels ≡ o.channels
+  pub small : (c t : ℕ) → f.value c t ≤ max_sample o
+  pub same : (c t : ℕ) → c < o.channels → t < u → f.value c t ≡ (filterbank_of o bytes).value c t
+
+-- the engine searches an observation: its parts are opened for the shard's delays
+pub record Searches (o : Observation) (e : EngineState) : Type 0 where
+  pub bounds : ObservationInRange o
+  pub range : SettingsInRange e.search
+  pub shard : e.shard < e.search.shards
+  pub accepted : plan_refusal o e.search ≡ None
+  pub channels : e.unpacker.channels ≡ o.channels
+  pub is_falling : e.unpacker.is_falling ≡ o.is_falling
+  pub nbit : e.unpacker.nbit ≡ o.nbit
+  pub npol : e.unpacker.npol ≡ o.npol
+  pub chunk : e.unpacker.chunk ≡ chunk_of e.search
+  pub plan : e.sums.carry.tables.plan
+      ≡ band_plan (edges o) (shard_start e.search e.shard) (shard_start e.search (e.shard + 1) - 1)
+  pub rows : e.sums.carry.tables.chunk ≡ chunk_of e.search
+  pub max_sample : e.sums.carry.max_sample ≡ max_sample o
+  pub search : e.sums.pulses.search ≡ e.search
+
+-- its parts were fed these data bytes
+pub record HoldsData (o : Observation) (bytes : List ℕ) (e : EngineState) : Type 0 where
+  pub searches : Searches o e
+  pub numbers : All (λ byte. byte < 256) bytes
+  pub count : length bytes ≡ e.fed
+  pub most : e.fed ≤ most_fed
+  pub pending : StandsForBytes e.unpacker bytes e.sums.carry.fed
+  pub sums : (f : Filterbank) → BeginsWith o bytes e.sums.carry.fed f → StandsForStream e.sums f
+
+-- and all full chunks of them were searched
+pub record HasTaken (o : Observation) (bytes : List ℕ) (e : EngineState) : Type 0 where
+  pub holds : HoldsData o bytes e
+  pub part : whole_spectra e.unpacker < e.unpacker.chunk
+
+-- the engine was fed these data bytes of an observation, and its book has the pulses that end at the spectra that were
+-- searched
+pub record StandsForData (o : Observation) (bytes : List ℕ) (e : EngineState) : Type 0 where
+  pub taken : HasTaken o bytes e
+  pub book : (f : Filterbank) → BeginsWith o bytes e.sums.carry.fed f → e.book ≡ book_of e.search.max_candidates
+      (pulses_of_ends (sums_of f (edges o)) e.search o.channels (shard_start e.search e.shard)
+      (shard_start e.search (e.shard + 1)) 0 e.sums.carry.fed)
+
+-- what always holds: there are bytes that it was fed; and as long as it has not ended, its book has room for more
+pub record EngineIsSound (e : EngineState) : Type 0 where
+  pub observation : Observation
+  pub bytes : List ℕ
+  pub taken : HasTaken observation bytes e
+  pub room : e.has_ended ≡ false → e.book.count ≤ 49158 * e.sums.carry.fed
+
+-- opened for a shard of a search, and fed nothing
+pub record IsOpenedEngine (e : EngineState) (s : Search) (shard : ℕ) : Type 0 where
+  pub search_is : e.search ≡ s
+  pub shard_is : e.shard ≡ shard
+  pub nothing_fed : e.fed ≡ 0
+  pub running : e.has_ended ≡ false
+
+-- both search the same shard
+pub record SameShard (e f : EngineState) : Type 0 where
+  pub search : e.search ≡ f.search
+  pub shard : e.shard ≡ f.shard
+
+-- The engine has searched these data bytes of an observation: its book has the shard's part of the candidate list, and
+-- its carry stands for all whole spectra over the shard's delays, with all tables.
+pub record HasSearched (o : Observation) (bytes : List ℕ) (e : EngineState) : Type 0 where
+  pub book : e.book ≡ book_of e.search.max_candidates
+      (shard_part e.search e.shard (candidates_of o e.search bytes))
+  pub spectra : e.sums.carry.fed ≡ (filterbank_of o bytes).spectra
+  pub plan : e.sums.carry.tables.plan
+      ≡ band_plan (edges o) (shard_start e.search e.shard) (shard_start e.search (e.shard + 1) - 1)
+  pub carry : carry.StandsFor e.sums.carry (filterbank_of o bytes)
+  pub tables : e.sums.carry.has_tables ≡ true
+
+-- the search of the path sums of shard k, of which none is taken
+pub record IsOpenedSums (o : Observation) (search : Search) (k chunk : ℕ) (s : ShardState) : Type 0 where
+  pub plan : s.carry.tables.plan ≡ band_plan (edges o) (shard_start search k) (shard_start search (k + 1) - 1)
+  pub rows : s.carry.tables.chunk ≡ chunk
+  pub greatest : s.carry.max_sample ≡ max_sample o
+  pub search_is : s.pulses.search ≡ search
+  pub nothing_fed : s.carry.fed ≡ 0
+  pub stands : (f : Filterbank)
+      → IsStream (band_plan (edges o) (shard_start search k) (shard_start search (k + 1) - 1)) (max_sample o) f
+      → StandsForStream s f

@@ -1,0 +1,45 @@
+-- The least detected sums of boxes, and the rows in which a box is detected.
+use Rattle.std.specs.Prelude.{◌≡◌, ℕ, ◌+◌, ◌-◌, ◌*◌, ◌≤◌, ◌<◌, All, List, Option, Some, map, slice_get, length}
+use Rattle.std.specs.List.{flat_map}
+use Rattle.box_sums.specs.Rows.{IsWidth}
+use Rattle.detect_rule.specs.Noise.{StandOutFrom}
+use Rattle.search_model.specs.declared.candidate.Candidate.{Candidate}
+use Rattle.search_model.specs.declared.search.Search.{Search}
+use Rattle.search_model.specs.Search.{widths}
+use Rattle.search_engine.specs.declared.levels.Hit.{Hit}
+use Rattle.search_engine.specs.declared.levels.Level.{Level}
+use Rattle.search_engine.specs.Judging.{noise_of}
+use Rattle.search_engine.specs.Pulses.{pulse_of}
+
+-- place i has the least detected sum of w path sums of delay first + i over n channels
+abbrev pub AreLeasts : Search → ℕ → ℕ → ℕ → List (Option ℕ) → Type 0
+AreLeasts s n first w leasts = (i : ℕ) (least : Option ℕ) → slice_get leasts i ≡ Some least →
+    StandOutFrom (noise_of s) (w * (n + (first + i))) least
+
+-- a level has a width of the search, and the least detected sums of the delays from `first` up to, but without, `end`
+pub record IsLevel (s : Search) (n first end : ℕ) (level : Level) : Type 0 where
+  pub width : IsWidth level.width
+  pub narrow : level.width ≤ s.widest
+  pub count : length level.leasts.items ≡ end - first
+  pub leasts : AreLeasts s n first level.width level.leasts.items
+
+-- there is a level for each width
+pub record AreLevels (s : Search) (n first end : ℕ) (levels : List Level) : Type 0 where
+  pub widths : map (λ level. level.width) levels ≡ widths s
+  pub each : All (IsLevel s n first end) levels
+
+-- a row of boxes, with the least sum that is detected there
+pub record IsHit (s : Search) (n first end : ℕ) (hit : Hit) : Type 0 where
+  pub above : first ≤ hit.delay
+  pub below : hit.delay < end
+  pub width : IsWidth hit.width
+  pub narrow : hit.width ≤ s.widest
+  pub least : StandOutFrom (noise_of s) (hit.width * (n + hit.delay)) (Some hit.least)
+
+-- the pulse of such a row that ends at spectrum u, if it is detected
+abbrev pub pulse_of_hit : (ℕ → ℕ → ℕ) → Search → ℕ → ℕ → Hit → List Candidate
+pulse_of_hit y s n u hit = pulse_of y s n u hit.delay hit.width
+
+-- those of several rows
+abbrev pub pulses_of_hits : (ℕ → ℕ → ℕ) → Search → ℕ → ℕ → List Hit → List Candidate
+pulses_of_hits y s n u hits = flat_map (λ hit. pulse_of_hit y s n u hit) hits

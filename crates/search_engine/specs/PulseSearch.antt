@@ -1,0 +1,69 @@
+-- What contracts see of the search for pulses.
+-- Source: this project's choice.
+use Rattle.std.specs.Prelude.{◌≡◌, ℕ, ◌+◌, ◌-◌, ◌*◌, ◌≤◌, ◌<◌, All, List, length}
+use Rattle.box_sums.specs.Tails.{RowTails, StandsForRow, last_feed}
+use Rattle.box_sums.specs.Rows.{IsWidth}
+use Rattle.search_model.specs.declared.search.Search.{Search}
+use Rattle.search_model.specs.Search.{SettingsInRange}
+use Rattle.search_engine.specs.declared.levels.Hit.{Hit}
+use Rattle.search_engine.specs.declared.levels.Level.{Level}
+use Rattle.search_engine.specs.Levels.{AreLevels, IsHit}
+use Rattle.search_engine.specs.Pulses.{first_sums}
+
+-- a search over n channels of the delays from `first` up to, but without, `end`; its boxes over the rows of these
+-- delays; and the rows of the last spectra in which a box is detected
+pub record PulseState : Type 0 where
+  pub search : Search
+  pub channels : ℕ
+  pub first : ℕ
+  pub end : ℕ
+  pub boxes : RowTails
+  pub hits : List Hit
+
+-- d is one of its delays
+pub record SearchesDelay (p : PulseState) (d : ℕ) : Type 0 where
+  pub above : p.first ≤ d
+  pub below : d < p.end
+
+-- the boxes of such a search
+pub record HasBoxes (s : Search) (first end : ℕ) (b : RowTails) : Type 0 where
+  pub first_row : b.first ≡ first
+  pub last_row : b.last + 1 ≡ end
+  pub widest : b.widest ≡ s.widest
+
+-- what always holds, where there is room for so many hits
+pub record PulsesAreSound (p : PulseState) (levels : List Level) (capacity : ℕ) : Type 0 where
+  pub range : SettingsInRange p.search
+  pub few_channels : p.channels ≤ 4096
+  pub few_delays : p.end ≤ 8193
+  pub boxes : HasBoxes p.search p.first p.end p.boxes
+  pub judges : AreLevels p.search p.channels p.first p.end levels
+  pub hits : All (IsHit p.search p.channels p.first p.end) p.hits
+  pub room : 6 * (p.end - p.first) ≤ capacity
+
+-- opened for such a search, with boxes over feeds of up to `chunk` sums of up to `bound`
+pub record SearchesFor (p : PulseState) (s : Search) (n first end chunk bound : ℕ) : Type 0 where
+  pub search_is : p.search ≡ s
+  pub channels_is : p.channels ≡ n
+  pub first_is : p.first ≡ first
+  pub end_is : p.end ≡ end
+  pub chunk_is : p.boxes.chunk ≡ chunk
+  pub bound_is : p.boxes.bound ≡ bound
+
+-- both search for the same
+abbrev pub SearchAlike : PulseState → PulseState → Type 0
+SearchAlike p q = SearchesFor p q.search q.channels q.first q.end q.boxes.chunk q.boxes.bound
+
+-- each row was fed with the sums of a stream that end at the first m spectra
+abbrev pub RowsStandFor : (ℕ → ℕ → ℕ) → PulseState → ℕ → Type 0
+RowsStandFor y p m = (d : ℕ) → SearchesDelay p d → StandsForRow p.boxes d (first_sums y d m)
+
+-- the row of each delay below d had n values in its last feed
+abbrev pub AreFed : PulseState → ℕ → ℕ → Type 0
+AreFed p d n = (e : ℕ) → SearchesDelay p e → e < d → last_feed p.boxes e ≡ n
+
+-- a level can judge the boxes of a row
+pub record CanJudge (b : RowTails) (first d : ℕ) (level : Level) : Type 0 where
+  pub inside : d < first + length level.leasts.items
+  pub width : IsWidth level.width
+  pub narrow : level.width ≤ b.widest

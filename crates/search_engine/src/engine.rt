@@ -1,0 +1,259 @@
+// The engine: data bytes in, candidates out.
+ghost use Rattle.std.specs.Prelude.{◌≡◌, ℕ, ◌+◌, ◌-◌, ◌*◌, ◌/◌, ◌^◌, ◌≤◌, ◌<◌, ◌++◌, [], true, false, None, OnOk, IfOk, IfErr, List, length, take};
+ghost use Rattle.dada_model.specs.Observation.{Observation as Described};
+ghost use Rattle.search_model.specs.Search.{SettingsInRange, shard_start as shard_start_of};
+ghost use Rattle.search_model.specs.Plan.{plan_refusal};
+ghost use Rattle.search_engine.specs.Plan.{Explains};
+ghost use Rattle.spectra_rows.specs.Unpacking.{StandsForBytes, unpacking_of};
+ghost use Rattle.search_engine.specs.Engine.{EngineState, EngineIsSound, IsOpenedSums, StandsForData, HasSearched, IsOpenedEngine, SameShard, most_fed};
+
+use crate::fault::PlanFault;
+use crate::plan::check_plan;
+use crate::shard::ShardSearch;
+use candidate_book::Book;
+use fdmt_carry::Carry;
+use obs_plan::Observation;
+use psr_base::Memory;
+use search_model::Search;
+use spectra_rows::Unpacker;
+use std::alloc::Global;
+use std::marker::Model;
+// Laws: they do nothing when they run, and the proofs use what they ensure.
+use dada_model::edges_fall;
+use search_model::{late_path_sums, samples_of_bytes};
+
+/// The most spectra that are searched at a time.
+const MOST_CHUNK: u32 = 256;
+
+/// The search of one shard of an observation: data bytes are fed in pieces that are cut anywhere, and the candidates of
+/// the shard's delays are kept in a book. All memory is taken by `open`.
+#[derive(Drop)]
+pub struct Engine {
+    search: Search,
+    shard: u32,
+    fed: u64,
+    has_ended: bool,
+    chunk: u32,
+    unpacker: Unpacker,
+    sums: ShardSearch,
+    book: Book,
+}
+
+impl Model for Engine {
+    ghost Value = { EngineState };
+
+    ghost view = { λ e. record {
+      search = e.search;
+      shard = e.shard;
+      fed = e.fed;
+      has_ended = e.has_ended;
+      unpacker = e.unpacker;
+      sums = e.sums;
+      book = e.book;
+    } };
+
+    ghost invariant = { λ e. EngineIsSound (record {
+      search = e.search;
+      shard = e.shard;
+      fed = e.fed;
+      has_ended = e.has_ended;
+      unpacker = e.unpacker;
+      sums = e.sums;
+      book = e.book;
+    }) × (e.chunk ≡ e.unpacker.chunk) };
+}
+
+impl Engine {
+    /// Takes the memory for a shard of a search of an observation, or says why the search is refused.
+    pub fn open(
+        alloc: Global,
+        observation: &Observation,
+        search: &Search,
+        shard: u32,
+    ) -> Result<Engine, PlanFault>
+        requires range { SettingsInRange search.now }
+        requires shard { shard < search.now.shards }
+        ensures fits { OnOk result (plan_refusal observation.now search.now ≡ None) }
+        ensures opened { IfOk result (λ e. IsOpenedEngine e search.now shard) }
+        ensures stands { IfOk result (StandsForData observation.now []) }
+        ensures refused { IfErr result (Explains (plan_refusal observation.now search.now)) }
+    {
+        check_plan(observation, search)?;
+        observation.lies_in_range();
+        edges_fall();
+        let chunk = search.chunk.min(MOST_CHUNK);
+        let unpacker = open_unpacker(alloc, observation, chunk)?;
+        let sums = open_sums(alloc, observation, search, shard, chunk)?;
+        let book = Book::open(alloc, search.max_candidates)?;
+        Ok(Engine {
+            search: *search,
+            shard,
+            fed: 0,
+            has_ended: false,
+            chunk,
+            unpacker,
+            sums,
+            book,
+        })
+    }
+
+    /// Takes the next data bytes.
+    pub fn feed(&mut self, bytes: &[u8])
+        requires running { self.old.has_ended ≡ false }
+        requires few { self.old.fed + length bytes.now ≤ most_fed }
+        ensures same { SameShard self.new self.old }
+        ensures running { self.new.has_ended ≡ false }
+        ensures fed { self.new.fed ≡ self.old.fed + length bytes.now }
+        ensures stands { (o : Described) (before : List ℕ) → StandsForData o before self.old
+            → StandsForData o (before ++ bytes.now) self.new }
+    {
+        let mut done = 0;
+        while done < bytes.len() {
+            done += self.take_piece(&bytes[done..]);
+        }
+    }
+
+    /// Ends the data: what is left of them is searched, but for an incomplete last spectrum, and then all folds.
+    pub fn end(&mut self)
+        requires { self.old.has_ended ≡ false }
+        ensures same { SameShard self.new self.old }
+        ensures ended { self.new.has_ended ≡ true }
+        ensures fed { self.new.fed ≡ self.old.fed }
+        ensures searched { (o : Described) (bytes : List ℕ) → StandsForData o bytes self.old
+            → HasSearched o bytes self.new }
+    {
+        edges_fall();
+        samples_of_bytes();
+        late_path_sums();
+        let spectra = self.unpacker.spectra();
+        self.sums
+            .take(self.unpacker.rows(), spectra, true, &mut self.book);
+        self.unpacker.taken();
+        self.sums.end(&mut self.book);
+        self.has_ended = true;
+    }
+
+    /// How many bytes were fed.
+    pub fn fed(&self) -> u64
+        ensures { result ≡ self.now.fed }
+    {
+        self.fed
+    }
+
+    /// Whether the data were ended.
+    pub fn has_ended(&self) -> bool
+        ensures { result ≡ self.now.has_ended }
+    {
+        self.has_ended
+    }
+
+    /// How many spectra were searched: after `end`, all whole spectra of the bytes that were fed.
+    pub fn spectra(&self) -> u64
+        ensures { result ≡ self.now.sums.carry.fed }
+    {
+        self.sums.fed()
+    }
+
+    /// The candidates: after `end`, those of the shard.
+    pub fn book(&self) -> &Book
+        ensures { result.now ≡ self.now.book }
+    {
+        &self.book
+    }
+
+    /// The candidates alone.
+    pub fn into_book(self) -> Book
+        ensures { result ≡ self.book }
+    {
+        self.book
+    }
+
+    /// The path sums of the shard's delays: after `end`, over all whole spectra, with the tables of all nodes.
+    pub fn carry(&self) -> &Carry
+        ensures { result.now ≡ self.now.sums.carry }
+    {
+        self.sums.carry()
+    }
+
+    // Takes bytes until a chunk is full, which is searched then, or all are taken, and answers how many it took.
+    fn take_piece(&mut self, bytes: &[u8]) -> usize
+        requires running { self.old.has_ended ≡ false }
+        requires some { 0 < length bytes.now }
+        requires few { self.old.fed + length bytes.now ≤ most_fed }
+        ensures some { 0 < result }
+        ensures most { result ≤ length bytes.now }
+        ensures same { SameShard self.new self.old }
+        ensures running { self.new.has_ended ≡ false }
+        ensures fed { self.new.fed ≡ self.old.fed + result }
+        ensures stands { (o : Described) (before : List ℕ) → StandsForData o before self.old
+            → StandsForData o (before ++ take result bytes.now) self.new }
+    {
+        edges_fall();
+        samples_of_bytes();
+        let count = self.unpacker.push(bytes);
+        self.fed += count as u64;
+        if self.unpacker.spectra() == self.chunk {
+            self.sums
+                .take(self.unpacker.rows(), self.chunk, false, &mut self.book);
+            self.unpacker.taken();
+        }
+        count
+    }
+}
+
+// The least delay of a shard; it ends where the next one begins.
+fn shard_start(search: &Search, shard: u32) -> u32
+    requires range { SettingsInRange search.now }
+    requires shard { shard ≤ search.now.shards }
+    ensures { result ≡ shard_start_of search.now shard }
+{
+    search.min_delay + shard * (search.max_delay + 1 - search.min_delay) / search.shards
+}
+
+// An unpacker of an observation's data bytes, with no byte.
+fn open_unpacker(alloc: Global, observation: &Observation, chunk: u32) -> Result<Unpacker, Memory>
+    requires some { 1 ≤ chunk }
+    requires most { chunk ≤ 65536 }
+    ensures opened { IfOk result (λ u. u ≡ unpacking_of observation.now.channels
+        observation.now.is_falling observation.now.nbit observation.now.npol chunk) }
+    ensures nothing { IfOk result (λ u. StandsForBytes u [] 0) }
+{
+    observation.lies_in_range();
+    Unpacker::open(
+        alloc,
+        observation.channels(),
+        observation.falling(),
+        observation.nbit(),
+        observation.npol(),
+        chunk,
+    )
+}
+
+// The search of a shard's path sums, of which none is taken.
+fn open_sums(
+    alloc: Global,
+    observation: &Observation,
+    search: &Search,
+    shard: u32,
+    chunk: u32,
+) -> Result<ShardSearch, Memory>
+    requires range { SettingsInRange search.now }
+    requires shard { shard < search.now.shards }
+    requires accepted { plan_refusal observation.now search.now ≡ None }
+    requires some { 1 ≤ chunk }
+    requires most { chunk ≤ 65536 }
+    ensures { IfOk result (IsOpenedSums observation.now search.now shard chunk) }
+{
+    observation.lies_in_range();
+    let first = shard_start(search, shard);
+    let end = shard_start(search, shard + 1);
+    ShardSearch::open(
+        alloc,
+        observation.edges(),
+        search,
+        first,
+        end,
+        chunk,
+        observation.max_sample(),
+    )
+}

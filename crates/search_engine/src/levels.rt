@@ -1,0 +1,127 @@
+// The least detected sums of boxes.
+ghost use Rattle.std.specs.Prelude.{◌≡◌, ℕ, ◌+◌, ◌-◌, ◌*◌, ◌≤◌, ◌<◌, All, IfOk, IfSome, length, option_to_list};
+ghost use Rattle.box_sums.specs.Tails.{StandsForRow, last_feed};
+ghost use Rattle.box_sums.specs.Rows.{IsWidth};
+ghost use Rattle.search_model.specs.declared.search.Search.{Search};
+ghost use Rattle.search_model.specs.Search.{SettingsInRange};
+ghost use Rattle.search_engine.specs.Pulses.{first_sums, pulse_of};
+
+use box_sums::Boxes;
+use detect_rule::Rule;
+use fdmt_rows::greatest;
+use psr_base::Memory;
+use search_model::Search;
+use std::alloc::Global;
+// Laws: they do nothing when they run, and the proofs use what they ensure.
+use box_sums::sums_add_values;
+use search_model::tests_detection;
+
+/// The widths that a box can have.
+const WIDTHS: [u32; 6] = [1, 2, 4, 8, 16, 32];
+
+/// A row of boxes in which one of the last spectra ends a detected box: the delay, the width in spectra, and the least
+/// detected sum.
+#[derive(Clone, Copy, Drop)]
+pub(crate) struct Hit {
+    pub(crate) delay: u32,
+    pub(crate) width: u32,
+    pub(crate) least: u32,
+}
+
+/// A width of boxes, with the least detected sum of each delay from the first on, where there is one.
+#[derive(Drop)]
+pub(crate) struct Level {
+    pub(crate) width: u32,
+    pub(crate) leasts: Vec<Option<u32>>,
+}
+
+impl Level {
+    ghost use Rattle.search_engine.specs.Levels.{IsLevel, AreLevels, IsHit, pulses_of_hits};
+
+    /// A level for each width of a search over so many channels, for the delays from `first` up to, but without, `end`.
+    pub(crate) fn up_to(
+        alloc: Global,
+        search: &Search,
+        channels: u32,
+        first: u32,
+        end: u32,
+    ) -> Result<Vec<Level>, Memory>
+        requires range { SettingsInRange search.now }
+        requires few_channels { channels ≤ 4096 }
+        requires order { first ≤ end }
+        requires few_delays { end ≤ 8193 }
+        ensures { IfOk result (λ levels. AreLevels search.now channels first end levels.items) }
+    {
+        let mut levels = Vec::with_capacity(alloc, WIDTHS.len())?;
+        for width in WIDTHS {
+            if width <= search.widest {
+                let level = Level::open(alloc, search, channels, first, end, width)?;
+                levels.push(level)?;
+            }
+        }
+        Ok(levels)
+    }
+
+    // The level of a width.
+    fn open(
+        alloc: Global,
+        search: &Search,
+        channels: u32,
+        first: u32,
+        end: u32,
+        width: u32,
+    ) -> Result<Level, Memory>
+        requires range { SettingsInRange search.now }
+        requires few_channels { channels ≤ 4096 }
+        requires order { first ≤ end }
+        requires few_delays { end ≤ 8193 }
+        requires width { IsWidth width }
+        requires narrow { width ≤ search.now.widest }
+        ensures width { IfOk result (λ level. level.width ≡ width) }
+        ensures level { IfOk result (IsLevel search.now channels first end) }
+    {
+        let rule = Rule {
+            mean: search.mean,
+            sd: search.sd,
+            snr: search.snr,
+        };
+        let mut leasts = Vec::with_capacity(alloc, (end - first) as usize)?;
+        for d in first..end {
+            let cells = u64::from(width) * (u64::from(channels) + u64::from(d));
+            leasts.push(rule.least(cells))?;
+        }
+        Ok(Level { width, leasts })
+    }
+
+    /// The row of delay `d`, which was fed last, if one of the spectra of its last feed ends a detected box of this
+    /// width.
+    pub(crate) fn hit(&self, boxes: &Boxes, first: u32, d: u32) -> Option<Hit>
+        requires above { first ≤ d }
+        requires below { d < first + length self.now.leasts.items }
+        requires newest { d ≡ boxes.now.newest }
+        requires width { IsWidth self.now.width }
+        requires narrow { self.now.width ≤ boxes.now.widest }
+        ensures hit { (s : Search) (n end : ℕ) → IsLevel s n first end self.now
+            → IfSome result (IsHit s n first end) }
+        ensures pulses { (s : Search) (n end m k : ℕ) (y : ℕ → ℕ → ℕ)
+            → IsLevel s n first end self.now
+            → StandsForRow boxes.now d (first_sums y d (m + last_feed boxes.now d))
+            → k < last_feed boxes.now d
+            → pulses_of_hits y s n (m + k) (option_to_list result)
+            ≡ pulse_of y s n (m + k) d self.now.width }
+    {
+        sums_add_values();
+        tests_detection();
+        let most = greatest(boxes.row(d, self.width));
+        let least = self.leasts[(d - first) as usize]?;
+        if most >= least {
+            Some(Hit {
+                delay: d,
+                width: self.width,
+                least,
+            })
+        } else {
+            None
+        }
+    }
+}

@@ -1,0 +1,242 @@
+// The search of a shard's path sums, chunk by chunk.
+ghost use Rattle.std.specs.Prelude.{◌≡◌, ℕ, ◌+◌, ◌-◌, ◌*◌, ◌^◌, ◌≤◌, ◌<◌, [], All, Bool, IfOk, IsTrue, List, length, drop};
+ghost use Rattle.band_paths.specs.Edges.{channels_of};
+ghost use Rattle.fdmt_carry.specs.Carrying.{IsFed, AreNext, IsStream, StandsFor as StandsForCarry};
+ghost use Rattle.search_model.specs.Samples.{Filterbank};
+ghost use Rattle.search_model.specs.Search.{SettingsInRange, folds_are_on};
+ghost use Rattle.dada_model.specs.Edges.{AreEdges};
+ghost use Rattle.subband_plan.specs.Plans.{band_plan};
+ghost use Rattle.search_engine.specs.FoldSearch.{AreDelays, FoldsFit, HasDelay, FoldsAlike};
+ghost use Rattle.search_engine.specs.Judging.{Adds};
+ghost use Rattle.search_engine.specs.PulseSearch.{SearchesDelay, SearchAlike, AreFed};
+ghost use Rattle.search_engine.specs.Sums.{ShardState, FitTogether, StandsForStream, HasStream, GoesOn, HaveTaken, IsRowOf, SumsAlike, sums_of, pulses_of_plan, folds_of_plan};
+
+use crate::fold_search::FoldSearch;
+use crate::pulse_search::PulseSearch;
+use candidate_book::Book;
+use fdmt_carry::Carry;
+use psr_base::Memory;
+use search_model::Search;
+// A law: it does nothing when it runs, and the proofs use what it ensures.
+use search_model::sums_are_bounded;
+use std::alloc::Global;
+use std::marker::Model;
+use subband_plan::Plan;
+
+/// The path sums of a shard's delays, and the search for pulses and folds in them.
+#[derive(Drop)]
+pub(crate) struct ShardSearch {
+    carry: Carry,
+    pulses: PulseSearch,
+    folds: FoldSearch,
+    first: u32,
+    end: u32,
+}
+
+impl Model for ShardSearch {
+    ghost Value = { ShardState };
+
+    ghost view = { λ s. record { carry = s.carry; pulses = s.pulses; folds = s.folds } };
+
+    ghost invariant = { λ s. FitTogether (record {
+      carry = s.carry;
+      pulses = s.pulses;
+      folds = s.folds;
+    }) × (s.first ≡ s.pulses.first) × (s.end ≡ s.pulses.end) };
+}
+
+impl ShardSearch {
+    /// Takes the memory for the delays from `first` up to, but without, `end`, over a band whose edges are in kHz, the
+    /// highest first, in chunks of up to `chunk` spectra of samples up to `max_sample`.
+    pub(crate) fn open(
+        alloc: Global,
+        edges: &[u32],
+        search: &Search,
+        first: u32,
+        end: u32,
+        chunk: u32,
+        max_sample: u32,
+    ) -> Result<ShardSearch, Memory>
+        requires range { SettingsInRange search.now }
+        requires band { AreEdges (channels_of edges.now) edges.now }
+        requires few_channels { channels_of edges.now ≤ 4096 }
+        requires delays { AreDelays search.now first end }
+        requires some_delays { first < end }
+        requires some_spectra { 1 ≤ chunk }
+        requires most_spectra { chunk ≤ 65536 }
+        requires fits { max_sample * (channels_of edges.now + search.now.max_delay)
+            * search.now.widest < 2 ^ 32 }
+        requires folds_fit { IsTrue (folds_are_on search.now) → FoldsFit search.now
+            (max_sample * (channels_of edges.now + search.now.max_delay)) }
+        ensures plan { IfOk result (λ s. s.carry.tables.plan
+            ≡ band_plan edges.now first (end - 1)) }
+        ensures chunk { IfOk result (λ s. s.carry.tables.chunk ≡ chunk) }
+        ensures max_sample { IfOk result (λ s. s.carry.max_sample ≡ max_sample) }
+        ensures search { IfOk result (λ s. s.pulses.search ≡ search.now) }
+        ensures nothing { IfOk result (λ s. s.carry.fed ≡ 0) }
+        ensures stands { IfOk result (λ s. (f : Filterbank)
+            → IsStream (band_plan edges.now first (end - 1)) max_sample f
+            → StandsForStream s f) }
+    {
+        let channels = (edges.len() - 1) as u32;
+        let bound = max_sample * (channels + search.max_delay);
+        let plan = Plan::open(alloc, edges, first, end - 1)?;
+        let carry = Carry::open(alloc, plan, chunk, max_sample)?;
+        let pulses = PulseSearch::open(alloc, search, channels, first, end, chunk, bound)?;
+        let folds = FoldSearch::open(alloc, search, channels, first, end, bound)?;
+        Ok(ShardSearch {
+            carry,
+            pulses,
+            folds,
+            first,
+            end,
+        })
+    }
+
+    /// Takes the next spectra, as a carry takes them, and adds the pulses that end at them to a book. The tables of all
+    /// nodes stand after it where they are asked for.
+    pub(crate) fn take(&mut self, rows: &[u32], spectra: u32, with_tables: bool, book: &mut Book)
+        requires rows { length rows.now
+            ≡ channels_of self.old.carry.tables.plan.edges * self.old.carry.tables.chunk }
+        requires short { spectra ≤ self.old.carry.tables.chunk }
+        requires few { self.old.carry.fed + spectra ≤ 2 ^ 48 }
+        requires stream { GoesOn self.old.carry rows.now spectra }
+        requires room { book.old.count + 49158 * spectra < 2 ^ 63 }
+        ensures alike { SumsAlike self.new self.old }
+        ensures fed { self.new.carry.fed ≡ self.old.carry.fed + spectra }
+        ensures tables { self.new.carry.has_tables ≡ with_tables }
+        ensures count { book.new.count ≤ book.old.count + 49158 * spectra }
+        ensures stands { (f : Filterbank) → StandsForStream self.old f
+            → AreNext self.old.carry f rows.now spectra → StandsForStream self.new f }
+        ensures pulses { (f : Filterbank) → StandsForStream self.old f
+            → AreNext self.old.carry f rows.now spectra → Adds book.old book.new
+            (pulses_of_plan f self.old.carry.tables.plan self.old.pulses.search
+            self.old.carry.fed spectra) }
+    {
+        let start = self.carry.fed();
+        advance(&mut self.carry, rows, spectra, with_tables);
+        self.pulses.begin();
+        take_rows(
+            &mut self.pulses,
+            &mut self.folds,
+            &self.carry,
+            start,
+            self.first,
+            self.end,
+        );
+        self.pulses.report(start, spectra, book);
+    }
+
+    /// Adds the folds of all that was taken to a book.
+    pub(crate) fn end(&mut self, book: &mut Book)
+        requires { book.old.count + 2 ^ 56 ≤ 2 ^ 63 }
+        ensures same { self.new ≡ self.old }
+        ensures count { book.new.count ≤ book.old.count + 2 ^ 56 }
+        ensures folds { (f : Filterbank) → StandsForStream self.old f
+            → f.spectra ≡ self.old.carry.fed
+            → Adds book.old book.new
+            (folds_of_plan f self.old.carry.tables.plan self.old.pulses.search) }
+    {
+        self.folds.end(book);
+    }
+
+    /// How many spectra were taken.
+    pub(crate) fn fed(&self) -> u64
+        ensures { result ≡ self.now.carry.fed }
+    {
+        self.carry.fed()
+    }
+
+    /// The carry.
+    pub(crate) fn carry(&self) -> &Carry
+        ensures { result.now ≡ self.now.carry }
+    {
+        &self.carry
+    }
+}
+
+// Feeds the carry where tables are asked for, and else passes.
+fn advance(carry: &mut Carry, rows: &[u32], spectra: u32, with_tables: bool)
+    requires rows { length rows.now
+        ≡ channels_of carry.old.tables.plan.edges * carry.old.tables.chunk }
+    requires short { spectra ≤ carry.old.tables.chunk }
+    requires few { carry.old.fed + spectra ≤ 2 ^ 48 }
+    ensures fed { IsFed carry.old carry.new spectra }
+    ensures tables { carry.new.has_tables ≡ with_tables }
+    ensures stands { (f : Filterbank) → StandsForCarry carry.old f
+        → AreNext carry.old f rows.now spectra → StandsForCarry carry.new f }
+{
+    if with_tables {
+        carry.feed(rows, spectra);
+    } else {
+        carry.pass(rows, spectra);
+    }
+}
+
+// Takes the rows of all delays, whose sums end at spectrum `start` and after it.
+fn take_rows(
+    pulses: &mut PulseSearch,
+    folds: &mut FoldSearch,
+    carry: &Carry,
+    start: u64,
+    first: u32,
+    end: u32,
+)
+    requires first { pulses.old.first ≡ first }
+    requires end { pulses.old.end ≡ end }
+    requires order { first ≤ end }
+    requires fit { FitTogether (record {
+      carry = carry.now;
+      pulses = pulses.old;
+      folds = folds.old;
+    }) }
+    requires short { carry.now.last ≤ carry.now.tables.chunk }
+    requires start { start + carry.now.last ≡ carry.now.fed }
+    requires stream { HasStream carry.now }
+    requires none { pulses.old.hits ≡ [] }
+    ensures pulses { SearchAlike pulses.new pulses.old }
+    ensures folds { FoldsAlike folds.new folds.old }
+    ensures few { length pulses.new.hits ≤ 6 * (end - first) }
+    ensures fed { AreFed pulses.new end carry.now.last }
+    ensures stands { (f : Filterbank) → StandsForCarry carry.now f
+        → HaveTaken (sums_of f carry.now.tables.plan.edges) pulses.old folds.old start
+        carry.now.last first
+        → HaveTaken (sums_of f carry.now.tables.plan.edges) pulses.new folds.new start
+        carry.now.last end }
+{
+    sums_are_bounded();
+    for d in first..end {
+        take_row(pulses, folds, carry.row(d), start, d);
+    }
+}
+
+// Takes the row of a delay, whose sums end at spectrum `start` and after it.
+fn take_row(pulses: &mut PulseSearch, folds: &mut FoldSearch, row: &[u32], start: u64, d: u32)
+    requires delay { SearchesDelay pulses.old d }
+    requires fold { HasDelay folds.old d }
+    requires short { length row.now ≤ pulses.old.boxes.chunk }
+    requires small { All (λ x. x ≤ pulses.old.boxes.bound) row.now }
+    requires bound { pulses.old.boxes.bound ≡ folds.old.bound }
+    requires room { length pulses.old.hits + 6 ≤ 6 * (pulses.old.end - pulses.old.first) }
+    ensures pulses { SearchAlike pulses.new pulses.old }
+    ensures folds { FoldsAlike folds.new folds.old }
+    ensures few { length pulses.new.hits ≤ length pulses.old.hits + 6 }
+    ensures fed { AreFed pulses.old d (length row.now)
+        → AreFed pulses.new (d + 1) (length row.now) }
+    ensures stands { (y : ℕ → ℕ → ℕ) → IsRowOf y d start row.now
+        → HaveTaken y pulses.old folds.old start (length row.now) d
+        → HaveTaken y pulses.new folds.new start (length row.now) (d + 1) }
+{
+    pulses.take(d, row);
+    folds.take(d, from_delay(row, start, d));
+}
+
+// The sums of a row that end at spectrum `d` and after it, where the first ends at spectrum `start`.
+fn from_delay(row: &[u32], start: u64, d: u32) -> &[u32]
+    ensures value { result.now ≡ drop (d - start) row.now }
+    ensures small { (bound : ℕ) → All (λ x. x ≤ bound) row.now
+        → All (λ x. x ≤ bound) result.now }
+{
+    let before = u64::from(d).saturating_sub(start) as usize;
+    &row[before.min(row.len())..]
+}
