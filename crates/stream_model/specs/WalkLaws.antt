@@ -85,6 +85,15 @@ abbrev pub DataGrow : Type 0
 DataGrow = (files : List (List ℕ)) (from k : ℕ) → from ≤ k → k < length files →
     data_between files from (k + 1) ≡ data_between files from k ++ data_of (slice_index_or files k [])
 
+-- the data of some files and those of the files after them
+abbrev pub DataJoin : Type 0
+DataJoin = (files : List (List ℕ)) (from mid to : ℕ) → from ≤ mid → from ≤ length files → mid ≤ to →
+    data_between files from mid ++ data_between files mid to ≡ data_between files from to
+
+-- no file has no data
+abbrev pub DataNone : Type 0
+DataNone = (files : List (List ℕ)) (k : ℕ) → data_between files k k ≡ []
+
 -- the data of the transfers before, and of the files of a transfer up to one of them, are those of all files before it
 abbrev pub TransfersJoin : Type 0
 TransfersJoin = (s : FileStream) (transfer k : ℕ) → AreStarts s.starts (length s.files) → transfer ≤ length s.starts →

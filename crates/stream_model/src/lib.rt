@@ -11,7 +11,7 @@ pub use block_laws::{
     streams_begin, streams_grow, streams_have_transfers, streams_stop_once,
 };
 pub use walk_laws::{
-    accepted_is_later, data_grow, files_are_in_transfers, first_files_continue, first_stop_counts,
-    headers_continue, no_stop_is_whole, one_transfer_more, transfers_join, walk_joins_data,
-    whole_exactly,
+    accepted_is_later, data_grow, data_join, data_none, files_are_in_transfers,
+    first_files_continue, first_stop_counts, headers_continue, no_stop_is_whole, one_transfer_more,
+    transfers_join, walk_joins_data, whole_exactly,
 };

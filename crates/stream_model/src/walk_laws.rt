@@ -1,6 +1,6 @@
 // Laws of the walk of the files, which the contracts of functions that do nothing carry. A caller whose proof needs a
 // law calls its function.
-ghost use Rattle.stream_model.specs.WalkLaws.{HeadersContinue, AcceptedIsLater, FirstFilesContinue, WholeExactly, FirstStopCounts, NoStopIsWhole, FilesAreInTransfers, DataGrow, TransfersJoin, WalkJoinsData, OneTransferMore};
+ghost use Rattle.stream_model.specs.WalkLaws.{HeadersContinue, AcceptedIsLater, FirstFilesContinue, WholeExactly, FirstStopCounts, NoStopIsWhole, FilesAreInTransfers, DataGrow, DataJoin, DataNone, TransfersJoin, WalkJoinsData, OneTransferMore};
 
 // Laws: they do nothing when they run, and the proofs use what they ensure.
 use dada_model::{accepted_by_rows, accepted_is_in_range};
@@ -49,6 +49,16 @@ pub fn files_are_in_transfers()
 /// One file more adds its data.
 pub fn data_grow()
     ensures { DataGrow }
+{}
+
+/// The data of some files and those of the files after them are those of all.
+pub fn data_join()
+    ensures { DataJoin }
+{}
+
+/// No file has no data.
+pub fn data_none()
+    ensures { DataNone }
 {}
 
 /// The data of the transfers before a file's, and of the files before it in its own, are those of all files before it.

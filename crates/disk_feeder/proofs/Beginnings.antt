@@ -1,0 +1,123 @@
+-- A feeder whose first headers were accepted stands for the first header alone.
+use Rattle.std.proofs.Common.{◌≡◌, ℕ, ◌+◌, ◌*◌, ◌<◌, Bool, true, List, [], ◌++◌, Option, Some, None, length, take, get_or, refl, sym, ap, ◌∙◌, subst, arith}
+use Rattle.std.specs.Prelude.{slice_get}
+use Rattle.std.proofs.lemmas.List.{drop_all}
+use Rattle.std.proofs.lemmas.Option.{slice_get-get_or}
+use Rattle.psr_base.specs.Told.{Told, left_to_read}
+use Rattle.dada_model.specs.Fields.{HeaderText, fields_of}
+use Rattle.dada_model.specs.Observation.{observation_in}
+use Rattle.stream_model.specs.Blocks.{full_entries, whole_stream, joined_data}
+use Rattle.stream_model.specs.Walk.{file_at, begin_of, data_of, data_between, header_stop}
+use Rattle.stream_model.specs.WalkLaws.{AreStarts, AreWalked, FirstFilesContinue, DataGrow, DataNone}
+use Rattle.disk_feeder.specs.declared.due.Due.{Due}
+use Rattle.disk_feeder.specs.declared.place.Place.{Place}
+use Rattle.disk_feeder.specs.declared.stream.Stream.{Stream}
+use Rattle.disk_feeder.specs.Plan.{Plan, stream_of, AreTold, AreAccepted, HasHeaders}
+use Rattle.disk_feeder.specs.Reading.{IsAt, HasRead}
+use Rattle.disk_feeder.specs.Sources.{plan_of}
+use Rattle.disk_feeder.specs.Filling.{IsFilled}
+use Rattle.disk_feeder.specs.Beginning.{start_place, IsBegunStream}
+use Rattle.disk_feeder.specs.Feeding.{header_entries, headers_sealed, IsFeeding}
+use Rattle.disk_feeder.proofs.Streams.{starts_of}
+use Rattle.disk_feeder.proofs.OfSource.{plan_starts}
+use Rattle.disk_feeder.proofs.Runs.{feeds_running}
+
+-- the files of a feeder whose first headers were accepted are walked
+walked : (plan : Plan) (told : Told) (files : List (List ℕ)) → AreTold told plan.names files →
+    AreStarts plan.starts (length plan.names) → AreAccepted plan → length plan.headers ≡ length plan.starts →
+    HasHeaders plan (stream_of plan files) → AreWalked (stream_of plan files)
+walked plan told files are starts accepted headed headers = record {
+  starts = starts_of plan told files are starts;
+  accepted = λ transfer there.
+      let none : HeaderText = record { size = 0; text = [] } in
+      let header = get_or plan.headers transfer none in
+      let at : slice_get plan.headers transfer ≡ Some header =
+      slice_get-get_or plan.headers transfer none (omega arith) in
+      let a = accepted transfer header at in
+      record {
+        header = header;
+        observation = observation_in (fields_of header.text);
+        is_header = headers transfer header at;
+        is_observation = a.2.accepted;
+      };
+}
+
+-- at the first file nothing was read
+at_start : FirstFilesContinue → DataGrow → DataNone → (plan : Plan) (told : Told) (is_open : Bool)
+    (files : List (List ℕ)) → AreTold told plan.names files → AreStarts plan.starts (length plan.names) →
+    AreAccepted plan → length plan.headers ≡ length plan.starts → HasHeaders plan (stream_of plan files) →
+    (is_open ≡ true → left_to_read told ≡ Some (data_of (file_at (stream_of plan files) 0))) →
+    IsAt (stream_of plan files) plan told (start_place is_open) [] []
+at_start continue grow none plan told is_open files are starts accepted headed headers left =
+    let s = stream_of plan files in
+    let w = walked plan told files are starts accepted headed headers in
+    let some = w.starts.some in
+    let first : begin_of s 0 ≡ 0 = w.starts.first in
+    let below = w.starts.within 0 some in
+    let there : 0 < length files = omega arith in
+    record {
+      headers = headers;
+      earlier = refl;
+      passed = λ j less. absurd (omega arith);
+      judged = λ open_now. ap (header_stop s) (sym first) ∙ continue s 0 w some;
+      shut = λ shut_now. sym (none files 0) ∙ ap (λ (n : ℕ). data_between files n 0) (sym first);
+      rest = λ open_now. (
+        data_of (file_at s 0),
+        left open_now,
+        ap (λ (n : ℕ). data_between files n 1) first
+            ∙ grow files 0 0 (omega arith) there
+            ∙ ap (λ (xs : List ℕ). xs ++ data_of (file_at s 0)) (none files 0),
+      );
+    }
+
+read_start : FirstFilesContinue → DataGrow → DataNone → (plan : Plan) (told : Told) (is_open : Bool) →
+    AreStarts plan.starts (length plan.names) → AreAccepted plan → length plan.headers ≡ length plan.starts →
+    ((files : List (List ℕ)) → AreTold told plan.names files → HasHeaders plan (stream_of plan files)) →
+    (is_open ≡ true → (files : List (List ℕ)) → AreTold told plan.names files →
+    left_to_read told ≡ Some (data_of (file_at (stream_of plan files) 0))) →
+    HasRead plan told (start_place is_open) [] []
+unfolding joined_data
+read_start continue grow none plan told is_open starts accepted headed headers left = record {
+  accepted = accepted;
+  transfers = refl;
+  since = refl;
+  total = refl;
+  known = λ files are.
+      at_start continue grow none plan told is_open files are starts accepted headed (headers files are)
+      (λ open_now. left open_now files are);
+}
+
+filled_start : (plan : Plan) (told : Told) (at : Place) (block : List ℕ) → HasRead plan told at [] [] →
+    0 < length block → IsFilled plan told at block 0 None []
+unfolding whole_stream full_entries
+filled_start plan told at block has some = record {
+  before = [];
+  current = [];
+  fulls = 0;
+  sealed = refl;
+  count = omega arith;
+  kept = sym (drop_all (0 * length block) [] (omega arith));
+  next = (has, some);
+}
+
+pub begins_feeding : FirstFilesContinue → DataGrow → DataNone → (s : Stream) (told : Told) → IsBegunStream told s →
+    AreAccepted (plan_of s.source) → IsFeeding s told (header_entries (take 1 (plan_of s.source).headers)) []
+begins_feeding continue grow none s told b accepted =
+    let plan = plan_of s.source in
+    let headers = plan.headers in
+    let some = s.source.begin.some in
+    let at = s.source.place in
+    let zero_transfer : at.transfer ≡ 0 = ap (λ (p : Place). p.transfer) b.place in
+    let P : Place → Type 0 = λ p. HasRead plan told p [] [] in
+    let has : HasRead plan told at [] [] = subst P (sym b.place)
+    (read_start continue grow none plan told at.is_open (plan_starts s.source) accepted s.source.headed b.headers
+    b.left) in
+    let Q : ℕ → Type 0 = λ n. IsFilled plan told at s.block.items n s.due [] in
+    let R : Option Due → Type 0 = λ d. IsFilled plan told at s.block.items 0 d [] in
+    feeds_running s told (header_entries (take 1 headers)) [] b.end (record {
+      there = omega arith;
+      accepted = accepted;
+      sealed = ap (λ (n : ℕ). header_entries (take (n + 1) headers)) (sym zero_transfer)
+          ∙ ap (λ (d : Bool). header_entries (take (headers_sealed d at.transfer) headers)) (sym b.header_due);
+      stream = subst Q (sym b.held) (subst R (sym b.due) (filled_start plan told at s.block.items has s.some));
+    })

@@ -1,0 +1,47 @@
+-- Counts of faults over several calls.
+use Rattle.std.proofs.Common.{◌≡◌, ℕ, ◌+◌, ◌<◌, ◌≤◌, List, [], Option, Some, None, length, refl, sym, ap, ◌∙◌, subst, arith}
+use Rattle.std.specs.Prelude.{IsSome, slice_index_or}
+use Rattle.psr_base.specs.Count.{Rose}
+use Rattle.psr_base.specs.Told.{Told}
+use Rattle.disk_feeder.specs.declared.answers.FeedEnd.{FeedEnd}
+use Rattle.disk_feeder.specs.declared.answers.FeedEnd.TheVariants.{ReadFault}
+use Rattle.disk_feeder.specs.declared.due.Due.{Due}
+use Rattle.disk_feeder.specs.declared.due.Due.TheVariants.{Stopped}
+use Rattle.disk_feeder.specs.Filling.{IsSince, HoldsAll}
+use Rattle.disk_feeder.specs.Streams.{steps_left}
+
+pub rose_from : (k f f' : ℕ) → k ≤ f → Rose f f' → Rose k f'
+rose_from k f f' below rose = omega arith
+
+pub rose_more : (k f f' : ℕ) → Rose k f → f ≤ f' → Rose k f'
+rose_more k f f' rose more = omega arith
+
+-- another call, which failed only where the count rose
+pub since_more : (k f f' : ℕ) (due due' : Option Due) (end end' : Option FeedEnd) → IsSince k f due end → f ≤ f' →
+    end' ≡ end → (due' ≡ Some (Stopped ReadFault) → Rose f f') → IsSince k f' due' end'
+since_more k f f' due due' end end' was more same failed =
+    let below = was.count in
+    record {
+      count = omega arith;
+      due_failed = λ e. rose_from k f f' below (failed e);
+      end_failed = λ e. rose_more k f f' (was.end_failed (sym same ∙ e)) more;
+    }
+
+-- the files that are held stay
+pub holds_still : (told told' : Told) (names names' : List (List ℕ)) → told'.bytes_under ≡ told.bytes_under →
+    names' ≡ names → HoldsAll told names → HoldsAll told' names'
+holds_still told told' names names' same listed holds =
+    let P : List (List ℕ) → Type 0 = λ ns. HoldsAll told' ns in
+    let Q : (List ℕ → Option (List ℕ)) → Type 0 = λ f. (k : ℕ) → k < length names →
+    IsSome (f (slice_index_or names k [])) in
+    subst P (sym listed) (subst Q (sym same) holds)
+
+pub fewer_steps : (due due' : Option Due) (work work' : ℕ) → due ≡ None → (due' ≡ None → work' < work) →
+    steps_left due' work' < steps_left due work
+fewer_steps due None work work' is less =
+    let now = less refl in
+    let e : steps_left due work ≡ work + 1 = ap (λ (d : Option Due). steps_left d work) is in
+    omega arith
+fewer_steps due (Some d) work work' is less =
+    let e : steps_left due work ≡ work + 1 = ap (λ (d : Option Due). steps_left d work) is in
+    omega arith

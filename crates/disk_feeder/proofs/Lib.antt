@@ -1,0 +1,13 @@
+pub mod Fronts
+pub mod Streams
+pub mod Openings
+pub mod OfSource
+pub mod Fulls
+pub mod Readings
+pub mod TransferEnds
+pub mod Fillings
+pub mod Counting
+pub mod Sealings
+pub mod Runs
+pub mod Turning
+pub mod Beginnings

@@ -1,0 +1,56 @@
+-- What a source says of its plan and its place.
+use Rattle.std.proofs.Common.{◌≡◌, ℕ, ◌+◌, ◌<◌, true, false, length, sym, subst}
+use Rattle.std.specs.Prelude.{string_bytes}
+use Rattle.std.proofs.lemmas.List.{length-map}
+use Rattle.psr_base.specs.Told.{Told}
+use Rattle.stream_model.specs.WalkLaws.{AreStarts}
+use Rattle.disk_feeder.specs.declared.source.Source.{Source}
+use Rattle.disk_feeder.specs.Plan.{begin_at, IsPlace}
+use Rattle.disk_feeder.specs.Sources.{plan_of}
+use Rattle.disk_feeder.proofs.Openings.{Opens}
+use Rattle.disk_feeder.proofs.Readings.{Reads}
+
+-- there are as many names as files
+pub name_count : (source : Source) → length (plan_of source).names ≡ length source.names.now
+name_count source = length-map source.names.now string_bytes
+
+pub plan_starts : (source : Source) → AreStarts (plan_of source).starts (length (plan_of source).names)
+plan_starts source =
+    let P : ℕ → Type 0 = λ n. AreStarts source.starts.now n in subst P (sym (name_count source)) source.begin
+
+pub plan_place : (source : Source) →
+    IsPlace (plan_of source).starts (length (plan_of source).names) source.max_bytes source.place
+plan_place source =
+    let P : ℕ → Type 0 = λ n. IsPlace source.starts.now n source.max_bytes source.place in
+    subst P (sym (name_count source)) source.placed
+
+-- a file that is to be opened
+pub opens : (source : Source) (told told' : Told) → source.place.is_open ≡ false →
+    source.place.transfer < length source.starts.now →
+    source.place.file < begin_at source.starts.now (length source.names.now) (source.place.transfer + 1) →
+    told'.bytes_under ≡ told.bytes_under → Opens (plan_of source) told told' source.place
+opens source told told' shut there upto names = record {
+  shut = shut;
+  there = there;
+  starts = plan_starts source;
+  from = (plan_place source).from;
+  upto =
+      let P : ℕ → Type 0 = λ n. source.place.file < begin_at source.starts.now n (source.place.transfer + 1) in
+      subst P (sym (name_count source)) upto;
+  names = names;
+}
+
+-- a file that is read
+pub reads : (source : Source) (told told' : Told) → source.place.is_open ≡ true →
+    told'.bytes_under ≡ told.bytes_under → Reads (plan_of source) told told' source.place
+reads source told told' opened names =
+    let at = plan_place source in
+    record {
+      opened = opened;
+      there = (at.opened opened).0;
+      starts = plan_starts source;
+      from = at.from;
+      upto = (at.opened opened).1;
+      within = at.total;
+      names = names;
+    }

@@ -1,0 +1,166 @@
+-- A file that was opened.
+use Rattle.std.proofs.Common.{◌≡◌, ℕ, ◌+◌, ◌<◌, ◌≤◌, true, false, List, ◌++◌, Option, Some, None, Result, Ok, Err, length, take, sym, ap, ◌∙◌, arith}
+use Rattle.std.specs.Prelude.{slice_get, Bool, if◌then◌else◌, ◌==◌}
+use Rattle.std.proofs.lemmas.Bool.{true≢false}
+use Rattle.dada_model.specs.Fields.{HeaderText, HeaderRefusal, header_of, fields_of}
+use Rattle.obs_plan.specs.Later.{profile_of, later_offset_of}
+use Rattle.obs_plan.specs.declared.profile.Profile.{Profile}
+use Rattle.obs_plan.specs.declared.fault.ObsFault.{ObsFault}
+use Rattle.psr_base.specs.Told.{Told, left_to_read}
+use Rattle.stream_model.specs.Blocks.{joined_data, abandoned_stream}
+use Rattle.stream_model.specs.Walk as walk
+use Rattle.stream_model.specs.Walk.{FileStream, WalkStop, file_at, begin_of, transfer_of, transfer_data, walk_data, data_of, data_between, observation_at, length_stop, header_stop, later_stop, offset_stop, stop_at, first_of_two, walk_stop, walk_stream, stream_to, stream_before}
+use Rattle.stream_model.specs.WalkLaws.{AreStarts, IsIn, FilesAreInTransfers, DataGrow, DataJoin, FirstStopCounts}
+use Rattle.disk_feeder.specs.declared.answers.FeedEnd.{FeedEnd}
+use Rattle.disk_feeder.specs.declared.answers.FeedEnd.TheVariants.{Whole, ReadFault, BadHeader, Gap, TooLong}
+use Rattle.disk_feeder.specs.declared.place.First.{First}
+use Rattle.disk_feeder.specs.declared.place.Place.{Place}
+use Rattle.disk_feeder.specs.Ends.{end_of, IsOfHeader}
+use Rattle.disk_feeder.specs.Plan.{Plan, stream_of, AreTold, begin_at}
+use Rattle.disk_feeder.specs.Reading.{IsAt, HasRead, IsFront, IsEnd, EndsReading}
+use Rattle.disk_feeder.proofs.Streams.{told_before, starts_of, begin_most, is_in, first_of, judged_by}
+
+-- ---- the stop of a header
+
+-- a walk that stops at an offset
+offset_blocks : (size : ℕ) (s : FileStream) (k expected : ℕ) (o : Result ℕ ObsFault) (stop : WalkStop) →
+    offset_stop k expected o ≡ Some stop → stream_to size s stop ≡ stream_before size s k k
+offset_blocks size s k expected (Err fault) stop is =
+    let same : walk.BadFields k fault ≡ stop = cc in ap (stream_to size s) (sym same)
+offset_blocks size s k expected (Ok found) stop is = by_test (found == expected) is
+  where
+    by_test : (b : Bool) → (if b then None else Some (walk.Gap k expected found)) ≡ Some stop →
+        stream_to size s stop ≡ stream_before size s k k
+    by_test true f = absurd cc
+    by_test false f = let same : walk.Gap k expected found ≡ stop = cc in ap (stream_to size s) (sym same)
+
+-- a walk that stops at the header of file k has the blocks of the data before it
+header_blocks : (size : ℕ) (s : FileStream) (k expected : ℕ) (profile : Profile) (r : Result HeaderText HeaderRefusal)
+    (stop : WalkStop) → later_stop k profile expected r ≡ Some stop → stream_to size s stop ≡ stream_before size s k k
+header_blocks size s k expected profile (Err refusal) stop is =
+    let same : walk.BadText k refusal ≡ stop = cc in ap (stream_to size s) (sym same)
+header_blocks size s k expected profile (Ok header) stop is =
+    offset_blocks size s k expected (later_offset_of profile (fields_of header.text)) stop is
+
+stop_blocks : (size : ℕ) (s : FileStream) (k : ℕ) (stop : WalkStop) → header_stop s k ≡ Some stop →
+    stream_to size s stop ≡ stream_before size s k k
+unfolding header_stop
+stop_blocks size s k stop is =
+    let begin = begin_of s (transfer_of s.starts k) in
+    let first = observation_at (file_at s begin) in
+    header_blocks size s k (first.obs_offset + length (data_between s.files begin k)) (profile_of first)
+    (header_of (file_at s k)) stop is
+
+stop_of_header : (s : FileStream) (k : ℕ) (stop : WalkStop) → header_stop s k ≡ Some stop → stop_at s k ≡ Some stop
+unfolding stop_at
+stop_of_header s k stop is = ap (λ (o : Option WalkStop). first_of_two o (length_stop s k)) is
+
+-- an end of a header is the walk's
+ends_by_header : (s : FileStream) (at : Place) (before : List (List ℕ)) (current : List ℕ) (room : ℕ) (end : FeedEnd) →
+    IsOfHeader end → IsEnd s before current room end → EndsReading s at before current room end
+ends_by_header s at before current room (Whole bytes) kind is = absurd kind
+ends_by_header s at before current room ReadFault kind is = absurd kind
+ends_by_header s at before current room (BadHeader file cause) kind is = is
+ends_by_header s at before current room (Gap file expected found) kind is = is
+ends_by_header s at before current room (TooLong limit) kind is = absurd kind
+
+-- the file of a place, of which no data were read
+pub record Opens (plan : Plan) (told told' : Told) (at : Place) : Type 0 where
+  pub shut : at.is_open ≡ false
+  pub there : at.transfer < length plan.starts
+  pub starts : AreStarts plan.starts (length plan.names)
+  pub from : begin_at plan.starts (length plan.names) at.transfer ≤ at.file
+  pub upto : at.file < begin_at plan.starts (length plan.names) (at.transfer + 1)
+  pub names : told'.bytes_under ≡ told.bytes_under
+
+module _ (plan : Plan) (told told' : Told) (at : Place) (before : List (List ℕ)) (current : List ℕ)
+    (o : Opens plan told told' at) (has : HasRead plan told at before current)
+    (transfers : FilesAreInTransfers) (files : List (List ℕ)) (are : AreTold told' plan.names files) where
+  abbrev s : FileStream
+  s = stream_of plan files
+
+  was : IsAt s plan told at before current
+  was = has.known files (told_before told told' plan.names files o.names are)
+
+  starts : AreStarts plan.starts (length files)
+  starts = starts_of plan told' files are o.starts
+
+  inside : IsIn s at.transfer at.file
+  inside = is_in plan told' files are at.transfer at.file o.there o.from o.upto
+
+  transfer_is : transfer_of plan.starts at.file ≡ at.transfer
+  transfer_is = transfers s at.transfer at.file starts inside
+
+  -- the file is there
+  there : at.file < length files
+  there =
+      let most = begin_most plan.starts (length plan.names) at.transfer o.starts o.there in
+      let upto = o.upto in
+      let count = are.count in
+      omega arith
+
+  so_far : current ≡ data_between files (begin_of s at.transfer) at.file
+  so_far = was.shut o.shut
+
+  -- what the header is judged by
+  pub stop_is : (first : First) → slice_get plan.firsts at.transfer ≡ Some (Some first) →
+      length plan.headers ≡ length plan.starts →
+      header_stop s at.file
+      ≡ later_stop at.file first.profile (first.offset + at.since) (header_of (file_at s at.file))
+  stop_is first is headed =
+      let below = o.there in
+      judged_by s at.transfer at.file at.since first transfer_is
+      (first_of plan s at.transfer first has.accepted was.headers (omega arith) is)
+      (sym has.since ∙ ap (length {A = ℕ}) so_far)
+
+  -- it goes on
+  pub opened_at : DataGrow → header_stop s at.file ≡ None → left_to_read told' ≡ Some (data_of (file_at s at.file)) →
+      IsAt s plan told' (record at { is_open = true }) before current
+  opened_at grow none left = record {
+    headers = was.headers;
+    earlier = was.earlier;
+    passed = was.passed;
+    judged = λ open_now. none;
+    shut = λ shut_now. absurd (true≢false shut_now);
+    rest = λ open_now. (
+      data_of (file_at s at.file),
+      left,
+      grow files (begin_of s at.transfer) at.file inside.from there
+          ∙ ap (λ (xs : List ℕ). xs ++ data_of (file_at s at.file)) (sym so_far),
+    );
+  }
+
+  -- it is the walk's stop
+  pub stopped_at : FirstStopCounts → (stop : WalkStop) (end : FeedEnd) (room : ℕ) →
+      header_stop s at.file ≡ Some stop → ((bytes limit : ℕ) → end ≡ end_of bytes limit stop) →
+      IsOfHeader end → EndsReading s at before current room end
+  unfolding walk_stream
+  stopped_at counts stop end room is end_is kind =
+      let whole = counts s at.file stop was.passed there (stop_of_header s at.file stop is) in
+      ends_by_header s at before current room end kind (record {
+        is = end_is (length (joined_data (walk_data s))) plan.max_bytes
+            ∙ ap (end_of (length (joined_data (walk_data s))) plan.max_bytes) (sym whole);
+        blocks = λ size fulls held sum fits some.
+            ap (stream_to size s) whole
+            ∙ stop_blocks size s at.file stop is
+            ∙ ap (λ (t : ℕ). abandoned_stream size plan.max_bytes (take t (walk_data s))
+            (data_between files (begin_of s t) at.file)) transfer_is
+            ∙ ap (λ (b : List (List ℕ)). abandoned_stream size plan.max_bytes b
+            (data_between files (begin_of s at.transfer) at.file)) (sym was.earlier)
+            ∙ ap (abandoned_stream size plan.max_bytes before) (sym so_far);
+      })
+
+  -- the inputs failed
+  pub front_at : DataJoin → IsFront s at before current
+  front_at join =
+      let begin = begin_of s at.transfer in
+      let next = begin_of s (at.transfer + 1) in
+      let from = inside.from in
+      let upto = inside.before in
+      let below = there in
+      record {
+        earlier = was.earlier;
+        more = data_between files at.file next;
+        front = sym (join files begin at.file next from (omega arith) (omega arith))
+            ∙ ap (λ (xs : List ℕ). xs ++ data_between files at.file next) (sym so_far);
+      }

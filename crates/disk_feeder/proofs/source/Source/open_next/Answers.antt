@@ -1,0 +1,177 @@
+use Rattle.std.proofs.Common.{◌≡◌, ℕ, ◌+◌, List, [], Option, Some, None, Ok, Err, refl, sym, ap, ◌∙◌, subst, length, arith}
+use Rattle.std.specs.Prelude.{slice_get, slice_index_or}
+use Rattle.dada_model.specs.Fields.{HeaderText, HeaderRefusal, header_of, fields_of, ShortHeader, BadHeaderSize, NotTextAt}
+use Rattle.dada_header.specs.Faults.{IsHeaderRefusal}
+use Rattle.dada_header.specs.declared.faults.HeaderFault.{HeaderFault}
+use Rattle.dada_header.specs.declared.faults.HeaderFault.TheVariants.{Short, NotText, BadSize, Memory}
+use Rattle.obs_plan.specs.Later.{profile_of, later_offset_of}
+use Rattle.psr_base.specs.Told.{Told}
+use Rattle.stream_model.specs.Walk as walk
+use Rattle.stream_model.specs.Walk.{FileStream, WalkStop, file_at, begin_of, transfer_of, observation_at, data_between, header_stop, later_stop, offset_stop}
+use Rattle.stream_model.specs.WalkLaws.{FirstStopCounts, DataJoin, FilesAreInTransfers}
+use Rattle.disk_feeder.specs.declared.answers.HeaderCause.TheVariants.{Text, Fields}
+use Rattle.disk_feeder.specs.declared.answers.FeedEnd.{FeedEnd}
+use Rattle.disk_feeder.specs.declared.answers.FeedEnd.TheVariants.{Whole, ReadFault, BadHeader, Gap, TooLong}
+use Rattle.disk_feeder.specs.declared.place.First.{First}
+use Rattle.disk_feeder.specs.declared.place.Place.{Place}
+use Rattle.disk_feeder.specs.declared.source.Source.{Source}
+use Rattle.disk_feeder.specs.Ends.{IsStop, IsOfHeader, fault_of}
+use Rattle.disk_feeder.specs.Plan.{Plan, stream_of, AreTold, AreAccepted}
+use Rattle.disk_feeder.specs.Reading.{HasRead, EndsReading}
+use Rattle.disk_feeder.specs.Sources.{plan_of, RefusesText}
+use Rattle.disk_feeder.proofs.Openings.{Opens, stop_is, opened_at, stopped_at, front_at}
+use Rattle.disk_feeder.proofs.Streams.{told_before, begin_most}
+use Rattle.disk_feeder.proofs.OfSource.{opens}
+use Rattle.disk_feeder.proofs.source.Source.open_next.Goals as goal
+
+-- a header that is no header stops the walk
+header_stops : (s : FileStream) (k : ℕ) (refusal : HeaderRefusal) → header_of (file_at s k) ≡ Err refusal →
+    header_stop s k ≡ Some (walk.BadText k refusal)
+unfolding header_stop
+header_stops s k refusal is =
+    let begin = begin_of s (transfer_of s.starts k) in
+    let first = observation_at (file_at s begin) in
+    ap (later_stop k (profile_of first) (first.obs_offset + length (data_between s.files begin k))) is
+
+-- what a file's text says of the end
+by_text : (plan : Plan) (told told' : Told) (at : Place) (before : List (List ℕ)) (current : List ℕ) →
+    Opens plan told told' at → HasRead plan told at before current → FilesAreInTransfers → FirstStopCounts → DataJoin →
+    (room : ℕ) (files : List (List ℕ)) → AreTold told' plan.names files → (end : FeedEnd) →
+    RefusesText (file_at (stream_of plan files) at.file) at.file end →
+    EndsReading (stream_of plan files) at before current room end
+by_text plan told told' at before current o has transfers counts join room files are (Whole bytes) refuses =
+    absurd refuses
+by_text plan told told' at before current o has transfers counts join room files are ReadFault refuses =
+    front_at plan told told' at before current o has transfers files are join
+by_text plan told told' at before current o has transfers counts join room files are (Gap file expected found) refuses =
+    absurd refuses
+by_text plan told told' at before current o has transfers counts join room files are (TooLong limit) refuses =
+    absurd refuses
+by_text plan told told' at before current o has transfers counts join room files are (BadHeader k (Fields fault))
+    refuses = absurd refuses
+by_text plan told told' at before current o has transfers counts join room files are (BadHeader k (Text fault)) refuses
+    =
+    by_fault fault refuses.1
+  where
+    s : FileStream
+    s = stream_of plan files
+
+    stops : (fault : HeaderFault) (refusal : HeaderRefusal) → header_of (file_at s at.file) ≡ Err refusal →
+        fault ≡ fault_of refusal → EndsReading s at before current room (BadHeader k (Text fault))
+    stops fault refusal is same =
+        stopped_at plan told told' at before current o has transfers files are counts (walk.BadText at.file refusal)
+        (BadHeader k (Text fault)) room (header_stops s at.file refusal is)
+        (λ bytes limit. ap (λ (n : ℕ). BadHeader n (Text fault)) refuses.0 ∙ ap (λ (f : HeaderFault). BadHeader at.file
+        (Text f)) same) tt
+
+    by_fault : (fault : HeaderFault) → IsHeaderRefusal (file_at s at.file) fault →
+        EndsReading s at before current room (BadHeader k (Text fault))
+    by_fault (Short had) is = stops (Short had) (ShortHeader had) is refl
+    by_fault (NotText place) is = stops (NotText place) (NotTextAt place) is refl
+    by_fault BadSize is = stops BadSize BadHeaderSize is refl
+    by_fault Memory is = absurd is
+
+pub first-requires-clause-accepted : goal.first-requires-clause-accepted
+first-requires-clause-accepted g c =
+    let P : Plan → Type 0 = λ plan. AreAccepted plan in subst P (sym c.in-Ok.ensures.plan) c.requires.accepted
+
+-- the bytes of the file of a place
+known_at : (plan : Plan) (told told' : Told) (at : Place) (files : List (List ℕ)) → Opens plan told told' at →
+    AreTold told' plan.names files →
+    told.bytes_under (slice_index_or plan.names at.file []) ≡ Some (file_at (stream_of plan files) at.file)
+known_at plan told told' at files o are =
+    let most = begin_most plan.starts (length plan.names) at.transfer o.starts o.there in
+    let upto = o.upto in
+    (told_before told told' plan.names files o.names are).each at.file (omega arith)
+
+-- a header that was judged
+judged_stop : (k : ℕ) (first : First) (since : ℕ) (file : List ℕ) (header : HeaderText) → header_of file ≡ Ok header →
+    later_stop k first.profile (first.offset + since) (header_of file)
+    ≡ offset_stop k (first.offset + since) (later_offset_of first.profile (fields_of header.text))
+judged_stop k first since file header is = ap (later_stop k first.profile (first.offset + since)) is
+
+first_is : (old new : Source) (first : First) → plan_of new ≡ plan_of old → new.place ≡ old.place →
+    slice_get new.firsts new.place.transfer ≡ Some (Some first) →
+    slice_get old.firsts old.place.transfer ≡ Some (Some first)
+first_is old new first plan place is =
+    ap (λ (p : Plan). slice_get p.firsts old.place.transfer) (sym plan)
+    ∙ ap (λ (pl : Place). slice_get new.firsts pl.transfer) (sym place) ∙ is
+
+-- the stop of a header that was judged
+by_judge : (plan : Plan) (told told' : Told) (at : Place) (before : List (List ℕ)) (current : List ℕ) →
+    Opens plan told told' at → HasRead plan told at before current → FilesAreInTransfers → FirstStopCounts →
+    (room : ℕ) (files : List (List ℕ)) → AreTold told' plan.names files → (end : FeedEnd) (stop : Option WalkStop) →
+    header_stop (stream_of plan files) at.file ≡ stop → IsStop stop end → IsOfHeader end →
+    EndsReading (stream_of plan files) at before current room end
+by_judge plan told told' at before current o has transfers counts room files are end None is stops kind = absurd stops
+by_judge plan told told' at before current o has transfers counts room files are end (Some stop) is stops kind =
+    stopped_at plan told told' at before current o has transfers files are counts stop end room is stops kind
+
+pub returns-in-Ok-judge-clause-read : goal.returns-in-Ok-judge-clause-read
+returns-in-Ok-judge-clause-read g c = λ before current has.
+    let source = c.args.self.now in
+    let new = c.open_file.new.self in
+    let plan = plan_of source in
+    let at = source.place in
+    let told = g.I.Inputs.told c.args.inputs.now in
+    let told' = g.I.Inputs.told c.open_file.new.inputs in
+    let o : Opens plan told told' at =
+    opens source told told' c.requires.shut c.requires.there c.requires.more c.open_file.ensures.names in
+    let first = c.first.result in
+    let there = first_is source new first c.in-Ok.ensures.plan c.in-Ok.ensures.place c.first.ensures in
+    record {
+      accepted = has.accepted;
+      transfers = has.transfers;
+      since = has.since;
+      total = has.total;
+      known = λ files are.
+          let file = file_at (stream_of plan files) at.file in
+          let known = known_at plan told told' at files o are in
+          let Q : Place → Type 0 = λ pl. offset_stop pl.file (first.offset + pl.since)
+          (later_offset_of first.profile (fields_of new.later.text)) ≡ None in
+          opened_at plan told told' at before current o has c.files_are_in_transfers.ensures files are
+          c.data_grow.ensures
+          (stop_is plan told told' at before current o has c.files_are_in_transfers.ensures files are first there
+          source.headed
+          ∙ judged_stop at.file first at.since file new.later (c.in-Ok.ensures.header file known)
+          ∙ subst Q c.in-Ok.ensures.place c.in-Ok-judge.ensures.judged)
+          (c.in-Ok.ensures.left file known);
+    }
+
+pub returns-in-Err-judge-clause-read : goal.returns-in-Err-judge-clause-read
+returns-in-Err-judge-clause-read g c = λ before current has room files are.
+    let source = c.args.self.now in
+    let new = c.open_file.new.self in
+    let plan = plan_of source in
+    let at = source.place in
+    let told = g.I.Inputs.told c.args.inputs.now in
+    let told' = g.I.Inputs.told c.open_file.new.inputs in
+    let o : Opens plan told told' at =
+    opens source told told' c.requires.shut c.requires.there c.requires.more c.open_file.ensures.names in
+    let first = c.first.result in
+    let there = first_is source new first c.in-Ok.ensures.plan c.in-Ok.ensures.place c.first.ensures in
+    let file = file_at (stream_of plan files) at.file in
+    let known = known_at plan told told' at files o are in
+    let Q : Place → Type 0 = λ pl. IsStop (offset_stop pl.file (first.offset + pl.since)
+    (later_offset_of first.profile (fields_of new.later.text))) c.in-Err-judge.end in
+    by_judge plan told told' at before current o has c.files_are_in_transfers.ensures c.first_stop_counts.ensures room
+    files
+    are c.in-Err-judge.end
+    (offset_stop at.file (first.offset + at.since) (later_offset_of first.profile (fields_of new.later.text)))
+    (stop_is plan told told' at before current o has c.files_are_in_transfers.ensures files are first there
+    source.headed
+    ∙ judged_stop at.file first at.since file new.later (c.in-Ok.ensures.header file known))
+    (subst Q c.in-Ok.ensures.place c.in-Err-judge.ensures.judged) c.in-Err-judge.ensures.kind
+
+pub returns-in-Err-clause-read : goal.returns-in-Err-clause-read
+returns-in-Err-clause-read g c = λ before current has room files are.
+    let source = c.args.self.now in
+    let plan = plan_of source in
+    let at = source.place in
+    let told = g.I.Inputs.told c.args.inputs.now in
+    let told' = g.I.Inputs.told c.open_file.new.inputs in
+    let o : Opens plan told told' at =
+    opens source told told' c.requires.shut c.requires.there c.requires.more c.open_file.ensures.names in
+    by_text plan told told' at before current o has c.files_are_in_transfers.ensures c.first_stop_counts.ensures
+    c.data_join.ensures room files are c.in-Err.end
+    (c.in-Err.ensures.stopped (file_at (stream_of plan files) at.file) (known_at plan told told' at files o are))

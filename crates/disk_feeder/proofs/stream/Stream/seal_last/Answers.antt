@@ -1,0 +1,109 @@
+use Rattle.std.proofs.Common.{◌≡◌, ℕ, ◌+◌, ◌<◌, List, [], ◌∷◌, ◌++◌, None, Some, Bool, length, take, sym, ap, ◌∙◌, subst}
+use Rattle.psr_base.specs.Told.{Told}
+use Rattle.ring_ends.specs.declared.passes.WriterPass.{WriterPass}
+use Rattle.ring_ends.specs.Passes.{writer_knows}
+use Rattle.ring_blocks.specs.declared.Entry.{Entry}
+use Rattle.ring_blocks.specs.declared.Mark.TheVariants.{End}
+use Rattle.dada_hdu.specs.Answers.{entry}
+use Rattle.stream_model.specs.WalkLaws.{NoStopIsWhole}
+use Rattle.disk_feeder.specs.declared.answers.FeedEnd.{FeedEnd}
+use Rattle.disk_feeder.specs.declared.answers.FeedTurn.{FeedTurn}
+use Rattle.disk_feeder.specs.declared.answers.FeedTurn.TheVariants.{Moved, Waiting, Ended}
+use Rattle.disk_feeder.specs.declared.due.Due.TheVariants.{Last}
+use Rattle.disk_feeder.specs.declared.place.Place.{Place}
+use Rattle.disk_feeder.specs.declared.source.Source.{Source}
+use Rattle.disk_feeder.specs.declared.stream.Stream.{Stream}
+use Rattle.disk_feeder.specs.Plan.{Plan, AreAccepted}
+use Rattle.disk_feeder.specs.Sources.{plan_of}
+use Rattle.disk_feeder.specs.Turns.{sealed_headers, sealed_blocks}
+use Rattle.disk_feeder.specs.Feeding.{header_entries, headers_sealed, IsFeeding, IsEnded, GoesOn}
+use Rattle.disk_feeder.proofs.OfSource.{plan_place}
+use Rattle.disk_feeder.proofs.Runs.{feeds_running, feeds_ended, blocks_full, stream_is, with_due}
+use Rattle.disk_feeder.proofs.Sealings.{LastSealed, last_sealed, next_begun, whole_sealed}
+use Rattle.disk_feeder.proofs.stream.Stream.seal_last.Goals as goal
+
+-- the state after the last block of a transfer
+record After (mid : Stream) (told : Told) (headers blocks : List Entry) : Type 0 where
+  pub sealed : LastSealed (plan_of mid.source) told mid.source.place (length mid.block.items) blocks
+  pub accepted : AreAccepted (plan_of mid.source)
+  pub headers_are : headers ≡ header_entries (take mid.source.place.transfer (plan_of mid.source).headers)
+  pub held : mid.held ≡ 0
+  pub due : mid.due ≡ None
+
+-- another transfer begins, or all are sealed
+go_on : NoStopIsWhole → (mid new : Stream) (told : Told) (headers blocks : List Entry) (turn : FeedTurn) →
+    After mid told headers blocks → new.source ≡ mid.source → new.block ≡ mid.block → new.held ≡ mid.held →
+    new.due ≡ mid.due → GoesOn mid new turn → IsFeeding new told headers blocks
+go_on whole mid new told headers blocks Moved a source block held due goes =
+    let P : Source → Type 0 = λ x. x.place.transfer < length x.starts.now in
+    let Q : Source → Type 0 = λ x. AreAccepted (plan_of x) in
+    feeds_running new told headers blocks goes.2 (record {
+      there = subst P (sym source) goes.0;
+      accepted = subst Q (sym source) a.accepted;
+      sealed = a.headers_are
+          ∙ ap (λ (x : Source). header_entries (take x.place.transfer (plan_of x).headers)) (sym source)
+          ∙ ap (λ (b : Bool). header_entries (take (headers_sealed b new.source.place.transfer) (plan_of
+          new.source).headers)) (sym goes.1);
+      stream = stream_is new mid.source told mid.block.items 0 None blocks source (ap (λ v. v.items) block)
+          (held ∙ a.held) (due ∙ a.due)
+          (next_begun 0 (plan_of mid.source) told mid.source.place mid.block.items a.sealed.before blocks mid.some
+          a.sealed.has a.sealed.stream);
+    })
+go_on whole mid new told headers blocks (Waiting reader cleared) a source block held due goes = absurd goes
+go_on whole mid new told headers blocks (Ended end) a source block held due goes =
+    let plan = plan_of mid.source in
+    let P : FeedEnd → Type 0 = λ e. IsEnded plan told (length mid.block.items) headers blocks e in
+    let Q : Source → Type 0 = λ x. IsEnded (plan_of x) told (length mid.block.items) headers blocks end in
+    let R : ℕ → Type 0 = λ n. IsEnded (plan_of new.source) told n headers blocks end in
+    feeds_ended new told headers blocks end goes.2
+    (subst R (sym (ap (λ v. length v.items) block))
+    (subst Q (sym source)
+    (subst P (sym goes.1)
+    (whole_sealed whole plan told mid.source.place (length mid.block.items) headers blocks a.sealed goes.0
+    mid.source.headed (plan_place mid.source).from a.headers_are))))
+
+pub returns-in-Ok-clause-feeds : goal.returns-in-Ok-clause-feeds
+returns-in-Ok-clause-feeds c = λ told was.
+    let old = c.args.self.now in
+    let next = c.next_transfer.new.self in
+    let mid = c.empty.new.self in
+    let new = c.after_transfer.new.self in
+    let plan = plan_of old.source in
+    let pass = c.args.pass.now in
+    let pass' = c.write_block.new.pass in
+    let at = old.source.place in
+    let held = old.held in
+    let last = last_sealed c.streams_grow.ensures plan told at next.place old.block.items held (sealed_blocks pass)
+    (sealed_blocks pass') (with_due old told (Some Last) (sealed_blocks pass) c.requires.due was.stream)
+    (c.next_transfer.ensures.read told)
+    (c.in-Ok.ensures.sealed ∙ ap (λ (xs : List ℕ). sealed_blocks pass ++ entry End (take held xs) ∷ [])
+    c.deref.ensures.value) in
+    let size = length old.block.items in
+    let source : mid.source ≡ next = c.empty.ensures.source in
+    let same : plan_of next ≡ plan = c.next_transfer.ensures.plan in
+    let moved : next.place.transfer ≡ at.transfer + 1 = ap (λ (p : Place). p.transfer) c.next_transfer.ensures.place in
+    let P : Plan → Type 0 = λ x. LastSealed x told next.place size (sealed_blocks pass') in
+    let Q : Source → Type 0 = λ x. LastSealed (plan_of x) told x.place size (sealed_blocks pass') in
+    let R : ℕ → Type 0 = λ n. LastSealed (plan_of mid.source) told mid.source.place n (sealed_blocks pass') in
+    let S : Plan → Type 0 = λ x. AreAccepted x in
+    let T : Source → Type 0 = λ x. AreAccepted (plan_of x) in
+    go_on c.no_stop_is_whole.ensures mid new told (sealed_headers pass') (sealed_blocks pass') c.after_transfer.result
+    (record {
+      sealed = subst R (sym (ap (λ v. length v.items) c.empty.ensures.block))
+          (subst Q (sym source) (subst P (sym same) last));
+      accepted = subst T (sym source) (subst S (sym same) was.accepted);
+      headers_are =
+          ap (λ (p : WriterPass). (writer_knows p).sealed) c.write_block.ensures.header ∙ was.sealed
+          ∙ ap (λ (b : Bool). header_entries (take (headers_sealed b at.transfer) plan.headers)) c.requires.header
+          ∙ ap (λ (n : ℕ). header_entries (take n plan.headers)) (sym moved)
+          ∙ ap (λ (x : Plan). header_entries (take next.place.transfer x.headers)) (sym same)
+          ∙ ap (λ (x : Source). header_entries (take x.place.transfer (plan_of x).headers)) (sym source);
+      held = c.empty.ensures.held;
+      due = c.empty.ensures.due;
+    }) c.after_transfer.ensures.source c.after_transfer.ensures.block c.after_transfer.ensures.held
+    c.after_transfer.ensures.due c.after_transfer.ensures.next
+
+pub returns-in-Err-clause-feeds : goal.returns-in-Err-clause-feeds
+returns-in-Err-clause-feeds c = λ told was.
+    blocks_full c.args.self.now told c.args.pass.now c.write_block.new.pass _ _ c.requires.running
+    c.in-Err.ensures.full c.write_block.ensures.header was

@@ -1,0 +1,75 @@
+use Rattle.std.proofs.Common.{◌≡◌, ℕ, List, ◌++◌, Option, Some, None, length, take, drop, sym, ap, ◌∙◌, subst, rules}
+use Rattle.psr_base.specs.Told.{Told}
+use Rattle.ring_blocks.specs.declared.Entry.{Entry}
+use Rattle.disk_feeder.specs.declared.due.Due.{Due}
+use Rattle.disk_feeder.specs.declared.due.Due.TheVariants.{Stopped}
+use Rattle.disk_feeder.specs.declared.source.Source.{Source}
+use Rattle.disk_feeder.specs.declared.place.Place.{Place}
+use Rattle.disk_feeder.specs.Plan.{Plan}
+use Rattle.disk_feeder.specs.Filling.{IsFilled}
+use Rattle.disk_feeder.specs.Sources.{plan_of}
+use Rattle.disk_feeder.proofs.Fillings.{whole_written, filled_more, filled_stopped}
+use Rattle.disk_feeder.proofs.stream.Stream.step.Goals as goal
+
+-- the same in the words of another plan, place and block
+moved : (plan plan' : Plan) (told : Told) (at at' : Place) (block block' : List ℕ) (held : ℕ) (due : Option Due)
+    (blocks : List Entry) → plan' ≡ plan → at' ≡ at → block' ≡ block → IsFilled plan told at block held due blocks →
+    IsFilled plan' told at' block' held due blocks
+moved plan plan' told at at' block block' held due blocks p q r f =
+    let P : Plan → Type 0 = λ x. IsFilled x told at' block' held due blocks in
+    let Q : Place → Type 0 = λ x. IsFilled plan told x block' held due blocks in
+    let R : List ℕ → Type 0 = λ x. IsFilled plan told at x held due blocks in
+    subst P (sym p) (subst Q (sym q) (subst R (sym r) f))
+
+due_none : (plan : Plan) (told : Told) (at : Place) (block : List ℕ) (held : ℕ) (due : Option Due)
+    (blocks : List Entry) → due ≡ None → IsFilled plan told at block held due blocks →
+    IsFilled plan told at block held None blocks
+due_none plan told at block held due blocks is f =
+    let P : Option Due → Type 0 = λ x. IsFilled plan told at block held x blocks in subst P is f
+
+-- a slice of the whole block
+sliced : (plan : Plan) (told : Told) (at : Place) (slice block : List ℕ) (held : ℕ) (blocks : List Entry) →
+    slice ≡ block → IsFilled plan told at block held None blocks → IsFilled plan told at slice held None blocks
+sliced plan told at slice block held blocks is f =
+    let R : List ℕ → Type 0 = λ x. IsFilled plan told at x held None blocks in subst R (sym is) f
+
+pub returns-in-Ok-clause-filled : goal.returns-in-Ok-clause-filled
+returns-in-Ok-clause-filled g c = λ blocks was.
+    let old = c.args.self.now in
+    let new = c.hold.new.self in
+    let plan = plan_of old.source in
+    let told = g.I.Inputs.told c.args.inputs.now in
+    let told' = g.I.Inputs.told c.read_behind.new.inputs in
+    let slice = c.as_mut_slice-block.result.now in
+    let after = c.read_behind.new.block in
+    let whole : new.block.items ≡ after =
+    ap (λ v. v.items) c.hold.ensures.block ∙ whole_written old.block.len after old.block.items (search rules) in
+    let lent = ap (length {A = ℕ}) (whole_written old.block.len after old.block.items (search rules)) in
+    moved plan (plan_of new.source) told' c.read_behind.new.source.place new.source.place after new.block.items new.held
+    new.due blocks
+    (ap plan_of c.hold.ensures.source ∙ c.read_behind.ensures.plan)
+    (ap (λ (s : Source). s.place) c.hold.ensures.source) whole
+    (filled_more c.streams_grow.ensures plan told told' old.source.place c.read_behind.new.source.place slice after
+    old.held new.held c.in-Ok.n new.due blocks
+    (sliced plan told old.source.place slice old.block.items old.held blocks c.as_mut_slice-block.ensures.value
+    (due_none plan told old.source.place old.block.items old.held old.due blocks c.requires.due was))
+    c.in-Ok.ensures.read c.read_behind.auto.block c.hold.ensures.held c.in-Ok.ensures.bound
+    (λ now. c.hold.ensures.full (now ∙ sym lent))
+    (λ not_now. c.hold.ensures.more (λ now. not_now (now ∙ lent)) ∙ c.requires.due))
+
+pub returns-in-Err-clause-filled : goal.returns-in-Err-clause-filled
+returns-in-Err-clause-filled g c = λ blocks was.
+    let old = c.args.self.now in
+    let plan = plan_of old.source in
+    let told = g.I.Inputs.told c.args.inputs.now in
+    let told' = g.I.Inputs.told c.read_behind.new.inputs in
+    let slice = c.as_mut_slice-block.result.now in
+    let after = c.read_behind.new.block in
+    moved plan (plan_of c.read_behind.new.source) told' old.source.place c.read_behind.new.source.place after
+    (take old.block.len (after ++ drop (length after) old.block.items)) old.held (Some (Stopped c.in-Err.end)) blocks
+    c.read_behind.ensures.plan c.in-Err.ensures.place
+    (whole_written old.block.len after old.block.items (search rules))
+    (filled_stopped plan told told' old.source.place slice after old.held c.in-Err.end blocks
+    (sliced plan told old.source.place slice old.block.items old.held blocks c.as_mut_slice-block.ensures.value
+    (due_none plan told old.source.place old.block.items old.held old.due blocks c.requires.due was))
+    c.in-Err.ensures.read c.read_behind.auto.block c.read_behind.ensures.front c.in-Err.ensures.early)

@@ -1,0 +1,84 @@
+-- How a feeder begins: the first header of each transfer is read, and then its observation accepted.
+-- Source: this project's profile.
+use Rattle.std.specs.Prelude.{◌≡◌, ◌≢◌, ℕ, ◌+◌, ◌<◌, Bool, true, false, None, Some, List, length, slice_get}
+use Rattle.psr_base.specs.Told.{Told, OfFile, left_to_read}
+use Rattle.dada_model.specs.Fields.{HeaderText}
+use Rattle.stream_model.specs.Walk.{file_at, data_of}
+use Rattle.disk_feeder.specs.declared.answers.FeedFault.{FeedFault}
+use Rattle.disk_feeder.specs.declared.place.First.{First}
+use Rattle.disk_feeder.specs.declared.place.Place.{Place}
+use Rattle.disk_feeder.specs.declared.source.Source.{Source}
+use Rattle.disk_feeder.specs.declared.stream.Stream.{Stream}
+use Rattle.disk_feeder.specs.Plan.{Plan, stream_of, AreTold, begin_at, IsFirst, HasHeaders}
+use Rattle.disk_feeder.specs.Sources.{plan_of, first_place, first_name, HasHeaderAt, RefusesFirst, IsKept}
+use Rattle.dada_model.specs.Observation.{Observation}
+
+-- all stays but the headers
+pub record KeepsSource (old new : Source) : Type 0 where
+  pub names : new.names ≡ old.names
+  pub starts : new.starts ≡ old.starts
+  pub limit : new.max_bytes ≡ old.max_bytes
+  pub firsts : new.firsts ≡ old.firsts
+  pub place : new.place ≡ old.place
+
+-- the first headers of so many transfers are those of the files
+abbrev pub HeadersRead : Told → Source → ℕ → Source → Type 0
+HeadersRead told old count new = (k : ℕ) → k < count → OfFile told (first_name old k) (HasHeaderAt new k)
+
+-- what is left of the first file of the last of so many transfers are its data
+abbrev pub LastLeft : Told → Source → ℕ → Told → Type 0
+LastLeft told source count told' = (k : ℕ) → k + 1 ≡ count →
+    OfFile told (first_name source k) (λ file. left_to_read told' ≡ Some (data_of file))
+
+-- the fault is that of the first file of some transfer
+pub record RefusesSome (told : Told) (source : Source) (fault : FeedFault) : Type 0 where
+  pub transfer : ℕ
+  pub there : transfer < length source.starts.now
+  pub refuses : OfFile told (first_name source transfer)
+      (λ file. RefusesFirst file (begin_at source.starts.now (length source.names.now) transfer) fault)
+
+-- at the first file, which may be open
+abbrev pub start_place : Bool → Place
+start_place is_open = record first_place { is_open = is_open }
+
+-- nothing was read or kept
+pub record IsFreshStream (s : Stream) : Type 0 where
+  pub place : s.source.place ≡ first_place
+  pub held : s.held ≡ 0
+  pub due : s.due ≡ None
+  pub header_due : s.header_due ≡ false
+  pub end : s.end ≡ None
+
+-- the first headers were read; the file is open where there is one transfer
+pub record IsBegunStream (told : Told) (s : Stream) : Type 0 where
+  pub place : s.source.place ≡ start_place s.source.place.is_open
+  pub held : s.held ≡ 0
+  pub due : s.due ≡ None
+  pub header_due : s.header_due ≡ false
+  pub end : s.end ≡ None
+  pub headers : (files : List (List ℕ)) → AreTold told (plan_of s.source).names files →
+      HasHeaders (plan_of s.source) (stream_of (plan_of s.source) files)
+  pub left : s.source.place.is_open ≡ true → (files : List (List ℕ)) → AreTold told (plan_of s.source).names files →
+      left_to_read told ≡ Some (data_of (file_at (stream_of (plan_of s.source) files) 0))
+
+-- a header's observation is kept as that of a transfer
+abbrev pub IsAcceptedIn : Plan → ℕ → HeaderText → Type 0
+IsAcceptedIn plan transfer header =
+    (first : First) × (slice_get plan.firsts transfer ≡ Some (Some first)) × IsFirst header first
+
+-- the names, the starts, the limit and the size of a block stay
+pub record KeepsFiles (old new : Stream) : Type 0 where
+  pub names : (plan_of new.source).names ≡ (plan_of old.source).names
+  pub starts : (plan_of new.source).starts ≡ (plan_of old.source).starts
+  pub limit : new.source.max_bytes ≡ old.source.max_bytes
+  pub size : length new.block.items ≡ length old.block.items
+
+-- the observation of a transfer is kept, and all else stays
+pub record AcceptsIn (old : Source) (transfer : ℕ) (o : Observation) (new : Source) : Type 0 where
+  pub names : new.names ≡ old.names
+  pub starts : new.starts ≡ old.starts
+  pub limit : new.max_bytes ≡ old.max_bytes
+  pub headers : new.headers ≡ old.headers
+  pub place : new.place ≡ old.place
+  pub first : IsKept transfer o new.firsts
+  pub others : (k : ℕ) → k ≢ transfer → slice_get new.firsts k ≡ slice_get old.firsts k

@@ -1,0 +1,94 @@
+-- What contracts see of a feeder.
+-- Source: this project's profile.
+use Rattle.std.specs.Prelude.{◌≡◌, ◌≢◌, ℕ, true, Option, Some, List, length, slice_get}
+use Rattle.psr_base.specs.Told.{Told}
+use Rattle.dada_model.specs.Fields.{HeaderText}
+use Rattle.ring_blocks.specs.declared.Entry.{Entry}
+use Rattle.dada_hdu.specs.declared.hdu.Hdu.{Hdu}
+use Rattle.disk_feeder.specs.declared.answers.FeedEnd.{FeedEnd}
+use Rattle.disk_feeder.specs.declared.answers.FeedFault.{FeedFault}
+use Rattle.disk_feeder.specs.declared.feeder.Feeder.{Feeder}
+use Rattle.disk_feeder.specs.declared.stream.Stream.{Stream}
+use Rattle.disk_feeder.specs.Plan.{Plan}
+use Rattle.disk_feeder.specs.Sources.{plan_of}
+use Rattle.disk_feeder.specs.Filling.{IsSince}
+use Rattle.disk_feeder.specs.Beginning.{IsFreshStream, IsBegunStream, RefusesSome, IsAcceptedIn}
+use Rattle.disk_feeder.specs.Feeding.{FitsRings, IsFaultless, IsFeeding}
+
+-- the stream of a feeder
+abbrev pub stream_at : {I : Type 0} → Feeder I → Stream
+stream_at f = f.stream
+
+-- what it reads, and the first headers of its transfers
+abbrev pub plan_at : {I : Type 0} → Feeder I → Plan
+plan_at f = plan_of f.stream.source
+
+abbrev pub names_at : {I : Type 0} → Feeder I → List (List ℕ)
+names_at f = (plan_at f).names
+
+abbrev pub header_at : {I : Type 0} → Feeder I → List HeaderText
+header_at f = (plan_at f).headers
+
+-- how it ended, if it did
+abbrev pub has_end : {I : Type 0} → Feeder I → Option FeedEnd
+has_end f = f.stream.end
+
+-- it reads these files, in blocks of this size
+pub record HasPlan {I : Type 0} (f : Feeder I) (names : List (List ℕ)) (starts : List ℕ) (size max_bytes : ℕ) :
+    Type 0 where
+  pub files : (plan_at f).names ≡ names
+  pub transfers : (plan_at f).starts ≡ starts
+  pub limit : (plan_at f).max_bytes ≡ max_bytes
+  pub block : length f.stream.block.items ≡ size
+
+-- a header's observation was accepted as that of a transfer
+abbrev pub IsAcceptedAt : {I : Type 0} → Feeder I → ℕ → HeaderText → Type 0
+IsAcceptedAt f transfer header = IsAcceptedIn (plan_at f) transfer header
+
+-- the plan and the size of a block stay; what was accepted may not
+pub record SamePlan {I : Type 0} (old new : Feeder I) : Type 0 where
+  pub names : (plan_at new).names ≡ (plan_at old).names
+  pub starts : (plan_at new).starts ≡ (plan_at old).starts
+  pub limit : (plan_at new).max_bytes ≡ (plan_at old).max_bytes
+  pub size : length new.stream.block.items ≡ length old.stream.block.items
+
+-- nothing was read
+abbrev pub IsFresh : {I : Type 0} → Feeder I → Type 0
+IsFresh f = IsFreshStream f.stream
+
+-- a file is open
+abbrev pub IsReading : {I : Type 0} → Feeder I → Type 0
+IsReading f = f.stream.source.place.is_open ≡ true
+
+-- the first headers were read, and those of files that are told are those of the files
+abbrev pub IsBegun : {I : Type 0} → Told → Feeder I → Type 0
+IsBegun told f = IsBegunStream told f.stream
+
+-- why a first header is refused: the inputs failed, or it is the first in the order of the transfers that is refused
+abbrev pub RefusesAt : {I : Type 0} → Told → Feeder I → FeedFault → Type 0
+RefusesAt told f fault = RefusesSome told f.stream.source fault
+
+-- the observation of a transfer's first header was accepted, and what was accepted of others stays
+pub record AcceptsAt {I : Type 0} (old : Feeder I) (transfer : ℕ) (new : Feeder I) : Type 0 where
+  pub first : (header : HeaderText) → slice_get (header_at new) transfer ≡ Some header → IsAcceptedAt new transfer
+      header
+  pub others : (k : ℕ) (header : HeaderText) → k ≢ transfer → IsAcceptedAt old k header → IsAcceptedAt new k header
+
+-- the feeder stands for these sealed lists of the header ring and of the data ring
+abbrev pub FeederFeeds : {I : Type 0} → Told → Feeder I → List Entry → List Entry → Type 0
+FeederFeeds told f headers blocks = IsFeeding f.stream told headers blocks
+
+-- the data ring has blocks of its size, and may carry max_bytes / size + transfers + 1 of them
+abbrev pub FeederFits : {I : Type 0} → Hdu → Feeder I → Type 0
+FeederFits hdu f = FitsRings hdu f.stream
+
+-- since the inputs had counted k faults, it met a fault only where the count rose
+abbrev pub FeederSince : {I : Type 0} → ℕ → ℕ → Feeder I → Type 0
+FeederSince k faults f = IsSince k faults f.stream.due f.stream.end
+
+abbrev pub FeederFaultless : {I : Type 0} → Feeder I → Type 0
+FeederFaultless f = IsFaultless f.stream.due f.stream.end
+
+-- all first headers were accepted
+abbrev pub AllAccepted : {I : Type 0} → Feeder I → Type 0
+AllAccepted f = (k : ℕ) (header : HeaderText) → slice_get (header_at f) k ≡ Some header → IsAcceptedAt f k header

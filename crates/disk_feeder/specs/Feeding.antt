@@ -1,0 +1,115 @@
+-- What a feeder stands for: the sealed lists of its pass.
+-- Source: this project's profile.
+use Rattle.std.specs.Prelude.{◌≡◌, ◌≢◌, ℕ, ◌+◌, ◌/◌, ◌<◌, ◌≤◌, Bool, true, if◌then◌else◌, Option, Some, None, List, map, length, take}
+use Rattle.psr_base.specs.Told.{Told}
+use Rattle.dada_model.specs.Fields.{HeaderText}
+use Rattle.ring_blocks.specs.declared.Entry.{Entry}
+use Rattle.dada_hdu.specs.declared.passes.HduWriter.{HduWriter}
+use Rattle.dada_hdu.specs.Answers.{header_entry}
+use Rattle.dada_hdu.specs.declared.hdu.Hdu.{Hdu}
+use Rattle.dada_hdu.specs.Passes.{data_shape}
+use Rattle.disk_feeder.specs.declared.due.Due.{Due}
+use Rattle.disk_feeder.specs.declared.due.Due.TheVariants.{Stopped}
+use Rattle.stream_model.specs.Blocks.{whole_stream, abandoned_stream, joined_data}
+use Rattle.stream_model.specs.Walk.{FileStream, walk_data, walk_stop, walk_stream, transfer_data}
+use Rattle.disk_feeder.specs.declared.answers.FeedEnd.{FeedEnd}
+use Rattle.disk_feeder.specs.declared.answers.FeedEnd.TheVariants.{Whole, ReadFault}
+use Rattle.disk_feeder.specs.declared.answers.FeedTurn.{FeedTurn}
+use Rattle.disk_feeder.specs.declared.answers.FeedTurn.TheVariants.{Moved, Ended}
+use Rattle.disk_feeder.specs.declared.stream.Stream.{Stream}
+use Rattle.disk_feeder.specs.Ends.{end_of}
+use Rattle.disk_feeder.specs.Plan.{Plan, stream_of, AreTold, AreAccepted}
+use Rattle.disk_feeder.specs.Sources.{plan_of, IsEarly}
+use Rattle.disk_feeder.specs.Streams.{IsStream}
+use Rattle.disk_feeder.specs.Filling.{IsSince}
+use Rattle.disk_feeder.specs.Turns.{sealed_headers, sealed_blocks}
+
+-- the blocks of headers
+abbrev pub header_entries : List HeaderText → List Entry
+header_entries headers = map header_entry headers
+
+-- how many headers are sealed while the data of a transfer are: that of the transfer too, unless it is due
+abbrev pub headers_sealed : Bool → ℕ → ℕ
+headers_sealed header_due transfer = if header_due then transfer else transfer + 1
+
+-- Until a feeder ended, its pass sealed the first headers, and a front of the data's blocks.
+pub record IsRunning (s : Stream) (told : Told) (headers blocks : List Entry) : Type 0 where
+  pub there : s.source.place.transfer < length s.source.starts.now
+  pub accepted : AreAccepted (plan_of s.source)
+  pub sealed : headers
+      ≡ header_entries (take (headers_sealed s.header_due s.source.place.transfer) (plan_of s.source).headers)
+  pub stream : IsStream s told blocks
+
+-- the end is that of the walk, and the blocks are those of the walk
+pub record IsWalkEnd (s : FileStream) (size : ℕ) (blocks : List Entry) (end : FeedEnd) : Type 0 where
+  pub is : end ≡ end_of (length (joined_data (walk_data s))) s.max_bytes (walk_stop s)
+  pub stream : blocks ≡ walk_stream size s
+
+-- at a fault of the inputs the blocks are those of a front of the data
+pub record IsBroken (s : FileStream) (size : ℕ) (blocks : List Entry) : Type 0 where
+  pub transfer : ℕ
+  pub read : ℕ
+  pub stream : blocks
+      ≡ abandoned_stream size s.max_bytes (take transfer (walk_data s)) (take read (transfer_data s transfer))
+
+abbrev pub EndIs : FileStream → ℕ → List Entry → FeedEnd → Type 0
+EndIs s size blocks ReadFault = IsBroken s size blocks
+EndIs s size blocks end = IsWalkEnd s size blocks end
+
+-- a whole stream of data, and all headers; or an abandoned one, and the headers of the transfers that began
+abbrev pub SealedAs : Plan → ℕ → List (List ℕ) → List ℕ → List Entry → List Entry → FeedEnd → Type 0
+SealedAs plan size before current headers blocks (Whole bytes) =
+    (blocks ≡ whole_stream size before) × (length before ≡ length plan.starts)
+    × (headers ≡ header_entries plan.headers) × (bytes ≡ length (joined_data before))
+SealedAs plan size before current headers blocks end =
+    (blocks ≡ abandoned_stream size plan.max_bytes before current) × (length before < length plan.starts)
+    × (headers ≡ header_entries (take (length before + 1) plan.headers)) × IsEarly plan end
+
+-- Once it ended, they are the stream of the data that were read; and where the files are told, the walk's.
+pub record IsEnded (plan : Plan) (told : Told) (size : ℕ) (headers blocks : List Entry) (end : FeedEnd) : Type 0 where
+  pub before : List (List ℕ)
+  pub current : List ℕ
+  pub sealed : SealedAs plan size before current headers blocks end
+  pub known : (files : List (List ℕ)) → AreTold told plan.names files →
+      EndIs (stream_of plan files) size blocks end
+
+abbrev pub FeedsTo : Stream → Told → List Entry → List Entry → Option FeedEnd → Type 0
+FeedsTo s told headers blocks None = IsRunning s told headers blocks
+FeedsTo s told headers blocks (Some end) =
+    IsEnded (plan_of s.source) told (length s.block.items) headers blocks end
+
+-- it stands for these sealed lists
+abbrev pub IsFeeding : Stream → Told → List Entry → List Entry → Type 0
+IsFeeding s told headers blocks = FeedsTo s told headers blocks s.end
+
+-- the plan and the size of a block stay
+pub record KeepsPlan (old new : Stream) : Type 0 where
+  pub plan : plan_of new.source ≡ plan_of old.source
+  pub size : length new.block.items ≡ length old.block.items
+
+-- a call that reads nothing: what stood for the sealed lists before stands for those after it
+abbrev pub Feeds : Stream → HduWriter → Stream → HduWriter → Type 0
+Feeds old pass new pass' = (told : Told) → IsRunning old told (sealed_headers pass) (sealed_blocks pass) →
+    IsFeeding new told (sealed_headers pass') (sealed_blocks pass')
+
+-- it makes no fault of one that isn't
+abbrev pub SinceSame : Stream → Stream → Type 0
+SinceSame old new = (k faults : ℕ) → IsSince k faults old.due old.end → IsSince k faults new.due new.end
+
+-- after a transfer: the header of the next one is due, or all data were sealed
+abbrev pub GoesOn : Stream → Stream → FeedTurn → Type 0
+GoesOn old new Moved = (old.source.place.transfer < length old.source.starts.now) × (new.header_due ≡ true)
+    × (new.end ≡ None)
+GoesOn old new (Ended end) = (length old.source.starts.now ≡ old.source.place.transfer)
+    × (end ≡ Whole old.source.place.total) × (new.end ≡ Some end)
+GoesOn old new turn = ⊥
+
+-- the data ring has blocks of the stream's size, and may carry as many as it can come to
+pub record FitsRings (hdu : Hdu) (s : Stream) : Type 0 where
+  pub size : (data_shape hdu).size ≡ length s.block.items
+  pub blocks : s.source.max_bytes / length s.block.items + length s.source.starts.now + 1
+      ≤ (data_shape hdu).max_blocks
+
+-- no fault of the inputs came
+abbrev pub IsFaultless : Option Due → Option FeedEnd → Type 0
+IsFaultless due end = (due ≢ Some (Stopped ReadFault)) × (end ≢ Some ReadFault)

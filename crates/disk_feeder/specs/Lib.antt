@@ -1,0 +1,11 @@
+pub mod Front
+pub mod Ends
+pub mod Plan
+pub mod Reading
+pub mod Sources
+pub mod Filling
+pub mod Streams
+pub mod Turns
+pub mod Feeding
+pub mod Beginning
+pub mod Feeder

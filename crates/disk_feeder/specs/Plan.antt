@@ -1,0 +1,58 @@
+-- The files that a feeder reads, and where it may be in them.
+use Rattle.std.specs.Prelude.{◌≡◌, ℕ, ◌+◌, ◌<◌, ◌≤◌, true, Option, Some, Ok, List, [], length, slice_get, slice_index_or}
+use Rattle.dada_model.specs.Fields.{HeaderText, fields_of, header_of}
+use Rattle.dada_model.specs.Observation.{observation_of, observation_in}
+use Rattle.obs_plan.specs.Later.{profile_of}
+use Rattle.psr_base.specs.Told.{Told}
+use Rattle.stream_model.specs.Walk.{FileStream, file_at, begin_of}
+use Rattle.disk_feeder.specs.declared.place.First.{First}
+use Rattle.disk_feeder.specs.declared.place.Place.{Place}
+
+-- the names of the files in order, the numbers of those with which a transfer begins, the most data bytes; the first
+-- header of each transfer, and what was accepted of it
+pub record Plan : Type 0 where
+  pub names : List (List ℕ)
+  pub starts : List ℕ
+  pub max_bytes : ℕ
+  pub headers : List HeaderText
+  pub firsts : List (Option First)
+
+-- the files as a walk sees them
+abbrev pub stream_of : Plan → List (List ℕ) → FileStream
+stream_of plan files = record { files = files; starts = plan.starts; max_bytes = plan.max_bytes }
+
+-- these are the bytes that are told of the files
+pub record AreTold (told : Told) (names files : List (List ℕ)) : Type 0 where
+  pub count : length files ≡ length names
+  pub each : (k : ℕ) → k < length names →
+      told.bytes_under (slice_index_or names k []) ≡ Some (slice_index_or files k [])
+
+-- the file with which a transfer begins, of so many files
+abbrev pub begin_at : List ℕ → ℕ → ℕ → ℕ
+begin_at starts count transfer = slice_index_or starts transfer count
+
+-- a place among the files: within a transfer or at its end, or after all transfers
+pub record IsPlace (starts : List ℕ) (count max_bytes : ℕ) (at : Place) : Type 0 where
+  pub transfer : at.transfer ≤ length starts
+  pub from : begin_at starts count at.transfer ≤ at.file
+  pub upto : at.transfer < length starts → at.file ≤ begin_at starts count (at.transfer + 1)
+  pub opened : at.is_open ≡ true →
+      (at.transfer < length starts) × (at.file < begin_at starts count (at.transfer + 1))
+  pub since : at.since ≤ at.total
+  pub total : at.total ≤ max_bytes
+
+-- what was accepted of a header: its observation
+pub record IsFirst (header : HeaderText) (first : First) : Type 0 where
+  pub accepted : observation_of (fields_of header.text) ≡ Ok (observation_in (fields_of header.text))
+  pub profile : first.profile ≡ profile_of (observation_in (fields_of header.text))
+  pub offset : first.offset ≡ (observation_in (fields_of header.text)).obs_offset
+
+-- each first header was accepted
+abbrev pub AreAccepted : Plan → Type 0
+AreAccepted plan = (transfer : ℕ) (header : HeaderText) → slice_get plan.headers transfer ≡ Some header →
+    (first : First) × (slice_get plan.firsts transfer ≡ Some (Some first)) × IsFirst header first
+
+-- the first headers are those of the files
+abbrev pub HasHeaders : Plan → FileStream → Type 0
+HasHeaders plan s = (transfer : ℕ) (header : HeaderText) → slice_get plan.headers transfer ≡ Some header →
+    header_of (file_at s (begin_of s transfer)) ≡ Ok header

@@ -1,0 +1,61 @@
+//! What a feeder answers.
+use dada_header::HeaderFault;
+use obs_plan::ObsFault;
+use thiserror::Error;
+
+/// Why a later file's header is refused: its bytes are no header, or it belongs to another observation.
+#[derive(Clone, Copy, Debug, PartialEq, Eq, Error)]
+pub enum HeaderCause {
+    #[error("{0}")]
+    Text(HeaderFault),
+    #[error("{0}")]
+    Fields(ObsFault),
+}
+
+/// Why a first header was not read.
+#[derive(Clone, Copy, Debug, PartialEq, Eq, Error)]
+pub enum FeedFault {
+    /// The inputs failed.
+    #[error("the inputs failed")]
+    ReadFault,
+    /// The file with this number has no header.
+    #[error("header of file {file}: {cause}")]
+    BadHeader { file: u32, cause: HeaderFault },
+}
+
+/// How a stream of files ended. Files count from 0 over all transfers.
+#[derive(Clone, Copy, Debug, PartialEq, Eq)]
+pub enum FeedEnd {
+    /// All data were sealed: so many bytes.
+    Whole {
+        bytes: u64,
+    },
+    /// The inputs failed.
+    ReadFault,
+    /// The header of a file is refused.
+    BadHeader {
+        file: u32,
+        cause: HeaderCause,
+    },
+    /// The OBS_OFFSET of a file is not the one that continues its transfer.
+    Gap {
+        file: u32,
+        expected: u64,
+        found: u64,
+    },
+    /// There are more data bytes than the limit.
+    TooLong {
+        limit: u64,
+    },
+}
+
+/// What a turn of a feeder did.
+#[derive(Clone, Copy, Debug, PartialEq, Eq)]
+pub enum FeedTurn {
+    /// It sealed one block, of a header or of data, and more are to come.
+    Moved,
+    /// The ring was full: this reader had cleared so many of its blocks. The same block is tried in the next turn.
+    Waiting { reader: u32, cleared: u64 },
+    /// It sealed the last block.
+    Ended(FeedEnd),
+}

@@ -1,0 +1,151 @@
+//! The feeder.
+ghost use Rattle.std.specs.Prelude.{◌≡◌, ◌≢◌, ℕ, ◌+◌, ◌/◌, ◌^◌, ◌<◌, ◌≤◌, true, List, length, map, string_bytes, None, Some, Ok, Err, [], take, IfOk, IfErr, OnOk, OnErr, IsSome, slice_get};
+ghost use Rattle.dada_model.specs.Fields.{fields_of};
+ghost use Rattle.dada_model.specs.Observation.{observation_of};
+ghost use Rattle.psr_base.specs.Count.{Rose};
+ghost use Rattle.psr_base.specs.Told.{OfFile};
+ghost use Rattle.stream_model.specs.WalkLaws.{AreStarts};
+ghost use Rattle.dada_hdu.specs.Passes.{WritesBoth};
+ghost use Rattle.disk_feeder.specs.Filling.{HoldsAll};
+ghost use Rattle.disk_feeder.specs.Turns.{TurnAnswers, sealed_headers, sealed_blocks};
+
+use crate::answers::{FeedFault, FeedTurn};
+use crate::stream::Stream;
+use dada_hdu::{Hdu, HduWriter};
+use dada_header::Header;
+use obs_plan::Observation;
+use psr_base::{Inputs, Memory};
+use std::alloc::Global;
+// Laws: they do nothing when they run, and the proofs use what they ensure.
+use stream_model::{data_grow, data_none, first_files_continue};
+
+/// Reads the files of one or more transfers from borrowed inputs, and seals their headers and their data.
+///
+/// It is opened, begun, and given the observation of each transfer's first header; then it takes turns until it ended.
+/// No call after `open` takes memory.
+#[derive(Drop)]
+pub struct Feeder<'a, I> {
+    inputs: &'a mut I,
+    stream: Stream<'a>,
+}
+
+impl<'a, I: Inputs> Feeder<'a, I> {
+    ghost use Rattle.disk_feeder.specs.Feeder.{HasPlan, SamePlan, IsFresh, IsBegun, IsReading, has_end, FeederFits, FeederFeeds, FeederSince, FeederFaultless, header_at, AcceptsAt, AllAccepted, names_at, RefusesAt};
+    ghost use Rattle.disk_feeder.specs.Feeding.{header_entries};
+
+    /// Takes all space: for the first header of each transfer and for a block of so many bytes. Transfer k begins with
+    /// file `starts[k]`; all files may have at most `max_bytes` data bytes together.
+    pub fn open(
+        alloc: Global,
+        inputs: &'a mut I,
+        names: &'a [String],
+        starts: &'a [u32],
+        block: u32,
+        max_bytes: u64,
+    ) -> Result<Feeder<'a, I>, Memory>
+        requires files { length names.now ≤ 65535 }
+        requires transfers { length starts.now ≤ 8 }
+        requires begin { AreStarts starts.now (length names.now) }
+        requires block { (1 ≤ block) × (block ≤ 2 ^ 24) }
+        requires limit { max_bytes ≤ 2 ^ 48 }
+        ensures inputs { IfOk result (λ f. f.inputs.now ≡ inputs.old) }
+        ensures same_reference { IfOk result (λ f. f.inputs.ghost_name ≡ inputs.entry.ghost_name) }
+        ensures plan { IfOk result (λ f.
+            HasPlan f (map string_bytes names.now) starts.now block max_bytes) }
+        ensures fresh { IfOk result IsFresh }
+    {
+        let stream = Stream::open(alloc, names, starts, block as usize, max_bytes)?;
+        Ok(Feeder { inputs, stream })
+    }
+
+    /// Opens the first file of each transfer in order and reads its header.
+    pub fn begin(&mut self) -> Result<(), FeedFault>
+        requires fresh { IsFresh self.old }
+        ensures same_reference { self.new.inputs.ghost_name ≡ self.old.inputs.ghost_name }
+        ensures plan { SamePlan self.old self.new }
+        ensures begun { OnOk result (IsBegun (I.told self.new.inputs.now) self.new) }
+        ensures open { OnOk result (IsReading self.new → I.is_open self.new.inputs.now) }
+        ensures refused { IfErr result (RefusesAt (I.told self.old.inputs.now) self.old) }
+        ensures failed { result ≡ Err FeedFault.ReadFault
+            → Rose (I.faults self.old.inputs.now) (I.faults self.new.inputs.now) }
+        ensures names { (I.told self.new.inputs.now).bytes_under
+            ≡ (I.told self.old.inputs.now).bytes_under }
+        ensures count { I.faults self.old.inputs.now ≤ I.faults self.new.inputs.now }
+        ensures calm { I.is_calm self.old.inputs.now → I.is_calm self.new.inputs.now }
+        ensures serves { I.is_calm self.old.inputs.now
+            → HoldsAll (I.told self.old.inputs.now) (names_at self.old)
+            → result ≢ Err FeedFault.ReadFault }
+    {
+        self.stream.begin(self.inputs)
+    }
+
+    /// The first header of a transfer.
+    pub fn header(&self, transfer: usize) -> &Header
+        requires { transfer < length (header_at self.now) }
+        ensures { slice_get (header_at self.now) transfer ≡ Some result.now }
+    {
+        self.stream.header_of(transfer)
+    }
+
+    /// Keeps the observation of a transfer's first header: the headers of its files are judged by it.
+    pub fn accept(&mut self, transfer: usize, observation: &Observation)
+        requires there { transfer < length (header_at self.old) }
+        requires begun { IsBegun (I.told self.old.inputs.now) self.old }
+        requires accepted { (header : _) → slice_get (header_at self.old) transfer ≡ Some header
+            → observation_of (fields_of header.text) ≡ Ok observation.now }
+        ensures same_reference { self.new.inputs.ghost_name ≡ self.old.inputs.ghost_name }
+        ensures inputs { self.new.inputs.now ≡ self.old.inputs.now }
+        ensures plan { SamePlan self.old self.new }
+        ensures headers { header_at self.new ≡ header_at self.old }
+        ensures feeds { AllAccepted self.new → FeederFeeds (I.told self.new.inputs.now) self.new
+            (header_entries (take 1 (header_at self.new))) [] }
+        ensures faultless { FeederFaultless self.new }
+        ensures running { has_end self.new ≡ None }
+        ensures begun { IsBegun (I.told self.new.inputs.now) self.new }
+        ensures accepts { AcceptsAt self.old transfer self.new }
+        ensures reading { IsReading self.new → IsReading self.old }
+    {
+        first_files_continue();
+        data_grow();
+        data_none();
+        self.stream.accept(transfer, observation);
+    }
+
+    /// Reads until a block is full or the stream stops, and seals the block; or seals the header of a further transfer.
+    /// A block that found the ring full is tried again in the next turn.
+    pub fn turn(&mut self, hdu: &Hdu, pass: &mut HduWriter) -> FeedTurn
+        requires ring { WritesBoth hdu.now pass.old }
+        requires fits { FeederFits hdu.now self.old }
+        requires running { has_end self.old ≡ None }
+        requires is_open { IsReading self.old → I.is_open self.old.inputs.now }
+        requires feeding { FeederFeeds (I.told self.old.inputs.now) self.old
+            (sealed_headers pass.old) (sealed_blocks pass.old) }
+        ensures ring { WritesBoth hdu.now pass.new }
+        ensures same_reference { self.new.inputs.ghost_name ≡ self.old.inputs.ghost_name }
+        ensures plan { SamePlan self.old self.new }
+        ensures fits { FeederFits hdu.now self.new }
+        ensures is_open { IsReading self.new → I.is_open self.new.inputs.now }
+        ensures feeding { FeederFeeds (I.told self.new.inputs.now) self.new
+            (sealed_headers pass.new) (sealed_blocks pass.new) }
+        ensures answer { TurnAnswers pass.old pass.new (has_end self.new) result }
+        ensures since { (k : ℕ) → FeederSince k (I.faults self.old.inputs.now) self.old
+            → FeederSince k (I.faults self.new.inputs.now) self.new }
+        ensures names { (I.told self.new.inputs.now).bytes_under
+            ≡ (I.told self.old.inputs.now).bytes_under }
+        ensures calm { I.is_calm self.old.inputs.now → I.is_calm self.new.inputs.now }
+        ensures serves { I.is_calm self.old.inputs.now
+            → HoldsAll (I.told self.old.inputs.now) (names_at self.old)
+            → FeederFaultless self.old → FeederFaultless self.new }
+    {
+        self.stream.turn(self.inputs, hdu, pass)
+    }
+
+    /// Gives the inputs back.
+    pub fn close(self) -> &'a mut I
+        ensures inputs { result.now ≡ self.entry.inputs.now }
+        ensures same_reference { result.ghost_name ≡ self.entry.inputs.ghost_name }
+    {
+        let Feeder { inputs, stream: _ } = self;
+        inputs
+    }
+}

@@ -1,0 +1,15 @@
+//! The data of files, through rings: a feeder reads the files of one or more transfers in order and seals their headers
+//! and their data as blocks, or why they end early.
+#![tactic(auto)]
+
+mod answers;
+mod due;
+mod feeder;
+mod front;
+mod place;
+mod source;
+mod stream;
+mod writing;
+
+pub use answers::{FeedEnd, FeedFault, FeedTurn, HeaderCause};
+pub use feeder::Feeder;
