@@ -1,7 +1,7 @@
 #!/usr/bin/env bash
-# How long the engine takes for each data byte: 1024 channels, delays of 0 to 1024, one thread. Each row is a search of
-# the samples alone, of boxes of all widths, or of folds of the periods 2 to 64 too; at SPECTRA spectra and at 8 times as
-# many. The least of three, and the peak of memory.
+# How long the engine takes for each data byte: 1024 channels, delays of 0 to 1024, one thread. Each row is a search
+# of the samples alone, of boxes of all widths, or of folds of the periods 2 to 64 too; at SPECTRA spectra and at 8
+# times as many. The least of three, and the peak of memory.
 set -eu
 spectra=${1:-8192}
 cd "$(dirname "$0")/../crates/engine_bench"
@@ -15,6 +15,9 @@ for row in '1 0 samples' '32 0 boxes' '32 64 folds'; do
         done | sort -n | head -1 |
             awk -v n="$n" -v what="$3" '{ printf "%-8s %8d spectra: %.3f ns a byte\n", what, n, $1 / (n * 1024) }'
     done
-    peak=$(command -v /usr/bin/time >/dev/null && /usr/bin/time -f %M out/engine_bench "$spectra" "$1" "$2" 2>&1 >/dev/null || echo '?')
+    peak='?'
+    if [ -x /usr/bin/time ]; then
+        peak=$(/usr/bin/time -f %M out/engine_bench "$spectra" "$1" "$2" 2>&1 >/dev/null)
+    fi
     printf '%-8s peak of memory: %s kB\n' "$3" "$peak"
 done
