@@ -78,6 +78,15 @@ short_has_none bytes h short is = by_test (nat_lt (length bytes) 4096) (grind (a
     by_test true tested e = absurd cc
     by_test false tested e = absurd cc
 
+-- the size that the first 4096 bytes say is that of the header
+pub size_of_front : (front file : List ℕ) (size : ℕ) (h : HeaderText) → front ≡ take 4096 file → 4096 ≤ length front →
+    header_size front ≡ Some size → header_of file ≡ Ok h → size ≡ h.size
+size_of_front front file size h first has sized has_header =
+    let of_file : header_size file ≡ Some size = sym (header_size-front file 4096 (omega arith))
+    ∙ ap header_size (sym first) ∙ sized in
+    let enough : 4096 ≤ length file = omega (arith, ap (length {A = ℕ}) first, length-take 4096 file) in
+    size_of_size file size h (sym (header_of-long file enough ∙ ap (header_of_size file) of_file) ∙ has_header)
+
 -- the first 4096 bytes, and then the rest of the header
 pub front_of_size : (front rest bytes file : List ℕ) (left : Option (List ℕ)) (size : ℕ) → front ≡ take 4096 file →
     rest ≡ take (size - 4096) (drop 4096 file) → bytes ≡ front ++ rest →
@@ -130,3 +139,7 @@ front_of_refused front file left first has refused is_left =
       header = header_of-refused front has refused ∙ sym bad;
       size = λ h has_header. absurd cc;
     }
+
+-- a file has one header
+pub one_header : (file : List ℕ) (h k : HeaderText) → header_of file ≡ Ok h → header_of file ≡ Ok k → h ≡ k
+one_header file h k a b = cc

@@ -1,9 +1,7 @@
-pub mod Decimals
-pub mod TrackLists
-pub mod Ranges
 pub mod Fronts
-pub mod Bands
-pub mod Found
 pub mod Outcomes
 pub mod Asked
 pub mod SampleText
+pub mod Feeding
+pub mod Merging
+pub mod Files

@@ -1,16 +1,16 @@
 -- The sample, computed.
-use Rattle.std.proofs.Common.{◌≡◌, ℕ, zero, suc, ◌<◌, get_or, arith, List, Ok, true, refl, ap, sym, subst, ◌∙◌, lit≤, lit<}
-use Rattle.std.specs.Prelude.{codes, All}
+use Rattle.std.proofs.Common.{◌≡◌, ℕ, List, [], ◌∷◌, Ok, true, false, refl, ap, sym, subst, ◌∙◌}
+use Rattle.std.specs.Prelude.{codes}
 use Rattle.std.specs.Fmt.{digits}
-use Rattle.std.specs.Char.{IsAsciiDigit}
 use Rattle.psr_base.specs.Written.{SinkSeen, WroteAll}
 use Rattle.dada_model.specs.Number.{number_value}
 use Rattle.dada_model.specs.Fields.{HeaderText, is_white, without_comment, words_of, fields_of, value_of, header_size, header_of}
 use Rattle.dada_model.specs.Observation.{Observation, number_of, observation_in, signed_edge, edge, edges, refusal_at, refusals, observation_of, dispersion_span, dm}
 use Rattle.search_model.specs.declared.search.Search.{Search}
-use Rattle.search_model.specs.Search.{SettingsInRange}
 use Rattle.search_model.specs.Paths.{entry, path}
-use Rattle.psr_search.specs.Request.{pulses_only, Asks}
+use Rattle.clap.proofs.OnLiterals.{clap_on_literals}
+use Rattle.search_words.specs.Settings.{SettingsSeen}
+use Rattle.psr_search.specs.Request.{Asks}
 use Rattle.psr_search.specs.File.{IsAccepted, data_of}
 use Rattle.search_model.specs.Observed.{search_text}
 use Rattle.psr_search.specs.Sample.{sample_words, sample_header, sample_data, sample_file, sample_text, SampleIsFound}
@@ -41,7 +41,35 @@ unfolding observation fields_of value_of words_of without_comment is_white numbe
 observation_is = refl
 
 search : Search
-search = pulses_only 1 1000 2000 700
+search = record {
+  min_delay = 0;
+  max_delay = 1;
+  widest = 1;
+  fold_min = 2;
+  fold_max = 0;
+  fold_rows = 6;
+  fold_step = 64;
+  chunk = 1024;
+  shards = 1;
+  max_candidates = 65536;
+  mean = 1000;
+  sd = 2000;
+  snr = 700;
+}
+
+settings : SettingsSeen
+settings = record {
+  search = search;
+  buffers = 4;
+  size = 524288;
+  hands = 1;
+  turns = 64;
+  recording = false;
+  file_size = 1073741824;
+  max_bytes = 1099511627776;
+  names = codes "pulse.dada" ∷ [];
+  starts = 0 ∷ [];
+}
 
 text_is : search_text observation search sample_data ≡ sample_text
 unfolding observation search edges edge signed_edge path entry dm dispersion_span digits
@@ -51,61 +79,12 @@ data_is : data_of sample_file header ≡ sample_data
 unfolding header
 data_is = refl
 
-plain : search ≡ pulses_only search.max_delay search.mean search.sd search.snr
-unfolding search
-plain = refl
-
-in_range : SettingsInRange search
-unfolding search
-in_range = record {
-  delays = record { rise = lit≤ tt; most = lit≤ tt; widest = refl };
-  folds = record {
-    least_min = lit≤ tt;
-    most_min = lit≤ tt;
-    most_max = lit≤ tt;
-    least_rows = lit≤ tt;
-    most_rows =
-        lit≤ tt;
-    least_step = lit≤ tt;
-    most_step = lit≤ tt;
-  };
-  parts = record {
-    least_chunk = lit≤ tt;
-    most_chunk = lit≤ tt;
-    least_shards = lit≤ tt;
-    most_shards = lit≤ tt;
-    most_candidates = lit≤ tt;
-  };
-  noise = record {
-    most_mean = lit≤ tt;
-    least_sd = lit≤ tt;
-    most_sd = lit≤ tt;
-    least_snr = lit≤ tt;
-    most_snr =
-        lit≤ tt;
-  };
-}
-
-one_digit : All IsAsciiDigit (codes "1")
-one_digit = λ k d within. at k d within
-  where
-    at : (k d : ℕ) → k < 1 → IsAsciiDigit (get_or (codes "1") k d)
-    at zero d within = (lit≤ tt, lit≤ tt)
-    at (suc k) d within = absurd (omega arith)
-
-asks : Asks sample_words search (codes "pulse.dada")
-unfolding search number_value
+asks : Asks sample_words settings (codes "pulse.dada")
+unfolding settings search number_value clap_on_literals
 asks = record {
-  count = refl;
-  mean = record { named = refl; value = refl };
-  sd = record { named = refl; value = refl };
-  snr = record { named = refl; value = refl };
-  max_delay = record { named = refl; digits = (lit< tt, lit≤ tt, one_digit); value = refl };
-  widths = refl;
-  one_width = refl;
-  file = refl;
-  plain = plain;
-  in_range = in_range;
+  say = record { taken = refl; in_range = refl; values = refl };
+  one_name = refl;
+  plain = refl;
 }
 
 same_header : (h : HeaderText) → header_of sample_file ≡ Ok h → header ≡ h
@@ -134,6 +113,7 @@ written h o old new is wrote =
     subst P text wrote
 
 pub found : (is_calm : Type 0) → SampleIsFound is_calm
+unfolding settings
 found is_calm inputs old new notes_old notes_new known outcome =
-    let file = outcome.text refl search (codes "pulse.dada") asks sample_file known in
-    (written file.0 file.1 old new file.2 file.3.1).written
+    let file = outcome.text refl settings (codes "pulse.dada") asks sample_file known in
+    (written file.0 file.1 old new file.2 file.3.1.2).written

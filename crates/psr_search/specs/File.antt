@@ -1,14 +1,16 @@
 -- What a file that is searched has to be, and why one is refused.
-use Rattle.std.specs.Prelude.{◌≡◌, ℕ, ◌≤◌, List, length, take, drop, Option, Some, Ok, Err}
+-- Source: this project's choice.
+use Rattle.std.specs.Prelude.{◌≡◌, ℕ, ◌≤◌, List, take, drop, Option, Some, None, Ok, Err}
 use Rattle.dada_model.specs.Fields.{HeaderText, ShortHeader, BadHeaderSize, NotTextAt, header_of, fields_of}
 use Rattle.dada_model.specs.Observation as model
 use Rattle.dada_model.specs.Observation.{Observation, Refusal, observation_of}
+use Rattle.search_model.specs.declared.search.Search.{Search}
+use Rattle.search_model.specs.Plan as plan
+use Rattle.search_model.specs.Plan.{PlanRefusal, plan_refusal}
+use Rattle.psr_search.specs.declared.stop.PlanCause.{PlanCause}
+use Rattle.psr_search.specs.declared.stop.PlanCause.TheVariants.{SumBound, FoldTooLarge, TooManyFolds, TooManyShards}
 use Rattle.psr_search.specs.declared.stop.HeaderCause.{HeaderCause}
 use Rattle.psr_search.specs.declared.stop.HeaderCause.TheVariants.{Short, NotText, BadSize, Missing, BadNumber, OutOfProfile, OutOfRange, TooNarrow, Differs}
-
--- the most data bytes of a file that is searched
-abbrev pub most_data : ℕ
-most_data = 16777216
 
 -- the file has the header h, which says the observation o
 pub record IsAccepted (file : List ℕ) (h : HeaderText) (o : Observation) : Type 0 where
@@ -16,14 +18,18 @@ pub record IsAccepted (file : List ℕ) (h : HeaderText) (o : Observation) : Typ
   pub observation : observation_of (fields_of h.text) ≡ Ok o
 
 -- The bytes are those of the header that a file begins with, or all of a shorter one, and what is left is the rest.
--- They
--- say all that the file says of its header.
+-- They say all that the file says of its header.
 pub record IsFrontRead (bytes : List ℕ) (left : Option (List ℕ)) (file : List ℕ) : Type 0 where
   pub count : ℕ
   pub front : bytes ≡ take count file
   pub rest : left ≡ Some (drop count file)
   pub header : header_of bytes ≡ header_of file
   pub size : (h : HeaderText) → header_of file ≡ Ok h → count ≡ h.size
+
+-- what is left to read are the bytes from a place within the header on, or from its end
+abbrev pub IsInHeader : List ℕ → Option (List ℕ) → Type 0
+IsInHeader file left = (k : ℕ) × (left ≡ Some (drop k file))
+    × ((h : HeaderText) → header_of file ≡ Ok h → k ≤ h.size)
 
 -- the bytes past the header
 abbrev pub data_of : List ℕ → HeaderText → List ℕ
@@ -50,9 +56,21 @@ IsCause file (OutOfRange key) = IsRefusedBy file (model.OutOfRange key)
 IsCause file (TooNarrow bw nchan) = IsRefusedBy file (model.TooNarrow bw nchan)
 IsCause file (Differs key) = ⊥
 
--- the file is accepted, and these are its observation and its data
-pub record HoldsData (file : List ℕ) (o : Observation) (bytes : List ℕ) : Type 0 where
+-- the file is accepted and says the observation; what is left to read are its data
+pub record IsOpenedFile (o : Observation) (left : Option (List ℕ)) (file : List ℕ) : Type 0 where
   pub header : HeaderText
   pub accepted : IsAccepted file header o
-  pub whole : bytes ≡ data_of file header
-  pub short : length bytes ≤ most_data
+  pub data_left : left ≡ Some (data_of file header)
+
+-- P holds of an accepted file of which the search is planned
+abbrev pub Planned : Search → List ℕ → (HeaderText → Observation → Type 0) → Type 0
+Planned search file P = Accepted file (λ h o. (plan_refusal o search ≡ None) × P h o)
+
+-- the cause is the first for which the search of an observation is refused
+abbrev pub IsPlanCause : Option PlanRefusal → PlanCause → Type 0
+IsPlanCause first (SumBound max_sample cells factor) =
+    first ≡ Some (plan.SumBound max_sample cells factor)
+IsPlanCause first (FoldTooLarge longest halvings) =
+    first ≡ Some (plan.FoldTooLarge longest halvings)
+IsPlanCause first (TooManyFolds count) = first ≡ Some (plan.TooManyFolds count)
+IsPlanCause first (TooManyShards shards delays) = first ≡ Some (plan.TooManyShards shards delays)

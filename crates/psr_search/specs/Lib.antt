@@ -1,9 +1,7 @@
 pub mod Request
-pub mod Samples
 pub mod File
 pub mod Stop
 pub mod Outcome
+pub mod Searching
 pub mod Ends
-pub mod Track
-pub mod Direct
 pub mod Sample

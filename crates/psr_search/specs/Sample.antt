@@ -7,8 +7,9 @@ use Rattle.psr_search.specs.Outcome.{Outcome}
 
 abbrev pub sample_words : List (List ℕ)
 sample_words =
-    codes "psr_search" ∷ codes "--mean" ∷ codes "1" ∷ codes "--sd" ∷ codes "2" ∷ codes "--snr" ∷ codes "7"
-    ∷ codes "--max-delay" ∷ codes "1" ∷ codes "--widths" ∷ codes "1" ∷ codes "pulse.dada" ∷ []
+    codes "psr_search" ∷ codes "--mean" ∷ codes "1" ∷ codes "--sd" ∷ codes "2"
+    ∷ codes "--snr" ∷ codes "7" ∷ codes "--max-delay" ∷ codes "1"
+    ∷ codes "--widths" ∷ codes "1" ∷ codes "pulse.dada" ∷ []
 
 -- two channels of 8 bits, the highest first
 abbrev pub sample_header : List ℕ
@@ -25,7 +26,8 @@ sample_text = codes "PULSE 1 1 0.104 1 30 3\nEND 1 0 3\n"
 
 -- a search of it that ends with status 0 has written exactly its two lines
 abbrev pub SampleIsFound : Type 0 → Type 0
-SampleIsFound is_calm = (inputs : InputsSeen) (out_before out_after notes_before notes_after : SinkSeen) →
+SampleIsFound is_calm =
+    (inputs : InputsSeen) (out_before out_after notes_before notes_after : SinkSeen) →
     inputs.told.bytes_under (codes "pulse.dada") ≡ Some sample_file →
     Outcome sample_words inputs is_calm out_before out_after notes_before notes_after 0 →
     out_after.written ≡ append_known out_before.written sample_text

@@ -1,18 +1,17 @@
-//! The search of a file of filterbank samples for dispersed pulses.
+//! The search of a file of filterbank samples for dispersed pulses and folded periods.
 #![tactic(auto)]
 
-mod direct;
+mod file;
 mod in_memory;
 mod laws;
-mod lines;
 mod opening;
-mod samples;
+mod request;
+mod searching;
 mod stop;
 mod top;
-mod track;
-mod words;
+mod writing;
 
 pub use in_memory::run_in_memory;
 pub use laws::{accepted_is_searched, sample_is_found};
-pub use stop::{HeaderCause, Stop};
+pub use stop::{HeaderCause, PlanCause, Stop};
 pub use top::run;

@@ -1,22 +1,19 @@
 // Opening a file: its header, what it says, and the data after it.
-ghost use Rattle.std.specs.Prelude.{◌≡◌, ◌≢◌, ℕ, ◌≤◌, List, length, take, drop, Some, Ok, Err, IfOk, IfErr, OnOk, OnErr, IsOk, IsSome};
+ghost use Rattle.std.specs.Prelude.{◌≡◌, ◌≢◌, ◌≤◌, take, drop, Some, Ok, Err, IfOk, IfErr, OnOk, IsSome};
 ghost use Rattle.std.specs.Option.{ForSome};
 ghost use Rattle.psr_base.specs.Count.{Rose};
 ghost use Rattle.psr_base.specs.Told.{OfFile, left_to_read};
-ghost use Rattle.dada_model.specs.Fields.{HeaderText, header_of};
+ghost use Rattle.dada_model.specs.Fields.{header_of};
 ghost use Rattle.dada_model.specs.Bounds.{ObservationInRange};
 ghost use Rattle.psr_search.specs.declared.stop.Stop.{Stop};
-ghost use Rattle.psr_search.specs.File.{HoldsData, most_data, IsFrontRead};
-ghost use Rattle.psr_search.specs.Stop.{IsReadingStop, IsStopOf};
+ghost use Rattle.psr_search.specs.File.{IsOpenedFile, IsFrontRead, IsInHeader};
+ghost use Rattle.psr_search.specs.Stop.{IsOpeningStop, IsStopOfOpening};
 
 use crate::stop::Stop;
 use dada_header::Header;
 use obs_plan::Observation;
-use psr_base::{DataFault, Inputs, fill, read_to_end};
+use psr_base::{Inputs, fill};
 use std::alloc::Global;
-
-/// The most data bytes that are searched.
-pub(crate) const MOST_DATA: usize = 16_777_216;
 
 /// The least size of a header, in bytes.
 const LEAST_HEADER: usize = 4096;
@@ -27,38 +24,36 @@ enum Stopped {
     Memory,
 }
 
-/// Reads the file of a name: what its header says, and the data.
-pub(crate) fn load<I: Inputs>(
+/// Opens the file of a name and reads what its header says. What is left to read are the data.
+pub(crate) fn open_file<I: Inputs>(
     alloc: Global,
     inputs: &mut I,
     name: &str,
-) -> Result<(Observation, Vec<u8>), Stop>
-    ensures read { IfOk result (λ l.
-        OfFile (I.told inputs.old) name.now (λ file. HoldsData file l.0 l.1.items)) }
-    ensures bounds { IfOk result (λ l. ObservationInRange l.0) }
-    ensures short { IfOk result (λ l. length l.1.items ≤ most_data) }
+) -> Result<Observation, Stop>
+    ensures read { IfOk result (λ o. OfFile (I.told inputs.old) name.now
+        (IsOpenedFile o (left_to_read (I.told inputs.new)))) }
+    ensures bounds { IfOk result ObservationInRange }
+    ensures is_open { OnOk result (I.is_open inputs.new) }
     ensures stopped { IfErr result (λ stop.
-        OfFile (I.told inputs.old) name.now (λ file. IsStopOf file stop)) }
-    ensures kind { IfErr result IsReadingStop }
+        OfFile (I.told inputs.old) name.now (λ file. IsStopOfOpening file stop)) }
+    ensures kind { IfErr result IsOpeningStop }
     ensures failed { result ≡ Err Stop.ReadFault
         → Rose (I.faults inputs.old) (I.faults inputs.new) }
     ensures quiet { result ≢ Err Stop.ReadFault → I.faults inputs.new ≡ I.faults inputs.old }
+    ensures count { I.faults inputs.old ≤ I.faults inputs.new }
+    ensures calm { I.is_calm inputs.old → I.is_calm inputs.new }
     ensures serves { I.is_calm inputs.old → IsSome ((I.told inputs.old).bytes_under name.now)
         → result ≢ Err Stop.ReadFault }
+    ensures unread { result ≡ Err Stop.Memory → OfFile (I.told inputs.old) name.now
+        (λ file. IsInHeader file (left_to_read (I.told inputs.new))) }
 {
     let header = match read_header(alloc, inputs, name) {
         Ok(header) => header,
         Err(stop) => return Err(stop),
     };
-    let observation = match Observation::of(alloc, &header) {
-        Ok(observation) => observation,
-        Err(fault) => return Err(Stop::of_observation(fault)),
-    };
-    match read_to_end(alloc, inputs, MOST_DATA) {
-        Ok(bytes) => Ok((observation, bytes)),
-        Err(DataFault::Failed) => Err(Stop::ReadFault),
-        Err(DataFault::TooLong) => Err(Stop::TooLong),
-        Err(DataFault::Memory) => Err(Stop::Memory),
+    match Observation::of(alloc, &header) {
+        Ok(observation) => Ok(observation),
+        Err(fault) => Err(Stop::of_observation(fault)),
     }
 }
 
@@ -70,14 +65,17 @@ fn read_header<I: Inputs>(alloc: Global, inputs: &mut I, name: &str) -> Result<H
         (λ file. left_to_read (I.told inputs.new) ≡ Some (drop header.size file))) }
     ensures is_open { OnOk result (I.is_open inputs.new) }
     ensures stopped { IfErr result (λ stop.
-        OfFile (I.told inputs.old) name.now (λ file. IsStopOf file stop)) }
-    ensures kind { IfErr result IsReadingStop }
+        OfFile (I.told inputs.old) name.now (λ file. IsStopOfOpening file stop)) }
+    ensures kind { IfErr result IsOpeningStop }
     ensures failed { result ≡ Err Stop.ReadFault
         → Rose (I.faults inputs.old) (I.faults inputs.new) }
     ensures quiet { result ≢ Err Stop.ReadFault → I.faults inputs.new ≡ I.faults inputs.old }
+    ensures count { I.faults inputs.old ≤ I.faults inputs.new }
     ensures calm { I.is_calm inputs.old → I.is_calm inputs.new }
     ensures serves { I.is_calm inputs.old → IsSome ((I.told inputs.old).bytes_under name.now)
         → result ≢ Err Stop.ReadFault }
+    ensures unread { result ≡ Err Stop.Memory → OfFile (I.told inputs.old) name.now
+        (λ file. IsInHeader file (left_to_read (I.told inputs.new))) }
 {
     match inputs.open(name) {
         Ok(()) => header_of_open(alloc, inputs),
@@ -94,13 +92,16 @@ fn header_of_open<I: Inputs>(alloc: Global, inputs: &mut I) -> Result<Header, St
         (λ file. left_to_read (I.told inputs.new) ≡ Some (drop header.size file))) }
     ensures is_open { OnOk result (I.is_open inputs.new) }
     ensures stopped { IfErr result (λ stop.
-        ForSome (left_to_read (I.told inputs.old)) (λ file. IsStopOf file stop)) }
-    ensures kind { IfErr result IsReadingStop }
+        ForSome (left_to_read (I.told inputs.old)) (λ file. IsStopOfOpening file stop)) }
+    ensures kind { IfErr result IsOpeningStop }
     ensures failed { result ≡ Err Stop.ReadFault
         → Rose (I.faults inputs.old) (I.faults inputs.new) }
     ensures quiet { result ≢ Err Stop.ReadFault → I.faults inputs.new ≡ I.faults inputs.old }
+    ensures count { I.faults inputs.old ≤ I.faults inputs.new }
     ensures calm { I.is_calm inputs.old → I.is_calm inputs.new }
     ensures serves { I.is_calm inputs.old → result ≢ Err Stop.ReadFault }
+    ensures unread { result ≡ Err Stop.Memory → ForSome (left_to_read (I.told inputs.old))
+        (λ file. IsInHeader file (left_to_read (I.told inputs.new))) }
 {
     let front = match read_front(alloc, inputs) {
         Ok(front) => front,
@@ -122,8 +123,11 @@ fn read_front<I: Inputs>(alloc: Global, inputs: &mut I) -> Result<Vec<u8>, Stopp
     ensures failed { result ≡ Err Stopped.Failed
         → Rose (I.faults inputs.old) (I.faults inputs.new) }
     ensures quiet { result ≢ Err Stopped.Failed → I.faults inputs.new ≡ I.faults inputs.old }
+    ensures count { I.faults inputs.old ≤ I.faults inputs.new }
     ensures calm { I.is_calm inputs.old → I.is_calm inputs.new }
     ensures serves { I.is_calm inputs.old → result ≢ Err Stopped.Failed }
+    ensures unread { result ≡ Err Stopped.Memory → ForSome (left_to_read (I.told inputs.old))
+        (λ file. IsInHeader file (left_to_read (I.told inputs.new))) }
 {
     let mut front = match read_next(alloc, inputs, LEAST_HEADER) {
         Ok(front) => front,
@@ -155,8 +159,10 @@ fn read_next<I: Inputs>(alloc: Global, inputs: &mut I, count: usize) -> Result<V
     ensures failed { result ≡ Err Stopped.Failed
         → Rose (I.faults inputs.old) (I.faults inputs.new) }
     ensures quiet { result ≢ Err Stopped.Failed → I.faults inputs.new ≡ I.faults inputs.old }
+    ensures count { I.faults inputs.old ≤ I.faults inputs.new }
     ensures calm { I.is_calm inputs.old → I.is_calm inputs.new }
     ensures serves { I.is_calm inputs.old → result ≢ Err Stopped.Failed }
+    ensures unread { result ≡ Err Stopped.Memory → I.told inputs.new ≡ I.told inputs.old }
 {
     let Ok(mut bytes) = vec![in alloc; 0u8; count] else {
         return Err(Stopped::Memory);

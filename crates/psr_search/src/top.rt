@@ -1,13 +1,12 @@
 // The top call.
-ghost use Rattle.std.specs.Prelude.{◌≡◌, List, map, string_bytes};
-ghost use Rattle.psr_search.specs.Outcome.{Outcome};
+ghost use Rattle.std.specs.Prelude.{◌≡◌, map, string_bytes, Err};
+ghost use Rattle.psr_search.specs.Outcome.{Outcome, ReadsNoData};
 ghost use Rattle.psr_search.specs.Ends.{Ends};
 
-use crate::direct::Direct;
-use crate::opening::load;
+use crate::file::search_file;
+use crate::request::Request;
 use crate::stop::Stop;
-use crate::words::Words;
-use psr_base::{Failed, Inputs, Memory, Sink, write_all};
+use psr_base::{Inputs, Sink, write_all};
 use std::alloc::Global;
 
 /// Searches the file that the words name for dispersed pulses, and writes their text to `out`. The
@@ -20,7 +19,7 @@ pub fn run<I: Inputs, K: Sink, E: Sink>(
     out: &mut K,
     notes: &mut E,
 ) -> u8
-    ensures { Outcome (map string_bytes words.now)
+    ensures outcome { Outcome (map string_bytes words.now)
         (record {
           told = I.told inputs.old;
           faults_before = I.faults inputs.old;
@@ -28,6 +27,8 @@ pub fn run<I: Inputs, K: Sink, E: Sink>(
         })
         (I.is_calm inputs.old) (K.seen out.old) (K.seen out.new)
         (E.seen notes.old) (E.seen notes.new) result }
+    ensures early { result ≡ 5
+        → ReadsNoData (map string_bytes words.now) (I.told inputs.old) (I.told inputs.new) }
 {
     match search(alloc, words, inputs, out) {
         Ok(()) => 0,
@@ -45,28 +46,18 @@ fn search<I: Inputs, K: Sink>(
     inputs: &mut I,
     out: &mut K,
 ) -> Result<(), Stop>
-    ensures { Ends (map string_bytes words.now)
+    ensures ends { Ends (map string_bytes words.now)
         (record {
           told = I.told inputs.old;
           faults_before = I.faults inputs.old;
           faults_after = I.faults inputs.new;
         })
         (I.is_calm inputs.old) (K.seen out.old) (K.seen out.new) result }
+    ensures early { result ≡ Err Stop.Memory
+        → ReadsNoData (map string_bytes words.now) (I.told inputs.old) (I.told inputs.new) }
 {
-    let words = match Words::of(words) {
-        None => return Err(Stop::Words),
-        Some(words) => words,
-    };
-    let (observation, bytes) = match load(alloc, inputs, words.name) {
-        Err(stop) => return Err(stop),
-        Ok(loaded) => loaded,
-    };
-    let direct = match Direct::open(alloc, observation, bytes, words.search) {
-        Err(Memory) => return Err(Stop::Memory),
-        Ok(direct) => direct,
-    };
-    match direct.write_text(out) {
-        Err(Failed) => Err(Stop::SinkFault),
-        Ok(()) => Ok(()),
+    match Request::of(alloc, words) {
+        Ok(request) => search_file(alloc, &request, inputs, out),
+        Err(stop) => Err(stop),
     }
 }

@@ -13,20 +13,7 @@ const PULSE: [u8; 6] = [10, 0, 0, 20, 0, 0];
 
 const TEXT: &str = "PULSE 1 1 0.104 1 30 3\nEND 1 0 3\n";
 
-const WORDS: [&str; 12] = [
-    "psr_search",
-    "--mean",
-    "1",
-    "--sd",
-    "2",
-    "--snr",
-    "7",
-    "--max-delay",
-    "1",
-    "--widths",
-    "1",
-    "file",
-];
+const LINE: &str = "--mean 1 --sd 2 --snr 7 --max-delay 1 --widths 1 file";
 
 // How a search ended, and what it wrote.
 #[derive(Drop)]
@@ -68,18 +55,20 @@ fn file_of(alloc: Global, lines: &str, size: usize, bytes: &[u8]) -> Result<Vec<
     Ok(file)
 }
 
-fn list_of(alloc: Global, words: &[&str]) -> Result<Vec<String>, Memory> {
-    let mut list = Vec::new(alloc);
-    for word in words {
-        list.push(String::from_str(alloc, word)?)?;
+// The program's name, and the words of a line, which a space parts.
+fn words_of(alloc: Global, line: &str) -> Result<Vec<String>, Memory> {
+    let mut words = Vec::new(alloc);
+    words.push(String::from_str(alloc, "psr_search")?)?;
+    for word in line.split(' ') {
+        words.push(String::from_str(alloc, word)?)?;
     }
-    Ok(list)
+    Ok(words)
 }
 
 // Searches with these words, where the file stands under its name.
 fn search(
     alloc: Global,
-    words: &[&str],
+    line: &str,
     file: Option<&[u8]>,
     faults: Faults<'_>,
 ) -> Result<Ended, Memory> {
@@ -89,22 +78,13 @@ fn search(
     }
     let mut out = MemSink::open(alloc, faults.room, faults.out)?;
     let mut notes = MemSink::open(alloc, 1000, faults.notes)?;
-    let list = list_of(alloc, words)?;
-    let status = run_in_memory(alloc, list.as_slice(), &mut inputs, &mut out, &mut notes);
+    let words = words_of(alloc, line)?;
+    let status = run_in_memory(alloc, words.as_slice(), &mut inputs, &mut out, &mut notes);
     Ok(Ended {
         status,
         text: text_of(alloc, &out)?,
         notes: text_of(alloc, &notes)?,
     })
-}
-
-// The base words with one of them replaced.
-fn with_word(place: usize, word: &'static str) -> [&'static str; 12] {
-    let mut words = WORDS;
-    if place < 12 {
-        words[place] = word;
-    }
-    words
 }
 
 fn text_of(alloc: Global, sink: &MemSink) -> Result<String, Memory> {
@@ -155,7 +135,7 @@ fn the_pulse_is_found_in_each_kind_of_file(rt: HostRuntime) -> Result<(), Fail> 
     ];
     for (lines, size, bytes, text) in cases {
         let file = file_of(alloc, lines, size, bytes)?;
-        let ended = search(alloc, &WORDS, Some(file.as_slice()), NO_FAULTS)?;
+        let ended = search(alloc, LINE, Some(file.as_slice()), NO_FAULTS)?;
         assert!(rt;
             ended.is(0, text, ""),
             "{lines}{}{}",
@@ -209,7 +189,7 @@ fn a_header_that_is_refused_is_named(rt: HostRuntime) -> Result<(), Fail> {
     ];
     for (lines, size, cause) in cases {
         let file = file_of(alloc, lines, size, &[])?;
-        let ended = search(alloc, &WORDS, Some(file.as_slice()), NO_FAULTS)?;
+        let ended = search(alloc, LINE, Some(file.as_slice()), NO_FAULTS)?;
         let note = format!(in alloc; "header of file 0 refused: {cause}\n")?;
         assert!(rt; ended.is(3, "", note.as_str()), "{cause}: {}", ended.notes);
     }
@@ -217,44 +197,139 @@ fn a_header_that_is_refused_is_named(rt: HostRuntime) -> Result<(), Fail> {
 }
 
 #[test]
-fn values_are_read_with_their_decimals(rt: HostRuntime) -> Result<(), Fail> {
+fn words_are_judged_before_the_file(rt: HostRuntime) -> Result<(), Fail> {
+    let alloc = rt.alloc();
+    let refused = "words refused\n";
+    let cases = [
+        ("", refused),
+        ("--mean 1 --sd 2", refused),
+        ("--sd 2 file", refused),
+        ("--mean -1 --sd 2 file", refused),
+        ("--mean 1 --sd 2 --snr 0 --help file", refused),
+        ("--mean 1 --sd 2 file other", refused),
+        ("--mean 1 --sd 2 file + other", refused),
+        ("--mean 1 --sd 2 --record file", refused),
+        (
+            "--mean 1 --sd 2 --record --snr 0 file",
+            "option --snr refused\n",
+        ),
+        ("--mean 1 --sd 2 --snr 0 file", "option --snr refused\n"),
+        ("--mean=-1 --sd 2 --snr 0 file", "option --snr refused\n"),
+        ("--mean=-1 --sd 2 file", "option --mean refused\n"),
+        (
+            "--mean 1 --sd 2 --max-delay 4 --min-delay 5 file",
+            "option --min-delay refused\n",
+        ),
+        (
+            "--mean 1 --sd 2 --max-candidates 1048577 file",
+            "option --max-candidates refused\n",
+        ),
+        ("--mean 1 --sd 2 file +", "option FILE refused\n"),
+    ];
+    for (line, note) in cases {
+        let ended = search(alloc, line, None, NO_FAULTS)?;
+        assert!(rt; ended.is(2, "", note), "{line}: {}", ended.notes);
+    }
+    Ok(())
+}
+
+#[test]
+fn widths_and_the_limit_of_candidates(rt: HostRuntime) -> Result<(), Fail> {
     let alloc = rt.alloc();
     let file = file_of(alloc, OBSERVATION, 4096, &PULSE)?;
+    let both = "PULSE 1 1 0.104 1 30 3\nPULSE 2 1 0.104 2 50 6\nEND 2 0 3\n";
     let cases = [
-        (2, "1.0009", true),
-        (2, "+1", true),
-        (2, "200000.001", false),
-        (2, "1e0", false),
-        (2, "-1", false),
-        (4, "2.", true),
-        (4, "0.0009", false),
-        (6, "7.009", true),
-        (6, "0.009", false),
-        (6, "1000.01", false),
-        (8, "8", true),
-        (8, "+1", false),
-        (8, "8193", false),
-        (8, "0000000001", false),
-        (1, "--sd", false),
-        (10, "2", false),
+        ("--widths 2", 0, both, ""),
+        ("--widths 2 --chunk 1", 0, both, ""),
+        ("--widths 2 --chunk 333 --shards 2", 0, both, ""),
+        ("--widths 2 --chunk 65536 --size 1 --hands 9", 0, both, ""),
+        ("--widths 2 --max-candidates 2", 0, both, ""),
+        (
+            "--widths 2 --max-candidates 1",
+            9,
+            "",
+            "2 candidates, limit 1\n",
+        ),
+        (
+            "--widths 2 --max-candidates 0",
+            9,
+            "",
+            "2 candidates, limit 0\n",
+        ),
+        ("--widths 1 --min-delay 1", 0, TEXT, ""),
+        ("--widths 1 --max-bytes 6", 0, TEXT, ""),
+        ("--widths 1 --max-bytes 5", 8, "", "more than 5 bytes\n"),
+        (
+            "--widths 1 --shards 3",
+            4,
+            "",
+            "plan refused: TooManyShards 3 2\n",
+        ),
     ];
-    for (place, word, accepted) in cases {
-        let ended = search(
-            alloc,
-            &with_word(place, word),
-            Some(file.as_slice()),
-            NO_FAULTS,
-        )?;
-        let is = if accepted {
-            ended.is(0, TEXT, "")
-        } else {
-            ended.is(2, "", "words refused\n")
-        };
-        assert!(rt; is, "{word}: {}", ended.text);
+    for (more, status, text, note) in cases {
+        let line = format!(in alloc; "--mean 1 --sd 2 --snr 7 --max-delay 1 {more} file")?;
+        let ended = search(alloc, line.as_str(), Some(file.as_slice()), NO_FAULTS)?;
+        assert!(rt;
+            ended.is(status, text, note),
+            "{more}: {}{}",
+            ended.text,
+            ended.notes
+        );
     }
-    for count in [0, 1, 11] {
-        let few = search(alloc, &WORDS[..count], Some(file.as_slice()), NO_FAULTS)?;
-        assert!(rt; few.is(2, "", "words refused\n"), "{count} words");
+    Ok(())
+}
+
+#[test]
+fn two_rows_folded(rt: HostRuntime) -> Result<(), Fail> {
+    let alloc = rt.alloc();
+    let line = "--mean 0 --sd 1 --snr 2 --max-delay 0 --widths 1 --fold-max 2 --fold-rows 1 file";
+    let all = "PULSE 2 0 0.000 1 3 2\nPULSE 3 0 0.000 1 4 2\nFOLD 0 0.000 2 2 0 0 4 4
+FOLD 0 0.000 2 2 0 1 6 4\nFOLD 0 0.000 2 2 1 0 5 4\nFOLD 0 0.000 2 2 1 1 5 4\nEND 2 4 4\n";
+    let cases: [(&[u8], &str); 2] = [
+        (&[1, 0, 2, 0, 3, 0, 4, 0], all),
+        (&[1, 0, 2, 0, 3, 0], "PULSE 2 0 0.000 1 3 2\nEND 1 0 3\n"),
+    ];
+    for (bytes, text) in cases {
+        let file = file_of(alloc, OBSERVATION, 4096, bytes)?;
+        let ended = search(alloc, line, Some(file.as_slice()), NO_FAULTS)?;
+        assert!(rt; ended.is(0, text, ""), "{}{}", ended.text, ended.notes);
+    }
+    Ok(())
+}
+
+#[test]
+fn a_plan_that_does_not_fit_is_named(rt: HostRuntime) -> Result<(), Fail> {
+    let alloc = rt.alloc();
+    let narrow = "NCHAN 4096\nNBIT 8\nTSAMP 64\nFREQ 1382\nBW -400\n";
+    let wide = "NCHAN 512\nNBIT 16\nNPOL 2\nTSAMP 64\nFREQ 1382\nBW -400\n";
+    let cases = [
+        (
+            narrow,
+            "--max-delay 8192 --fold-max 2 --fold-rows 12",
+            "SumBound 255 12288 4096",
+        ),
+        (
+            wide,
+            "--max-delay 1024 --widths 32",
+            "SumBound 131070 1536 32",
+        ),
+        (
+            OBSERVATION,
+            "--max-delay 0 --fold-max 1048576 --fold-rows 3",
+            "FoldTooLarge 1048576 3",
+        ),
+        (
+            OBSERVATION,
+            "--max-delay 64 --fold-max 2 --fold-step 1",
+            "TooManyFolds 65",
+        ),
+    ];
+    for (lines, more, cause) in cases {
+        let file = file_of(alloc, lines, 4096, &[])?;
+        let line = format!(in alloc; "--mean 1 --sd 2 {more} file")?;
+        let note = format!(in alloc; "plan refused: {cause}\n")?;
+        let ended = search(alloc, line.as_str(), Some(file.as_slice()), NO_FAULTS)?;
+        assert!(rt; ended.is(4, "", note.as_str()), "{cause}: {}", ended.notes);
     }
     Ok(())
 }
@@ -263,36 +338,34 @@ fn values_are_read_with_their_decimals(rt: HostRuntime) -> Result<(), Fail> {
 fn a_failing_call_of_the_inputs_leaves_no_text(rt: HostRuntime) -> Result<(), Fail> {
     let alloc = rt.alloc();
     let file = file_of(alloc, OBSERVATION, 4096, &PULSE)?;
-    // Opening, the header, the data, the end of the data; then no call is left.
-    for call in 0..5 {
+    // Opening, the header, the data, and twice their end; then no call is left.
+    for call in 0..6 {
         let faults = Faults {
             inputs: &[call],
             ..NO_FAULTS
         };
-        let ended = search(alloc, &WORDS, Some(file.as_slice()), faults)?;
-        let is = if call < 4 {
+        let ended = search(alloc, LINE, Some(file.as_slice()), faults)?;
+        let is = if call < 5 {
             ended.is(6, "", "read fault\n")
         } else {
             ended.is(0, TEXT, "")
         };
         assert!(rt; is, "at call {call}: {}", ended.notes);
     }
-    let missing = search(alloc, &WORDS, None, NO_FAULTS)?;
+    let missing = search(alloc, LINE, None, NO_FAULTS)?;
     assert!(rt; missing.is(6, "", "read fault\n"));
     Ok(())
 }
 
 #[test]
-fn a_fault_of_the_output_leaves_the_front_of_the_text(rt: HostRuntime) -> Result<(), Fail> {
+fn a_fault_of_the_output_ends_the_text(rt: HostRuntime) -> Result<(), Fail> {
     let alloc = rt.alloc();
     let file = file_of(alloc, OBSERVATION, 4096, &PULSE)?;
-    let first = "PULSE 1 1 0.104 1 30 3\n";
     // The room, the calls that fail, of the output and of the notes; the status, and what both hold in the end.
-    let cases: [(u64, &[u64], &[u64], u8, &str, &str); 6] = [
+    let cases: [(u64, &[u64], &[u64], u8, &str, &str); 5] = [
         (1000, &[0], &[], 10, "", "sink fault\n"),
-        (1000, &[1], &[], 10, first, "sink fault\n"),
         (10, &[], &[], 10, "", "sink fault\n"),
-        (32, &[], &[], 10, first, "sink fault\n"),
+        (32, &[], &[], 10, "", "sink fault\n"),
         (33, &[], &[], 0, TEXT, ""),
         // A fault of the notes changes no status.
         (10, &[], &[0], 10, "", ""),
@@ -304,7 +377,7 @@ fn a_fault_of_the_output_leaves_the_front_of_the_text(rt: HostRuntime) -> Result
             notes,
             ..NO_FAULTS
         };
-        let ended = search(alloc, &WORDS, Some(file.as_slice()), faults)?;
+        let ended = search(alloc, LINE, Some(file.as_slice()), faults)?;
         assert!(rt;
             ended.is(status, text, note),
             "room {room}: {}{}",
@@ -319,7 +392,7 @@ fn a_fault_of_the_output_leaves_the_front_of_the_text(rt: HostRuntime) -> Result
 fn calm_objects_are_searched_to_the_end(rt: HostRuntime) -> Result<(), Fail> {
     let alloc = rt.alloc();
     let file = file_of(alloc, OBSERVATION, 4096, &PULSE)?;
-    let words = list_of(alloc, &WORDS)?;
+    let words = words_of(alloc, LINE)?;
     let mut inputs = CalmInputs::open(alloc)?;
     inputs.put("file", file.as_slice())?;
     let mut out = MemSink::open(alloc, 1000, &[])?;
@@ -333,17 +406,18 @@ fn calm_objects_are_searched_to_the_end(rt: HostRuntime) -> Result<(), Fail> {
 fn data_up_to_the_limit_are_searched(rt: HostRuntime) -> Result<(), Fail> {
     let alloc = rt.alloc();
     let lines = "NCHAN 4096\nNBIT 8\nTSAMP 64\nFREQ 1382\nBW -400\n";
-    let words = with_word(8, "0");
+    let line = "--mean 1 --sd 2 --snr 7 --max-delay 0 --widths 1 --max-bytes 1000000 file";
     for (len, status, text, note) in [
         (8191, 0, "END 0 0 1\n", ""),
         (8192, 0, "END 0 0 2\n", ""),
-        (100_000, 0, "END 0 0 24\n", ""),
+        (65536, 0, "END 0 0 16\n", ""),
+        (65537, 0, "END 0 0 16\n", ""),
         (1_000_000, 0, "END 0 0 244\n", ""),
-        (16_777_217, 8, "", "more than 16777216 bytes\n"),
+        (1_000_001, 8, "", "more than 1000000 bytes\n"),
     ] {
         let bytes = vec![in alloc; 0u8; len]?;
         let file = file_of(alloc, lines, 4096, bytes.as_slice())?;
-        let ended = search(alloc, &words, Some(file.as_slice()), NO_FAULTS)?;
+        let ended = search(alloc, line, Some(file.as_slice()), NO_FAULTS)?;
         assert!(rt;
             ended.is(status, text, note),
             "{len} bytes: {}",

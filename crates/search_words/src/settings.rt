@@ -1,5 +1,5 @@
 // The settings of the words.
-ghost use Rattle.std.specs.Prelude.{◌≡◌, ◌≢◌, map, string_bytes, Err, IfOk, IfErr};
+ghost use Rattle.std.specs.Prelude.{◌≢◌, map, string_bytes, Err, IfOk, IfErr};
 
 use crate::fault::WordFault;
 use crate::reading::read;

@@ -1,5 +1,5 @@
 // The table of options.
-ghost use Rattle.std.specs.Prelude.{◌≡◌, ◌^◌, ◌<◌, ◌≤◌};
+ghost use Rattle.std.specs.Prelude.{◌≡◌};
 ghost use Rattle.search_words.specs.Table.{option_row, offers as offers_of, demands as demands_of, row};
 
 use crate::opt::Opt;

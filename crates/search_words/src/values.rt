@@ -1,5 +1,5 @@
 // The values of the options.
-ghost use Rattle.std.specs.Prelude.{◌≡◌, ◌≤◌, ◌<◌, ◌^◌, pos, map, option_map, option_and_then, Some, None, IfSome};
+ghost use Rattle.std.specs.Prelude.{◌≡◌, ◌≤◌, ◌<◌, ◌^◌, pos, option_map, option_and_then, Some, None};
 ghost use Rattle.clap.specs.Words.{found_of, rows_of, first_of};
 ghost use Rattle.clap.specs.Walk.{texts, all_of};
 ghost use Rattle.search_words.specs.Table.{option_name, option_row};

@@ -1,9 +1,9 @@
-use Rattle.std.proofs.Common.{◌≡◌, inl, inr, List, ℕ, Result, Ok, Err, map, string_bytes, ◌∙◌, sym, subst}
+use Rattle.std.proofs.Common.{◌≡◌, inl, inr, List, ℕ, Result, Ok, Err, map, string_bytes, ◌∙◌, sym, subst, ap}
 use Rattle.psr_base.specs.Told.{InputsSeen}
 use Rattle.psr_base.specs.Written.{SinkSeen, Wrote, Noted}
 use Rattle.psr_search.specs.Stop.{note_of}
 use Rattle.psr_search.specs.Outcome.{Outcome}
-use Rattle.psr_search.proofs.Outcomes.{stop_outcome}
+use Rattle.psr_search.proofs.Outcomes.{stop_outcome, memory_alone}
 use Rattle.psr_search.proofs.top.run.Goals as goal
 
 noted : {T E : Type 0} (bytes line : List ℕ) (old new : SinkSeen) (r : Result T E) → bytes ≡ line →
@@ -13,8 +13,8 @@ noted bytes line old new (Ok x) same wrote = let P : List ℕ →
 noted bytes line old new (Err e) same wrote = let P : List ℕ →
     Type 0 = λ t. Noted t old new in subst P same (inr wrote.front)
 
-pub returns-in-Err : goal.returns-in-Err
-returns-in-Err g c =
+pub returns-in-Err-clause-outcome : goal.returns-in-Err-clause-outcome
+returns-in-Err-clause-outcome g c =
     let inputs : InputsSeen = record {
       told = g.I.Inputs.told c.args.inputs.now;
       faults_before =
@@ -30,4 +30,8 @@ returns-in-Err g c =
     (g.K.Sink.seen c.search.new.out) (g.E.Sink.seen c.args.notes.now) (g.E.Sink.seen c.write_all.new.sink) status in
     subst P (sym c.status.ensures) (stop_outcome words inputs calm (g.K.Sink.seen c.args.out.now)
     (g.K.Sink.seen c.search.new.out) (g.E.Sink.seen c.args.notes.now) (g.E.Sink.seen c.write_all.new.sink)
-    c.in-Err.stop c.in-Err.ensures line)
+    c.in-Err.stop c.in-Err.ensures.ends line)
+
+pub returns-in-Err-clause-early : goal.returns-in-Err-clause-early
+returns-in-Err-clause-early g c = λ five.
+    c.in-Err.ensures.early (ap Err (memory_alone c.in-Err.stop (sym c.status.ensures ∙ five)))
