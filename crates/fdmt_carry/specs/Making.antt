@@ -46,6 +46,13 @@ pub record IsRunOn (t : Tables) (k d : ℕ) : Type 0 where
   pub rise : place_at t (number_of t k 0 + 1) ≤ place_at t (number_of t k d)
   pub prior : place_at t (number_of t k (d - 1) + 1) ≡ place_at t (number_of t k d)
 
+-- where the rows of node k, the values that are kept of them, and the rows of its halves begin
+pub record AreBases (t : Tables) (k place hold upper lower : ℕ) : Type 0 where
+  pub place_is : place ≡ place_of t k
+  pub hold_is : hold ≡ hold_of t k
+  pub upper_is : upper ≡ place_of t (k + 1)
+  pub lower_is : lower ≡ place_of t (lower_of t k)
+
 -- where node k ends, and where it ends with all nodes below it
 pub record IsPart (t : Tables) (k : ℕ) : Type 0 where
   pub above : k < next_of t k

@@ -14,6 +14,10 @@ pub fn add_next(row: &mut [u32], kept: &mut [u32], upper: &[u32], lower: &[u32])
         → GoesOn g (length kept.old) upper.now lower.now
         → Begins (after g (length upper.now)) kept.new }
 {
+    if kept.is_empty() {
+        add_rows(row, upper, lower);
+        return;
+    }
     let (front, next) = row.split_at_mut(kept.len());
     front.copy_from_slice(kept);
     add_rows(next, upper, lower);

@@ -5,7 +5,7 @@ ghost use Rattle.band_paths.specs.Edges.{channels_of};
 ghost use Rattle.subband_plan.specs.Nodes.{HasKept};
 ghost use Rattle.subband_plan.specs.Rows.{merge_at};
 ghost use Rattle.fdmt_carry.specs.Tables.{Tables as TablesOf, AreTables, IsRow, node_of, node_count, all_rows, held_at, place_at, tail_of, start_of, number_of, place_of, hold_of, next_of, stop_of, HasNext, tables as tables_of};
-ghost use Rattle.fdmt_carry.specs.Making.{IsPair, IsSingle, IsMerge, IsRunOn, IsPart, AreParts, FitNode, HasRoom, AreHalves, AreSamples, ChannelHas, KeepsRow, KeepsNode, RowStands, ChangesRow, NodeStands, KeepsPart, PartStands, lower_of};
+ghost use Rattle.fdmt_carry.specs.Making.{IsPair, IsSingle, IsMerge, IsRunOn, AreBases, IsPart, AreParts, FitNode, HasRoom, AreHalves, AreSamples, ChannelHas, KeepsRow, KeepsNode, RowStands, ChangesRow, NodeStands, KeepsPart, PartStands, lower_of};
 ghost use Rattle.fdmt_carry.specs.Reading.{IsWhole, ArePlain};
 
 use crate::rows::{add_next, copy_next};
@@ -27,6 +27,15 @@ pub struct Tables {
     plan: Plan,
     rows: Rows,
     chunk: u32,
+}
+
+// Where the rows of a node, the values that are kept of them, and the rows of its halves begin.
+#[derive(Clone, Copy)]
+struct Bases {
+    place: usize,
+    hold: usize,
+    upper: usize,
+    lower: usize,
 }
 
 impl Model for Tables {
@@ -254,24 +263,63 @@ impl Tables {
         self.held(self.start(to)) - self.held(self.start(from))
     }
 
-    // Where row `r` of node `k` begins in the table of the node.
-    fn place_in(&self, k: usize, r: usize) -> usize
-        requires node { k < node_count self.now }
-        requires row { IsRow self.now k r }
-        ensures { place_of self.now k + result ≡ place_at self.now r }
+    // Where the rows of node `k` and of its halves begin.
+    fn bases(&self, k: usize) -> Bases
+        requires { IsPair self.now k }
+        ensures { AreBases self.now k result.place result.hold result.upper result.lower }
     {
         self.hold();
-        self.place_at(r) - self.place_at(self.start(k))
+        self.parts_of(k);
+        Bases {
+            place: self.base(k),
+            hold: self.hold_base(k),
+            upper: self.base(k + 1),
+            lower: self.base(self.lower(k)),
+        }
     }
 
-    // Where the values begin that are kept of row `r` of node `k` among those of the node.
-    fn hold_in(&self, k: usize, r: usize) -> usize
+    // Where the rows of node `k` begin.
+    fn base(&self, k: usize) -> usize
+        requires { k < node_count self.now }
+        ensures { result ≡ place_of self.now k }
+    {
+        self.place_at(self.start(k))
+    }
+
+    // Where the values begin that are kept of these.
+    fn hold_base(&self, k: usize) -> usize
+        requires { k < node_count self.now }
+        ensures { result ≡ hold_of self.now k }
+    {
+        self.held(self.start(k))
+    }
+
+    // How far row `r` begins past a place.
+    fn place_in(&self, base: usize, r: usize) -> usize
+        requires row { r ≤ all_rows self.now }
+        requires order { base ≤ place_at self.now r }
+        ensures { base + result ≡ place_at self.now r }
+    {
+        self.place_at(r) - base
+    }
+
+    // How far the values that are kept of row `r` begin past a place.
+    fn hold_in(&self, base: usize, r: usize) -> usize
+        requires row { r ≤ all_rows self.now }
+        requires order { base ≤ held_at self.now r }
+        ensures { base + result ≡ held_at self.now r }
+    {
+        self.held(r) - base
+    }
+
+    // Where row `r` stands, which is that of delay `d` of node `k`; it does nothing.
+    fn row_of(&self, k: usize, d: u32, r: usize)
         requires node { k < node_count self.now }
-        requires row { IsRow self.now k r }
-        ensures { hold_of self.now k + result ≡ held_at self.now r }
+        requires row { HasKept (node_of self.now k) d }
+        requires number { r ≡ number_of self.now k d }
+        ensures { IsRow self.now k r }
     {
         self.hold();
-        self.held(r) - self.held(self.start(k))
     }
 
     // What row `r` is made of.
@@ -282,14 +330,16 @@ impl Tables {
         self.rows.merges[r]
     }
 
-    // What the row of delay `d` of node `k` is made of.
-    fn merge_of(&self, k: usize, d: u32) -> Merge
+    // What row `r` is made of, which is that of delay `d` of node `k`.
+    fn merge_of(&self, k: usize, d: u32, r: usize) -> Merge
         requires node { IsPair self.now k }
         requires row { HasKept (node_of self.now k) d }
+        requires number { r ≡ number_of self.now k d }
         ensures { IsMerge self.now k d result }
     {
         self.hold();
-        self.merge_at(self.number(k, d))
+        self.row_of(k, d, r);
+        self.merge_at(r)
     }
 
     // What the row of delay `d` of a single channel is made of; it does nothing.
@@ -302,11 +352,13 @@ impl Tables {
         self.hold();
     }
 
-    // Makes the row of delay `d` of node `k` from rows of its halves.
+    // Makes row `r`, which is that of delay `d` of node `k`, from rows of its halves.
     fn merge_row(
         &self,
         k: usize,
         d: u32,
+        r: usize,
+        bases: Bases,
         table: &mut [u32],
         kept: &mut [u32],
         upper: &[u32],
@@ -315,12 +367,14 @@ impl Tables {
     )
         requires node { IsPair self.now k }
         requires row { HasKept (node_of self.now k) d }
+        requires number { r ≡ number_of self.now k d }
+        requires bases { AreBases self.now k bases.place bases.hold bases.upper bases.lower }
         requires short { spectra ≤ self.now.chunk }
         requires own { FitNode self.now k (length table.old) (length kept.old) }
         requires upper { HasRoom self.now (k + 1) (length upper.now) }
         requires lower { HasRoom self.now (lower_of self.now k) (length lower.now) }
-        ensures made { (f : Filterbank) (u : ℕ) → AreHalves self.now f u spectra k upper.now lower.now
-            → KeepsRow self.now f u k d kept.old
+        ensures made { (f : Filterbank) (u : ℕ) → AreHalves self.now f u spectra k upper.now
+            lower.now → KeepsRow self.now f u k d kept.old
             → RowStands self.now f u spectra k d table.new kept.new }
         ensures rest { ChangesRow self.now k (number_of self.now k d) table.old table.new
             kept.old kept.new }
@@ -328,15 +382,14 @@ impl Tables {
         self.hold();
         halves_add();
         time_shifts();
-        let r = self.number(k, d);
-        let merge = self.merge_of(k, d);
-        let low = self.lower(k);
+        self.row_of(k, d, r);
+        let merge = self.merge_of(k, d, r);
         let (a, b) = (merge.upper as usize, merge.lower as usize);
-        let at = self.place_in(k, r);
-        let hold = self.hold_in(k, r);
+        let at = self.place_in(bases.place, r);
+        let hold = self.hold_in(bases.hold, r);
         let tail = self.tail(r);
-        let above = self.place_in(k + 1, a) + (self.tail(a) - merge.late as usize);
-        let below = self.place_in(low, b) + self.tail(b);
+        let above = self.place_in(bases.upper, a) + (self.tail(a) - merge.late as usize);
+        let below = self.place_in(bases.lower, b) + self.tail(b);
         add_next(
             &mut table[at..at + tail + spectra],
             &mut kept[hold..hold + tail],
@@ -366,8 +419,12 @@ impl Tables {
     {
         self.hold();
         let node = self.node(k);
-        for d in node.least_row()..node.last_row + 1 {
-            self.merge_row(k, d, table, kept, upper, lower, spectra);
+        let bases = self.bases(k);
+        let first = self.start(k);
+        let least = node.least_row();
+        for d in least..node.last_row + 1 {
+            let r = first + (d - least) as usize;
+            self.merge_row(k, d, r, bases, table, kept, upper, lower, spectra);
         }
     }
 
@@ -391,11 +448,12 @@ impl Tables {
         self.run_of(k, d);
         let (a, b) = (self.number(k, 0), self.number(k, d - 1));
         let r = self.number(k, d);
-        let at = self.place_in(k, r);
-        let hold = self.hold_in(k, r);
+        let base = self.base(k);
+        let at = self.place_in(base, r);
+        let hold = self.hold_in(self.hold_base(k), r);
         let tail = self.tail(r);
         let above = self.tail(a) - d as usize;
-        let below = self.place_in(k, b) + self.tail(b);
+        let below = self.place_in(base, b) + self.tail(b);
         let (before, row) = table.split_at_mut(at);
         add_next(
             &mut row[..tail + spectra],

@@ -12,7 +12,7 @@ loop-d-preserved c = λ f u halves keeps.
     let so_far = c.loop-d.invariant f u halves keeps in
     let last : c.node-node.result.last_row ≡ (node_of t k).last_row = ap (λ n. n.last_row) c.node-node.ensures in
     let least : least_row c.node-node.result ≡ least_row (node_of t k) = ap least_row c.node-node.ensures in
-    let start = c.least_row-d.ensures in
+    let start = c.least_row-least.ensures in
     let has : HasKept (node_of t k) d = record { least = omega arith; most = omega arith } in
     one_more t c.hold.ensures f u c.args.spectra k d c.loop-d.table c.merge_row.new.table c.loop-d.kept
     c.merge_row.new.kept c.requires.node.node c.requires.short has

@@ -3,5 +3,5 @@ use Rattle.fdmt_carry.proofs.tables.Tables.merge_of.Goals as goal
 
 pub returns : goal.returns
 returns c =
-    let self = c.args.self.now in
-    rw (c.merge_at.ensures, c.number.ensures.value) (merge_known self c.hold.ensures c.args.k c.args.d c.requires.node c.requires.row)
+    rw (c.merge_at.ensures, c.requires.number)
+    (merge_known c.args.self.now c.hold.ensures c.args.k c.args.d c.requires.node c.requires.row)

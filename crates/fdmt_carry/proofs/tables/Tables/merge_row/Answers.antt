@@ -1,5 +1,5 @@
 use Rattle.std.proofs.Common.{ℕ, ◌≡◌, ◌+◌, ◌-◌, ◌≤◌, length, ap, sym, ◌∙◌, arith}
-use Rattle.fdmt_carry.specs.Tables.{tail_of, number_of, place_at, held_at, place_of}
+use Rattle.fdmt_carry.specs.Tables.{tail_of, number_of, place_at, held_at, place_of, hold_of}
 use Rattle.fdmt_carry.specs.Making.{lower_of}
 use Rattle.fdmt_carry.proofs.Parts.{part_length}
 use Rattle.fdmt_carry.proofs.Made.{row_made, row_alone, halves_go_on}
@@ -26,11 +26,17 @@ returns-clause-made c = λ f u halves keeps.
     let n : ℕ = hold + tail - hold in
     let m1 : ℕ = above + spectra - above in
     let m2 : ℕ = below + spectra - below in
-    let row = c.number-r.ensures.row in
+    let row = c.row_of.ensures in
+    let bases = c.requires.bases in
+    let place_is = bases.place_is in
+    let hold_base = bases.hold_is in
     let merge = c.merge_of-merge.ensures in
-    let r_is = c.number-r.ensures.value in
-    let at_is = c.place_in-at.ensures in
-    let hold_is = c.hold_in-hold.ensures in
+    let r_is = c.requires.number in
+    let r : ℕ = c.args.r in
+    let upper_base = bases.upper_is in
+    let lower_base = bases.lower_is in
+    let at_is : place_of t k + at ≡ place_at t c.args.r = omega (arith, c.place_in-at.ensures) in
+    let hold_is : hold_of t k + hold ≡ held_at t c.args.r = omega (arith, c.hold_in-hold.ensures) in
     let tail_is = c.tail-tail.ensures in
     let tail_now : tail ≡ tail_of t (number_of t k d) = tail_is ∙ ap (tail_of t) r_is in
     let next = row.next in
@@ -42,13 +48,13 @@ returns-clause-made c = λ f u halves keeps.
     let upper_row = merge.upper_row in
     let upper_next = upper_row.next in
     let upper_to = upper_row.to in
-    let upper_is = c.place_in.ensures in
+    let upper_is : place_of t (k + 1) + at_upper ≡ place_at t c.merge_of-merge.result.upper =
+    omega (arith, c.place_in.ensures) in
     let upper_tail = c.tail.ensures in
     let upper_room = c.requires.upper in
     let lower_tail = c.tail-2.ensures in
-    let low_is : c.lower-low.result ≡ lower_of t k = c.lower-low.ensures in
     let lower_is : place_of t (lower_of t k) + at_lower ≡ place_at t c.merge_of-merge.result.lower =
-    ap (λ low. place_of t low + at_lower) (sym low_is) ∙ c.place_in-2.ensures in
+    omega (arith, c.place_in-2.ensures) in
     let in_table : at + m ≤ length table = omega arith in
     let in_kept : hold + n ≤ length kept = omega arith in
     let in_upper : above + m1 ≤ length upper = omega arith in
@@ -77,9 +83,12 @@ returns-clause-rest c =
     let tail : ℕ = c.tail-tail.result in
     let m : ℕ = at + tail + spectra - at in
     let n : ℕ = hold + tail - hold in
-    let row = c.number-r.ensures.row in
-    let at_is = c.place_in-at.ensures in
-    let hold_is = c.hold_in-hold.ensures in
+    let row = c.row_of.ensures in
+    let bases = c.requires.bases in
+    let place_is = bases.place_is in
+    let hold_base = bases.hold_is in
+    let at_is : place_of t k + at ≡ place_at t c.args.r = omega (arith, c.place_in-at.ensures) in
+    let hold_is : hold_of t k + hold ≡ held_at t c.args.r = omega (arith, c.hold_in-hold.ensures) in
     let tail_is = c.tail-tail.ensures in
     let next = row.next in
     let to = row.to in
@@ -89,6 +98,6 @@ returns-clause-rest c =
     let kept_size = c.requires.own.kept_size in
     let in_table : at + m ≤ length table = omega arith in
     let in_kept : hold + n ≤ length kept = omega arith in
-    row_alone t k c.args.d c.number-r.result spectra at hold m n table kept c.add_next.new.row c.add_next.new.kept row
-    c.number-r.ensures.value c.requires.short at_is hold_is (omega arith) (omega arith) in_table in_kept
+    row_alone t k c.args.d c.args.r spectra at hold m n table kept c.add_next.new.row c.add_next.new.kept row
+    c.requires.number c.requires.short at_is hold_is (omega arith) (omega arith) in_table in_kept
     (c.add_next.auto.row ∙ part_length at m table in_table) (c.add_next.auto.kept ∙ part_length hold n kept in_kept)
