@@ -58,7 +58,8 @@ bounded_to laws f edges n m (suc size) lo hi d u late band some within few small
       let e = laws.halves f edges n lo hi d u late band (omega arith) within in
       let above = bounded_to laws f edges n m size lo mid s u (late + (d - s)) band (omega arith) (omega arith)
       (omega arith) small in
-      let below = bounded_to laws f edges n m size mid hi (d - s) u late band (omega arith) within (omega arith) small in
+      let below =
+      bounded_to laws f edges n m size mid hi (d - s) u late band (omega arith) within (omega arith) small in
       let cells : m * (hi - lo + d) ≡ m * (mid - lo + s) + m * (hi - mid + (d - s)) =
       ap (λ x. m * x) (let e : hi - lo + d ≡ (mid - lo + s) + (hi - mid + (d - s)) = omega arith in e) ∙ omega arith in
       rw (e, cells) (omega arith)

@@ -30,7 +30,8 @@ opened_stands nothing t is whole max_sample a b f stream =
     }
 
 -- the next spectra of a stream
-pub next_spectra : (t : Tables) → AreTables t → (max_sample fed last spectra : ℕ) (has : Bool) (kept values rows : List ℕ)
+pub next_spectra : (t : Tables) → AreTables t → (max_sample fed last spectra : ℕ) (has : Bool)
+    (kept values rows : List ℕ)
     (f : Filterbank) → max_sample * (channels_of t.plan.edges + t.plan.last) < 2 ^ 32 →
     StandsFor (carrying t max_sample fed last has kept values) f →
     AreNext (carrying t max_sample fed last has kept values) f rows spectra → HasNext t f fed spectra rows
@@ -44,7 +45,8 @@ next_spectra t is max_sample fed last spectra has kept values rows f fits stands
       samples = next;
     }
 
-pub all_kept : (t : Tables) → IsWhole t → (max_sample fed last : ℕ) (has : Bool) (kept values : List ℕ) (f : Filterbank) →
+pub all_kept : (t : Tables) → IsWhole t → (max_sample fed last : ℕ) (has : Bool) (kept values : List ℕ)
+    (f : Filterbank) →
     StandsFor (carrying t max_sample fed last has kept values) f → KeepsPart t f fed 0 kept
 all_kept t whole max_sample fed last has kept values f stands =
     subst (λ to. AreKept t f fed 0 to kept) (sym whole.next) stands.kept
@@ -89,7 +91,8 @@ band_kept t is d has = has_kept t is 0 d (subst (λ n. HasRow n d) (sym is.head)
 -- a value of a row of a node
 pub value_read : (t : Tables) → IsWhole t → ArePlain t → (max_sample u last k to d i : ℕ) (values : List ℕ)
     (f : Filterbank) → max_sample * (channels_of t.plan.edges + t.plan.last) < 2 ^ 32 →
-    IsStream t.plan max_sample f → TablesStand t f u last 0 to values → k < to → k < node_count t → HasKept (node_of t k) d →
+    IsStream t.plan max_sample f → TablesStand t f u last 0 to values → k < to → k < node_count t → HasKept
+    (node_of t k) d →
     i < last →
     slice_index values (place_at t (number_of t k d) + tail_of t (number_of t k d) + i)
     ≡ node_sum f t.plan.edges (node_of t k).lo (node_of t k).hi d (u + i) 0

@@ -18,7 +18,8 @@ pub own_kept : (t : Tables) → AreTables t → (f : Filterbank) (u k n : ℕ) (
     hold_of t k + n ≡ hold_of t (k + 1) → KeepsPart t f u k kept → KeepsNode t f u k (take n kept)
 own_kept t is f u k n kept part size keeps =
     let above = part.above in
-    stands_front t is f u (held_at t) 0 0 k (k + 1) (next_of t k) n kept is.held (omega arith) (omega arith) part.within size
+    stands_front t is f u (held_at t) 0 0 k (k + 1) (next_of t k) n kept is.held (omega arith) (omega arith)
+    part.within size
     keeps k (omega arith) (omega arith)
 
 -- what is kept of all nodes below node k
@@ -30,14 +31,16 @@ pub below_kept : (t : Tables) (f : Filterbank) (u k n : ℕ) (kept : List ℕ) �
 below_kept t f u k n kept size keeps =
     stands_back t f u (held_at t) 0 k (k + 1) (next_of t k) n kept (omega arith) size keeps
 
-pub upper_kept : (t : Tables) → AreTables t → (f : Filterbank) (u k n : ℕ) (below : List ℕ) → IsPart t k → AreParts t k →
+pub upper_kept : (t : Tables) → AreTables t → (f : Filterbank) (u k n : ℕ) (below : List ℕ) → IsPart t k → AreParts t
+    k →
     hold_of t (k + 1) + n ≡ hold_of t (lower_of t k) → AreKept t f u (k + 1) (next_of t k) below →
     KeepsPart t f u (k + 1) (take n below)
 upper_kept t is f u k n below part parts size keeps =
     let lower_end = parts.lower_end in
     let lower_above = parts.lower_part.above in
     subst (λ to. AreKept t f u (k + 1) to (take n below)) (sym parts.upper_end)
-    (stands_front t is f u (held_at t) 0 0 (k + 1) (lower_of t k) (next_of t k) n below is.held (omega arith) (omega arith)
+    (stands_front t is f u (held_at t) 0 0 (k + 1) (lower_of t k) (next_of t k) n below is.held (omega arith) (omega
+    arith)
     part.within size keeps)
 
 pub lower_kept : (t : Tables) (f : Filterbank) (u k n : ℕ) (below : List ℕ) → AreParts t k →
@@ -73,7 +76,8 @@ made_halves t is f u spectra k n whole below upper_tails lower lower_tails chann
     size upper_made lower_made = record {
       channels = channels;
       upper_half = stands_front t is f u (place_at t) spectra t.chunk (k + 1) (stop_of t whole (k + 1))
-          (stop_of t whole (k + 1)) n below is.placed short (omega arith) within size upper_made.tables (k + 1) (omega arith)
+          (stop_of t whole (k + 1)) n below is.placed short (omega arith) within size upper_made.tables (k + 1)
+          (omega arith)
           above;
       lower_half = lower_made.tables (lower_of t k) (omega arith) below_stop;
     }
@@ -91,7 +95,8 @@ kept_joined t is f u k own upper lower part parts own_size upper_size keeps keep
     subst (λ to. AreKept t f u (k + 1) to upper) parts.upper_end keeps_upper in
     let below : AreKept t f u (lower_of t k) (next_of t k) lower =
     subst (λ to. AreKept t f u (lower_of t k) to lower) parts.lower_end keeps_lower in
-    stands_join t is f u (held_at t) 0 0 k (k + 1) (next_of t k) own (upper ++ lower) is.held (omega arith) (omega arith)
+    stands_join t is f u (held_at t) 0 0 k (k + 1) (next_of t k) own (upper ++ lower) is.held (omega arith)
+    (omega arith)
     part.within own_size (only t f u (held_at t) 0 k own keeps)
     (stands_join t is f u (held_at t) 0 0 (k + 1) (lower_of t k) (next_of t k) upper lower is.held (omega arith)
     (omega arith) part.within upper_size above below)
@@ -105,11 +110,13 @@ tables_joined : (t : Tables) → AreTables t → (f : Filterbank) (u spectra k :
     TablesStand t f u spectra (k + 1) (stop_of t whole (k + 1)) upper →
     TablesStand t f u spectra (lower_of t k) (stop_of t whole (lower_of t k)) lower →
     TablesStand t f u spectra k (stop_of t whole k) (own ++ (upper ++ lower))
-tables_joined t is f u spectra k true own upper lower part parts short own_size upper_size own_made upper_made lower_made =
+tables_joined t is f u spectra k true own upper lower part parts short own_size upper_size own_made upper_made
+    lower_made =
     let order = parts.order in
     let lower_above = parts.lower_part.above in
     let lower_end = parts.lower_end in
-    let size : place_of t (k + 1) + length upper ≡ place_of t (lower_of t k) = upper_size ∙ ap (place_of t) parts.upper_end in
+    let size : place_of t (k + 1) + length upper ≡ place_of t (lower_of t k) =
+    upper_size ∙ ap (place_of t) parts.upper_end in
     let above : TablesStand t f u spectra (k + 1) (lower_of t k) upper =
     subst (λ to. TablesStand t f u spectra (k + 1) to upper) parts.upper_end upper_made in
     let below : TablesStand t f u spectra (lower_of t k) (next_of t k) lower =
@@ -118,7 +125,8 @@ tables_joined t is f u spectra k true own upper lower part parts short own_size 
     (omega arith) part.within own_size (only t f u (place_at t) spectra k own own_made)
     (stands_join t is f u (place_at t) spectra t.chunk (k + 1) (lower_of t k) (next_of t k) upper lower is.placed short
     (omega arith) part.within size above below)
-tables_joined t is f u spectra k false own upper lower part parts short own_size upper_size own_made upper_made lower_made =
+tables_joined t is f u spectra k false own upper lower part parts short own_size upper_size own_made upper_made
+    lower_made =
     let above = part.above in
     let within = part.within in
     stands_longer t is f u (place_at t) spectra t.chunk k (k + 1) own (upper ++ lower) is.placed short (omega arith)
@@ -134,12 +142,14 @@ pub parts_joined : (t : Tables) → AreTables t → (f : Filterbank) (u spectra 
     PartStands t f u spectra whole (k + 1) below upper_tails →
     PartStands t f u spectra whole (lower_of t k) lower lower_tails →
     PartStands t f u spectra whole k (own ++ (take n below ++ lower)) (own_tails ++ (upper_tails ++ lower_tails))
-parts_joined t is f u spectra k n whole own own_tails below upper_tails lower lower_tails part parts short within own_size
+parts_joined t is f u spectra k n whole own own_tails below upper_tails lower lower_tails part parts short within
+    own_size
     own_kept_size size n_is upper_size own_made upper_made lower_made = record {
       tables = tables_joined t is f u spectra k whole own (take n below) lower part parts short own_size
           (let e : place_of t (k + 1) + length (take n below) ≡ place_of t (stop_of t whole (k + 1)) = omega arith in e)
           (λ d has. (own_made d has).row)
-          (stands_front t is f u (place_at t) spectra t.chunk (k + 1) (stop_of t whole (k + 1)) (stop_of t whole (k + 1)) n
+          (stands_front t is f u (place_at t) spectra t.chunk (k + 1) (stop_of t whole (k + 1)) (stop_of t whole (k +
+          1)) n
           below is.placed short (omega arith) within size upper_made.tables)
           lower_made.tables;
       tails = kept_joined t is f (u + spectra) k own_tails upper_tails lower_tails part parts own_kept_size upper_size

@@ -14,7 +14,8 @@ use Rattle.fdmt_carry.proofs.Known.{row_known}
 use Rattle.fdmt_carry.proofs.Law.{value_later, merged_value, channel_value, sample_value}
 use Rattle.fdmt_carry.proofs.Parts.{part_begins, put_listed, put_stays, parts_go_on}
 
--- A row and what is kept of it are written where they stand: what was kept begins the row, and it goes on with its values.
+-- A row and what is kept of it are written where they stand: what was kept begins the row, and it goes on with its
+-- values.
 pub row_made : (t : Tables) (f : Filterbank) (u spectra k d at hold m n later : ℕ) (table kept row tail : List ℕ)
     (Goes : (ℕ → ℕ) → Type 0) →
     place_of t k + at ≡ place_at t (number_of t k d) → hold_of t k + hold ≡ held_at t (number_of t k d) →
@@ -66,7 +67,8 @@ pub halves_go_on : HalvesAdd → TimeShifts → (t : Tables) → AreTables t →
     place_of t (lower_of t k) + at_lower ≡ place_at t m.lower → below ≡ at_lower + tail_of t m.lower →
     len ≡ tail_of t (number_of t k d) → m1 ≡ spectra → m2 ≡ spectra → above + m1 ≤ length upper →
     GoesOn (value_of t f u k d) len (take m1 (drop above upper)) (take m2 (drop below lower))
-halves_go_on adds shifts t is f u spectra k d above below at_upper at_lower len m1 m2 m upper lower pair merge halves at_is
+halves_go_on adds shifts t is f u spectra k d above below at_upper at_lower len m1 m2 m upper lower pair merge halves
+    at_is
     above_is low_is below_is len_is first_is second_is in_upper =
     let s : ℕ = split_of t.plan.edges (node_of t k) d in
     let low : ℕ = lower_of t k in
@@ -75,7 +77,8 @@ halves_go_on adds shifts t is f u spectra k d above below at_upper at_lower len 
     let b : tail_of t m.lower ≡ tail_of t (number_of t low m.late) = ap (tail_of t) merge.lower in
     let at_a : place_at t m.upper ≡ place_at t (number_of t (k + 1) s) = ap (place_at t) merge.upper in
     let at_b : place_at t m.lower ≡ place_at t (number_of t low m.late) = ap (place_at t) merge.lower in
-    parts_go_on (value_of t f u k d) len (tail_of t (number_of t k d)) above below m1 m2 upper lower len_is (omega arith)
+    parts_go_on (value_of t f u k d) len (tail_of t (number_of t k d)) above below m1 m2 upper lower len_is
+    (omega arith)
     in_upper
     (λ i lt.
     let up = halves.upper_half s merge.upper_kept (tail_of t m.upper - m.late + i) (above + i) (omega arith)
@@ -99,7 +102,8 @@ channel_goes_on adds shifts t is f u spectra k d above below at_row len m1 m2 be
     let e : ℕ = d - 1 in
     let start = run.first in
     let enough = run.enough in
-    parts_go_on (value_of t f u k d) len (tail_of t (number_of t k d)) above below m1 m2 before before len_is (omega arith)
+    parts_go_on (value_of t f u k d) len (tail_of t (number_of t k d)) above below m1 m2 before before len_is
+    (omega arith)
     in_before
     (λ i lt.
     let up = has.first (tail_of t (number_of t k 0) - d + i) (above + i) (omega arith) (omega arith) in
@@ -109,7 +113,8 @@ channel_goes_on adds shifts t is f u spectra k d above below at_row len m1 m2 be
     ∙ ap (λ y. wrapping_sum (slice_index before (above + i)) y) (sym down))
 
 -- the rows of lesser delays stand before it
-pub before_has : (t : Tables) → AreTables t → (f : Filterbank) (u spectra k d at : ℕ) (table : List ℕ) → k < node_count t →
+pub before_has : (t : Tables) → AreTables t → (f : Filterbank) (u spectra k d at : ℕ) (table : List ℕ) → k <
+    node_count t →
     IsRunOn t k d → spectra ≤ t.chunk → place_of t k + at ≡ place_at t (number_of t k d) →
     ChannelHas t f u spectra k d table → ChannelHas t f u spectra k d (take at table)
 before_has t is f u spectra k d at table node run short at_is has =

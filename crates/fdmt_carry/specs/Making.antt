@@ -35,7 +35,8 @@ pub record IsMerge (t : Tables) (k d : ℕ) (m : Merge) : Type 0 where
   pub below : lower_of t k < node_count t
   pub enough : m.late ≤ tail_of t m.upper
 
--- what the row of delay d of a single channel is made of: the row of delay 0, of which enough is kept, and the row before
+-- what the row of delay d of a single channel is made of: the row of delay 0, of which enough is kept, and the row
+-- before
 pub record IsRunOn (t : Tables) (k d : ℕ) : Type 0 where
   pub zero_kept : HasKept (node_of t k) 0
   pub prior_kept : HasKept (node_of t k) (d - 1)

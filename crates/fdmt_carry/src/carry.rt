@@ -65,8 +65,8 @@ impl Carry {
         })
     }
 
-    /// Takes the next spectra: row `c` of `rows` begins at `c * chunk` and begins with their samples in channel `c`, the
-    /// highest frequency first. The tables of all nodes stand after it.
+    /// Takes the next spectra: row `c` of `rows` begins at `c * chunk`, with their samples in channel `c`, the highest
+    /// frequency first. The tables of all nodes stand after it.
     pub fn feed(&mut self, rows: &[u32], spectra: u32)
         requires rows { length rows.now
             ≡ channels_of self.old.tables.plan.edges * self.old.tables.chunk }

@@ -20,8 +20,8 @@ use subband_plan::{
     Merge, Node, Plan, Rows, asked_rows_are_there, plans_are_laid, rows_are_few, rows_are_numbered,
 };
 
-/// The tables of a plan, for up to `chunk` spectra at a time: where each row begins if all stand one after another, each
-/// with what is kept of it in front.
+/// The tables of a plan, for up to `chunk` spectra at a time. Where all stand, the rows stand one after another, each
+/// behind what is kept of it.
 #[derive(Drop)]
 pub struct Tables {
     plan: Plan,

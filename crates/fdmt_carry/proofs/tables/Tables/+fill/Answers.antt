@@ -21,7 +21,8 @@ returns-then-is_single t c = λ f u next keeps.
     subst (λ xs. KeepsNode self f u k xs) (sym c.split_at_mut-own_kept.ensures.front)
     (own_kept self is f u k c.kept_span.result c.args.kept.now c.part_of.ensures kept_size keeps) in
     channel_made self is f u c.args.spectra k c.args.whole c.run_channel.new.table c.run_channel.new.kept
-    c.split_at_mut-own.result.1.now c.split_at_mut-own_kept.result.1.now c.part_of.ensures (channel_next self is k single)
+    c.split_at_mut-own.result.1.now c.split_at_mut-own_kept.result.1.now c.part_of.ensures
+    (channel_next self is k single)
     c.requires.short (omega arith) (omega arith) (c.run_channel.ensures f u next own)
 
 pub returns : goal.returns
@@ -44,7 +45,8 @@ returns t c = λ f u next keeps.
     let below_is : below ≡ drop n kept = c.split_at_mut-own_kept.ensures.back in
     let size = c.span.ensures in
     let kept_size = c.kept_span.ensures in
-    let upper_kept_size : hold_of self (k + 1) + n2 ≡ hold_of self low = c.kept_span-2.ensures ∙ ap (hold_of self) low_is in
+    let upper_kept_size : hold_of self (k + 1) + n2 ≡ hold_of self low =
+    c.kept_span-2.ensures ∙ ap (hold_of self) low_is in
     let stop_is : c.stop.result ≡ stop_of self whole (k + 1) = c.stop.ensures.value in
     let made_size : place_of self (k + 1) + made ≡ place_of self (stop_of self whole (k + 1)) =
     c.span-made.ensures ∙ ap (place_of self) stop_is in
@@ -71,7 +73,8 @@ returns t c = λ f u next keeps.
     let halves : AreHalves self f u spectra k c.split_at_mut-upper.result.0.now c.fill-2.new.table =
     subst (λ xs. AreHalves self f u spectra k xs c.fill-2.new.table) (sym front)
     (made_halves self is f u spectra k made whole c.fill.new.table c.fill.new.kept c.fill-2.new.table c.fill-2.new.kept
-    next.channels parts above within (stop_above self low whole parts.lower_part) short made_size upper_made lower_made) in
+    next.channels parts above within (stop_above self low whole parts.lower_part) short made_size upper_made
+    lower_made) in
     let own_made = c.merge.ensures f u halves own in
     let own_long = c.split_at_mut-own.ensures.front_len in
     let own_kept_long = c.split_at_mut-own_kept.ensures.front_len in

@@ -66,7 +66,8 @@ returns-clause-made c = λ f u halves keeps.
     in_table in_kept (c.add_next.auto.row ∙ size) (c.add_next.auto.kept ∙ front)
     c.add_next.ensures.row c.add_next.ensures.kept
     (halves_go_on c.halves_add.ensures c.time_shifts.ensures t c.hold.ensures f u spectra k d above below at_upper
-    at_lower _ m1 m2 c.merge_of-merge.result upper lower c.requires.node merge halves upper_is (omega arith) lower_is (omega arith)
+    at_lower _ m1 m2 c.merge_of-merge.result upper lower c.requires.node merge halves upper_is (omega arith) lower_is
+    (omega arith)
     (front ∙ omega arith)
     (omega arith) (omega arith) in_upper)
     keeps

@@ -13,7 +13,8 @@ loop-d-init c = λ f u samples keeps.
     let least = c.hold.ensures.numbered.of_one k c.requires.node.one in
     let has : HasKept (node_of t k) 0 = record { least = omega arith; most = omega arith } in
     one_more t c.hold.ensures f u spectra k 0 c.args.table.now c.copy_row.new.table c.args.kept.now c.copy_row.new.kept
-    c.requires.node.node c.requires.short has (c.copy_row.ensures.made f u samples (keeps 0 has)) c.copy_row.ensures.rest
+    c.requires.node.node c.requires.short has (c.copy_row.ensures.made f u samples (keeps 0 has))
+    c.copy_row.ensures.rest
     (none_made t f u spectra k 0 c.args.table.now c.args.kept.now (λ e has. omega arith) keeps)
 
 pub loop-d-preserved : goal.loop-d-preserved

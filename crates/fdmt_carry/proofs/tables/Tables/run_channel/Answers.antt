@@ -17,7 +17,8 @@ returns c = λ f u next keeps.
     let part = c.part_of.ensures.samples in
     let lo : c.node.result.lo ≡ (node_of t k).lo = ap (λ m. m.lo) c.node.ensures in
     let chunk = c.chunk.ensures in
-    let at_is : at ≡ (node_of t k).lo * t.chunk = ap (λ l. l * c.chunk.result) lo ∙ ap (λ x. (node_of t k).lo * x) chunk in
+    let at_is : at ≡ (node_of t k).lo * t.chunk =
+    ap (λ l. l * c.chunk.result) lo ∙ ap (λ x. (node_of t k).lo * x) chunk in
     let long : length rows ≡ channels_of t.plan.edges * t.chunk = c.requires.rows in
     let inside : at + n ≤ length rows = omega (arith, c.requires.short) in
     let size : length (take n (drop at rows)) ≡ spectra = part_length at n rows inside ∙ omega arith in

@@ -70,9 +70,11 @@ returns-clause-made c = λ f u channels has keeps.
     (row_made t f u spectra k d at hold m n _ table kept c.add_next.new.row c.add_next.new.kept _
     at_now (hold_is ∙ ap (held_at t) r_is) (omega arith) (omega arith)
     (part_length above m1 before in_before ∙ omega arith)
-    in_table in_kept (c.add_next.auto.row ∙ length-take-le m back (omega (arith, back_long))) (c.add_next.auto.kept ∙ kept_part)
+    in_table in_kept (c.add_next.auto.row ∙ length-take-le m back (omega (arith, back_long)))
+    (c.add_next.auto.kept ∙ kept_part)
     c.add_next.ensures.row c.add_next.ensures.kept
-    (channel_goes_on c.one_channel_adds.ensures c.time_shifts.ensures t c.hold.ensures f u spectra k d above below at_row
+    (channel_goes_on c.one_channel_adds.ensures c.time_shifts.ensures t c.hold.ensures f u spectra k d above below
+    at_row
     _ m1 m2 before c.requires.node c.requires.later run has_before (omega arith) prior_is (omega arith)
     (kept_part ∙ omega arith) (omega arith) (omega arith) in_before)
     keeps)
