@@ -1,0 +1,322 @@
+// A loop over one feeder and one reader: what was sealed, and how it ended.
+ghost use Rattle.std.specs.Prelude.{◌≡◌, ◌≤◌, ◌<◌, length, None, true, false, Ok, [], take, IsTrue, IfSome, IfOk, OnOk, vec_len};
+ghost use Rattle.stream_model.specs.WalkLaws.{AreStarts};
+ghost use Rattle.ring_words.specs.Shape.{IsRing};
+ghost use Rattle.dada_hdu.specs.Passes.{WritesBoth, ReadsBoth, data_shape};
+ghost use Rattle.disk_feeder.specs.Feeder.{FeederFits, FeederFeeds, IsReading, IsBegun, SamePlan, header_at, has_end};
+ghost use Rattle.disk_feeder.specs.Feeding.{header_entries};
+ghost use Rattle.disk_feeder.specs.Turns.{sealed_headers, sealed_blocks};
+
+use dada_hdu::{Hdu, HduReader, HduWriter, Mark, RingShape, Taken};
+use disk_feeder::{FeedEnd, FeedFault, FeedTurn, Feeder};
+use obs_plan::Observation;
+use psr_base::{Inputs, MemInputs};
+use std::alloc::Global;
+use std::test::Fail;
+
+/// How a feeder ended, and what was read of its rings: for a header `H`; for a block of data its bytes and then `.`,
+/// `E` or `C` for its mark.
+#[derive(Drop)]
+pub(crate) struct Fed {
+    pub(crate) begun: Result<(), FeedFault>,
+    pub(crate) end: Option<FeedEnd>,
+    pub(crate) trace: Vec<u8>,
+    pub(crate) waited: u32,
+    in_transfer: bool,
+}
+
+impl Fed {
+    // Notes what a read took of the data ring.
+    fn note(&mut self, bytes: &[u8], mark: Mark) -> Result<(), Fail> {
+        self.trace.extend_from_slice(bytes)?;
+        self.trace.push(match mark {
+            Mark::More => b'.',
+            Mark::End => b'E',
+            Mark::Cut => b'C',
+        })?;
+        self.in_transfer = mark != Mark::End;
+        Ok(())
+    }
+
+    // Reads and clears the next block, where there is one: a header before the data of each transfer.
+    fn drain(&mut self, hdu: &Hdu, reader: &mut HduReader, space: &mut [u8]) -> Result<(), Fail>
+        requires ring { ReadsBoth hdu.now reader.old }
+        requires room { 65537 ≤ length space.old }
+        requires size { (data_shape hdu.now).size ≤ length space.old }
+        ensures ring { ReadsBoth hdu.now reader.new }
+    {
+        if !self.in_transfer {
+            if let Ok(Taken { .. }) = hdu.read_header(reader, space) {
+                hdu.clear_header(reader);
+                self.trace.push(b'H')?;
+                self.in_transfer = true;
+            }
+            return Ok(());
+        }
+        if let Ok(Taken { used, mark, .. }) = hdu.read(reader, space) {
+            hdu.clear(reader);
+            self.note(&space[..used as usize], mark)?;
+        }
+        Ok(())
+    }
+
+    // The same after each third turn alone.
+    fn drain_after(
+        &mut self,
+        turn: u32,
+        hdu: &Hdu,
+        reader: &mut HduReader,
+        space: &mut [u8],
+    ) -> Result<(), Fail>
+        requires ring { ReadsBoth hdu.now reader.old }
+        requires room { 65537 ≤ length space.old }
+        requires size { (data_shape hdu.now).size ≤ length space.old }
+        ensures ring { ReadsBoth hdu.now reader.new }
+    {
+        if turn % 3 != 2 {
+            return Ok(());
+        }
+        self.drain(hdu, reader, space)
+    }
+
+    // All that is left.
+    fn drain_all(&mut self, hdu: &Hdu, reader: &mut HduReader, space: &mut [u8]) -> Result<(), Fail>
+        requires ring { ReadsBoth hdu.now reader.old }
+        requires room { 65537 ≤ length space.old }
+        requires size { (data_shape hdu.now).size ≤ length space.old }
+    {
+        for _rest in 0..40 {
+            self.drain(hdu, reader, space)?;
+        }
+        Ok(())
+    }
+}
+
+// Accepts the observation of each first header, if they have one.
+fn accept_all<I: Inputs>(
+    alloc: Global,
+    feeder: &mut Feeder<'_, I>,
+    transfers: usize,
+) -> Result<bool, Fail>
+    requires begun { IsBegun (I.told feeder.old.inputs.now) feeder.old }
+    requires count { length (header_at feeder.old) ≡ transfers }
+    requires some { 0 < transfers }
+    ensures same_reference { feeder.new.inputs.ghost_name ≡ feeder.old.inputs.ghost_name }
+    ensures plan { OnOk result (SamePlan feeder.old feeder.new) }
+    ensures headers { header_at feeder.new ≡ header_at feeder.old }
+    ensures feeds { result ≡ Ok true → FeederFeeds (I.told feeder.new.inputs.now) feeder.new
+        (header_entries (take 1 (header_at feeder.new))) [] }
+    ensures running { result ≡ Ok true → has_end feeder.new ≡ None }
+    ensures reading { IsReading feeder.new → IsReading feeder.old }
+    ensures inputs { feeder.new.inputs.now ≡ feeder.old.inputs.now }
+{
+    for k in 0..transfers {
+        let Ok(observation) = Observation::of(alloc, feeder.header(k)) else {
+            return Ok(false);
+        };
+        feeder.accept(k, &observation);
+    }
+    Ok(true)
+}
+
+// Takes a turn, and says whether the feeder ended.
+fn take_turn<I: Inputs>(
+    feeder: &mut Feeder<'_, I>,
+    hdu: &Hdu,
+    pass: &mut HduWriter,
+    fed: &mut Fed,
+) -> bool
+    requires writes { WritesBoth hdu.now pass.old }
+    requires fits { FeederFits hdu.now feeder.old }
+    requires running { has_end feeder.old ≡ None }
+    requires is_open { IsReading feeder.old → I.is_open feeder.old.inputs.now }
+    requires feeding { FeederFeeds (I.told feeder.old.inputs.now) feeder.old
+        (sealed_headers pass.old) (sealed_blocks pass.old) }
+    ensures writes { WritesBoth hdu.now pass.new }
+    ensures same_reference { feeder.new.inputs.ghost_name ≡ feeder.old.inputs.ghost_name }
+    ensures fits { FeederFits hdu.now feeder.new }
+    ensures running { result ≡ false → has_end feeder.new ≡ None }
+    ensures is_open { IsReading feeder.new → I.is_open feeder.new.inputs.now }
+    ensures feeding { FeederFeeds (I.told feeder.new.inputs.now) feeder.new
+        (sealed_headers pass.new) (sealed_blocks pass.new) }
+{
+    match feeder.turn(hdu, pass) {
+        FeedTurn::Moved => false,
+        FeedTurn::Waiting { .. } => {
+            fed.waited = fed.waited.saturating_add(1);
+            false
+        }
+        FeedTurn::Ended(end) => {
+            fed.end = Some(end);
+            true
+        }
+    }
+}
+
+// Takes turns until the feeder ended, at most so many; the reader reads after each third turn.
+fn take_turns<I: Inputs>(
+    feeder: &mut Feeder<'_, I>,
+    hdu: &Hdu,
+    pass: &mut HduWriter,
+    reader: &mut HduReader,
+    space: &mut [u8],
+    fed: &mut Fed,
+) -> Result<(), Fail>
+    requires writes { WritesBoth hdu.now pass.old }
+    requires reads { ReadsBoth hdu.now reader.old }
+    requires room { 65537 ≤ length space.old }
+    requires size { (data_shape hdu.now).size ≤ length space.old }
+    requires fits { FeederFits hdu.now feeder.old }
+    requires running { has_end feeder.old ≡ None }
+    requires is_open { IsReading feeder.old → I.is_open feeder.old.inputs.now }
+    requires feeding { FeederFeeds (I.told feeder.old.inputs.now) feeder.old
+        (sealed_headers pass.old) (sealed_blocks pass.old) }
+{
+    for turn in 0..200 {
+        if take_turn(feeder, hdu, pass, fed) {
+            return fed.drain_all(hdu, reader, space);
+        }
+        fed.drain_after(turn, hdu, reader, space)?;
+    }
+    Ok(())
+}
+
+// Both rings, of which nothing was sealed, and the passes of their writer and of their reader.
+#[derive(Drop)]
+struct Rings {
+    hdu: Hdu,
+    pass: HduWriter,
+    reader: HduReader,
+    ghost writes: { WritesBoth hdu pass },
+    ghost reads: { ReadsBoth hdu reader },
+    ghost no_header: { sealed_headers pass ≡ [] },
+    ghost no_block: { sealed_blocks pass ≡ [] },
+}
+
+fn open_rings(alloc: Global, shape: RingShape) -> Option<Rings>
+    requires { IsRing shape }
+    ensures { IfSome result (λ r. data_shape r.hdu ≡ shape) }
+{
+    let Ok((hdu, pass, mut readers)) = Hdu::open(alloc, shape) else {
+        return None;
+    };
+    let reader = readers.remove(0)?;
+    Some(Rings { hdu, pass, reader })
+}
+
+// Seals the first header, and says whether it did.
+fn write_first<I: Inputs>(feeder: &Feeder<'_, I>, hdu: &Hdu, pass: &mut HduWriter) -> bool
+    requires writes { WritesBoth hdu.now pass.old }
+    requires no_header { sealed_headers pass.old ≡ [] }
+    requires no_block { sealed_blocks pass.old ≡ [] }
+    requires there { 0 < length (header_at feeder.now) }
+    requires feeds { FeederFeeds (I.told feeder.now.inputs.now) feeder.now
+        (header_entries (take 1 (header_at feeder.now))) [] }
+    ensures writes { WritesBoth hdu.now pass.new }
+    ensures feeding { result ≡ true → FeederFeeds (I.told feeder.now.inputs.now) feeder.now
+        (sealed_headers pass.new) (sealed_blocks pass.new) }
+{
+    match hdu.write_header(pass, feeder.header(0)) {
+        Ok(_number) => true,
+        Err(_) => false,
+    }
+}
+
+// The starts of transfers among so many files, where there are one or two.
+fn are_starts(starts: &[u32], count: usize) -> bool
+    ensures starts { IsTrue result → AreStarts starts.now count }
+    ensures few { IsTrue result → length starts.now ≤ 2 }
+{
+    match starts {
+        [first] => *first == 0 && 0 < count,
+        [first, second] => *first == 0 && 0 < *second && (*second as usize) < count,
+        _ => false,
+    }
+}
+
+/// Files by their names, the names of those that are read, the starts of transfers, the size of a block, the most data
+/// bytes, and the calls that fail.
+#[derive(Clone, Copy)]
+pub(crate) struct Case<'a> {
+    pub(crate) files: &'a [(&'a str, &'a [u8])],
+    pub(crate) names: &'a [String],
+    pub(crate) starts: &'a [u32],
+    pub(crate) size: u32,
+    pub(crate) max_bytes: u64,
+    pub(crate) fail: &'a [u64],
+    pub(crate) buffers: u32,
+}
+
+/// Feeds the files of a case.
+pub(crate) fn feed(alloc: Global, case: Case<'_>) -> Result<Fed, Fail> {
+    let Case {
+        files,
+        names,
+        starts,
+        size,
+        max_bytes,
+        fail,
+        buffers,
+    } = case;
+    let mut inputs = MemInputs::open(alloc, fail)?;
+    for (name, bytes) in files {
+        inputs.put(name, bytes)?;
+    }
+    if names.len() > 65535 || !are_starts(starts, names.len()) || max_bytes > 1 << 40 {
+        return Err("a case".into());
+    }
+    if size < 1 || size > 1 << 16 {
+        return Err("a size".into());
+    }
+    let shape = RingShape {
+        buffers,
+        size,
+        readers: 1,
+        max_blocks: max_bytes / size as u64 + starts.len() as u64 + 1,
+    };
+    if shape.check().is_err() {
+        return Err("a shape".into());
+    }
+    let Some(
+        Rings {
+            hdu,
+            mut pass,
+            mut reader,
+        },
+    ) = open_rings(alloc, shape)
+    else {
+        return Err("rings".into());
+    };
+    let mut space = vec![in alloc; 0u8; 65537]?;
+    let mut fed = Fed {
+        begun: Ok(()),
+        end: None,
+        trace: Vec::new(alloc),
+        waited: 0,
+        in_transfer: false,
+    };
+    let mut feeder = Feeder::open(alloc, &mut inputs, names, starts, size, max_bytes)?;
+    match feeder.begin() {
+        Ok(()) => {}
+        Err(fault) => {
+            fed.begun = Err(fault);
+            return Ok(fed);
+        }
+    }
+    if !accept_all(alloc, &mut feeder, starts.len())? {
+        return Err("an observation".into());
+    }
+    if !write_first(&feeder, &hdu, &mut pass) {
+        return Err("the first header".into());
+    }
+    take_turns(
+        &mut feeder,
+        &hdu,
+        &mut pass,
+        &mut reader,
+        space.as_mut_slice(),
+        &mut fed,
+    )?;
+    feeder.close();
+    Ok(fed)
+}

@@ -1,0 +1,7 @@
+//! Tests of feeders, by loops on one thread.
+#![tactic(auto)]
+
+#[cfg(test)]
+mod feeding;
+#[cfg(test)]
+mod tests;
