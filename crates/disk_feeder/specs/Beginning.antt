@@ -1,8 +1,8 @@
 -- How a feeder begins: the first header of each transfer is read, and then its observation accepted.
 -- Source: this project's profile.
-use Rattle.std.specs.Prelude.{◌≡◌, ◌≢◌, ℕ, ◌+◌, ◌<◌, Bool, true, false, None, Some, List, length, slice_get}
+use Rattle.std.specs.Prelude.{◌≡◌, ◌≢◌, ℕ, ◌+◌, ◌<◌, Bool, true, false, None, Some, Ok, List, length, slice_get}
 use Rattle.psr_base.specs.Told.{Told, OfFile, left_to_read}
-use Rattle.dada_model.specs.Fields.{HeaderText}
+use Rattle.dada_model.specs.Fields.{HeaderText, header_of}
 use Rattle.stream_model.specs.Walk.{file_at, data_of}
 use Rattle.disk_feeder.specs.declared.answers.FeedFault.{FeedFault}
 use Rattle.disk_feeder.specs.declared.place.First.{First}
@@ -30,12 +30,14 @@ abbrev pub LastLeft : Told → Source → ℕ → Told → Type 0
 LastLeft told source count told' = (k : ℕ) → k + 1 ≡ count →
     OfFile told (first_name source k) (λ file. left_to_read told' ≡ Some (data_of file))
 
--- the fault is that of the first file of some transfer
+-- the fault is that of the first file of some transfer; those of the transfers before it have headers
 pub record RefusesSome (told : Told) (source : Source) (fault : FeedFault) : Type 0 where
   pub transfer : ℕ
   pub there : transfer < length source.starts.now
   pub refuses : OfFile told (first_name source transfer)
       (λ file. RefusesFirst file (begin_at source.starts.now (length source.names.now) transfer) fault)
+  pub earlier : (k : ℕ) → k < transfer →
+      OfFile told (first_name source k) (λ file. (header : HeaderText) × (header_of file ≡ Ok header))
 
 -- at the first file, which may be open
 abbrev pub start_place : Bool → Place

@@ -1,10 +1,12 @@
-use Rattle.std.proofs.Common.{◌≡◌, ℕ, List, [], Option, Some, length, map, sym, ap, ◌∙◌, inl, inr, arith}
+use Rattle.std.proofs.Common.{◌≡◌, ℕ, ◌<◌, List, [], Option, Some, length, get_or, map, refl, sym, ap, ◌∙◌, subst, inl, inr, arith}
 use Rattle.std.specs.Prelude.{slice_get, slice_index_or, string_bytes}
 use Rattle.std.proofs.lemmas.Bool.{cases_eq}
+use Rattle.std.proofs.lemmas.Option.{slice_get-get_or}
+use Rattle.dada_model.specs.Fields.{HeaderText}
 use Rattle.psr_base.specs.Told.{Told}
 use Rattle.disk_feeder.specs.declared.source.Source.{Source}
 use Rattle.disk_feeder.specs.Plan.{begin_at}
-use Rattle.disk_feeder.specs.Sources.{first_name, KeepsHeaders}
+use Rattle.disk_feeder.specs.Sources.{first_name, KeepsHeaders, RefusesFirst}
 use Rattle.disk_feeder.specs.Beginning.{KeepsSource}
 use Rattle.disk_feeder.proofs.source.Source.read_headers.Goals as goal
 
@@ -59,4 +61,33 @@ loop-transfer-preserved g c =
       names = c.read_first.ensures.names ∙ before.names;
       count = omega (arith, before.count, c.read_first.ensures.count);
       calm = λ calm. c.read_first.ensures.calm (before.calm calm);
+    }
+
+pub returns-in-Err-clause-refused : goal.returns-in-Err-clause-refused
+returns-in-Err-clause-refused g c =
+    let i = g.I.Inputs in
+    let before = c.loop-transfer.invariant in
+    let old = c.args.self.now in
+    let now = c.loop-transfer.self in
+    let t = c.loop-transfer.transfer in
+    let told = i.told c.args.inputs.now in
+    let told' = i.told c.loop-transfer.inputs in
+    let starts : length now.starts.now ≡ length old.starts.now = ap (λ s. length s.now) before.kept.starts in
+    let headed : length now.headers.items ≡ length now.starts.now = now.headed in
+    let below : t < length old.starts.now = omega arith in
+    record {
+      transfer = t;
+      there = below;
+      refuses = λ file known.
+          let P : ℕ → Type 0 = λ n. RefusesFirst file n c.in-Err.fault in
+          subst P
+          (ap (λ s. begin_at s.now (length now.names.now) t) before.kept.starts
+          ∙ ap (λ n. begin_at old.starts.now (length n.now) t) before.kept.names)
+          (c.in-Err.ensures.refused file (told_still old now told told' t t file before.kept before.names refl known));
+      earlier = λ k less file known.
+          let none : HeaderText = record { size = 0; text = [] } in
+          let header = get_or now.headers.items k none in (
+            header,
+            before.headers k less file known header (slice_get-get_or now.headers.items k none (omega arith)),
+          );
     }
