@@ -1,0 +1,27 @@
+// The sample file's bytes, two spectra of two channels at a time.
+use crate::fed::table_of;
+use fdmt_carry::Carry;
+use psr_base::Memory;
+use subband_plan::Plan;
+
+#[test]
+fn the_sample_bytes(rt: HostRuntime) -> Result<(), Memory> {
+    let edges = [1_500_000, 1_400_000, 1_300_000];
+    let plan = Plan::open(rt.alloc(), &edges, 0, 1)?;
+    let mut carry = Carry::open(rt.alloc(), plan, 2, 255)?;
+    assert_eq!(rt; carry.has_tables(), false);
+    carry.feed(&[10, 0, 0, 20], 2);
+    assert_eq!(rt; carry.row(0), [10, 20].as_slice());
+    assert_eq!(rt; carry.row(1), [0, 30].as_slice());
+    assert_eq!(rt; table_of(&carry, 0, 1), [0, 30].as_slice());
+    assert_eq!(rt; table_of(&carry, 1, 0), [10, 0].as_slice());
+    assert_eq!(rt; table_of(&carry, 2, 0), [0, 20].as_slice());
+    assert_eq!(rt; table_of(&carry, 2, 1), [0, 20].as_slice());
+    assert_eq!(rt; carry.has_tables(), true);
+    carry.pass(&[0, 7, 0, 7], 1);
+    assert_eq!(rt; carry.sum(0, 0), 0);
+    assert_eq!(rt; carry.sum(1, 0), 20);
+    assert_eq!(rt; carry.fed(), 3);
+    assert_eq!(rt; carry.has_tables(), false);
+    Ok(())
+}
