@@ -1,0 +1,123 @@
+// Tables, and the samples that are taken into them.
+ghost use Rattle.std.specs.Prelude.{◌≡◌, ℕ, ◌+◌, ◌*◌, ◌^◌, ◌<◌, ◌≤◌, length, IfOk};
+ghost use Rattle.dada_model.specs.Edges.{AreEdges};
+ghost use Rattle.fdmt_carry.specs.Carrying.{Carrying};
+ghost use Rattle.carry_bench.specs.Ready.{IsReady};
+
+use fdmt_carry::Carry;
+use psr_base::Memory;
+use std::alloc::Global;
+use subband_plan::Plan;
+
+/// How many channels there are, in 400 MHz below 1582 MHz.
+const CHANNELS: u32 = 1024;
+
+/// The longest delay.
+const LAST: u32 = 1024;
+
+/// More spectra are not taken.
+const MOST: u64 = 1 << 40;
+
+/// How spectra are taken.
+#[derive(Clone, Copy, PartialEq, Eq, Debug)]
+pub enum Way {
+    Feed,
+    Pass,
+}
+
+/// What is to be done.
+#[derive(Clone, Copy, Debug)]
+pub struct Work {
+    pub way: Way,
+    pub chunk: u32,
+    pub times: u32,
+}
+
+/// Tables, with a chunk of samples.
+#[derive(Drop)]
+pub struct Bench {
+    carry: Carry,
+    samples: Vec<u32>,
+    work: Work,
+    ghost ready: { IsReady carry work.chunk (length samples.items) },
+}
+
+impl Bench {
+    /// Takes the memory.
+    pub fn open(alloc: Global, work: Work) -> Result<Bench, Memory> {
+        let work = Work {
+            way: work.way,
+            chunk: work.chunk.clamp(1, 65536),
+            times: work.times,
+        };
+        let carry = open_carry(alloc, work.chunk)?;
+        let samples = make_samples(alloc, CHANNELS as usize * work.chunk as usize)?;
+        Ok(Bench {
+            carry,
+            samples,
+            work,
+        })
+    }
+
+    /// Takes the chunk as often as it is asked for, and gives a sum of sums.
+    pub fn run(&mut self) -> u32 {
+        let mut sum = 0_u32;
+        for _ in 0..self.work.times {
+            sum = sum.wrapping_add(self.take());
+        }
+        sum
+    }
+
+    // Takes the chunk once.
+    fn take(&mut self) -> u32 {
+        if self.carry.fed() >= MOST {
+            return 0;
+        }
+        let samples = self.samples.as_slice();
+        match self.work.way {
+            Way::Feed => self.carry.feed(samples, self.work.chunk),
+            Way::Pass => self.carry.pass(samples, self.work.chunk),
+        }
+        self.carry.sum(LAST, 0)
+    }
+
+    /// How many bytes all rows and tails need.
+    pub fn need(&self) -> u64 {
+        self.carry.plan().words(self.work.chunk).wrapping_mul(4)
+    }
+}
+
+// The edges of the channels in kHz.
+fn make_edges(alloc: Global) -> Result<Vec<u32>, Memory>
+    ensures { IfOk result (λ edges. AreEdges 1024 edges.items) }
+{
+    let mut edges = Vec::new(alloc);
+    for c in 0..CHANNELS + 1 {
+        edges.push(1_582_000 - c * 400_000 / CHANNELS)?;
+    }
+    Ok(edges)
+}
+
+// Tables that were fed nothing.
+fn open_carry(alloc: Global, chunk: u32) -> Result<Carry, Memory>
+    requires some { 1 ≤ chunk }
+    requires most { chunk ≤ 65536 }
+    ensures { IfOk result (λ carry. IsReady carry chunk (1024 * chunk)) }
+{
+    let edges = make_edges(alloc)?;
+    let plan = Plan::open(alloc, edges.as_slice(), 0, LAST)?;
+    Carry::open(alloc, plan, chunk, 255)
+}
+
+// So many samples that look random.
+fn make_samples(alloc: Global, count: usize) -> Result<Vec<u32>, Memory>
+    ensures { IfOk result (λ samples. length samples.items ≡ count) }
+{
+    let mut samples = Vec::with_capacity(alloc, count)?;
+    let mut state = 13_u32;
+    for done in 0..count {
+        state = state.wrapping_mul(1_103_515_245).wrapping_add(12_345);
+        samples.push(state >> 27)?;
+    }
+    Ok(samples)
+}
