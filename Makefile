@@ -9,14 +9,14 @@ CPU := $(shell grep -qw avx2 /proc/cpuinfo 2>/dev/null && echo --cpu=x86-64-v3)
 .PHONY: help demo test install toolchain
 
 help:
-	@echo 'make demo                    makes an observation with three pulses and finds them, within a minute'
+	@echo 'make demo                    makes an observation with three pulses and finds them, in about a minute'
 	@echo 'make test                    the gate: every proof, must-fail edit, test and program'
 	@echo 'make install PREFIX=DIR      proves, builds and installs psr_search, psr_make and ring_trace (PREFIX: $(PREFIX))'
 
 toolchain:
 	@command -v rt >/dev/null || { echo 'this needs rt, the command of the Rattle toolchain, on the PATH' >&2; exit 1; }
 
-# rt try builds without proving, in some twenty seconds for each program; make install builds what is proved.
+# rt try builds without proving, in about half a minute for each program; make install builds what is proved.
 demo: toolchain
 	@echo 'An observation of 256 spectra of 32 channels: noise of mean 16 and deviation 2.828, and every 100 spectra a pulse that'
 	@echo 'takes 20 spectra from the top of the band to its foot and adds 8 to each sample. (Built unproved, by rt try.)'
