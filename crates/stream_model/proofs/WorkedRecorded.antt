@@ -4,7 +4,7 @@ use Rattle.std.specs.Prelude.{codes}
 use Rattle.std.specs.Fmt.{digits}
 use Rattle.dada_model.specs.Fields.{is_white, without_comment, words_of, fields_of, value_of}
 use Rattle.dada_model.specs.Change.{word_start, word_end, value_start, value_end, has_key, with_value, blanked_line, overwritten, blanked, line_end, is_overwritten, changed}
-use Rattle.stream_model.specs.Recorded.{padded, is_time, Recording, file_header, file_name, file_data, file_count, record_refusal, NoTime, BadTime, NoRoom, TooManyFiles}
+use Rattle.stream_model.specs.Recorded.{is_time, Recording, file_header, file_name, file_data, file_count, record_refusal, NoTime, BadTime, NoRoom, TooManyFiles}
 
 abbrev lines : List (List ℕ) → List ℕ
 lines [] = []
@@ -21,18 +21,18 @@ sample = record {
 }
 
 first_name : file_name sample 0 ≡ codes "2024-01-02-03:04:05_0000000000000000.000000.dada"
-unfolding sample file_name padded digits fields_of words_of without_comment is_white value_of
+unfolding sample file_name digits fields_of words_of without_comment is_white value_of
 first_name = refl
 
 second_name : file_name sample 1 ≡ codes "2024-01-02-03:04:05_0000000000000004.000001.dada"
-unfolding sample file_name padded digits fields_of words_of without_comment is_white value_of
+unfolding sample file_name digits fields_of words_of without_comment is_white value_of
 second_name = refl
 
 -- OBS_OFFSET is too short for its new value, so that its line becomes blank
 second_header : (file_header sample 1).text
     ≡ lines (codes "NBIT 8" ∷ codes "UTC_START 2024-01-02-03:04:05" ∷ codes "            "
     ∷ codes "OBS_OFFSET 0000000000000004" ∷ codes "FILE_NUMBER 000001" ∷ codes "FILE_SIZE 0000000000000004" ∷ [])
-unfolding sample file_header padded digits changed is_overwritten overwritten blanked line_end has_key with_value
+unfolding sample file_header digits changed is_overwritten overwritten blanked line_end has_key with_value
     blanked_line fields_of words_of without_comment is_white word_start word_end value_start value_end value_of
 second_header = refl
 
@@ -63,13 +63,13 @@ one_file_without_data = refl
 -- ---- refusals
 
 sample_fits : record_refusal sample 4000000 ≡ None
-unfolding sample record_refusal is_time padded digits changed is_overwritten overwritten blanked line_end has_key
+unfolding sample record_refusal is_time digits changed is_overwritten overwritten blanked line_end has_key
     with_value blanked_line fields_of words_of without_comment is_white word_start word_end value_start value_end
     value_of
 sample_fits = refl
 
 too_many : record_refusal sample 4000001 ≡ Some TooManyFiles
-unfolding sample record_refusal is_time padded digits changed is_overwritten overwritten blanked line_end has_key
+unfolding sample record_refusal is_time digits changed is_overwritten overwritten blanked line_end has_key
     with_value blanked_line fields_of words_of without_comment is_white word_start word_end value_start value_end
     value_of
 too_many = refl
@@ -84,21 +84,21 @@ small time comment = record {
 
 -- the three lines have 74 bytes
 just_fits : record_refusal (small (codes "2024-01-02-03:04:05") (codes "#aaaaaaaaaaaaa")) 4 ≡ None
-unfolding record_refusal is_time padded digits changed is_overwritten overwritten blanked line_end has_key with_value
+unfolding record_refusal is_time digits changed is_overwritten overwritten blanked line_end has_key with_value
     blanked_line fields_of words_of without_comment is_white word_start word_end value_start value_end value_of
 just_fits = refl
 
 one_too_long : record_refusal (small (codes "2024-01-02-03:04:05") (codes "#aaaaaaaaaaaaaa")) 4 ≡ Some (NoRoom 120 120)
-unfolding record_refusal is_time padded digits changed is_overwritten overwritten blanked line_end has_key with_value
+unfolding record_refusal is_time digits changed is_overwritten overwritten blanked line_end has_key with_value
     blanked_line fields_of words_of without_comment is_white word_start word_end value_start value_end value_of
 one_too_long = refl
 
 no_seconds : record_refusal (small (codes "2024-01-02-03:04") (codes "#")) 4 ≡ Some BadTime
-unfolding record_refusal is_time padded digits changed is_overwritten overwritten blanked line_end has_key with_value
+unfolding record_refusal is_time digits changed is_overwritten overwritten blanked line_end has_key with_value
     blanked_line fields_of words_of without_comment is_white word_start word_end value_start value_end value_of
 no_seconds = refl
 
 no_time : record_refusal (small (codes "#") (codes "#")) 4 ≡ Some NoTime
-unfolding record_refusal is_time padded digits changed is_overwritten overwritten blanked line_end has_key with_value
+unfolding record_refusal is_time digits changed is_overwritten overwritten blanked line_end has_key with_value
     blanked_line fields_of words_of without_comment is_white word_start word_end value_start value_end value_of
 no_time = refl

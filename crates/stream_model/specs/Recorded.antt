@@ -1,17 +1,13 @@
 -- Recorded files: the data of a transfer in files again, each with the transfer's header for itself (PSRDADA manual:
 -- dada_dbdisk, OBS_OFFSET, FILE_NUMBER, FILE_SIZE; the fixed widths and the names are this project's profile).
-use Rattle.std.specs.Prelude.{ℕ, Bool, true, false, ◌&&◌, nat_lt, nat_le, ◌==◌, ◌+◌, ◌-◌, ◌*◌, ◌/◌, if◌then◌else◌, List, [], ◌∷◌, ◌++◌, length, take, drop, replicate, map, Option, None, Some, unwrap_or, codes}
-use Rattle.std.specs.Fmt.{decimal}
+use Rattle.std.specs.Prelude.{ℕ, Bool, true, false, ◌&&◌, nat_lt, nat_le, ◌==◌, ◌+◌, ◌-◌, ◌*◌, ◌/◌, if◌then◌else◌, List, [], ◌∷◌, ◌++◌, length, take, drop, map, Option, None, Some, unwrap_or, codes}
 use Rattle.std.specs.List.{range_with_len}
 use Rattle.dada_model.specs.Change.{changed}
 use Rattle.dada_model.specs.Fields.{HeaderText, fields_of, value_of, header_bytes}
+use Rattle.psr_base.specs.Fixed.{padded}
 use Rattle.psr_base.specs.Made.{NamedBytes}
 
 -- ---- texts
-
--- a number in at least so many decimal digits: 48 is '0'
-unfoldable pub padded : ℕ → ℕ → List ℕ
-padded width n = replicate (width - length (decimal n)) 48 ++ decimal n
 
 -- a byte stands where a form has this character: any digit for a 0, and else the character itself
 abbrev pub stands_for : ℕ → ℕ → Bool
