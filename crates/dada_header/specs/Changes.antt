@@ -14,7 +14,8 @@ pub record IsOverwrite (key value text : List ℕ) (place : Place) : Type 0 wher
   pub within : place.end ≤ length text
 
 abbrev pub IsAppended : List ℕ → List ℕ → List ℕ → Type 0
-IsAppended key value text = changed key value text ≡ blanked key text ++ (line_end text ++ field_line key value)
+IsAppended key value text =
+    changed key value text ≡ blanked key text ++ (line_end text ++ field_line key value)
 
 abbrev pub IsChangePlan : List ℕ → List ℕ → List ℕ → Option Place → Type 0
 IsChangePlan key value text (Some place) = IsOverwrite key value text place
@@ -29,7 +30,8 @@ pub record IsPut (place : ℕ) (piece old new : List ℕ) (last : ℕ) : Type 0 
 -- the text that the first bytes are has a line with another value at its end, in place of the fields with the key
 pub record IsReplaced (key value : List ℕ) (len : ℕ) (old new : List ℕ) (last : ℕ) : Type 0 where
   pub end : last ≡ len + length (line_end (take len old) ++ field_line key value)
-  pub front : take last new ≡ blanked key (take len old) ++ (line_end (take len old) ++ field_line key value)
+  pub front : take last new
+      ≡ blanked key (take len old) ++ (line_end (take len old) ++ field_line key value)
   pub rest : drop last new ≡ drop last old
 
 -- the text that the first bytes are is changed, and what stands after it is as it was
@@ -47,4 +49,5 @@ pub record IsSet (key value : List ℕ) (old new : HeaderText) : Type 0 where
 -- the changed text fills the header or more; its length is told up to the greatest number there is
 abbrev pub IsOverfull : List ℕ → List ℕ → HeaderText → SetFault → Type 0
 IsOverfull key value header (Overfull need size) =
-    (need ≡ min (length (changed key value header.text)) (2 ^ 64 - 1)) × (size ≡ header.size) × (header.size ≤ need)
+    (need ≡ min (length (changed key value header.text)) (2 ^ 64 - 1)) × (size ≡ header.size)
+    × (header.size ≤ need)

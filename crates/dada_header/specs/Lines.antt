@@ -8,5 +8,6 @@ pub record IsLineEnd (text : List ℕ) (from end : ℕ) : Type 0 where
   pub ordered : from ≤ end
   pub within : end ≤ length text
   pub line : IsLine (slice_range text from end)
-  pub rest : end < length text → drop from text ≡ slice_range text from end ++ (10 ∷ drop (end + 1) text)
+  pub rest : end < length text →
+      drop from text ≡ slice_range text from end ++ (10 ∷ drop (end + 1) text)
   pub last : end ≡ length text → drop from text ≡ slice_range text from end

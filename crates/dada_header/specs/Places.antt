@@ -20,7 +20,8 @@ pub record IsNextWord (line : List ℕ) (from : ℕ) (place : Place) : Type 0 wh
 
 -- the two words of a field
 pub record IsFieldAt (line : List ℕ) (places : FieldPlaces) : Type 0 where
-  pub field : field_of_line line ≡ Some (record { keyword = at places.keyword line; value = at places.value line })
+  pub field : field_of_line line
+      ≡ Some (record { keyword = at places.keyword line; value = at places.value line })
   pub start : places.value.start ≡ value_start (without_comment line)
   pub end : places.value.end ≡ value_end (without_comment line)
   pub keyword_some : places.keyword.start < places.keyword.end
@@ -31,14 +32,17 @@ pub record IsFieldAt (line : List ℕ) (places : FieldPlaces) : Type 0 where
 -- the value of a line that is a field with the key
 pub record IsValueAt (key line : List ℕ) (place : Place) : Type 0 where
   pub has_key : has_key key line ≡ true
-  pub value : (keyword : List ℕ) × (field_of_line line ≡ Some (record { keyword = keyword; value = at place line }))
-  pub other : (value : List ℕ) → with_value value line ≡ with_value_between place.start place.end value line
+  pub value : (keyword : List ℕ)
+      × (field_of_line line ≡ Some (record { keyword = keyword; value = at place line }))
+  pub other : (value : List ℕ) →
+      with_value value line ≡ with_value_between place.start place.end value line
   pub some : place.start < place.end
   pub within : place.end ≤ length line
 
 -- the value of the first field of a text with the key
 pub record IsFirstValueAt (key text : List ℕ) (place : Place) : Type 0 where
   pub value : value_of key (fields_of text) ≡ Some (at place text)
-  pub other : (value : List ℕ) → overwritten key value text ≡ with_value_between place.start place.end value text
+  pub other : (value : List ℕ) →
+      overwritten key value text ≡ with_value_between place.start place.end value text
   pub some : place.start < place.end
   pub within : place.end ≤ length text

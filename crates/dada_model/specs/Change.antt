@@ -1,5 +1,6 @@
 -- How a header field is changed (this project's profile): no byte that stands before the end of the text changes its
 -- place, so the line of HDR_SIZE stays where it is.
+-- Source: PSRDADA manual (a header is lines of keyword and value); how a field is changed is this project's choice.
 use Rattle.std.specs.Prelude.{◌≢◌, ℕ, ◌+◌, ◌-◌, ◌<◌, ◌≤◌, Bool, false, nat_le, ◌==◌, if◌then◌else◌, List, [], ◌∷◌, ◌++◌, All, length, take, drop, replicate, slice_index_or, map, Option, Some, None, bytes_eq}
 use Rattle.std.specs.List.{prefix_len, position_or_len, join_with_byte}
 use Rattle.dada_model.specs.Fields.{is_white, lines_of, without_comment, Field, field_of_line, fields_of, value_of}
@@ -55,7 +56,8 @@ with_value value line = with_value_between (value_start (without_comment line)) 
 
 -- a line with spaces up to its comment
 unfoldable pub blanked_line : List ℕ → List ℕ
-blanked_line line = spaces (length (without_comment line)) ++ drop (length (without_comment line)) line
+blanked_line line =
+    spaces (length (without_comment line)) ++ drop (length (without_comment line)) line
 
 -- ---- the text
 
@@ -63,7 +65,8 @@ blanked_line line = spaces (length (without_comment line)) ++ drop (length (with
 abbrev pub with_first_value : List ℕ → List ℕ → List (List ℕ) → List (List ℕ)
 with_first_value key value [] = []
 with_first_value key value (line ∷ lines) =
-    if has_key key line then with_value value line ∷ lines else line ∷ with_first_value key value lines
+    if has_key key line then with_value value line ∷ lines
+    else line ∷ with_first_value key value lines
 
 unfoldable pub overwritten : List ℕ → List ℕ → List ℕ → List ℕ
 overwritten key value text = join_with_byte 10 (with_first_value key value (lines_of text))

@@ -30,7 +30,8 @@ abbrev pub HeadersAreText : Type 0
 HeadersAreText = (header : HeaderText) → IsReadBack header → IsHeader header
 
 abbrev pub HeadersAreReadBack : Type 0
-HeadersAreReadBack = (bytes : List ℕ) (header : HeaderText) → header_of bytes ≡ Ok header → IsReadBack header
+HeadersAreReadBack =
+    (bytes : List ℕ) (header : HeaderText) → header_of bytes ≡ Ok header → IsReadBack header
 
 -- ---- changes
 
@@ -41,8 +42,10 @@ ChangeGivesValue = (key value text : List ℕ) → IsWord key → IsWord value �
 
 -- every other key has the value that it had, also where the text is cut
 abbrev pub ChangeKeepsOthers : Type 0
-ChangeKeepsOthers = (key value text other : List ℕ) (n : ℕ) → IsWord key → IsWord value → other ≢ key →
-    value_of other (fields_of (take n (changed key value text))) ≡ value_of other (fields_of (take n text))
+ChangeKeepsOthers =
+    (key value text other : List ℕ) (n : ℕ) → IsWord key → IsWord value → other ≢ key →
+    value_of other (fields_of (take n (changed key value text)))
+    ≡ value_of other (fields_of (take n text))
 
 -- a byte of a text stands before the comment in a line that is a field with the key
 pub record IsInField (key text : List ℕ) (i : ℕ) : Type 0 where
@@ -60,7 +63,8 @@ pub record IsInField (key text : List ℕ) (i : ℕ) : Type 0 where
 -- each byte of the text stays where it was, but for bytes of fields with the key
 pub record StaysInPlace (key old new : List ℕ) : Type 0 where
   pub no_shorter : length old ≤ length new
-  pub bytes : (i : ℕ) → i < length old → (slice_index new i ≡ slice_index old i) ⊎ IsInField key old i
+  pub bytes : (i : ℕ) → i < length old →
+      (slice_index new i ≡ slice_index old i) ⊎ IsInField key old i
 
 abbrev pub ChangeStaysInPlace : Type 0
 ChangeStaysInPlace = (key value text : List ℕ) → IsWord key → IsWord value →
@@ -78,6 +82,8 @@ LastChangeCounts = (key first last text : List ℕ) → IsWord key → IsWord fi
 
 -- a header that has room for the change of another key than HDR_SIZE is read back with the same size
 abbrev pub ChangedIsReadBack : Type 0
-ChangedIsReadBack = (key value : List ℕ) (header : HeaderText) → IsWord key → IsWord value → key ≢ codes "HDR_SIZE" →
+ChangedIsReadBack =
+    (key value : List ℕ) (header : HeaderText) → IsWord key → IsWord value →
+    key ≢ codes "HDR_SIZE" →
     length (changed key value header.text) < header.size → IsReadBack header →
     IsReadBack (record { size = header.size; text = changed key value header.text })

@@ -10,11 +10,12 @@ use Rattle.dada_model.specs.Change.{word_start, word_end, has_key, with_value, b
 pub record AreWordsFrom (place : ℕ) (line : List ℕ) : Type 0 where
   pub within : word_start place line ≤ length line
   pub none : word_start place line ≡ length line → words_of (drop place line) ≡ []
-  pub some : word_start place line < length line → word_start place line < word_end (word_start place line) line
+  pub some : word_start place line < length line →
+      word_start place line < word_end (word_start place line) line
   pub end : word_end (word_start place line) line ≤ length line
   pub words : word_start place line < length line → words_of (drop place line)
-      ≡ slice_range line (word_start place line) (word_end (word_start place line) line) ∷ words_of (drop (word_end
-      (word_start place line) line) line)
+      ≡ slice_range line (word_start place line) (word_end (word_start place line) line)
+      ∷ words_of (drop (word_end (word_start place line) line) line)
 
 abbrev pub FirstWordOfLine : Type 0
 FirstWordOfLine = (place : ℕ) (line : List ℕ) → place ≤ length line → AreWordsFrom place line
@@ -32,14 +33,17 @@ IsLine line = All (λ byte. (byte == 10) ≡ false) line
 
 -- what holds of a text that is one line, and of one that begins with a line
 pub record GoesByLine (key line : List ℕ) : Type 0 where
-  pub value_alone : value_of key (fields_of line) ≡ (if has_key key line then value_if (field_of_line line) else None)
+  pub value_alone : value_of key (fields_of line)
+      ≡ (if has_key key line then value_if (field_of_line line) else None)
   pub value : (more : List ℕ) →
-      value_of key (fields_of (line ++ (10 ∷ more))) ≡ (if has_key key line then value_if
-      (field_of_line line) else value_of key (fields_of more))
+      value_of key (fields_of (line ++ (10 ∷ more)))
+      ≡ (if has_key key line then value_if (field_of_line line)
+      else value_of key (fields_of more))
   pub overwritten_alone : (value : List ℕ) →
       overwritten key value line ≡ (if has_key key line then with_value value line else line)
   pub overwritten : (value more : List ℕ) → overwritten key value (line ++ (10 ∷ more))
-      ≡ (if has_key key line then with_value value line ++ (10 ∷ more) else line ++ (10 ∷ overwritten key value more))
+      ≡ (if has_key key line then with_value value line ++ (10 ∷ more)
+      else line ++ (10 ∷ overwritten key value more))
   pub blanked_alone : blanked key line ≡ (if has_key key line then blanked_line line else line)
   pub blanked : (more : List ℕ) → blanked key (line ++ (10 ∷ more))
       ≡ (if has_key key line then blanked_line line else line) ++ (10 ∷ blanked key more)

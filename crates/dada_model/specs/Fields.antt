@@ -42,7 +42,8 @@ fields_of text = filter_map field_of_line (lines_of text)
 
 -- the value of a keyword: that of the first field with it
 unfoldable pub value_of : List ℕ → List Field → Option (List ℕ)
-value_of keyword fields = option_map (λ field. field.value) (find (λ field. bytes_eq field.keyword keyword) fields)
+value_of keyword fields =
+    option_map (λ field. field.value) (find (λ field. bytes_eq field.keyword keyword) fields)
 
 -- ---- headers: a size in bytes and a text
 
@@ -71,7 +72,8 @@ before_nul bytes = before_first (λ byte. byte == 0) bytes
 
 abbrev pub allowed_size : Option ℤ → Option ℕ
 allowed_size None = None
-allowed_size (Some (pos size)) = if nat_le least_header size && nat_le size most_header then Some size else None
+allowed_size (Some (pos size)) =
+    if nat_le least_header size && nat_le size most_header then Some size else None
 allowed_size (Some (negsuc _)) = None
 
 abbrev pub size_of_value : Option (List ℕ) → Option ℕ
@@ -80,7 +82,8 @@ size_of_value (Some text) = allowed_size (number_value 0 text)
 
 -- HDR_SIZE, looked up in the first bytes alone, as many as the least header has; `None` where it is refused
 unfoldable pub header_size : List ℕ → Option ℕ
-header_size bytes = size_of_value (value_of (codes "HDR_SIZE") (fields_of (before_nul (take least_header bytes))))
+header_size bytes =
+    size_of_value (value_of (codes "HDR_SIZE") (fields_of (before_nul (take least_header bytes))))
 
 -- the text of a header of a size
 abbrev pub header_text : ℕ → List ℕ → List ℕ

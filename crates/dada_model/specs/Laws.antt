@@ -24,15 +24,19 @@ pub record HasNumberInRow (fields : List Field) (key : Key) : Type 0 where
 abbrev pub AcceptedByRows : Type 0
 AcceptedByRows = (fields : List Field) (o : Observation) →
     (observation_of fields ≡ Ok o)
-    ↔ ((o ≡ observation_in fields) × ((key : Key) → HasNumberInRow fields key) × (1000 * o.channels ≤ o.width_hz))
+    ↔ ((o ≡ observation_in fields) × ((key : Key) → HasNumberInRow fields key)
+    × (1000 * o.channels ≤ o.width_hz))
 
 -- an accepted observation lies within its bounds
 abbrev pub AcceptedIsInRange : Type 0
-AcceptedIsInRange = (fields : List Field) (o : Observation) → observation_of fields ≡ Ok o → ObservationInRange o
+AcceptedIsInRange =
+    (fields : List Field) (o : Observation) → observation_of fields ≡ Ok o → ObservationInRange o
 
 -- the row of BW in natural numbers
 abbrev pub BandsInRow : Type 0
-BandsInRow = (o : Observation) (z : ℤ) → 0 < o.channels → (is_in_row o Bw z ≡ true) ↔ IsBandWidth o (unsigned_abs z)
+BandsInRow =
+    (o : Observation) (z : ℤ) → 0 < o.channels →
+    (is_in_row o Bw z ≡ true) ↔ IsBandWidth o (unsigned_abs z)
 
 -- ---- edges
 
@@ -43,7 +47,9 @@ EdgesFall = (o : Observation) → ObservationInRange o → AreEdges o.channels (
 -- its edge k in natural numbers
 abbrev pub EdgesAreQuotients : Type 0
 EdgesAreQuotients = (o : Observation) (k : ℕ) → ObservationInRange o → k ≤ o.channels →
-    edge o k ≡ (2 * o.centre_hz * o.channels + o.width_hz * o.channels - 2 * o.width_hz * k) / (2000 * o.channels)
+    edge o k
+    ≡ (2 * o.centre_hz * o.channels + o.width_hz * o.channels - 2 * o.width_hz * k)
+    / (2000 * o.channels)
 
 -- no number in its dispersion measure reaches 2^122, up to the greatest delay
 abbrev pub DispersionFits : Type 0
@@ -64,7 +70,8 @@ pub record Spells (text : List ℕ) (negative : Bool) (whole fraction : List ℕ
   pub signed : IsSign negative sign
   pub digits : All IsAsciiDigit (whole ++ fraction)
   pub some : 0 < length (whole ++ fraction)
-  pub spelled : (text ≡ sign ++ (whole ++ (46 ∷ fraction))) ⊎ ((text ≡ sign ++ whole) × (fraction ≡ []))
+  pub spelled : (text ≡ sign ++ (whole ++ (46 ∷ fraction)))
+      ⊎ ((text ≡ sign ++ whole) × (fraction ≡ []))
 
 -- what it spells with k decimals: the digits as a whole number, scaled, and dropped towards zero
 abbrev pub spelled_value : ℕ → Bool → List ℕ → List ℕ → ℤ
@@ -76,5 +83,6 @@ spelled_value k negative whole fraction =
 abbrev pub NumbersAreSpelled : Type 0
 NumbersAreSpelled = (k : ℕ) (text : List ℕ) (z : ℤ) →
     (number_value k text ≡ Some z)
-    ↔ ((negative : Bool) × (whole : List ℕ) × (fraction : List ℕ) × Spells text negative whole fraction
+    ↔ ((negative : Bool) × (whole : List ℕ) × (fraction : List ℕ)
+    × Spells text negative whole fraction
     × (z ≡ spelled_value k negative whole fraction))

@@ -139,7 +139,8 @@ refusal_at fields key = refusal_of_number (observation_in fields) key (number_of
 
 -- last comes a band of less than 1 kHz for each channel
 abbrev pub too_narrow : Observation → List Refusal
-too_narrow o = if nat_lt o.width_hz (1000 * o.channels) then TooNarrow o.width_hz o.channels ∷ [] else []
+too_narrow o =
+    if nat_lt o.width_hz (1000 * o.channels) then TooNarrow o.width_hz o.channels ∷ [] else []
 
 -- all refusals, in their order
 unfoldable pub refusals : List Field → List Refusal

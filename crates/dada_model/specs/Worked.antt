@@ -23,10 +23,12 @@ lines (line ∷ more) = line ++ (10 ∷ lines more)
 
 -- a comment, a repeated key, a keyword alone
 small : List ℕ
-small = lines (codes "# a header" ∷ codes "NCHAN 2 channels" ∷ codes "BW" ∷ codes "  NCHAN  3#4" ∷ [])
+small =
+    lines (codes "# a header" ∷ codes "NCHAN 2 channels" ∷ codes "BW" ∷ codes "  NCHAN  3#4" ∷ [])
 
 small_fields : fields_of small
-    ≡ record { keyword = codes "NCHAN"; value = codes "2" } ∷ record { keyword = codes "NCHAN"; value = codes "3" } ∷ []
+    ≡ record { keyword = codes "NCHAN"; value = codes "2" }
+    ∷ record { keyword = codes "NCHAN"; value = codes "3" } ∷ []
 unfolding fields_of words_of without_comment is_white small
 small_fields = refl
 
@@ -36,8 +38,8 @@ small_value = refl
 
 fields : List Field
 fields = fields_of (lines
-    (codes "HDR_SIZE 4096" ∷ codes "NCHAN 2" ∷ codes "NBIT 8" ∷ codes "TSAMP 64" ∷ codes "FREQ 1400" ∷ codes "BW -200"
-    ∷ []))
+    (codes "HDR_SIZE 4096" ∷ codes "NCHAN 2" ∷ codes "NBIT 8" ∷ codes "TSAMP 64" ∷ codes "FREQ 1400"
+    ∷ codes "BW -200" ∷ []))
 
 abbrev two_channels : Observation
 two_channels = record {
@@ -52,9 +54,8 @@ two_channels = record {
 }
 
 accepted : observation_of fields ≡ Ok two_channels
-unfolding fields fields_of words_of without_comment is_white value_of number_value number_of observation_in
-    signed_edge edge refusal_at refusals
-    observation_of
+unfolding fields fields_of words_of without_comment is_white value_of number_value number_of
+    observation_in signed_edge edge refusal_at refusals observation_of
 accepted = refl
 
 three_edges : edges two_channels ≡ 1500000 ∷ 1400000 ∷ 1300000 ∷ []
@@ -89,33 +90,38 @@ max_samples = refl
 
 abbrev with_lines : List (List ℕ) → List Field
 with_lines first = fields_of
-    (lines (first ++ (codes "NCHAN 2" ∷ codes "NBIT 8" ∷ codes "TSAMP 64" ∷ codes "FREQ 1400" ∷ codes "BW -200" ∷ [])))
+    (lines (first
+    ++ (codes "NCHAN 2" ∷ codes "NBIT 8" ∷ codes "TSAMP 64" ∷ codes "FREQ 1400" ∷ codes "BW -200"
+    ∷ [])))
 
-refused_profile : observation_of (with_lines (codes "NBIT 4" ∷ codes "TSAMP 6.4e1" ∷ [])) ≡ Err (OutOfProfile Nbit)
-unfolding fields_of words_of without_comment is_white value_of number_value number_of observation_in signed_edge
-    refusal_at refusals observation_of
+refused_profile : observation_of (with_lines (codes "NBIT 4" ∷ codes "TSAMP 6.4e1" ∷ []))
+    ≡ Err (OutOfProfile Nbit)
+unfolding fields_of words_of without_comment is_white value_of number_value number_of observation_in
+    signed_edge refusal_at refusals observation_of
 refused_profile = refl
 
 refused_number : observation_of (with_lines (codes "TSAMP 6.4e1" ∷ [])) ≡ Err (BadNumber Tsamp)
-unfolding fields_of words_of without_comment is_white value_of number_value number_of observation_in signed_edge
-    refusal_at refusals observation_of
+unfolding fields_of words_of without_comment is_white value_of number_value number_of observation_in
+    signed_edge refusal_at refusals observation_of
 refused_number = refl
 
 refused_width : observation_of (with_lines (codes "BW -0.001999" ∷ [])) ≡ Err (TooNarrow 1999 2)
-unfolding fields_of words_of without_comment is_white value_of number_value number_of observation_in signed_edge
-    refusal_at refusals observation_of
+unfolding fields_of words_of without_comment is_white value_of number_value number_of observation_in
+    signed_edge refusal_at refusals observation_of
 refused_width = refl
 
 missing : observation_of [] ≡ Err (Missing Nchan)
-unfolding value_of number_value number_of observation_in signed_edge refusal_at refusals observation_of
+unfolding value_of number_value number_of observation_in signed_edge refusal_at refusals
+    observation_of
 missing = refl
 
 -- digits past the last decimal are dropped, and 16 bits and two polarisations are taken
 abbrev wide_channels : Observation
 wide_channels = record two_channels { nbit = 16; npol = 2 }
 
-accepted_wide : observation_of (with_lines (codes "NBIT 16" ∷ codes "NPOL 2" ∷ codes "TSAMP 64.0009" ∷ []))
+accepted_wide : observation_of
+    (with_lines (codes "NBIT 16" ∷ codes "NPOL 2" ∷ codes "TSAMP 64.0009" ∷ []))
     ≡ Ok wide_channels
-unfolding fields_of words_of without_comment is_white value_of number_value number_of observation_in signed_edge
-    refusal_at refusals observation_of
+unfolding fields_of words_of without_comment is_white value_of number_value number_of observation_in
+    signed_edge refusal_at refusals observation_of
 accepted_wide = refl

@@ -1,4 +1,5 @@
 -- What the faults of a header say.
+-- Source: PSRDADA manual (the keywords); what is refused is this project's choice.
 use Rattle.std.specs.Prelude.{◌≡◌, ◌⊎◌, List, Some, Err}
 use Rattle.dada_model.specs.declared.key.Key.{Key}
 use Rattle.dada_model.specs.Fields.{Field}
@@ -19,10 +20,12 @@ IsObservationRefusal P Memory = ⊥
 
 -- it is what is refused at a key, and what is refused first
 abbrev pub IsRefusedAt : List Field → Key → ObsFault → Type 0
-IsRefusedAt fields key fault = IsObservationRefusal (λ refusal. refusal_at fields key ≡ Some refusal) fault
+IsRefusedAt fields key fault =
+    IsObservationRefusal (λ refusal. refusal_at fields key ≡ Some refusal) fault
 
 abbrev pub IsRefusedFirst : List Field → ObsFault → Type 0
-IsRefusedFirst fields fault = IsObservationRefusal (λ refusal. observation_of fields ≡ Err refusal) fault
+IsRefusedFirst fields fault =
+    IsObservationRefusal (λ refusal. observation_of fields ≡ Err refusal) fault
 
 -- a header's fault is its first refusal, or want of memory
 abbrev pub ExplainsObservation : List Field → ObsFault → Type 0

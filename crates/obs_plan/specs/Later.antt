@@ -1,4 +1,5 @@
 -- The header of a later file of an observation: it has the same values as the first, and an OBS_OFFSET of its own.
+-- Source: PSRDADA manual (OBS_OFFSET); what else a later header has to say is this project's choice.
 use Rattle.std.specs.Prelude.{ℕ, if◌then◌else◌, List, [], ◌∷◌, filter_map, Option, Some, None, Result, Err, ℤ, pos, neg_ℤ}
 use Rattle.dada_model.specs.declared.key.Key.{Key}
 use Rattle.dada_model.specs.declared.key.Key.TheVariants.{Nchan, Nbit, Npol, Ndim, Tsamp, Freq, Bw, ObsOffset}
@@ -24,8 +25,8 @@ profile_of o = record {
 -- its values, in the order in which they are compared
 abbrev pub profile_values : Profile → List (Key × ℤ)
 profile_values p =
-    (Nchan, pos p.nchan) ∷ (Nbit, pos p.nbit) ∷ (Npol, pos p.npol) ∷ (Ndim, pos p.ndim) ∷ (Tsamp, pos p.tsamp_ns)
-    ∷ (Freq, pos p.freq_hz) ∷ (Bw, p.bw_hz) ∷ []
+    (Nchan, pos p.nchan) ∷ (Nbit, pos p.nbit) ∷ (Npol, pos p.npol) ∷ (Ndim, pos p.ndim)
+    ∷ (Tsamp, pos p.tsamp_ns) ∷ (Freq, pos p.freq_hz) ∷ (Bw, p.bw_hz) ∷ []
 
 -- a header has no number for a key, or another than the value
 abbrev pub difference : List Field → Key × ℤ → Option ObsFault
@@ -38,4 +39,5 @@ unless_differs (first ∷ more) offset = Err first
 -- the OBS_OFFSET of a later header, or its first fault
 unfoldable pub later_offset_of : Profile → List Field → Result ℕ ObsFault
 later_offset_of p fields =
-    unless_differs (filter_map (difference fields) (profile_values p)) (offset_or_fault (number_of fields ObsOffset))
+    unless_differs (filter_map (difference fields) (profile_values p))
+    (offset_or_fault (number_of fields ObsOffset))

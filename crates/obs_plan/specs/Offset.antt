@@ -13,5 +13,6 @@ has_value (Err _) value = false
 
 -- an OBS_OFFSET in its row
 abbrev pub offset_or_fault : Result ℤ Refusal → Result ℕ ObsFault
-offset_or_fault (Ok z) = if is_within (pos 0) (pos (10 ^ 15)) z then Ok (unsigned_abs z) else Err (OutOfRange ObsOffset)
+offset_or_fault (Ok z) =
+    if is_within (pos 0) (pos (10 ^ 15)) z then Ok (unsigned_abs z) else Err (OutOfRange ObsOffset)
 offset_or_fault (Err _) = Err (BadNumber ObsOffset)

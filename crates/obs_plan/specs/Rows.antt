@@ -18,4 +18,5 @@ pub record IsTaken (fields : List Field) (key : Key) (z : ℤ) : Type 0 where
 
 -- a band in Hz has its foot at 1 kHz or above and its top at the greatest edge or below, rounded down
 abbrev pub IsBand : ℕ → ℕ → Type 0
-IsBand width centre = (0 < width) × (width + 2000 ≤ 2 * centre) × (2 * centre + width < 2000 * (top_khz + 1))
+IsBand width centre =
+    (0 < width) × (width + 2000 ≤ 2 * centre) × (2 * centre + width < 2000 * (top_khz + 1))

@@ -27,4 +27,7 @@ after_call calls = record calls { number = next_count calls.number }
 
 -- after a call that failed
 abbrev pub after_fault : CallCount → CallCount
-after_fault calls = record calls { number = next_count calls.number; faults = next_count calls.faults }
+after_fault calls = record calls {
+  number = next_count calls.number;
+  faults = next_count calls.faults;
+}

@@ -21,7 +21,8 @@ pub record StopsAt (text : List ℕ) (place : ℕ) : Type 0 where
 -- what a fault says of a text that is read with k decimals
 abbrev pub ExplainsNumber : ℕ → List ℕ → NumberFault → Type 0
 ExplainsNumber k text (BadNumber place) = (number_value k text ≡ None) × StopsAt text place
-ExplainsNumber k text TooLarge = (z : ℤ) × (number_value k text ≡ Some z) × (10 ^ 18 < unsigned_abs z)
+ExplainsNumber k text TooLarge =
+    (z : ℤ) × (number_value k text ≡ Some z) × (10 ^ 18 < unsigned_abs z)
 
 -- ---- writing
 

@@ -7,7 +7,10 @@ use Rattle.psr_base.specs.declared.held.HeldFiles.{HeldFiles}
 
 -- all of them, the open name, and the place in it
 abbrev pub told_by : HeldFiles → Told
-told_by held = record { bytes_under = bytes_in held.files.items; reading = reading_of held.files.items held.reading }
+told_by held = record {
+  bytes_under = bytes_in held.files.items;
+  reading = reading_of held.files.items held.reading;
+}
 
 -- a file is open
 abbrev pub IsReading : HeldFiles → Type 0

@@ -40,7 +40,11 @@ free_room sink = sink.room - vec_len sink.body
 
 -- its calls
 abbrev pub sink_calls : MemSink → CallCount
-sink_calls sink = record { fail = sink.calls.fail.items; number = sink.calls.number; faults = sink.calls.faults.count }
+sink_calls sink = record {
+  fail = sink.calls.fail.items;
+  number = sink.calls.number;
+  faults = sink.calls.faults.count;
+}
 
 -- what is left is told where no call is to fail
 abbrev pub told_where : {A : Type 0} → List ℕ → A → Option A
@@ -53,7 +57,11 @@ room_told sink = told_where sink.calls.fail.items (free_room sink)
 
 -- what is seen of it
 abbrev pub sink_seen : MemSink → SinkSeen
-sink_seen sink = record { written = Some (body_of sink); room = room_told sink; faults = sink.calls.faults.count }
+sink_seen sink = record {
+  written = Some (body_of sink);
+  room = room_told sink;
+  faults = sink.calls.faults.count;
+}
 
 -- what calm files in memory tell: a name that isn't there has no bytes, and reads as an empty file
 abbrev pub calm_told : CalmInputs → Told
@@ -77,7 +85,11 @@ files_left made = record {
 
 -- its calls
 abbrev pub files_calls : MemFiles → CallCount
-files_calls made = record { fail = made.calls.fail.items; number = made.calls.number; faults = made.calls.faults.count }
+files_calls made = record {
+  fail = made.calls.fail.items;
+  number = made.calls.number;
+  faults = made.calls.faults.count;
+}
 
 -- what is seen of it
 abbrev pub files_seen : MemFiles → FilesSeen
@@ -97,4 +109,5 @@ stored_in made = all_stored made.finished.items made.unfinished
 
 -- a file of that name can be created: none has the name, it is short enough, and a file is left
 abbrev pub CanMake : List ℕ → MemFiles → Type 0
-CanMake name made = (¬ HasName (made_of made) name) × (length name ≤ 64) × (0 < (files_left made).files)
+CanMake name made =
+    (¬ HasName (made_of made) name) × (length name ≤ 64) × (0 < (files_left made).files)

@@ -50,7 +50,8 @@ abbrev pub longer_by : List ℕ → Made → Made
 longer_by bytes made =
     record made {
       unfinished =
-          option_map (λ (file : NamedBytes). record file { bytes = file.bytes ++ bytes }) made.unfinished;
+          option_map (λ (file : NamedBytes). record file { bytes = file.bytes ++ bytes })
+          made.unfinished;
     }
 
 -- the unfinished file is finished
@@ -102,17 +103,19 @@ pub record AppendedFront (bytes : List ℕ) (old new : FilesSeen) : Type 0 where
   pub count : old.faults ≤ new.faults
 
 -- bytes were appended, or their front at a fault
-pub record Appended {T E : Type 0} (bytes : List ℕ) (old new : FilesSeen) (result : Result T E) : Type 0 where
+pub record Appended {T E : Type 0} (bytes : List ℕ) (old new : FilesSeen)
+    (result : Result T E) : Type 0 where
   pub all : OnOk result (AppendedAll bytes old new)
   pub front : OnErr result (AppendedFront bytes old new)
 
 -- What appends make that follow one another: all bytes or their front, as the last of them ended.
 pub record AppendsJoin : Type 0 where
-  pub joins : (xs ys : List ℕ) (old middle new : FilesSeen) → AppendedAll xs old middle → AppendedAll ys middle new →
-      AppendedAll (xs ++ ys) old new
+  pub joins : (xs ys : List ℕ) (old middle new : FilesSeen) → AppendedAll xs old middle →
+      AppendedAll ys middle new → AppendedAll (xs ++ ys) old new
   pub stops : (xs ys : List ℕ) (old middle new : FilesSeen) → AppendedAll xs old middle →
       AppendedFront ys middle new → AppendedFront (xs ++ ys) old new
-  pub breaks_off : (xs ys : List ℕ) (old new : FilesSeen) → AppendedFront xs old new → AppendedFront (xs ++ ys) old new
+  pub breaks_off : (xs ys : List ℕ) (old new : FilesSeen) → AppendedFront xs old new →
+      AppendedFront (xs ++ ys) old new
 
 -- a new name of at most 64 bytes, while a file is left, where all this is told
 pub record CanCreate (name : List ℕ) (seen : FilesSeen) : Type 0 where

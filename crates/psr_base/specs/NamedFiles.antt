@@ -39,4 +39,5 @@ bytes_in files name = option_map (bytes_at files) (place_in files name)
 -- the open name, and the place in it
 abbrev pub reading_of : List MemFile → Option OpenFile → Option Reading
 reading_of files reading =
-    option_map (λ (file : OpenFile). record { name = name_at files file.index; place = file.place }) reading
+    option_map (λ (file : OpenFile). record { name = name_at files file.index; place = file.place })
+    reading

@@ -26,12 +26,14 @@ pub record SplitsDigits (text digits rest : List ℕ) : Type 0 where
 
 -- a text is a point and all the digits after it, where it begins with a point, and the rest
 pub record SplitsFraction (text fraction rest : List ℕ) : Type 0 where
-  pub joined : (text ≡ 46 ∷ (fraction ++ rest)) ⊎ ((text ≡ rest) × (fraction ≡ []) × BeginsWithout rest 46)
+  pub joined : (text ≡ 46 ∷ (fraction ++ rest))
+      ⊎ ((text ≡ rest) × (fraction ≡ []) × BeginsWithout rest 46)
   pub digits_are : All IsAsciiDigit fraction
   pub stops : BeginsWithoutDigit rest
 
 -- a text is a sign or none, digits or none, a point and digits or none, and the rest
-pub record SplitsNumber (text : List ℕ) (negative : Bool) (whole fraction rest : List ℕ) : Type 0 where
+pub record SplitsNumber (text : List ℕ) (negative : Bool)
+    (whole fraction rest : List ℕ) : Type 0 where
   pub unsigned : List ℕ
   pub after_whole : List ℕ
   pub sign : SplitsSign text negative unsigned

@@ -30,5 +30,7 @@ all_stored finished unfinished = finished ++ option_to_list unfinished
 
 -- what was made
 abbrev pub made_in : List ℕ → List StoredFile → Option StoredFile → Made
-made_in buffer finished unfinished =
-    record { finished = map (named buffer) finished; unfinished = option_map (named buffer) unfinished }
+made_in buffer finished unfinished = record {
+  finished = map (named buffer) finished;
+  unfinished = option_map (named buffer) unfinished;
+}

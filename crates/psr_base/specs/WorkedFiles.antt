@@ -8,10 +8,12 @@ use Rattle.psr_base.specs.Made.{Made, FilesLeft, files_in, names_in, with_new_fi
 abbrev two_files : Made
 two_files = with_new_file (codes "b")
     (with_all_finished (longer_by (codes "c")
-    (longer_by (codes "ab") (with_new_file (codes "a") (record { finished = []; unfinished = None })))))
+    (longer_by (codes "ab")
+    (with_new_file (codes "a") (record { finished = []; unfinished = None })))))
 
 in_order : files_in two_files
-    ≡ record { name = codes "a"; bytes = codes "abc" } ∷ record { name = codes "b"; bytes = [] } ∷ []
+    ≡ record { name = codes "a"; bytes = codes "abc" }
+    ∷ record { name = codes "b"; bytes = [] } ∷ []
 in_order = refl
 
 names : names_in (with_all_finished two_files) ≡ codes "a" ∷ codes "b" ∷ []

@@ -42,7 +42,8 @@ pub record WroteFront (text : List ℕ) (old new : SinkSeen) : Type 0 where
   pub count : old.faults ≤ new.faults
 
 -- a text was written, or its front at a fault
-pub record Wrote {T E : Type 0} (text : List ℕ) (old new : SinkSeen) (result : Result T E) : Type 0 where
+pub record Wrote {T E : Type 0} (text : List ℕ) (old new : SinkSeen)
+    (result : Result T E) : Type 0 where
   pub all : OnOk result (WroteAll text old new)
   pub front : OnErr result (WroteFront text old new)
 
@@ -57,11 +58,12 @@ first_pieces piece n = flat_map piece (range_with_len 0 n)
 -- What pieces make that are written one after another: the whole text or its front, as the last of them was written.
 pub record PiecesJoin : Type 0 where
   pub nothing : (seen : SinkSeen) → WroteAll [] seen seen
-  pub joins : (xs ys : List ℕ) (old middle new : SinkSeen) → WroteAll xs old middle → WroteAll ys middle new →
-      WroteAll (xs ++ ys) old new
-  pub stops : (xs ys : List ℕ) (old middle new : SinkSeen) → WroteAll xs old middle → WroteFront ys middle new →
+  pub joins : (xs ys : List ℕ) (old middle new : SinkSeen) → WroteAll xs old middle →
+      WroteAll ys middle new → WroteAll (xs ++ ys) old new
+  pub stops : (xs ys : List ℕ) (old middle new : SinkSeen) → WroteAll xs old middle →
+      WroteFront ys middle new → WroteFront (xs ++ ys) old new
+  pub breaks_off : (xs ys : List ℕ) (old new : SinkSeen) → WroteFront xs old new →
       WroteFront (xs ++ ys) old new
-  pub breaks_off : (xs ys : List ℕ) (old new : SinkSeen) → WroteFront xs old new → WroteFront (xs ++ ys) old new
 
 -- The same in a loop over pieces 0, 1 and so on, of which there are n: one piece more, and a fault at piece i.
 pub record LoopsJoin : Type 0 where

@@ -37,7 +37,8 @@ pub record IsMostHalvings (most p room m : ℕ) : Type 0 where
 -- a fold is searched: its delay is one of those that are folded, its period is searched, it has as many rows as fit
 -- into the series of its delay, a trial and a phase of theirs, and its sum is detected
 pub record IsFold
-    (f : Filterbank) (edges : List ℕ) (cells : ℕ → ℕ) (s : Search) (delay period halvings trial phase sum : ℕ)
+    (f : Filterbank) (edges : List ℕ) (cells : ℕ → ℕ) (s : Search)
+    (delay period halvings trial phase sum : ℕ)
     : Type 0 where
   pub delay_from : s.min_delay ≤ delay
   pub delay_to : delay ≤ s.max_delay
@@ -51,18 +52,22 @@ pub record IsFold
   pub detected : IsDetected s.mean s.sd s.snr sum (2 ^ halvings * cells delay)
 
 abbrev pub IsCandidate : Filterbank → List ℕ → (ℕ → ℕ) → Search → Candidate → Type 0
-IsCandidate f edges cells s (Pulse end delay width sum) = IsPulse f edges cells s end delay width sum
+IsCandidate f edges cells s (Pulse end delay width sum) =
+    IsPulse f edges cells s end delay width sum
 IsCandidate f edges cells s (Fold delay period halvings trial phase sum) =
     IsFold f edges cells s delay period halvings trial phase sum
 
 -- the candidate list has exactly the candidates
 abbrev pub CandidatesAreListed : Type 0
-CandidatesAreListed = (f : Filterbank) (edges : List ℕ) (cells : ℕ → ℕ) (s : Search) (c : Candidate) →
+CandidatesAreListed =
+    (f : Filterbank) (edges : List ℕ) (cells : ℕ → ℕ) (s : Search) (c : Candidate) →
     Contains (candidates f edges cells s) c ↔ IsCandidate f edges cells s c
 
 -- and it rises
 abbrev pub CandidatesRise : Type 0
-CandidatesRise = (f : Filterbank) (edges : List ℕ) (cells : ℕ → ℕ) (s : Search) → IsRising (candidates f edges cells s)
+CandidatesRise =
+    (f : Filterbank) (edges : List ℕ) (cells : ℕ → ℕ) (s : Search) →
+    IsRising (candidates f edges cells s)
 
 -- the order is strict, and of two candidates one precedes the other or they share a delay
 pub record OrderIsStrict : Type 0 where
@@ -74,8 +79,8 @@ pub record OrderIsStrict : Type 0 where
 pub record RisingListsAgree : Type 0 where
   pub lists : (xs ys : List Candidate) → IsRising xs → IsRising ys →
       ((c : Candidate) → Contains xs c ↔ Contains ys c) → xs ≡ ys
-  pub merges : (parts : List (List Candidate)) (xs ys : List Candidate) → IsMergeOf parts xs → IsMergeOf parts ys →
-      xs ≡ ys
+  pub merges : (parts : List (List Candidate)) (xs ys : List Candidate) → IsMergeOf parts xs →
+      IsMergeOf parts ys → xs ≡ ys
 
 -- the parts of all shards
 abbrev pub shard_parts : Search → List Candidate → List (List Candidate)
@@ -87,6 +92,7 @@ pub record ShardsMerge : Type 0 where
   pub members : (s : Search) (k : ℕ) (list : List Candidate) (c : Candidate) →
       Contains (shard_part s k list) c
       ↔ (Contains list c × (shard_start s k ≤ delay_of c) × (delay_of c < shard_start s (k + 1)))
-  pub rises : (s : Search) (k : ℕ) (list : List Candidate) → IsRising list → IsRising (shard_part s k list)
+  pub rises : (s : Search) (k : ℕ) (list : List Candidate) → IsRising list →
+      IsRising (shard_part s k list)
   pub merge : (f : Filterbank) (edges : List ℕ) (cells : ℕ → ℕ) (s : Search) → 1 ≤ s.shards →
       IsMergeOf (shard_parts s (candidates f edges cells s)) (candidates f edges cells s)

@@ -30,13 +30,15 @@ plain_labels dm n = record { dm = dm; cells = plain_cells n; word = λ end. code
 -- FOLD, the delay, the dispersion measure, the period, the rows, the trial, the phase, the sum, the cells
 abbrev pub candidate_line : Labels → Candidate → List ℕ
 candidate_line l (Pulse end delay width sum) =
-    l.word end ++ codes " " ++ decimal end ++ codes " " ++ decimal delay ++ codes " " ++ thousandths (l.dm delay)
-    ++ codes " " ++ decimal width ++ codes " " ++ decimal sum ++ codes " "
-    ++ decimal (cells_of l.cells (Pulse end delay width sum)) ++ codes "\n"
+    l.word end ++ codes " " ++ decimal end ++ codes " " ++ decimal delay ++ codes " "
+    ++ thousandths (l.dm delay) ++ codes " " ++ decimal width ++ codes " " ++ decimal sum
+    ++ codes " " ++ decimal (cells_of l.cells (Pulse end delay width sum)) ++ codes "\n"
 candidate_line l (Fold delay period halvings trial phase sum) =
-    codes "FOLD " ++ decimal delay ++ codes " " ++ thousandths (l.dm delay) ++ codes " " ++ decimal period ++ codes " "
-    ++ decimal (2 ^ halvings) ++ codes " " ++ decimal trial ++ codes " " ++ decimal phase ++ codes " " ++ decimal sum
-    ++ codes " " ++ decimal (cells_of l.cells (Fold delay period halvings trial phase sum)) ++ codes "\n"
+    codes "FOLD " ++ decimal delay ++ codes " " ++ thousandths (l.dm delay) ++ codes " "
+    ++ decimal period ++ codes " " ++ decimal (2 ^ halvings) ++ codes " " ++ decimal trial
+    ++ codes " " ++ decimal phase ++ codes " " ++ decimal sum
+    ++ codes " " ++ decimal (cells_of l.cells (Fold delay period halvings trial phase sum))
+    ++ codes "\n"
 
 -- the lines of a list
 abbrev pub candidate_lines : Labels → List Candidate → List ℕ
@@ -45,7 +47,8 @@ candidate_lines l list = flat_map (candidate_line l) list
 -- END, how many pulses, how many folds, how many spectra
 abbrev pub end_line : ℕ → ℕ → ℕ → List ℕ
 end_line pulses folds spectra =
-    codes "END " ++ decimal pulses ++ codes " " ++ decimal folds ++ codes " " ++ decimal spectra ++ codes "\n"
+    codes "END " ++ decimal pulses ++ codes " " ++ decimal folds ++ codes " " ++ decimal spectra
+    ++ codes "\n"
 
 abbrev pub is_pulse : Candidate → Bool
 is_pulse (Pulse _ _ _ _) = true

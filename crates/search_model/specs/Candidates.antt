@@ -30,7 +30,8 @@ cells_of cells (Fold delay _ halvings _ _ _) = 2 ^ halvings * cells delay
 
 -- the candidate by itself, if it is detected
 abbrev pub if_detected : (ℕ → ℕ) → Search → Candidate → List Candidate
-if_detected cells s c = if is_detected s.mean s.sd s.snr (sum_of c) (cells_of cells c) then c ∷ [] else []
+if_detected cells s c =
+    if is_detected s.mean s.sd s.snr (sum_of c) (cells_of cells c) then c ∷ [] else []
 
 -- the box of width w and delay d that ends at spectrum u, if it begins at the delay or later and is detected
 abbrev pub pulse_at : Filterbank → List ℕ → (ℕ → ℕ) → Search → ℕ → ℕ → ℕ → List Candidate
@@ -47,7 +48,8 @@ pulses_ending f edges cells s u = flat_map (λ d. pulses_at f edges cells s u d)
 
 -- all detected pulses by end, then delay, then width
 abbrev pub pulses : Filterbank → List ℕ → (ℕ → ℕ) → Search → List Candidate
-pulses f edges cells s = flat_map (λ u. pulses_ending f edges cells s u) (range_with_len 0 f.spectra)
+pulses f edges cells s =
+    flat_map (λ u. pulses_ending f edges cells s u) (range_with_len 0 f.spectra)
 
 -- the fold of the series of delay d by m halvings of period p, at a trial and a phase, if it is detected
 abbrev pub fold_at : Filterbank → List ℕ → (ℕ → ℕ) → Search → ℕ → ℕ → ℕ → ℕ → ℕ → List Candidate
@@ -56,13 +58,16 @@ fold_at f edges cells s d p m j phase =
 
 -- those of one delay, one period and one trial, by phase
 abbrev pub folds_of_trial : Filterbank → List ℕ → (ℕ → ℕ) → Search → ℕ → ℕ → ℕ → ℕ → List Candidate
-folds_of_trial f edges cells s d p m j = flat_map (λ phase. fold_at f edges cells s d p m j phase) (range_with_len 0 p)
+folds_of_trial f edges cells s d p m j =
+    flat_map (λ phase. fold_at f edges cells s d p m j phase) (range_with_len 0 p)
 
 -- those of one delay and one period, by trial; none where not even two rows fit
 abbrev pub folds_at : Filterbank → List ℕ → (ℕ → ℕ) → Search → ℕ → ℕ → List Candidate
 folds_at f edges cells s d p =
     let m = halvings s.fold_rows p (f.spectra - d) in
-    if nat_lt 0 m then flat_map (λ j. folds_of_trial f edges cells s d p m j) (range_with_len 0 (2 ^ m)) else []
+    if nat_lt 0 m
+    then flat_map (λ j. folds_of_trial f edges cells s d p m j) (range_with_len 0 (2 ^ m))
+    else []
 
 -- those of one delay, by period
 abbrev pub folds_of_delay : Filterbank → List ℕ → (ℕ → ℕ) → Search → ℕ → List Candidate
@@ -78,7 +83,8 @@ candidates f edges cells s = pulses f edges cells s ++ folds f edges cells s
 
 -- the candidates whose delay lies from `least` up to, but without, `bound`, in their order
 abbrev pub within_delays : ℕ → ℕ → List Candidate → List Candidate
-within_delays least bound list = filter (λ c. nat_le least (delay_of c) && nat_lt (delay_of c) bound) list
+within_delays least bound list =
+    filter (λ c. nat_le least (delay_of c) && nat_lt (delay_of c) bound) list
 
 -- the part of shard k
 abbrev pub shard_part : Search → ℕ → List Candidate → List Candidate

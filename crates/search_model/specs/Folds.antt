@@ -17,7 +17,9 @@ halvings most p room = fold max 0 (filter (λ m. nat_le (2 ^ m * p) room) (betwe
 -- how far trial j shifts row i of 2^m rows: bit m - 1 - k of i, where it is set, adds half of floor(j / 2^k), halves
 -- rounded up
 abbrev pub shift : ℕ → ℕ → ℕ → ℕ
-shift m j i = sum_by (λ k. if (i / 2 ^ (m - 1 - k)) % 2 == 1 then (j / 2 ^ k + 1) / 2 else 0) (range_with_len 0 m)
+shift m j i =
+    sum_by (λ k. if (i / 2 ^ (m - 1 - k)) % 2 == 1 then (j / 2 ^ k + 1) / 2 else 0)
+    (range_with_len 0 m)
 
 -- the sum of trial j at a phase: one value of each of 2^m rows of p values, the row shifted within itself;
 -- trial j stands for the period p + j / (2^m - 1)

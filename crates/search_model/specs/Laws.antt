@@ -19,12 +19,15 @@ pub record SplitsFit : Type 0 where
 -- Entries are halved over a single channel always; over both halves together where they are over each and the middle
 -- has its split; and wherever entries are that agree with them from lo to hi.
 pub record HalvesJoin : Type 0 where
-  pub single : (edges : List ℕ) (lo hi : ℕ) (entry : ℕ → ℕ) → lo ≤ hi → hi ≤ lo + 1 → IsHalved edges lo hi entry
+  pub single : (edges : List ℕ) (lo hi : ℕ) (entry : ℕ → ℕ) → lo ≤ hi → hi ≤ lo + 1 →
+      IsHalved edges lo hi entry
   pub join : (edges : List ℕ) (lo hi : ℕ) (entry : ℕ → ℕ) → lo + 2 ≤ hi →
       entry (middle lo hi) ≡ entry lo + split_at edges lo hi (entry hi - entry lo) →
-      IsHalved edges lo (middle lo hi) entry → IsHalved edges (middle lo hi) hi entry → IsHalved edges lo hi entry
+      IsHalved edges lo (middle lo hi) entry → IsHalved edges (middle lo hi) hi entry →
+      IsHalved edges lo hi entry
   pub same : (edges : List ℕ) (lo hi : ℕ) (other entry : ℕ → ℕ) → lo ≤ hi →
-      ((k : ℕ) → lo ≤ k → k ≤ hi → entry k ≡ other k) → IsHalved edges lo hi other → IsHalved edges lo hi entry
+      ((k : ℕ) → lo ≤ k → k ≤ hi → entry k ≡ other k) → IsHalved edges lo hi other →
+      IsHalved edges lo hi entry
 
 -- over the edges of a band, the computed path of a delay is a path of it, and the only one
 abbrev pub HasOnePath : Type 0
@@ -38,7 +41,8 @@ PathsRise = (edges : List ℕ) (n d : ℕ) (e : List ℕ) → AreEdges n edges �
 
 -- a path sum of delay d over n channels has n + d cells
 abbrev pub CellsAreCounted : Type 0
-CellsAreCounted = (edges : List ℕ) (f : Filterbank) (d u late : ℕ) (e : List ℕ) → AreEdges f.channels edges →
+CellsAreCounted =
+    (edges : List ℕ) (f : Filterbank) (d u late : ℕ) (e : List ℕ) → AreEdges f.channels edges →
     IsPath edges f.channels d e → length (path_cells f e d u late) ≡ f.channels + d
 
 -- the test answers the detection rule

@@ -19,7 +19,8 @@ split high mid low d =
 
 -- the same at the edges of the channels from lo up to hi, and at their middle
 abbrev pub split_at : List ℕ → ℕ → ℕ → ℕ → ℕ
-split_at edges lo hi d = split (slice_index edges lo) (slice_index edges (middle lo hi)) (slice_index edges hi) d
+split_at edges lo hi d =
+    split (slice_index edges lo) (slice_index edges (middle lo hi)) (slice_index edges hi) d
 
 -- `a` up to `b` is a node of the halving tree of `lo` up to `hi`: the whole of it, or a node of one of its halves
 pub data IsNode (a b : ℕ) : ℕ → ℕ → Type 0 where

@@ -27,4 +27,6 @@ plan_refusal o s =
     then Some (FoldTooLarge s.fold_max s.fold_rows)
     else (if folds_are_on s && nat_lt 64 fold_count
     then Some (TooManyFolds fold_count)
-    else (if nat_lt (delay_count s) s.shards then Some (TooManyShards s.shards (delay_count s)) else None)))
+    else (if nat_lt (delay_count s) s.shards
+    then Some (TooManyShards s.shards (delay_count s))
+    else None)))

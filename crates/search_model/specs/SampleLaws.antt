@@ -9,6 +9,8 @@ pub record SamplesOfBytes : Type 0 where
   pub plain : (bytes : List ℕ) → samples_of 8 1 bytes ≡ bytes
   pub kept : (nbit npol : ℕ) (bytes more : List ℕ) (i : ℕ) → (nbit ≡ 8) ⊎ (nbit ≡ 16) → 0 < npol →
       i < length (samples_of nbit npol bytes) →
-      slice_index (samples_of nbit npol (bytes ++ more)) i ≡ slice_index (samples_of nbit npol bytes) i
-  pub bounded : (nbit npol : ℕ) (bytes : List ℕ) (i : ℕ) → (nbit ≡ 8) ⊎ (nbit ≡ 16) → All (λ byte. byte < 256) bytes →
+      slice_index (samples_of nbit npol (bytes ++ more)) i
+      ≡ slice_index (samples_of nbit npol bytes) i
+  pub bounded : (nbit npol : ℕ) (bytes : List ℕ) (i : ℕ) → (nbit ≡ 8) ⊎ (nbit ≡ 16) →
+      All (λ byte. byte < 256) bytes →
       slice_index (samples_of nbit npol bytes) i ≤ npol * (2 ^ nbit - 1)

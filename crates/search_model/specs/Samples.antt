@@ -7,7 +7,8 @@ use Rattle.std.specs.List.{range_with_len}
 -- the value of 8 or 16 bits that begins at a byte, its low byte first
 abbrev pub value_at : ℕ → List ℕ → ℕ → ℕ
 value_at nbit bytes place =
-    if nbit == 16 then slice_index bytes place + 256 * slice_index bytes (place + 1) else slice_index bytes place
+    if nbit == 16 then slice_index bytes place + 256 * slice_index bytes (place + 1)
+    else slice_index bytes place
 
 -- how many bytes a sample has: npol values of nbit bits
 abbrev pub sample_bytes : ℕ → ℕ → ℕ
@@ -16,12 +17,14 @@ sample_bytes nbit npol = npol * nbit / 8
 -- sample i of the bytes: the values of its polarisations, added
 abbrev pub sample_at : ℕ → ℕ → List ℕ → ℕ → ℕ
 sample_at nbit npol bytes i =
-    sum_by (λ q. value_at nbit bytes (i * sample_bytes nbit npol + q * nbit / 8)) (range_with_len 0 npol)
+    sum_by (λ q. value_at nbit bytes (i * sample_bytes nbit npol + q * nbit / 8))
+    (range_with_len 0 npol)
 
 -- the samples of data bytes, in the order of the bytes; an incomplete last sample is left out
 abbrev pub samples_of : ℕ → ℕ → List ℕ → List ℕ
 samples_of nbit npol bytes =
-    map (λ i. sample_at nbit npol bytes i) (range_with_len 0 (length bytes / sample_bytes nbit npol))
+    map (λ i. sample_at nbit npol bytes i)
+    (range_with_len 0 (length bytes / sample_bytes nbit npol))
 
 -- so many channels, counted from the highest frequency, and so many spectra; `value c t` stands in channel c of
 -- spectrum t

@@ -10,9 +10,12 @@ use Rattle.search_model.specs.Subbands.{node_sum}
 -- The sum over a node of two channels and more is that over its upper half, along the path of the split, plus that over
 -- its lower half. The upper half's path ends earlier, by the delay of the lower half.
 abbrev pub HalvesAdd : Type 0
-HalvesAdd = (f : Filterbank) (edges : List ℕ) (n lo hi d u late : ℕ) → AreEdges n edges → lo + 2 ≤ hi → hi ≤ n →
+HalvesAdd =
+    (f : Filterbank) (edges : List ℕ) (n lo hi d u late : ℕ) →
+    AreEdges n edges → lo + 2 ≤ hi → hi ≤ n →
     node_sum f edges lo hi d u late
-    ≡ node_sum f edges lo (middle lo hi) (split_at edges lo hi d) u (late + (d - split_at edges lo hi d))
+    ≡ node_sum f edges lo (middle lo hi) (split_at edges lo hi d) u
+    (late + (d - split_at edges lo hi d))
     + node_sum f edges (middle lo hi) hi (d - split_at edges lo hi d) u late
 
 -- of one channel: the sum of delay d + 1 is that of delay d, plus the one sample that stands d + 1 spectra earlier
@@ -23,7 +26,8 @@ OneChannelAdds = (f : Filterbank) (edges : List ℕ) (n c d u late : ℕ) → Ar
 
 -- and the sum of delay 0 is the sample itself
 abbrev pub OneChannelIsItsSample : Type 0
-OneChannelIsItsSample = (f : Filterbank) (edges : List ℕ) (n c u late : ℕ) → AreEdges n edges → c < n → late ≤ u →
+OneChannelIsItsSample =
+    (f : Filterbank) (edges : List ℕ) (n c u late : ℕ) → AreEdges n edges → c < n → late ≤ u →
     node_sum f edges c (c + 1) 0 u late ≡ f.value c (u - late)
 
 -- what ends q spectra earlier, seen from q spectra later, is the same
@@ -33,8 +37,9 @@ TimeShifts = (f : Filterbank) (edges : List ℕ) (lo hi d u late q : ℕ) →
 
 -- before the first spectrum there is nothing
 abbrev pub NothingBefore : Type 0
-NothingBefore = (f : Filterbank) (edges : List ℕ) (n lo hi d u late : ℕ) → AreEdges n edges → hi ≤ n → u < late →
-    node_sum f edges lo hi d u late ≡ 0
+NothingBefore =
+    (f : Filterbank) (edges : List ℕ) (n lo hi d u late : ℕ) →
+    AreEdges n edges → hi ≤ n → u < late → node_sum f edges lo hi d u late ≡ 0
 
 -- the sum over the whole band is the path sum
 abbrev pub WholeBandIsPathSum : Type 0

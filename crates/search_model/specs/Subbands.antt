@@ -13,4 +13,5 @@ node_path edges lo hi d k = entry 12 edges lo hi 0 d k
 -- the sum over these channels along their path of delay d that ends `late` spectra before spectrum u
 abbrev pub node_sum : Filterbank → List ℕ → ℕ → ℕ → ℕ → ℕ → ℕ → ℕ
 node_sum f edges lo hi d u late =
-    sum_by (λ c. sum (cells_along f (node_path edges lo hi d) d u late c)) (range_with_len lo (hi - lo))
+    sum_by (λ c. sum (cells_along f (node_path edges lo hi d) d u late c))
+    (range_with_len lo (hi - lo))

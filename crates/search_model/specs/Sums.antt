@@ -13,7 +13,8 @@ between a b = range_with_len a (b + 1 - a)
 -- The cells of channel c on a path of delay d with the entry `e k` at edge k, where the path ends `late` spectra before
 -- spectrum u: x(c, t) for t from u - late - d + e c to u - late - d + e (c + 1). A cell before the first spectrum is 0.
 abbrev pub cells_along : Filterbank → (ℕ → ℕ) → ℕ → ℕ → ℕ → ℕ → List ℕ
-cells_along f e d u late c = map (λ k. sample_before f c (u + k) (d + late)) (between (e c) (e (c + 1)))
+cells_along f e d u late c =
+    map (λ k. sample_before f c (u + k) (d + late)) (between (e c) (e (c + 1)))
 
 -- the same where the entries are a list
 abbrev pub channel_cells : Filterbank → List ℕ → ℕ → ℕ → ℕ → ℕ → List ℕ
