@@ -1,4 +1,5 @@
 -- Books that share the delays by their remainders.
+-- Source: this project's choice.
 use Rattle.std.specs.Prelude.{◌≡◌, ℕ, ◌%◌, ◌⊎◌, List, [], All, Contains, Option, Some, None}
 use Rattle.std.specs.Option.{ForSome}
 use Rattle.search_model.specs.declared.candidate.Candidate.{Candidate}

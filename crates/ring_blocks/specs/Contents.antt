@@ -1,4 +1,5 @@
 -- What contracts see of a block.
+-- Source: PSRDADA manual (ring buffers of a writer and its readers); the mark is this project's choice.
 use Rattle.std.specs.Prelude.{ℕ, take, vec_len}
 use Rattle.ring_blocks.specs.declared.Block.{Block}
 use Rattle.ring_blocks.specs.declared.Entry.{Entry}

@@ -1,4 +1,5 @@
 -- What a core's fields stand for, and what they keep.
+-- Source: PSRDADA manual (ring buffers of a writer and its readers); how they are kept is this project's choice.
 use Rattle.std.specs.Prelude.{ℕ, ◌≤◌, map, vec_capacity}
 use Rattle.ring_core.specs.Machine.{Machine}
 use Rattle.ring_core.specs.State.{CoreState, IsSoundCore, reader_of}

@@ -1,4 +1,5 @@
 -- What the table of events comes to, in words of its own.
+-- Source: PSRDADA manual (ring buffers of a writer and its readers); the bounds are this project's choice.
 use Rattle.std.specs.Prelude.{◌≡◌, ◌≢◌, ℕ, ◌+◌, ◌%◌, ◌<◌, ◌≤◌, Some, slice_get, if◌then◌else◌}
 use Rattle.ring_core.specs.Machine.{Machine, Reader, Event, Answer, IsReader, IsRegistered, Holds, Reached, height, greatest}
 use Rattle.ring_core.specs.Sound.{IsSound}

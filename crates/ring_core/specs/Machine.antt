@@ -119,13 +119,14 @@ module _ {L : Type 0} where
       × (a ≡ Answer.Taken (height m)) × (m' ≡ record m { writing = true })
   Does buffers limit m (Event.Seal label) a m' =
       (m.writing ≡ true)
-      × (a ≡ Answer.Sealed (height m)) × (m' ≡ record m { sealed = m.sealed ++ label ∷ []; writing = false })
+      × (a ≡ Answer.Sealed (height m))
+      × (m' ≡ record m { sealed = m.sealed ++ label ∷ []; writing = false })
       ⊎ (m.writing ≡ false) × (IsRefused m a m')
   Does buffers limit m (Event.ReaderTake i) a m' =
       ((r : Reader) × (IsReader m i r) × (IsIdle r) × (height m ≤ r.cleared)
       × (a ≡ Answer.Empty r.cleared) × (m' ≡ m))
-      ⊎ ((r : Reader) × (j : ℕ) × (IsReader m i r) × (IsIdle r) × (r.cleared < height m) × (Holds m j r.cleared)
-      × (a ≡ Answer.Busy r.cleared j) × (m' ≡ m))
+      ⊎ ((r : Reader) × (j : ℕ) × (IsReader m i r) × (IsIdle r) × (r.cleared < height m)
+      × (Holds m j r.cleared) × (a ≡ Answer.Busy r.cleared j) × (m' ≡ m))
       ⊎ ((r : Reader) × (label : L) × (IsReader m i r) × (IsIdle r)
       × ((j : ℕ) → ¬ Holds m j r.cleared) × (slice_get m.sealed r.cleared ≡ Some label)
       × (a ≡ Answer.Got r.cleared label) × (m' ≡ with_reader m i (record r { phase = Phase.Out })))
@@ -153,7 +154,8 @@ module _ {L : Type 0} where
       ⊎ ((r : Reader) → IsReader m i r → r.phase ≢ Phase.Detached) × (IsRefused m a m')
 
   -- one event after another
-  abbrev pub Runs : (buffers limit : ℕ) → Machine L → List (Event L) → List (Answer L) → Machine L → Type 0
+  abbrev pub Runs : (buffers limit : ℕ) →
+      Machine L → List (Event L) → List (Answer L) → Machine L → Type 0
   Runs buffers limit m [] [] m' = m' ≡ m
   Runs buffers limit m (e ∷ es) (a ∷ as') m' = (n : Machine L) × (Does buffers limit m e a n)
       × (Runs buffers limit n es as' m')
@@ -173,4 +175,5 @@ at_first L readers = record {
 pub data Reached {L : Type 0} (buffers limit readers : ℕ) : Machine L → Type 0 where
   at_begin : Reached buffers limit readers (at_first L readers)
   by_event : (m : Machine L) (e : Event L) (a : Answer L) (m' : Machine L) →
-      Reached buffers limit readers m → Does buffers limit m e a m' → Reached buffers limit readers m'
+      Reached buffers limit readers m → Does buffers limit m e a m' →
+      Reached buffers limit readers m'

@@ -1,4 +1,5 @@
 -- What holds in every state that events leave.
+-- Source: PSRDADA manual (ring buffers of a writer and its readers); the bounds are this project's choice.
 use Rattle.std.specs.Prelude.{◌≡◌, ℕ, ◌+◌, ◌<◌, ◌≤◌, ◌⊎◌, true, length, slice_index}
 use Rattle.ring_core.specs.Machine.{Machine, Reader, Phase, IsReader, IsRegistered, Holds, HasRoom, height}
 
@@ -11,7 +12,8 @@ pub record IsSound {L : Type 0} (buffers limit : ℕ) (m : Machine L) : Type 0 w
   pub counts : (i : ℕ) (r : Reader) → IsReader m i r → IsRegistered r →
       (r.cleared ≤ height m) × (height m ≤ r.cleared + buffers)
   -- the writer remembers no more than a registered reader cleared
-  pub remembered : (i : ℕ) (r : Reader) → IsReader m i r → IsRegistered r → slice_index m.low i ≤ r.cleared
+  pub remembered : (i : ℕ) (r : Reader) → IsReader m i r → IsRegistered r →
+      slice_index m.low i ≤ r.cleared
   -- while the writer holds a buffer, it remembers each count above length minus buffers
   pub room : m.writing ≡ true → HasRoom buffers m
   -- what a reader holds or has read was sealed

@@ -1,4 +1,5 @@
 -- The machine of a ring as contracts see it, and the code's events and answers as the machine's.
+-- Source: PSRDADA manual (ring buffers of a writer and its readers); the form is this project's choice.
 use Rattle.std.specs.Prelude.{◌≡◌, ℕ, ◌≤◌, List, length}
 use Rattle.ring_core.specs.Machine.{Machine, Reader, Does, Runs}
 use Rattle.ring_core.specs.Sound.{IsSound}
@@ -64,7 +65,8 @@ pub record IsSoundCore (r : CoreState) : Type 0 where
   pub sound : IsSound r.shape.buffers r.shape.max_blocks r.machine
 
 -- at the old ring the event has this answer, and leaves the new one
-pub record Steps (old : CoreState) (e : machine.Event ℕ) (a : machine.Answer ℕ) (new : CoreState) : Type 0 where
+pub record Steps (old : CoreState) (e : machine.Event ℕ) (a : machine.Answer ℕ)
+    (new : CoreState) : Type 0 where
   pub shape : new.shape ≡ old.shape
   pub does : Does old.shape.buffers old.shape.max_blocks old.machine e a new.machine
 
@@ -74,7 +76,8 @@ IsOnly old e a new = (b : machine.Answer ℕ) (m : Machine ℕ) →
     Does old.shape.buffers old.shape.max_blocks old.machine e b m → (b ≡ a) × (m ≡ new.machine)
 
 -- the events, one after another, leave the new ring
-pub record RunsTo (old : CoreState) (events : List (machine.Event ℕ)) (new : CoreState) : Type 0 where
+pub record RunsTo (old : CoreState) (events : List (machine.Event ℕ))
+    (new : CoreState) : Type 0 where
   pub shape : new.shape ≡ old.shape
   pub answers : List (machine.Answer ℕ)
   pub runs : Runs old.shape.buffers old.shape.max_blocks old.machine events answers new.machine

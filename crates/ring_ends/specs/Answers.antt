@@ -1,4 +1,5 @@
 -- What a write and a read answer, and why.
+-- Source: PSRDADA manual (ring buffers of a writer and its readers); the answers are this project's choice.
 use Rattle.std.specs.Prelude.{◌≡◌, ◌≢◌, ℕ, ◌+◌, ◌/◌, ◌%◌, ◌<◌, ◌≤◌, List, ◌++◌, drop, length, slice_index, Some}
 use Rattle.ring_blocks.specs.declared.Entry.{Entry}
 use Rattle.ring_blocks.specs.declared.Mark.{Mark}
@@ -59,7 +60,8 @@ IsWriteStop w (Full i c) w' = IsFull w i c w'
 IsWriteStop w (Spent limit) w' = (limit ≡ w.shape.max_blocks) × (length w.sealed ≡ limit) × (w' ≡ w)
 
 -- The reader copied the block that comes after those it cleared to the front of `into`, which it then has as `into'`
-pub record IsRead (r : ReaderView) (into : List ℕ) (t : Taken) (r' : ReaderView) (into' : List ℕ) : Type 0 where
+pub record IsRead (r : ReaderView) (into : List ℕ) (t : Taken) (r' : ReaderView)
+    (into' : List ℕ) : Type 0 where
   pub entry : Entry
   pub rest : r' ≡ after_give (after_hit r (home_word (length r.cleared)) entry)
   pub again : (e : Entry) → r.got ≡ Some e → e ≡ entry

@@ -1,4 +1,5 @@
 -- What is known once all passes are back.
+-- Source: PSRDADA manual (ring buffers of a writer and its readers); what is counted is this project's choice.
 use Rattle.std.specs.Prelude.{◌≡◌, ℕ, ◌<◌, List, length, slice_get, Option, Some}
 use Rattle.ring_blocks.specs.declared.Entry.{Entry}
 use Rattle.ring_words.specs.declared.shape.RingShape.{RingShape}
@@ -36,8 +37,8 @@ pub record AllReaders (ring : Ring) (readers : List (Option EndedReader)) : Type
   pub each : (j : ℕ) → j < length readers → (e : EndedReader) × Gives readers j e × EndedFrom ring e
   pub once : (j k : ℕ) (e f : EndedReader) → Gives readers j e → Gives readers k f →
       (ended_knows e).number ≡ (ended_knows f).number → j ≡ k
-  pub all : (i : ℕ) → i < (ring_shape ring).readers → (j : ℕ) × (e : EndedReader) × Gives readers j e
-      × ((ended_knows e).number ≡ i)
+  pub all : (i : ℕ) → i < (ring_shape ring).readers →
+      (j : ℕ) × (e : EndedReader) × Gives readers j e × ((ended_knows e).number ≡ i)
 
 -- as many readers of the ring as it has, and reader j at place j
 pub record AreInOrder (ring : Ring) (readers : List (Option EndedReader)) : Type 0 where
@@ -47,4 +48,6 @@ pub record AreInOrder (ring : Ring) (readers : List (Option EndedReader)) : Type
 
 -- these are all
 abbrev pub OrderIsEnough : Type 0
-OrderIsEnough = (ring : Ring) (readers : List (Option EndedReader)) → AreInOrder ring readers → AllReaders ring readers
+OrderIsEnough =
+    (ring : Ring) (readers : List (Option EndedReader)) → AreInOrder ring readers →
+    AllReaders ring readers

@@ -1,4 +1,5 @@
 -- What clauses see of a ring and of the passes of its threads.
+-- Source: PSRDADA manual (ring buffers of a writer and its readers); the passes are this project's choice.
 use Rattle.std.specs.Prelude.{◌≡◌, ℕ, Bool, false, List, slice_get, Option, Some}
 use Rattle.atomic_table.specs.Seated.{TableId}
 use Rattle.ring_words.specs.declared.shape.RingShape.{RingShape}
@@ -73,5 +74,6 @@ EndedFrom ring ended = Reads ring.words (ended_seat ended)
 
 -- at place i is the pass of reader i, which has done nothing
 abbrev pub HasFreshPass : Ring → List (Option ReaderPass) → ℕ → Type 0
-HasFreshPass ring passes i = (p : ReaderPass) × (slice_get passes i ≡ Some (Some p)) × ReadsFrom ring p
+HasFreshPass ring passes i =
+    (p : ReaderPass) × (slice_get passes i ≡ Some (Some p)) × ReadsFrom ring p
     × (reader_knows p ≡ fresh_reader (ring_shape ring) i) × (is_read p ≡ false)

@@ -1,4 +1,5 @@
 -- The lines of a trace, and the lines that answer them.
+-- Source: this project's choice.
 use Rattle.std.specs.Prelude.{◌≡◌, ℕ, ◌<◌, ◌≤◌, List, ◌∷◌, ◌++◌, codes, decimal}
 use Rattle.std.specs.Str.Parse.{digits_value}
 use Rattle.ring_core.specs.Machine.{Event, Answer}
@@ -51,7 +52,8 @@ answer_line (Answer.RoomRetired i) = codes "room " ++ decimal i ++ codes " retir
 answer_line (Answer.Taken n) = codes "taken " ++ decimal n ++ codes "\n"
 answer_line (Answer.Spent n) = codes "spent " ++ decimal n ++ codes "\n"
 answer_line (Answer.Sealed n) = codes "sealed " ++ decimal n ++ codes "\n"
-answer_line (Answer.Got n label) = codes "got " ++ decimal n ++ codes " " ++ decimal label ++ codes "\n"
+answer_line (Answer.Got n label) =
+    codes "got " ++ decimal n ++ codes " " ++ decimal label ++ codes "\n"
 answer_line (Answer.Empty n) = codes "empty " ++ decimal n ++ codes "\n"
 answer_line (Answer.Busy n j) = codes "busy " ++ decimal n ++ codes " " ++ decimal j ++ codes "\n"
 answer_line Answer.Given = codes "given\n"

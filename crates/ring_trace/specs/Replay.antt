@@ -1,4 +1,5 @@
 -- How far a trace was replayed.
+-- Source: this project's choice.
 use Rattle.std.specs.Prelude.{◌≡◌, ℕ, List, ◌∷◌, ◌++◌}
 use Rattle.std.specs.List.{flat_map}
 use Rattle.ring_core.specs.Machine.{Event, Answer, Runs}
@@ -7,7 +8,8 @@ use Rattle.ring_trace.specs.Events.{AsksFor, answer_line}
 use Rattle.ring_trace.specs.Trace.{AskFor}
 
 -- the line asked for an event, which moved the ring, and its answer was put behind the text
-pub record IsStep (readers : ℕ) (line : List ℕ) (old new : CoreState) (before text : List ℕ) : Type 0 where
+pub record IsStep (readers : ℕ) (line : List ℕ) (old new : CoreState)
+    (before text : List ℕ) : Type 0 where
   pub event : Event ℕ
   pub answer : Answer ℕ
   pub asked : AsksFor readers line event

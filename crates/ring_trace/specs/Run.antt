@@ -35,7 +35,8 @@ pub record Outcome (words : List (List ℕ)) (inputs : InputsSeen) (is_calm : Ty
   pub whole : status ≡ 0 → ForFile words inputs.told (λ file. AppendsAll file out_before out_after)
   -- by those to the lines before the first that has not its form, or by the front of them at a fault of the output
   pub cut : status ≡ 3 → ForFile words inputs.told (λ file. AppendsCut file out_before out_after)
-  pub front : status ≡ 10 → ForFile words inputs.told (λ file. AppendsFront file out_before out_after)
+  pub front : status ≡ 10 →
+      ForFile words inputs.told (λ file. AppendsFront file out_before out_after)
   pub silent : IsSilent status → out_after ≡ out_before
   -- 2 exactly where there are not two words, and 8 exactly where the file is too long
   pub words_refused : (status ≡ 2) ↔ (length words ≢ 2)

@@ -1,4 +1,5 @@
 -- A whole trace, and the answers to it.
+-- Source: this project's choice.
 use Rattle.std.specs.Prelude.{◌≡◌, ◌⊎◌, ⊤, ℕ, List, [], ◌∷◌, ◌++◌}
 use Rattle.std.specs.List.{flat_map}
 use Rattle.psr_base.specs.Written.{SinkSeen, WroteAll, WroteFront}
@@ -10,7 +11,8 @@ use Rattle.ring_trace.specs.Events.{IsRingLine, AsksFor, answer_line}
 -- each line asks for one of the events, in order
 abbrev pub AskFor : ℕ → List (List ℕ) → List (Event ℕ) → Type 0
 AskFor readers [] [] = ⊤
-AskFor readers (line ∷ lines) (event ∷ events) = AsksFor readers line event × AskFor readers lines events
+AskFor readers (line ∷ lines) (event ∷ events) =
+    AsksFor readers line event × AskFor readers lines events
 AskFor readers [] (event ∷ events) = ⊥
 AskFor readers (line ∷ lines) [] = ⊥
 

@@ -1,4 +1,5 @@
 -- What a seat holds: slots, each with a block.
+-- Source: PSRDADA manual (ring buffers of a writer and its readers); the slots are this project's choice.
 use Rattle.std.specs.Prelude.{ℕ, ◌%◌, List, [], ◌∷◌, map, length, if◌then◌else◌}
 use Rattle.ring_blocks.specs.declared.Block.{Block}
 use Rattle.ring_blocks.specs.declared.Entry.{Entry}
@@ -21,4 +22,6 @@ rooms_out w = if w.out then (length w.sealed % w.shape.buffers, w.shape.size) �
 
 -- a reader that has a buffer out holds the block that it got
 abbrev pub entries_out : ReaderView → List (ℕ × ℕ × Entry)
-entries_out r = if r.out then map (λ e. (length r.cleared % r.shape.buffers, r.shape.size, e)) (got_list r.got) else []
+entries_out r =
+    if r.out then map (λ e. (length r.cleared % r.shape.buffers, r.shape.size, e)) (got_list r.got)
+    else []

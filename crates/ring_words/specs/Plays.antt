@@ -1,4 +1,5 @@
 -- What each step tells the seat that makes it, and which event of the ring as a machine it is.
+-- Source: PSRDADA manual (ring buffers of a writer and its readers); the steps are this project's choice.
 use Rattle.std.specs.Prelude.{◌≡◌, ◌≢◌, ℕ, ◌+◌, ◌-◌, ◌/◌, ◌%◌, ◌<◌, ◌≤◌, ◌⊎◌, List, [], ◌∷◌, ◌==◌, nat_le, All, length, take, slice_get, Some, if◌then◌else◌}
 use Rattle.atomic_table.specs.Table.{Me, Step, rest}
 use Rattle.ring_blocks.specs.declared.Block.{Block}
@@ -42,7 +43,9 @@ IsReaderEvent r event answer r' = IsEvent r.shape event answer (ShowsReader r) (
 abbrev pub look_answer : WriterView → ℕ → ℕ → Answer Entry
 look_answer w i n =
     if n == greatest then Answer.RoomRetired i
-    else (if nat_le (n + w.shape.buffers) (length w.sealed) then Answer.Full i n else Answer.Room i n)
+    else (if nat_le (n + w.shape.buffers) (length w.sealed)
+    then Answer.Full i n
+    else Answer.Room i n)
 
 -- and where a reader tries to take a block in vain, and finds the word n in its buffer
 abbrev pub miss_answer : ReaderView → ℕ → Answer Entry
@@ -55,7 +58,8 @@ miss_answer r n =
 pub record WriterSettled (w : WriterView) : Type 0 where
   pub limit : length w.sealed ≤ w.shape.max_blocks
   pub sized : All (λ e. length e.bytes ≤ w.shape.size) w.sealed
-  pub begins : (i : ℕ) (r : ReaderView) → parked_at w i ≡ Some r → take (length r.cleared) w.sealed ≡ r.cleared
+  pub begins : (i : ℕ) (r : ReaderView) → parked_at w i ≡ Some r →
+      take (length r.cleared) w.sealed ≡ r.cleared
   pub next : (i : ℕ) (r : ReaderView) (e : Entry) → parked_at w i ≡ Some r → r.got ≡ Some e →
       slice_get w.sealed (length r.cleared) ≡ Some e
 
@@ -63,7 +67,8 @@ pub record WriterSettled (w : WriterView) : Type 0 where
 pub record ReaderSettled (r : ReaderView) : Type 0 where
   pub limit : length r.cleared ≤ r.shape.max_blocks
   pub sized : All (λ e. length e.bytes ≤ r.shape.size) r.cleared
-  pub next : (e : Entry) → r.got ≡ Some e → (length r.cleared < r.shape.max_blocks) × (length e.bytes ≤ r.shape.size)
+  pub next : (e : Entry) → r.got ≡ Some e →
+      (length r.cleared < r.shape.max_blocks) × (length e.bytes ≤ r.shape.size)
 
 -- In each of the following: the step, the seat before, the number found and the seat after.
 
@@ -75,21 +80,22 @@ pub record Looked (st : Step Block) (m : Me Block View) (n : ℕ) (m' : Me Block
       (look_answer (writer_of m.0) (st.word - st.slots) n) (writer_of m'.0)
 
 -- the writer finds the word that it expects, and takes the block
-pub record WriterTook (st : Step Block) (m : Me Block View) (n : ℕ) (m' : Me Block View) : Type 0 where
+pub record WriterTook (st : Step Block) (m : Me Block View) (n : ℕ)
+    (m' : Me Block View) : Type 0 where
   pub found : n ≡ st.first
   pub view : m'.0 ≡ Writer (after_writer_take (writer_of m.0))
   pub block : Block
   pub slots : m'.1 ≡ (st.word, block) ∷ m.1
   pub room : room_of block ≡ (writer_of m.0).shape.size
-  pub event : IsWriterEvent (writer_of m.0) Event.WriterTake (Answer.Taken (length (writer_of m.0).sealed))
-      (writer_of m'.0)
+  pub event : IsWriterEvent (writer_of m.0) Event.WriterTake
+      (Answer.Taken (length (writer_of m.0).sealed)) (writer_of m'.0)
 
 -- the writer gives the block b back as the next one
 pub record SealedBlock (m m' : Me Block View) (b : Block) : Type 0 where
   pub seat : m' ≡ (Writer (after_seal (writer_of m.0) (entry_of b)), [])
   pub settled : WriterSettled (writer_of m'.0)
-  pub event : IsWriterEvent (writer_of m.0) (Event.Seal (entry_of b)) (Answer.Sealed (length (writer_of m.0).sealed))
-      (writer_of m'.0)
+  pub event : IsWriterEvent (writer_of m.0) (Event.Seal (entry_of b))
+      (Answer.Sealed (length (writer_of m.0).sealed)) (writer_of m'.0)
 
 -- what is true of the block that was taken last
 abbrev pub OfBlock : List (ℕ × Block) → (Block → Type 0) → Type 0
@@ -117,8 +123,8 @@ IsMiss r n = (n / 16 ≤ length r.cleared) ⊎ ((n / 16 ≡ length r.cleared + 1
 pub record Missed (m : Me Block View) (n : ℕ) (m' : Me Block View) : Type 0 where
   pub seat : m' ≡ (Reader (after_miss (reader_of m.0) n), m.1)
   pub why : IsMiss (reader_of m.0) n
-  pub event : IsReaderEvent (reader_of m.0) (Event.ReaderTake (reader_of m.0).number) (miss_answer (reader_of m.0) n)
-      (reader_of m'.0)
+  pub event : IsReaderEvent (reader_of m.0) (Event.ReaderTake (reader_of m.0).number)
+      (miss_answer (reader_of m.0) n) (reader_of m'.0)
 
 pub record Tried (st : Step Block) (m : Me Block View) (n : ℕ) (m' : Me Block View) : Type 0 where
   pub hit : n ≡ st.first → Hit st m n m'
@@ -128,7 +134,8 @@ pub record Tried (st : Step Block) (m : Me Block View) (n : ℕ) (m' : Me Block 
 pub record Gave (st : Step Block) (m : Me Block View) (n : ℕ) (m' : Me Block View) : Type 0 where
   pub seat : m' ≡ (Reader (after_give (reader_of m.0)), rest m.1)
   pub settled : ReaderSettled (reader_of m'.0)
-  pub event : IsReaderEvent (reader_of m.0) (Event.Give (reader_of m.0).number) Answer.Given (reader_of m'.0)
+  pub event : IsReaderEvent (reader_of m.0) (Event.Give (reader_of m.0).number)
+      Answer.Given (reader_of m'.0)
 
 pub record Cleared (st : Step Block) (m : Me Block View) (n : ℕ) (m' : Me Block View) : Type 0 where
   pub seat : m' ≡ (Reader (after_clear (reader_of m.0)), m.1)
@@ -139,4 +146,5 @@ pub record Cleared (st : Step Block) (m : Me Block View) (n : ℕ) (m' : Me Bloc
 pub record Retired (st : Step Block) (m : Me Block View) (n : ℕ) (m' : Me Block View) : Type 0 where
   pub seat : m' ≡ (Reader (after_retire (reader_of m.0)), m.1)
   pub settled : ReaderSettled (reader_of m'.0)
-  pub event : IsReaderEvent (reader_of m.0) (Event.Retire (reader_of m.0).number) Answer.Retired (reader_of m'.0)
+  pub event : IsReaderEvent (reader_of m.0) (Event.Retire (reader_of m.0).number)
+      Answer.Retired (reader_of m'.0)

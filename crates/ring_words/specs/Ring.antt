@@ -2,6 +2,7 @@
 -- steps.
 -- Block number m lies in buffer m modulo buffers. Word k is the turn of buffer k, and the word after all turns and i
 -- more is the count of reader i.
+-- Source: PSRDADA manual (ring buffers of a writer and its readers); the words are this project's choice.
 use Rattle.std.specs.Prelude.{◌≡◌, ℕ, ◌+◌, ◌*◌, ◌%◌, ◌<◌, ◌≤◌, true, false, List, ◌++◌, length, slice_index, Some, is_some, if◌then◌else◌}
 use mathlib.Core.Option as maybe
 use mathlib.Core.Option.{some}
@@ -68,13 +69,15 @@ module _ (shape : RingShape) (x : Roles) where
   -- What is true of a buffer with this holder. At home it has the block that was sealed there last.
   -- A reader has the block that comes after those it cleared, and the writer the buffer of the block to be sealed next.
   abbrev pub Held : List (maybe.Option Block) → ℕ → ℕ → Holder → Type 0
-  Held homes k n at_home = (b : Block) × (get_elem? homes k ≡ some (some b)) × (room_of b ≡ shape.size)
+  Held homes k n at_home =
+      (b : Block) × (get_elem? homes k ≡ some (some b)) × (room_of b ≡ shape.size)
       × ((m : ℕ) → n ≡ m + 1 → get_elem? x.writer.sealed m ≡ some (entry_of b))
   Held homes k n (by_reader i) = (i < shape.readers) × ((x.reader i).out ≡ true)
       × (n ≡ length (x.reader i).cleared + 1)
   Held homes k n by_writer = (x.writer.out ≡ true) × (k ≡ length x.writer.sealed % shape.buffers)
 
-  pub record TurnOk (words : List ℕ) (homes : List (maybe.Option Block)) (k : ℕ) (t : Turn) : Type 0 where
+  pub record TurnOk (words : List ℕ) (homes : List (maybe.Option Block)) (k : ℕ)
+      (t : Turn) : Type 0 where
     pub shows : slice_index words k ≡ turn_word t
     pub newest : IsNewest shape.buffers (length x.writer.sealed) k t.newest
     pub held : Held homes k t.newest t.holder
@@ -98,8 +101,10 @@ module _ (shape : RingShape) (x : Roles) where
     pub shaped : x.writer.shape ≡ shape
     pub lows : length x.writer.low ≡ shape.readers
     pub limit : length x.writer.sealed ≤ shape.max_blocks
-    pub sized : (m : ℕ) (e : Entry) → get_elem? x.writer.sealed m ≡ some e → length e.bytes ≤ shape.size
-    pub out : x.writer.out ≡ true → ((x.turn (length x.writer.sealed % shape.buffers)).holder ≡ by_writer)
+    pub sized : (m : ℕ) (e : Entry) → get_elem? x.writer.sealed m ≡ some e →
+        length e.bytes ≤ shape.size
+    pub out : x.writer.out ≡ true →
+        ((x.turn (length x.writer.sealed % shape.buffers)).holder ≡ by_writer)
         × (length x.writer.sealed < shape.max_blocks)
     pub room : x.writer.out ≡ true → (i : ℕ) → i < shape.readers →
         length x.writer.sealed < slice_index x.writer.low i + shape.buffers
@@ -122,8 +127,8 @@ pub record HoldsFor (shape : RingShape) (s : State Block View) (x : Roles) : Typ
   pub seated : get_elem? s.views x.seat ≡ some (Writer x.writer)
   pub each_seat : (j : ℕ) (v : View) → get_elem? s.views j ≡ some v → Knows shape x j v
   pub all_parked : length x.writer.parked ≡ shape.readers
-  pub parked : (i : ℕ) (r : ReaderView) → get_elem? x.writer.parked i ≡ some (Some r) → (i < shape.readers)
-      × (r ≡ x.reader i) × (x.place i ≡ x.seat)
+  pub parked : (i : ℕ) (r : ReaderView) → get_elem? x.writer.parked i ≡ some (Some r) →
+      (i < shape.readers) × (r ≡ x.reader i) × (x.place i ≡ x.seat)
 
 -- how a reader stands, in the words of the ring as a machine
 abbrev pub phase_in_view : ReaderView → Phase

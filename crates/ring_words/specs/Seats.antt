@@ -1,4 +1,5 @@
 -- What clauses say of a ring's words and of the seats of its threads.
+-- Source: PSRDADA manual (ring buffers of a writer and its readers); the seats are this project's choice.
 use Rattle.std.specs.Prelude.{◌≡◌, ℕ, List, slice_get, Option, Some}
 use Rattle.atomic_table.specs.Seated.{TableId}
 use Rattle.ring_words.specs.declared.shape.RingShape.{RingShape}
@@ -43,4 +44,5 @@ IsFreshReader words i s = Reads words s × (reader_view s ≡ fresh_reader words
 
 -- it stands at place i
 abbrev pub HasFreshReader : Words → List (Option ReaderSeat) → ℕ → Type 0
-HasFreshReader words seats i = (s : ReaderSeat) × (slice_get seats i ≡ Some (Some s)) × IsFreshReader words i s
+HasFreshReader words seats i =
+    (s : ReaderSeat) × (slice_get seats i ≡ Some (Some s)) × IsFreshReader words i s

@@ -1,4 +1,5 @@
 -- The measures of a ring.
+-- Source: PSRDADA manual (ring buffers of a writer and its readers); the ranges are this project's choice.
 use Rattle.std.specs.Prelude.{◌<◌, ◌≤◌, ◌^◌}
 use Rattle.ring_words.specs.declared.shape.RingShape.{RingShape}
 use Rattle.ring_words.specs.declared.shape.ShapeFault.{ShapeFault}

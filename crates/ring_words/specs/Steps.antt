@@ -1,5 +1,6 @@
 -- What each step comes to: what the writer or a reader knew before, what was found or answered, and what it knows
 -- after.
+-- Source: PSRDADA manual (ring buffers of a writer and its readers); the steps are this project's choice.
 use Rattle.std.specs.Prelude.{◌≡◌, ◌≢◌, ℕ, ◌+◌, ◌*◌, ◌<◌, List, ◌++◌, drop, length, slice_index, Some}
 use Rattle.ring_blocks.specs.declared.Entry.{Entry}
 use Rattle.ring_blocks.specs.declared.Mark.{Mark}
@@ -12,7 +13,8 @@ use Rattle.ring_words.specs.Plays.{IsWriterEvent, IsReaderEvent, WriterSettled, 
 
 -- the writer saw each reader past the block in the buffer of the next
 abbrev pub SeesRoom : RingShape → WriterView → Type 0
-SeesRoom shape w = (i : ℕ) → i < shape.readers → length w.sealed < slice_index w.low i + shape.buffers
+SeesRoom shape w =
+    (i : ℕ) → i < shape.readers → length w.sealed < slice_index w.low i + shape.buffers
 
 -- the writer looked at reader i and saw n as its count
 pub record SawCount (w : WriterView) (i n : ℕ) (w' : WriterView) : Type 0 where
@@ -51,7 +53,8 @@ pub record MissedBlock (r : ReaderView) (n : ℕ) (r' : ReaderView) : Type 0 whe
   pub event : IsReaderEvent r (Event.ReaderTake r.number) (miss_answer r n) r'
 
 -- the bytes in front are those of the block that the reader got, and the answers are its length and mark
-pub record CopiedBlock (r : ReaderView) (into into' : List ℕ) (used : ℕ) (mark : Mark) : Type 0 where
+pub record CopiedBlock (r : ReaderView) (into into' : List ℕ) (used : ℕ)
+    (mark : Mark) : Type 0 where
   pub entry : Entry
   pub got : r.got ≡ Some entry
   pub bytes : into' ≡ entry.bytes ++ drop (length entry.bytes) into

@@ -1,4 +1,5 @@
 -- Reading views, and what each step makes of them.
+-- Source: PSRDADA manual (ring buffers of a writer and its readers); the views are this project's choice.
 use Rattle.std.specs.Prelude.{ℕ, zero, suc, ◌+◌, true, false, List, [], ◌∷◌, ◌++◌, drop, replicate, slice_set, slice_index_or, Option, Some, None}
 use Rattle.ring_blocks.specs.declared.Entry.{Entry}
 use Rattle.ring_words.specs.declared.shape.RingShape.{RingShape}
@@ -55,7 +56,11 @@ reader_of Spent = fresh_reader nowhere 0
 
 -- it looked at the reader i and saw n
 abbrev pub after_look : WriterView → ℕ → ℕ → WriterView
-after_look w i n = record w { low = slice_set w.low i n; looks = w.looks + 1; last_look = Some (i, n) }
+after_look w i n = record w {
+  low = slice_set w.low i n;
+  looks = w.looks + 1;
+  last_look = Some (i, n);
+}
 
 abbrev pub after_writer_take : WriterView → WriterView
 after_writer_take w = record w { out = true }
