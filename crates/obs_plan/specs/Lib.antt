@@ -1,7 +1,6 @@
 pub mod Faults
 pub mod Found
 pub mod Rows
-pub mod Numbers
 pub mod Offset
 pub mod Later
 pub mod Worked

@@ -1,7 +1,7 @@
 // The numbers of an observation.
 ghost use Rattle.std.specs.Prelude.{◌≡◌, ℕ, ◌*◌, ◌+◌, ◌<◌, ◌≤◌, Ok, IfOk, IfErr};
 ghost use Rattle.dada_model.specs.Fields.{fields_of};
-ghost use Rattle.dada_model.specs.Observation.{observation_of, edge as edge_of, edges as edges_of, dispersion_span as dispersion_span_of, dm as dm_of, max_sample as max_sample_of};
+ghost use Rattle.dada_model.specs.Observation.{Observation as Described, observation_of, edge as edge_of, edges as edges_of, dispersion_span as dispersion_span_of, dm as dm_of, max_sample as max_sample_of};
 ghost use Rattle.dada_model.specs.Bounds.{most_delay, ObservationInRange};
 ghost use Rattle.obs_plan.specs.Faults.{IsRefusedFirst};
 ghost use Rattle.obs_plan.specs.Later.{profile_of};
@@ -16,6 +16,7 @@ use dada_model::{
     accepted_by_rows, accepted_is_in_range, dispersion_fits, edges_are_quotients, edges_fall,
 };
 use std::alloc::{AllocError, Global};
+use std::marker::Model;
 
 // The most channels of a band.
 const MOST_CHANNELS: u64 = 4096;
@@ -24,7 +25,7 @@ const MOST_CHANNELS: u64 = 4096;
 const MOST_CENTRE_HZ: u64 = 16_000_000_000;
 
 /// The numbers of an observation, in its units.
-#[derive(Clone, Copy)]
+#[derive(Drop)]
 pub(crate) struct Numbers {
     pub(crate) channels: u32,
     pub(crate) nbit: u32,
@@ -34,25 +35,38 @@ pub(crate) struct Numbers {
     pub(crate) width_hz: u64,
     pub(crate) falling: bool,
     pub(crate) obs_offset: u64,
-    ghost in_range: { ObservationInRange (record {
-      channels = channels;
-      nbit = nbit;
-      npol = npol;
-      sample_ns = sample_ns;
-      centre_hz = centre_hz;
-      width_hz = width_hz;
-      is_falling = falling;
-      obs_offset = obs_offset;
-    }) },
+}
+
+impl Model for Numbers {
+    ghost Value = { Described };
+
+    ghost view = { λ n. record {
+      channels = n.channels;
+      nbit = n.nbit;
+      npol = n.npol;
+      sample_ns = n.sample_ns;
+      centre_hz = n.centre_hz;
+      width_hz = n.width_hz;
+      is_falling = n.falling;
+      obs_offset = n.obs_offset;
+    } };
+
+    ghost invariant = { λ n. ObservationInRange (record {
+      channels = n.channels;
+      nbit = n.nbit;
+      npol = n.npol;
+      sample_ns = n.sample_ns;
+      centre_hz = n.centre_hz;
+      width_hz = n.width_hz;
+      is_falling = n.falling;
+      obs_offset = n.obs_offset;
+    }) };
 }
 
 impl Numbers {
-    ghost use Rattle.obs_plan.specs.Numbers.{shown_by};
-
     /// The numbers of a header, or the first refusal.
     pub(crate) fn of(header: &Header) -> Result<Numbers, ObsFault>
-        ensures ok { IfOk result (λ n.
-            observation_of (fields_of header.now.text) ≡ Ok (shown_by n)) }
+        ensures ok { IfOk result (λ n. observation_of (fields_of header.now.text) ≡ Ok n) }
         ensures fault { IfErr result (IsRefusedFirst (fields_of header.now.text)) }
     {
         accepted_by_rows();
@@ -84,10 +98,17 @@ impl Numbers {
         })
     }
 
+    /// What is said of an observation within its bounds holds of these. It does nothing.
+    pub(crate) fn lies_in_range(&self)
+        ensures { ObservationInRange self.now }
+    {
+        let _ = &self.channels;
+    }
+
     // The edge `k` in kHz, where 0 is the top of the band.
     fn edge(&self, k: u32) -> u32
         requires { k ≤ self.now.channels }
-        ensures { result ≡ edge_of (shown_by self.now) k }
+        ensures { result ≡ edge_of self.now k }
     {
         edges_are_quotients();
         let channels = u64::from(self.channels);
@@ -98,7 +119,7 @@ impl Numbers {
 
     /// The edges of the channels in kHz, from the top of the band down.
     pub(crate) fn edges(&self, alloc: Global) -> Result<Vec<u32>, AllocError>
-        ensures { IfOk result (λ edges. edges.items ≡ edges_of (shown_by self.now)) }
+        ensures { IfOk result (λ edges. edges.items ≡ edges_of self.now) }
     {
         let mut edges = Vec::new(alloc);
         for k in 0..self.channels + 1 {
@@ -109,7 +130,7 @@ impl Numbers {
 
     // The part of the dispersion measure that doesn't depend on the delay, in kHz^2.
     fn dispersion_span(&self) -> u128
-        ensures { result ≡ dispersion_span_of (shown_by self.now) }
+        ensures { result ≡ dispersion_span_of self.now }
     {
         edges_fall();
         let top = u128::from(self.edge(0));
@@ -120,7 +141,7 @@ impl Numbers {
     /// The dispersion measure of a delay of `d` spectra, in thousandths.
     pub(crate) fn dm(&self, d: u32) -> u64
         requires { d ≤ most_delay }
-        ensures { result ≡ dm_of (shown_by self.now) d }
+        ensures { result ≡ dm_of self.now d }
     {
         dispersion_fits();
         let whole = u128::from(d) * u128::from(self.sample_ns) * 241 * self.dispersion_span();
@@ -129,14 +150,14 @@ impl Numbers {
 
     /// The greatest sample.
     pub(crate) fn max_sample(&self) -> u32
-        ensures { result ≡ max_sample_of (shown_by self.now) }
+        ensures { result ≡ max_sample_of self.now }
     {
         self.npol * ((1 << self.nbit) - 1)
     }
 
     /// What the header of a later file is compared with.
     pub(crate) fn profile(&self) -> Profile
-        ensures { result ≡ profile_of (shown_by self.now) }
+        ensures { result ≡ profile_of self.now }
     {
         let width = self.width_hz as i64;
         Profile {

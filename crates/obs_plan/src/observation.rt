@@ -30,11 +30,9 @@ impl Model for Observation {
 
     ghost Value = { Described };
 
-    ghost use Rattle.obs_plan.specs.Numbers.{shown_by};
+    ghost view = { λ o. o.numbers };
 
-    ghost view = { λ o. shown_by o.numbers };
-
-    ghost invariant = { λ o. o.edges.items ≡ edges_of (shown_by o.numbers) };
+    ghost invariant = { λ o. o.edges.items ≡ edges_of o.numbers };
 }
 
 impl Observation {
@@ -54,7 +52,7 @@ impl Observation {
     pub fn lies_in_range(&self)
         ensures { ObservationInRange self.now }
     {
-        let _ = &self.numbers;
+        self.numbers.lies_in_range();
     }
 
     /// How many channels a spectrum has.
@@ -91,6 +89,7 @@ impl Observation {
         ensures falls { AreEdges self.now.channels result.now }
     {
         edges_fall();
+        self.numbers.lies_in_range();
         self.edges.as_slice()
     }
 

@@ -160,10 +160,7 @@ is c wide = accepted _ _ _ _ _ _ _ _ _ _ (taken c) c.accepted_by_rows.ensures wi
 pub invariant_of-result : goal.invariant_of-result
 invariant_of-result c =
     let here = (goal.at.invariant_of-result c).After-unsigned_abs-width_hz in
-    record {
-      in_range = c.accepted_is_in_range.ensures (fields_of c.args.header.now.text) _
-          (is here c.if-width_hz-channels.false);
-    }
+    c.accepted_is_in_range.ensures (fields_of c.args.header.now.text) _ (is here c.if-width_hz-channels.false)
 
 pub returns-clause-ok : goal.returns-clause-ok
 returns-clause-ok c = is (goal.at.returns-clause-ok c).After-unsigned_abs-width_hz c.if-width_hz-channels.false
