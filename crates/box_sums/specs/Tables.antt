@@ -15,7 +15,8 @@ AreBoxes boxes stride levels row total = (m i : ℕ) → m ≤ levels → i + 2 
     → slice_index boxes (m * stride + i) ≡ sum_from row i (2 ^ m)
 
 -- what stands behind is as large as it has to be, and the boxes are those of the row that was fed last
-pub record TablesAreSound (first last chunk widest bound newest : ℕ) (fed kept boxes : List ℕ) : Type 0 where
+pub record TablesAreSound (first last chunk widest bound newest : ℕ)
+    (fed kept boxes : List ℕ) : Type 0 where
   pub order : first ≤ last
   pub few_rows : last ≤ 8192
   pub some : 1 ≤ chunk
@@ -30,4 +31,5 @@ pub record TablesAreSound (first last chunk widest bound newest : ℕ) (fed kept
   pub short : AreUpTo chunk fed
   pub small : AreUpTo bound kept
   pub sums : (m : ℕ) → 2 ^ m ≤ widest → AreBoxes boxes (widest - 1 + chunk) m
-      (row_at kept (widest - 1 + chunk) (newest - first)) (widest - 1 + slice_index fed (newest - first))
+      (row_at kept (widest - 1 + chunk) (newest - first))
+      (widest - 1 + slice_index fed (newest - first))

@@ -19,7 +19,8 @@ next_at books places k = slice_get (kept_at books k) (slice_index places k)
 pub record IsFirst (next : ℕ → Option Candidate) (n : ℕ) (found : Next) : Type 0 where
   pub within : found.book < n
   pub is_next : next found.book ≡ Some found.candidate
-  pub first : (k : ℕ) → k < n → (other : Candidate) → next k ≡ Some other → ¬ Precedes other found.candidate
+  pub first : (k : ℕ) → k < n → (other : Candidate) → next k ≡ Some other →
+      ¬ Precedes other found.candidate
 
 -- it was found, or none stands next in any of them
 abbrev pub FindsFirst : (ℕ → Option Candidate) → ℕ → Option Next → Type 0

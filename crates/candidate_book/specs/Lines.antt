@@ -10,6 +10,7 @@ pub record Pending (text waiting : List ℕ) (old now : SinkSeen) : Type 0 where
   pub wrote : WroteAll front old now
 
 -- the text waits or was written; at a fault its front was written
-pub record Passed {T E : Type 0} (text waiting : List ℕ) (old now : SinkSeen) (result : Result T E) : Type 0 where
+pub record Passed {T E : Type 0} (text waiting : List ℕ) (old now : SinkSeen)
+    (result : Result T E) : Type 0 where
   pub pending : OnOk result (Pending text waiting old now)
   pub front : OnErr result (WroteFront text old now)

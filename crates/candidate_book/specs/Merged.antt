@@ -14,14 +14,14 @@ pub record AreTotals (list : List Candidate) (totals : Totals) : Type 0 where
 
 -- the lines of a list were passed on, and it was counted
 pub record Listed {E : Type 0}
-    (labels : Labels) (list : List Candidate) (waiting : List ℕ) (old now : SinkSeen) (result : Result Totals E)
-    : Type 0 where
+    (labels : Labels) (list : List Candidate) (waiting : List ℕ) (old now : SinkSeen)
+    (result : Result Totals E) : Type 0 where
   pub lines : Passed (candidate_lines labels list) waiting old now result
   pub totals : IfOk result (AreTotals list)
 
 -- the text of a list was written, or its front at a fault, and the list was counted
 pub record WroteText {E : Type 0}
-    (labels : Labels) (spectra : ℕ) (list : List Candidate) (old new : SinkSeen) (result : Result Totals E)
-    : Type 0 where
+    (labels : Labels) (spectra : ℕ) (list : List Candidate) (old new : SinkSeen)
+    (result : Result Totals E) : Type 0 where
   pub text : Wrote (candidate_text labels spectra list) old new result
   pub totals : IfOk result (AreTotals list)

@@ -1,4 +1,5 @@
 -- What a call on one of the rings answers and leaves.
+-- Source: PSRDADA manual (a header ring and a data ring as one data unit); the answers are this project's choice.
 use Rattle.std.specs.Prelude.{◌≡◌, ℕ, true, false, List, length, Result, MatchResult, OnOk, OnErr}
 use Rattle.dada_model.specs.Fields.{HeaderText, header_bytes}
 use Rattle.ring_blocks.specs.declared.Entry.{Entry}
@@ -29,8 +30,8 @@ WriteAnswers old block result new = MatchResult result
     (λ stop. IsWriteStop (writer_knows old) stop (writer_knows new))
 
 -- the next block was copied to the front of `into`, which is `into'` then; or none was, and why
-pub record ReadAnswers (old : ReaderPass) (into : List ℕ) (result : Result Taken ReadStop) (new : ReaderPass)
-    (into' : List ℕ) : Type 0 where
+pub record ReadAnswers (old : ReaderPass) (into : List ℕ) (result : Result Taken ReadStop)
+    (new : ReaderPass) (into' : List ℕ) : Type 0 where
   pub cases : MatchResult result
       (λ taken. IsRead (reader_knows old) into taken (reader_knows new) into')
       (λ stop. IsReadStop (reader_knows old) stop (reader_knows new))

@@ -1,4 +1,5 @@
 -- What is known once all passes are back.
+-- Source: PSRDADA manual (a header ring and a data ring as one data unit); what is counted is this project's choice.
 use Rattle.std.specs.Prelude.{◌≡◌, ℕ, ◌<◌, ◌≤◌, All, List, length, slice_get, Option, Some}
 use Rattle.ring_blocks.specs.declared.Entry.{Entry}
 use Rattle.ring_words.specs.declared.views.ReaderView.{ReaderView}
@@ -45,5 +46,5 @@ pub record RingFinished (ring : Ring) (writer : WriterPass) (part : HduEnded →
   pub sized : All (λ e. length e.bytes ≤ (ring_shape ring).size) (sealed_at_end finished)
   pub begins : (i : ℕ) → i < (ring_shape ring).readers →
       Begins (cleared_at_end finished i) (sealed_at_end finished)
-  pub next : (i : ℕ) (r : ReaderView) (e : Entry) → reader_at_end finished i ≡ Some r → r.got ≡ Some e →
-      slice_get (sealed_at_end finished) (length r.cleared) ≡ Some e
+  pub next : (i : ℕ) (r : ReaderView) (e : Entry) → reader_at_end finished i ≡ Some r →
+      r.got ≡ Some e → slice_get (sealed_at_end finished) (length r.cleared) ≡ Some e

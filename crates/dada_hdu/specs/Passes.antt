@@ -1,4 +1,5 @@
 -- What clauses see of two rings and of the passes of their threads.
+-- Source: PSRDADA manual (a header ring and a data ring as one data unit); the passes are this project's choice.
 use Rattle.std.specs.Prelude.{◌≡◌, ℕ, ◌+◌, false, List, slice_get, Option, Some, option_map, map}
 use Rattle.ring_words.specs.declared.shape.RingShape.{RingShape}
 use Rattle.ring_words.specs.Views.{fresh_reader, seated_writer}

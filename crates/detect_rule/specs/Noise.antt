@@ -21,5 +21,6 @@ StandsOut noise sum cells = IsDetected noise.mean noise.sd noise.snr sum cells
 
 -- of the sums below 2^32, exactly those stand out that are at least a least one; with none, no sum does
 abbrev pub StandOutFrom : Noise → ℕ → Option ℕ → Type 0
-StandOutFrom noise cells (Some least) = (sum : ℕ) → sum < 2 ^ 32 → StandsOut noise sum cells ↔ (least ≤ sum)
+StandOutFrom noise cells (Some least) =
+    (sum : ℕ) → sum < 2 ^ 32 → StandsOut noise sum cells ↔ (least ≤ sum)
 StandOutFrom noise cells None = (sum : ℕ) → sum < 2 ^ 32 → ¬ StandsOut noise sum cells

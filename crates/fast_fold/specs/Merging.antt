@@ -29,4 +29,5 @@ IsMerged merged halves p rows trials = (j q : ℕ) → j < trials → q < p
 -- the first blocks of twice `rows` trials, merged of twice as many of `rows` trials
 abbrev pub AreMerged : List ℕ → List ℕ → ℕ → ℕ → ℕ → Type 0
 AreMerged merged sums p rows blocks = (b j q : ℕ) → b < blocks → j < 2 * rows → q < p
-    → at merged p (b * (2 * rows) + j) q ≡ merged_at sums p (b * (2 * rows)) (b * (2 * rows) + rows) j q
+    → at merged p (b * (2 * rows) + j) q
+    ≡ merged_at sums p (b * (2 * rows)) (b * (2 * rows) + rows) j q

@@ -9,7 +9,8 @@ wrapping_sum x y = (x + y) % 2 ^ 32
 
 -- each value is the sum of those of a and b in 32 bits
 abbrev pub AddsWrapping : List ℕ → List ℕ → List ℕ → Type 0
-AddsWrapping out a b = (k : ℕ) → slice_index out k ≡ wrapping_sum (slice_index a k) (slice_index b k)
+AddsWrapping out a b =
+    (k : ℕ) → slice_index out k ≡ wrapping_sum (slice_index a k) (slice_index b k)
 
 -- each value is the plain sum of those of a and b, where that fits into 32 bits
 abbrev pub AddsPlainly : List ℕ → List ℕ → List ℕ → Type 0

@@ -20,12 +20,14 @@ cell channels nbit npol bytes place t = sample_at nbit npol bytes (t * channels 
 
 -- row c begins at c * chunk, and has the samples of the first `count` spectra of the bytes
 abbrev pub AreUnpacked : ℕ → Bool → ℕ → ℕ → ℕ → List ℕ → List ℕ → ℕ → Type 0
-AreUnpacked channels is_falling nbit npol chunk bytes rows count = (c t : ℕ) → c < channels → t < count
-    → slice_index rows (c * chunk + t) ≡ cell channels nbit npol bytes (channel_place channels is_falling c) t
+AreUnpacked channels is_falling nbit npol chunk bytes rows count =
+    (c t : ℕ) → c < channels → t < count
+    → slice_index rows (c * chunk + t)
+    ≡ cell channels nbit npol bytes (channel_place channels is_falling c) t
 
 -- what stands behind is as large as it has to be, and the whole spectra are unpacked
-pub record RowsAreSound (channels : ℕ) (is_falling : Bool) (nbit npol chunk spectrum filled ready : ℕ)
-    (held rows : List ℕ) : Type 0 where
+pub record RowsAreSound (channels : ℕ) (is_falling : Bool)
+    (nbit npol chunk spectrum filled ready : ℕ) (held rows : List ℕ) : Type 0 where
   pub some_channels : 2 ≤ channels
   pub most_channels : channels ≤ 4096
   pub some_spectra : 1 ≤ chunk

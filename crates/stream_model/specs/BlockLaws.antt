@@ -1,4 +1,5 @@
 -- Laws of block streams; the functions of this crate carry them.
+-- Source: PSRDADA manual (transfers, end of data); the marks and blocks are this project's choice.
 use Rattle.std.specs.Prelude.{◌≡◌, ℕ, true, false, ◌||◌, ◌+◌, ◌-◌, ◌*◌, ◌/◌, ◌<◌, ◌≤◌, All, List, [], ◌∷◌, ◌++◌, length, take, slice_get, Some}
 use mathlib.Core.List.{IsPrefix}
 use Rattle.ring_blocks.specs.declared.Entry.{Entry}
@@ -11,7 +12,8 @@ use Rattle.stream_model.specs.Blocks.{full_entries, transfer_entries, whole_stre
 -- stream all data, and those of an abandoned stream the data of the transfers before and the full blocks after them.
 pub record BytesAreJoined : Type 0 where
   pub append : (xs ys : List Entry) → joined_bytes (xs ++ ys) ≡ joined_bytes xs ++ joined_bytes ys
-  pub full : (size : ℕ) (bytes : List ℕ) (n : ℕ) → joined_bytes (full_entries size bytes n) ≡ take (n * size) bytes
+  pub full : (size : ℕ) (bytes : List ℕ) (n : ℕ) →
+      joined_bytes (full_entries size bytes n) ≡ take (n * size) bytes
   pub whole : (size : ℕ) (transfers : List (List ℕ)) →
       joined_bytes (whole_stream size transfers) ≡ joined_data transfers
   pub abandoned : (size max_bytes : ℕ) (before : List (List ℕ)) (read : List ℕ) →
@@ -22,7 +24,8 @@ pub record BytesAreJoined : Type 0 where
 pub record BlocksFit : Type 0 where
   pub full : (size : ℕ) (bytes : List ℕ) (n : ℕ) → n * size ≤ length bytes →
       All (λ e. (e.mark ≡ More) × (length e.bytes ≡ size)) (full_entries size bytes n)
-  pub whole : (size : ℕ) (transfers : List (List ℕ)) → 0 < size → All (FitsBlock size) (whole_stream size transfers)
+  pub whole : (size : ℕ) (transfers : List (List ℕ)) → 0 < size →
+      All (FitsBlock size) (whole_stream size transfers)
   pub abandoned : (size max_bytes : ℕ) (before : List (List ℕ)) (read : List ℕ) → 0 < size →
       All (FitsBlock size) (abandoned_stream size max_bytes before read)
   pub at_most : (size : ℕ) (e : Entry) → FitsBlock size e → length e.bytes ≤ size
@@ -31,7 +34,8 @@ pub record BlocksFit : Type 0 where
 pub record StreamsAreShort : Type 0 where
   pub so_far : (size max_bytes : ℕ) (before : List (List ℕ)) (bytes : List ℕ) (n : ℕ) → 0 < size →
       length (joined_data before) + n * size ≤ max_bytes →
-      length (whole_stream size before ++ full_entries size bytes n) ≤ max_bytes / size + length before
+      length (whole_stream size before ++ full_entries size bytes n)
+      ≤ max_bytes / size + length before
   pub whole : (size max_bytes : ℕ) (transfers : List (List ℕ)) → 0 < size →
       length (joined_data transfers) ≤ max_bytes →
       length (whole_stream size transfers) ≤ max_bytes / size + length transfers
@@ -48,7 +52,8 @@ pub record StreamsGrow : Type 0 where
   pub append : (size : ℕ) (xs ys : List (List ℕ)) →
       whole_stream size (xs ++ ys) ≡ whole_stream size xs ++ whole_stream size ys
   pub transfer : (size : ℕ) (before : List (List ℕ)) (bytes : List ℕ) →
-      whole_stream size (before ++ bytes ∷ []) ≡ whole_stream size before ++ transfer_entries size bytes
+      whole_stream size (before ++ bytes ∷ [])
+      ≡ whole_stream size before ++ transfer_entries size bytes
   pub joined : (xs ys : List (List ℕ)) → joined_data (xs ++ ys) ≡ joined_data xs ++ joined_data ys
 
 -- What was sealed of a transfer begins the stream, however its data, and the transfers after it, go on: to their end,
@@ -70,24 +75,28 @@ pub record StreamsBegin : Type 0 where
 
 -- How many transfers have ended, and whether the stream was given up
 pub record EndsAreCounted : Type 0 where
-  pub append : (xs ys : List Entry) → ended_transfers (xs ++ ys) ≡ ended_transfers xs + ended_transfers ys
+  pub append : (xs ys : List Entry) →
+      ended_transfers (xs ++ ys) ≡ ended_transfers xs + ended_transfers ys
   pub whole : (size : ℕ) (transfers : List (List ℕ)) →
       ended_transfers (whole_stream size transfers) ≡ length transfers
   pub abandoned : (size max_bytes : ℕ) (before : List (List ℕ)) (read : List ℕ) →
       ended_transfers (abandoned_stream size max_bytes before read) ≡ length before
   pub cut_append : (xs ys : List Entry) → has_cut (xs ++ ys) ≡ (has_cut xs || has_cut ys)
-  pub whole_uncut : (size : ℕ) (transfers : List (List ℕ)) → has_cut (whole_stream size transfers) ≡ false
+  pub whole_uncut : (size : ℕ) (transfers : List (List ℕ)) →
+      has_cut (whole_stream size transfers) ≡ false
   pub abandoned_cut : (size max_bytes : ℕ) (before : List (List ℕ)) (read : List ℕ) →
       has_cut (abandoned_stream size max_bytes before read) ≡ true
 
 -- A stream is over at its last entry and no sooner: a beginning that is over is all of it
 pub record StreamsStopOnce : Type 0 where
   pub whole : (size : ℕ) (transfers : List (List ℕ)) (front rest : List Entry) →
-      front ++ rest ≡ whole_stream size transfers → is_over (length transfers) front ≡ true → rest ≡ []
+      front ++ rest ≡ whole_stream size transfers → is_over (length transfers) front ≡ true →
+      rest ≡ []
   pub whole_over : (size : ℕ) (transfers : List (List ℕ)) →
       is_over (length transfers) (whole_stream size transfers) ≡ true
-  pub abandoned : (size max_bytes : ℕ) (before : List (List ℕ)) (read : List ℕ) (n : ℕ) (front rest : List Entry) →
-      length before < n → front ++ rest ≡ abandoned_stream size max_bytes before read → is_over n front ≡ true →
+  pub abandoned : (size max_bytes : ℕ) (before : List (List ℕ)) (read : List ℕ) (n : ℕ)
+      (front rest : List Entry) → length before < n →
+      front ++ rest ≡ abandoned_stream size max_bytes before read → is_over n front ≡ true →
       rest ≡ []
   pub abandoned_over : (size max_bytes : ℕ) (before : List (List ℕ)) (read : List ℕ) (n : ℕ) →
       is_over n (abandoned_stream size max_bytes before read) ≡ true
@@ -101,16 +110,18 @@ pub record EntriesAreOfTransfers : Type 0 where
   pub done : (k : ℕ) (xs ys : List Entry) → k < ended_transfers xs →
       transfer_bytes k (xs ++ ys) ≡ transfer_bytes k xs
   pub open_still : (k : ℕ) (xs ys : List Entry) → ended_transfers xs ≤ k →
-      transfer_bytes k (xs ++ ys) ≡ transfer_bytes k xs ++ transfer_bytes (k - ended_transfers xs) ys
+      transfer_bytes k (xs ++ ys)
+      ≡ transfer_bytes k xs ++ transfer_bytes (k - ended_transfers xs) ys
   pub to_come : (k : ℕ) (xs : List Entry) → ended_transfers xs < k → transfer_bytes k xs ≡ []
 
 -- The bytes of transfer k of a whole stream are its data, and so are they in an abandoned one, but that the transfer in
 -- which it stops has the bytes of its full blocks alone
 pub record StreamsHaveTransfers : Type 0 where
-  pub whole : (size : ℕ) (transfers : List (List ℕ)) (k : ℕ) (bytes : List ℕ) → slice_get transfers k ≡ Some bytes →
-      transfer_bytes k (whole_stream size transfers) ≡ bytes
-  pub abandoned : (size max_bytes : ℕ) (before : List (List ℕ)) (read : List ℕ) (k : ℕ) (bytes : List ℕ) →
-      slice_get before k ≡ Some bytes → transfer_bytes k (abandoned_stream size max_bytes before read) ≡ bytes
+  pub whole : (size : ℕ) (transfers : List (List ℕ)) (k : ℕ) (bytes : List ℕ) →
+      slice_get transfers k ≡ Some bytes → transfer_bytes k (whole_stream size transfers) ≡ bytes
+  pub abandoned : (size max_bytes : ℕ) (before : List (List ℕ)) (read : List ℕ) (k : ℕ)
+      (bytes : List ℕ) → slice_get before k ≡ Some bytes →
+      transfer_bytes k (abandoned_stream size max_bytes before read) ≡ bytes
   pub stopped : (size max_bytes : ℕ) (before : List (List ℕ)) (read : List ℕ) →
       transfer_bytes (length before) (abandoned_stream size max_bytes before read)
       ≡ take (blocks_before_stop size max_bytes before read * size) read

@@ -24,12 +24,14 @@ cut_entry = record { mark = Cut; bytes = [] }
 -- the first n blocks of the data, where each is full: block i has the bytes from i * size on
 unfoldable pub full_entries : ℕ → List ℕ → ℕ → List Entry
 full_entries size bytes zero = []
-full_entries size bytes (suc n) = full_entries size bytes n ++ full_entry (take size (drop (n * size) bytes)) ∷ []
+full_entries size bytes (suc n) =
+    full_entries size bytes n ++ full_entry (take size (drop (n * size) bytes)) ∷ []
 
 -- of a transfer: its full blocks, and then the rest of its data, which may be empty
 unfoldable pub transfer_entries : ℕ → List ℕ → List Entry
 transfer_entries size bytes =
-    full_entries size bytes (length bytes / size) ++ last_entry (drop (length bytes / size * size) bytes) ∷ []
+    full_entries size bytes (length bytes / size)
+    ++ last_entry (drop (length bytes / size * size) bytes) ∷ []
 
 -- a whole stream: the entries of all transfers in order
 unfoldable pub whole_stream : ℕ → List (List ℕ) → List Entry
@@ -42,7 +44,8 @@ joined_data transfers = flat_map (λ bytes. bytes) transfers
 -- How many full blocks of a transfer go out where the stream stops after some of its bytes were read: those that lie
 -- within the bytes read, and within what the transfers before leave of the limit
 abbrev pub blocks_before_stop : ℕ → ℕ → List (List ℕ) → List ℕ → ℕ
-blocks_before_stop size max_bytes before read = min (length read) (max_bytes - length (joined_data before)) / size
+blocks_before_stop size max_bytes before read =
+    min (length read) (max_bytes - length (joined_data before)) / size
 
 -- an abandoned stream: the transfers before the one in which the stop falls, the full blocks of that one, and a Cut
 unfoldable pub abandoned_stream : ℕ → ℕ → List (List ℕ) → List ℕ → List Entry
@@ -81,8 +84,10 @@ is_over transfers entries = nat_le transfers (ended_transfers entries) || has_cu
 -- the bytes of transfer k, from 0 on: those after k entries marked End, up to the next
 unfoldable pub transfer_bytes : ℕ → List Entry → List ℕ
 transfer_bytes k [] = []
-transfer_bytes zero (entry ∷ entries) = entry.bytes ++ (if is_end entry.mark then [] else transfer_bytes zero entries)
-transfer_bytes (suc k) (entry ∷ entries) = transfer_bytes (if is_end entry.mark then k else suc k) entries
+transfer_bytes zero (entry ∷ entries) =
+    entry.bytes ++ (if is_end entry.mark then [] else transfer_bytes zero entries)
+transfer_bytes (suc k) (entry ∷ entries) =
+    transfer_bytes (if is_end entry.mark then k else suc k) entries
 
 -- a block that is marked More is full, one that is marked End is shorter, and one that is marked Cut is empty
 abbrev pub HasLength : ℕ → Mark → ℕ → Type 0

@@ -75,7 +75,8 @@ recorded_file r bytes i = record {
 
 -- the files of a transfer's data, in order
 unfoldable pub recorded_files : Recording → List ℕ → List NamedBytes
-recorded_files r bytes = map (recorded_file r bytes) (range_with_len 0 (file_count r.file_size bytes))
+recorded_files r bytes =
+    map (recorded_file r bytes) (range_with_len 0 (file_count r.file_size bytes))
 
 -- ---- what can't be recorded
 
@@ -93,10 +94,12 @@ time_refusal (Some text) = if is_time text then None else Some BadTime
 
 -- the text fits where it is shorter than the header
 abbrev pub room_refusal : ℕ → List ℕ → Option RecordRefusal
-room_refusal size text = if nat_lt (length text) size then None else Some (NoRoom (length text) size)
+room_refusal size text =
+    if nat_lt (length text) size then None else Some (NoRoom (length text) size)
 
 abbrev pub number_refusal : ℕ → ℕ → Option RecordRefusal
-number_refusal file_size max_bytes = if nat_lt (file_size * 1000000) max_bytes then Some TooManyFiles else None
+number_refusal file_size max_bytes =
+    if nat_lt (file_size * 1000000) max_bytes then Some TooManyFiles else None
 
 abbrev pub or_else : Option RecordRefusal → Option RecordRefusal → Option RecordRefusal
 or_else (Some refusal) later = Some refusal

@@ -80,7 +80,8 @@ offset_stop k expected (Ok found) = if found == expected then None else Some (Ga
 -- what is wrong with a header of an observation with this profile, where its OBS_OFFSET is expected to be this one
 abbrev pub later_stop : ℕ → Profile → ℕ → Result HeaderText HeaderRefusal → Option WalkStop
 later_stop k profile expected (Err refusal) = Some (BadText k refusal)
-later_stop k profile expected (Ok header) = offset_stop k expected (later_offset_of profile (fields_of header.text))
+later_stop k profile expected (Ok header) =
+    offset_stop k expected (later_offset_of profile (fields_of header.text))
 
 -- why the header of file k stops the walk: it is judged as that of a later file of its transfer, after the data of the
 -- transfer's files before it. The law is above that the first file of a transfer never stops it
@@ -88,7 +89,8 @@ unfoldable pub header_stop : FileStream → ℕ → Option WalkStop
 header_stop s k =
     let begin = begin_of s (transfer_of s.starts k) in
     let first = observation_at (file_at s begin) in
-    later_stop k (profile_of first) (first.obs_offset + length (data_between s.files begin k)) (header_of (file_at s k))
+    later_stop k (profile_of first) (first.obs_offset + length (data_between s.files begin k))
+    (header_of (file_at s k))
 
 -- why the data of file k do: with those of all files before it they are more than the limit
 unfoldable pub length_stop : FileStream → ℕ → Option WalkStop
@@ -117,7 +119,8 @@ walk_stop s = first_or_whole (filter_map (stop_at s) (range_with_len 0 (length s
 abbrev pub stream_before : ℕ → FileStream → ℕ → ℕ → List Entry
 stream_before size s k to =
     let transfer = transfer_of s.starts k in
-    abandoned_stream size s.max_bytes (take transfer (walk_data s)) (data_between s.files (begin_of s transfer) to)
+    abandoned_stream size s.max_bytes (take transfer (walk_data s))
+    (data_between s.files (begin_of s transfer) to)
 
 -- the block stream of a walk with this stop: whole, or abandoned after what was read before the stop
 abbrev pub stream_to : ℕ → FileStream → WalkStop → List Entry

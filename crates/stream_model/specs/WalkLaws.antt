@@ -1,4 +1,5 @@
 -- Laws of the walk of the files; the functions of this crate carry them.
+-- Source: PSRDADA manual (transfers, OBS_OFFSET); that files follow without a gap is this project's choice.
 use Rattle.std.specs.Prelude.{◌≡◌, ℕ, ◌+◌, ◌<◌, ◌≤◌, ◌↔◌, List, [], ◌∷◌, ◌++◌, length, take, slice_index_or, Some, None, Ok}
 use Rattle.dada_model.specs.Fields.{Field, HeaderText, header_of, fields_of}
 use Rattle.dada_model.specs.Observation.{Observation, observation_of}
@@ -12,7 +13,8 @@ use Rattle.stream_model.specs.Walk.{FileStream, WalkStop, Whole, data_of, data_b
 pub record AreStarts (starts : List ℕ) (count : ℕ) : Type 0 where
   pub some : 0 < length starts
   pub first : slice_index_or starts 0 count ≡ 0
-  pub rise : (i : ℕ) → i + 1 < length starts → slice_index_or starts i count < slice_index_or starts (i + 1) count
+  pub rise : (i : ℕ) → i + 1 < length starts →
+      slice_index_or starts i count < slice_index_or starts (i + 1) count
   pub within : (i : ℕ) → i < length starts → slice_index_or starts i count < count
 
 -- a file has a header, and that an observation
@@ -25,7 +27,8 @@ pub record IsAccepted (file : List ℕ) : Type 0 where
 -- what a walk asks of files: they are parted into transfers, and the first file of each transfer is accepted
 pub record AreWalked (s : FileStream) : Type 0 where
   pub starts : AreStarts s.starts (length s.files)
-  pub accepted : (transfer : ℕ) → transfer < length s.starts → IsAccepted (file_at s (begin_of s transfer))
+  pub accepted : (transfer : ℕ) → transfer < length s.starts →
+      IsAccepted (file_at s (begin_of s transfer))
 
 -- file k is one of the transfer
 pub record IsIn (s : FileStream) (transfer k : ℕ) : Type 0 where
@@ -47,7 +50,8 @@ pub record Continues (s : FileStream) (transfer k : ℕ) : Type 0 where
 
 -- a header stops no walk exactly where its file continues its transfer
 abbrev pub HeadersContinue : Type 0
-HeadersContinue = (s : FileStream) (transfer k : ℕ) → AreStarts s.starts (length s.files) → IsIn s transfer k →
+HeadersContinue =
+    (s : FileStream) (transfer k : ℕ) → AreStarts s.starts (length s.files) → IsIn s transfer k →
     (header_stop s k ≡ None) ↔ Continues s transfer k
 
 -- an accepted header is that of a later file of its own observation, at its own offset
@@ -68,22 +72,26 @@ WholeExactly = (s : FileStream) → (walk_stop s ≡ Whole)
 
 -- a walk stops at the first file that stops it
 abbrev pub FirstStopCounts : Type 0
-FirstStopCounts = (s : FileStream) (k : ℕ) (stop : WalkStop) → ((j : ℕ) → j < k → stop_at s j ≡ None) →
+FirstStopCounts =
+    (s : FileStream) (k : ℕ) (stop : WalkStop) → ((j : ℕ) → j < k → stop_at s j ≡ None) →
     k < length s.files → stop_at s k ≡ Some stop → walk_stop s ≡ stop
 
 -- where no file does, the walk is whole
 abbrev pub NoStopIsWhole : Type 0
-NoStopIsWhole = (s : FileStream) → ((k : ℕ) → k < length s.files → stop_at s k ≡ None) → walk_stop s ≡ Whole
+NoStopIsWhole =
+    (s : FileStream) → ((k : ℕ) → k < length s.files → stop_at s k ≡ None) → walk_stop s ≡ Whole
 
 -- a file between the first and the last of a transfer is in it
 abbrev pub FilesAreInTransfers : Type 0
-FilesAreInTransfers = (s : FileStream) (transfer k : ℕ) → AreStarts s.starts (length s.files) → IsIn s transfer k →
+FilesAreInTransfers =
+    (s : FileStream) (transfer k : ℕ) → AreStarts s.starts (length s.files) → IsIn s transfer k →
     transfer_of s.starts k ≡ transfer
 
 -- the data of one file more
 abbrev pub DataGrow : Type 0
 DataGrow = (files : List (List ℕ)) (from k : ℕ) → from ≤ k → k < length files →
-    data_between files from (k + 1) ≡ data_between files from k ++ data_of (slice_index_or files k [])
+    data_between files from (k + 1)
+    ≡ data_between files from k ++ data_of (slice_index_or files k [])
 
 -- the data of some files and those of the files after them
 abbrev pub DataJoin : Type 0
@@ -96,9 +104,11 @@ DataNone = (files : List (List ℕ)) (k : ℕ) → data_between files k k ≡ []
 
 -- the data of the transfers before, and of the files of a transfer up to one of them, are those of all files before it
 abbrev pub TransfersJoin : Type 0
-TransfersJoin = (s : FileStream) (transfer k : ℕ) → AreStarts s.starts (length s.files) → transfer ≤ length s.starts →
-    begin_of s transfer ≤ k →
-    joined_data (take transfer (walk_data s)) ++ data_between s.files (begin_of s transfer) k ≡ data_between s.files 0 k
+TransfersJoin =
+    (s : FileStream) (transfer k : ℕ) → AreStarts s.starts (length s.files) →
+    transfer ≤ length s.starts → begin_of s transfer ≤ k →
+    joined_data (take transfer (walk_data s)) ++ data_between s.files (begin_of s transfer) k
+    ≡ data_between s.files 0 k
 
 -- the data of a whole walk are the data of all files in order, and each transfer's are those of its files
 abbrev pub WalkJoinsData : Type 0

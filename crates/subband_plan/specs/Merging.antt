@@ -6,8 +6,8 @@ use Rattle.subband_plan.specs.declared.rows.Merge.{Merge}
 use Rattle.subband_plan.specs.Rows.{AreMade, AreWithin}
 
 -- the merges of the first rows
-pub record AreMerges (edges : List ℕ) (nodes : List Node) (starts : List ℕ) (count : ℕ) (merges : List Merge) :
-    Type 0 where
+pub record AreMerges (edges : List ℕ) (nodes : List Node) (starts : List ℕ) (count : ℕ)
+    (merges : List Merge) : Type 0 where
   pub entries : length merges ≡ count
   pub made : AreMade edges nodes starts merges
   pub within : AreWithin (slice_index starts (length nodes)) merges

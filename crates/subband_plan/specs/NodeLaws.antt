@@ -26,7 +26,8 @@ pub record AreLaid (edges : List ℕ) (nodes : List Node) : Type 0 where
 
 -- a plan over n channels has 2 n - 1 nodes, the whole band first, and the halves of each are among them
 abbrev pub PlansAreLaid : Type 0
-PlansAreLaid = (p : BandPlan) → IsPlan p → (AreLaid p.edges (nodes_of p)) × (node_at (nodes_of p) 0 ≡ root p)
+PlansAreLaid =
+    (p : BandPlan) → IsPlan p → (AreLaid p.edges (nodes_of p)) × (node_at (nodes_of p) 0 ≡ root p)
 
 -- of a node's row, the rows that it asks of the halves are rows of theirs
 pub record HalvesHave (edges : List ℕ) (n : Node) (d : ℕ) : Type 0 where
@@ -35,7 +36,8 @@ pub record HalvesHave (edges : List ℕ) (n : Node) (d : ℕ) : Type 0 where
   pub lower : HasRow (lower_half edges n) (d - split_of edges n d)
 
 abbrev pub AskedRowsAreThere : Type 0
-AskedRowsAreThere = (edges : List ℕ) (n : Node) (d : ℕ) → AreEdges (channels_of edges) edges → IsBranch edges n →
+AskedRowsAreThere =
+    (edges : List ℕ) (n : Node) (d : ℕ) → AreEdges (channels_of edges) edges → IsBranch edges n →
     n.lo + 2 ≤ n.hi → HasRow n d → HalvesHave edges n d
 
 -- the halves have channels of the band, and rows in order

@@ -51,7 +51,13 @@ tree (suc depth) edges n =
 
 -- the whole band
 abbrev pub root : BandPlan → Node
-root p = record { lo = 0; hi = channels_of p.edges; first_row = p.first; last_row = p.last; tail = 0 }
+root p = record {
+  lo = 0;
+  hi = channels_of p.edges;
+  first_row = p.first;
+  last_row = p.last;
+  tail = 0;
+}
 
 -- the nodes of a plan; 4096 channels are halved 12 times
 abbrev pub nodes_of : BandPlan → List Node
@@ -59,7 +65,8 @@ nodes_of p = tree 12 p.edges (root p)
 
 -- node k
 abbrev pub node_at : List Node → ℕ → Node
-node_at nodes k = slice_index_or nodes k (record { lo = 0; hi = 0; first_row = 0; last_row = 0; tail = 0 })
+node_at nodes k =
+    slice_index_or nodes k (record { lo = 0; hi = 0; first_row = 0; last_row = 0; tail = 0 })
 
 -- how many rows a node has
 abbrev pub row_count : Node → ℕ
@@ -103,4 +110,5 @@ kept_count n = n.last_row + 1 - least_row n
 
 -- the node and those below it were appended
 abbrev pub IsGrown : List ℕ → List Node → Node → List Node → Type 0
-IsGrown edges before n after = (depth : ℕ) → n.hi ≤ n.lo + 2 ^ depth → after ≡ before ++ tree depth edges n
+IsGrown edges before n after =
+    (depth : ℕ) → n.hi ≤ n.lo + 2 ^ depth → after ≡ before ++ tree depth edges n

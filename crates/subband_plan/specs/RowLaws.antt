@@ -22,7 +22,8 @@ pub record AreNumbered (edges : List ℕ) (nodes : List Node) (starts : List ℕ
       HasKept (lower_half edges (node_at nodes k)) (d - split_of edges (node_at nodes k) d)
   pub of_two : (k : ℕ) → (node_at nodes k).lo + 2 ≤ (node_at nodes k).hi →
       least_row (node_at nodes k) ≡ (node_at nodes k).first_row
-  pub of_one : (k : ℕ) → (node_at nodes k).hi ≤ (node_at nodes k).lo + 1 → least_row (node_at nodes k) ≡ 0
+  pub of_one : (k : ℕ) → (node_at nodes k).hi ≤ (node_at nodes k).lo + 1 →
+      least_row (node_at nodes k) ≡ 0
 
 abbrev pub RowsAreNumbered : Type 0
 RowsAreNumbered = (edges : List ℕ) (nodes : List Node) (starts : List ℕ) → AreLaid edges nodes →

@@ -26,8 +26,10 @@ row_of starts k n d = slice_index starts k + (d - least_row n)
 
 -- Of which rows the row of delay d of n, which is node k, is made. The upper one ends `late` spectra before the lower
 -- one. A single channel's row is that of delay 0, as much earlier as the row's delay, added to the row before.
-pub record IsMade (edges : List ℕ) (starts : List ℕ) (k : ℕ) (n : Node) (d : ℕ) (m : Merge) : Type 0 where
-  pub upper : n.lo + 2 ≤ n.hi → m.upper ≡ row_of starts (k + 1) (upper_half edges n) (split_of edges n d)
+pub record IsMade (edges : List ℕ) (starts : List ℕ) (k : ℕ) (n : Node) (d : ℕ)
+    (m : Merge) : Type 0 where
+  pub upper : n.lo + 2 ≤ n.hi →
+      m.upper ≡ row_of starts (k + 1) (upper_half edges n) (split_of edges n d)
   pub lower : n.lo + 2 ≤ n.hi →
       m.lower ≡ row_of starts (lower_number n k) (lower_half edges n) (d - split_of edges n d)
   pub late : n.lo + 2 ≤ n.hi → m.late ≡ d - split_of edges n d
@@ -42,7 +44,8 @@ merge_at merges r = slice_index_or merges r (record { upper = 0; lower = 0; late
 abbrev pub AreMade : List ℕ → List Node → List ℕ → List Merge → Type 0
 AreMade edges nodes starts merges = (k d : ℕ) → k < length nodes → HasKept (node_at nodes k) d →
     row_of starts k (node_at nodes k) d < length merges →
-    IsMade edges starts k (node_at nodes k) d (merge_at merges (row_of starts k (node_at nodes k) d))
+    IsMade edges starts k (node_at nodes k) d
+    (merge_at merges (row_of starts k (node_at nodes k) d))
 
 -- each row is made of rows that there are
 pub record IsWithin (rows : ℕ) (m : Merge) : Type 0 where
