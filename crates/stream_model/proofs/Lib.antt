@@ -8,4 +8,8 @@ pub mod Stops
 pub mod FileData
 pub mod Transfers
 pub mod Itself
+pub mod Overwritten
+pub mod Alike
+pub mod Padded
+pub mod Rooms
 pub mod WorkedWalk

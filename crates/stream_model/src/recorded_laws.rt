@@ -1,0 +1,27 @@
+// Laws of recorded files, which the contracts of functions that do nothing carry. A caller whose proof needs a law
+// calls its function.
+ghost use Rattle.stream_model.specs.RecordedLaws.{ChangesStayAlike, EachHeaderHasRoom};
+
+// Laws: they do nothing when they run, and the proofs use what they ensure.
+use dada_model::{
+    blank_keeps_length, change_gives_value, change_keeps_others, fields_by_lines,
+    first_word_of_line,
+};
+
+/// Texts that are alike stay so where a key gets values of one width.
+pub fn changes_stay_alike()
+    ensures { ChangesStayAlike }
+{
+    first_word_of_line();
+    fields_by_lines();
+    change_gives_value();
+    change_keeps_others();
+    blank_keeps_length();
+}
+
+/// Where a recording isn't refused, the header of each file has room for its changes.
+pub fn each_header_has_room()
+    ensures { EachHeaderHasRoom }
+{
+    changes_stay_alike();
+}
