@@ -1,5 +1,6 @@
 pub mod Parted
 pub mod Faults
 pub mod Digits
+pub mod Starts
 pub mod Ranges
 pub mod Rules

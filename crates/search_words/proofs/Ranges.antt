@@ -1,5 +1,5 @@
 -- Where no option is out of its range, each value is in its row.
-use Rattle.std.proofs.Common.{◌≡◌, ℕ, ◌+◌, ap, ◌<◌, ◌≤◌, Bool, true, false, ◌&&◌, not, cond, List, [], ◌∷◌, length, get_or, refl, arith, zero, suc, lit<}
+use Rattle.std.proofs.Common.{◌≡◌, ℕ, ◌<◌, ◌≤◌, Bool, true, false, not, cond, List, [], ◌∷◌, length, get_or, refl, arith, zero, suc, lit<}
 use Rattle.std.specs.Prelude.{Option, Some, None, ℤ, pos, negsuc, is_some, unwrap_or, find, nat_le, option_and_then}
 use Rattle.std.specs.Option.{option_map_or}
 use Rattle.std.proofs.lemmas.Bool.{leb-true}
@@ -13,13 +13,9 @@ use Rattle.search_words.specs.declared.table.Row.{Row}
 use Rattle.search_words.specs.declared.table.Program.{Program}
 use Rattle.search_words.specs.Table.{all_options, option_row}
 use Rattle.search_words.specs.Values.{limits_allow, if_allowed, value_in_row, number_read, option_value, option_number, given_word, is_in_range, first_out_of_range, files_of}
-use Rattle.search_words.specs.Transfers.{file_names, transfers_in, starts_after}
+use Rattle.search_words.specs.Transfers.{file_names, transfers_in}
+use Rattle.search_words.proofs.Starts.{both_true, starts_counted, are_starts}
 use Rattle.search_words.specs.Settings.{AllInRange, search_of, settings_of}
-
-parts : (a b : Bool) → (a && b) ≡ true → (a ≡ true) × (b ≡ true)
-parts true true e = (refl, refl)
-parts true false e = (cc)
-parts false b e = (cc)
 
 head_passes : (b : Bool) (opt : Opt) (rest : Option Opt) → cond (not b) (Some opt) rest ≡ None →
     (b ≡ true) × (rest ≡ None)
@@ -88,7 +84,7 @@ allowed program found opt some = allowed_word (option_row opt) (default_allowed 
 
 between_parts : (least most n : ℕ) → limits_allow (Between least most) n ≡ true → (least ≤ n) × (n ≤ most)
 between_parts least most n e =
-    let both = parts (nat_le least n) (nat_le n most) e in (leb-true least n both.0, leb-true n most both.1)
+    let both = both_true (nat_le least n) (nat_le n most) e in (leb-true least n both.0, leb-true n most both.1)
 
 -- where each value is in its range, the search is
 pub search_in_range : (program : Program) (found : List Found) → first_out_of_range program found ≡ None →
@@ -96,7 +92,7 @@ pub search_in_range : (program : Program) (found : List Found) → first_out_of_
 search_in_range program found none =
     let at = in_range_at program found none in
     let max_delay = between_parts 0 8192 _ (allowed program found MaxDelay (at 0 (lit< tt))) in
-    let min_delay = parts _ _ (at 1 (lit< tt)) in
+    let min_delay = both_true _ _ (at 1 (lit< tt)) in
     let snr = between_parts 1 100000 _ (allowed program found Snr (at 2 (lit< tt))) in
     let mean = between_parts 0 200000000 _ (allowed program found Mean (at 3 (lit< tt))) in
     let sd = between_parts 1 200000000 _ (allowed program found Sd (at 4 (lit< tt))) in
@@ -138,10 +134,6 @@ search_in_range program found none =
       };
     }
 
-starts_counted : (n : ℕ) (transfers : List (List (List ℕ))) → length (starts_after n transfers) ≡ length transfers
-starts_counted n [] = refl
-starts_counted n (names ∷ more) = ap suc (starts_counted (n + length names) more)
-
 -- and so is every setting
 pub all_in_range : (program : Program) (found : List Found) → first_out_of_range program found ≡ None →
     AllInRange (settings_of program found)
@@ -155,8 +147,8 @@ all_in_range program found none =
     let file_size = between FileSize 1 1099511627776 (allowed program found FileSize (at 16 (lit< tt))) in
     let max_bytes = between MaxBytes 0 281474976710656 (allowed program found MaxBytes (at 17 (lit< tt))) in
     let files = files_of found in
-    let fit = parts (nat_le (length (file_names files)) 65535) _ (at 19 (lit< tt)) in
-    let few = parts (nat_le (length (transfers_in files)) 8) _ fit.1 in
+    let fit = both_true (nat_le (length (file_names files)) 65535) _ (at 19 (lit< tt)) in
+    let few = both_true (nat_le (length (transfers_in files)) 8) _ fit.1 in
     let transfers : length (transfers_in files) ≤ 8 = leb-true (length (transfers_in files)) 8 few.0 in
     record {
       search = search_in_range program found none;
@@ -173,4 +165,5 @@ all_in_range program found none =
       most_bytes = max_bytes.1;
       most_names = leb-true (length (file_names files)) 65535 fit.0;
       most_transfers = omega (arith, starts_counted 0 (transfers_in files));
+      transfers = are_starts files few.1;
     }

@@ -16,7 +16,7 @@ use Rattle.search_words.specs.declared.fault.WordFault.{WordFault}
 use Rattle.search_words.specs.declared.fault.WordFault.TheVariants.{Refused, OutOfRange, Memory}
 use Rattle.search_words.specs.Command.{TakesWords, matches_on}
 use Rattle.search_words.specs.Values.{option_number, files_of, first_out_of_range}
-use Rattle.search_words.specs.Transfers.{file_names, starts_in}
+use Rattle.search_words.specs.Transfers.{AreTransferStarts, file_names, starts_in}
 
 -- the settings, with the names as texts
 pub record SettingsSeen : Type 0 where
@@ -48,6 +48,7 @@ pub record AllInRange (s : SettingsSeen) : Type 0 where
   pub most_bytes : s.max_bytes ≤ 281474976710656
   pub most_names : length s.names ≤ 65535
   pub most_transfers : length s.starts ≤ 8
+  pub transfers : AreTransferStarts s.starts (length s.names)
 
 -- what settings are seen as
 abbrev pub settings_seen : Settings → SettingsSeen

@@ -1,6 +1,6 @@
 -- The FILE words: names, parted into transfers by the words `+`.
 -- Source: this project's choice.
-use Rattle.std.specs.Prelude.{ℕ, ◌+◌, Bool, ◌&&◌, not, nat_le, nat_lt, List, [], ◌∷◌, filter, length, codes, if◌then◌else◌}
+use Rattle.std.specs.Prelude.{◌≡◌, ℕ, ◌+◌, ◌<◌, Bool, ◌&&◌, not, nat_le, nat_lt, List, [], ◌∷◌, filter, length, slice_index_or, codes, if◌then◌else◌}
 use Rattle.std.specs.List.{list_all}
 use Rattle.std.specs.Str.{bytes_eq}
 
@@ -37,3 +37,11 @@ has_names names = nat_lt 0 (length names)
 abbrev pub files_fit : List (List ℕ) → Bool
 files_fit files = nat_le (length (file_names files)) 65535
     && (nat_le (length (transfers_in files)) 8 && list_all has_names (transfers_in files))
+
+-- transfers begin with these of so many names: the first with name 0, each with a later one than the one before
+pub record AreTransferStarts (starts : List ℕ) (count : ℕ) : Type 0 where
+  pub some : 0 < length starts
+  pub first : slice_index_or starts 0 count ≡ 0
+  pub rise : (i : ℕ) → i + 1 < length starts
+      → slice_index_or starts i count < slice_index_or starts (i + 1) count
+  pub within : (i : ℕ) → i < length starts → slice_index_or starts i count < count
