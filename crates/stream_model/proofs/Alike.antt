@@ -117,16 +117,16 @@ sizes_on laws false key first last one other word word_too same alike e f =
 
 -- ---- their values
 
-bytes_apart : (xs ys : List ℕ) → bytes_eq xs ys ≡ false → xs ≢ ys
+pub bytes_apart : (xs ys : List ℕ) → bytes_eq xs ys ≡ false → xs ≢ ys
 bytes_apart xs ys e same = both_ways (bytes_eq xs ys) e ((bytes_eq-Decides xs ys).1 same)
 
-all_kept : ChangesHold → (key value text other : List ℕ) → IsWord key → IsWord value → other ≢ key →
+pub all_kept : ChangeKeepsOthers → (key value text other : List ℕ) → IsWord key → IsWord value → other ≢ key →
     value_of other (fields_of (changed key value text)) ≡ value_of other (fields_of text)
-all_kept laws key value text other k v apart =
+all_kept keeps key value text other k v apart =
     let n = length (changed key value text) + length text in
     let new : take n (changed key value text) ≡ changed key value text = take_all n (changed key value text) (omega arith) in
     let old : take n text ≡ text = take_all n text (omega arith) in
-    ap (λ (t : List ℕ). value_of other (fields_of t)) (sym new) ∙ laws.keeps key value text other n k v apart
+    ap (λ (t : List ℕ). value_of other (fields_of t)) (sym new) ∙ keeps key value text other n k v apart
     ∙ ap (λ (t : List ℕ). value_of other (fields_of t)) old
 
 widths_on : ChangesHold → (b : Bool) (key first last one two other : List ℕ) → bytes_eq other key ≡ b → IsWord key →
@@ -142,8 +142,8 @@ widths_on laws true key first last one two other is k v w same alike =
     ap (option_map length) left ∙ ap (λ (n : ℕ). Some n) same ∙ sym (ap (option_map length) right)
 widths_on laws false key first last one two other is k v w same alike =
     let apart = bytes_apart other key is in
-    ap (option_map length) (all_kept laws key first one other k v apart) ∙ alike.widths other
-    ∙ sym (ap (option_map length) (all_kept laws key last two other k w apart))
+    ap (option_map length) (all_kept laws.keeps key first one other k v apart) ∙ alike.widths other
+    ∙ sym (ap (option_map length) (all_kept laws.keeps key last two other k w apart))
 
 pub stay_alike : ChangesHold → (key first last one other : List ℕ) → IsWord key → IsWord first → IsWord last →
     length first ≡ length last → AreAlike one other → AreAlike (changed key first one) (changed key last other)

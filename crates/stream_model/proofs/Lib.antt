@@ -12,4 +12,5 @@ pub mod Overwritten
 pub mod Alike
 pub mod Padded
 pub mod Rooms
+pub mod RecordedHeaders
 pub mod WorkedWalk

@@ -1,6 +1,6 @@
 -- Numbers with zeros in front: their digits, widths and values.
-use Rattle.std.proofs.Common.{◌≡◌, ℕ, zero, suc, ◌-◌, ◌^◌, ◌<◌, true, List, [], ◌∷◌, ◌++◌, length, replicate, refl, ◌∙◌, arith}
-use Rattle.std.specs.Prelude.{All}
+use Rattle.std.proofs.Common.{◌≡◌, ℕ, zero, suc, ◌-◌, ◌*◌, ◌/◌, ◌^◌, ◌<◌, true, false, List, [], ◌∷◌, ◌++◌, length, replicate, refl, sym, ap, ◌∙◌, arith, Some, inl, inr}
+use Rattle.std.specs.Prelude.{All, pos}
 use Rattle.std.specs.Char.{IsAsciiDigit, is_ascii_digit}
 use Rattle.std.specs.Fmt.{decimal}
 use Rattle.std.specs.Str.{all_ascii_digits}
@@ -8,9 +8,12 @@ use Rattle.std.specs.Str.Parse.{digits_value}
 use Rattle.std.proofs.lemmas.Bool.{and_parts}
 use Rattle.std.proofs.lemmas.Bool.Decides.{nat_tests}
 use Rattle.std.proofs.lemmas.Fmt.{digits_decimal, decimal_is_IsNumeral, decimal_nonempty, length-decimal-le}
-use Rattle.std.proofs.lemmas.List.{length-append, length-replicate}
+use Rattle.std.proofs.lemmas.List.{append-nil, length-append, length-replicate}
 use Rattle.std.proofs.lemmas.List.Elements.{All-cons, All-append, All-weaker}
+use Rattle.std.proofs.Math.Nat.{div-one}
 use Rattle.std.proofs.lemmas.Str.Parse.{tells_all_ascii_digits, numerals_by_value, IsNumeralModel}
+use Rattle.dada_model.specs.Number.{number_value}
+use Rattle.dada_model.specs.Laws.{Spells, NumbersAreSpelled}
 use Rattle.dada_model.specs.Change.{IsWordByte, IsWord}
 use Rattle.psr_base.specs.Fixed.{padded}
 
@@ -61,3 +64,19 @@ zeros_value (suc m) digits = zeros_value m digits
 
 pub padded_value : (k n : ℕ) → n < 2 ^ 64 → digits_value 10 (padded k n) ≡ n
 padded_value k n h = zeros_value (k - length (decimal n)) (decimal n) ∙ (decimal_is_IsNumeral n h).1
+
+-- a number text of digits alone has their value
+pub padded_number : NumbersAreSpelled → (k n : ℕ) → n < 2 ^ 64 → number_value 0 (padded k n) ≡ Some (pos n)
+padded_number law k n h =
+    let text = padded k n in
+    let whole : text ++ [] ≡ text = append-nil text in
+    let spells : Spells text false text [] = record {
+      sign = [];
+      signed = inl refl;
+      digits = rw whole (padded_digits k n h);
+      some = rw whole (padded_word k n h).some;
+      spelled = inr (refl, refl);
+    } in
+    let value : digits_value 10 (text ++ []) * 10 ^ 0 / 10 ^ length {A = ℕ} [] ≡ n =
+    rw (whole, padded_value k n h, div-one (n * 1)) (omega arith) in
+    (law 0 text (pos n)).1 (false, text, [], spells, ap pos (sym value))

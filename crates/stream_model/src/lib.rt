@@ -12,7 +12,9 @@ pub use block_laws::{
     blocks_fit, bytes_are_joined, ends_are_counted, entries_are_of_transfers, streams_are_short,
     streams_begin, streams_grow, streams_have_transfers, streams_stop_once,
 };
-pub use recorded_laws::{changes_stay_alike, each_header_has_room};
+pub use recorded_laws::{
+    changes_stay_alike, each_header_has_room, headers_keep_observation, headers_keep_values,
+};
 pub use walk_laws::{
     accepted_is_later, data_grow, data_join, data_none, files_are_in_transfers,
     first_files_continue, first_stop_counts, headers_continue, no_stop_is_whole, one_transfer_more,
