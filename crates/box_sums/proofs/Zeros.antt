@@ -2,6 +2,8 @@
 use Rattle.std.proofs.Common.{◌≡◌, ℕ, ◌+◌, ◌-◌, ◌*◌, ◌^◌, ◌<◌, ◌≤◌, inl, inr, [], length, slice_index, take, drop, replicate, ◌++◌, ◌∙◌, sym, ap, subst, arith}
 use Rattle.std.proofs.lemmas.Bool.{cases_lt}
 use Rattle.std.proofs.lemmas.List.{length-replicate, get_or-replicate, get_or_past, get_or-take, get_or-drop, append-nil}
+use Rattle.dada_model.specs.Bounds.{most_delay}
+use Rattle.search_model.specs.Search.{longest_chunk}
 use Rattle.fdmt_rows.specs.Rows.{sum_from}
 use Rattle.box_sums.specs.Tails.{row_at}
 use Rattle.box_sums.specs.Rows.{Keeps, IsWidth}
@@ -50,7 +52,7 @@ zero_boxes n rows stride at total m m' i le room =
     zero_at n (m' * stride + i) ∙ (let zero : 0 ≡ sum_from row i (2 ^ m') = omega (arith, none) in zero)
 
 pub zeros_sound : (first last chunk widest bound : ℕ)
-    → first ≤ last → last ≤ 8192 → 1 ≤ chunk → chunk ≤ 65536 → IsWidth widest → bound * widest < 2 ^ 32
+    → first ≤ last → last ≤ most_delay → 1 ≤ chunk → chunk ≤ longest_chunk → IsWidth widest → bound * widest < 2 ^ 32
     → TablesAreSound first last chunk widest bound first (replicate (last - first + 1) 0)
     (replicate ((last - first + 1) * (widest - 1 + chunk)) 0) (replicate (6 * (widest - 1 + chunk)) 0)
 zeros_sound first last chunk widest bound order few some most width fits =

@@ -1,6 +1,8 @@
 -- The tables that stand behind.
 -- Source: this project's choice.
 use Rattle.std.specs.Prelude.{ℕ, ◌+◌, ◌-◌, ◌*◌, ◌^◌, ◌≡◌, ◌<◌, ◌≤◌, List, length, slice_index}
+use Rattle.dada_model.specs.Bounds.{most_delay}
+use Rattle.search_model.specs.Search.{longest_chunk}
 use Rattle.fdmt_rows.specs.Rows.{sum_from}
 use Rattle.box_sums.specs.Rows.{IsWidth}
 use Rattle.box_sums.specs.Tails.{row_at}
@@ -18,9 +20,9 @@ AreBoxes boxes stride levels row total = (m i : ℕ) → m ≤ levels → i + 2 
 pub record TablesAreSound (first last chunk widest bound newest : ℕ)
     (fed kept boxes : List ℕ) : Type 0 where
   pub order : first ≤ last
-  pub few_rows : last ≤ 8192
+  pub few_rows : last ≤ most_delay
   pub some : 1 ≤ chunk
-  pub most : chunk ≤ 65536
+  pub most : chunk ≤ longest_chunk
   pub width : IsWidth widest
   pub fits : bound * widest < 2 ^ 32
   pub above : first ≤ newest

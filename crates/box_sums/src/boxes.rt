@@ -1,6 +1,8 @@
 // Rows that are fed, and boxes over them.
 ghost use Rattle.std.specs.Prelude.{◌≡◌, ℕ, ◌+◌, ◌-◌, ◌*◌, ◌^◌, ◌<◌, ◌≤◌, ◌≢◌, ◌++◌, List, [], length, sum, slice_index, take, drop, replicate, IfOk};
 ghost use Rattle.std.specs.List.{All};
+ghost use Rattle.dada_model.specs.Bounds.{most_delay};
+ghost use Rattle.search_model.specs.Search.{longest_chunk};
 ghost use Rattle.box_sums.specs.Tails.{RowTails, StandsForRow, KeepsRow, AreAlike, IsOpened, last_feed};
 ghost use Rattle.box_sums.specs.Rows.{IsWidth, SumsAddValues, sum_ending};
 ghost use Rattle.box_sums.specs.Tables.{TablesAreSound};
@@ -58,9 +60,9 @@ impl Boxes {
         bound: u32,
     ) -> Result<Boxes, Memory>
         requires order { first ≤ last }
-        requires rows { last ≤ 8192 }
+        requires rows { last ≤ most_delay }
         requires some { 1 ≤ chunk }
-        requires most { chunk ≤ 65536 }
+        requires most { chunk ≤ longest_chunk }
         requires width { IsWidth widest }
         requires fits { bound * widest < 2 ^ 32 }
         ensures opened { IfOk result (λ b. IsOpened b first last chunk widest bound) }

@@ -35,6 +35,34 @@ delay_count s = s.max_delay + 1 - s.min_delay
 abbrev pub shard_start : Search → ℕ → ℕ
 shard_start s k = s.min_delay + k * delay_count s / s.shards
 
+-- the longest period of a fold, in spectra
+abbrev pub longest_period : ℕ
+longest_period = 1048576
+
+-- how often the rows of a fold are halved at most
+abbrev pub greatest_halvings : ℕ
+greatest_halvings = 12
+
+-- how many spectra are unpacked at a time at most
+abbrev pub longest_chunk : ℕ
+longest_chunk = 65536
+
+-- how many shards there are at most
+abbrev pub shard_limit : ℕ
+shard_limit = 7
+
+-- how many candidates a shard keeps at most
+abbrev pub candidate_limit : ℕ
+candidate_limit = 1048576
+
+-- the greatest mean and deviation of a sample, in thousandths
+abbrev pub greatest_noise : ℕ
+greatest_noise = 200000000
+
+-- the greatest threshold, in hundredths
+abbrev pub greatest_snr : ℕ
+greatest_snr = 100000
+
 -- the delays, and the widest box
 pub record DelaysInRange (s : Search) : Type 0 where
   pub rise : s.min_delay ≤ s.max_delay
@@ -44,28 +72,28 @@ pub record DelaysInRange (s : Search) : Type 0 where
 -- the settings of the folds
 pub record FoldsInRange (s : Search) : Type 0 where
   pub least_min : 2 ≤ s.fold_min
-  pub most_min : s.fold_min ≤ 1048576
-  pub most_max : s.fold_max ≤ 1048576
+  pub most_min : s.fold_min ≤ longest_period
+  pub most_max : s.fold_max ≤ longest_period
   pub least_rows : 1 ≤ s.fold_rows
-  pub most_rows : s.fold_rows ≤ 12
+  pub most_rows : s.fold_rows ≤ greatest_halvings
   pub least_step : 1 ≤ s.fold_step
-  pub most_step : s.fold_step ≤ 8192
+  pub most_step : s.fold_step ≤ most_delay
 
 -- how the work is cut and shared
 pub record PartsInRange (s : Search) : Type 0 where
   pub least_chunk : 1 ≤ s.chunk
-  pub most_chunk : s.chunk ≤ 65536
+  pub most_chunk : s.chunk ≤ longest_chunk
   pub least_shards : 1 ≤ s.shards
-  pub most_shards : s.shards ≤ 7
-  pub most_candidates : s.max_candidates ≤ 1048576
+  pub most_shards : s.shards ≤ shard_limit
+  pub most_candidates : s.max_candidates ≤ candidate_limit
 
 -- the noise, and how far a candidate stands out of it
 pub record NoiseInRange (s : Search) : Type 0 where
-  pub most_mean : s.mean ≤ 200000000
+  pub most_mean : s.mean ≤ greatest_noise
   pub least_sd : 1 ≤ s.sd
-  pub most_sd : s.sd ≤ 200000000
+  pub most_sd : s.sd ≤ greatest_noise
   pub least_snr : 1 ≤ s.snr
-  pub most_snr : s.snr ≤ 100000
+  pub most_snr : s.snr ≤ greatest_snr
 
 -- each setting lies in its range
 pub record SettingsInRange (s : Search) : Type 0 where

@@ -4,6 +4,27 @@ ghost use Rattle.std.specs.Prelude.{◌↔◌, IsTrue};
 /// The longest delay of a search, in spectra.
 pub const MOST_DELAY: u32 = 8192;
 
+// The longest period of a fold, in spectra.
+const LONGEST_PERIOD: u32 = 1_048_576;
+
+// How often the rows of a fold are halved at most.
+const GREATEST_HALVINGS: u32 = 12;
+
+// How many spectra are unpacked at a time at most.
+const LONGEST_CHUNK: u32 = 65_536;
+
+// How many shards there are at most.
+const SHARD_LIMIT: u32 = 7;
+
+// How many candidates a shard keeps at most.
+const CANDIDATE_LIMIT: u32 = 1_048_576;
+
+// The greatest mean and deviation of a sample, in thousandths.
+const GREATEST_NOISE: u32 = 200_000_000;
+
+// The greatest threshold, in hundredths.
+const GREATEST_SNR: u32 = 100_000;
+
 /// The settings of a search: the delays, boxes and folds that it looks for, how the work is shared, and the noise that
 /// a candidate stands out of. Delays, widths, periods and `chunk` are in spectra.
 #[derive(Clone, Copy, PartialEq, Eq, Debug)]
@@ -59,27 +80,27 @@ impl Search {
     fn folds_in_range(&self) -> bool
         ensures { IsTrue result ↔ FoldsInRange self.now }
     {
-        (2..=1048576).contains(&self.fold_min)
-            && self.fold_max <= 1048576
-            && (1..=12).contains(&self.fold_rows)
-            && (1..=8192).contains(&self.fold_step)
+        (2..=LONGEST_PERIOD).contains(&self.fold_min)
+            && self.fold_max <= LONGEST_PERIOD
+            && (1..=GREATEST_HALVINGS).contains(&self.fold_rows)
+            && (1..=MOST_DELAY).contains(&self.fold_step)
     }
 
     // How the work is cut and shared.
     fn parts_in_range(&self) -> bool
         ensures { IsTrue result ↔ PartsInRange self.now }
     {
-        (1..=65536).contains(&self.chunk)
-            && (1..=7).contains(&self.shards)
-            && self.max_candidates <= 1048576
+        (1..=LONGEST_CHUNK).contains(&self.chunk)
+            && (1..=SHARD_LIMIT).contains(&self.shards)
+            && self.max_candidates <= CANDIDATE_LIMIT
     }
 
     // The noise, and how far a candidate stands out of it.
     fn noise_in_range(&self) -> bool
         ensures { IsTrue result ↔ NoiseInRange self.now }
     {
-        self.mean <= 200000000
-            && (1..=200000000).contains(&self.sd)
-            && (1..=100000).contains(&self.snr)
+        self.mean <= GREATEST_NOISE
+            && (1..=GREATEST_NOISE).contains(&self.sd)
+            && (1..=GREATEST_SNR).contains(&self.snr)
     }
 }
