@@ -9,16 +9,16 @@ use Rattle.search_model.specs.Subbands.{node_sum}
 use Rattle.search_model.specs.SubbandLaws.{NothingBefore, WholeBandIsPathSum}
 use Rattle.search_model.specs.Sums.{path_sum}
 use Rattle.subband_plan.specs.Nodes.{HasRow, HasKept, root}
-use Rattle.fdmt_carry.specs.Tables.{Tables, AreTables, AreKept, TablesStand, HasNext, node_of, node_count, number_of, tail_of, held_at, place_at, stop_of}
+use Rattle.fdmt_carry.specs.Tables.{Tables, AreTables, AreKept, TablesStand, HasNext, node_of, node_count, row_number, tail_of, held_at, place_at, stop_of}
 use Rattle.fdmt_carry.specs.Making.{KeepsPart, PartStands}
 use Rattle.fdmt_carry.specs.Reading.{IsWhole, ArePlain}
-use Rattle.fdmt_carry.specs.Carrying.{IsStream, AreNext, StandsFor, carrying}
+use Rattle.fdmt_carry.specs.Carrying.{IsStream, AreNext, StandsForSamples, carrying}
 use Rattle.fdmt_carry.proofs.Reading.{zeros_stand}
 
 -- opened, it stands for each stream
 pub opened_stands : NothingBefore → (t : Tables) → AreTables t → IsWhole t → (max_sample a b : ℕ) (f : Filterbank) →
     IsStream t.plan max_sample f →
-    StandsFor (carrying t max_sample 0 0 false (replicate a 0) (replicate b 0)) f
+    StandsForSamples (carrying t max_sample 0 0 false (replicate a 0) (replicate b 0)) f
 opened_stands nothing t is whole max_sample a b f stream =
     let some = whole.some in
     record {
@@ -33,7 +33,7 @@ opened_stands nothing t is whole max_sample a b f stream =
 pub next_spectra : (t : Tables) → AreTables t → (max_sample fed last spectra : ℕ) (has : Bool)
     (kept values rows : List ℕ)
     (f : Filterbank) → max_sample * (channels_of t.plan.edges + t.plan.last) < 2 ^ 32 →
-    StandsFor (carrying t max_sample fed last has kept values) f →
+    StandsForSamples (carrying t max_sample fed last has kept values) f →
     AreNext (carrying t max_sample fed last has kept values) f rows spectra → HasNext t f fed spectra rows
 next_spectra t is max_sample fed last spectra has kept values rows f fits stands next =
     let few = is.laid.band.few in
@@ -47,16 +47,16 @@ next_spectra t is max_sample fed last spectra has kept values rows f fits stands
 
 pub all_kept : (t : Tables) → IsWhole t → (max_sample fed last : ℕ) (has : Bool) (kept values : List ℕ)
     (f : Filterbank) →
-    StandsFor (carrying t max_sample fed last has kept values) f → KeepsPart t f fed 0 kept
+    StandsForSamples (carrying t max_sample fed last has kept values) f → KeepsPart t f fed 0 kept
 all_kept t whole max_sample fed last has kept values f stands =
     subst (λ to. AreKept t f fed 0 to kept) (sym whole.next) stands.kept
 
 -- with the next spectra, it stands for the stream
 pub stands_next : (t : Tables) → IsWhole t → (max_sample fed last spectra : ℕ) (has whole : Bool)
     (kept values kept' values' : List ℕ) (f : Filterbank) →
-    StandsFor (carrying t max_sample fed last has kept values) f →
+    StandsForSamples (carrying t max_sample fed last has kept values) f →
     PartStands t f fed spectra whole 0 values' kept' →
-    StandsFor (carrying t max_sample (fed + spectra) spectra whole kept' values') f
+    StandsForSamples (carrying t max_sample (fed + spectra) spectra whole kept' values') f
 stands_next t is max_sample fed last spectra has whole kept values kept' values' f stands made =
     let now : fed ≡ fed + spectra - spectra = omega arith in
     record {
@@ -94,12 +94,12 @@ pub value_read : (t : Tables) → IsWhole t → ArePlain t → (max_sample u las
     IsStream t.plan max_sample f → TablesStand t f u last 0 to values → k < to → k < node_count t → HasKept
     (node_of t k) d →
     i < last →
-    slice_index values (place_at t (number_of t k d) + tail_of t (number_of t k d) + i)
+    slice_index values (place_at t (row_number t k d) + tail_of t (row_number t k d) + i)
     ≡ node_sum f t.plan.edges (node_of t k).lo (node_of t k).hi d (u + i) 0
 value_read t whole plain max_sample u last k to d i values f fits stream made lt node has small =
     let first = whole.first in
-    made k (omega arith) lt d has (tail_of t (number_of t k d) + i)
-    (place_at t (number_of t k d) + tail_of t (number_of t k d) + i) (omega arith) (omega arith)
+    made k (omega arith) lt d has (tail_of t (row_number t k d) + i)
+    (place_at t (row_number t k d) + tail_of t (row_number t k d) + i) (omega arith) (omega arith)
     ∙ plain f max_sample fits stream.small k d u i node has
 
 -- of the whole band it is a path sum

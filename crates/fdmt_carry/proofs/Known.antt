@@ -8,7 +8,7 @@ use Rattle.subband_plan.specs.Nodes.{BandPlan, IsPlan, HasKept, nodes_of, split_
 use Rattle.subband_plan.specs.NodeLaws.{PlansAreLaid}
 use Rattle.subband_plan.specs.Rows.{AreRows, merge_at, row_of}
 use Rattle.subband_plan.specs.RowLaws.{RowsAreNumbered, RowsAreFew, AreFew}
-use Rattle.fdmt_carry.specs.Tables.{Tables, AreTables, ArePlaced, IsRow, tables, node_of, node_count, all_rows, held_at, place_at, start_of, tail_of, number_of, next_of}
+use Rattle.fdmt_carry.specs.Tables.{Tables, AreTables, ArePlaced, IsRow, tables, node_of, node_count, all_rows, held_at, place_at, start_of, tail_of, row_number, next_of}
 use Rattle.fdmt_carry.specs.Making.{IsPair, IsSingle, IsMerge, IsRunOn, IsPart, AreParts, lower_of}
 
 rows_placed : (t : Tables) → AreRows t.plan t.rows → AreFew t.rows → t.chunk ≤ 65536 → ArePlaced t (place_at t) t.chunk
@@ -71,9 +71,9 @@ starts_rise t is j k le within =
 
 -- the row of a delay that a node keeps
 pub row_known : (t : Tables) → AreTables t → (k d : ℕ) → k < node_count t → HasKept (node_of t k) d →
-    IsRow t k (number_of t k d)
+    IsRow t k (row_number t k d)
 row_known t is k d node has =
-    let r : ℕ = number_of t k d in
+    let r : ℕ = row_number t k d in
     let above : r < start_of t (k + 1) = is.numbered.above k d node has in
     let starts = starts_rise t is k (k + 1) (omega arith) (omega arith) in
     let end = starts.1 in
@@ -94,10 +94,10 @@ row_known t is k d node has =
 
 -- what a row of two channels or more is made of
 pub merge_known : (t : Tables) → AreTables t → (k d : ℕ) → IsPair t k → HasKept (node_of t k) d →
-    IsMerge t k d (merge_at t.rows.merges.items (number_of t k d))
+    IsMerge t k d (merge_at t.rows.merges.items (row_number t k d))
 merge_known t is k d pair has =
     let n = node_of t k in
-    let r : ℕ = number_of t k d in
+    let r : ℕ = row_number t k d in
     let s : ℕ = split_of t.plan.edges n d in
     let m = merge_at t.rows.merges.items r in
     let low : ℕ = lower_of t k in
@@ -115,9 +115,9 @@ merge_known t is k d pair has =
     let late : m.late ≡ d - s = made.late two in
     let above_there : k + 1 < node_count t = omega arith in
     let below_there : low < node_count t = omega arith in
-    let upper : m.upper ≡ number_of t (k + 1) s = made.upper two ∙ ap (λ n. row_of starts (k + 1) n s) (sym up) in
-    let lower : m.lower ≡ number_of t low m.late =
-    made.lower two ∙ ap (λ n. row_of starts low n (d - s)) (sym down) ∙ ap (λ e. number_of t low e) (sym late) in
+    let upper : m.upper ≡ row_number t (k + 1) s = made.upper two ∙ ap (λ n. row_of starts (k + 1) n s) (sym up) in
+    let lower : m.lower ≡ row_number t low m.late =
+    made.lower two ∙ ap (λ n. row_of starts low n (d - s)) (sym down) ∙ ap (λ e. row_number t low e) (sym late) in
     let upper_kept : HasKept (node_of t (k + 1)) s =
     subst (λ n. HasKept n s) (sym up) (is.numbered.upper k d pair.node two has) in
     let lower_has : HasKept (node_of t low) (d - s) =
@@ -140,7 +140,7 @@ merge_known t is k d pair has =
 pub run_known : (t : Tables) → AreTables t → (k d : ℕ) → IsSingle t k → 1 ≤ d → HasKept (node_of t k) d → IsRunOn t k d
 run_known t is k d single later has =
     let n = node_of t k in
-    let r : ℕ = number_of t k d in
+    let r : ℕ = row_number t k d in
     let m = merge_at t.rows.merges.items r in
     let row = row_known t is k d single.node has in
     let below = row.below in
@@ -149,12 +149,12 @@ run_known t is k d single later has =
     let made = is.rows.made k d single.node has there in
     let least = is.numbered.of_one k single.one in
     let most = has.most in
-    let upper : m.upper ≡ number_of t k 0 = made.channel_upper single.one in
+    let upper : m.upper ≡ row_number t k 0 = made.channel_upper single.one in
     let late : m.late ≡ d = made.channel_late single.one in
     let enough : m.late ≤ tail_of t m.upper = is.rows.tails.enough r there in
-    let tail : tail_of t m.upper ≡ tail_of t (number_of t k 0) = ap (tail_of t) upper in
-    let first : number_of t k 0 ≡ start_of t k = omega arith in
-    let next : number_of t k (d - 1) + 1 ≡ number_of t k d = omega arith in
+    let tail : tail_of t m.upper ≡ tail_of t (row_number t k 0) = ap (tail_of t) upper in
+    let first : row_number t k 0 ≡ start_of t k = omega arith in
+    let next : row_number t k (d - 1) + 1 ≡ row_number t k d = omega arith in
     record {
       zero_kept = record { least = omega arith; most = omega arith };
       prior_kept = record { least = omega arith; most = omega arith };
@@ -162,7 +162,7 @@ run_known t is k d single later has =
       first_held = ap (held_at t) first;
       enough = omega arith;
       next = next;
-      rise = is.placed.rise (number_of t k 0 + 1) r (omega arith) (omega arith);
+      rise = is.placed.rise (row_number t k 0 + 1) r (omega arith) (omega arith);
       prior = ap (place_at t) next;
     }
 

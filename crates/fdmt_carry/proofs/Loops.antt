@@ -3,7 +3,7 @@ use Rattle.std.proofs.Common.{◌≡◌, ℕ, ◌+◌, ◌≤◌, ◌<◌, List,
 use Rattle.std.proofs.lemmas.Bool.{cases_lt}
 use Rattle.search_model.specs.Samples.{Filterbank}
 use Rattle.subband_plan.specs.Nodes.{HasKept}
-use Rattle.fdmt_carry.specs.Tables.{Tables, AreTables, node_of, node_count, number_of, held_at, place_at, place_of, hold_of}
+use Rattle.fdmt_carry.specs.Tables.{Tables, AreTables, node_of, node_count, row_number, held_at, place_at, place_of, hold_of}
 use Rattle.fdmt_carry.specs.Making.{KeepsRow, KeepsNode, RowStands, ChangesRow, NodeStands}
 use Rattle.fdmt_carry.proofs.Stands.{row_stays}
 
@@ -23,7 +23,7 @@ none_made t f u spectra k d table kept least keeps = record {
 -- one row more
 pub one_more : (t : Tables) → AreTables t → (f : Filterbank) (u spectra k d : ℕ)
     (table table' kept kept' : List ℕ) → k < node_count t → spectra ≤ t.chunk → HasKept (node_of t k) d →
-    RowStands t f u spectra k d table' kept' → ChangesRow t k (number_of t k d) table table' kept kept' →
+    RowStands t f u spectra k d table' kept' → ChangesRow t k (row_number t k d) table table' kept kept' →
     StandBelow t f u spectra k d table kept → StandBelow t f u spectra k (d + 1) table' kept'
 one_more t is f u spectra k d table table' kept kept' node short has here changes so_far = record {
   made = λ e has_e lt. elim (cases_lt e d) [

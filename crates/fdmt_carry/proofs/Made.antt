@@ -8,7 +8,7 @@ use Rattle.subband_plan.specs.declared.rows.Merge.{Merge}
 use Rattle.subband_plan.specs.Nodes.{split_of}
 use Rattle.fdmt_rows.specs.Rows.{wrapping_sum}
 use Rattle.fdmt_carry.specs.Values.{Begins, GoesOn, GoesOnWith, after}
-use Rattle.fdmt_carry.specs.Tables.{Tables, AreTables, IsRow, node_of, node_count, tail_of, number_of, start_of, held_at, place_at, place_of, hold_of, value_of}
+use Rattle.fdmt_carry.specs.Tables.{Tables, AreTables, IsRow, node_of, node_count, tail_of, row_number, start_of, held_at, place_at, place_of, hold_of, row_value}
 use Rattle.fdmt_carry.specs.Making.{IsPair, IsSingle, IsMerge, IsRunOn, ChannelHas, AreSamples, AreHalves, KeepsRow, RowStands, ChangesRow, lower_of}
 use Rattle.fdmt_carry.proofs.Known.{row_known}
 use Rattle.fdmt_carry.proofs.Law.{value_later, merged_value, channel_value, sample_value}
@@ -18,17 +18,17 @@ use Rattle.fdmt_carry.proofs.Parts.{part_begins, put_listed, put_stays, parts_go
 -- values.
 pub row_made : (t : Tables) (f : Filterbank) (u spectra k d at hold m n later : ℕ) (table kept row tail : List ℕ)
     (Goes : (ℕ → ℕ) → Type 0) →
-    place_of t k + at ≡ place_at t (number_of t k d) → hold_of t k + hold ≡ held_at t (number_of t k d) →
-    m ≡ tail_of t (number_of t k d) + spectra → n ≡ tail_of t (number_of t k d) → later ≡ spectra →
+    place_of t k + at ≡ place_at t (row_number t k d) → hold_of t k + hold ≡ held_at t (row_number t k d) →
+    m ≡ tail_of t (row_number t k d) + spectra → n ≡ tail_of t (row_number t k d) → later ≡ spectra →
     at + m ≤ length table → hold + n ≤ length kept → length row ≡ m → length tail ≡ n →
     ((g : ℕ → ℕ) → Begins g (take n (drop hold kept)) → Goes g → Begins g row) →
     ((g : ℕ → ℕ) → Begins g (take n (drop hold kept)) → Goes g → Begins (after g later) tail) →
-    Goes (value_of t f u k d) → KeepsRow t f u k d kept →
+    Goes (row_value t f u k d) → KeepsRow t f u k d kept →
     RowStands t f u spectra k d (put_mid at m table row) (put_mid hold n kept tail)
 row_made t f u spectra k d at hold m n later table kept row tail Goes at_is hold_is m_is n_is later_is in_table in_kept
     row_size tail_size rows tails goes keeps =
-    let g : ℕ → ℕ = value_of t f u k d in
-    let r : ℕ = number_of t k d in
+    let g : ℕ → ℕ = row_value t f u k d in
+    let r : ℕ = row_number t k d in
     let begins : Begins g (take n (drop hold kept)) =
     part_begins g (hold_of t k) (held_at t r) (tail_of t r + 0) hold n kept hold_is (omega arith) in_kept keeps in
     record {
@@ -44,10 +44,10 @@ row_made t f u spectra k d at hold m n later table kept row tail Goes at_is hold
 
 -- and nothing else is
 pub row_alone : (t : Tables) (k d r spectra at hold m n : ℕ) (table kept row tail : List ℕ) → IsRow t k r →
-    r ≡ number_of t k d → spectra ≤ t.chunk → place_of t k + at ≡ place_at t r → hold_of t k + hold ≡ held_at t r →
+    r ≡ row_number t k d → spectra ≤ t.chunk → place_of t k + at ≡ place_at t r → hold_of t k + hold ≡ held_at t r →
     m ≡ tail_of t r + spectra → n ≡ tail_of t r → at + m ≤ length table → hold + n ≤ length kept →
     length row ≡ m → length tail ≡ n →
-    ChangesRow t k (number_of t k d) table (put_mid at m table row) kept (put_mid hold n kept tail)
+    ChangesRow t k (row_number t k d) table (put_mid at m table row) kept (put_mid hold n kept tail)
 row_alone t k d r spectra at hold m n table kept row tail is number short at_is hold_is m_is n_is in_table in_kept
     row_size tail_size =
     let next = is.next in
@@ -65,19 +65,19 @@ pub halves_go_on : HalvesAdd → TimeShifts → (t : Tables) → AreTables t →
     IsPair t k → IsMerge t k d m → AreHalves t f u spectra k upper lower →
     place_of t (k + 1) + at_upper ≡ place_at t m.upper → above ≡ at_upper + (tail_of t m.upper - m.late) →
     place_of t (lower_of t k) + at_lower ≡ place_at t m.lower → below ≡ at_lower + tail_of t m.lower →
-    len ≡ tail_of t (number_of t k d) → m1 ≡ spectra → m2 ≡ spectra → above + m1 ≤ length upper →
-    GoesOn (value_of t f u k d) len (take m1 (drop above upper)) (take m2 (drop below lower))
+    len ≡ tail_of t (row_number t k d) → m1 ≡ spectra → m2 ≡ spectra → above + m1 ≤ length upper →
+    GoesOn (row_value t f u k d) len (take m1 (drop above upper)) (take m2 (drop below lower))
 halves_go_on adds shifts t is f u spectra k d above below at_upper at_lower len m1 m2 m upper lower pair merge halves
     at_is
     above_is low_is below_is len_is first_is second_is in_upper =
     let s : ℕ = split_of t.plan.edges (node_of t k) d in
     let low : ℕ = lower_of t k in
     let enough = merge.enough in
-    let a : tail_of t m.upper ≡ tail_of t (number_of t (k + 1) s) = ap (tail_of t) merge.upper in
-    let b : tail_of t m.lower ≡ tail_of t (number_of t low m.late) = ap (tail_of t) merge.lower in
-    let at_a : place_at t m.upper ≡ place_at t (number_of t (k + 1) s) = ap (place_at t) merge.upper in
-    let at_b : place_at t m.lower ≡ place_at t (number_of t low m.late) = ap (place_at t) merge.lower in
-    parts_go_on (value_of t f u k d) len (tail_of t (number_of t k d)) above below m1 m2 upper lower len_is
+    let a : tail_of t m.upper ≡ tail_of t (row_number t (k + 1) s) = ap (tail_of t) merge.upper in
+    let b : tail_of t m.lower ≡ tail_of t (row_number t low m.late) = ap (tail_of t) merge.lower in
+    let at_a : place_at t m.upper ≡ place_at t (row_number t (k + 1) s) = ap (place_at t) merge.upper in
+    let at_b : place_at t m.lower ≡ place_at t (row_number t low m.late) = ap (place_at t) merge.lower in
+    parts_go_on (row_value t f u k d) len (tail_of t (row_number t k d)) above below m1 m2 upper lower len_is
     (omega arith)
     in_upper
     (λ i lt.
@@ -86,36 +86,36 @@ halves_go_on adds shifts t is f u spectra k d above below at_upper at_lower len 
     let down = halves.lower_half m.late merge.lower_kept (tail_of t m.lower + i) (below + i) (omega arith)
     (omega arith) in
     merged_value adds shifts t is f u k d i m pair merge
-    ∙ ap (λ x. wrapping_sum x (value_of t f u low m.late (tail_of t m.lower + i))) (sym up)
+    ∙ ap (λ x. wrapping_sum x (row_value t f u low m.late (tail_of t m.lower + i))) (sym up)
     ∙ ap (λ y. wrapping_sum (slice_index upper (above + i)) y) (sym down))
 
 -- of a single channel, rows that are made before go on with it
 pub channel_goes_on : OneChannelAdds → TimeShifts → (t : Tables) → AreTables t →
     (f : Filterbank) (u spectra k d above below at_row len m1 m2 : ℕ) (before : List ℕ) →
     IsSingle t k → 1 ≤ d → IsRunOn t k d → ChannelHas t f u spectra k d before →
-    above ≡ tail_of t (number_of t k 0) - d →
-    place_of t k + at_row ≡ place_at t (number_of t k (d - 1)) → below ≡ at_row + tail_of t (number_of t k (d - 1)) →
-    len ≡ tail_of t (number_of t k d) → m1 ≡ spectra → m2 ≡ spectra → above + m1 ≤ length before →
-    GoesOn (value_of t f u k d) len (take m1 (drop above before)) (take m2 (drop below before))
+    above ≡ tail_of t (row_number t k 0) - d →
+    place_of t k + at_row ≡ place_at t (row_number t k (d - 1)) → below ≡ at_row + tail_of t (row_number t k (d - 1)) →
+    len ≡ tail_of t (row_number t k d) → m1 ≡ spectra → m2 ≡ spectra → above + m1 ≤ length before →
+    GoesOn (row_value t f u k d) len (take m1 (drop above before)) (take m2 (drop below before))
 channel_goes_on adds shifts t is f u spectra k d above below at_row len m1 m2 before single later run has
     above_is row_is below_is len_is first_is second_is in_before =
     let e : ℕ = d - 1 in
     let start = run.first in
     let enough = run.enough in
-    parts_go_on (value_of t f u k d) len (tail_of t (number_of t k d)) above below m1 m2 before before len_is
+    parts_go_on (row_value t f u k d) len (tail_of t (row_number t k d)) above below m1 m2 before before len_is
     (omega arith)
     in_before
     (λ i lt.
-    let up = has.first (tail_of t (number_of t k 0) - d + i) (above + i) (omega arith) (omega arith) in
-    let down = has.prior (tail_of t (number_of t k e) + i) (below + i) (omega arith) (omega arith) in
+    let up = has.first (tail_of t (row_number t k 0) - d + i) (above + i) (omega arith) (omega arith) in
+    let down = has.prior (tail_of t (row_number t k e) + i) (below + i) (omega arith) (omega arith) in
     channel_value adds shifts t is f u k d e i single (omega arith) enough
-    ∙ ap (λ x. wrapping_sum x (value_of t f u k e (tail_of t (number_of t k e) + i))) (sym up)
+    ∙ ap (λ x. wrapping_sum x (row_value t f u k e (tail_of t (row_number t k e) + i))) (sym up)
     ∙ ap (λ y. wrapping_sum (slice_index before (above + i)) y) (sym down))
 
 -- the rows of lesser delays stand before it
 pub before_has : (t : Tables) → AreTables t → (f : Filterbank) (u spectra k d at : ℕ) (table : List ℕ) → k <
     node_count t →
-    IsRunOn t k d → spectra ≤ t.chunk → place_of t k + at ≡ place_at t (number_of t k d) →
+    IsRunOn t k d → spectra ≤ t.chunk → place_of t k + at ≡ place_at t (row_number t k d) →
     ChannelHas t f u spectra k d table → ChannelHas t f u spectra k d (take at table)
 before_has t is f u spectra k d at table node run short at_is has =
     let first_row = row_known t is k 0 node run.zero_kept in
@@ -131,11 +131,11 @@ before_has t is f u spectra k d at table node run short at_is has =
 
 -- the row of delay 0 goes on with the samples
 pub samples_go_on : OneChannelIsItsSample → TimeShifts → (t : Tables) → AreTables t → (f : Filterbank) (u k len : ℕ)
-    (samples : List ℕ) → IsSingle t k → AreSamples t f u k samples → len ≡ tail_of t (number_of t k 0) →
-    GoesOnWith (value_of t f u k 0) len samples
+    (samples : List ℕ) → IsSingle t k → AreSamples t f u k samples → len ≡ tail_of t (row_number t k 0) →
+    GoesOnWith (row_value t f u k 0) len samples
 samples_go_on is_sample shifts t is f u k len samples single are len_is i lt =
-    ap (λ n. value_of t f u k 0 (n + i)) len_is ∙ sample_value is_sample shifts t is f u k i single ∙ sym (are.are i lt)
+    ap (λ n. row_value t f u k 0 (n + i)) len_is ∙ sample_value is_sample shifts t is f u k i single ∙ sym (are.are i lt)
 
 -- the row of delay 0 is the first of the node
-pub zero_first : (t : Tables) (k : ℕ) → number_of t k 0 ≡ start_of t k
+pub zero_first : (t : Tables) (k : ℕ) → row_number t k 0 ≡ start_of t k
 zero_first t k = omega arith

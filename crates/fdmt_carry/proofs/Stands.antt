@@ -4,7 +4,7 @@ use Rattle.std.proofs.lemmas.Bool.{cases_lt}
 use Rattle.std.proofs.lemmas.List.{get_or_append_left, get_or-append_right, get_or-take, get_or-drop}
 use Rattle.search_model.specs.Samples.{Filterbank}
 use Rattle.subband_plan.specs.Nodes.{HasKept}
-use Rattle.fdmt_carry.specs.Tables.{Tables, AreTables, ArePlaced, ListsRow, ListsNode, node_of, node_count, all_rows, tail_of, number_of, start_of}
+use Rattle.fdmt_carry.specs.Tables.{Tables, AreTables, ArePlaced, ListsRow, ListsNode, node_of, node_count, all_rows, tail_of, row_number, start_of}
 use Rattle.fdmt_carry.specs.Making.{StaysOutside}
 use Rattle.fdmt_carry.proofs.Known.{starts_rise, row_known}
 
@@ -18,9 +18,9 @@ record IsAt (t : Tables) (at : ℕ → ℕ) (more k r : ℕ) : Type 0 where
   to : at r + (tail_of t r + more) ≤ at (start_of t (k + 1))
 
 is_at : (t : Tables) → AreTables t → (at : ℕ → ℕ) (more k d : ℕ) → ArePlaced t at more → k < node_count t →
-    HasKept (node_of t k) d → IsAt t at more k (number_of t k d)
+    HasKept (node_of t k) d → IsAt t at more k (row_number t k d)
 is_at t is at more k d placed node has =
-    let r : ℕ = number_of t k d in
+    let r : ℕ = row_number t k d in
     let above : r < start_of t (k + 1) = is.numbered.above k d node has in
     let starts = starts_rise t is k (k + 1) (omega arith) (omega arith) in
     let end = starts.1 in
@@ -85,11 +85,11 @@ stands_join t is f u at more room from mid to xs ys placed few le within size fr
 pub row_stays : (t : Tables) → AreTables t → (f : Filterbank) (u : ℕ) (at : ℕ → ℕ) (more room k d e base : ℕ)
     (xs ys : List ℕ) → ArePlaced t at room → more ≤ room → k < node_count t →
     HasKept (node_of t k) d → HasKept (node_of t k) e → (d < e) ⊎ (e < d) →
-    StaysOutside base (at (number_of t k d)) (at (number_of t k d + 1)) xs ys →
+    StaysOutside base (at (row_number t k d)) (at (row_number t k d + 1)) xs ys →
     ListsRow t f u at more k e base xs → ListsRow t f u at more k e base ys
 row_stays t is f u at more room k d e base xs ys placed few node has_d has_e order stays listed i p small place =
-    let rd : ℕ = number_of t k d in
-    let re : ℕ = number_of t k e in
+    let rd : ℕ = row_number t k d in
+    let re : ℕ = row_number t k e in
     let least_d = has_d.least in
     let least_e = has_e.least in
     let below_d : rd < all_rows t = (row_known t is k d node has_d).below in

@@ -58,7 +58,7 @@ AreNext c f rows spectra = (channel i : ℕ) → channel < f.channels → i < sp
 
 -- The carry was fed the first spectra of a stream: `c.fed` of them, whatever the others are. What is kept is of these,
 -- the rows of the whole band are those of the last call, and so are the rows of all nodes where their tables stand.
-pub record StandsFor (c : Carrying) (f : Filterbank) : Type 0 where
+pub record StandsForSamples (c : Carrying) (f : Filterbank) : Type 0 where
   pub stream : IsStream c.tables.plan c.max_sample f
   pub before : c.last ≤ c.fed
   pub kept : AreKept c.tables f c.fed 0 (node_count c.tables) c.kept

@@ -5,7 +5,7 @@ use Rattle.search_model.specs.Samples.{Filterbank}
 use Rattle.subband_plan.specs.NodeLaws.{lower_number}
 use Rattle.subband_plan.specs.declared.rows.Merge.{Merge}
 use Rattle.subband_plan.specs.Nodes.{HasKept, split_of}
-use Rattle.fdmt_carry.specs.Tables.{Tables, IsRow, node_of, node_count, number_of, tail_of, place_at, held_at, place_of, hold_of, next_of, stop_of, ListsRow, ListsNode, AreKept, TablesStand}
+use Rattle.fdmt_carry.specs.Tables.{Tables, IsRow, node_of, node_count, row_number, tail_of, place_at, held_at, place_of, hold_of, next_of, stop_of, ListsRow, ListsNode, AreKept, TablesStand}
 
 -- the lower half of node k
 abbrev pub lower_of : Tables → ℕ → ℕ
@@ -25,8 +25,8 @@ pub record IsSingle (t : Tables) (k : ℕ) : Type 0 where
 -- no earlier than its kept values reach
 pub record IsMerge (t : Tables) (k d : ℕ) (m : Merge) : Type 0 where
   pub late : m.late ≡ d - split_of t.plan.edges (node_of t k) d
-  pub upper : m.upper ≡ number_of t (k + 1) (split_of t.plan.edges (node_of t k) d)
-  pub lower : m.lower ≡ number_of t (lower_of t k) m.late
+  pub upper : m.upper ≡ row_number t (k + 1) (split_of t.plan.edges (node_of t k) d)
+  pub lower : m.lower ≡ row_number t (lower_of t k) m.late
   pub upper_kept : HasKept (node_of t (k + 1)) (split_of t.plan.edges (node_of t k) d)
   pub lower_kept : HasKept (node_of t (lower_of t k)) m.late
   pub upper_row : IsRow t (k + 1) m.upper
@@ -40,12 +40,12 @@ pub record IsMerge (t : Tables) (k d : ℕ) (m : Merge) : Type 0 where
 pub record IsRunOn (t : Tables) (k d : ℕ) : Type 0 where
   pub zero_kept : HasKept (node_of t k) 0
   pub prior_kept : HasKept (node_of t k) (d - 1)
-  pub first : place_at t (number_of t k 0) ≡ place_of t k
-  pub first_held : held_at t (number_of t k 0) ≡ hold_of t k
-  pub enough : d ≤ tail_of t (number_of t k 0)
-  pub next : number_of t k (d - 1) + 1 ≡ number_of t k d
-  pub rise : place_at t (number_of t k 0 + 1) ≤ place_at t (number_of t k d)
-  pub prior : place_at t (number_of t k (d - 1) + 1) ≡ place_at t (number_of t k d)
+  pub first : place_at t (row_number t k 0) ≡ place_of t k
+  pub first_held : held_at t (row_number t k 0) ≡ hold_of t k
+  pub enough : d ≤ tail_of t (row_number t k 0)
+  pub next : row_number t k (d - 1) + 1 ≡ row_number t k d
+  pub rise : place_at t (row_number t k 0 + 1) ≤ place_at t (row_number t k d)
+  pub prior : place_at t (row_number t k (d - 1) + 1) ≡ place_at t (row_number t k d)
 
 -- where the rows of node k, the values that are kept of them, and the rows of its halves begin
 pub record AreBases (t : Tables) (k place hold upper lower : ℕ) : Type 0 where

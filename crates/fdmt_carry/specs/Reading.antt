@@ -4,7 +4,7 @@ use Rattle.band_paths.specs.Edges.{channels_of}
 use Rattle.search_model.specs.Samples.{Filterbank}
 use Rattle.search_model.specs.Subbands.{node_sum}
 use Rattle.subband_plan.specs.Nodes.{HasKept, root}
-use Rattle.fdmt_carry.specs.Tables.{Tables, node_of, node_count, all_rows, tail_of, number_of, held_at, place_at, place_of, hold_of, next_of, value_of}
+use Rattle.fdmt_carry.specs.Tables.{Tables, node_of, node_count, all_rows, tail_of, row_number, held_at, place_at, place_of, hold_of, next_of, row_value}
 
 -- the first node is the whole band, and all nodes are below it
 pub record IsWhole (t : Tables) : Type 0 where
@@ -20,5 +20,5 @@ pub record IsWhole (t : Tables) : Type 0 where
 abbrev pub ArePlain : Tables → Type 0
 ArePlain t = (f : Filterbank) (m : ℕ) → m * (channels_of t.plan.edges + t.plan.last) < 2 ^ 32 →
     ((c s : ℕ) → f.value c s ≤ m) → (k d u i : ℕ) → k < node_count t → HasKept (node_of t k) d →
-    value_of t f u k d (tail_of t (number_of t k d) + i)
+    row_value t f u k d (tail_of t (row_number t k d) + i)
     ≡ node_sum f t.plan.edges (node_of t k).lo (node_of t k).hi d (u + i) 0

@@ -39,8 +39,8 @@ abbrev pub start_of : Tables → ℕ → ℕ
 start_of t k = slice_index t.rows.starts.items k
 
 -- the number of the row of delay d of node k
-abbrev pub number_of : Tables → ℕ → ℕ → ℕ
-number_of t k d = row_of t.rows.starts.items k (node_of t k) d
+abbrev pub row_number : Tables → ℕ → ℕ → ℕ
+row_number t k d = row_of t.rows.starts.items k (node_of t k) d
 
 -- the node after node k and those below it
 abbrev pub next_of : Tables → ℕ → ℕ
@@ -99,16 +99,16 @@ pub record IsRow (t : Tables) (k r : ℕ) : Type 0 where
 
 -- Value i of the row of delay d of node k, where the values after those that are kept are sums that end at spectrum u
 -- and later: in 32 bits, the sum over the node along the path of d that ends at spectrum u + i, less the kept ones.
-unfoldable pub value_of : Tables → Filterbank → ℕ → ℕ → ℕ → ℕ → ℕ
-value_of t f u k d i =
+unfoldable pub row_value : Tables → Filterbank → ℕ → ℕ → ℕ → ℕ → ℕ
+row_value t f u k d i =
     let n = node_of t k in
-    node_sum f t.plan.edges n.lo n.hi d (u + i) (tail_of t (number_of t k d)) % 2 ^ 32
+    node_sum f t.plan.edges n.lo n.hi d (u + i) (tail_of t (row_number t k d)) % 2 ^ 32
 
 -- A list has the row of delay d of node k: `more` values after those that are kept of it. Place p of the list is place
 -- base + p of all rows, of which row r begins at `at r`.
 abbrev pub ListsRow : Tables → Filterbank → ℕ → (ℕ → ℕ) → ℕ → ℕ → ℕ → ℕ → List ℕ → Type 0
-ListsRow t f u at more k d base xs = (i p : ℕ) → i < tail_of t (number_of t k d) + more →
-    base + p ≡ at (number_of t k d) + i → slice_index xs p ≡ value_of t f u k d i
+ListsRow t f u at more k d base xs = (i p : ℕ) → i < tail_of t (row_number t k d) + more →
+    base + p ≡ at (row_number t k d) + i → slice_index xs p ≡ row_value t f u k d i
 
 -- it has all rows of node k
 abbrev pub ListsNode : Tables → Filterbank → ℕ → (ℕ → ℕ) → ℕ → ℕ → ℕ → List ℕ → Type 0

@@ -6,7 +6,7 @@ ghost use Rattle.search_model.specs.Sums.{path_sum};
 ghost use Rattle.search_model.specs.Subbands.{node_sum};
 ghost use Rattle.subband_plan.specs.Nodes.{HasRow, root};
 ghost use Rattle.fdmt_carry.specs.Tables.{node_of, node_count};
-ghost use Rattle.fdmt_carry.specs.Carrying.{Carrying, IsOpened, IsFed, IsStream, AreNext, StandsFor, IsSound, carrying};
+ghost use Rattle.fdmt_carry.specs.Carrying.{Carrying, IsOpened, IsFed, IsStream, AreNext, StandsForSamples, IsSound, carrying};
 
 use crate::tables::Tables;
 use psr_base::Memory;
@@ -46,7 +46,7 @@ impl Carry {
         requires fits { max_sample * (channels_of plan.edges + plan.last) < 2 ^ 32 }
         ensures opened { IfOk result (λ c. IsOpened c plan chunk max_sample) }
         ensures stands { IfOk result (λ c. (f : Filterbank) → IsStream plan max_sample f
-            → StandsFor c f) }
+            → StandsForSamples c f) }
     {
         nothing_before();
         let tables = Tables::of(alloc, plan, chunk)?;
@@ -74,8 +74,8 @@ impl Carry {
         requires few { self.old.fed + spectra ≤ 2 ^ 48 }
         ensures fed { IsFed self.old self.new spectra }
         ensures tables { self.new.has_tables ≡ true }
-        ensures stands { (f : Filterbank) → StandsFor self.old f
-            → AreNext self.old f rows.now spectra → StandsFor self.new f }
+        ensures stands { (f : Filterbank) → StandsForSamples self.old f
+            → AreNext self.old f rows.now spectra → StandsForSamples self.new f }
     {
         self.take(rows, spectra, true);
     }
@@ -88,8 +88,8 @@ impl Carry {
         requires few { self.old.fed + spectra ≤ 2 ^ 48 }
         ensures fed { IsFed self.old self.new spectra }
         ensures tables { self.new.has_tables ≡ false }
-        ensures stands { (f : Filterbank) → StandsFor self.old f
-            → AreNext self.old f rows.now spectra → StandsFor self.new f }
+        ensures stands { (f : Filterbank) → StandsForSamples self.old f
+            → AreNext self.old f rows.now spectra → StandsForSamples self.new f }
     {
         self.take(rows, spectra, false);
     }
@@ -102,8 +102,8 @@ impl Carry {
         requires few { self.old.fed + spectra ≤ 2 ^ 48 }
         ensures fed { IsFed self.old self.new spectra }
         ensures tables { self.new.has_tables ≡ whole }
-        ensures stands { (f : Filterbank) → StandsFor self.old f
-            → AreNext self.old f rows.now spectra → StandsFor self.new f }
+        ensures stands { (f : Filterbank) → StandsForSamples self.old f
+            → AreNext self.old f rows.now spectra → StandsForSamples self.new f }
     {
         self.tables.hold();
         self.tables.whole_of();
@@ -141,7 +141,7 @@ impl Carry {
     pub fn row(&self, d: u32) -> &[u32]
         requires { HasRow (root self.now.tables.plan) d }
         ensures long { length result.now ≡ self.now.last }
-        ensures sums { (f : Filterbank) (k : ℕ) → StandsFor self.now f → k < self.now.last
+        ensures sums { (f : Filterbank) (k : ℕ) → StandsForSamples self.now f → k < self.now.last
             → slice_index result.now k
             ≡ path_sum f self.now.tables.plan.edges (self.now.fed - self.now.last + k) d }
     {
@@ -157,7 +157,7 @@ impl Carry {
     pub fn sum(&self, d: u32, k: u32) -> u32
         requires row { HasRow (root self.now.tables.plan) d }
         requires spectrum { k < self.now.last }
-        ensures { (f : Filterbank) → StandsFor self.now f → result
+        ensures { (f : Filterbank) → StandsForSamples self.now f → result
             ≡ path_sum f self.now.tables.plan.edges (self.now.fed - self.now.last + k) d }
     {
         self.row(d)[k as usize]
@@ -169,7 +169,7 @@ impl Carry {
         requires node { k < node_count self.now.tables }
         requires row { HasRow (node_of self.now.tables k) d }
         ensures long { length result.now ≡ self.now.last }
-        ensures sums { (f : Filterbank) (i : ℕ) → StandsFor self.now f → i < self.now.last
+        ensures sums { (f : Filterbank) (i : ℕ) → StandsForSamples self.now f → i < self.now.last
             → slice_index result.now i
             ≡ node_sum f self.now.tables.plan.edges (node_of self.now.tables k).lo
             (node_of self.now.tables k).hi d (self.now.fed - self.now.last + i) 0 }

@@ -4,7 +4,7 @@ ghost use Rattle.search_model.specs.Samples.{Filterbank};
 ghost use Rattle.band_paths.specs.Edges.{channels_of};
 ghost use Rattle.subband_plan.specs.Nodes.{HasKept};
 ghost use Rattle.subband_plan.specs.Rows.{merge_at};
-ghost use Rattle.fdmt_carry.specs.Tables.{Tables as TablesOf, AreTables, IsRow, node_of, node_count, all_rows, held_at, place_at, tail_of, start_of, number_of, place_of, hold_of, next_of, stop_of, HasNext, tables as tables_of};
+ghost use Rattle.fdmt_carry.specs.Tables.{Tables as TablesOf, AreTables, IsRow, node_of, node_count, all_rows, held_at, place_at, tail_of, start_of, row_number, place_of, hold_of, next_of, stop_of, HasNext, tables as tables_of};
 ghost use Rattle.fdmt_carry.specs.Making.{IsPair, IsSingle, IsMerge, IsRunOn, AreBases, IsPart, AreParts, FitNode, HasRoom, AreHalves, AreSamples, ChannelHas, KeepsRow, KeepsNode, RowStands, ChangesRow, NodeStands, KeepsPart, PartStands, lower_of};
 ghost use Rattle.fdmt_carry.specs.Reading.{IsWhole, ArePlain};
 
@@ -197,7 +197,7 @@ impl Tables {
     fn number(&self, k: usize, d: u32) -> usize
         requires node { k < node_count self.now }
         requires row { HasKept (node_of self.now k) d }
-        ensures value { result ≡ number_of self.now k d }
+        ensures value { result ≡ row_number self.now k d }
         ensures row { IsRow self.now k result }
     {
         self.hold();
@@ -208,8 +208,8 @@ impl Tables {
     pub fn place(&self, k: usize, d: u32) -> usize
         requires node { k < node_count self.now }
         requires row { HasKept (node_of self.now k) d }
-        ensures value { result ≡ place_at self.now (number_of self.now k d)
-            + tail_of self.now (number_of self.now k d) }
+        ensures value { result ≡ place_at self.now (row_number self.now k d)
+            + tail_of self.now (row_number self.now k d) }
         ensures room { result + self.now.chunk ≤ place_at self.now (all_rows self.now) }
     {
         self.hold();
@@ -316,7 +316,7 @@ impl Tables {
     fn row_of(&self, k: usize, d: u32, r: usize)
         requires node { k < node_count self.now }
         requires row { HasKept (node_of self.now k) d }
-        requires number { r ≡ number_of self.now k d }
+        requires number { r ≡ row_number self.now k d }
         ensures { IsRow self.now k r }
     {
         self.hold();
@@ -334,7 +334,7 @@ impl Tables {
     fn merge_of(&self, k: usize, d: u32, r: usize) -> Merge
         requires node { IsPair self.now k }
         requires row { HasKept (node_of self.now k) d }
-        requires number { r ≡ number_of self.now k d }
+        requires number { r ≡ row_number self.now k d }
         ensures { IsMerge self.now k d result }
     {
         self.hold();
@@ -367,7 +367,7 @@ impl Tables {
     )
         requires node { IsPair self.now k }
         requires row { HasKept (node_of self.now k) d }
-        requires number { r ≡ number_of self.now k d }
+        requires number { r ≡ row_number self.now k d }
         requires bases { AreBases self.now k bases.place bases.hold bases.upper bases.lower }
         requires short { spectra ≤ self.now.chunk }
         requires own { FitNode self.now k (length table.old) (length kept.old) }
@@ -376,7 +376,7 @@ impl Tables {
         ensures made { (f : Filterbank) (u : ℕ) → AreHalves self.now f u spectra k upper.now
             lower.now → KeepsRow self.now f u k d kept.old
             → RowStands self.now f u spectra k d table.new kept.new }
-        ensures rest { ChangesRow self.now k (number_of self.now k d) table.old table.new
+        ensures rest { ChangesRow self.now k (row_number self.now k d) table.old table.new
             kept.old kept.new }
     {
         self.hold();
@@ -439,7 +439,7 @@ impl Tables {
             → ChannelHas self.now f u spectra k d table.old
             → KeepsRow self.now f u k d kept.old
             → RowStands self.now f u spectra k d table.new kept.new }
-        ensures rest { ChangesRow self.now k (number_of self.now k d) table.old table.new
+        ensures rest { ChangesRow self.now k (row_number self.now k d) table.old table.new
             kept.old kept.new }
     {
         self.hold();
@@ -471,7 +471,7 @@ impl Tables {
         ensures made { (f : Filterbank) (u : ℕ) → AreSamples self.now f u k samples.now
             → KeepsRow self.now f u k 0 kept.old
             → RowStands self.now f u (length samples.now) k 0 table.new kept.new }
-        ensures rest { ChangesRow self.now k (number_of self.now k 0) table.old table.new
+        ensures rest { ChangesRow self.now k (row_number self.now k 0) table.old table.new
             kept.old kept.new }
     {
         self.hold();

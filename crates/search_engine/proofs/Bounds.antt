@@ -4,7 +4,7 @@ use Rattle.std.proofs.lemmas.List.Elements.{All-from_get_or}
 use Rattle.std.proofs.Math.Nat.{mul-le-mul_left}
 use Rattle.band_paths.specs.Edges.{channels_of}
 use Rattle.dada_model.specs.Edges.{AreEdges}
-use Rattle.fdmt_carry.specs.Carrying.{Carrying, StandsFor}
+use Rattle.fdmt_carry.specs.Carrying.{Carrying, StandsForSamples}
 use Rattle.search_model.specs.declared.search.Search.{Search}
 use Rattle.search_model.specs.Samples.{Filterbank}
 use Rattle.search_model.specs.SubbandLaws.{SumsAreBounded}
@@ -12,7 +12,7 @@ use Rattle.search_model.specs.Sums.{path_sum}
 use Rattle.search_engine.specs.Sums.{sum_bound, sums_of, IsRowOf}
 
 pub sum_is_small : SumsAreBounded → (c : Carrying) (s : Search) (f : Filterbank) (u d : ℕ) →
-    AreEdges (channels_of c.tables.plan.edges) c.tables.plan.edges → StandsFor c f → d ≤ s.max_delay →
+    AreEdges (channels_of c.tables.plan.edges) c.tables.plan.edges → StandsForSamples c f → d ≤ s.max_delay →
     path_sum f c.tables.plan.edges u d ≤ sum_bound c s
 sum_is_small law c s f u d band stands few =
     let channels = stands.stream.channels in
@@ -25,7 +25,7 @@ sum_is_small law c s f u d band stands few =
     omega (arith, below, more)
 
 pub row_is_small : SumsAreBounded → (c : Carrying) (s : Search) (f : Filterbank) (d bound : ℕ) (row : List ℕ) →
-    AreEdges (channels_of c.tables.plan.edges) c.tables.plan.edges → StandsFor c f → d ≤ s.max_delay →
+    AreEdges (channels_of c.tables.plan.edges) c.tables.plan.edges → StandsForSamples c f → d ≤ s.max_delay →
     bound ≡ sum_bound c s → length row ≡ c.last →
     ((k : ℕ) → k < c.last → get_or row k 0 ≡ path_sum f c.tables.plan.edges (c.fed - c.last + k) d) →
     All (λ x. x ≤ bound) row

@@ -107,7 +107,7 @@ pub record HasSearched (o : Observation) (bytes : List ℕ) (e : EngineState) : 
   pub spectra : e.sums.carry.fed ≡ (filterbank_of o bytes).spectra
   pub plan : e.sums.carry.tables.plan
       ≡ band_plan (edges o) (shard_start e.search e.shard) (shard_start e.search (e.shard + 1) - 1)
-  pub carry : carry.StandsFor e.sums.carry (filterbank_of o bytes)
+  pub carry : carry.StandsForSamples e.sums.carry (filterbank_of o bytes)
   pub tables : e.sums.carry.has_tables ≡ true
 
 -- the search of the path sums of shard k, of which none is taken

@@ -65,7 +65,7 @@ IsRowOf y d m row = (k : ℕ) → k < length row → slice_index row k ≡ y d (
 
 -- all parts were fed the first spectra of a stream
 pub record StandsForStream (s : ShardState) (f : Filterbank) : Type 0 where
-  pub carry : carry.StandsFor s.carry f
+  pub carry : carry.StandsForSamples s.carry f
   pub pulses : RowsStandFor (sums_of f s.carry.tables.plan.edges) s.pulses s.carry.fed
   pub folds : (d : ℕ) → HasDelay s.folds d → KeepsFrontOf s.folds d
       (sums_from_delay (sums_of f s.carry.tables.plan.edges) d s.carry.fed)
@@ -73,12 +73,12 @@ pub record StandsForStream (s : ShardState) (f : Filterbank) : Type 0 where
 -- there is a stream that the carry stands for
 pub record HasStream (c : Carrying) : Type 0 where
   pub stream : Filterbank
-  pub stands : carry.StandsFor c stream
+  pub stands : carry.StandsForSamples c stream
 
 -- and one that goes on with these rows
 pub record GoesOn (c : Carrying) (rows : List ℕ) (spectra : ℕ) : Type 0 where
   pub stream : Filterbank
-  pub stands : carry.StandsFor c stream
+  pub stands : carry.StandsForSamples c stream
   pub next : AreNext c stream rows spectra
 
 -- both search for the same

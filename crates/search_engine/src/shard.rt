@@ -1,7 +1,7 @@
 // The search of a shard's path sums, chunk by chunk.
 ghost use Rattle.std.specs.Prelude.{◌≡◌, ℕ, ◌+◌, ◌-◌, ◌*◌, ◌^◌, ◌≤◌, ◌<◌, [], All, Bool, IfOk, IsTrue, List, length, drop};
 ghost use Rattle.band_paths.specs.Edges.{channels_of};
-ghost use Rattle.fdmt_carry.specs.Carrying.{IsFed, AreNext, IsStream, StandsFor as StandsForCarry};
+ghost use Rattle.fdmt_carry.specs.Carrying.{IsFed, AreNext, IsStream, StandsForSamples};
 ghost use Rattle.search_model.specs.Samples.{Filterbank};
 ghost use Rattle.search_model.specs.Search.{SettingsInRange, folds_are_on};
 ghost use Rattle.dada_model.specs.Edges.{AreEdges};
@@ -163,8 +163,8 @@ fn advance(carry: &mut Carry, rows: &[u32], spectra: u32, with_tables: bool)
     requires few { carry.old.fed + spectra ≤ 2 ^ 48 }
     ensures fed { IsFed carry.old carry.new spectra }
     ensures tables { carry.new.has_tables ≡ with_tables }
-    ensures stands { (f : Filterbank) → StandsForCarry carry.old f
-        → AreNext carry.old f rows.now spectra → StandsForCarry carry.new f }
+    ensures stands { (f : Filterbank) → StandsForSamples carry.old f
+        → AreNext carry.old f rows.now spectra → StandsForSamples carry.new f }
 {
     if with_tables {
         carry.feed(rows, spectra);
@@ -198,7 +198,7 @@ fn take_rows(
     ensures folds { FoldsAlike folds.new folds.old }
     ensures few { length pulses.new.hits ≤ 6 * (end - first) }
     ensures fed { AreFed pulses.new end carry.now.last }
-    ensures stands { (f : Filterbank) → StandsForCarry carry.now f
+    ensures stands { (f : Filterbank) → StandsForSamples carry.now f
         → HaveTaken (sums_of f carry.now.tables.plan.edges) pulses.old folds.old start
         carry.now.last first
         → HaveTaken (sums_of f carry.now.tables.plan.edges) pulses.new folds.new start

@@ -1,5 +1,5 @@
 use Rattle.std.proofs.Common.{◌-◌, ◌*◌, ◌≤◌, length}
-use Rattle.fdmt_carry.specs.Carrying.{StandsFor}
+use Rattle.fdmt_carry.specs.Carrying.{StandsForSamples}
 use Rattle.search_model.specs.Samples.{Filterbank}
 use Rattle.search_engine.specs.FoldSearch.{FoldsAlike}
 use Rattle.search_engine.specs.PulseSearch.{SearchAlike, AreFed}
@@ -13,7 +13,7 @@ invariant-loop-d l = record {
   folds : FoldsAlike l.folds l.fn.folds;
   few : length l.pulses.hits ≤ 6 * (l.d - l.first);
   fed : AreFed l.pulses l.d l.carry.last;
-  stands : (f : Filterbank) → StandsFor l.carry f
+  stands : (f : Filterbank) → StandsForSamples l.carry f
       → HaveTaken (sums_of f l.carry.tables.plan.edges) l.fn.pulses l.fn.folds l.start l.carry.last l.first
       → HaveTaken (sums_of f l.carry.tables.plan.edges) l.pulses l.folds l.start l.carry.last l.d;
 }

@@ -2,7 +2,7 @@ use Rattle.std.proofs.Common.{ℕ, ◌≡◌, ◌+◌, ◌-◌, ◌<◌, slice_i
 use Rattle.search_model.specs.Sums.{path_sum}
 use Rattle.subband_plan.specs.Nodes.{HasRow, HasKept, root}
 use Rattle.fdmt_carry.specs.Tables.{node_of}
-use Rattle.fdmt_carry.specs.Carrying.{Carrying, StandsFor, carrying}
+use Rattle.fdmt_carry.specs.Carrying.{Carrying, StandsForSamples, carrying}
 use Rattle.fdmt_carry.proofs.Feeding.{band_kept, value_read, path_read}
 use Rattle.fdmt_carry.proofs.carry.Carry.row.Goals as goal
 
@@ -18,8 +18,8 @@ returns-clause-sums c = λ f k stands lt.
     let d : ℕ = c.args.d in
     let is = c.hold.ensures in
     let whole = c.whole_of.ensures in
-    let now : StandsFor (carrying t s.max_sample s.fed s.last s.has_tables s.kept.items s.values.items) f =
-    subst (λ (x : Carrying). StandsFor x f) (sym c.self.view_is) stands in
+    let now : StandsForSamples (carrying t s.max_sample s.fed s.last s.has_tables s.kept.items s.values.items) f =
+    subst (λ (x : Carrying). StandsForSamples x f) (sym c.self.view_is) stands in
     let small : k < s.last = subst (λ (x : Carrying). k < x.last) (sym c.self.view_is) lt in
     let has : HasKept (node_of t 0) d =
     band_kept t is d (subst (λ (x : Carrying). HasRow (root x.tables.plan) d) (sym c.self.view_is) c.requires) in

@@ -2,7 +2,7 @@ use Rattle.std.proofs.Common.{ℕ, ◌≡◌, ◌+◌, ◌-◌, ◌<◌, true, s
 use Rattle.search_model.specs.Subbands.{node_sum}
 use Rattle.subband_plan.specs.Nodes.{HasRow, HasKept}
 use Rattle.fdmt_carry.specs.Tables.{node_of, node_count}
-use Rattle.fdmt_carry.specs.Carrying.{Carrying, StandsFor, carrying}
+use Rattle.fdmt_carry.specs.Carrying.{Carrying, StandsForSamples, carrying}
 use Rattle.fdmt_carry.proofs.Feeding.{has_kept, value_read}
 use Rattle.fdmt_carry.proofs.carry.Carry.table.Goals as goal
 
@@ -17,8 +17,8 @@ returns-clause-sums c = λ f i stands lt.
     let t = s.tables in
     let k : ℕ = c.args.k in
     let d : ℕ = c.args.d in
-    let now : StandsFor (carrying t s.max_sample s.fed s.last s.has_tables s.kept.items s.values.items) f =
-    subst (λ (x : Carrying). StandsFor x f) (sym c.self.view_is) stands in
+    let now : StandsForSamples (carrying t s.max_sample s.fed s.last s.has_tables s.kept.items s.values.items) f =
+    subst (λ (x : Carrying). StandsForSamples x f) (sym c.self.view_is) stands in
     let small : i < s.last = subst (λ (x : Carrying). i < x.last) (sym c.self.view_is) lt in
     let tables : s.has_tables ≡ true =
     subst (λ (x : Carrying). x.has_tables ≡ true) (sym c.self.view_is) c.requires.tables in

@@ -1,6 +1,6 @@
 use Rattle.std.proofs.Common.{ℕ, ◌≡◌, ◌+◌, ◌≤◌, length, take, ap, sym, ◌∙◌, arith, refl}
 use Rattle.std.proofs.lemmas.List.{length-take-le}
-use Rattle.fdmt_carry.specs.Tables.{tail_of, number_of, place_at, held_at, place_of, hold_of, start_of}
+use Rattle.fdmt_carry.specs.Tables.{tail_of, row_number, place_at, held_at, place_of, hold_of, start_of}
 use Rattle.fdmt_carry.proofs.Made.{row_made, row_alone, samples_go_on, zero_first}
 use Rattle.fdmt_carry.proofs.tables.Tables.copy_row.Goals as goal
 
@@ -8,7 +8,7 @@ pub returns-clause-made : goal.returns-clause-made
 returns-clause-made c = λ f u samples keeps.
     let t = c.args.self.now in
     let k : ℕ = c.args.k in
-    let r : ℕ = number_of t k 0 in
+    let r : ℕ = row_number t k 0 in
     let table = c.args.table.now in
     let kept = c.args.kept.now in
     let spectra : ℕ = length c.args.samples.now in

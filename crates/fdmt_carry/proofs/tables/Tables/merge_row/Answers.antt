@@ -1,5 +1,5 @@
 use Rattle.std.proofs.Common.{ℕ, ◌≡◌, ◌+◌, ◌-◌, ◌≤◌, length, ap, sym, ◌∙◌, arith}
-use Rattle.fdmt_carry.specs.Tables.{tail_of, number_of, place_at, held_at, place_of, hold_of}
+use Rattle.fdmt_carry.specs.Tables.{tail_of, row_number, place_at, held_at, place_of, hold_of}
 use Rattle.fdmt_carry.specs.Making.{lower_of}
 use Rattle.fdmt_carry.proofs.Parts.{part_length}
 use Rattle.fdmt_carry.proofs.Made.{row_made, row_alone, halves_go_on}
@@ -38,7 +38,7 @@ returns-clause-made c = λ f u halves keeps.
     let at_is : place_of t k + at ≡ place_at t c.args.r = omega (arith, c.place_in-at.ensures) in
     let hold_is : hold_of t k + hold ≡ held_at t c.args.r = omega (arith, c.hold_in-hold.ensures) in
     let tail_is = c.tail-tail.ensures in
-    let tail_now : tail ≡ tail_of t (number_of t k d) = tail_is ∙ ap (tail_of t) r_is in
+    let tail_now : tail ≡ tail_of t (row_number t k d) = tail_is ∙ ap (tail_of t) r_is in
     let next = row.next in
     let to = row.to in
     let kept_next = row.kept_next in

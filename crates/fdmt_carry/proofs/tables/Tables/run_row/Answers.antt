@@ -1,6 +1,6 @@
 use Rattle.std.proofs.Common.{ℕ, ◌≡◌, ◌+◌, ◌-◌, ◌≤◌, length, ap, sym, subst, ◌∙◌, arith}
 use Rattle.std.proofs.lemmas.List.{length-take-le}
-use Rattle.fdmt_carry.specs.Tables.{tail_of, number_of, place_at, held_at, place_of, hold_of}
+use Rattle.fdmt_carry.specs.Tables.{tail_of, row_number, place_at, held_at, place_of, hold_of}
 use Rattle.fdmt_carry.specs.Making.{ChannelHas}
 use Rattle.fdmt_carry.proofs.Parts.{part_length}
 use Rattle.fdmt_carry.proofs.Made.{row_made, row_alone, channel_goes_on, before_has}
@@ -36,11 +36,11 @@ returns-clause-made c = λ f u channels has keeps.
     let at_is : place_of t k + at ≡ place_at t c.number-r.result = omega (arith, c.place_in-at.ensures) in
     let hold_is : hold_of t k + hold ≡ held_at t c.number-r.result = omega (arith, c.hold_in-hold.ensures) in
     let tail_is = c.tail-tail.ensures in
-    let at_now : place_of t k + at ≡ place_at t (number_of t k d) = at_is ∙ ap (place_at t) r_is in
-    let tail_now : tail ≡ tail_of t (number_of t k d) = tail_is ∙ ap (tail_of t) r_is in
-    let first_tail : c.tail.result ≡ tail_of t (number_of t k 0) = c.tail.ensures ∙ ap (tail_of t) a_is in
-    let prior_tail : c.tail-2.result ≡ tail_of t (number_of t k (d - 1)) = c.tail-2.ensures ∙ ap (tail_of t) b_is in
-    let prior_is : place_of t k + at_row ≡ place_at t (number_of t k (d - 1)) =
+    let at_now : place_of t k + at ≡ place_at t (row_number t k d) = at_is ∙ ap (place_at t) r_is in
+    let tail_now : tail ≡ tail_of t (row_number t k d) = tail_is ∙ ap (tail_of t) r_is in
+    let first_tail : c.tail.result ≡ tail_of t (row_number t k 0) = c.tail.ensures ∙ ap (tail_of t) a_is in
+    let prior_tail : c.tail-2.result ≡ tail_of t (row_number t k (d - 1)) = c.tail-2.ensures ∙ ap (tail_of t) b_is in
+    let prior_is : place_of t k + at_row ≡ place_at t (row_number t k (d - 1)) =
     (let e : place_of t k + at_row ≡ place_at t c.number-b.result = omega (arith, c.place_in.ensures) in e)
     ∙ ap (place_at t) b_is in
     let next = row.next in
@@ -50,8 +50,8 @@ returns-clause-made c = λ f u channels has keeps.
     let table_size = c.requires.own.table_size in
     let kept_size = c.requires.own.kept_size in
     let first_row = c.number-a.ensures.row in
-    let first_next : place_at t (number_of t k 0 + 1) ≡ place_at t (number_of t k 0)
-    + (tail_of t (number_of t k 0) + t.chunk) =
+    let first_next : place_at t (row_number t k 0 + 1) ≡ place_at t (row_number t k 0)
+    + (tail_of t (row_number t k 0) + t.chunk) =
     ap (λ r. place_at t (r + 1)) (sym a_is) ∙ first_row.next
     ∙ ap (λ r. place_at t r + (tail_of t r + t.chunk)) a_is in
     let first = run.first in

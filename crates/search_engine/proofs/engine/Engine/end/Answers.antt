@@ -122,6 +122,6 @@ returns-clause-searched c = λ o bytes stands.
       spectra = ap (λ (t : ShardState). t.carry.fed) same ∙ c.take.ensures.fed ∙ sym all;
       plan = ap (λ (t : ShardState). t.carry.tables.plan) same
           ∙ ap (λ (t : Tables). t.plan) c.take.ensures.alike.tables ∙ s.plan;
-      carry = subst (λ (t : ShardState). carry.StandsFor t.carry f) (sym same) after.carry;
+      carry = subst (λ (t : ShardState). carry.StandsForSamples t.carry f) (sym same) after.carry;
       tables = ap (λ (t : ShardState). t.carry.has_tables) same ∙ c.take.ensures.tables;
     }
