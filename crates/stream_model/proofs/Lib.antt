@@ -13,4 +13,7 @@ pub mod Alike
 pub mod Padded
 pub mod Rooms
 pub mod RecordedHeaders
+pub mod FileBytes
+pub mod RecordedPlaces
+pub mod RecordedWalk
 pub mod WorkedWalk

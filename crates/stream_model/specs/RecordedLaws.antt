@@ -1,6 +1,6 @@
 -- Laws of recorded files; the functions of this crate carry them.
 -- Source: PSRDADA manual (OBS_OFFSET, FILE_NUMBER, FILE_SIZE); the laws are this project's choice.
-use Rattle.std.specs.Prelude.{◌≡◌, ◌≢◌, ℕ, ◌+◌, ◌^◌, ◌<◌, ◌≤◌, List, [], ◌∷◌, length, map, Option, Some, None, Ok, Contains, codes}
+use Rattle.std.specs.Prelude.{◌≡◌, ◌≢◌, ℕ, ◌+◌, ◌^◌, ◌<◌, ◌≤◌, List, [], ◌∷◌, length, map, Option, Some, None, Ok, All, codes}
 use Rattle.std.specs.List.{flat_map, range_with_len}
 use Rattle.std.specs.Option.{option_map}
 use Rattle.dada_model.specs.Fields.{fields_of, value_of}
@@ -108,6 +108,14 @@ stream_of_recorded max_bytes transfers = record {
   max_bytes = max_bytes;
 }
 
+-- those of one transfer
+abbrev pub stream_of_files : ℕ → RecordedTransfer → FileStream
+stream_of_files max_bytes transfer = record {
+  files = map (λ file. file.bytes) (recorded_files transfer.recording transfer.bytes);
+  starts = 0 ∷ [];
+  max_bytes = max_bytes;
+}
+
 -- the data of transfers
 abbrev pub data_of_transfers : List RecordedTransfer → List (List ℕ)
 data_of_transfers transfers = map (λ transfer. transfer.bytes) transfers
@@ -124,10 +132,16 @@ pub record CanBeRecorded (transfer : RecordedTransfer) : Type 0 where
   pub few : length transfer.bytes ≤ limit
   pub offsets : transfer.recording.offset + length transfer.bytes ≤ 10 ^ 15
 
--- fed in order, the recorded files of whole transfers are a whole stream with the data of each
+-- fed in order, the recorded files of a whole transfer are a whole stream with the same data
 abbrev pub RecordedFilesGiveTheData : Type 0
-RecordedFilesGiveTheData = (max_bytes : ℕ) (transfers : List RecordedTransfer) →
-    ((transfer : RecordedTransfer) → Contains transfers transfer → CanBeRecorded transfer) →
-    length (joined_data (data_of_transfers transfers)) ≤ max_bytes →
+RecordedFilesGiveTheData = (max_bytes : ℕ) (transfer : RecordedTransfer) → CanBeRecorded transfer →
+    length transfer.bytes ≤ max_bytes →
+    (walk_stop (stream_of_files max_bytes transfer) ≡ Whole)
+    × (walk_data (stream_of_files max_bytes transfer) ≡ transfer.bytes ∷ [])
+
+-- those of several whole transfers are a whole stream with the data of each
+abbrev pub RecordedTransfersGiveTheData : Type 0
+RecordedTransfersGiveTheData = (max_bytes : ℕ) (transfers : List RecordedTransfer) →
+    All CanBeRecorded transfers → length (joined_data (data_of_transfers transfers)) ≤ max_bytes →
     (walk_stop (stream_of_recorded max_bytes transfers) ≡ Whole)
     × (walk_data (stream_of_recorded max_bytes transfers) ≡ data_of_transfers transfers)

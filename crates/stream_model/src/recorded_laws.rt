@@ -1,11 +1,13 @@
 // Laws of recorded files, which the contracts of functions that do nothing carry. A caller whose proof needs a law
 // calls its function.
-ghost use Rattle.stream_model.specs.RecordedLaws.{ChangesStayAlike, EachHeaderHasRoom, HeadersKeepValues, HeadersKeepObservation};
+ghost use Rattle.stream_model.specs.RecordedLaws.{ChangesStayAlike, EachHeaderHasRoom, HeadersKeepValues, HeadersKeepObservation, FileDataJoin, RecordedFilesGiveTheData, RecordedTransfersGiveTheData};
 
 // Laws: they do nothing when they run, and the proofs use what they ensure.
+use crate::walk_laws::{accepted_is_later, headers_continue, no_stop_is_whole, whole_exactly};
 use dada_model::{
     accepted_by_rows, blank_keeps_length, change_gives_value, change_keeps_others,
-    changed_is_read_back, fields_by_lines, first_word_of_line, numbers_are_spelled,
+    changed_is_read_back, fields_by_lines, first_word_of_line, headers_are_text, headers_by_front,
+    numbers_are_spelled,
 };
 
 /// Texts that are alike stay so where a key gets values of one width.
@@ -43,4 +45,31 @@ pub fn headers_keep_observation()
     change_keeps_others();
     numbers_are_spelled();
     accepted_by_rows();
+}
+
+/// The data of the recorded files joined are those of the transfer.
+pub fn file_data_join()
+    ensures { FileDataJoin }
+{}
+
+/// Fed in order, the recorded files of whole transfers are a whole stream with the data of each.
+pub fn recorded_transfers_give_the_data()
+    ensures { RecordedTransfersGiveTheData }
+{
+    headers_by_front();
+    headers_are_text();
+    each_header_has_room();
+    headers_keep_values();
+    headers_keep_observation();
+    accepted_is_later();
+    headers_continue();
+    whole_exactly();
+    no_stop_is_whole();
+}
+
+/// Fed in order, the recorded files of a whole transfer are a whole stream with the same data.
+pub fn recorded_files_give_the_data()
+    ensures { RecordedFilesGiveTheData }
+{
+    recorded_transfers_give_the_data();
 }
