@@ -9,7 +9,7 @@ use Rattle.dada_model.specs.Fields.{fields_of, value_of}
 use Rattle.dada_model.specs.Change.{IsWord, line_end, field_line, has_room_for, is_overwritten, overwritten, blanked, changed}
 use Rattle.dada_model.specs.FieldLaws.{FirstWordOfLine, FieldsByLines}
 use Rattle.dada_model.specs.ChangeLaws.{ChangeGivesValue, ChangeKeepsOthers, BlankKeepsLength}
-use Rattle.stream_model.specs.RecordedLaws.{AreAlike}
+use Rattle.stream_model.specs.RecordedLaws.{AreLikeTexts}
 use Rattle.stream_model.proofs.Overwritten.{is_ended, IsSameSize, ended_last, keeps_size}
 
 -- the laws of a change that this stands on
@@ -35,7 +35,7 @@ same_room first last (Some x) (Some y) same e =
     let widths : length x ≡ length y = cc in
     ap (λ (n : ℕ). leb n (length x)) same ∙ ap (leb (length last)) widths
 
-same_way : (key first last one other : List ℕ) → length first ≡ length last → AreAlike one other →
+same_way : (key first last one other : List ℕ) → length first ≡ length last → AreLikeTexts one other →
     is_overwritten key first one ≡ is_overwritten key last other
 unfolding is_overwritten
 same_way key first last one other same alike =
@@ -99,7 +99,7 @@ same_ends false true e = absurd (omega (arith, ap (length {A = ℕ}) e))
 same_ends false false e = refl
 
 sizes_on : ChangesHold → (b : Bool) (key first last one other : List ℕ) → IsWord first → IsWord last →
-    length first ≡ length last → AreAlike one other → is_overwritten key first one ≡ b →
+    length first ≡ length last → AreLikeTexts one other → is_overwritten key first one ≡ b →
     is_overwritten key last other ≡ b → IsSameSize (changed key first one) (changed key last other)
 sizes_on laws true key first last one other word word_too same alike e f =
     let a = size_in_place laws key first one word e in
@@ -130,7 +130,7 @@ all_kept keeps key value text other k v apart =
     ∙ ap (λ (t : List ℕ). value_of other (fields_of t)) old
 
 widths_on : ChangesHold → (b : Bool) (key first last one two other : List ℕ) → bytes_eq other key ≡ b → IsWord key →
-    IsWord first → IsWord last → length first ≡ length last → AreAlike one two →
+    IsWord first → IsWord last → length first ≡ length last → AreLikeTexts one two →
     option_map length (value_of other (fields_of (changed key first one)))
     ≡ option_map length (value_of other (fields_of (changed key last two)))
 widths_on laws true key first last one two other is k v w same alike =
@@ -146,7 +146,7 @@ widths_on laws false key first last one two other is k v w same alike =
     ∙ sym (ap (option_map length) (all_kept laws.keeps key last two other k w apart))
 
 pub stay_alike : ChangesHold → (key first last one other : List ℕ) → IsWord key → IsWord first → IsWord last →
-    length first ≡ length last → AreAlike one other → AreAlike (changed key first one) (changed key last other)
+    length first ≡ length last → AreLikeTexts one other → AreLikeTexts (changed key first one) (changed key last other)
 stay_alike laws key first last one other k v w same alike =
     let way = same_way key first last one other same alike in
     let sizes = sizes_on laws (is_overwritten key first one) key first last one other v w same alike refl (sym way) in
@@ -157,5 +157,5 @@ stay_alike laws key first last one other k v w same alike =
       widths = λ another. widths_on laws (bytes_eq another key) key first last one other another refl k v w same alike;
     }
 
-pub alike_itself : (text : List ℕ) → AreAlike text text
+pub alike_itself : (text : List ℕ) → AreLikeTexts text text
 alike_itself text = record { lengths = refl; ends = refl; widths = λ key. refl }

@@ -10,7 +10,7 @@ use Rattle.dada_model.specs.Laws.{AcceptedByRows, NumbersAreSpelled, HasNumberIn
 use Rattle.dada_model.specs.Observation.{Observation, BadNumber, keyword, number_or_default, number_of, observation_in, observation_of, signed_edge, is_in_row}
 use Rattle.psr_base.specs.Fixed.{padded}
 use Rattle.stream_model.specs.Recorded.{Recording, file_offset, with_offset, with_number, with_size, file_header}
-use Rattle.stream_model.specs.RecordedLaws.{HasRoom, HeadersKeepValues, HeadersKeepObservation}
+use Rattle.stream_model.specs.RecordedLaws.{HeaderHasRoom, HeadersKeepValues, HeadersKeepObservation}
 use Rattle.stream_model.proofs.Alike.{bytes_apart, all_kept}
 use Rattle.stream_model.proofs.Padded.{padded_number}
 use Rattle.stream_model.proofs.Rooms.{offset_key, number_key, size_key, AreWords, words_of_file}
@@ -47,7 +47,7 @@ has_values gives keeps r i w =
     }
 
 -- the header is read back after each change
-read_after : ChangedIsReadBack → (r : Recording) (i : ℕ) → AreWords r i → HasRoom r i → IsReadBack r.header →
+read_after : ChangedIsReadBack → (r : Recording) (i : ℕ) → AreWords r i → HeaderHasRoom r i → IsReadBack r.header →
     IsReadBack (file_header r i)
 unfolding file_header
 read_after law r i w room is =

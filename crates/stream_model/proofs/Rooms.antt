@@ -5,7 +5,7 @@ use Rattle.std.proofs.lemmas.Bool.{ltb-true, leb-true, and_parts, both_ways}
 use Rattle.std.proofs.lemmas.List.Elements.{All-nil, All-cons}
 use Rattle.dada_model.specs.Change.{IsWordByte, IsWord}
 use Rattle.stream_model.specs.Recorded.{Recording, file_offset, with_offset, with_number, with_size, start_time, RecordRefusal, NoRoom, time_refusal, room_refusal, number_refusal, or_else, record_refusal}
-use Rattle.stream_model.specs.RecordedLaws.{AreAlike, ChangesStayAlike, HasNumbers, HasRoom}
+use Rattle.stream_model.specs.RecordedLaws.{AreLikeTexts, ChangesStayAlike, HasNumbers, HeaderHasRoom}
 use Rattle.stream_model.proofs.Alike.{alike_itself}
 use Rattle.stream_model.proofs.Padded.{padded_word, padded_width}
 use Rattle.psr_base.specs.Fixed.{padded}
@@ -60,7 +60,7 @@ room_of size text none = by_test (ltb (length text) size) refl none
 -- what nothing refused says
 pub record IsRecordable (r : Recording) (max_bytes : ℕ) : Type 0 where
   pub time : time_refusal (start_time r.header) ≡ None
-  pub room : HasRoom r 0
+  pub room : HeaderHasRoom r 0
   pub files : number_refusal r.file_size max_bytes ≡ None
 
 pub recordable : (r : Recording) (max_bytes : ℕ) → record_refusal r max_bytes ≡ None → IsRecordable r max_bytes
@@ -102,9 +102,9 @@ first_numbers : (r : Recording) (i : ℕ) → HasNumbers r i → HasNumbers r 0
 first_numbers r i h = record { offset = omega (arith, h.offset); number = omega arith; size = h.size }
 
 record AreLikeFirst (r : Recording) (i : ℕ) : Type 0 where
-  offset : AreAlike (with_offset r i) (with_offset r 0)
-  number : AreAlike (with_number r i) (with_number r 0)
-  size : AreAlike (with_size r i) (with_size r 0)
+  offset : AreLikeTexts (with_offset r i) (with_offset r 0)
+  number : AreLikeTexts (with_number r i) (with_number r 0)
+  size : AreLikeTexts (with_size r i) (with_size r 0)
 
 like_first : ChangesStayAlike → (r : Recording) (i : ℕ) → HasNumbers r i → AreLikeFirst r i
 like_first alike r i h =
@@ -120,7 +120,7 @@ like_first alike r i h =
     record { offset = one; number = two; size = three }
 
 pub each_has_room : ChangesStayAlike → (r : Recording) (max_bytes i : ℕ) → record_refusal r max_bytes ≡ None →
-    HasNumbers r i → HasRoom r i
+    HasNumbers r i → HeaderHasRoom r i
 each_has_room alike r max_bytes i none h =
     let room = (recordable r max_bytes none).room in
     let like = like_first alike r i h in

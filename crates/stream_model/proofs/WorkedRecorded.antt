@@ -1,9 +1,12 @@
 -- Worked values of recorded files, computed.
-use Rattle.std.proofs.Common.{◌≡◌, ℕ, List, [], ◌∷◌, ◌++◌, None, Some, refl}
+use Rattle.std.proofs.Common.{◌≡◌, ℕ, List, [], ◌∷◌, ◌++◌, None, Some, refl, arith}
 use Rattle.std.specs.Prelude.{codes}
 use Rattle.std.specs.Fmt.{digits}
-use Rattle.dada_model.specs.Fields.{is_white, without_comment, words_of, fields_of, value_of}
+use Rattle.dada_model.specs.Number.{number_value}
+use Rattle.dada_model.specs.Observation.{signed_edge, number_of, observation_in, refusal_at, refusals, observation_of}
+use Rattle.dada_model.specs.Fields.{header_size, header_of, header_bytes, is_white, without_comment, words_of, fields_of, value_of}
 use Rattle.dada_model.specs.Change.{word_start, word_end, value_start, value_end, has_key, with_value, blanked_line, overwritten, blanked, line_end, is_overwritten, changed}
+use Rattle.stream_model.specs.RecordedLaws.{RecordedTransfer, CanBeRecorded}
 use Rattle.stream_model.specs.Recorded.{is_time, Recording, file_header, file_name, file_data, file_count, record_refusal, NoTime, BadTime, NoRoom, TooManyFiles}
 
 abbrev lines : List (List ℕ) → List ℕ
@@ -102,3 +105,36 @@ no_time : record_refusal (small (codes "#") (codes "#")) 4 ≡ Some NoTime
 unfolding record_refusal is_time digits changed is_overwritten overwritten blanked line_end has_key with_value
     blanked_line fields_of words_of without_comment is_white word_start word_end value_start value_end value_of
 no_time = refl
+
+-- ---- what the laws ask of a transfer
+
+-- six bytes of two channels, in files of four
+observed_transfer : RecordedTransfer
+observed_transfer = record {
+  recording = record {
+    header = record {
+      size = 4096;
+      text = codes "NCHAN 2\nNBIT 8\nTSAMP 64\nFREQ 1400\nBW -200\nUTC_START 2024-01-02-03:04:05\n";
+    };
+    offset = 0;
+    file_size = 4;
+  };
+  bytes = 10 ∷ 0 ∷ 0 ∷ 20 ∷ 0 ∷ 0 ∷ [];
+}
+
+can_be_recorded : CanBeRecorded observed_transfer
+unfolding observed_transfer header_of header_size header_bytes record_refusal is_time digits changed
+    is_overwritten overwritten blanked line_end has_key with_value blanked_line fields_of words_of without_comment
+    is_white word_start word_end value_start value_end value_of observation_of refusals refusal_at number_of
+    number_value observation_in signed_edge
+can_be_recorded = record {
+  is_header = refl;
+  observation = observation_in (fields_of observed_transfer.recording.header.text);
+  is_observation = refl;
+  some = omega arith;
+  size = omega arith;
+  limit = 6;
+  none_refused = refl;
+  few = omega arith;
+  offsets = omega arith;
+}

@@ -17,7 +17,7 @@ use Rattle.stream_model.specs.Recorded.{Recording, file_offset, with_offset, wit
 
 -- two texts have one length, both or neither end in a line feed, and what one of them has as the
 -- value of a key is as wide as what the other has
-pub record AreAlike (one other : List ℕ) : Type 0 where
+pub record AreLikeTexts (one other : List ℕ) : Type 0 where
   pub lengths : length one ≡ length other
   pub ends : line_end one ≡ line_end other
   pub widths : (key : List ℕ) → option_map length (value_of key (fields_of one))
@@ -26,8 +26,8 @@ pub record AreAlike (one other : List ℕ) : Type 0 where
 -- they stay so where a key gets values of one width
 abbrev pub ChangesStayAlike : Type 0
 ChangesStayAlike = (key first last one other : List ℕ) → IsWord key → IsWord first → IsWord last →
-    length first ≡ length last → AreAlike one other →
-    AreAlike (changed key first one) (changed key last other)
+    length first ≡ length last → AreLikeTexts one other →
+    AreLikeTexts (changed key first one) (changed key last other)
 
 -- ---- headers
 
@@ -38,7 +38,7 @@ pub record HasNumbers (r : Recording) (i : ℕ) : Type 0 where
   pub size : r.file_size < 10 ^ 16
 
 -- each change for file i leaves a text for which the header has room
-pub record HasRoom (r : Recording) (i : ℕ) : Type 0 where
+pub record HeaderHasRoom (r : Recording) (i : ℕ) : Type 0 where
   pub offset : length (with_offset r i) < r.header.size
   pub number : length (with_number r i) < r.header.size
   pub size : length (with_size r i) < r.header.size
@@ -46,7 +46,7 @@ pub record HasRoom (r : Recording) (i : ℕ) : Type 0 where
 -- where nothing is refused, each file's header has room for its changes
 abbrev pub EachHeaderHasRoom : Type 0
 EachHeaderHasRoom = (r : Recording) (max_bytes i : ℕ) → record_refusal r max_bytes ≡ None →
-    HasNumbers r i → HasRoom r i
+    HasNumbers r i → HeaderHasRoom r i
 
 -- the value of a key in the header of file i
 abbrev pub value_in_file : Recording → ℕ → List ℕ → Option (List ℕ)
@@ -64,8 +64,8 @@ pub record KeepsValues (r : Recording) (i : ℕ) : Type 0 where
       value_in_file r i key ≡ value_of key (fields_of r.header.text)
 
 abbrev pub HeadersKeepValues : Type 0
-HeadersKeepValues = (r : Recording) (i : ℕ) → HasNumbers r i → HasRoom r i → IsReadBack r.header →
-    KeepsValues r i
+HeadersKeepValues = (r : Recording) (i : ℕ) → HasNumbers r i → HeaderHasRoom r i →
+    IsReadBack r.header → KeepsValues r i
 
 -- the header of file i has the observation of the transfer's, but for the offset of its first data
 -- byte
