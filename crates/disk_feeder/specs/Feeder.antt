@@ -13,7 +13,7 @@ use Rattle.disk_feeder.specs.Plan.{Plan}
 use Rattle.disk_feeder.specs.Sources.{plan_of}
 use Rattle.disk_feeder.specs.Filling.{IsSince}
 use Rattle.disk_feeder.specs.Beginning.{IsFreshStream, IsBegunStream, RefusesSome, IsAcceptedIn}
-use Rattle.disk_feeder.specs.Feeding.{FitsRings, IsFaultless, IsFeeding}
+use Rattle.disk_feeder.specs.Feeding.{FitsRings, IsFaultless, IsFeeding, IsBeginning}
 
 -- the stream of a feeder
 abbrev pub stream_at : {I : Type 0} → Feeder I → Stream
@@ -22,6 +22,10 @@ stream_at f = f.stream
 -- what it reads, and the first headers of its transfers
 abbrev pub plan_at : {I : Type 0} → Feeder I → Plan
 plan_at f = plan_of f.stream.source
+
+-- how many bytes a block has
+abbrev pub block_size : {I : Type 0} → Feeder I → ℕ
+block_size f = length f.stream.block.items
 
 abbrev pub names_at : {I : Type 0} → Feeder I → List (List ℕ)
 names_at f = (plan_at f).names
@@ -39,7 +43,7 @@ pub record HasPlan {I : Type 0} (f : Feeder I) (names : List (List ℕ)) (starts
   pub files : (plan_at f).names ≡ names
   pub transfers : (plan_at f).starts ≡ starts
   pub limit : (plan_at f).max_bytes ≡ max_bytes
-  pub block : length f.stream.block.items ≡ size
+  pub block : block_size f ≡ size
 
 -- a header's observation was accepted as that of a transfer
 abbrev pub IsAcceptedAt : {I : Type 0} → Feeder I → ℕ → HeaderText → Type 0
@@ -50,15 +54,15 @@ pub record SamePlan {I : Type 0} (old new : Feeder I) : Type 0 where
   pub names : (plan_at new).names ≡ (plan_at old).names
   pub starts : (plan_at new).starts ≡ (plan_at old).starts
   pub limit : (plan_at new).max_bytes ≡ (plan_at old).max_bytes
-  pub size : length new.stream.block.items ≡ length old.stream.block.items
+  pub size : block_size new ≡ block_size old
 
 -- nothing was read
 abbrev pub IsFresh : {I : Type 0} → Feeder I → Type 0
 IsFresh f = IsFreshStream f.stream
 
 -- a file is open
-abbrev pub IsReading : {I : Type 0} → Feeder I → Type 0
-IsReading f = f.stream.source.place.is_open ≡ true
+abbrev pub HasOpenFile : {I : Type 0} → Feeder I → Type 0
+HasOpenFile f = f.stream.source.place.is_open ≡ true
 
 -- the first headers were read, and those of files that are told are those of the files
 abbrev pub IsBegun : {I : Type 0} → Told → Feeder I → Type 0
@@ -78,11 +82,15 @@ pub record AcceptsAt {I : Type 0} (old : Feeder I) (transfer : ℕ) (new : Feede
 abbrev pub FeederFeeds : {I : Type 0} → Told → Feeder I → List Entry → List Entry → Type 0
 FeederFeeds told f headers blocks = IsFeeding f.stream told headers blocks
 
+-- these blocks are a beginning of the stream of its files
+abbrev pub FeederBegins : {I : Type 0} → Told → Feeder I → List Entry → Type 0
+FeederBegins told f blocks = IsBeginning (plan_at f) told (block_size f) blocks
+
 -- the data ring has blocks of its size, and may carry max_bytes / size + transfers + 1 of them
 abbrev pub FeederFits : {I : Type 0} → Hdu → Feeder I → Type 0
 FeederFits hdu f = FitsRings hdu f.stream
 
--- since the inputs had counted k faults, it met a fault only where the count rose
+-- since the inputs had counted k faults, it met a fault only where the count rose, and where it met none it stands
 abbrev pub FeederSince : {I : Type 0} → ℕ → ℕ → Feeder I → Type 0
 FeederSince k faults f = IsSince k faults f.stream.due f.stream.end
 

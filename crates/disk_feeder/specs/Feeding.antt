@@ -1,6 +1,7 @@
 -- What a feeder stands for: the sealed lists of its pass.
 -- Source: this project's profile.
-use Rattle.std.specs.Prelude.{◌≡◌, ◌≢◌, ℕ, ◌+◌, ◌/◌, ◌<◌, ◌≤◌, Bool, true, if◌then◌else◌, Option, Some, None, List, map, length, take}
+use Rattle.std.specs.Prelude.{◌≡◌, ◌≢◌, ℕ, ◌+◌, ◌/◌, ◌<◌, ◌≤◌, Bool, true, false, if◌then◌else◌, Option, Some, None, List, [], ◌∷◌, ◌++◌, map, length, take}
+use mathlib.Core.List.{IsPrefix}
 use Rattle.psr_base.specs.Told.{Told}
 use Rattle.dada_model.specs.Fields.{HeaderText}
 use Rattle.ring_blocks.specs.declared.Entry.{Entry}
@@ -10,7 +11,7 @@ use Rattle.dada_hdu.specs.declared.hdu.Hdu.{Hdu}
 use Rattle.dada_hdu.specs.Passes.{data_shape}
 use Rattle.disk_feeder.specs.declared.due.Due.{Due}
 use Rattle.disk_feeder.specs.declared.due.Due.TheVariants.{Stopped}
-use Rattle.stream_model.specs.Blocks.{whole_stream, abandoned_stream, joined_data}
+use Rattle.stream_model.specs.Blocks.{whole_stream, abandoned_stream, joined_data, cut_entry, ended_transfers, has_cut}
 use Rattle.stream_model.specs.Walk.{FileStream, walk_data, walk_stop, walk_stream, transfer_data}
 use Rattle.disk_feeder.specs.declared.answers.FeedEnd.{FeedEnd}
 use Rattle.disk_feeder.specs.declared.answers.FeedEnd.TheVariants.{Whole, ReadFault}
@@ -45,16 +46,35 @@ pub record IsWalkEnd (s : FileStream) (size : ℕ) (blocks : List Entry) (end : 
   pub is : end ≡ end_of (length (joined_data (walk_data s))) s.max_bytes (walk_stop s)
   pub stream : blocks ≡ walk_stream size s
 
--- at a fault of the inputs the blocks are those of a front of the data
+-- at a fault of the inputs the blocks are those of a front of the data, and without the Cut they begin the walk's
 pub record IsBroken (s : FileStream) (size : ℕ) (blocks : List Entry) : Type 0 where
   pub transfer : ℕ
   pub read : ℕ
+  pub there : transfer < length s.starts
   pub stream : blocks
       ≡ abandoned_stream size s.max_bytes (take transfer (walk_data s)) (take read (transfer_data s transfer))
+  pub front : List Entry
+  pub cut : blocks ≡ front ++ cut_entry ∷ []
+  pub begins : IsPrefix front (walk_stream size s)
 
 abbrev pub EndIs : FileStream → ℕ → List Entry → FeedEnd → Type 0
 EndIs s size blocks ReadFault = IsBroken s size blocks
 EndIs s size blocks end = IsWalkEnd s size blocks end
+
+-- Until a feeder ended, its blocks are a beginning of the walk's stream in which some transfer has not ended
+pub record IsBeginning (plan : Plan) (told : Told) (size : ℕ) (blocks : List Entry) : Type 0 where
+  pub open_still : ended_transfers blocks < length plan.starts
+  pub uncut : has_cut blocks ≡ false
+  pub begins : (files : List (List ℕ)) → AreTold told plan.names files →
+      IsPrefix blocks (walk_stream size (stream_of plan files))
+
+-- The sealed headers are the accepted ones of the first transfers, in order: of as many as ended, or of one more
+pub record HeadersKeepUp (headers : List HeaderText) (sealed blocks : List Entry) : Type 0 where
+  pub count : ℕ
+  pub there : count ≤ length headers
+  pub are : sealed ≡ header_entries (take count headers)
+  pub ended : ended_transfers blocks ≤ count
+  pub next : count ≤ ended_transfers blocks + 1
 
 -- a whole stream of data, and all headers; or an abandoned one, and the headers of the transfers that began
 abbrev pub SealedAs : Plan → ℕ → List (List ℕ) → List ℕ → List Entry → List Entry → FeedEnd → Type 0

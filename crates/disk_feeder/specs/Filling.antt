@@ -1,6 +1,6 @@
 -- A block that is filled with the data of files.
 -- Source: this project's profile.
-use Rattle.std.specs.Prelude.{◌≡◌, ℕ, ◌+◌, ◌-◌, ◌*◌, ◌<◌, ◌≤◌, false, Option, Some, None, IsSome, List, [], ◌++◌, length, take, drop, slice_index_or, Result, MatchResult}
+use Rattle.std.specs.Prelude.{◌≡◌, ◌≢◌, ℕ, ◌+◌, ◌-◌, ◌*◌, ◌<◌, ◌≤◌, false, Option, Some, None, IsSome, List, [], ◌++◌, length, take, drop, slice_index_or, Result, MatchResult}
 use Rattle.psr_base.specs.Count.{Rose}
 use Rattle.psr_base.specs.Told.{Told}
 use Rattle.ring_blocks.specs.declared.Entry.{Entry}
@@ -54,11 +54,13 @@ pub record IsFilled (plan : Plan) (told : Told) (at : Place) (block : List ℕ) 
   pub kept : take held block ≡ drop (fulls * length block) current
   pub next : DueIs plan told at before current (length block) held due
 
--- since the inputs had counted k faults they failed only where the count rose
+-- since the inputs had counted k faults they failed only where the count rose, and where they didn't it stands still
 pub record IsSince (k faults : ℕ) (due : Option Due) (end : Option FeedEnd) : Type 0 where
   pub count : k ≤ faults
   pub due_failed : due ≡ Some (Stopped ReadFault) → Rose k faults
   pub end_failed : end ≡ Some ReadFault → Rose k faults
+  pub due_quiet : end ≡ None → due ≢ Some (Stopped ReadFault) → faults ≡ k
+  pub end_quiet : (stop : FeedEnd) → end ≡ Some stop → stop ≢ ReadFault → faults ≡ k
 
 -- the inputs hold a file under each name
 abbrev pub HoldsAll : Told → List (List ℕ) → Type 0

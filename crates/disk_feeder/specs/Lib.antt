@@ -9,3 +9,4 @@ pub mod Turns
 pub mod Feeding
 pub mod Beginning
 pub mod Feeder
+pub mod Laws

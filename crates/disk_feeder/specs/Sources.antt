@@ -34,8 +34,8 @@ abbrev pub ends_left : ℕ → Place → ℕ
 ends_left count at = 2 * (count - at.file) - (if at.is_open then 1 else 0)
 
 -- the name of the file at the place
-abbrev pub name_at : Source → List ℕ
-name_at source = slice_index_or (plan_of source).names source.place.file []
+abbrev pub current_name : Source → List ℕ
+current_name source = slice_index_or (plan_of source).names source.place.file []
 
 -- a file has no header, and so it is the end, if not the inputs' fault
 abbrev pub RefusesText : List ℕ → ℕ → FeedEnd → Type 0

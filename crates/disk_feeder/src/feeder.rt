@@ -10,6 +10,7 @@ ghost use Rattle.disk_feeder.specs.Filling.{HoldsAll};
 ghost use Rattle.disk_feeder.specs.Turns.{TurnAnswers, sealed_headers, sealed_blocks};
 
 use crate::answers::{FeedFault, FeedTurn};
+use crate::laws::{feeders_begin, headers_are_first};
 use crate::stream::Stream;
 use dada_hdu::{Hdu, HduWriter};
 use dada_header::Header;
@@ -30,8 +31,8 @@ pub struct Feeder<'a, I> {
 }
 
 impl<'a, I: Inputs> Feeder<'a, I> {
-    ghost use Rattle.disk_feeder.specs.Feeder.{HasPlan, SamePlan, IsFresh, IsBegun, IsReading, has_end, FeederFits, FeederFeeds, FeederSince, FeederFaultless, header_at, AcceptsAt, AllAccepted, names_at, RefusesAt};
-    ghost use Rattle.disk_feeder.specs.Feeding.{header_entries};
+    ghost use Rattle.disk_feeder.specs.Feeder.{HasPlan, SamePlan, IsFresh, IsBegun, HasOpenFile, has_end, FeederFits, FeederFeeds, FeederSince, FeederFaultless, header_at, AcceptsAt, AllAccepted, names_at, plan_at, FeederBegins, RefusesAt};
+    ghost use Rattle.disk_feeder.specs.Feeding.{header_entries, HeadersKeepUp};
 
     /// Takes all space: for the first header of each transfer and for a block of so many bytes. Transfer k begins with
     /// file `starts[k]`; all files may have at most `max_bytes` data bytes together.
@@ -64,8 +65,10 @@ impl<'a, I: Inputs> Feeder<'a, I> {
         ensures same_reference { self.new.inputs.ghost_name ≡ self.old.inputs.ghost_name }
         ensures plan { SamePlan self.old self.new }
         ensures begun { OnOk result (IsBegun (I.told self.new.inputs.now) self.new) }
-        ensures open { OnOk result (IsReading self.new → I.is_open self.new.inputs.now) }
+        ensures open { OnOk result (HasOpenFile self.new → I.is_open self.new.inputs.now) }
         ensures refused { IfErr result (RefusesAt (I.told self.old.inputs.now) self.old) }
+        ensures quiet { result ≢ Err FeedFault.ReadFault
+            → I.faults self.new.inputs.now ≡ I.faults self.old.inputs.now }
         ensures failed { result ≡ Err FeedFault.ReadFault
             → Rose (I.faults self.old.inputs.now) (I.faults self.new.inputs.now) }
         ensures names { (I.told self.new.inputs.now).bytes_under
@@ -103,7 +106,7 @@ impl<'a, I: Inputs> Feeder<'a, I> {
         ensures running { has_end self.new ≡ None }
         ensures begun { IsBegun (I.told self.new.inputs.now) self.new }
         ensures accepts { AcceptsAt self.old transfer self.new }
-        ensures reading { IsReading self.new → IsReading self.old }
+        ensures reading { HasOpenFile self.new → HasOpenFile self.old }
     {
         first_files_continue();
         data_grow();
@@ -117,17 +120,25 @@ impl<'a, I: Inputs> Feeder<'a, I> {
         requires ring { WritesBoth hdu.now pass.old }
         requires fits { FeederFits hdu.now self.old }
         requires running { has_end self.old ≡ None }
-        requires is_open { IsReading self.old → I.is_open self.old.inputs.now }
+        requires is_open { HasOpenFile self.old → I.is_open self.old.inputs.now }
         requires feeding { FeederFeeds (I.told self.old.inputs.now) self.old
             (sealed_headers pass.old) (sealed_blocks pass.old) }
         ensures ring { WritesBoth hdu.now pass.new }
         ensures same_reference { self.new.inputs.ghost_name ≡ self.old.inputs.ghost_name }
         ensures plan { SamePlan self.old self.new }
+        ensures reads { plan_at self.new ≡ plan_at self.old }
         ensures fits { FeederFits hdu.now self.new }
-        ensures is_open { IsReading self.new → I.is_open self.new.inputs.now }
+        ensures is_open { HasOpenFile self.new → I.is_open self.new.inputs.now }
         ensures feeding { FeederFeeds (I.told self.new.inputs.now) self.new
             (sealed_headers pass.new) (sealed_blocks pass.new) }
+        ensures begins { has_end self.new ≡ None → FeederBegins (I.told self.new.inputs.now)
+            self.new (sealed_blocks pass.new) }
+        ensures headers { HeadersKeepUp (header_at self.new) (sealed_headers pass.new)
+            (sealed_blocks pass.new) }
         ensures answer { TurnAnswers pass.old pass.new (has_end self.new) result }
+        ensures count { I.faults self.old.inputs.now ≤ I.faults self.new.inputs.now }
+        ensures quiet { FeederFaultless self.new
+            → I.faults self.new.inputs.now ≡ I.faults self.old.inputs.now }
         ensures since { (k : ℕ) → FeederSince k (I.faults self.old.inputs.now) self.old
             → FeederSince k (I.faults self.new.inputs.now) self.new }
         ensures names { (I.told self.new.inputs.now).bytes_under
@@ -137,6 +148,8 @@ impl<'a, I: Inputs> Feeder<'a, I> {
             → HoldsAll (I.told self.old.inputs.now) (names_at self.old)
             → FeederFaultless self.old → FeederFaultless self.new }
     {
+        feeders_begin::<I>();
+        headers_are_first::<I>();
         self.stream.turn(self.inputs, hdu, pass)
     }
 

@@ -1,5 +1,5 @@
 //! The header at the front of a file, read by exact pieces.
-ghost use Rattle.std.specs.Prelude.{◌≡◌, ◌+◌, ◌-◌, ◌≤◌, ◌<◌, ◌++◌, ℕ, List, length, take, drop, Some, Ok, Err, IfOk, IfErr, OnOk, OnErr, IsOk, IsSome};
+ghost use Rattle.std.specs.Prelude.{◌≡◌, ◌≢◌, ◌+◌, ◌-◌, ◌≤◌, ◌<◌, ◌++◌, ℕ, List, length, take, drop, Some, Ok, Err, IfOk, IfErr, OnOk, OnErr, IsOk, IsSome};
 ghost use Rattle.std.specs.Option.{ForSome};
 ghost use Rattle.psr_base.specs.Count.{Rose};
 ghost use Rattle.psr_base.specs.Told.{OfFile, left_to_read};
@@ -113,7 +113,7 @@ pub(crate) fn read_header<I: Inputs>(
     ensures stopped { IfErr result (λ stop. OfFile (I.told inputs.old) name.now
         (λ file. StopsHeader file stop)) }
     ensures is_open { OnOk result (I.is_open inputs.new) }
-    ensures quiet { OnOk result (I.faults inputs.new ≡ I.faults inputs.old) }
+    ensures quiet { result ≢ Err HeaderStop.Failed → I.faults inputs.new ≡ I.faults inputs.old }
     ensures failed { IfErr result (λ stop. IsFailure stop
         → Rose (I.faults inputs.old) (I.faults inputs.new)) }
     ensures names { (I.told inputs.new).bytes_under ≡ (I.told inputs.old).bytes_under }

@@ -6,6 +6,7 @@ mod answers;
 mod due;
 mod feeder;
 mod front;
+mod laws;
 mod place;
 mod source;
 mod stream;
@@ -13,3 +14,4 @@ mod writing;
 
 pub use answers::{FeedEnd, FeedFault, FeedTurn, HeaderCause};
 pub use feeder::Feeder;
+pub use laws::{feeders_begin, headers_are_first};

@@ -53,7 +53,7 @@ pub(crate) struct Source<'a> {
 }
 
 impl<'a> Source<'a> {
-    ghost use Rattle.disk_feeder.specs.Sources.{plan_of, name_at, IsEarly, RefusesText, IsCounted, ends_left, first_place, first_name, KeepsHeaders, HasHeaderAt, RefusesFirst, IsKept};
+    ghost use Rattle.disk_feeder.specs.Sources.{plan_of, current_name, IsEarly, RefusesText, IsCounted, ends_left, first_place, first_name, KeepsHeaders, HasHeaderAt, RefusesFirst, IsKept};
     ghost use Rattle.disk_feeder.specs.Reading.{OpensTo, ReadsTo, EndsTransfer};
     ghost use Rattle.disk_feeder.specs.Beginning.{KeepsSource, HeadersRead, LastLeft, RefusesSome};
     ghost use Rattle.disk_feeder.specs.Filling.{HoldsAll};
@@ -124,6 +124,8 @@ impl<'a> Source<'a> {
             (first_name self.old transfer) (λ file. RefusesFirst file
             (begin_at self.old.starts.now (length self.old.names.now) transfer) fault)) }
         ensures is_open { OnOk result (I.is_open inputs.new) }
+        ensures quiet { result ≢ Err FeedFault.ReadFault
+            → I.faults inputs.new ≡ I.faults inputs.old }
         ensures failed { result ≡ Err FeedFault.ReadFault
             → Rose (I.faults inputs.old) (I.faults inputs.new) }
         ensures names { (I.told inputs.new).bytes_under ≡ (I.told inputs.old).bytes_under }
@@ -155,6 +157,8 @@ impl<'a> Source<'a> {
             (length self.old.starts.now) (I.told inputs.new)) }
         ensures refused { IfErr result (RefusesSome (I.told inputs.old) self.old) }
         ensures is_open { OnOk result (I.is_open inputs.new) }
+        ensures quiet { result ≢ Err FeedFault.ReadFault
+            → I.faults inputs.new ≡ I.faults inputs.old }
         ensures failed { result ≡ Err FeedFault.ReadFault
             → Rose (I.faults inputs.old) (I.faults inputs.new) }
         ensures names { (I.told inputs.new).bytes_under ≡ (I.told inputs.old).bytes_under }
@@ -235,21 +239,23 @@ impl<'a> Source<'a> {
         requires there { self.old.place.file < length self.old.names.now }
         ensures plan { plan_of self.new ≡ plan_of self.old }
         ensures place { self.new.place ≡ self.old.place }
-        ensures header { OnOk result (OfFile (I.told inputs.old) (name_at self.old)
+        ensures header { OnOk result (OfFile (I.told inputs.old) (current_name self.old)
             (λ file. header_of file ≡ Ok self.new.later)) }
-        ensures left { OnOk result (OfFile (I.told inputs.old) (name_at self.old)
+        ensures left { OnOk result (OfFile (I.told inputs.old) (current_name self.old)
             (λ file. left_to_read (I.told inputs.new) ≡ Some (data_of file))) }
-        ensures stopped { IfErr result (λ end. OfFile (I.told inputs.old) (name_at self.old)
+        ensures stopped { IfErr result (λ end. OfFile (I.told inputs.old) (current_name self.old)
             (λ file. RefusesText file self.old.place.file end)) }
         ensures early { IfErr result (IsEarly (plan_of self.old)) }
         ensures is_open { OnOk result (I.is_open inputs.new) }
+        ensures quiet { result ≢ Err FeedEnd.ReadFault
+            → I.faults inputs.new ≡ I.faults inputs.old }
         ensures failed { result ≡ Err FeedEnd.ReadFault
             → Rose (I.faults inputs.old) (I.faults inputs.new) }
         ensures names { (I.told inputs.new).bytes_under ≡ (I.told inputs.old).bytes_under }
         ensures count { I.faults inputs.old ≤ I.faults inputs.new }
         ensures calm { I.is_calm inputs.old → I.is_calm inputs.new }
         ensures serves { I.is_calm inputs.old
-            → IsSome ((I.told inputs.old).bytes_under (name_at self.old))
+            → IsSome ((I.told inputs.old).bytes_under (current_name self.old))
             → result ≢ Err FeedEnd.ReadFault }
     {
         let file = self.place.file;
@@ -291,13 +297,15 @@ impl<'a> Source<'a> {
             (I.told inputs.new) result }
         ensures early { IfErr result (IsEarly (plan_of self.old)) }
         ensures is_open { OnOk result (I.is_open inputs.new) }
+        ensures quiet { result ≢ Err FeedEnd.ReadFault
+            → I.faults inputs.new ≡ I.faults inputs.old }
         ensures failed { result ≡ Err FeedEnd.ReadFault
             → Rose (I.faults inputs.old) (I.faults inputs.new) }
         ensures names { (I.told inputs.new).bytes_under ≡ (I.told inputs.old).bytes_under }
         ensures count { I.faults inputs.old ≤ I.faults inputs.new }
         ensures calm { I.is_calm inputs.old → I.is_calm inputs.new }
         ensures serves { I.is_calm inputs.old
-            → IsSome ((I.told inputs.old).bytes_under (name_at self.old))
+            → IsSome ((I.told inputs.old).bytes_under (current_name self.old))
             → result ≢ Err FeedEnd.ReadFault }
     {
         files_are_in_transfers();
@@ -393,6 +401,8 @@ impl<'a> Source<'a> {
             self.new.place (I.told inputs.new) into.new result }
         ensures early { IfErr result (IsEarly (plan_of self.old)) }
         ensures is_open { I.is_open inputs.new }
+        ensures quiet { result ≢ Err FeedEnd.ReadFault
+            → I.faults inputs.new ≡ I.faults inputs.old }
         ensures failed { result ≡ Err FeedEnd.ReadFault
             → Rose (I.faults inputs.old) (I.faults inputs.new) }
         ensures names { (I.told inputs.new).bytes_under ≡ (I.told inputs.old).bytes_under }
@@ -445,13 +455,15 @@ impl<'a> Source<'a> {
             self.new.place (I.told inputs.new) into.new result }
         ensures early { IfErr result (IsEarly (plan_of self.old)) }
         ensures is_open { self.new.place.is_open ≡ true → I.is_open inputs.new }
+        ensures quiet { result ≢ Err FeedEnd.ReadFault
+            → I.faults inputs.new ≡ I.faults inputs.old }
         ensures failed { result ≡ Err FeedEnd.ReadFault
             → Rose (I.faults inputs.old) (I.faults inputs.new) }
         ensures names { (I.told inputs.new).bytes_under ≡ (I.told inputs.old).bytes_under }
         ensures count { I.faults inputs.old ≤ I.faults inputs.new }
         ensures calm { I.is_calm inputs.old → I.is_calm inputs.new }
         ensures serves { I.is_calm inputs.old
-            → IsSome ((I.told inputs.old).bytes_under (name_at self.old))
+            → IsSome ((I.told inputs.old).bytes_under (current_name self.old))
             → result ≢ Err FeedEnd.ReadFault }
     {
         if self.place.is_open {

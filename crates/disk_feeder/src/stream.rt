@@ -2,7 +2,7 @@
 ghost use Rattle.std.specs.Prelude.{◌≡◌, ◌≢◌, ◌≤◌, ◌<◌, ◌+◌, ◌-◌, ℕ, List, ◌++◌, true, false, length, take, drop, Some, None, Ok, Err, IfOk, IfErr, OnOk, OnErr, MatchResult, IsSome, All, ◌^◌, slice_get};
 ghost use Rattle.psr_base.specs.Count.{Rose};
 ghost use Rattle.disk_feeder.specs.Plan.{AreAccepted, begin_at};
-ghost use Rattle.disk_feeder.specs.Sources.{plan_of, name_at, IsEarly, ends_left};
+ghost use Rattle.disk_feeder.specs.Sources.{plan_of, current_name, IsEarly, ends_left};
 ghost use Rattle.dada_hdu.specs.Passes.{WritesBoth, data_shape};
 ghost use Rattle.disk_feeder.specs.Turns.{HasRoom, HasHeaderRoom, TurnAnswers, sealed_headers, sealed_blocks};
 ghost use Rattle.disk_feeder.specs.Filling.{FillsTo, HoldsAll, IsSince};
@@ -10,7 +10,7 @@ ghost use Rattle.disk_feeder.specs.Filling.{FillsTo, HoldsAll, IsSince};
 use crate::answers::{FeedEnd, FeedFault, FeedTurn};
 use crate::due::Due;
 use crate::source::Source;
-use crate::writing::{write_block, write_header};
+use crate::writing::{LateReader, write_block, write_header};
 use dada_hdu::{Hdu, HduWriter, Mark};
 use dada_header::Header;
 use obs_plan::Observation;
@@ -46,13 +46,15 @@ fn read_behind<I: Inputs>(
         source.new.place (I.told inputs.new) held block.old block.new result }
     ensures early { IfErr result (IsEarly (plan_of source.old)) }
     ensures is_open { source.new.place.is_open ≡ true → I.is_open inputs.new }
+    ensures quiet { result ≢ Err FeedEnd.ReadFault
+        → I.faults inputs.new ≡ I.faults inputs.old }
     ensures failed { result ≡ Err FeedEnd.ReadFault
         → Rose (I.faults inputs.old) (I.faults inputs.new) }
     ensures names { (I.told inputs.new).bytes_under ≡ (I.told inputs.old).bytes_under }
     ensures count { I.faults inputs.old ≤ I.faults inputs.new }
     ensures calm { I.is_calm inputs.old → I.is_calm inputs.new }
     ensures serves { I.is_calm inputs.old
-        → IsSome ((I.told inputs.old).bytes_under (name_at source.old))
+        → IsSome ((I.told inputs.old).bytes_under (current_name source.old))
         → result ≢ Err FeedEnd.ReadFault }
 {
     source.advance(inputs, &mut block[held..])
@@ -125,6 +127,8 @@ impl<'a> Stream<'a> {
         ensures refused { IfErr result (RefusesSome (I.told inputs.old) self.old.source) }
         ensures is_open { OnOk result
             (self.new.source.place.is_open ≡ true → I.is_open inputs.new) }
+        ensures quiet { result ≢ Err FeedFault.ReadFault
+            → I.faults inputs.new ≡ I.faults inputs.old }
         ensures failed { result ≡ Err FeedFault.ReadFault
             → Rose (I.faults inputs.old) (I.faults inputs.new) }
         ensures names { (I.told inputs.new).bytes_under ≡ (I.told inputs.old).bytes_under }
@@ -185,6 +189,7 @@ impl<'a> Stream<'a> {
     // Opens a file or reads a piece, if the transfer has more data.
     fn step<I: Inputs>(&mut self, inputs: &mut I)
         requires due { self.old.due ≡ None }
+        requires running { self.old.end ≡ None }
         requires there { self.old.source.place.transfer < length self.old.source.starts.now }
         requires accepted { AreAccepted (plan_of self.old.source) }
         requires is_open { self.old.source.place.is_open ≡ true → I.is_open inputs.old }
@@ -192,6 +197,8 @@ impl<'a> Stream<'a> {
         ensures filled { Fills self.old (I.told inputs.old) self.new (I.told inputs.new) }
         ensures progress { self.new.due ≡ None → work_left self.new < work_left self.old }
         ensures is_open { self.new.source.place.is_open ≡ true → I.is_open inputs.new }
+        ensures quiet { self.new.due ≢ Some (Due.Stopped FeedEnd.ReadFault)
+            → I.faults inputs.new ≡ I.faults inputs.old }
         ensures failed { self.new.due ≡ Some (Due.Stopped FeedEnd.ReadFault)
             → Rose (I.faults inputs.old) (I.faults inputs.new) }
         ensures names { (I.told inputs.new).bytes_under ≡ (I.told inputs.old).bytes_under }
@@ -215,6 +222,7 @@ impl<'a> Stream<'a> {
 
     // Fills the block until it is to be sealed, and says why.
     fn fill<I: Inputs>(&mut self, inputs: &mut I) -> Due
+        requires running { self.old.end ≡ None }
         requires there { self.old.source.place.transfer < length self.old.source.starts.now }
         requires accepted { AreAccepted (plan_of self.old.source) }
         requires is_open { self.old.source.place.is_open ≡ true → I.is_open inputs.old }
@@ -222,6 +230,9 @@ impl<'a> Stream<'a> {
         ensures kept { KeepsStream self.old self.new }
         ensures filled { Fills self.old (I.told inputs.old) self.new (I.told inputs.new) }
         ensures is_open { self.new.source.place.is_open ≡ true → I.is_open inputs.new }
+        ensures count { I.faults inputs.old ≤ I.faults inputs.new }
+        ensures quiet { self.new.due ≢ Some (Due.Stopped FeedEnd.ReadFault)
+            → I.faults inputs.new ≡ I.faults inputs.old }
         ensures since { (k : ℕ) → IsSince k (I.faults inputs.old) self.old.due self.old.end
             → IsSince k (I.faults inputs.new) self.new.due self.new.end }
         ensures names { (I.told inputs.new).bytes_under ≡ (I.told inputs.old).bytes_under }
@@ -267,13 +278,15 @@ impl<'a> Stream<'a> {
         ensures since { SinceSame self.old self.new }
         ensures faultless { IsFaultless self.old.due self.old.end
             → IsFaultless self.new.due self.new.end }
+        ensures failed { IsFaultless self.new.due self.new.end
+            → IsFaultless self.old.due self.old.end }
     {
         match write_block(hdu, pass, self.block.as_slice(), Mark::More) {
             Ok(()) => {
                 self.empty();
                 FeedTurn::Moved
             }
-            Err((reader, cleared)) => FeedTurn::Waiting { reader, cleared },
+            Err(LateReader { reader, cleared }) => FeedTurn::Waiting { reader, cleared },
         }
     }
 
@@ -297,6 +310,8 @@ impl<'a> Stream<'a> {
         ensures since { SinceSame self.old self.new }
         ensures faultless { IsFaultless self.old.due self.old.end
             → IsFaultless self.new.due self.new.end }
+        ensures failed { IsFaultless self.new.due self.new.end
+            → IsFaultless self.old.due self.old.end }
     {
         streams_grow();
         no_stop_is_whole();
@@ -306,7 +321,7 @@ impl<'a> Stream<'a> {
                 self.empty();
                 self.after_transfer()
             }
-            Err((reader, cleared)) => FeedTurn::Waiting { reader, cleared },
+            Err(LateReader { reader, cleared }) => FeedTurn::Waiting { reader, cleared },
         }
     }
 
@@ -347,13 +362,15 @@ impl<'a> Stream<'a> {
         ensures since { SinceSame self.old self.new }
         ensures faultless { IsFaultless self.old.due self.old.end
             → IsFaultless self.new.due self.new.end }
+        ensures failed { IsFaultless self.new.due self.new.end
+            → IsFaultless self.old.due self.old.end }
     {
         match write_block(hdu, pass, &[], Mark::Cut) {
             Ok(()) => {
                 self.end = Some(end);
                 FeedTurn::Ended(end)
             }
-            Err((reader, cleared)) => FeedTurn::Waiting { reader, cleared },
+            Err(LateReader { reader, cleared }) => FeedTurn::Waiting { reader, cleared },
         }
     }
 
@@ -385,13 +402,15 @@ impl<'a> Stream<'a> {
         ensures since { SinceSame self.old self.new }
         ensures faultless { IsFaultless self.old.due self.old.end
             → IsFaultless self.new.due self.new.end }
+        ensures failed { IsFaultless self.new.due self.new.end
+            → IsFaultless self.old.due self.old.end }
     {
         match write_header(hdu, pass, self.source.header()) {
             Ok(()) => {
                 self.begin_transfer();
                 FeedTurn::Moved
             }
-            Err((reader, cleared)) => FeedTurn::Waiting { reader, cleared },
+            Err(LateReader { reader, cleared }) => FeedTurn::Waiting { reader, cleared },
         }
     }
 
@@ -415,6 +434,8 @@ impl<'a> Stream<'a> {
         ensures since { SinceSame self.old self.new }
         ensures faultless { IsFaultless self.old.due self.old.end
             → IsFaultless self.new.due self.new.end }
+        ensures failed { IsFaultless self.new.due self.new.end
+            → IsFaultless self.old.due self.old.end }
     {
         match due {
             Due::Full => self.seal_full(hdu, pass),
@@ -442,6 +463,9 @@ impl<'a> Stream<'a> {
         ensures feeding { IsFeeding self.new (I.told inputs.new) (sealed_headers pass.new)
             (sealed_blocks pass.new) }
         ensures answer { TurnAnswers pass.old pass.new self.new.end result }
+        ensures count { I.faults inputs.old ≤ I.faults inputs.new }
+        ensures quiet { IsFaultless self.new.due self.new.end
+            → I.faults inputs.new ≡ I.faults inputs.old }
         ensures since { (k : ℕ) → IsSince k (I.faults inputs.old) self.old.due self.old.end
             → IsSince k (I.faults inputs.new) self.new.due self.new.end }
         ensures names { (I.told inputs.new).bytes_under ≡ (I.told inputs.old).bytes_under }

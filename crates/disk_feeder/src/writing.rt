@@ -9,26 +9,33 @@ ghost use Rattle.disk_feeder.specs.Turns.{HasRoom, HasHeaderRoom, sealed_headers
 use dada_hdu::{Hdu, HduWriter, Mark, WriteStop};
 use dada_header::Header;
 
+/// The reader that a full ring waits for, and how many of its blocks this reader had cleared.
+#[derive(Clone, Copy)]
+pub(crate) struct LateReader {
+    pub(crate) reader: u32,
+    pub(crate) cleared: u64,
+}
+
 /// Seals a block of data, or says which reader had cleared too few blocks, and how many.
 pub(crate) fn write_block(
     hdu: &Hdu,
     pass: &mut HduWriter,
     bytes: &[u8],
     mark: Mark,
-) -> Result<(), (u32, u64)>
+) -> Result<(), LateReader>
     requires ring { WritesBoth hdu.now pass.old }
     requires fits { FitsMark (data_shape hdu.now).size mark bytes.now }
     requires room { HasRoom hdu.now pass.old }
     ensures ring { WritesBoth hdu.now pass.new }
     ensures sealed { OnOk result
         (sealed_blocks pass.new ≡ sealed_blocks pass.old ++ entry mark bytes.now ∷ []) }
-    ensures full { IfErr result (λ late. IsFull (writer_knows pass.old.blocks) late.0 late.1
+    ensures full { IfErr result (λ late. IsFull (writer_knows pass.old.blocks) late.reader late.cleared
         (writer_knows pass.new.blocks)) }
     ensures header { pass.new.header ≡ pass.old.header }
 {
     match hdu.write(pass, bytes, mark) {
         Ok(_number) => Ok(()),
-        Err(WriteStop::Full { reader, cleared }) => Err((reader, cleared)),
+        Err(WriteStop::Full { reader, cleared }) => Err(LateReader { reader, cleared }),
         Err(WriteStop::Spent { .. }) => unreachable!(),
     }
 }
@@ -38,19 +45,19 @@ pub(crate) fn write_header(
     hdu: &Hdu,
     pass: &mut HduWriter,
     header: &Header,
-) -> Result<(), (u32, u64)>
+) -> Result<(), LateReader>
     requires ring { WritesBoth hdu.now pass.old }
     requires room { HasHeaderRoom hdu.now pass.old }
     ensures ring { WritesBoth hdu.now pass.new }
     ensures sealed { OnOk result
         (sealed_headers pass.new ≡ sealed_headers pass.old ++ header_entry header.now ∷ []) }
-    ensures full { IfErr result (λ late. IsFull (writer_knows pass.old.header) late.0 late.1
+    ensures full { IfErr result (λ late. IsFull (writer_knows pass.old.header) late.reader late.cleared
         (writer_knows pass.new.header)) }
     ensures blocks { pass.new.blocks ≡ pass.old.blocks }
 {
     match hdu.write_header(pass, header) {
         Ok(_number) => Ok(()),
-        Err(WriteStop::Full { reader, cleared }) => Err((reader, cleared)),
+        Err(WriteStop::Full { reader, cleared }) => Err(LateReader { reader, cleared }),
         Err(WriteStop::Spent { .. }) => unreachable!(),
     }
 }

@@ -3,7 +3,7 @@ ghost use Rattle.std.specs.Prelude.{◌≡◌, ◌≤◌, ◌<◌, length, None,
 ghost use Rattle.stream_model.specs.WalkLaws.{AreStarts};
 ghost use Rattle.ring_words.specs.Shape.{IsRing};
 ghost use Rattle.dada_hdu.specs.Passes.{WritesBoth, ReadsBoth, data_shape};
-ghost use Rattle.disk_feeder.specs.Feeder.{FeederFits, FeederFeeds, IsReading, IsBegun, SamePlan, header_at, has_end};
+ghost use Rattle.disk_feeder.specs.Feeder.{FeederFits, FeederFeeds, HasOpenFile, IsBegun, SamePlan, header_at, has_end};
 ghost use Rattle.disk_feeder.specs.Feeding.{header_entries};
 ghost use Rattle.disk_feeder.specs.Turns.{sealed_headers, sealed_blocks};
 
@@ -107,7 +107,7 @@ fn accept_all<I: Inputs>(
     ensures feeds { result ≡ Ok true → FeederFeeds (I.told feeder.new.inputs.now) feeder.new
         (header_entries (take 1 (header_at feeder.new))) [] }
     ensures running { result ≡ Ok true → has_end feeder.new ≡ None }
-    ensures reading { IsReading feeder.new → IsReading feeder.old }
+    ensures reading { HasOpenFile feeder.new → HasOpenFile feeder.old }
     ensures inputs { feeder.new.inputs.now ≡ feeder.old.inputs.now }
 {
     for k in 0..transfers {
@@ -129,14 +129,14 @@ fn take_turn<I: Inputs>(
     requires writes { WritesBoth hdu.now pass.old }
     requires fits { FeederFits hdu.now feeder.old }
     requires running { has_end feeder.old ≡ None }
-    requires is_open { IsReading feeder.old → I.is_open feeder.old.inputs.now }
+    requires is_open { HasOpenFile feeder.old → I.is_open feeder.old.inputs.now }
     requires feeding { FeederFeeds (I.told feeder.old.inputs.now) feeder.old
         (sealed_headers pass.old) (sealed_blocks pass.old) }
     ensures writes { WritesBoth hdu.now pass.new }
     ensures same_reference { feeder.new.inputs.ghost_name ≡ feeder.old.inputs.ghost_name }
     ensures fits { FeederFits hdu.now feeder.new }
     ensures running { result ≡ false → has_end feeder.new ≡ None }
-    ensures is_open { IsReading feeder.new → I.is_open feeder.new.inputs.now }
+    ensures is_open { HasOpenFile feeder.new → I.is_open feeder.new.inputs.now }
     ensures feeding { FeederFeeds (I.told feeder.new.inputs.now) feeder.new
         (sealed_headers pass.new) (sealed_blocks pass.new) }
 {
@@ -168,7 +168,7 @@ fn take_turns<I: Inputs>(
     requires size { (data_shape hdu.now).size ≤ length space.old }
     requires fits { FeederFits hdu.now feeder.old }
     requires running { has_end feeder.old ≡ None }
-    requires is_open { IsReading feeder.old → I.is_open feeder.old.inputs.now }
+    requires is_open { HasOpenFile feeder.old → I.is_open feeder.old.inputs.now }
     requires feeding { FeederFeeds (I.told feeder.old.inputs.now) feeder.old
         (sealed_headers pass.old) (sealed_blocks pass.old) }
 {

@@ -1,7 +1,7 @@
 use Rattle.std.proofs.Common.{◌≡◌, ℕ, ◌<◌, [], Some, None, take}
 use Rattle.std.specs.Prelude.{slice_get}
 use Rattle.dada_model.specs.Fields.{HeaderText}
-use Rattle.disk_feeder.specs.Feeder.{SamePlan, FeederFeeds, IsBegun, IsReading, IsAcceptedAt, AllAccepted, header_at, has_end}
+use Rattle.disk_feeder.specs.Feeder.{SamePlan, FeederFeeds, IsBegun, HasOpenFile, IsAcceptedAt, AllAccepted, header_at, has_end}
 use Rattle.disk_feeder.specs.Feeding.{header_entries}
 use Rattle.feeder_tests.proofs.feeding.accept_all.Given as goal
 
@@ -18,6 +18,6 @@ invariant-loop-k g l =
       feeds : 0 < l.k → AllAccepted l.feeder →
           FeederFeeds (i.told l.feeder.inputs.now) l.feeder (header_entries (take 1 (header_at l.feeder))) [];
       running : 0 < l.k → has_end l.feeder ≡ None;
-      reading : IsReading l.feeder → IsReading l.fn.feeder;
+      reading : HasOpenFile l.feeder → HasOpenFile l.fn.feeder;
       inputs : l.feeder.inputs.now ≡ l.fn.feeder.inputs.now;
     }

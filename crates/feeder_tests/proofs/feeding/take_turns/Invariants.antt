@@ -1,6 +1,6 @@
 use Rattle.std.proofs.Common.{◌≡◌, None}
 use Rattle.dada_hdu.specs.Passes.{WritesBoth, ReadsBoth}
-use Rattle.disk_feeder.specs.Feeder.{FeederFits, FeederFeeds, IsReading, has_end}
+use Rattle.disk_feeder.specs.Feeder.{FeederFits, FeederFeeds, HasOpenFile, has_end}
 use Rattle.disk_feeder.specs.Turns.{sealed_headers, sealed_blocks}
 use Rattle.feeder_tests.proofs.feeding.take_turns.Given as goal
 
@@ -12,6 +12,6 @@ invariant-loop-turn g l =
       reads : ReadsBoth l.hdu l.reader;
       fits : FeederFits l.hdu l.feeder;
       running : has_end l.feeder ≡ None;
-      is_open : IsReading l.feeder → i.is_open l.feeder.inputs.now;
+      is_open : HasOpenFile l.feeder → i.is_open l.feeder.inputs.now;
       feeding : FeederFeeds (i.told l.feeder.inputs.now) l.feeder (sealed_headers l.pass) (sealed_blocks l.pass);
     }
