@@ -1,5 +1,5 @@
 -- Counts of faults over several calls.
-use Rattle.std.proofs.Common.{◌≡◌, ℕ, ◌+◌, ◌<◌, ◌≤◌, List, [], Option, Some, None, length, refl, sym, ap, ◌∙◌, subst, arith}
+use Rattle.std.proofs.Common.{◌≡◌, ◌≢◌, ℕ, ◌+◌, ◌<◌, ◌≤◌, List, [], Option, Some, None, length, refl, sym, ap, ◌∙◌, subst, arith}
 use Rattle.std.specs.Prelude.{IsSome, slice_index_or}
 use Rattle.psr_base.specs.Count.{Rose}
 use Rattle.psr_base.specs.Told.{Told}
@@ -16,16 +16,48 @@ rose_from k f f' below rose = omega arith
 pub rose_more : (k f f' : ℕ) → Rose k f → f ≤ f' → Rose k f'
 rose_more k f f' rose more = omega arith
 
--- another call, which failed only where the count rose
+-- nothing is due
+pub not_due : (due : Option Due) → due ≡ None → due ≢ Some (Stopped ReadFault)
+not_due due none is = absurd cc
+
+-- another call while nothing was due, which failed only where the count rose
 pub since_more : (k f f' : ℕ) (due due' : Option Due) (end end' : Option FeedEnd) → IsSince k f due end → f ≤ f' →
-    end' ≡ end → (due' ≡ Some (Stopped ReadFault) → Rose f f') → IsSince k f' due' end'
-since_more k f f' due due' end end' was more same failed =
+    due ≡ None → end ≡ None → end' ≡ end → (due' ≡ Some (Stopped ReadFault) → Rose f f') →
+    (due' ≢ Some (Stopped ReadFault) → f' ≡ f) → IsSince k f' due' end'
+since_more k f f' due due' end end' was more none running same failed quiet =
     let below = was.count in
     record {
       count = omega arith;
       due_failed = λ e. rose_from k f f' below (failed e);
       end_failed = λ e. rose_more k f f' (was.end_failed (sym same ∙ e)) more;
+      due_quiet = λ runs fine. quiet fine ∙ was.due_quiet running (not_due due none);
+      end_quiet = λ stop e other. absurd cc;
     }
+
+-- what was due was sealed
+pub since_sealed : (k f : ℕ) (due due' : Option Due) (end end' : Option FeedEnd) → IsSince k f due end →
+    end ≡ None → due ≢ Some (Stopped ReadFault) → due' ≡ None → end' ≢ Some ReadFault → IsSince k f due' end'
+since_sealed k f due due' end end' was running fine none other = record {
+  count = was.count;
+  due_failed = λ e. absurd cc;
+  end_failed = λ e. absurd (other e);
+  due_quiet = λ runs now. was.due_quiet running fine;
+  end_quiet = λ stop e now. was.due_quiet running fine;
+}
+
+-- the stream was cut
+pub since_cut : (k f : ℕ) (due due' : Option Due) (end end' : Option FeedEnd) (stop : FeedEnd) → IsSince k f due end →
+    end ≡ None → due ≡ Some (Stopped stop) → due' ≡ due → end' ≡ Some stop → IsSince k f due' end'
+since_cut k f due due' end end' stop was running is same ended = record {
+  count = was.count;
+  due_failed = λ e. was.due_failed (sym same ∙ e);
+  end_failed = λ e. let now : stop ≡ ReadFault = cc in was.due_failed (is ∙ ap (λ (s : FeedEnd). Some (Stopped s)) now);
+  due_quiet = λ runs fine. absurd cc;
+  end_quiet = λ other e fine. was.due_quiet running (λ h.
+      let now : stop ≡ ReadFault = cc in
+      let one : other ≡ stop = cc in
+      fine (one ∙ now));
+}
 
 -- the files that are held stay
 pub holds_still : (told told' : Told) (names names' : List (List ℕ)) → told'.bytes_under ≡ told.bytes_under →

@@ -1,5 +1,8 @@
 pub mod Fronts
 pub mod Streams
+pub mod Headers
+pub mod Prefixes
+pub mod Reaching
 pub mod Openings
 pub mod OfSource
 pub mod Fulls
@@ -10,4 +13,5 @@ pub mod Counting
 pub mod Sealings
 pub mod Runs
 pub mod Turning
+pub mod Standing
 pub mod Beginnings

@@ -37,6 +37,7 @@ opens source told told' shut there upto names = record {
   upto =
       let P : ℕ → Type 0 = λ n. source.place.file < begin_at source.starts.now n (source.place.transfer + 1) in
       subst P (sym (name_count source)) upto;
+  within = (plan_place source).total;
   names = names;
 }
 

@@ -18,42 +18,10 @@ use Rattle.disk_feeder.specs.declared.place.Place.{Place}
 use Rattle.disk_feeder.specs.Ends.{end_of, IsOfHeader}
 use Rattle.disk_feeder.specs.Plan.{Plan, stream_of, AreTold, begin_at}
 use Rattle.disk_feeder.specs.Reading.{IsAt, HasRead, IsFront, IsEnd, EndsReading}
+use Rattle.disk_feeder.specs.Reached.{WalkGoesOn}
+use Rattle.disk_feeder.proofs.Reaching.{IsWithin, came_to}
+use Rattle.disk_feeder.proofs.Headers.{stop_blocks, stop_of_header}
 use Rattle.disk_feeder.proofs.Streams.{told_before, starts_of, begin_most, is_in, first_of, judged_by}
-
--- ---- the stop of a header
-
--- a walk that stops at an offset
-offset_blocks : (size : ℕ) (s : FileStream) (k expected : ℕ) (o : Result ℕ ObsFault) (stop : WalkStop) →
-    offset_stop k expected o ≡ Some stop → stream_to size s stop ≡ stream_before size s k k
-offset_blocks size s k expected (Err fault) stop is =
-    let same : walk.BadFields k fault ≡ stop = cc in ap (stream_to size s) (sym same)
-offset_blocks size s k expected (Ok found) stop is = by_test (found == expected) is
-  where
-    by_test : (b : Bool) → (if b then None else Some (walk.Gap k expected found)) ≡ Some stop →
-        stream_to size s stop ≡ stream_before size s k k
-    by_test true f = absurd cc
-    by_test false f = let same : walk.Gap k expected found ≡ stop = cc in ap (stream_to size s) (sym same)
-
--- a walk that stops at the header of file k has the blocks of the data before it
-header_blocks : (size : ℕ) (s : FileStream) (k expected : ℕ) (profile : Profile) (r : Result HeaderText HeaderRefusal)
-    (stop : WalkStop) → later_stop k profile expected r ≡ Some stop → stream_to size s stop ≡ stream_before size s k k
-header_blocks size s k expected profile (Err refusal) stop is =
-    let same : walk.BadText k refusal ≡ stop = cc in ap (stream_to size s) (sym same)
-header_blocks size s k expected profile (Ok header) stop is =
-    offset_blocks size s k expected (later_offset_of profile (fields_of header.text)) stop is
-
-stop_blocks : (size : ℕ) (s : FileStream) (k : ℕ) (stop : WalkStop) → header_stop s k ≡ Some stop →
-    stream_to size s stop ≡ stream_before size s k k
-unfolding header_stop
-stop_blocks size s k stop is =
-    let begin = begin_of s (transfer_of s.starts k) in
-    let first = observation_at (file_at s begin) in
-    header_blocks size s k (first.obs_offset + length (data_between s.files begin k)) (profile_of first)
-    (header_of (file_at s k)) stop is
-
-stop_of_header : (s : FileStream) (k : ℕ) (stop : WalkStop) → header_stop s k ≡ Some stop → stop_at s k ≡ Some stop
-unfolding stop_at
-stop_of_header s k stop is = ap (λ (o : Option WalkStop). first_of_two o (length_stop s k)) is
 
 -- an end of a header is the walk's
 ends_by_header : (s : FileStream) (at : Place) (before : List (List ℕ)) (current : List ℕ) (room : ℕ) (end : FeedEnd) →
@@ -71,6 +39,7 @@ pub record Opens (plan : Plan) (told told' : Told) (at : Place) : Type 0 where
   pub starts : AreStarts plan.starts (length plan.names)
   pub from : begin_at plan.starts (length plan.names) at.transfer ≤ at.file
   pub upto : at.file < begin_at plan.starts (length plan.names) (at.transfer + 1)
+  pub within : at.total ≤ plan.max_bytes
   pub names : told'.bytes_under ≡ told.bytes_under
 
 module _ (plan : Plan) (told told' : Told) (at : Place) (before : List (List ℕ)) (current : List ℕ)
@@ -150,17 +119,32 @@ module _ (plan : Plan) (told told' : Told) (at : Place) (before : List (List ℕ
             ∙ ap (abandoned_stream size plan.max_bytes before) (sym so_far);
       })
 
+  is_within : IsWithin plan at
+  is_within =
+      let upto = o.upto in
+      record {
+        starts = o.starts;
+        there = o.there;
+        from = o.from;
+        upto = omega arith;
+        opened = λ open_now. o.upto;
+        within = o.within;
+      }
+
   -- the inputs failed
-  pub front_at : DataJoin → IsFront s at before current
-  front_at join =
+  pub front_at : WalkGoesOn → DataJoin → IsFront s at before current
+  front_at goes join =
       let begin = begin_of s at.transfer in
       let next = begin_of s (at.transfer + 1) in
       let from = inside.from in
       let upto = inside.before in
       let below = there in
       record {
+        there = o.there;
         earlier = was.earlier;
         more = data_between files at.file next;
         front = sym (join files begin at.file next from (omega arith) (omega arith))
             ∙ ap (λ (xs : List ℕ). xs ++ data_between files at.file next) (sym so_far);
+        begins = goes s at.transfer at.file before current
+            (came_to plan told at before current is_within has files (told_before told told' plan.names files o.names are));
       }

@@ -14,6 +14,8 @@ use Rattle.disk_feeder.specs.declared.place.Place.{Place}
 use Rattle.disk_feeder.specs.Ends.{end_of}
 use Rattle.disk_feeder.specs.Plan.{Plan, stream_of, AreTold, begin_at}
 use Rattle.disk_feeder.specs.Reading.{IsAt, HasRead, IsFront, IsEnd}
+use Rattle.disk_feeder.specs.Reached.{WalkGoesOn}
+use Rattle.disk_feeder.proofs.Reaching.{IsWithin, came_to}
 use Rattle.disk_feeder.proofs.Streams.{told_before, starts_of, begin_most, is_in}
 use Rattle.disk_feeder.proofs.Fulls.{abandoned_past}
 
@@ -177,9 +179,21 @@ module _ (plan : Plan) (told told' : Told) (at : Place) (before : List (List ℕ
             (omega arith) (omega arith);
       }
 
+  is_within : IsWithin plan at
+  is_within =
+      let upto = o.upto in
+      record {
+        starts = o.starts;
+        there = o.there;
+        from = o.from;
+        upto = omega arith;
+        opened = λ open_now. o.upto;
+        within = o.within;
+      }
+
   -- the inputs failed
-  pub front_open : DataJoin → IsFront s at before current
-  front_open join =
+  pub front_open : WalkGoesOn → DataJoin → IsFront s at before current
+  front_open goes join =
       let begin = begin_of s at.transfer in
       let next = begin_of s (at.transfer + 1) in
       let from = inside.from in
@@ -187,11 +201,14 @@ module _ (plan : Plan) (told told' : Told) (at : Place) (before : List (List ℕ
       let there = below in
       let rest = data_between files (at.file + 1) next in
       record {
+        there = o.there;
         earlier = was.earlier;
         more = left ++ rest;
         front = sym (join files begin (at.file + 1) next (omega arith) (omega arith) (omega arith))
             ∙ ap (λ (xs : List ℕ). xs ++ rest) data_is
             ∙ append_assoc current left rest;
+        begins = goes s at.transfer at.file before current
+            (came_to plan told at before current is_within has files (told_before told told' plan.names files o.names are));
       }
 
 -- ---- the same of all that is read

@@ -185,27 +185,32 @@ cut_stream size max_bytes before current fulls held blocks blocks' count less fe
 
 -- the end of the files where it is that of the walk
 ends_known : (s : FileStream) (at : Place) (before : List (List ℕ)) (current : List ℕ) (size fulls held : ℕ)
-    (blocks : List Entry) (end : FeedEnd) → EndsReading s at before current (size - held) end →
+    (blocks sealed : List Entry) (end : FeedEnd) → EndsReading s at before current (size - held) end →
     fulls * size + held ≡ length current → held < size →
+    sealed ≡ whole_stream size before ++ full_entries size current fulls → blocks ≡ sealed ++ cut_entry ∷ [] →
     blocks ≡ abandoned_stream size s.max_bytes before current → EndIs s size blocks end
-ends_known s at before current size fulls held blocks (Whole bytes) ends count less is = absurd ends
-ends_known s at before current size fulls held blocks ReadFault ends count less is =
+ends_known s at before current size fulls held blocks sealed (Whole bytes) ends count less are cut is = absurd ends
+ends_known s at before current size fulls held blocks sealed ReadFault ends count less are cut is =
     record {
       transfer = at.transfer;
       read = length current;
+      there = ends.there;
+      front = whole_stream size before ++ full_entries size current fulls;
+      cut = cut ∙ ap (λ (es : List Entry). es ++ cut_entry ∷ []) are;
+      begins = ends.begins size fulls (omega arith) (omega arith);
       stream = is ∙ ap (λ (b : List (List ℕ)). abandoned_stream size s.max_bytes b current) ends.earlier
           ∙ ap (abandoned_stream size s.max_bytes (take at.transfer (walk_data s)))
           (sym (ap (take (length current)) ends.front ∙ take_at current ends.more (length current) refl));
     }
-ends_known s at before current size fulls held blocks (BadHeader file cause) ends count less is = record {
+ends_known s at before current size fulls held blocks sealed (BadHeader file cause) ends count less are cut is = record {
   is = ends.is;
   stream = is ∙ sym (ends.blocks size fulls held count (omega arith) (omega arith));
 }
-ends_known s at before current size fulls held blocks (Gap file expected found) ends count less is = record {
+ends_known s at before current size fulls held blocks sealed (Gap file expected found) ends count less are cut is = record {
   is = ends.is;
   stream = is ∙ sym (ends.blocks size fulls held count (omega arith) (omega arith));
 }
-ends_known s at before current size fulls held blocks (TooLong limit) ends count less is = record {
+ends_known s at before current size fulls held blocks sealed (TooLong limit) ends count less are cut is = record {
   is = ends.is;
   stream = is ∙ sym (ends.blocks size fulls held count (omega arith) (omega arith));
 }
@@ -244,8 +249,8 @@ cut_sealed plan told at block held end headers blocks blocks' f within there hea
       sealed = sealed_early plan size f.before f.current headers blocks' end f.next.3 stream (omega arith)
           (heads ∙ ap (λ (n : ℕ). header_entries (take (n + 1) plan.headers)) (sym transfers));
       known = λ files are.
-          ends_known (stream_of plan files) at f.before f.current size f.fulls held blocks' end (f.next.2 files are)
-          f.count f.next.1 stream;
+          ends_known (stream_of plan files) at f.before f.current size f.fulls held blocks' blocks end
+          (f.next.2 files are) f.count f.next.1 f.sealed is stream;
     }
 
 -- ---- a header

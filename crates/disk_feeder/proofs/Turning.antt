@@ -51,7 +51,7 @@ runs_filled old mid told told' headers blocks keeps was stream =
     }
 
 -- the numbers of what was read
-counts : (plan : Plan) (told : Told) (at : Place) (before : List (List ℕ)) (current : List ℕ) (size held : ℕ)
+pub counts : (plan : Plan) (told : Told) (at : Place) (before : List (List ℕ)) (current : List ℕ) (size held : ℕ)
     (due : Option Due) → DueIs plan told at before current size held due → IsCountOf at before current
 counts plan told at before current size held None d = record { transfers = d.0.transfers; total = d.0.total }
 counts plan told at before current size held (Some Full) d = record { transfers = d.0.transfers; total = d.0.total }

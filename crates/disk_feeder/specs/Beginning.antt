@@ -23,7 +23,8 @@ pub record KeepsSource (old new : Source) : Type 0 where
 
 -- the first headers of so many transfers are those of the files
 abbrev pub HeadersRead : Told → Source → ℕ → Source → Type 0
-HeadersRead told old count new = (k : ℕ) → k < count → OfFile told (first_name old k) (HasHeaderAt new k)
+HeadersRead told old count new = (k : ℕ) → k < count →
+    OfFile told (first_name old k) (HasHeaderAt new k)
 
 -- what is left of the first file of the last of so many transfers are its data
 abbrev pub LastLeft : Told → Source → ℕ → Told → Type 0
@@ -35,9 +36,11 @@ pub record RefusesSome (told : Told) (source : Source) (fault : FeedFault) : Typ
   pub transfer : ℕ
   pub there : transfer < length source.starts.now
   pub refuses : OfFile told (first_name source transfer)
-      (λ file. RefusesFirst file (begin_at source.starts.now (length source.names.now) transfer) fault)
+      (λ file. RefusesFirst file
+      (begin_at source.starts.now (length source.names.now) transfer) fault)
   pub earlier : (k : ℕ) → k < transfer →
-      OfFile told (first_name source k) (λ file. (header : HeaderText) × (header_of file ≡ Ok header))
+      OfFile told (first_name source k)
+      (λ file. (header : HeaderText) × (header_of file ≡ Ok header))
 
 -- at the first file, which may be open
 abbrev pub start_place : Bool → Place
@@ -60,7 +63,8 @@ pub record IsBegunStream (told : Told) (s : Stream) : Type 0 where
   pub end : s.end ≡ None
   pub headers : (files : List (List ℕ)) → AreTold told (plan_of s.source).names files →
       HasHeaders (plan_of s.source) (stream_of (plan_of s.source) files)
-  pub left : s.source.place.is_open ≡ true → (files : List (List ℕ)) → AreTold told (plan_of s.source).names files →
+  pub left : s.source.place.is_open ≡ true → (files : List (List ℕ)) →
+      AreTold told (plan_of s.source).names files →
       left_to_read told ≡ Some (data_of (file_at (stream_of (plan_of s.source) files) 0))
 
 -- a header's observation is kept as that of a transfer

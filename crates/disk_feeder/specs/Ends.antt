@@ -1,4 +1,5 @@
 -- The ends of a feeder that the walk of its files gives.
+-- Source: this project's profile.
 use Rattle.std.specs.Prelude.{◌≡◌, ℕ, ⊤, Option, Some, None}
 use Rattle.dada_model.specs.Fields.{HeaderRefusal, ShortHeader, BadHeaderSize, NotTextAt}
 use Rattle.dada_header.specs.declared.faults.HeaderFault.{HeaderFault}

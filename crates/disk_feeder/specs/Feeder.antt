@@ -38,8 +38,8 @@ abbrev pub has_end : {I : Type 0} → Feeder I → Option FeedEnd
 has_end f = f.stream.end
 
 -- it reads these files, in blocks of this size
-pub record HasPlan {I : Type 0} (f : Feeder I) (names : List (List ℕ)) (starts : List ℕ) (size max_bytes : ℕ) :
-    Type 0 where
+pub record HasPlan {I : Type 0} (f : Feeder I) (names : List (List ℕ)) (starts : List ℕ)
+    (size max_bytes : ℕ) : Type 0 where
   pub files : (plan_at f).names ≡ names
   pub transfers : (plan_at f).starts ≡ starts
   pub limit : (plan_at f).max_bytes ≡ max_bytes
@@ -74,9 +74,10 @@ RefusesAt told f fault = RefusesSome told f.stream.source fault
 
 -- the observation of a transfer's first header was accepted, and what was accepted of others stays
 pub record AcceptsAt {I : Type 0} (old : Feeder I) (transfer : ℕ) (new : Feeder I) : Type 0 where
-  pub first : (header : HeaderText) → slice_get (header_at new) transfer ≡ Some header → IsAcceptedAt new transfer
-      header
-  pub others : (k : ℕ) (header : HeaderText) → k ≢ transfer → IsAcceptedAt old k header → IsAcceptedAt new k header
+  pub first : (header : HeaderText) → slice_get (header_at new) transfer ≡ Some header →
+      IsAcceptedAt new transfer header
+  pub others : (k : ℕ) (header : HeaderText) → k ≢ transfer → IsAcceptedAt old k header →
+      IsAcceptedAt new k header
 
 -- the feeder stands for these sealed lists of the header ring and of the data ring
 abbrev pub FeederFeeds : {I : Type 0} → Told → Feeder I → List Entry → List Entry → Type 0
@@ -99,4 +100,5 @@ FeederFaultless f = IsFaultless f.stream.due f.stream.end
 
 -- all first headers were accepted
 abbrev pub AllAccepted : {I : Type 0} → Feeder I → Type 0
-AllAccepted f = (k : ℕ) (header : HeaderText) → slice_get (header_at f) k ≡ Some header → IsAcceptedAt f k header
+AllAccepted f = (k : ℕ) (header : HeaderText) → slice_get (header_at f) k ≡ Some header →
+    IsAcceptedAt f k header

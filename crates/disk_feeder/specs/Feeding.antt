@@ -37,12 +37,13 @@ headers_sealed header_due transfer = if header_due then transfer else transfer +
 pub record IsRunning (s : Stream) (told : Told) (headers blocks : List Entry) : Type 0 where
   pub there : s.source.place.transfer < length s.source.starts.now
   pub accepted : AreAccepted (plan_of s.source)
-  pub sealed : headers
-      ≡ header_entries (take (headers_sealed s.header_due s.source.place.transfer) (plan_of s.source).headers)
+  pub sealed : headers ≡ header_entries
+      (take (headers_sealed s.header_due s.source.place.transfer) (plan_of s.source).headers)
   pub stream : IsStream s told blocks
 
 -- the end is that of the walk, and the blocks are those of the walk
-pub record IsWalkEnd (s : FileStream) (size : ℕ) (blocks : List Entry) (end : FeedEnd) : Type 0 where
+pub record IsWalkEnd (s : FileStream) (size : ℕ) (blocks : List Entry) (end : FeedEnd) :
+    Type 0 where
   pub is : end ≡ end_of (length (joined_data (walk_data s))) s.max_bytes (walk_stop s)
   pub stream : blocks ≡ walk_stream size s
 
@@ -51,8 +52,8 @@ pub record IsBroken (s : FileStream) (size : ℕ) (blocks : List Entry) : Type 0
   pub transfer : ℕ
   pub read : ℕ
   pub there : transfer < length s.starts
-  pub stream : blocks
-      ≡ abandoned_stream size s.max_bytes (take transfer (walk_data s)) (take read (transfer_data s transfer))
+  pub stream : blocks ≡ abandoned_stream size s.max_bytes (take transfer (walk_data s))
+      (take read (transfer_data s transfer))
   pub front : List Entry
   pub cut : blocks ≡ front ++ cut_entry ∷ []
   pub begins : IsPrefix front (walk_stream size s)
@@ -82,11 +83,13 @@ SealedAs plan size before current headers blocks (Whole bytes) =
     (blocks ≡ whole_stream size before) × (length before ≡ length plan.starts)
     × (headers ≡ header_entries plan.headers) × (bytes ≡ length (joined_data before))
 SealedAs plan size before current headers blocks end =
-    (blocks ≡ abandoned_stream size plan.max_bytes before current) × (length before < length plan.starts)
+    (blocks ≡ abandoned_stream size plan.max_bytes before current)
+    × (length before < length plan.starts)
     × (headers ≡ header_entries (take (length before + 1) plan.headers)) × IsEarly plan end
 
 -- Once it ended, they are the stream of the data that were read; and where the files are told, the walk's.
-pub record IsEnded (plan : Plan) (told : Told) (size : ℕ) (headers blocks : List Entry) (end : FeedEnd) : Type 0 where
+pub record IsEnded (plan : Plan) (told : Told) (size : ℕ) (headers blocks : List Entry)
+    (end : FeedEnd) : Type 0 where
   pub before : List (List ℕ)
   pub current : List ℕ
   pub sealed : SealedAs plan size before current headers blocks end
@@ -109,17 +112,19 @@ pub record KeepsPlan (old new : Stream) : Type 0 where
 
 -- a call that reads nothing: what stood for the sealed lists before stands for those after it
 abbrev pub Feeds : Stream → HduWriter → Stream → HduWriter → Type 0
-Feeds old pass new pass' = (told : Told) → IsRunning old told (sealed_headers pass) (sealed_blocks pass) →
+Feeds old pass new pass' = (told : Told) →
+    IsRunning old told (sealed_headers pass) (sealed_blocks pass) →
     IsFeeding new told (sealed_headers pass') (sealed_blocks pass')
 
 -- it makes no fault of one that isn't
 abbrev pub SinceSame : Stream → Stream → Type 0
-SinceSame old new = (k faults : ℕ) → IsSince k faults old.due old.end → IsSince k faults new.due new.end
+SinceSame old new = (k faults : ℕ) → IsSince k faults old.due old.end →
+    IsSince k faults new.due new.end
 
 -- after a transfer: the header of the next one is due, or all data were sealed
 abbrev pub GoesOn : Stream → Stream → FeedTurn → Type 0
-GoesOn old new Moved = (old.source.place.transfer < length old.source.starts.now) × (new.header_due ≡ true)
-    × (new.end ≡ None)
+GoesOn old new Moved = (old.source.place.transfer < length old.source.starts.now)
+    × (new.header_due ≡ true) × (new.end ≡ None)
 GoesOn old new (Ended end) = (length old.source.starts.now ≡ old.source.place.transfer)
     × (end ≡ Whole old.source.place.total) × (new.end ≡ Some end)
 GoesOn old new turn = ⊥

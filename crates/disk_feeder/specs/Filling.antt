@@ -15,11 +15,13 @@ use Rattle.disk_feeder.specs.Reading.{HasRead, HasEnded}
 use Rattle.disk_feeder.specs.Sources.{IsEarly}
 
 -- what was read came behind the bytes that a block held; or reading ended, with room for so many more
-abbrev pub FillsTo : Plan → Place → Told → Place → Told → ℕ → List ℕ → List ℕ → Result ℕ FeedEnd → Type 0
-FillsTo plan at told at' told' held block block' result = (before : List (List ℕ)) (current : List ℕ) →
+abbrev pub FillsTo : Plan → Place → Told → Place → Told → ℕ → List ℕ → List ℕ →
+    Result ℕ FeedEnd → Type 0
+FillsTo plan at told at' told' held block block' result =
+    (before : List (List ℕ)) (current : List ℕ) →
     HasRead plan told at before current → MatchResult result
-    (λ n. (piece : List ℕ) × (take (held + n) block' ≡ take held block ++ piece) × (length piece ≡ n)
-    × HasRead plan told' at' before (current ++ piece))
+    (λ n. (piece : List ℕ) × (take (held + n) block' ≡ take held block ++ piece)
+    × (length piece ≡ n) × HasRead plan told' at' before (current ++ piece))
     (λ end. HasEnded plan told' at before current (length block - held) end)
 
 -- the numbers of a place are those of the data that were read
@@ -34,22 +36,25 @@ pub record IsOver (plan : Plan) (at : Place) : Type 0 where
 
 -- why a block of some size that holds so many bytes is sealed next, or isn't yet
 abbrev pub DueIs : Plan → Told → Place → List (List ℕ) → List ℕ → ℕ → ℕ → Option Due → Type 0
-DueIs plan told at before current size held None = HasRead plan told at before current × (held < size)
-DueIs plan told at before current size held (Some Full) = HasRead plan told at before current × (held ≡ size)
+DueIs plan told at before current size held None =
+    HasRead plan told at before current × (held < size)
+DueIs plan told at before current size held (Some Full) =
+    HasRead plan told at before current × (held ≡ size)
 DueIs plan told at before current size held (Some Last) =
     HasRead plan told at before current × (held < size) × IsOver plan at
 DueIs plan told at before current size held (Some (Stopped end)) =
-    IsCountOf at before current × (held < size) × HasEnded plan told at before current (size - held) end
-    × IsEarly plan end
+    IsCountOf at before current × (held < size)
+    × HasEnded plan told at before current (size - held) end × IsEarly plan end
 
 -- Blocks were sealed of the data that were read: those of the transfers before, and full ones of this transfer. The
 -- block that is filled holds the rest.
-pub record IsFilled (plan : Plan) (told : Told) (at : Place) (block : List ℕ) (held : ℕ) (due : Option Due)
-    (blocks : List Entry) : Type 0 where
+pub record IsFilled (plan : Plan) (told : Told) (at : Place) (block : List ℕ) (held : ℕ)
+    (due : Option Due) (blocks : List Entry) : Type 0 where
   pub before : List (List ℕ)
   pub current : List ℕ
   pub fulls : ℕ
-  pub sealed : blocks ≡ whole_stream (length block) before ++ full_entries (length block) current fulls
+  pub sealed : blocks
+      ≡ whole_stream (length block) before ++ full_entries (length block) current fulls
   pub count : fulls * length block + held ≡ length current
   pub kept : take held block ≡ drop (fulls * length block) current
   pub next : DueIs plan told at before current (length block) held due
@@ -64,4 +69,5 @@ pub record IsSince (k faults : ℕ) (due : Option Due) (end : Option FeedEnd) : 
 
 -- the inputs hold a file under each name
 abbrev pub HoldsAll : Told → List (List ℕ) → Type 0
-HoldsAll told names = (k : ℕ) → k < length names → IsSome (told.bytes_under (slice_index_or names k []))
+HoldsAll told names = (k : ℕ) → k < length names →
+    IsSome (told.bytes_under (slice_index_or names k []))

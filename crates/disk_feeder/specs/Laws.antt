@@ -1,5 +1,5 @@
 -- Laws of feeders; the functions of this crate carry them.
--- Source: this project's choice.
+-- Source: this project's profile.
 use Rattle.std.specs.Prelude.{◌≡◌, List, None}
 use Rattle.psr_base.specs.Told.{Told}
 use Rattle.ring_blocks.specs.declared.Entry.{Entry}

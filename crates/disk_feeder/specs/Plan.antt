@@ -1,4 +1,5 @@
 -- The files that a feeder reads, and where it may be in them.
+-- Source: this project's profile.
 use Rattle.std.specs.Prelude.{◌≡◌, ℕ, ◌+◌, ◌<◌, ◌≤◌, true, Option, Some, Ok, List, [], length, slice_get, slice_index_or}
 use Rattle.dada_model.specs.Fields.{HeaderText, fields_of, header_of}
 use Rattle.dada_model.specs.Observation.{observation_of, observation_in}
@@ -43,16 +44,19 @@ pub record IsPlace (starts : List ℕ) (count max_bytes : ℕ) (at : Place) : Ty
 
 -- what was accepted of a header: its observation
 pub record IsFirst (header : HeaderText) (first : First) : Type 0 where
-  pub accepted : observation_of (fields_of header.text) ≡ Ok (observation_in (fields_of header.text))
+  pub accepted : observation_of (fields_of header.text)
+      ≡ Ok (observation_in (fields_of header.text))
   pub profile : first.profile ≡ profile_of (observation_in (fields_of header.text))
   pub offset : first.offset ≡ (observation_in (fields_of header.text)).obs_offset
 
 -- each first header was accepted
 abbrev pub AreAccepted : Plan → Type 0
-AreAccepted plan = (transfer : ℕ) (header : HeaderText) → slice_get plan.headers transfer ≡ Some header →
+AreAccepted plan = (transfer : ℕ) (header : HeaderText) →
+    slice_get plan.headers transfer ≡ Some header →
     (first : First) × (slice_get plan.firsts transfer ≡ Some (Some first)) × IsFirst header first
 
 -- the first headers are those of the files
 abbrev pub HasHeaders : Plan → FileStream → Type 0
-HasHeaders plan s = (transfer : ℕ) (header : HeaderText) → slice_get plan.headers transfer ≡ Some header →
+HasHeaders plan s = (transfer : ℕ) (header : HeaderText) →
+    slice_get plan.headers transfer ≡ Some header →
     header_of (file_at s (begin_of s transfer)) ≡ Ok header

@@ -1,7 +1,9 @@
 -- The data that a feeder has read of its files, and what is still to come.
-use Rattle.std.specs.Prelude.{◌≡◌, ℕ, ◌+◌, ◌*◌, ◌<◌, true, false, Some, None, List, [], ◌∷◌, ◌++◌, length, take, Result, MatchResult}
+-- Source: this project's profile.
+use Rattle.std.specs.Prelude.{◌≡◌, ℕ, ◌+◌, ◌*◌, ◌<◌, ◌≤◌, true, false, Some, None, List, [], ◌∷◌, ◌++◌, length, take, Result, MatchResult}
+use mathlib.Core.List.{IsPrefix}
 use Rattle.psr_base.specs.Told.{Told, left_to_read}
-use Rattle.stream_model.specs.Blocks.{joined_data, abandoned_stream}
+use Rattle.stream_model.specs.Blocks.{full_entries, whole_stream, joined_data, abandoned_stream}
 use Rattle.stream_model.specs.Walk.{FileStream, begin_of, data_between, transfer_data, walk_data, header_stop, stop_at, walk_stop, walk_stream}
 use Rattle.disk_feeder.specs.declared.answers.FeedEnd.{FeedEnd}
 use Rattle.disk_feeder.specs.declared.answers.FeedEnd.TheVariants.{Whole, ReadFault}
@@ -11,8 +13,8 @@ use Rattle.disk_feeder.specs.Plan.{Plan, stream_of, AreTold, AreAccepted, HasHea
 
 -- The walk of these files came to this place: `before` are the data of the transfers before, `current` those that were
 -- read of the transfer, and what is left of the open file and the files after it are still to come.
-pub record IsAt (s : FileStream) (plan : Plan) (told : Told) (at : Place) (before : List (List ℕ)) (current : List ℕ) :
-    Type 0 where
+pub record IsAt (s : FileStream) (plan : Plan) (told : Told) (at : Place)
+    (before : List (List ℕ)) (current : List ℕ) : Type 0 where
   pub headers : HasHeaders plan s
   pub earlier : before ≡ take at.transfer (walk_data s)
   pub passed : (j : ℕ) → j < at.file → stop_at s j ≡ None
@@ -22,8 +24,8 @@ pub record IsAt (s : FileStream) (plan : Plan) (told : Told) (at : Place) (befor
       × (data_between s.files (begin_of s at.transfer) (at.file + 1) ≡ current ++ left)
 
 -- a feeder at a place has read these data, where what it reads is told
-pub record HasRead (plan : Plan) (told : Told) (at : Place) (before : List (List ℕ)) (current : List ℕ) :
-    Type 0 where
+pub record HasRead (plan : Plan) (told : Told) (at : Place) (before : List (List ℕ))
+    (current : List ℕ) : Type 0 where
   pub accepted : AreAccepted plan
   pub transfers : length before ≡ at.transfer
   pub since : length current ≡ at.since
@@ -31,18 +33,24 @@ pub record HasRead (plan : Plan) (told : Told) (at : Place) (before : List (List
   pub known : (files : List (List ℕ)) → AreTold told plan.names files →
       IsAt (stream_of plan files) plan told at before current
 
--- Where reading ended by the inputs' fault, the data read are a front of those of the files.
-pub record IsFront (s : FileStream) (at : Place) (before : List (List ℕ)) (current : List ℕ) : Type 0 where
+-- Where reading ended by the inputs' fault, the data read are a front of those of the files, and their full blocks
+-- begin the walk's stream.
+pub record IsFront (s : FileStream) (at : Place) (before : List (List ℕ)) (current : List ℕ) :
+    Type 0 where
+  pub there : at.transfer < length s.starts
   pub earlier : before ≡ take at.transfer (walk_data s)
   pub more : List ℕ
   pub front : transfer_data s at.transfer ≡ current ++ more
+  pub begins : (size n : ℕ) → 0 < size → n * size ≤ length current →
+      IsPrefix (whole_stream size before ++ full_entries size current n) (walk_stream size s)
 
 -- Elsewhere the end is that of the walk. Its blocks are those of the data read, for every size at which the block that
 -- was being filled has no more room than was asked for.
-pub record IsEnd (s : FileStream) (before : List (List ℕ)) (current : List ℕ) (room : ℕ) (end : FeedEnd) :
-    Type 0 where
+pub record IsEnd (s : FileStream) (before : List (List ℕ)) (current : List ℕ) (room : ℕ)
+    (end : FeedEnd) : Type 0 where
   pub is : end ≡ end_of (length (joined_data (walk_data s))) s.max_bytes (walk_stop s)
-  pub blocks : (size fulls held : ℕ) → fulls * size + held ≡ length current → held + room ≡ size → 0 < room →
+  pub blocks : (size fulls held : ℕ) → fulls * size + held ≡ length current →
+      held + room ≡ size → 0 < room →
       walk_stream size s ≡ abandoned_stream size s.max_bytes before current
 
 -- what an end that came while data were read says of the files
@@ -53,7 +61,8 @@ EndsReading s at before current room end = IsEnd s before current room end
 
 -- the same where the files are told
 abbrev pub HasEnded : Plan → Told → Place → List (List ℕ) → List ℕ → ℕ → FeedEnd → Type 0
-HasEnded plan told at before current room end = (files : List (List ℕ)) → AreTold told plan.names files →
+HasEnded plan told at before current room end = (files : List (List ℕ)) →
+    AreTold told plan.names files →
     EndsReading (stream_of plan files) at before current room end
 
 -- a file was opened at a place: the data read stay, or reading ended there

@@ -1,4 +1,5 @@
 -- What a source of data shows, and what its calls answer.
+-- Source: this project's profile.
 use Rattle.std.specs.Prelude.{ℕ, ◌≡◌, ◌+◌, ◌*◌, ◌-◌, false, if◌then◌else◌, List, [], map, slice_index_or, length, string_bytes, ⊤, Some, Ok, ◌≢◌, Option, slice_get}
 use Rattle.dada_model.specs.Fields.{HeaderText, header_of}
 use Rattle.disk_feeder.specs.declared.source.Source.{Source}
@@ -53,8 +54,8 @@ first_place = record { transfer = 0; file = 0; is_open = false; since = 0; total
 
 -- the name of the first file of a transfer
 abbrev pub first_name : Source → ℕ → List ℕ
-first_name source transfer =
-    slice_index_or (plan_of source).names (begin_at source.starts.now (length source.names.now) transfer) []
+first_name source transfer = slice_index_or (plan_of source).names
+    (begin_at source.starts.now (length source.names.now) transfer) []
 
 -- all stays but the header of one transfer
 pub record KeepsHeaders (old : Source) (transfer : ℕ) (new : Source) : Type 0 where
@@ -63,7 +64,8 @@ pub record KeepsHeaders (old : Source) (transfer : ℕ) (new : Source) : Type 0 
   pub limit : new.max_bytes ≡ old.max_bytes
   pub firsts : new.firsts ≡ old.firsts
   pub place : new.place ≡ old.place
-  pub others : (k : ℕ) → k ≢ transfer → slice_get new.headers.items k ≡ slice_get old.headers.items k
+  pub others : (k : ℕ) → k ≢ transfer →
+      slice_get new.headers.items k ≡ slice_get old.headers.items k
 
 -- the first header of a transfer is that of the file
 abbrev pub HasHeaderAt : Source → ℕ → List ℕ → Type 0

@@ -12,7 +12,8 @@ use Rattle.disk_feeder.specs.Filling.{IsFilled}
 
 -- the blocks of a stream that were sealed
 abbrev pub IsStream : Stream → Told → List Entry → Type 0
-IsStream s told blocks = IsFilled (plan_of s.source) told s.source.place s.block.items s.held s.due blocks
+IsStream s told blocks =
+    IsFilled (plan_of s.source) told s.source.place s.block.items s.held s.due blocks
 
 -- the plan, the size of a block and the transfer stay, and so does what comes of headers and ends
 pub record KeepsStream (old new : Stream) : Type 0 where
@@ -24,7 +25,8 @@ pub record KeepsStream (old new : Stream) : Type 0 where
 
 -- the same blocks are sealed of the data that are read then
 abbrev pub Fills : Stream → Told → Stream → Told → Type 0
-Fills old told new told' = (blocks : List Entry) → IsStream old told blocks → IsStream new told' blocks
+Fills old told new told' = (blocks : List Entry) → IsStream old told blocks →
+    IsStream new told' blocks
 
 -- how much is still to be opened and to be read for a block
 abbrev pub work_left : Stream → ℕ

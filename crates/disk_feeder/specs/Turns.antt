@@ -1,6 +1,6 @@
 -- What a turn of a feeder does to the rings.
 -- Source: this project's profile.
-use Rattle.std.specs.Prelude.{◌≡◌, ◌⊎◌, ◌<◌, Option, Some, None, List, [], ◌∷◌, ◌++◌, length}
+use Rattle.std.specs.Prelude.{◌≡◌, ℕ, ◌⊎◌, ◌<◌, Option, Some, None, List, [], ◌∷◌, ◌++◌, length}
 use Rattle.ring_blocks.specs.declared.Entry.{Entry}
 use Rattle.ring_ends.specs.declared.passes.WriterPass.{WriterPass}
 use Rattle.ring_ends.specs.Passes.{ring_shape, writer_knows}
@@ -28,7 +28,12 @@ HasHeaderRoom hdu pass = length (sealed_headers pass) < (ring_shape (header_ring
 
 -- one block was sealed
 abbrev pub SealsOne : WriterPass → WriterPass → Type 0
-SealsOne old new = (block : Entry) × ((writer_knows new).sealed ≡ (writer_knows old).sealed ++ block ∷ [])
+SealsOne old new = (block : Entry)
+    × ((writer_knows new).sealed ≡ (writer_knows old).sealed ++ block ∷ [])
+
+-- nothing was sealed, since this reader had cleared so many blocks alone
+abbrev pub FindsFull : WriterPass → ℕ → ℕ → WriterPass → Type 0
+FindsFull old reader cleared new = IsFull (writer_knows old) reader cleared (writer_knows new)
 
 -- What a turn answered, and the end that it came to. It sealed one block of one ring, or found that ring full.
 abbrev pub TurnAnswers : HduWriter → HduWriter → Option FeedEnd → FeedTurn → Type 0
@@ -36,7 +41,7 @@ TurnAnswers old new end Moved = (end ≡ None)
     × ((SealsOne old.header new.header × (new.blocks ≡ old.blocks))
     ⊎ (SealsOne old.blocks new.blocks × (new.header ≡ old.header)))
 TurnAnswers old new end (Waiting reader cleared) = (end ≡ None)
-    × ((IsFull (writer_knows old.header) reader cleared (writer_knows new.header) × (new.blocks ≡ old.blocks))
-    ⊎ (IsFull (writer_knows old.blocks) reader cleared (writer_knows new.blocks) × (new.header ≡ old.header)))
+    × ((FindsFull old.header reader cleared new.header × (new.blocks ≡ old.blocks))
+    ⊎ (FindsFull old.blocks reader cleared new.blocks × (new.header ≡ old.header)))
 TurnAnswers old new end (Ended stop) =
     (end ≡ Some stop) × SealsOne old.blocks new.blocks × (new.header ≡ old.header)

@@ -8,6 +8,7 @@ mod feeder;
 mod front;
 mod laws;
 mod place;
+mod reached;
 mod source;
 mod stream;
 mod writing;

@@ -11,6 +11,7 @@ ghost use Rattle.disk_feeder.specs.Plan.{IsPlace, begin_at};
 use crate::answers::{FeedEnd, FeedFault, HeaderCause};
 use crate::front::{HeaderStop, read_header};
 use crate::place::{First, Place};
+use crate::reached::walk_goes_on;
 use dada_header::Header;
 use obs_plan::Observation;
 use psr_base::{Inputs, Memory};
@@ -312,6 +313,7 @@ impl<'a> Source<'a> {
         first_stop_counts();
         data_grow();
         data_join();
+        walk_goes_on();
         match self.open_file(inputs) {
             Ok(()) => {
                 let Place { file, since, .. } = self.place;
@@ -414,6 +416,7 @@ impl<'a> Source<'a> {
         first_stop_counts();
         transfers_join();
         data_join();
+        walk_goes_on();
         match inputs.read(into) {
             Ok(n) => {
                 if n == 0 {

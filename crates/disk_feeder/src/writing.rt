@@ -1,10 +1,9 @@
 //! Blocks that are sealed, or find no room.
 ghost use Rattle.std.specs.Prelude.{◌≡◌, ◌++◌, [], ◌∷◌, OnOk, IfErr};
-ghost use Rattle.ring_ends.specs.Answers.{FitsMark, IsFull};
-ghost use Rattle.ring_ends.specs.Passes.{writer_knows};
+ghost use Rattle.ring_ends.specs.Answers.{FitsMark};
 ghost use Rattle.dada_hdu.specs.Answers.{entry, header_entry};
 ghost use Rattle.dada_hdu.specs.Passes.{WritesBoth, data_shape};
-ghost use Rattle.disk_feeder.specs.Turns.{HasRoom, HasHeaderRoom, sealed_headers, sealed_blocks};
+ghost use Rattle.disk_feeder.specs.Turns.{HasRoom, HasHeaderRoom, FindsFull, sealed_headers, sealed_blocks};
 
 use dada_hdu::{Hdu, HduWriter, Mark, WriteStop};
 use dada_header::Header;
@@ -29,8 +28,8 @@ pub(crate) fn write_block(
     ensures ring { WritesBoth hdu.now pass.new }
     ensures sealed { OnOk result
         (sealed_blocks pass.new ≡ sealed_blocks pass.old ++ entry mark bytes.now ∷ []) }
-    ensures full { IfErr result (λ late. IsFull (writer_knows pass.old.blocks) late.reader late.cleared
-        (writer_knows pass.new.blocks)) }
+    ensures full { IfErr result (λ late.
+        FindsFull pass.old.blocks late.reader late.cleared pass.new.blocks) }
     ensures header { pass.new.header ≡ pass.old.header }
 {
     match hdu.write(pass, bytes, mark) {
@@ -51,8 +50,8 @@ pub(crate) fn write_header(
     ensures ring { WritesBoth hdu.now pass.new }
     ensures sealed { OnOk result
         (sealed_headers pass.new ≡ sealed_headers pass.old ++ header_entry header.now ∷ []) }
-    ensures full { IfErr result (λ late. IsFull (writer_knows pass.old.header) late.reader late.cleared
-        (writer_knows pass.new.header)) }
+    ensures full { IfErr result (λ late.
+        FindsFull pass.old.header late.reader late.cleared pass.new.header) }
     ensures blocks { pass.new.blocks ≡ pass.old.blocks }
 {
     match hdu.write_header(pass, header) {

@@ -1,5 +1,5 @@
 // A loop over one feeder and one reader: what was sealed, and how it ended.
-ghost use Rattle.std.specs.Prelude.{◌≡◌, ◌≤◌, ◌<◌, length, None, true, false, Ok, [], take, IsTrue, IfSome, IfOk, OnOk, vec_len};
+ghost use Rattle.std.specs.Prelude.{◌≡◌, ◌≤◌, ◌<◌, ◌+◌, ◌/◌, ◌^◌, length, None, true, false, Ok, [], take, IsTrue, IfSome, IfOk, OnOk, vec_len};
 ghost use Rattle.stream_model.specs.WalkLaws.{AreStarts};
 ghost use Rattle.ring_words.specs.Shape.{IsRing};
 ghost use Rattle.dada_hdu.specs.Passes.{WritesBoth, ReadsBoth, data_shape};
@@ -7,25 +7,49 @@ ghost use Rattle.disk_feeder.specs.Feeder.{FeederFits, FeederFeeds, HasOpenFile,
 ghost use Rattle.disk_feeder.specs.Feeding.{header_entries};
 ghost use Rattle.disk_feeder.specs.Turns.{sealed_headers, sealed_blocks};
 
+use crate::files::put_files;
 use dada_hdu::{Hdu, HduReader, HduWriter, Mark, RingShape, Taken};
 use disk_feeder::{FeedEnd, FeedFault, FeedTurn, Feeder};
 use obs_plan::Observation;
-use psr_base::{Inputs, MemInputs};
+use psr_base::{Failed, Inputs, MemInputs};
 use std::alloc::Global;
 use std::test::Fail;
 
 /// How a feeder ended, and what was read of its rings: for a header `H`; for a block of data its bytes and then `.`,
-/// `E` or `C` for its mark.
+/// `E` or `C` for its mark. Its turns are `M` for Moved, `E` for Ended, and for Waiting the last digit of the count.
 #[derive(Drop)]
 pub(crate) struct Fed {
     pub(crate) begun: Result<(), FeedFault>,
     pub(crate) end: Option<FeedEnd>,
     pub(crate) trace: Vec<u8>,
-    pub(crate) waited: u32,
+    pub(crate) turns: Vec<u8>,
     in_transfer: bool,
 }
 
 impl Fed {
+    fn new(alloc: Global) -> Fed {
+        Fed {
+            begun: Ok(()),
+            end: None,
+            trace: Vec::new(alloc),
+            turns: Vec::new(alloc),
+            in_transfer: false,
+        }
+    }
+
+    // Notes what a turn did.
+    fn note_turn(&mut self, turn: FeedTurn) -> Result<(), Fail> {
+        self.turns.push(match turn {
+            FeedTurn::Moved => b'M',
+            FeedTurn::Waiting { cleared, .. } => b'0' + (cleared % 10) as u8,
+            FeedTurn::Ended(end) => {
+                self.end = Some(end);
+                b'E'
+            }
+        })?;
+        Ok(())
+    }
+
     // Notes what a read took of the data ring.
     fn note(&mut self, bytes: &[u8], mark: Mark) -> Result<(), Fail> {
         self.trace.extend_from_slice(bytes)?;
@@ -125,7 +149,7 @@ fn take_turn<I: Inputs>(
     hdu: &Hdu,
     pass: &mut HduWriter,
     fed: &mut Fed,
-) -> bool
+) -> Result<bool, Fail>
     requires writes { WritesBoth hdu.now pass.old }
     requires fits { FeederFits hdu.now feeder.old }
     requires running { has_end feeder.old ≡ None }
@@ -135,22 +159,14 @@ fn take_turn<I: Inputs>(
     ensures writes { WritesBoth hdu.now pass.new }
     ensures same_reference { feeder.new.inputs.ghost_name ≡ feeder.old.inputs.ghost_name }
     ensures fits { FeederFits hdu.now feeder.new }
-    ensures running { result ≡ false → has_end feeder.new ≡ None }
+    ensures running { result ≡ Ok false → has_end feeder.new ≡ None }
     ensures is_open { HasOpenFile feeder.new → I.is_open feeder.new.inputs.now }
     ensures feeding { FeederFeeds (I.told feeder.new.inputs.now) feeder.new
         (sealed_headers pass.new) (sealed_blocks pass.new) }
 {
-    match feeder.turn(hdu, pass) {
-        FeedTurn::Moved => false,
-        FeedTurn::Waiting { .. } => {
-            fed.waited = fed.waited.saturating_add(1);
-            false
-        }
-        FeedTurn::Ended(end) => {
-            fed.end = Some(end);
-            true
-        }
-    }
+    let turn = feeder.turn(hdu, pass);
+    fed.note_turn(turn)?;
+    Ok(matches!(turn, FeedTurn::Ended(_)))
 }
 
 // Takes turns until the feeder ended, at most so many; the reader reads after each third turn.
@@ -173,7 +189,7 @@ fn take_turns<I: Inputs>(
         (sealed_headers pass.old) (sealed_blocks pass.old) }
 {
     for turn in 0..200 {
-        if take_turn(feeder, hdu, pass, fed) {
+        if take_turn(feeder, hdu, pass, fed)? {
             return fed.drain_all(hdu, reader, space);
         }
         fed.drain_after(turn, hdu, reader, space)?;
@@ -234,46 +250,87 @@ fn are_starts(starts: &[u32], count: usize) -> bool
     }
 }
 
-/// Files by their names, the names of those that are read, the starts of transfers, the size of a block, the most data
-/// bytes, and the calls that fail.
+/// Inputs that give one byte at a time.
+#[derive(Drop)]
+struct Trickle<I>(I);
+
+impl<I: Inputs> Inputs for Trickle<I> {
+    ghost use Rattle.psr_base.specs.Told.{nothing_told};
+
+    ghost told = { λ _. nothing_told };
+
+    ghost is_open = { λ inputs. I.is_open inputs.0 };
+
+    ghost is_calm = { λ _. ⊥ };
+
+    ghost faults = { λ inputs. I.faults inputs.0 };
+
+    fn open(&mut self, name: &str) -> Result<(), Failed> {
+        self.0.open(name)
+    }
+
+    fn read(&mut self, into: &mut [u8]) -> Result<usize, Failed> {
+        self.0.read(&mut into[..1])
+    }
+}
+
+// The inputs of a feeder that is done, with its count of faults.
+fn give_back<'a, I: Inputs>(feeder: Feeder<'a, I>) -> &'a mut I
+    ensures { I.faults result.now ≡ I.faults feeder.entry.inputs.now }
+{
+    feeder.close()
+}
+
+/// The names of the files that are read, the starts of transfers, the size of a block, the most data bytes, the calls
+/// that fail, and whether bytes come one at a time.
 #[derive(Clone, Copy)]
 pub(crate) struct Case<'a> {
-    pub(crate) files: &'a [(&'a str, &'a [u8])],
     pub(crate) names: &'a [String],
     pub(crate) starts: &'a [u32],
     pub(crate) size: u32,
     pub(crate) max_bytes: u64,
     pub(crate) fail: &'a [u64],
-    pub(crate) buffers: u32,
+    pub(crate) slowly: bool,
 }
 
-/// Feeds the files of a case.
-pub(crate) fn feed(alloc: Global, case: Case<'_>) -> Result<Fed, Fail> {
-    let Case {
-        files,
-        names,
-        starts,
-        size,
-        max_bytes,
-        fail,
-        buffers,
-    } = case;
-    let mut inputs = MemInputs::open(alloc, fail)?;
-    for (name, bytes) in files {
-        inputs.put(name, bytes)?;
+// Whether a feeder takes these.
+fn is_fed(case: Case<'_>) -> bool
+    ensures names { IsTrue result → length case.names.now ≤ 65535 }
+    ensures starts { IsTrue result → AreStarts case.starts.now (length case.names.now) }
+    ensures few { IsTrue result → length case.starts.now ≤ 2 }
+    ensures size { IsTrue result → (1 ≤ case.size) × (case.size ≤ 65536) }
+    ensures limit { IsTrue result → case.max_bytes ≤ 2 ^ 40 }
+{
+    case.names.len() <= 65535
+        && are_starts(case.starts, case.names.len())
+        && 1 <= case.size
+        && case.size <= 1 << 16
+        && case.max_bytes <= 1 << 40
+}
+
+// A data ring of two buffers for a case.
+fn shape_of(case: Case<'_>) -> RingShape
+    requires size { 1 ≤ case.size }
+    requires few { length case.starts.now ≤ 2 }
+    requires limit { case.max_bytes ≤ 2 ^ 40 }
+    ensures size { result.size ≡ case.size }
+    ensures most { result.max_blocks
+        ≡ case.max_bytes / case.size + length case.starts.now + 1 }
+{
+    RingShape {
+        buffers: 2,
+        size: case.size,
+        readers: 1,
+        max_blocks: case.max_bytes / case.size as u64 + case.starts.len() as u64 + 1,
     }
-    if names.len() > 65535 || !are_starts(starts, names.len()) || max_bytes > 1 << 40 {
+}
+
+// Feeds the files of a case from inputs that hold them.
+fn feed_from<I: Inputs>(alloc: Global, inputs: &mut I, case: Case<'_>) -> Result<Fed, Fail> {
+    if !is_fed(case) {
         return Err("a case".into());
     }
-    if size < 1 || size > 1 << 16 {
-        return Err("a size".into());
-    }
-    let shape = RingShape {
-        buffers,
-        size,
-        readers: 1,
-        max_blocks: max_bytes / size as u64 + starts.len() as u64 + 1,
-    };
+    let shape = shape_of(case);
     if shape.check().is_err() {
         return Err("a shape".into());
     }
@@ -288,14 +345,15 @@ pub(crate) fn feed(alloc: Global, case: Case<'_>) -> Result<Fed, Fail> {
         return Err("rings".into());
     };
     let mut space = vec![in alloc; 0u8; 65537]?;
-    let mut fed = Fed {
-        begun: Ok(()),
-        end: None,
-        trace: Vec::new(alloc),
-        waited: 0,
-        in_transfer: false,
-    };
-    let mut feeder = Feeder::open(alloc, &mut inputs, names, starts, size, max_bytes)?;
+    let mut fed = Fed::new(alloc);
+    let mut feeder = Feeder::open(
+        alloc,
+        inputs,
+        case.names,
+        case.starts,
+        case.size,
+        case.max_bytes,
+    )?;
     match feeder.begin() {
         Ok(()) => {}
         Err(fault) => {
@@ -303,7 +361,7 @@ pub(crate) fn feed(alloc: Global, case: Case<'_>) -> Result<Fed, Fail> {
             return Ok(fed);
         }
     }
-    if !accept_all(alloc, &mut feeder, starts.len())? {
+    if !accept_all(alloc, &mut feeder, case.starts.len())? {
         return Err("an observation".into());
     }
     if !write_first(&feeder, &hdu, &mut pass) {
@@ -317,6 +375,17 @@ pub(crate) fn feed(alloc: Global, case: Case<'_>) -> Result<Fed, Fail> {
         space.as_mut_slice(),
         &mut fed,
     )?;
-    feeder.close();
+    give_back(feeder);
     Ok(fed)
+}
+
+/// Feeds the files of a case.
+pub(crate) fn feed(alloc: Global, case: Case<'_>) -> Result<Fed, Fail> {
+    let mut inputs = MemInputs::open(alloc, case.fail)?;
+    put_files(alloc, &mut inputs)?;
+    if case.slowly {
+        feed_from(alloc, &mut Trickle(inputs), case)
+    } else {
+        feed_from(alloc, &mut inputs, case)
+    }
 }

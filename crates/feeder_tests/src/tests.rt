@@ -1,54 +1,76 @@
 // Files that are fed, and how that ends.
-use crate::feeding::{Case, feed};
+use crate::feeding::{Case, Fed, feed};
+use crate::files::names_of;
 use dada_header::HeaderFault;
 use disk_feeder::{FeedEnd, FeedFault, HeaderCause};
 use obs_plan::{Key, ObsFault};
 use std::alloc::Global;
 use std::test::Fail;
 
-const HEAD: &str = "NCHAN 2\nNBIT 8\nTSAMP 64\nFREQ 1400\nBW -200\n";
+const ONE: &[u32] = &[0];
 
-// A file with these lines in its header, and these data.
-fn file(alloc: Global, line: &str, head: &str, data: &[u8]) -> Result<Vec<u8>, Fail> {
-    let mut bytes = Vec::from_slice(alloc, line.as_bytes())?;
-    bytes.extend_from_slice(head.as_bytes())?;
-    bytes.resize(4096, 0)?;
-    bytes.extend_from_slice(data)?;
-    Ok(bytes)
+const TWO: &[u32] = &[0, 1];
+
+// What is read of a name, its transfers' starts, the size of a block, the limit, the end and the trace.
+type Ending<'a> = (&'a [&'a str], &'a [u32], u32, u64, FeedEnd, &'a [u8]);
+
+// All calls succeed: the same comes of bytes that are read whole and of those that come one at a time.
+fn ends_so(rt: HostRuntime, cases: &[Ending<'_>]) -> Result<(), Fail> {
+    let alloc = rt.alloc();
+    for (order, starts, size, max_bytes, end, trace) in cases {
+        let names = names_of(alloc, order)?;
+        for slowly in [false, true] {
+            let case = Case {
+                names: names.as_slice(),
+                starts,
+                size: *size,
+                max_bytes: *max_bytes,
+                fail: &[],
+                slowly,
+            };
+            let fed = feed(alloc, case)?;
+            assert_eq!(rt; fed.end, Some(*end));
+            assert!(rt; fed.trace.as_slice() == *trace);
+        }
+    }
+    Ok(())
 }
 
-// The files' names, in order.
-fn names_of(alloc: Global, names: &[&str]) -> Result<Vec<String>, Fail> {
-    let mut list = Vec::new(alloc);
-    for name in names {
-        list.push(String::from_str(alloc, name)?)?;
-    }
-    Ok(list)
+fn whole(bytes: u64) -> FeedEnd {
+    FeedEnd::Whole { bytes }
 }
 
 #[test]
 fn files_are_fed(rt: HostRuntime) -> Result<(), Fail> {
-    let alloc = rt.alloc();
-    let six = file(alloc, "", HEAD, b"abcdef")?;
-    let four = file(alloc, "", HEAD, b"abcd")?;
-    let none = file(alloc, "", HEAD, b"")?;
-    let at_four = file(alloc, "OBS_OFFSET 4\n", HEAD, b"xy")?;
-    let at_twelve = file(alloc, "OBS_OFFSET 12\n", HEAD, b"xy")?;
-    let other = file(alloc, "NCHAN 4\n", HEAD, b"xy")?;
-    let short = vec![in alloc; 0u8; 100]?;
-    let files: [(&str, &[u8]); 7] = [
-        ("six", six.as_slice()),
-        ("four", four.as_slice()),
-        ("none", none.as_slice()),
-        ("at four", at_four.as_slice()),
-        ("at twelve", at_twelve.as_slice()),
-        ("other", other.as_slice()),
-        ("short", short.as_slice()),
-    ];
-    let one: &[u32] = &[0];
-    let two: &[u32] = &[0, 1];
-    let gap = FeedEnd::Gap {
-        file: 1,
+    ends_so(
+        rt,
+        &[
+            (&["six"], ONE, 6, 6, whole(6), b"Habcdef.E"),
+            (&["six"], ONE, 1, 6, whole(6), b"Ha.b.c.d.e.f.E"),
+            (&["six"], ONE, 3, 9, whole(6), b"Habc.def.E"),
+            (&["six"], ONE, 4, 9, whole(6), b"Habcd.efE"),
+            (&["none"], ONE, 4, 9, whole(0), b"HE"),
+            (&["long"], ONE, 2, 9, whole(3), b"Huv.wE"),
+            (&["four", "at four"], ONE, 3, 6, whole(6), b"Habc.dxy.E"),
+            (
+                &["four", "six"],
+                TWO,
+                3,
+                10,
+                whole(10),
+                b"Habc.dEHabc.def.E",
+            ),
+            (&["none", "four"], TWO, 3, 4, whole(4), b"HEHabc.dE"),
+            (&["four", "at four"], TWO, 3, 6, whole(6), b"Habc.dEHxyE"),
+            (&["six", "none"], TWO, 6, 6, whole(6), b"Habcdef.EHE"),
+        ],
+    )
+}
+
+#[test]
+fn streams_are_cut(rt: HostRuntime) -> Result<(), Fail> {
+    let gap = |file: u32| FeedEnd::Gap {
+        file,
         expected: 4,
         found: 12,
     };
@@ -60,113 +82,109 @@ fn files_are_fed(rt: HostRuntime) -> Result<(), Fail> {
         file: 1,
         cause: HeaderCause::Fields(ObsFault::Differs(Key::Nchan)),
     };
-    let whole = |bytes: u64| FeedEnd::Whole { bytes };
-    let cases: [(&[&str], &[u32], u32, u64, FeedEnd, &[u8]); 16] = [
-        (&["six"], one, 6, 6, whole(6), b"Habcdef.E"),
-        (&["six"], one, 1, 6, whole(6), b"Ha.b.c.d.e.f.E"),
-        (&["six"], one, 3, 9, whole(6), b"Habc.def.E"),
-        (&["six"], one, 4, 9, whole(6), b"Habcd.efE"),
-        (&["none"], one, 4, 9, whole(0), b"HE"),
-        (&["four", "at four"], one, 3, 6, whole(6), b"Habc.dxy.E"),
-        (&["four", "at twelve"], one, 3, 6, gap, b"Habc.C"),
-        (&["four", "short"], one, 2, 6, refused, b"Hab.cd.C"),
-        (&["four", "other"], one, 8, 6, differs, b"HC"),
-        (
-            &["six"],
-            one,
-            2,
-            5,
-            FeedEnd::TooLong { limit: 5 },
-            b"Hab.cd.C",
-        ),
-        (&["six"], one, 8, 5, FeedEnd::TooLong { limit: 5 }, b"HC"),
-        (
-            &["four", "six"],
-            two,
-            3,
-            10,
-            whole(10),
-            b"Habc.dEHabc.def.E",
-        ),
-        (&["none", "four"], two, 3, 4, whole(4), b"HEHabc.dE"),
-        (&["four", "at four"], two, 3, 6, whole(6), b"Habc.dEHxyE"),
-        (
-            &["four", "six"],
-            two,
-            3,
-            9,
-            FeedEnd::TooLong { limit: 9 },
-            b"Habc.dEHabc.C",
-        ),
-        (&["six", "none"], two, 6, 6, whole(6), b"Habcdef.EHE"),
-    ];
-    for (order, starts, size, max_bytes, end, trace) in cases {
-        let names = names_of(alloc, order)?;
-        let case = Case {
-            files: &files,
+    let long = |limit: u64| FeedEnd::TooLong { limit };
+    ends_so(
+        rt,
+        &[
+            (&["four", "at twelve"], ONE, 3, 6, gap(1), b"Habc.C"),
+            (
+                &["six", "four", "at twelve"],
+                TWO,
+                3,
+                12,
+                gap(2),
+                b"Habc.def.EHabc.C",
+            ),
+            (&["four", "short"], ONE, 2, 6, refused, b"Hab.cd.C"),
+            (&["four", "other"], ONE, 8, 6, differs, b"HC"),
+            (&["six"], ONE, 2, 5, long(5), b"Hab.cd.C"),
+            (&["six"], ONE, 8, 5, long(5), b"HC"),
+            (&["four", "six"], TWO, 3, 9, long(9), b"Habc.dEHabc.C"),
+        ],
+    )
+}
+
+// One call fails, or none.
+fn fails_at(
+    alloc: Global,
+    order: &[&str],
+    starts: &[u32],
+    size: u32,
+    call: u64,
+) -> Result<Fed, Fail> {
+    let names = names_of(alloc, order)?;
+    feed(
+        alloc,
+        Case {
             names: names.as_slice(),
             starts,
             size,
-            max_bytes,
-            fail: &[],
-            buffers: 2,
-        };
-        let fed = feed(alloc, case)?;
-        assert_eq!(rt; fed.end, Some(end));
-        assert!(rt; fed.trace.as_slice() == trace);
+            max_bytes: 12,
+            fail: &[call],
+            slowly: false,
+        },
+    )
+}
+
+// A file's first calls open it and read its header, in two pieces where that is longer than 4096 bytes.
+#[test]
+fn first_headers_are_read(rt: HostRuntime) -> Result<(), Fail> {
+    let refused = Err(FeedFault::BadHeader {
+        file: 1,
+        cause: HeaderFault::Short { had: 100 },
+    });
+    let cases: [(&[&str], &[u32], u64, Result<(), FeedFault>); 11] = [
+        (&["six", "four"], TWO, 0, Err(FeedFault::ReadFault)),
+        (&["six", "four"], TWO, 1, Err(FeedFault::ReadFault)),
+        (&["six", "four"], TWO, 2, Err(FeedFault::ReadFault)),
+        (&["six", "four"], TWO, 3, Err(FeedFault::ReadFault)),
+        (&["six", "four"], TWO, 4, Ok(())),
+        (&["six", "four"], ONE, 2, Ok(())),
+        (&["long"], ONE, 2, Err(FeedFault::ReadFault)),
+        (&["long"], ONE, 3, Ok(())),
+        (&["six", "gone"], TWO, 9, Err(FeedFault::ReadFault)),
+        (&["six", "short"], TWO, 9, refused),
+        (&["short"], ONE, 1, Err(FeedFault::ReadFault)),
+    ];
+    for (order, starts, call, begun) in cases {
+        let fed = fails_at(rt.alloc(), order, starts, 3, call)?;
+        assert_eq!(rt; fed.begun, begun);
     }
     Ok(())
 }
 
-// One call of the inputs fails: the first two are those of `begin`, which read the header.
 #[test]
 fn faults_are_told(rt: HostRuntime) -> Result<(), Fail> {
-    let alloc = rt.alloc();
-    let six = file(alloc, "", HEAD, b"abcdef")?;
-    let short = vec![in alloc; 0u8; 100]?;
-    let files: [(&str, &[u8]); 2] = [("six", six.as_slice()), ("short", short.as_slice())];
-    let whole = FeedEnd::Whole { bytes: 6 };
-    let cases: [(&[&str], u64, Result<(), FeedFault>, Option<FeedEnd>, &[u8]); 9] = [
-        (&["six"], 0, Err(FeedFault::ReadFault), None, b""),
-        (&["six"], 1, Err(FeedFault::ReadFault), None, b""),
-        (&["six"], 2, Ok(()), Some(FeedEnd::ReadFault), b"HC"),
-        (&["six"], 3, Ok(()), Some(FeedEnd::ReadFault), b"Habc.C"),
-        (&["six"], 4, Ok(()), Some(FeedEnd::ReadFault), b"Habc.def.C"),
-        (&["six"], 5, Ok(()), Some(whole), b"Habc.def.E"),
-        (
-            &["six", "gone"],
-            9,
-            Ok(()),
-            Some(FeedEnd::ReadFault),
-            b"Habc.def.C",
-        ),
-        (&["gone"], 9, Err(FeedFault::ReadFault), None, b""),
-        (
-            &["short"],
-            9,
-            Err(FeedFault::BadHeader {
-                file: 0,
-                cause: HeaderFault::Short { had: 100 },
-            }),
-            None,
-            b"",
-        ),
+    // The first files of two transfers are opened again. Two blocks are full, the third is empty; then one is full, and
+    // of the last one byte is read before its end is.
+    let cases: [(u64, u64, &[u8]); 5] = [
+        (4, 6, b"HC"),
+        (7, 7, b"Habc.C"),
+        (8, 8, b"Habc.def.C"),
+        (9, 11, b"Habc.def.EHC"),
+        (12, 13, b"Habc.def.EHabc.C"),
     ];
-    for (order, call, begun, end, trace) in cases {
-        let names = names_of(alloc, order)?;
-        let case = Case {
-            files: &files,
-            names: names.as_slice(),
-            starts: &[0],
-            size: 3,
-            max_bytes: 9,
-            fail: &[call],
-            buffers: 2,
-        };
-        let fed = feed(alloc, case)?;
-        assert_eq!(rt; fed.begun, begun);
-        assert_eq!(rt; fed.end, end);
-        assert!(rt; fed.trace.as_slice() == trace);
+    for (first, last, trace) in cases {
+        for call in first..=last {
+            let fed = fails_at(rt.alloc(), &["six", "four"], TWO, 3, call)?;
+            assert_eq!(rt; fed.end, Some(FeedEnd::ReadFault));
+            assert!(rt; fed.trace.as_slice() == trace);
+        }
     }
+    let fed = fails_at(rt.alloc(), &["six", "four"], TWO, 3, 14)?;
+    assert_eq!(rt; fed.end, Some(whole(10)));
+    let fed = fails_at(rt.alloc(), &["six", "gone"], ONE, 3, 99)?;
+    assert_eq!(rt; fed.end, Some(FeedEnd::ReadFault));
+    assert!(rt; fed.trace.as_slice() == b"Habc.def.C");
+    Ok(())
+}
+
+// Two buffers, and a reader that reads after each third turn, of which the first reads the header: the block that found
+// no room is sealed once there is some, and nothing is read for it again, since call 9 would fail.
+#[test]
+fn a_full_ring_is_waited_for(rt: HostRuntime) -> Result<(), Fail> {
+    let fed = fails_at(rt.alloc(), &["six"], ONE, 1, 9)?;
+    assert!(rt; fed.turns.as_slice() == b"MM0000M11M22M33M44E");
+    assert!(rt; fed.trace.as_slice() == b"Ha.b.c.d.e.f.E");
     Ok(())
 }

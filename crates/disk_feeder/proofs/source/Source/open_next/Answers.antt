@@ -17,6 +17,7 @@ use Rattle.disk_feeder.specs.declared.place.Place.{Place}
 use Rattle.disk_feeder.specs.declared.source.Source.{Source}
 use Rattle.disk_feeder.specs.Ends.{IsStop, IsOfHeader, fault_of}
 use Rattle.disk_feeder.specs.Plan.{Plan, stream_of, AreTold, AreAccepted}
+use Rattle.disk_feeder.specs.Reached.{WalkGoesOn}
 use Rattle.disk_feeder.specs.Reading.{HasRead, EndsReading}
 use Rattle.disk_feeder.specs.Sources.{plan_of, RefusesText}
 use Rattle.disk_feeder.proofs.Openings.{Opens, stop_is, opened_at, stopped_at, front_at}
@@ -36,20 +37,20 @@ header_stops s k refusal is =
 -- what a file's text says of the end
 by_text : (plan : Plan) (told told' : Told) (at : Place) (before : List (List ℕ)) (current : List ℕ) →
     Opens plan told told' at → HasRead plan told at before current → FilesAreInTransfers → FirstStopCounts → DataJoin →
-    (room : ℕ) (files : List (List ℕ)) → AreTold told' plan.names files → (end : FeedEnd) →
+    WalkGoesOn → (room : ℕ) (files : List (List ℕ)) → AreTold told' plan.names files → (end : FeedEnd) →
     RefusesText (file_at (stream_of plan files) at.file) at.file end →
     EndsReading (stream_of plan files) at before current room end
-by_text plan told told' at before current o has transfers counts join room files are (Whole bytes) refuses =
+by_text plan told told' at before current o has transfers counts join goes room files are (Whole bytes) refuses =
     absurd refuses
-by_text plan told told' at before current o has transfers counts join room files are ReadFault refuses =
-    front_at plan told told' at before current o has transfers files are join
-by_text plan told told' at before current o has transfers counts join room files are (Gap file expected found) refuses =
+by_text plan told told' at before current o has transfers counts join goes room files are ReadFault refuses =
+    front_at plan told told' at before current o has transfers files are goes join
+by_text plan told told' at before current o has transfers counts join goes room files are (Gap file expected found) refuses =
     absurd refuses
-by_text plan told told' at before current o has transfers counts join room files are (TooLong limit) refuses =
+by_text plan told told' at before current o has transfers counts join goes room files are (TooLong limit) refuses =
     absurd refuses
-by_text plan told told' at before current o has transfers counts join room files are (BadHeader k (Fields fault))
+by_text plan told told' at before current o has transfers counts join goes room files are (BadHeader k (Fields fault))
     refuses = absurd refuses
-by_text plan told told' at before current o has transfers counts join room files are (BadHeader k (Text fault)) refuses
+by_text plan told told' at before current o has transfers counts join goes room files are (BadHeader k (Text fault)) refuses
     =
     by_fault fault refuses.1
   where
@@ -173,5 +174,5 @@ returns-in-Err-clause-read g c = λ before current has room files are.
     let o : Opens plan told told' at =
     opens source told told' c.requires.shut c.requires.there c.requires.more c.open_file.ensures.names in
     by_text plan told told' at before current o has c.files_are_in_transfers.ensures c.first_stop_counts.ensures
-    c.data_join.ensures room files are c.in-Err.end
+    c.data_join.ensures c.walk_goes_on.ensures room files are c.in-Err.end
     (c.in-Err.ensures.stopped (file_at (stream_of plan files) at.file) (known_at plan told told' at files o are))

@@ -67,4 +67,4 @@ returns-in-Err-clause-read g c = λ before current has files are.
     let told' = g.I.Inputs.told c.read.new.self in
     front_open plan told told' source.place before current
     (reads source told told' c.requires.opened (ap (λ (t : Told). t.bytes_under) c.in-Err.ensures.unchanged)) has files
-    are c.data_join.ensures
+    are c.walk_goes_on.ensures c.data_join.ensures

@@ -59,6 +59,7 @@ loop-transfer-preserved g c =
           known);
       is_open = λ some. c.in-Ok.ensures.is_open;
       names = c.read_first.ensures.names ∙ before.names;
+      quiet = c.in-Ok.ensures.quiet (λ e. absurd cc) ∙ before.quiet;
       count = omega (arith, before.count, c.read_first.ensures.count);
       calm = λ calm. c.read_first.ensures.calm (before.calm calm);
     }

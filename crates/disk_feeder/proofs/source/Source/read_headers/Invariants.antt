@@ -11,6 +11,7 @@ invariant-loop-transfer g l =
       left : LastLeft (i.told l.fn.inputs) l.fn.self l.transfer (i.told l.inputs);
       is_open : 0 < l.transfer → i.is_open l.inputs;
       names : (i.told l.inputs).bytes_under ≡ (i.told l.fn.inputs).bytes_under;
+      quiet : i.faults l.inputs ≡ i.faults l.fn.inputs;
       count : i.faults l.fn.inputs ≤ i.faults l.inputs;
       calm : i.is_calm l.fn.inputs → i.is_calm l.inputs;
     }

@@ -1,9 +1,9 @@
-use Rattle.std.proofs.Common.{sym, ap, ◌∙◌, subst}
+use Rattle.std.proofs.Common.{sym, ap, ◌∙◌, subst, arith}
 use Rattle.disk_feeder.specs.Plan.{Plan, AreAccepted}
 use Rattle.disk_feeder.specs.Sources.{plan_of}
 use Rattle.disk_feeder.specs.Streams.{KeepsStream, work_left}
 use Rattle.disk_feeder.specs.declared.stream.Stream.{Stream}
-use Rattle.disk_feeder.proofs.Counting.{since_more, holds_still, fewer_steps}
+use Rattle.disk_feeder.proofs.Counting.{not_due, since_more, holds_still, fewer_steps}
 use Rattle.disk_feeder.proofs.stream.Stream.fill.Goals as goal
 
 keeps : (a b c : Stream) → KeepsStream a b → KeepsStream b c → KeepsStream a c
@@ -33,11 +33,13 @@ loop-self-preserved g c =
       kept = keeps c.args.self.now c.loop-self.self c.step.new.self before.kept c.step.ensures.kept;
       filled = λ blocks was. c.step.ensures.filled blocks (before.filled blocks was);
       is_open = c.step.ensures.is_open;
+      count = let a = before.count in let b = c.step.ensures.count in omega arith;
+      quiet = λ fine. c.step.ensures.quiet fine ∙ before.quiet (not_due c.loop-self.self.due c.in_default.is);
       since = λ k was.
           since_more k (i.faults c.loop-self.inputs) (i.faults c.step.new.inputs) c.loop-self.self.due
-          c.step.new.self.due
-          c.loop-self.self.end c.step.new.self.end (before.since k was) c.step.ensures.count c.step.ensures.kept.end
-          c.step.ensures.failed;
+          c.step.new.self.due c.loop-self.self.end c.step.new.self.end (before.since k was) c.step.ensures.count
+          c.in_default.is (before.kept.end ∙ c.requires.running) c.step.ensures.kept.end c.step.ensures.failed
+          c.step.ensures.quiet;
       names = c.step.ensures.names ∙ before.names;
       calm = λ h. c.step.ensures.calm (before.calm h);
       serves = λ calm holds fine.

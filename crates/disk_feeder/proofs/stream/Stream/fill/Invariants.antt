@@ -1,4 +1,4 @@
-use Rattle.std.proofs.Common.{◌≡◌, ◌≢◌, ℕ, true, Some}
+use Rattle.std.proofs.Common.{◌≡◌, ◌≢◌, ◌≤◌, ℕ, true, Some}
 use Rattle.disk_feeder.specs.declared.due.Due.TheVariants.{Stopped}
 use Rattle.disk_feeder.specs.declared.answers.FeedEnd.TheVariants.{ReadFault}
 use Rattle.disk_feeder.specs.Sources.{plan_of}
@@ -13,6 +13,8 @@ invariant-loop-self g l =
       kept : KeepsStream l.fn.self l.self;
       filled : Fills l.fn.self (i.told l.fn.inputs) l.self (i.told l.inputs);
       is_open : l.self.source.place.is_open ≡ true → i.is_open l.inputs;
+      count : i.faults l.fn.inputs ≤ i.faults l.inputs;
+      quiet : l.self.due ≢ Some (Stopped ReadFault) → i.faults l.inputs ≡ i.faults l.fn.inputs;
       since : (k : ℕ) → IsSince k (i.faults l.fn.inputs) l.fn.self.due l.fn.self.end →
           IsSince k (i.faults l.inputs) l.self.due l.self.end;
       names : (i.told l.inputs).bytes_under ≡ (i.told l.fn.inputs).bytes_under;
