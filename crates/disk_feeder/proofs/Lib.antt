@@ -14,4 +14,5 @@ pub mod Sealings
 pub mod Runs
 pub mod Turning
 pub mod Standing
+pub mod Endings
 pub mod Beginnings

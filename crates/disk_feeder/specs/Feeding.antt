@@ -11,7 +11,7 @@ use Rattle.dada_hdu.specs.declared.hdu.Hdu.{Hdu}
 use Rattle.dada_hdu.specs.Passes.{data_shape}
 use Rattle.disk_feeder.specs.declared.due.Due.{Due}
 use Rattle.disk_feeder.specs.declared.due.Due.TheVariants.{Stopped}
-use Rattle.stream_model.specs.Blocks.{whole_stream, abandoned_stream, joined_data, cut_entry, ended_transfers, has_cut}
+use Rattle.stream_model.specs.Blocks.{whole_stream, abandoned_stream, joined_data, cut_entry, joined_bytes, ended_transfers, has_cut, is_over}
 use Rattle.stream_model.specs.Walk.{FileStream, walk_data, walk_stop, walk_stream, transfer_data}
 use Rattle.disk_feeder.specs.declared.answers.FeedEnd.{FeedEnd}
 use Rattle.disk_feeder.specs.declared.answers.FeedEnd.TheVariants.{Whole, ReadFault}
@@ -86,6 +86,17 @@ SealedAs plan size before current headers blocks end =
     (blocks ≡ abandoned_stream size plan.max_bytes before current)
     × (length before < length plan.starts)
     × (headers ≡ header_entries (take (length before + 1) plan.headers)) × IsEarly plan end
+
+-- Once a feeder ended, its blocks are over, and no sooner. All transfers have ended where it sealed all data, which are
+-- as many bytes as it says; at any other end the stream was given up
+pub record IsEnding (transfers : ℕ) (blocks : List Entry) (end : FeedEnd) : Type 0 where
+  pub over : is_over transfers blocks ≡ true
+  pub once : (front rest : List Entry) → front ++ rest ≡ blocks → is_over transfers front ≡ true →
+      rest ≡ []
+  pub all : (bytes : ℕ) → end ≡ Whole bytes → ended_transfers blocks ≡ transfers
+  pub uncut : (bytes : ℕ) → end ≡ Whole bytes → has_cut blocks ≡ false
+  pub count : (bytes : ℕ) → end ≡ Whole bytes → length (joined_bytes blocks) ≡ bytes
+  pub cut : ((bytes : ℕ) → end ≢ Whole bytes) → has_cut blocks ≡ true
 
 -- Once it ended, they are the stream of the data that were read; and where the files are told, the walk's.
 pub record IsEnded (plan : Plan) (told : Told) (size : ℕ) (headers blocks : List Entry)

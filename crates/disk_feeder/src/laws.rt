@@ -1,9 +1,9 @@
 //! Laws, as calls that do nothing when they run.
-ghost use Rattle.disk_feeder.specs.Laws.{FeedersBegin, HeadersAreFirst};
+ghost use Rattle.disk_feeder.specs.Laws.{FeedersBegin, FeedersEnd, HeadersAreFirst};
 
 // Laws: they do nothing when they run, and the proofs use what they ensure.
 use crate::reached::walk_goes_on;
-use stream_model::ends_are_counted;
+use stream_model::{bytes_are_joined, ends_are_counted, streams_stop_once};
 
 /// Until a feeder ended, the data blocks that it sealed begin the stream of its files, without a Cut.
 pub fn feeders_begin<I>()
@@ -11,6 +11,15 @@ pub fn feeders_begin<I>()
 {
     ends_are_counted();
     walk_goes_on();
+}
+
+/// Once a feeder ended, the data blocks that it sealed are over, and no beginning of them is.
+pub fn feeders_end<I>()
+    ensures { FeedersEnd I }
+{
+    bytes_are_joined();
+    ends_are_counted();
+    streams_stop_once();
 }
 
 /// The header blocks that a feeder sealed are those of the first transfers, in order: of as many as ended in the data

@@ -5,6 +5,7 @@ use dada_header::HeaderFault;
 use disk_feeder::{FeedEnd, FeedFault, HeaderCause};
 use obs_plan::{Key, ObsFault};
 use std::alloc::Global;
+use std::process::Abort;
 use std::test::Fail;
 
 const ONE: &[u32] = &[0];
@@ -15,8 +16,7 @@ const TWO: &[u32] = &[0, 1];
 type Ending<'a> = (&'a [&'a str], &'a [u32], u32, u64, FeedEnd, &'a [u8]);
 
 // All calls succeed: the same comes of bytes that are read whole and of those that come one at a time.
-fn ends_so(rt: HostRuntime, cases: &[Ending<'_>]) -> Result<(), Fail> {
-    let alloc = rt.alloc();
+fn ends_so(rt: &impl Abort, alloc: Global, cases: &[Ending<'_>]) -> Result<(), Fail> {
     for (order, starts, size, max_bytes, end, trace) in cases {
         let names = names_of(alloc, order)?;
         for slowly in [false, true] {
@@ -43,7 +43,8 @@ fn whole(bytes: u64) -> FeedEnd {
 #[test]
 fn files_are_fed(rt: HostRuntime) -> Result<(), Fail> {
     ends_so(
-        rt,
+        &rt,
+        rt.alloc(),
         &[
             (&["six"], ONE, 6, 6, whole(6), b"Habcdef.E"),
             (&["six"], ONE, 1, 6, whole(6), b"Ha.b.c.d.e.f.E"),
@@ -84,7 +85,8 @@ fn streams_are_cut(rt: HostRuntime) -> Result<(), Fail> {
     };
     let long = |limit: u64| FeedEnd::TooLong { limit };
     ends_so(
-        rt,
+        &rt,
+        rt.alloc(),
         &[
             (&["four", "at twelve"], ONE, 3, 6, gap(1), b"Habc.C"),
             (
@@ -175,7 +177,7 @@ fn faults_are_told(rt: HostRuntime) -> Result<(), Fail> {
     assert_eq!(rt; fed.end, Some(whole(10)));
     let fed = fails_at(rt.alloc(), &["six", "gone"], ONE, 3, 99)?;
     assert_eq!(rt; fed.end, Some(FeedEnd::ReadFault));
-    assert!(rt; fed.trace.as_slice() == b"Habc.def.C");
+    assert!(rt; fed.trace.as_slice() == b"Habc.def.C".as_slice());
     Ok(())
 }
 
@@ -184,7 +186,7 @@ fn faults_are_told(rt: HostRuntime) -> Result<(), Fail> {
 #[test]
 fn a_full_ring_is_waited_for(rt: HostRuntime) -> Result<(), Fail> {
     let fed = fails_at(rt.alloc(), &["six"], ONE, 1, 9)?;
-    assert!(rt; fed.turns.as_slice() == b"MM0000M11M22M33M44E");
-    assert!(rt; fed.trace.as_slice() == b"Ha.b.c.d.e.f.E");
+    assert!(rt; fed.turns.as_slice() == b"MM0000M11M22M33M44E".as_slice());
+    assert!(rt; fed.trace.as_slice() == b"Ha.b.c.d.e.f.E".as_slice());
     Ok(())
 }
