@@ -295,11 +295,11 @@ pub(crate) struct Case<'a> {
 
 // Whether a feeder takes these.
 fn is_fed(case: Case<'_>) -> bool
-    ensures names { IsTrue result → length case.names.now ≤ 65535 }
-    ensures starts { IsTrue result → AreStarts case.starts.now (length case.names.now) }
-    ensures few { IsTrue result → length case.starts.now ≤ 2 }
-    ensures size { IsTrue result → (1 ≤ case.size) × (case.size ≤ 65536) }
-    ensures limit { IsTrue result → case.max_bytes ≤ 2 ^ 40 }
+    ensures names { IsTrue result → length case.entry.names.now ≤ 65535 }
+    ensures starts { IsTrue result → AreStarts case.entry.starts.now (length case.entry.names.now) }
+    ensures few { IsTrue result → length case.entry.starts.now ≤ 2 }
+    ensures size { IsTrue result → (1 ≤ case.entry.size) × (case.entry.size ≤ 65536) }
+    ensures limit { IsTrue result → case.entry.max_bytes ≤ 2 ^ 40 }
 {
     case.names.len() <= 65535
         && are_starts(case.starts, case.names.len())
@@ -313,9 +313,9 @@ fn shape_of(case: Case<'_>) -> RingShape
     requires size { 1 ≤ case.size }
     requires few { length case.starts.now ≤ 2 }
     requires limit { case.max_bytes ≤ 2 ^ 40 }
-    ensures size { result.size ≡ case.size }
+    ensures size { result.size ≡ case.entry.size }
     ensures most { result.max_blocks
-        ≡ case.max_bytes / case.size + length case.starts.now + 1 }
+        ≡ case.entry.max_bytes / case.entry.size + length case.entry.starts.now + 1 }
 {
     RingShape {
         buffers: 2,
