@@ -1,5 +1,5 @@
 -- What a feeder that ended has sealed.
-use Rattle.std.proofs.Common.{◌≡◌, ◌≢◌, ℕ, ◌+◌, ◌<◌, ◌≤◌, Bool, true, false, List, [], ◌∷◌, ◌++◌, Option, Some, length, take, refl, sym, ap, ◌∙◌, subst, arith}
+use Rattle.std.proofs.Common.{◌≡◌, ◌≢◌, ℕ, ◌<◌, List, Option, Some, length, refl, sym, ap, ◌∙◌, subst}
 use Rattle.psr_base.specs.Told.{Told}
 use Rattle.ring_blocks.specs.declared.Entry.{Entry}
 use Rattle.stream_model.specs.Blocks.{whole_stream, joined_data, abandoned_stream, joined_bytes, ended_transfers, has_cut, is_over}

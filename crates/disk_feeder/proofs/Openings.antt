@@ -1,15 +1,11 @@
 -- A file that was opened.
-use Rattle.std.proofs.Common.{◌≡◌, ℕ, ◌+◌, ◌<◌, ◌≤◌, true, false, List, ◌++◌, Option, Some, None, Result, Ok, Err, length, take, sym, ap, ◌∙◌, arith}
-use Rattle.std.specs.Prelude.{slice_get, Bool, if◌then◌else◌, ◌==◌}
+use Rattle.std.proofs.Common.{◌≡◌, ℕ, ◌+◌, ◌<◌, ◌≤◌, true, false, List, ◌++◌, Some, None, length, take, sym, ap, ◌∙◌, arith}
+use Rattle.std.specs.Prelude.{slice_get}
 use Rattle.std.proofs.lemmas.Bool.{true≢false}
-use Rattle.dada_model.specs.Fields.{HeaderText, HeaderRefusal, header_of, fields_of}
-use Rattle.obs_plan.specs.Later.{profile_of, later_offset_of}
-use Rattle.obs_plan.specs.declared.profile.Profile.{Profile}
-use Rattle.obs_plan.specs.declared.fault.ObsFault.{ObsFault}
+use Rattle.dada_model.specs.Fields.{header_of}
 use Rattle.psr_base.specs.Told.{Told, left_to_read}
 use Rattle.stream_model.specs.Blocks.{joined_data, abandoned_stream}
-use Rattle.stream_model.specs.Walk as walk
-use Rattle.stream_model.specs.Walk.{FileStream, WalkStop, file_at, begin_of, transfer_of, transfer_data, walk_data, data_of, data_between, observation_at, length_stop, header_stop, later_stop, offset_stop, stop_at, first_of_two, walk_stop, walk_stream, stream_to, stream_before}
+use Rattle.stream_model.specs.Walk.{FileStream, WalkStop, file_at, begin_of, transfer_of, walk_data, data_of, data_between, header_stop, later_stop, walk_stream, stream_to}
 use Rattle.stream_model.specs.WalkLaws.{AreStarts, IsIn, FilesAreInTransfers, DataGrow, DataJoin, FirstStopCounts}
 use Rattle.disk_feeder.specs.declared.answers.FeedEnd.{FeedEnd}
 use Rattle.disk_feeder.specs.declared.answers.FeedEnd.TheVariants.{Whole, ReadFault, BadHeader, Gap, TooLong}

@@ -1,5 +1,5 @@
 -- How the walk of the files goes on from a file that it came to.
-use Rattle.std.proofs.Common.{◌≡◌, ℕ, zero, suc, ◌+◌, ◌-◌, ◌*◌, ◌/◌, ◌<◌, ◌≤◌, ◌⊎◌, min, true, false, List, [], ◌∷◌, ◌++◌, Option, Some, None, length, take, drop, refl, sym, ap, ◌∙◌, inl, inr, append_assoc, arith}
+use Rattle.std.proofs.Common.{◌≡◌, ℕ, zero, suc, ◌+◌, ◌-◌, ◌*◌, ◌<◌, ◌≤◌, ◌⊎◌, min, true, false, List, [], ◌∷◌, ◌++◌, Option, Some, None, length, take, drop, refl, sym, ap, ◌∙◌, inl, inr, append_assoc, arith}
 use Rattle.std.specs.Prelude.{Bool, if◌then◌else◌, nat_lt}
 use mathlib.Core.List.{IsPrefix}
 use Rattle.std.proofs.lemmas.Bool.{cases_eq, cases_lt}
@@ -11,7 +11,7 @@ use Rattle.stream_model.specs.Blocks.{full_entries, whole_stream, joined_data, a
 use Rattle.stream_model.specs.BlockLaws.{StreamsBegin}
 use Rattle.stream_model.specs.Walk as walk
 use Rattle.stream_model.specs.Walk.{FileStream, WalkStop, begin_of, transfer_of, transfer_data, walk_data, data_between, header_stop, length_stop, stop_at, first_of_two, walk_stop, walk_stream, stream_to, stream_before}
-use Rattle.stream_model.specs.WalkLaws.{AreStarts, IsIn, FilesAreInTransfers, DataJoin, FirstStopCounts, NoStopIsWhole, OneTransferMore}
+use Rattle.stream_model.specs.WalkLaws.{IsIn, FilesAreInTransfers, DataJoin, FirstStopCounts, NoStopIsWhole, OneTransferMore}
 use Rattle.disk_feeder.specs.Reached.{CameTo}
 use Rattle.disk_feeder.proofs.Headers.{stop_blocks, stop_of_header}
 

@@ -1,8 +1,8 @@
 -- What the sealed lists are that a feeder stands for.
-use Rattle.std.proofs.Common.{◌≡◌, ℕ, zero, suc, ◌+◌, ◌-◌, ◌*◌, ◌<◌, ◌≤◌, Bool, true, false, List, [], ◌∷◌, ◌++◌, Option, Some, None, length, take, drop, refl, sym, ap, ◌∙◌, subst, append_assoc, arith}
+use Rattle.std.proofs.Common.{◌≡◌, ℕ, zero, suc, ◌+◌, ◌-◌, ◌*◌, ◌<◌, ◌≤◌, Bool, true, false, List, [], ◌∷◌, ◌++◌, Option, Some, None, length, take, drop, refl, sym, ap, ◌∙◌, append_assoc, arith}
 use Rattle.std.specs.Prelude.{◌||◌}
 use mathlib.Core.List.{IsPrefix}
-use Rattle.std.proofs.lemmas.List.{take_all, length-take}
+use Rattle.std.proofs.lemmas.List.{take_all}
 use Rattle.psr_base.specs.Told.{Told}
 use Rattle.dada_model.specs.Fields.{HeaderText}
 use Rattle.ring_blocks.specs.declared.Entry.{Entry}
@@ -14,14 +14,13 @@ use Rattle.disk_feeder.specs.declared.answers.FeedEnd.TheVariants.{Whole, ReadFa
 use Rattle.disk_feeder.specs.declared.due.Due.{Due}
 use Rattle.disk_feeder.specs.declared.due.Due.TheVariants.{Full, Last, Stopped}
 use Rattle.disk_feeder.specs.declared.place.Place.{Place}
-use Rattle.disk_feeder.specs.declared.source.Source.{Source}
 use Rattle.disk_feeder.specs.declared.stream.Stream.{Stream}
 use Rattle.disk_feeder.specs.Plan.{Plan, stream_of, AreTold}
 use Rattle.disk_feeder.specs.Reached.{WalkGoesOn}
-use Rattle.disk_feeder.specs.Reading.{HasRead, IsEnd, EndsReading}
+use Rattle.disk_feeder.specs.Reading.{IsEnd, EndsReading}
 use Rattle.disk_feeder.specs.Sources.{plan_of}
-use Rattle.disk_feeder.specs.Filling.{IsFilled, IsCountOf, DueIs}
-use Rattle.disk_feeder.specs.Feeding.{header_entries, headers_sealed, IsRunning, IsBeginning, HeadersKeepUp, SealedAs, IsEnded, FeedsTo, IsFeeding}
+use Rattle.disk_feeder.specs.Filling.{DueIs}
+use Rattle.disk_feeder.specs.Feeding.{header_entries, headers_sealed, IsRunning, IsBeginning, HeadersKeepUp, SealedAs, FeedsTo, IsFeeding}
 use Rattle.disk_feeder.proofs.Fulls.{within_is}
 use Rattle.disk_feeder.proofs.OfSource.{plan_place, plan_starts}
 use Rattle.disk_feeder.proofs.Reaching.{IsWithin, came_to}

@@ -44,6 +44,7 @@ pub record HasPlan {I : Type 0} (f : Feeder I) (names : List (List ℕ)) (starts
   pub transfers : (plan_at f).starts ≡ starts
   pub limit : (plan_at f).max_bytes ≡ max_bytes
   pub block : block_size f ≡ size
+  pub headers : length (header_at f) ≡ length starts
 
 -- a header's observation was accepted as that of a transfer
 abbrev pub IsAcceptedAt : {I : Type 0} → Feeder I → ℕ → HeaderText → Type 0
@@ -55,6 +56,7 @@ pub record SamePlan {I : Type 0} (old new : Feeder I) : Type 0 where
   pub starts : (plan_at new).starts ≡ (plan_at old).starts
   pub limit : (plan_at new).max_bytes ≡ (plan_at old).max_bytes
   pub size : block_size new ≡ block_size old
+  pub headers : length (header_at new) ≡ length (header_at old)
 
 -- nothing was read
 abbrev pub IsFresh : {I : Type 0} → Feeder I → Type 0

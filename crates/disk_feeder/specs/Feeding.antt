@@ -127,10 +127,19 @@ Feeds old pass new pass' = (told : Told) →
     IsRunning old told (sealed_headers pass) (sealed_blocks pass) →
     IsFeeding new told (sealed_headers pass') (sealed_blocks pass')
 
--- it makes no fault of one that isn't
-abbrev pub SinceSame : Stream → Stream → Type 0
-SinceSame old new = (k faults : ℕ) → IsSince k faults old.due old.end →
-    IsSince k faults new.due new.end
+-- no fault of the inputs came
+abbrev pub IsFaultless : Option Due → Option FeedEnd → Type 0
+IsFaultless due end = (due ≢ Some (Stopped ReadFault)) × (end ≢ Some ReadFault)
+
+-- What a seal leaves, which reads nothing: the plan and the size of a block stay, and no file is opened. Where a fault
+-- came before, one has come still, and where none did, none has
+pub record AfterSeal (old new : Stream) : Type 0 where
+  pub plan : plan_of new.source ≡ plan_of old.source
+  pub size : length new.block.items ≡ length old.block.items
+  pub opened : new.source.place.is_open ≡ true → old.source.place.is_open ≡ true
+  pub since : (k faults : ℕ) → IsSince k faults old.due old.end → IsSince k faults new.due new.end
+  pub faultless : IsFaultless old.due old.end → IsFaultless new.due new.end
+  pub failed : IsFaultless new.due new.end → IsFaultless old.due old.end
 
 -- after a transfer: the header of the next one is due, or all data were sealed
 abbrev pub GoesOn : Stream → Stream → FeedTurn → Type 0
@@ -145,7 +154,3 @@ pub record FitsRings (hdu : Hdu) (s : Stream) : Type 0 where
   pub size : (data_shape hdu).size ≡ length s.block.items
   pub blocks : s.source.max_bytes / length s.block.items + length s.source.starts.now + 1
       ≤ (data_shape hdu).max_blocks
-
--- no fault of the inputs came
-abbrev pub IsFaultless : Option Due → Option FeedEnd → Type 0
-IsFaultless due end = (due ≢ Some (Stopped ReadFault)) × (end ≢ Some ReadFault)

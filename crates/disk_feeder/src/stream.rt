@@ -86,7 +86,7 @@ impl<'a> Stream<'a> {
     ghost use Rattle.stream_model.specs.WalkLaws.{AreStarts};
     ghost use Rattle.disk_feeder.specs.Beginning.{IsFreshStream, IsBegunStream, RefusesSome, KeepsFiles, AcceptsIn};
     ghost use Rattle.disk_feeder.specs.Streams.{work_left, KeepsStream, Fills, IsSourceOver};
-    ghost use Rattle.disk_feeder.specs.Feeding.{KeepsPlan, Feeds, SinceSame, GoesOn, IsFeeding, FitsRings, IsFaultless};
+    ghost use Rattle.disk_feeder.specs.Feeding.{KeepsPlan, Feeds, AfterSeal, GoesOn, IsFeeding, FitsRings, IsFaultless};
 
     /// Nothing was read. The space for a block of so many bytes, and for all headers, is taken here.
     pub(crate) fn open(
@@ -270,16 +270,9 @@ impl<'a> Stream<'a> {
         requires due { self.old.due ≡ Some Due.Full }
         requires running { self.old.end ≡ None }
         ensures ring { WritesBoth hdu.now pass.new }
-        ensures kept { KeepsPlan self.old self.new }
-        ensures place { self.new.source.place.is_open ≡ true
-            → self.old.source.place.is_open ≡ true }
+        ensures after { AfterSeal self.old self.new }
         ensures feeds { Feeds self.old pass.old self.new pass.new }
         ensures answer { TurnAnswers pass.old pass.new self.new.end result }
-        ensures since { SinceSame self.old self.new }
-        ensures faultless { IsFaultless self.old.due self.old.end
-            → IsFaultless self.new.due self.new.end }
-        ensures failed { IsFaultless self.new.due self.new.end
-            → IsFaultless self.old.due self.old.end }
     {
         match write_block(hdu, pass, self.block.as_slice(), Mark::More) {
             Ok(()) => {
@@ -302,16 +295,9 @@ impl<'a> Stream<'a> {
         requires there { self.old.source.place.transfer < length self.old.source.starts.now }
         requires over { IsSourceOver self.old.source }
         ensures ring { WritesBoth hdu.now pass.new }
-        ensures kept { KeepsPlan self.old self.new }
-        ensures place { self.new.source.place.is_open ≡ true
-            → self.old.source.place.is_open ≡ true }
+        ensures after { AfterSeal self.old self.new }
         ensures feeds { Feeds self.old pass.old self.new pass.new }
         ensures answer { TurnAnswers pass.old pass.new self.new.end result }
-        ensures since { SinceSame self.old self.new }
-        ensures faultless { IsFaultless self.old.due self.old.end
-            → IsFaultless self.new.due self.new.end }
-        ensures failed { IsFaultless self.new.due self.new.end
-            → IsFaultless self.old.due self.old.end }
     {
         streams_grow();
         no_stop_is_whole();
@@ -354,16 +340,9 @@ impl<'a> Stream<'a> {
         requires running { self.old.end ≡ None }
         requires header { self.old.header_due ≡ false }
         ensures ring { WritesBoth hdu.now pass.new }
-        ensures kept { KeepsPlan self.old self.new }
-        ensures place { self.new.source.place.is_open ≡ true
-            → self.old.source.place.is_open ≡ true }
+        ensures after { AfterSeal self.old self.new }
         ensures feeds { Feeds self.old pass.old self.new pass.new }
         ensures answer { TurnAnswers pass.old pass.new self.new.end result }
-        ensures since { SinceSame self.old self.new }
-        ensures faultless { IsFaultless self.old.due self.old.end
-            → IsFaultless self.new.due self.new.end }
-        ensures failed { IsFaultless self.new.due self.new.end
-            → IsFaultless self.old.due self.old.end }
     {
         match write_block(hdu, pass, &[], Mark::Cut) {
             Ok(()) => {
@@ -394,16 +373,9 @@ impl<'a> Stream<'a> {
         requires header { self.old.header_due ≡ true }
         requires there { self.old.source.place.transfer < length self.old.source.starts.now }
         ensures ring { WritesBoth hdu.now pass.new }
-        ensures kept { KeepsPlan self.old self.new }
-        ensures place { self.new.source.place.is_open ≡ true
-            → self.old.source.place.is_open ≡ true }
+        ensures after { AfterSeal self.old self.new }
         ensures feeds { Feeds self.old pass.old self.new pass.new }
         ensures answer { TurnAnswers pass.old pass.new self.new.end result }
-        ensures since { SinceSame self.old self.new }
-        ensures faultless { IsFaultless self.old.due self.old.end
-            → IsFaultless self.new.due self.new.end }
-        ensures failed { IsFaultless self.new.due self.new.end
-            → IsFaultless self.old.due self.old.end }
     {
         match write_header(hdu, pass, self.source.header()) {
             Ok(()) => {
@@ -426,16 +398,9 @@ impl<'a> Stream<'a> {
         requires last { due ≡ Due.Last → (self.old.held < length self.old.block.items)
             × IsSourceOver self.old.source }
         ensures ring { WritesBoth hdu.now pass.new }
-        ensures kept { KeepsPlan self.old self.new }
-        ensures place { self.new.source.place.is_open ≡ true
-            → self.old.source.place.is_open ≡ true }
+        ensures after { AfterSeal self.old self.new }
         ensures feeds { Feeds self.old pass.old self.new pass.new }
         ensures answer { TurnAnswers pass.old pass.new self.new.end result }
-        ensures since { SinceSame self.old self.new }
-        ensures faultless { IsFaultless self.old.due self.old.end
-            → IsFaultless self.new.due self.new.end }
-        ensures failed { IsFaultless self.new.due self.new.end
-            → IsFaultless self.old.due self.old.end }
     {
         match due {
             Due::Full => self.seal_full(hdu, pass),

@@ -20,6 +20,7 @@ loop-k-preserved g c =
         starts = after.plan.starts ∙ before.plan.starts;
         limit = after.plan.limit ∙ before.plan.limit;
         size = after.plan.size ∙ before.plan.size;
+        headers = after.plan.headers ∙ before.plan.headers;
       };
       headers = after.headers ∙ before.headers;
       accepted = λ j header below at. elim (cases_eq j k) [
