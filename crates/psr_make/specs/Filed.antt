@@ -8,7 +8,8 @@ use Rattle.psr_base.specs.Made.{Made, FilesLeft, FilesSeen, with_new_file, longe
 -- a file of that name with these bytes was created and finished
 pub record FileMade (name bytes : List ℕ) (old new : FilesSeen) : Type 0 where
   pub made : new.made
-      ≡ option_map (λ (made : Made). with_all_finished (longer_by bytes (with_new_file name made))) old.made
+      ≡ option_map (λ (made : Made). with_all_finished (longer_by bytes (with_new_file name made)))
+      old.made
   pub left : new.left
       ≡ option_map (λ (left : FilesLeft). less_bytes (length bytes) (less_a_file left)) old.left
   pub faults : new.faults ≡ old.faults

@@ -16,7 +16,7 @@ abbrev pub values_before : MakeSpec → ℕ → ℕ
 values_before s t = t * s.channels * s.npol
 
 -- what stands behind: the delays, and a generator that stands at the draws of the next spectrum
-pub record IsMaking (s : MakeSpec) (delays : List ℕ) (state made : ℕ) : Type 0 where
+pub record MakerIsSound (s : MakeSpec) (delays : List ℕ) (state made : ℕ) : Type 0 where
   pub in_range : SpecInRange s
   pub path : delays ≡ made_path s
   pub rises : AreDelays s.channels delays

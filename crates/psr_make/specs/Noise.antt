@@ -13,4 +13,5 @@ pub record AreNoise (number first wide state : ℕ) (values : List ℕ) : Type 0
 -- the same from wherever a generator stands
 abbrev pub FillsNoise : ℕ → ℕ → ℕ → List ℕ → Type 0
 FillsNoise wide old_state new_state values =
-    (number first : ℕ) → old_state ≡ state_after number first → AreNoise number first wide new_state values
+    (number first : ℕ) → old_state ≡ state_after number first
+    → AreNoise number first wide new_state values

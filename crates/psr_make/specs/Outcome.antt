@@ -7,7 +7,7 @@ use Rattle.psr_base.specs.Written.{SinkSeen, Noted}
 use Rattle.psr_make.specs.Made.{made_file}
 use Rattle.psr_make.specs.Filed.{FileMade, MakingStopped}
 use Rattle.psr_make.specs.Request.{Asks}
-use Rattle.psr_make.specs.Stop.{status_of, note_of, StopsAt}
+use Rattle.psr_make.specs.Stop.{status_of, note_of, ExplainsStop}
 use Rattle.psr_make.specs.declared.spec.MakeSpec.{MakeSpec}
 use Rattle.psr_make.specs.declared.stop.Stop.{Stop}
 use Rattle.psr_make.specs.declared.stop.Stop.TheVariants.{RecordFault}
@@ -32,7 +32,7 @@ AskedIsStopped words old new = ForAsked words (λ s name. MakingStopped name (ma
 pub record NotesStop (words : List (List ℕ)) (before after : SinkSeen) (status : ℕ) : Type 0 where
   pub stop : Stop
   pub answered : status ≡ status_of stop
-  pub cause : StopsAt words stop
+  pub cause : ExplainsStop words stop
   pub line : Noted (note_of stop) before after
 
 -- The outcome of making an observation for these words: how it ended, by its status, what the files and the notes took,
@@ -58,7 +58,7 @@ pub record Outcome (words : List (List ℕ)) (files_before files_after : FilesSe
 -- ---- the same without the notes
 
 pub record EndsAtWords (words : List (List ℕ)) (old new : FilesSeen) (stop : Stop) : Type 0 where
-  pub cause : StopsAt words stop
+  pub cause : ExplainsStop words stop
   pub untouched : new ≡ old
 
 pub record EndsMaking (words : List (List ℕ)) (old new : FilesSeen) : Type 0 where

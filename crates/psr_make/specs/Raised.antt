@@ -22,7 +22,8 @@ most_low = 55
 
 -- no byte of the cells of a channel, of the spectra from `start` up to `end`, is too high to be raised
 abbrev pub AreLow : MakeSpec → List ℕ → ℕ → ℕ → ℕ → Type 0
-AreLow s bytes channel start end = (i x : ℕ) → x < cell_bytes s → i * cell_bytes s + x < length bytes
+AreLow s bytes channel start end = (i x : ℕ)
+    → x < cell_bytes s → i * cell_bytes s + x < length bytes
     → i % s.channels ≡ channel → start ≤ i / s.channels → i / s.channels < end
     → slice_index bytes (i * cell_bytes s + x) ≤ most_low
 

@@ -32,7 +32,8 @@ value_in limits text = if is_whole_text text then if_allowed limits (digits_valu
 -- the value of an option: that of the word that was given for it, or the one that stands without a word
 abbrev pub option_value : List Found → Opt → Option ℕ
 option_value found opt =
-    option_map_or (value_in (option_row opt).limits) (first_of (option_name opt) found) (Some (option_row opt).default)
+    option_map_or (value_in (option_row opt).limits) (first_of (option_name opt) found)
+    (Some (option_row opt).default)
 
 -- the same as a number
 abbrev pub option_number : List Found → Opt → ℕ

@@ -36,11 +36,11 @@ ExplainsClap words Memory = Unit {0}
 ExplainsClap words _ = ⊥
 
 -- what a stop says of the words: they are refused, or the first option whose value is out of its range is named
-abbrev pub StopsAt : List Text → Stop → Type 0
-StopsAt words Words = (name : Text) → ¬ AreWords words name
-StopsAt words (Value opt) =
+abbrev pub ExplainsStop : List Text → Stop → Type 0
+ExplainsStop words Words = (name : Text) → ¬ AreWords words name
+ExplainsStop words (Value opt) =
     (name : Text) × AreWords words name × (first_out_of_range (matches_on words) ≡ Some opt)
-StopsAt words _ = Unit {0}
+ExplainsStop words _ = Unit {0}
 
 -- a stop that reading the words may come to
 abbrev pub IsReadingStop : Stop → Type 0

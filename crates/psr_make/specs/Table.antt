@@ -21,16 +21,16 @@ option_name Height = codes "height"
 option_name Nbit = codes "nbit"
 option_name Npol = codes "npol"
 
-abbrev pub between : ℕ → ℕ → ℕ → Row
-between least most default = record { limits = Between least most; default = default }
+abbrev pub row_between : ℕ → ℕ → ℕ → Row
+row_between least most default = record { limits = Between least most; default = default }
 
 -- the least value, the greatest and the one without a word; delay and period are in spectra
 abbrev pub option_row : Opt → Row
-option_row Number = between 0 9223372036854775807 0
-option_row Nchan = between 2 4096 64
-option_row Spectra = between 0 1048576 4096
-option_row Delay = between 0 8192 64
-option_row Period = between 1 1048576 256
-option_row Height = between 0 200 2
+option_row Number = row_between 0 9223372036854775807 0
+option_row Nchan = row_between 2 4096 64
+option_row Spectra = row_between 0 1048576 4096
+option_row Delay = row_between 0 8192 64
+option_row Period = row_between 1 1048576 256
+option_row Height = row_between 0 200 2
 option_row Nbit = record { limits = Either 8 16; default = 8 }
-option_row Npol = between 1 2 1
+option_row Npol = row_between 1 2 1

@@ -27,10 +27,12 @@ six = record {
 }
 
 -- a channel that pulses leave after a spectrum, and the one below it
-upper : map (is_passed six 0 1) (0 ∷ 1 ∷ 2 ∷ 3 ∷ 4 ∷ 5 ∷ []) ≡ true ∷ true ∷ false ∷ true ∷ true ∷ false ∷ []
+upper : map (is_passed six 0 1) (0 ∷ 1 ∷ 2 ∷ 3 ∷ 4 ∷ 5 ∷ [])
+    ≡ true ∷ true ∷ false ∷ true ∷ true ∷ false ∷ []
 unfolding is_passed
 upper = refl
 
-lower : map (is_passed six 1 2) (0 ∷ 1 ∷ 2 ∷ 3 ∷ 4 ∷ 5 ∷ []) ≡ false ∷ true ∷ true ∷ false ∷ true ∷ true ∷ []
+lower : map (is_passed six 1 2) (0 ∷ 1 ∷ 2 ∷ 3 ∷ 4 ∷ 5 ∷ [])
+    ≡ false ∷ true ∷ true ∷ false ∷ true ∷ true ∷ []
 unfolding is_passed
 lower = refl

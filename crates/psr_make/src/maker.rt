@@ -4,7 +4,7 @@ ghost use Rattle.band_paths.specs.Edges.{AreDelays};
 ghost use Rattle.psr_make.specs.Draws.{state_after};
 ghost use Rattle.psr_make.specs.Made.{SpecInRange, made_path, spectrum_bytes, data_part};
 ghost use Rattle.psr_make.specs.Raised.{Raises, most_low, by_train};
-ghost use Rattle.psr_make.specs.Making.{Making, IsMaking, values_before};
+ghost use Rattle.psr_make.specs.Making.{Making, MakerIsSound, values_before};
 
 use crate::band::delays_of;
 use crate::draws::fill_noise;
@@ -51,7 +51,8 @@ fn write_spectra(
     requires whole { count * spectrum_bytes spec.now ≡ length bytes.old }
     ensures data { bytes.new
         ≡ data_part spec.now (first * spectrum_bytes spec.now) (length bytes.old) }
-    ensures draws { draws.new ≡ state_after spec.now.number (values_before spec.now (first + count)) }
+    ensures draws { draws.new
+        ≡ state_after spec.now.number (values_before spec.now (first + count)) }
 {
     fill_noise(draws, spec.value_bytes(), bytes);
     raise_train(spec, delays, first, count, bytes);
@@ -71,7 +72,7 @@ impl Model for Maker {
 
     ghost view = { λ m. record { spec = m.spec; made = m.made } };
 
-    ghost invariant = { λ m. IsMaking m.spec m.delays.items m.draws m.made };
+    ghost invariant = { λ m. MakerIsSound m.spec m.delays.items m.draws m.made };
 }
 
 impl Maker {

@@ -46,7 +46,7 @@ pub fn make_bytes(alloc: Global, spec: &MakeSpec) -> Result<Vec<u8>, Memory>
 }
 
 /// Makes the file of the observation: creates it, appends header and data, and finishes it. The bytes are made and
-/// appended a block at a time. At a fault the file is gone or unfinished, and holds a front of the bytes.
+/// appended a block at a time. At a fault the file was not created, or it is unfinished and holds a front of the bytes.
 pub fn make<F: Files>(
     alloc: Global,
     spec: &MakeSpec,

@@ -63,23 +63,23 @@ impl Opt {
         ensures { result ≡ option_row self }
     {
         match self {
-            Opt::Number => between(0, 9223372036854775807, 0),
-            Opt::Nchan => between(2, 4096, 64),
-            Opt::Spectra => between(0, 1048576, 4096),
-            Opt::Delay => between(0, 8192, 64),
-            Opt::Period => between(1, 1048576, 256),
-            Opt::Height => between(0, 200, 2),
+            Opt::Number => row_between(0, 9223372036854775807, 0),
+            Opt::Nchan => row_between(2, 4096, 64),
+            Opt::Spectra => row_between(0, 1048576, 4096),
+            Opt::Delay => row_between(0, 8192, 64),
+            Opt::Period => row_between(1, 1048576, 256),
+            Opt::Height => row_between(0, 200, 2),
             Opt::Nbit => Row {
                 limits: Limits::Either(8, 16),
                 default: 8,
             },
-            Opt::Npol => between(1, 2, 1),
+            Opt::Npol => row_between(1, 2, 1),
         }
     }
 }
 
 // A row of numbers between two others.
-fn between(least: u64, most: u64, default: u64) -> Row
+fn row_between(least: u64, most: u64, default: u64) -> Row
     ensures { result ≡ record { limits = Limits.Between least most; default = default } }
 {
     Row {

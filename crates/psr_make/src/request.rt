@@ -5,7 +5,7 @@ ghost use Rattle.psr_make.specs.Made.{SpecInRange};
 ghost use Rattle.psr_make.specs.Table.{option_name, option_row};
 ghost use Rattle.psr_make.specs.Command.{IsSimpleLine};
 ghost use Rattle.psr_make.specs.Request.{limits_allow, if_allowed, value_in as value_in_of, option_value, option_number, first_out_of_range as first_out_of_range_of, spec_of as spec_of_found, Asks};
-ghost use Rattle.psr_make.specs.Stop.{StopsAt, IsReadingStop};
+ghost use Rattle.psr_make.specs.Stop.{ExplainsStop, IsReadingStop};
 
 use crate::command::matches_of;
 use crate::opt::{Limits, OPTIONS, Opt};
@@ -112,7 +112,7 @@ impl<'a> Request<'a> {
     pub(crate) fn of(alloc: Global, words: &'a [String]) -> Result<Request<'a>, Stop>
         ensures asks { IfOk result (λ r. Asks (map string_bytes words.now) r.spec r.name.now) }
         ensures in_range { IfOk result (λ r. SpecInRange r.spec) }
-        ensures cause { IfErr result (StopsAt (map string_bytes words.now)) }
+        ensures cause { IfErr result (ExplainsStop (map string_bytes words.now)) }
         ensures kind { IfErr result IsReadingStop }
     {
         let matches = match matches_of(alloc, words) {
