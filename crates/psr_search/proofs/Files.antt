@@ -9,7 +9,7 @@ use Rattle.search_model.specs.Plan.{plan_refusal}
 use Rattle.search_model.specs.Observed.{candidates_of, search_text}
 use Rattle.search_engine.specs.Engine.{EngineState}
 use Rattle.dada_model.specs.Fields.{HeaderText}
-use Rattle.psr_search.specs.File.{IsOpenedFile, IsInHeader, data_of}
+use Rattle.psr_search.specs.File.{IsOpenedFile, IsInHeader, past_header}
 use Rattle.psr_search.proofs.Fronts.{one_header}
 use Rattle.psr_search.specs.Stop.{IsPlanStop}
 use Rattle.psr_search.specs.Searching.{HasFed, EndsData, EndsFile, EndsOutput}
@@ -48,7 +48,7 @@ module _ (o : Observation) (search : Search) where
   feeding_says most old new left file (TooLong limit) planned is says =
       let long = says (λ e. absurd cc) in
       let same : limit ≡ most = let e = long.0 in cc in
-      (is.header, o, is.accepted, (planned, (same, long.1 (data_of file is.header) is.data_left)))
+      (is.header, o, is.accepted, (planned, (same, long.1 (past_header file is.header) is.data_left)))
   feeding_says most old new left file ReadFault planned is says = tt
   feeding_says most old new left file (Plan cause) planned is says = let e = (says (λ f. absurd cc)).0 in absurd cc
   feeding_says most old new left file Memory planned is says = let e = (says (λ f. absurd cc)).0 in absurd cc
@@ -65,23 +65,23 @@ module _ (o : Observation) (search : Search) where
       (fed : HasFed o most left e) → EndsData o search fed.bytes old new result →
       EndsFile search most old new result file
   text_says most old new left file e result planned is fed ends =
-      at (data_of file is.header) (fed.told (data_of file is.header) is.data_left) result ends
+      at (past_header file is.header) (fed.told (past_header file is.header) is.data_left) result ends
     where
       short_by : (bytes : List ℕ) → fed.bytes ≡ bytes → length bytes ≤ most
       short_by bytes same = let P : List ℕ → Type 0 = λ xs. length xs ≤ most in subst P same fed.short
 
-      at : (bytes : List ℕ) → fed.bytes ≡ data_of file is.header → (r : Result (Unit {0}) Stop) →
+      at : (bytes : List ℕ) → fed.bytes ≡ past_header file is.header → (r : Result (Unit {0}) Stop) →
           EndsData o search fed.bytes old new r → EndsFile search most old new r file
       at bytes same (Ok done) ends =
           let P : List ℕ → Type 0 = λ xs. (length (candidates_of o search xs) ≤ search.max_candidates)
           × WroteAll (search_text o search xs) old new in
           let wrote = subst P same ends in
-          (is.header, o, is.accepted, (planned, (short_by (data_of file is.header) same, wrote.0, wrote.1)))
+          (is.header, o, is.accepted, (planned, (short_by (past_header file is.header) same, wrote.0, wrote.1)))
       at bytes same (Err SinkFault) ends =
           let P : List ℕ → Type 0 = λ xs. (length (candidates_of o search xs) ≤ search.max_candidates)
           × WroteFront (search_text o search xs) old new in
           let wrote = subst P same ends in
-          (is.header, o, is.accepted, (planned, (short_by (data_of file is.header) same, wrote.0, wrote.1)))
+          (is.header, o, is.accepted, (planned, (short_by (past_header file is.header) same, wrote.0, wrote.1)))
       at bytes same (Err (TooMany count limit)) ends =
           let P : List ℕ → Type 0 = λ xs. length (candidates_of o search xs) ≡ count in (
             is.header,
@@ -90,7 +90,7 @@ module _ (o : Observation) (search : Search) where
             (
               planned,
               (
-                short_by (data_of file is.header) same,
+                short_by (past_header file is.header) same,
                 (subst P same ends.0, ends.1, ends.2),
               ),
             ),

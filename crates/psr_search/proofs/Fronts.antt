@@ -7,7 +7,7 @@ use Rattle.std.proofs.lemmas.Bool.{cases_lt}
 use Rattle.std.proofs.lemmas.Bool.Decides.{nat_tests}
 use Rattle.std.proofs.Math.Seq.{take-add}
 use Rattle.dada_model.specs.Fields.{HeaderText, ShortHeader, BadHeaderSize, NotTextAt, header_of, header_of_size, header_with_text, header_text, header_size, size_of_value, value_of, fields_of, before_nul, is_above_ascii}
-use Rattle.psr_search.specs.File.{IsFrontRead}
+use Rattle.psr_search.specs.File.{IsHeaderRead}
 
 -- at least 4096 bytes have the size that the file has
 header_size-front : (file : List ℕ) (k : ℕ) → 4096 ≤ k → header_size (take k file) ≡ header_size file
@@ -91,7 +91,7 @@ size_of_front front file size h first has sized has_header =
 pub front_of_size : (front rest bytes file : List ℕ) (left : Option (List ℕ)) (size : ℕ) → front ≡ take 4096 file →
     rest ≡ take (size - 4096) (drop 4096 file) → bytes ≡ front ++ rest →
     4096 ≤ size → 4096 ≤ length front → header_size front ≡ Some size →
-    left ≡ Some (drop (size - 4096) (drop 4096 file)) → IsFrontRead bytes left file
+    left ≡ Some (drop (size - 4096) (drop 4096 file)) → IsHeaderRead bytes left file
 front_of_size front rest bytes file left size first second joined long has sized is_left =
     let whole : 4096 + (size - 4096) ≡ size = omega arith in
     let is : bytes ≡ take size file = joined ∙ ap (λ (xs : List ℕ). xs ++ rest) first
@@ -112,7 +112,7 @@ front_of_size front rest bytes file left size first second joined long has sized
 
 -- the first 4096 bytes of a shorter file
 pub front_of_short : (front file : List ℕ) (left : Option (List ℕ)) → front ≡ take 4096 file → length front < 4096 →
-    left ≡ Some (drop 4096 file) → IsFrontRead front left file
+    left ≡ Some (drop 4096 file) → IsHeaderRead front left file
 front_of_short front file left first short is_left =
     let all : front ≡ file = first ∙ take_all 4096 file
     (omega (arith, ap (length {A = ℕ}) first, length-take 4096 file)) in
@@ -126,7 +126,7 @@ front_of_short front file left first short is_left =
 
 -- those of a file whose size is refused
 pub front_of_refused : (front file : List ℕ) (left : Option (List ℕ)) → front ≡ take 4096 file → 4096 ≤ length front →
-    header_size front ≡ None → left ≡ Some (drop 4096 file) → IsFrontRead front left file
+    header_size front ≡ None → left ≡ Some (drop 4096 file) → IsHeaderRead front left file
 front_of_refused front file left first has refused is_left =
     let enough : 4096 ≤ length file = omega (arith, ap (length {A = ℕ}) first, length-take 4096 file) in
     let of_file : header_size file ≡ None = sym (header_size-front file 4096 (omega arith)) ∙ ap header_size (sym first)

@@ -17,7 +17,7 @@ use Rattle.psr_search.specs.declared.stop.HeaderCause.TheVariants.{Short, NotTex
 use Rattle.psr_search.specs.declared.stop.PlanCause.{PlanCause}
 use Rattle.psr_search.specs.declared.stop.PlanCause.TheVariants.{SumBound, FoldTooLarge, TooManyFolds, TooManyShards}
 use Rattle.psr_search.specs.Request.{Asks}
-use Rattle.psr_search.specs.File.{IsAccepted, Accepted, Planned, IsCause, IsPlanCause, IsRefusedBy, data_of}
+use Rattle.psr_search.specs.File.{SaysObservation, Accepted, Planned, IsCause, IsPlanCause, IsRefusedBy, past_header}
 use Rattle.psr_search.specs.Stop.{status_of, note_of, IsStopOfWords, IsStopOf, HasCandidates}
 use Rattle.psr_search.specs.Outcome.{ForFile, Outcome, AcceptedIsSearched}
 use Rattle.psr_search.specs.Ends.{EndsQuietly, EndsAtWords, EndsAtFile, EndsWriting, EndsBy}
@@ -37,7 +37,7 @@ module _ (words : List (List ℕ)) (inputs : InputsSeen) (is_calm : Type 0) (old
     pub plan : status_of stop ≡ 4 → ForFile words inputs.told (λ s file.
         Accepted file (λ h o. (cause : PlanCause) × IsPlanCause (plan_refusal o s.search) cause))
     pub long : status_of stop ≡ 8 → ForFile words inputs.told (λ s file.
-        Planned s.search file (λ h o. s.max_bytes < length (data_of file h)))
+        Planned s.search file (λ h o. s.max_bytes < length (past_header file h)))
     pub many : status_of stop ≡ 9 → ForFile words inputs.told (λ s file.
         HasCandidates s.search s.max_bytes file (λ n. s.search.max_candidates < n))
     pub rose : status_of stop ≡ 6 → Rose inputs.faults_before inputs.faults_after
@@ -304,7 +304,7 @@ memory_alone SinkFault five = absurd (omega arith)
 same_header : (file : List ℕ) (h k : HeaderText) → header_of file ≡ Ok h → header_of file ≡ Ok k → h ≡ k
 same_header file h k a b = cc
 
-other_refused : (file : List ℕ) (h : HeaderText) (o : Observation) (refusal : Refusal) → IsAccepted file h o →
+other_refused : (file : List ℕ) (h : HeaderText) (o : Observation) (refusal : Refusal) → SaysObservation file h o →
     IsRefusedBy file refusal → ⊥
 other_refused file h o refusal is (k, header, refused) =
     let same : h ≡ k = same_header file h k is.header header in
@@ -313,7 +313,8 @@ other_refused file h o refusal is (k, header, refused) =
     absurd cc
 
 -- an accepted file is refused for no cause
-accepted_has_none : (file : List ℕ) (h : HeaderText) (o : Observation) (cause : HeaderCause) → IsAccepted file h o →
+accepted_has_none : (file : List ℕ) (h : HeaderText) (o : Observation) (cause : HeaderCause) →
+    SaysObservation file h o →
     IsCause file cause → ⊥
 accepted_has_none file h o (Short had) is cause = let a = is.header in absurd cc
 accepted_has_none file h o (NotText place) is cause = let a = is.header in absurd cc
@@ -325,7 +326,8 @@ accepted_has_none file h o (OutOfRange key) is cause = other_refused file h o (m
 accepted_has_none file h o (TooNarrow bw nchan) is cause = other_refused file h o (model.TooNarrow bw nchan) is cause
 accepted_has_none file h o (Differs key) is cause = cause
 
-same_observation : (file : List ℕ) (h k : HeaderText) (o q : Observation) → IsAccepted file h o → IsAccepted file k q →
+same_observation : (file : List ℕ) (h k : HeaderText) (o q : Observation) →
+    SaysObservation file h o → SaysObservation file k q →
     (h ≡ k) × (o ≡ q)
 same_observation file h k o q a b =
     let same : h ≡ k = same_header file h k a.header b.header in
@@ -355,20 +357,20 @@ accepted_is_searched is_calm words inputs old new notes_old notes_new status out
         ap (λ (x : Observation). plan_refusal x s.search) (sym same.1) ∙ planned in
         planned_has_none (plan_refusal q s.search) cause none holds
 
-    not_long : Planned s.search file (λ k q. s.max_bytes < length (data_of file k)) → ⊥
+    not_long : Planned s.search file (λ k q. s.max_bytes < length (past_header file k)) → ⊥
     not_long (k, q, is, (plan, long)) =
         let same = same_observation file h k o q accepted is in
-        let count : length (data_of file h) ≡ length (data_of file k) =
-        ap (λ (x : HeaderText). length (data_of file x)) same.0 in
+        let count : length (past_header file h) ≡ length (past_header file k) =
+        ap (λ (x : HeaderText). length (past_header file x)) same.0 in
         absurd (omega (arith, count, long, short))
 
     not_many : HasCandidates s.search s.max_bytes file (λ n. s.search.max_candidates < n) → ⊥
     not_many (k, q, is, (plan, (fits, many))) =
         let same = same_observation file h k o q accepted is in
-        let count : length (candidates_of o s.search (data_of file h))
-        ≡ length (candidates_of q s.search (data_of file k)) =
-        ap (λ (x : HeaderText). length (candidates_of o s.search (data_of file x))) same.0
-        ∙ ap (λ (x : Observation). length (candidates_of x s.search (data_of file k))) same.1 in
+        let count : length (candidates_of o s.search (past_header file h))
+        ≡ length (candidates_of q s.search (past_header file k)) =
+        ap (λ (x : HeaderText). length (candidates_of o s.search (past_header file x))) same.0
+        ∙ ap (λ (x : Observation). length (candidates_of x s.search (past_header file k))) same.1 in
         absurd (omega (arith, count, many, few))
 
     not_failed : status ≡ 6 → ⊥

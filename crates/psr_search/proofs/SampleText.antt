@@ -11,7 +11,7 @@ use Rattle.search_model.specs.Paths.{entry, path}
 use Rattle.clap.proofs.OnLiterals.{clap_on_literals}
 use Rattle.search_words.specs.Settings.{SettingsSeen}
 use Rattle.psr_search.specs.Request.{Asks}
-use Rattle.psr_search.specs.File.{IsAccepted, data_of}
+use Rattle.psr_search.specs.File.{SaysObservation, past_header}
 use Rattle.search_model.specs.Observed.{search_text}
 use Rattle.psr_search.specs.Sample.{sample_words, sample_header, sample_data, sample_file, sample_text, SampleIsFound}
 
@@ -75,7 +75,7 @@ text_is : search_text observation search sample_data ≡ sample_text
 unfolding observation search edges edge signed_edge path entry dm dispersion_span digits
 text_is = refl
 
-data_is : data_of sample_file header ≡ sample_data
+data_is : past_header sample_file header ≡ sample_data
 unfolding header
 data_is = refl
 
@@ -100,15 +100,15 @@ same_observation h o same is = let there = ap (λ (x : HeaderText). observation_
     observed in cc
 
 -- what was written of an accepted sample
-written : (h : HeaderText) (o : Observation) (old new : SinkSeen) → IsAccepted sample_file h o →
-    WroteAll (search_text o search (data_of sample_file h)) old new → WroteAll sample_text old new
+written : (h : HeaderText) (o : Observation) (old new : SinkSeen) → SaysObservation sample_file h o →
+    WroteAll (search_text o search (past_header sample_file h)) old new → WroteAll sample_text old new
 written h o old new is wrote =
     let headers = same_header h is.header in
     let observations = same_observation h o headers is.observation in
     let P : List ℕ → Type 0 = λ text. WroteAll text old new in
-    let text : search_text o search (data_of sample_file h) ≡ sample_text =
-    ap (λ (x : Observation). search_text x search (data_of sample_file h)) (sym observations)
-    ∙ ap (λ (x : HeaderText). search_text observation search (data_of sample_file x)) (sym headers)
+    let text : search_text o search (past_header sample_file h) ≡ sample_text =
+    ap (λ (x : Observation). search_text x search (past_header sample_file h)) (sym observations)
+    ∙ ap (λ (x : HeaderText). search_text observation search (past_header sample_file x)) (sym headers)
     ∙ ap (search_text observation search) data_is ∙ text_is in
     subst P text wrote
 

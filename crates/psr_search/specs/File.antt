@@ -13,13 +13,13 @@ use Rattle.psr_search.specs.declared.stop.HeaderCause.{HeaderCause}
 use Rattle.psr_search.specs.declared.stop.HeaderCause.TheVariants.{Short, NotText, BadSize, Missing, BadNumber, OutOfProfile, OutOfRange, TooNarrow, Differs}
 
 -- the file has the header h, which says the observation o
-pub record IsAccepted (file : List ℕ) (h : HeaderText) (o : Observation) : Type 0 where
+pub record SaysObservation (file : List ℕ) (h : HeaderText) (o : Observation) : Type 0 where
   pub header : header_of file ≡ Ok h
   pub observation : observation_of (fields_of h.text) ≡ Ok o
 
 -- The bytes are those of the header that a file begins with, or all of a shorter one, and what is left is the rest.
 -- They say all that the file says of its header.
-pub record IsFrontRead (bytes : List ℕ) (left : Option (List ℕ)) (file : List ℕ) : Type 0 where
+pub record IsHeaderRead (bytes : List ℕ) (left : Option (List ℕ)) (file : List ℕ) : Type 0 where
   pub count : ℕ
   pub front : bytes ≡ take count file
   pub rest : left ≡ Some (drop count file)
@@ -32,12 +32,12 @@ IsInHeader file left = (k : ℕ) × (left ≡ Some (drop k file))
     × ((h : HeaderText) → header_of file ≡ Ok h → k ≤ h.size)
 
 -- the bytes past the header
-abbrev pub data_of : List ℕ → HeaderText → List ℕ
-data_of file h = drop h.size file
+abbrev pub past_header : List ℕ → HeaderText → List ℕ
+past_header file h = drop h.size file
 
 -- P holds of an accepted file
 abbrev pub Accepted : List ℕ → (HeaderText → Observation → Type 0) → Type 0
-Accepted file P = (h : HeaderText) × (o : Observation) × (IsAccepted file h o) × (P h o)
+Accepted file P = (h : HeaderText) × (o : Observation) × (SaysObservation file h o) × (P h o)
 
 -- the file has a header, and that is its first refusal as an observation
 abbrev pub IsRefusedBy : List ℕ → Refusal → Type 0
@@ -59,8 +59,8 @@ IsCause file (Differs key) = ⊥
 -- the file is accepted and says the observation; what is left to read are its data
 pub record IsOpenedFile (o : Observation) (left : Option (List ℕ)) (file : List ℕ) : Type 0 where
   pub header : HeaderText
-  pub accepted : IsAccepted file header o
-  pub data_left : left ≡ Some (data_of file header)
+  pub accepted : SaysObservation file header o
+  pub data_left : left ≡ Some (past_header file header)
 
 -- P holds of an accepted file of which the search is planned
 abbrev pub Planned : Search → List ℕ → (HeaderText → Observation → Type 0) → Type 0

@@ -14,7 +14,7 @@ use Rattle.psr_search.specs.declared.stop.Stop.{Stop}
 use Rattle.psr_search.specs.declared.stop.HeaderCause.{HeaderCause}
 use Rattle.psr_search.specs.declared.stop.PlanCause.{PlanCause}
 use Rattle.psr_search.specs.Request.{Asks}
-use Rattle.psr_search.specs.File.{IsAccepted, Accepted, Planned, IsInHeader, IsCause, IsPlanCause, data_of}
+use Rattle.psr_search.specs.File.{SaysObservation, Accepted, Planned, IsInHeader, IsCause, IsPlanCause, past_header}
 use Rattle.psr_search.specs.Stop.{status_of, note_of, IsStopOfWords, IsStopOf, HasCandidates}
 
 -- P holds of the settings that the words say and of the bytes of the file that they name, where those are told
@@ -30,9 +30,9 @@ ReadsNoData words before after = (after ≡ before)
 -- P holds of the text of all data of the file: it is accepted, the search is planned, the data bytes and the candidates
 -- are as many as there may be
 abbrev pub HasText : (List ℕ → Type 0) → Search → ℕ → List ℕ → Type 0
-HasText P search most file = Planned search file (λ h o. (length (data_of file h) ≤ most)
-    × (length (candidates_of o search (data_of file h)) ≤ search.max_candidates)
-    × P (search_text o search (data_of file h)))
+HasText P search most file = Planned search file (λ h o. (length (past_header file h) ≤ most)
+    × (length (candidates_of o search (past_header file h)) ≤ search.max_candidates)
+    × P (search_text o search (past_header file h)))
 
 -- the notes took the line of a stop with the status, or its front at a fault of theirs; what it says of the words and
 -- of the file is so
@@ -65,7 +65,7 @@ pub record Outcome (words : List (List ℕ)) (inputs : InputsSeen) (is_calm : Ty
   pub plan_refused : status ≡ 4 → ForFile words inputs.told (λ s file.
       Accepted file (λ h o. (cause : PlanCause) × IsPlanCause (plan_refusal o s.search) cause))
   pub too_long : status ≡ 8 → ForFile words inputs.told (λ s file.
-      Planned s.search file (λ h o. s.max_bytes < length (data_of file h)))
+      Planned s.search file (λ h o. s.max_bytes < length (past_header file h)))
   pub too_many : status ≡ 9 → ForFile words inputs.told (λ s file.
       HasCandidates s.search s.max_bytes file (λ n. s.search.max_candidates < n))
   -- 6 only where the inputs failed, which calm ones that hold the file don't
@@ -91,8 +91,8 @@ AcceptedIsSearched is_calm = (words : List (List ℕ)) (inputs : InputsSeen)
     (out_before out_after notes_before notes_after : SinkSeen) (status : ℕ) →
     Outcome words inputs is_calm out_before out_after notes_before notes_after status →
     (s : SettingsSeen) (name file : List ℕ) (h : HeaderText) (o : Observation) →
-    Asks words s name → inputs.told.bytes_under name ≡ Some file → IsAccepted file h o →
-    plan_refusal o s.search ≡ None → length (data_of file h) ≤ s.max_bytes →
-    length (candidates_of o s.search (data_of file h)) ≤ s.search.max_candidates →
+    Asks words s name → inputs.told.bytes_under name ≡ Some file → SaysObservation file h o →
+    plan_refusal o s.search ≡ None → length (past_header file h) ≤ s.max_bytes →
+    length (candidates_of o s.search (past_header file h)) ≤ s.search.max_candidates →
     is_calm ⊎ ¬ Rose inputs.faults_before inputs.faults_after →
     ¬ Rose out_before.faults out_after.faults → (status ≡ 0) ⊎ (status ≡ 5)

@@ -23,7 +23,7 @@ pub record SearchesAll (search : Search) (e : EngineState) : Type 0 where
   pub running : e.has_ended ≡ false
 
 -- and was fed nothing
-pub record IsReady (o : Observation) (search : Search) (e : EngineState) : Type 0 where
+pub record IsFreshEngine (o : Observation) (search : Search) (e : EngineState) : Type 0 where
   pub all : SearchesAll search e
   pub nothing_fed : e.fed ≡ 0
   pub stands : StandsForData o [] e

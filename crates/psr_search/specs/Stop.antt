@@ -25,7 +25,7 @@ use Rattle.obs_plan.specs.declared.fault.ObsFault.TheVariants as obs
 use Rattle.search_engine.specs.declared.fault.PlanFault.{PlanFault}
 use Rattle.search_engine.specs.declared.fault.PlanFault.TheVariants as plan
 use Rattle.psr_search.specs.Request.{Asks, AskNothing, HasBadOption}
-use Rattle.psr_search.specs.File.{IsCause, IsPlanCause, Accepted, Planned, data_of}
+use Rattle.psr_search.specs.File.{IsCause, IsPlanCause, Accepted, Planned, past_header}
 
 -- the exit status
 abbrev pub status_of : Stop → ℕ
@@ -125,8 +125,8 @@ IsRefusal words _ = ⊥
 
 -- the data of a planned search are as many as there may be, and P holds of how many candidates they have
 abbrev pub HasCandidates : Search → ℕ → List ℕ → (ℕ → Type 0) → Type 0
-HasCandidates search most file P = Planned search file (λ h o. (length (data_of file h) ≤ most)
-    × P (length (candidates_of o search (data_of file h))))
+HasCandidates search most file P = Planned search file (λ h o. (length (past_header file h) ≤ most)
+    × P (length (candidates_of o search (past_header file h))))
 
 -- what a stop says of a file that is searched, of which so many data bytes are read at most
 abbrev pub IsStopOf : Search → ℕ → List ℕ → Stop → Type 0
@@ -134,7 +134,7 @@ IsStopOf search most file (Header cause) = IsCause file cause
 IsStopOf search most file (Plan cause) =
     Accepted file (λ h o. IsPlanCause (plan_refusal o search) cause)
 IsStopOf search most file (TooLong limit) =
-    Planned search file (λ h o. (limit ≡ most) × (most < length (data_of file h)))
+    Planned search file (λ h o. (limit ≡ most) × (most < length (past_header file h)))
 IsStopOf search most file (TooMany count limit) = HasCandidates search most file (λ n.
     (n ≡ count) × (limit ≡ search.max_candidates) × (limit < count))
 IsStopOf search most file _ = Unit {0}

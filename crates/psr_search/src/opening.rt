@@ -6,7 +6,7 @@ ghost use Rattle.psr_base.specs.Told.{OfFile, left_to_read};
 ghost use Rattle.dada_model.specs.Fields.{header_of};
 ghost use Rattle.dada_model.specs.Bounds.{ObservationInRange};
 ghost use Rattle.psr_search.specs.declared.stop.Stop.{Stop};
-ghost use Rattle.psr_search.specs.File.{IsOpenedFile, IsFrontRead, IsInHeader};
+ghost use Rattle.psr_search.specs.File.{IsOpenedFile, IsHeaderRead, IsInHeader};
 ghost use Rattle.psr_search.specs.Stop.{IsOpeningStop, IsStopOfOpening};
 
 use crate::stop::Stop;
@@ -118,7 +118,7 @@ fn header_of_open<I: Inputs>(alloc: Global, inputs: &mut I) -> Result<Header, St
 fn read_front<I: Inputs>(alloc: Global, inputs: &mut I) -> Result<Vec<u8>, Stopped>
     requires { I.is_open inputs.old }
     ensures front { IfOk result (λ front. ForSome (left_to_read (I.told inputs.old))
-        (IsFrontRead front.items (left_to_read (I.told inputs.new)))) }
+        (IsHeaderRead front.items (left_to_read (I.told inputs.new)))) }
     ensures is_open { OnOk result (I.is_open inputs.new) }
     ensures failed { result ≡ Err Stopped.Failed
         → Rose (I.faults inputs.old) (I.faults inputs.new) }

@@ -9,7 +9,7 @@ ghost use Rattle.search_model.specs.declared.search.Search.{Search};
 ghost use Rattle.search_model.specs.Search.{SettingsInRange};
 ghost use Rattle.search_engine.specs.Engine.{StandsForData};
 ghost use Rattle.psr_search.specs.Stop.{IsPlanStop};
-ghost use Rattle.psr_search.specs.Searching.{on_one_shard as on_one_shard_of, IsReady, HasFed, SearchesAll};
+ghost use Rattle.psr_search.specs.Searching.{on_one_shard as on_one_shard_of, IsFreshEngine, HasFed, SearchesAll};
 ghost use Rattle.psr_search.specs.declared.stop.Stop.{Stop};
 
 use crate::stop::Stop;
@@ -40,7 +40,7 @@ pub(crate) fn open_engine(
 ) -> Result<Engine, Stop>
     requires { SettingsInRange search.now }
     ensures planned { OnOk result (plan_refusal observation.now search.now ≡ None) }
-    ensures ready { IfOk result (IsReady observation.now search.now) }
+    ensures ready { IfOk result (IsFreshEngine observation.now search.now) }
     ensures refused { IfErr result (IsPlanStop (plan_refusal observation.now search.now)) }
 {
     match check_plan(observation, search) {

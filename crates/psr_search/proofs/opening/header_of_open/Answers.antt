@@ -3,13 +3,13 @@ use Rattle.dada_model.specs.Fields.{header_of}
 use Rattle.dada_header.specs.Faults.{ExplainsHeader}
 use Rattle.dada_header.specs.declared.faults.HeaderFault.{HeaderFault}
 use Rattle.dada_header.specs.declared.faults.HeaderFault.TheVariants as header
-use Rattle.psr_search.specs.File.{IsFrontRead}
+use Rattle.psr_search.specs.File.{IsHeaderRead}
 use Rattle.psr_search.specs.Stop.{IsHeaderStop, IsStopOfOpening}
 use Rattle.psr_search.specs.declared.stop.Stop.{Stop}
 use Rattle.psr_search.proofs.opening.header_of_open.Goals as goal
 
 -- the header of the bytes is that of the file
-same_header : (bytes front file : List ℕ) (left : Option (List ℕ)) → bytes ≡ front → IsFrontRead front left file →
+same_header : (bytes front file : List ℕ) (left : Option (List ℕ)) → bytes ≡ front → IsHeaderRead front left file →
     header_of file ≡ header_of bytes
 same_header bytes front file left same is = sym is.header ∙ ap header_of (sym same)
 

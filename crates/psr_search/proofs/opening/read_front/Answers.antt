@@ -4,14 +4,14 @@ use Rattle.dada_header.specs.Faults.{IsSizeRefusal}
 use Rattle.dada_header.specs.declared.faults.HeaderFault.{HeaderFault}
 use Rattle.dada_header.specs.declared.faults.HeaderFault.TheVariants.{Short, NotText, BadSize, Memory}
 use Rattle.psr_base.specs.Told.{left_to_read}
-use Rattle.psr_search.specs.File.{IsFrontRead}
+use Rattle.psr_search.specs.File.{IsHeaderRead}
 use Rattle.std.proofs.lemmas.List.{drop-drop}
 use Rattle.psr_search.proofs.Fronts.{size_of_front, front_of_size, front_of_short, front_of_refused}
 use Rattle.psr_search.proofs.opening.read_front.Goals as goal
 
 -- a front whose size can't be read
 unsized : (front file : List ℕ) (left : Option (List ℕ)) (fault : HeaderFault) → front ≡ take 4096 file →
-    IsSizeRefusal front fault → left ≡ Some (drop 4096 file) → IsFrontRead front left file
+    IsSizeRefusal front fault → left ≡ Some (drop 4096 file) → IsHeaderRead front left file
 unsized front file left (Short had) first refusal is_left = front_of_short front file left first refusal.0 is_left
 unsized front file left (NotText place) first refusal is_left = absurd refusal
 unsized front file left BadSize first refusal is_left =
