@@ -1,0 +1,5 @@
+pub mod Numbered
+pub mod Places
+pub mod Parts
+pub mod Merging
+pub mod Transfers

@@ -1,0 +1,5 @@
+pub mod Text
+pub mod Searched
+pub mod Books
+pub mod Found
+pub mod Worked

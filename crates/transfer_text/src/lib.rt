@@ -1,0 +1,8 @@
+//! The text of a search of one or more transfers: that of the candidate list of each.
+#![tactic(auto)]
+
+mod found;
+mod texts;
+
+pub use found::{TextStop, write_found};
+pub use texts::{MOST_SHARDS, write_texts};
