@@ -1,4 +1,5 @@
 -- A sample of a search: its words, its file and its text.
+-- Source: this project's choice.
 use Rattle.std.specs.Prelude.{◌≡◌, ℕ, ◌-◌, List, [], ◌∷◌, ◌++◌, length, replicate, Some, codes}
 use Rattle.std.specs.Io.KnownBytes.{append_known}
 use Rattle.psr_base.specs.Told.{InputsSeen}

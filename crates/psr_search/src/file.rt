@@ -26,7 +26,8 @@ pub(crate) fn search_file<I: Inputs, K: Sink>(
     requires range { SettingsInRange request.now.search }
     requires most { request.now.max_bytes ≤ 2 ^ 48 }
     ensures file { OfFile (I.told inputs.old) (string_bytes request.now.name)
-        (EndsFile request.now.search request.now.max_bytes (K.seen out.old) (K.seen out.new) result) }
+        (EndsFile request.now.search request.now.max_bytes
+        (K.seen out.old) (K.seen out.new) result) }
     ensures output { EndsOutput (K.seen out.old) (K.seen out.new) result }
     ensures kind { IfErr result (λ stop. stop ≢ Stop.SinkFault → IsFileStop stop) }
     ensures failed { result ≡ Err Stop.ReadFault
