@@ -1,7 +1,7 @@
 // Detected folds by the sum of the definition.
 ghost use Rattle.std.specs.Prelude.{◌≤◌};
 
-use detect_rule::Rule;
+use crate::direct_sums::is_detected;
 use fold_phase::fold_sum;
 use psr_base::Memory;
 use search_model::{Candidate, Search};
@@ -34,7 +34,7 @@ fn most_halvings(most: u32, period: u32, room: usize) -> u32
 fn list_trial(
     rt: &impl Abort,
     list: &mut Vec<Candidate>,
-    rule: &Rule,
+    search: &Search,
     series: &[u32],
     cells: u32,
     of: (u32, u32, u32),
@@ -44,18 +44,18 @@ fn list_trial(
     assert!(rt; 1 <= halvings && halvings <= 12 && trial < 1 << halvings);
     assert!(rt; u64::from(period) << halvings <= series.len() as u64);
     let cells = u64::from(cells) << halvings;
-    assert!(rt; cells <= 1 << 26);
     for phase in 0..period {
         let sum = fold_sum(series, period, halvings, trial, phase);
         assert!(rt; sum < 1 << 32);
-        if rule.detected(sum, cells) {
+        let sum = sum as u32;
+        if is_detected(rt, search, sum, cells) {
             list.push(Candidate::Fold {
                 delay,
                 period,
                 halvings,
                 trial,
                 phase,
-                sum: sum as u32,
+                sum,
             })?;
         }
     }
@@ -71,19 +71,13 @@ pub fn list_delay(
     delay: u32,
     cells: u32,
 ) -> Result<(), Memory> {
-    assert!(rt; search.mean <= 200000000 && search.sd <= 200000000 && search.snr <= 100000);
-    let rule = Rule {
-        mean: search.mean,
-        sd: search.sd,
-        snr: search.snr,
-    };
     assert!(rt; search.fold_max <= 1 << 20);
     for period in search.fold_min..search.fold_max + 1 {
         let halvings = most_halvings(search.fold_rows, period, series.len());
         if halvings > 0 {
             for trial in 0..1_u32 << halvings {
                 let of = (delay, period, halvings);
-                list_trial(rt, list, &rule, series, cells, of, trial)?;
+                list_trial(rt, list, search, series, cells, of, trial)?;
             }
         }
     }

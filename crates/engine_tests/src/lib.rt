@@ -5,8 +5,10 @@
 #[cfg(test)]
 mod direct_folds;
 #[cfg(test)]
-mod folds;
+mod direct_sums;
 #[cfg(test)]
 mod made;
 #[cfg(test)]
 mod plans;
+#[cfg(test)]
+mod whole;

@@ -13,7 +13,7 @@ use Rattle.search_model.specs.Candidates.{if_detected}
 use Rattle.detect_rule.specs.Noise.{StandOutFrom}
 use Rattle.fast_fold.specs.Folding.{FoldsSeeRows, block_of}
 use Rattle.candidate_book.specs.Book.{BookContents, book_of}
-use Rattle.search_engine.specs.Judging.{Adds, noise_of, reaches, reaching_at, reaching_folds, detected_folds, folds_of_trial}
+use Rattle.search_engine.specs.Judging.{Adds, noise_of, reaches, reaching_at, reaching_folds, detected_folds, folds_in_trial}
 use Rattle.search_engine.proofs.Ranges.{flat_more, flat_agree, flat_nothing}
 
 -- ---- lists that are added
@@ -105,7 +105,7 @@ pub profile_folds : FoldsSeeRows → (cells : ℕ → ℕ) (s : Search) (d p m j
     period ≡ p → level ≡ m → length profile ≡ period →
     ((q : ℕ) → q < period →
     get_or profile q 0 ≡ fold_sum (block_of values period level 0) period level j q) →
-    detected_folds cells s d p m j profile ≡ folds_of_trial cells s d p m j values
+    detected_folds cells s d p m j profile ≡ folds_in_trial cells s d p m j values
 profile_folds law cells s d p m j period level profile values is_period is_level long sums =
     let piece : ℕ → List Candidate = λ q. if_detected cells s (Fold d p m j q (get_or profile q 0)) in
     let count : length profile ≡ p = long ∙ is_period in

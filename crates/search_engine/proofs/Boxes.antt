@@ -9,9 +9,9 @@ use Rattle.search_model.specs.declared.candidate.Candidate.TheVariants.{Pulse}
 use Rattle.search_model.specs.Candidates.{if_detected, plain_cells}
 use Rattle.search_model.specs.Detection.{IsDetected, is_detected}
 use Rattle.search_model.specs.Laws.{TestsDetection}
-use Rattle.search_engine.specs.declared.levels.Level.{Level}
+use Rattle.search_engine.specs.declared.thresholds.BoxThresholds.{BoxThresholds}
 use Rattle.search_engine.specs.Judging.{noise_of}
-use Rattle.search_engine.specs.Levels.{IsLevel}
+use Rattle.search_engine.specs.Thresholds.{AreThresholds}
 use Rattle.search_engine.specs.Pulses.{first_sums, box_of, pulse_of}
 use Rattle.search_engine.proofs.Terms.{same_terms}
 
@@ -76,11 +76,11 @@ quiet_row adds tests y s n d w m lf k most row least out is inside bound fits be
     (λ x e. let short = below x e in omega arith))
 
 -- the least sum of a delay
-pub least_at : (s : Search) (n first end d : ℕ) (level : Level) (least : Option ℕ) → IsLevel s n first end level →
-    first ≤ d → d < first + length level.leasts.items → least ≡ get_or level.leasts.items (d - first) least →
-    StandOutFrom (noise_of s) (level.width * (n + d)) least
-least_at s n first end d level least is above below read =
+pub least_at : (s : Search) (n first end d : ℕ) (thresholds : BoxThresholds) (least : Option ℕ) → AreThresholds s n first end thresholds →
+    first ≤ d → d < first + length thresholds.least_sums.items → least ≡ get_or thresholds.least_sums.items (d - first) least →
+    StandOutFrom (noise_of s) (thresholds.width * (n + d)) least
+least_at s n first end d thresholds least is above below read =
     let place : first + (d - first) ≡ d = omega arith in
-    let found : slice_get level.leasts.items (d - first) ≡ Some least =
-    slice_get-get_or level.leasts.items (d - first) least (omega arith) ∙ ap Some (sym read) in
-    subst (λ e. StandOutFrom (noise_of s) (level.width * (n + e)) least) place (is.leasts (d - first) least found)
+    let found : slice_get thresholds.least_sums.items (d - first) ≡ Some least =
+    slice_get-get_or thresholds.least_sums.items (d - first) least (omega arith) ∙ ap Some (sym read) in
+    subst (λ e. StandOutFrom (noise_of s) (thresholds.width * (n + e)) least) place (is.least_sums (d - first) least found)

@@ -7,7 +7,7 @@ use Rattle.fdmt_carry.specs.Tables.{Tables}
 use Rattle.search_model.specs.declared.candidate.Candidate.{Candidate}
 use Rattle.search_model.specs.Samples.{Filterbank}
 use Rattle.search_engine.specs.FoldSearch.{Fronts, HasDelay, KeepsFrontOf}
-use Rattle.search_engine.specs.Levels.{pulses_of_hits}
+use Rattle.search_engine.specs.Thresholds.{pulses_of_hits}
 use Rattle.search_engine.specs.PulseSearch.{PulseState, SearchAlike, RowsStandFor}
 use Rattle.search_engine.specs.Pulses.{pulses_of_delay, pulses_of_end, pulses_of_ends}
 use Rattle.search_engine.specs.Sums.{HaveTaken, sums_of, sums_from_delay, pulses_of_plan}

@@ -14,7 +14,7 @@ use Rattle.search_model.specs.Samples.{Filterbank, filterbank, samples_of}
 use Rattle.spectra_rows.specs.Unpacking.{Unpacking, StandsForBytes, spectrum_bytes, whole_spectra, unpacked, with_bytes, without_spectra}
 use Rattle.subband_plan.specs.Nodes.{BandPlan}
 use Rattle.search_engine.specs.Engine.{EngineState, Searches, HoldsData, BeginsWith, most_fed}
-use Rattle.search_engine.specs.Sums.{ShardState, StandsForStream, GoesOn, SumsAlike}
+use Rattle.search_engine.specs.Sums.{ShardState, StandsForStream, ContinuesStream, SumsAlike}
 use Rattle.search_engine.proofs.Data.{begins_before, data_begin}
 use Rattle.search_engine.proofs.Sizes.{size_of, size_some, whole_are, held_fit}
 
@@ -147,7 +147,7 @@ pub goes_on : SamplesOfBytes → (o : Observation) (bytes rows : List ℕ) (e : 
     HoldsData o bytes e → r ≤ whole_spectra e.unpacker →
     ((c t : ℕ) → c < e.unpacker.channels → t < whole_spectra e.unpacker →
     slice_index rows (c * e.unpacker.chunk + t) ≡ (unpacked e.unpacker bytes).value c (e.sums.carry.fed + t)) →
-    GoesOn e.sums.carry rows r
+    ContinuesStream e.sums.carry rows r
 goes_on law o bytes rows e r holds few samples =
     let f = filterbank_of o bytes in
     let bounds = holds.searches.bounds in

@@ -10,7 +10,7 @@ use Rattle.search_model.specs.Samples.{Filterbank}
 use Rattle.search_model.specs.Folds.{series, halvings, fold_sum}
 use Rattle.search_model.specs.Search.{folds_are_on, periods, delays}
 use Rattle.search_model.specs.Candidates.{fold_at, folds_of_trial, folds_at, folds_of_delay, folds, within_delays}
-use Rattle.search_engine.specs.FoldSearch.{AreDelays, folds_if_folded, folds_of_delays}
+use Rattle.search_engine.specs.FoldSearch.{IsDelayRange, folds_if_folded, folds_of_delays}
 use Rattle.search_engine.proofs.Ranges.{flat_agree}
 use Rattle.search_engine.proofs.Within.{keep_none, keep_if, keep_flat, lies, has_delay, flat_filter, filter_flat, flat_part}
 
@@ -43,7 +43,7 @@ none_off f edges cells s d step false is =
     ∙ sym (keep_none step)
 
 -- the part of the folds that is within the delays is the folds of these delays
-pub folds_within : (f : Filterbank) (edges : List ℕ) (cells : ℕ → ℕ) (s : Search) (lo hi : ℕ) → AreDelays s lo hi →
+pub folds_within : (f : Filterbank) (edges : List ℕ) (cells : ℕ → ℕ) (s : Search) (lo hi : ℕ) → IsDelayRange s lo hi →
     folds_of_delays f edges cells s lo (hi - lo) ≡ within_delays lo hi (folds f edges cells s)
 folds_within f edges cells s lo hi are =
     let from = are.from in

@@ -10,7 +10,7 @@ use Rattle.search_model.specs.Sums.{path_sum}
 use Rattle.search_model.specs.Folds.{series, halvings, fold_sum}
 use Rattle.search_model.specs.Candidates.{if_detected, folds_of_delay}
 use Rattle.fast_fold.specs.Folding.{FoldsSeeRows, block_of}
-use Rattle.search_engine.specs.Judging.{folds_of_trial, folds_of_trials, folds_of_period, folds_of_values}
+use Rattle.search_engine.specs.Judging.{folds_in_trial, folds_in_trials, folds_in_period, folds_in_values}
 use Rattle.search_engine.proofs.Ranges.{flat_agree}
 use Rattle.search_engine.proofs.Halvings.{rows_rise, halvings_within, halvings_front}
 
@@ -28,9 +28,9 @@ fold_front law cap xs p m j q some room =
     ∙ law xs p m j q some
 
 trials_front : FoldsSeeRows → (cells : ℕ → ℕ) (s : Search) (d p m cap : ℕ) (xs : List ℕ) → 0 < p → 2 ^ m * p ≤ cap →
-    folds_of_trials cells s d p m (take cap xs) ≡ folds_of_trials cells s d p m xs
+    folds_in_trials cells s d p m (take cap xs) ≡ folds_in_trials cells s d p m xs
 trials_front law cells s d p m cap xs some room =
-    flat_agree (λ j. folds_of_trial cells s d p m j (take cap xs)) (λ j. folds_of_trial cells s d p m j xs) 0 (2 ^ m)
+    flat_agree (λ j. folds_in_trial cells s d p m j (take cap xs)) (λ j. folds_in_trial cells s d p m j xs) 0 (2 ^ m)
     (λ j _ _. flat_agree
     (λ q. if_detected cells s (Fold d p m j q (fold_sum (take cap xs) p m j q)))
     (λ q. if_detected cells s (Fold d p m j q (fold_sum xs p m j q))) 0 p
@@ -39,19 +39,19 @@ trials_front law cells s d p m cap xs some room =
 -- how many halvings there are by two counts that are equal
 period_front : FoldsSeeRows → (cells : ℕ → ℕ) (s : Search) (d p cap : ℕ) (xs : List ℕ) → 0 < p →
     2 ^ s.fold_rows * p ≤ cap → (m n : ℕ) → m ≡ n → n ≤ s.fold_rows →
-    cond (ltb 0 m) (folds_of_trials cells s d p m (take cap xs)) []
-    ≡ cond (ltb 0 n) (folds_of_trials cells s d p n xs) []
+    cond (ltb 0 m) (folds_in_trials cells s d p m (take cap xs)) []
+    ≡ cond (ltb 0 n) (folds_in_trials cells s d p n xs) []
 period_front law cells s d p cap xs some room m n same few =
     let rise = rows_rise n s.fold_rows p few in
-    ap (λ k. cond (ltb 0 k) (folds_of_trials cells s d p k (take cap xs)) []) same
+    ap (λ k. cond (ltb 0 k) (folds_in_trials cells s d p k (take cap xs)) []) same
     ∙ ap (λ folds. cond (ltb 0 n) folds []) (trials_front law cells s d p n cap xs some (omega (arith, rise, room)))
 
 -- the folds of the values that can be used
 pub values_front : FoldsSeeRows → (cells : ℕ → ℕ) (s : Search) (d cap : ℕ) (xs : List ℕ) → 0 < s.fold_min →
     cap ≡ s.fold_max * 2 ^ s.fold_rows →
-    folds_of_values cells s d (take cap xs) ≡ folds_of_values cells s d xs
+    folds_in_values cells s d (take cap xs) ≡ folds_in_values cells s d xs
 values_front law cells s d cap xs some is =
-    flat_agree (λ p. folds_of_period cells s d p (take cap xs)) (λ p. folds_of_period cells s d p xs)
+    flat_agree (λ p. folds_in_period cells s d p (take cap xs)) (λ p. folds_in_period cells s d p xs)
     s.fold_min (s.fold_max + 1 - s.fold_min)
     (λ p from to.
     let long : p ≤ s.fold_max = omega arith in
@@ -63,13 +63,13 @@ values_front law cells s d cap xs some is =
 
 -- the folds of a delay are those of its series
 pub delay_folds : (f : Filterbank) (edges : List ℕ) (cells : ℕ → ℕ) (s : Search) (d : ℕ) →
-    folds_of_values cells s d (series f edges d) ≡ folds_of_delay f edges cells s d
+    folds_in_values cells s d (series f edges d) ≡ folds_of_delay f edges cells s d
 delay_folds f edges cells s d =
     let long : length (series f edges d) ≡ f.spectra - d =
     length-map-range_with_len (λ i. path_sum f edges (d + i) d) 0 (f.spectra - d) in
-    flat_agree (λ p. folds_of_period cells s d p (series f edges d))
+    flat_agree (λ p. folds_in_period cells s d p (series f edges d))
     (λ p. let m = halvings s.fold_rows p (f.spectra - d) in
-    cond (ltb 0 m) (folds_of_trials cells s d p m (series f edges d)) [])
+    cond (ltb 0 m) (folds_in_trials cells s d p m (series f edges d)) [])
     s.fold_min (s.fold_max + 1 - s.fold_min)
     (λ p _ _. ap (λ n. let m = halvings s.fold_rows p n in
-    cond (ltb 0 m) (folds_of_trials cells s d p m (series f edges d)) []) long)
+    cond (ltb 0 m) (folds_in_trials cells s d p m (series f edges d)) []) long)

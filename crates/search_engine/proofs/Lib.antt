@@ -8,8 +8,8 @@ pub mod Feeding
 pub mod FoldLists
 pub mod Fronts
 pub mod Halvings
-pub mod LevelCounts
-pub mod LevelLists
+pub mod WidthCounts
+pub mod WidthLists
 pub mod Opening
 pub mod Pieces
 pub mod PlanFits

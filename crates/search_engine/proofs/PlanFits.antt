@@ -7,7 +7,7 @@ use Rattle.dada_model.specs.Observation.{Observation, max_sample}
 use Rattle.search_model.specs.declared.search.Search.{Search}
 use Rattle.search_model.specs.Plan.{PlanRefusal, most_added, plan_refusal}
 use Rattle.search_model.specs.Search.{SettingsInRange, folds_are_on, fold_delays, delay_count, shard_start}
-use Rattle.search_engine.specs.FoldSearch.{FoldsFit, AreDelays}
+use Rattle.search_engine.specs.FoldSearch.{FoldsFit, IsDelayRange}
 
 -- the tests of a refusal, one after another
 refusal_after : (b : Bool) (refusal : PlanRefusal) (rest : Option PlanRefusal) →
@@ -81,7 +81,7 @@ shard_rises o s k range none =
     omega (arith, rise)
 
 pub shard_delays : (o : Observation) (s : Search) (k : ℕ) → SettingsInRange s → plan_refusal o s ≡ None →
-    k < s.shards → AreDelays s (shard_start s k) (shard_start s (k + 1))
+    k < s.shards → IsDelayRange s (shard_start s k) (shard_start s (k + 1))
 shard_delays o s k range none within =
     let some = range.parts.least_shards in
     let rise = shard_rises o s k range none in

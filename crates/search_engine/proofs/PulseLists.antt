@@ -15,7 +15,7 @@ use Rattle.search_model.specs.SubbandLaws.{LatePathSums}
 use Rattle.search_model.specs.Folds.{series}
 use Rattle.search_model.specs.Search.{delays, widths, shard_start}
 use Rattle.search_model.specs.Candidates.{plain_cells, if_detected, pulse_at, pulses_at, pulses_ending, pulses, folds, candidates, within_delays, shard_part}
-use Rattle.search_engine.specs.FoldSearch.{AreDelays}
+use Rattle.search_engine.specs.FoldSearch.{IsDelayRange}
 use Rattle.search_engine.specs.Pulses.{box_of, pulse_of, pulses_of_delay, pulses_of_end, pulses_of_ends}
 use Rattle.search_engine.specs.Sums.{sums_of, sums_from_delay}
 use Rattle.search_engine.proofs.Ranges.{flat_agree}
@@ -72,7 +72,7 @@ one_delay f edges cells s lo hi u d =
     (widths s)
 
 one_end : LatePathSums → (f : Filterbank) (edges : List ℕ) (n : ℕ) (s : Search) (lo hi u : ℕ) →
-    AreEdges f.channels edges → AreDelays s lo hi →
+    AreEdges f.channels edges → IsDelayRange s lo hi →
     filter (has_delay lo hi) (pulses_ending f edges (plain_cells n) s u)
     ≡ pulses_of_end (sums_of f edges) s n lo hi u
 one_end law f edges n s lo hi u edges_are are =
@@ -96,7 +96,7 @@ filter_pieces q g h each (k ∷ ks) =
 
 -- the pulses whose delays are a shard's, from those of all
 pub pulses_within : LatePathSums → (f : Filterbank) (edges : List ℕ) (n : ℕ) (s : Search) (lo hi : ℕ) →
-    AreEdges f.channels edges → AreDelays s lo hi →
+    AreEdges f.channels edges → IsDelayRange s lo hi →
     pulses_of_ends (sums_of f edges) s n lo hi 0 f.spectra
     ≡ within_delays lo hi (pulses f edges (plain_cells n) s)
 pulses_within law f edges n s lo hi edges_are are =
@@ -108,7 +108,7 @@ pulses_within law f edges n s lo hi edges_are are =
 
 -- its pulses and its folds are its part of the candidate list
 pub part_is_both : LatePathSums → (f : Filterbank) (edges : List ℕ) (n : ℕ) (s : Search) (k : ℕ) →
-    AreEdges f.channels edges → AreDelays s (shard_start s k) (shard_start s (k + 1)) →
+    AreEdges f.channels edges → IsDelayRange s (shard_start s k) (shard_start s (k + 1)) →
     pulses_of_ends (sums_of f edges) s n (shard_start s k) (shard_start s (k + 1)) 0 f.spectra
     ++ within_delays (shard_start s k) (shard_start s (k + 1)) (folds f edges (plain_cells n) s)
     ≡ shard_part s k (candidates f edges (plain_cells n) s)

@@ -8,7 +8,7 @@ use Rattle.std.proofs.lemmas.Grind.{same_number_lists}
 use Rattle.box_sums.specs.Tails.{StandsForRow}
 use Rattle.search_model.specs.declared.search.Search.{Search}
 use Rattle.search_engine.specs.FoldSearch.{Fronts, HasDelay, FoldsAlike, KeepsFrontOf}
-use Rattle.search_engine.specs.Levels.{pulses_of_hits}
+use Rattle.search_engine.specs.Thresholds.{pulses_of_hits}
 use Rattle.search_engine.specs.PulseSearch.{PulseState, SearchesDelay, SearchAlike}
 use Rattle.search_engine.specs.Pulses.{first_sums, pulses_of_delay, pulses_of_end}
 use Rattle.search_engine.specs.Sums.{sums_from_delay, IsRowOf, HaveTaken}

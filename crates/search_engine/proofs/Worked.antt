@@ -3,7 +3,7 @@ use Rattle.std.proofs.Common.{◌≡◌, true, false, [], ◌∷◌, refl}
 use Rattle.search_model.specs.declared.candidate.Candidate.TheVariants.{Fold}
 use Rattle.search_model.specs.declared.search.Search.{Search}
 use Rattle.search_model.specs.Candidates.{plain_cells}
-use Rattle.search_engine.specs.Judging.{folds_of_values}
+use Rattle.search_engine.specs.Judging.{folds_in_values}
 use Rattle.search_engine.specs.FoldSearch.{is_folded, most_used}
 
 -- every second delay from 3 on, periods of 2 alone, two rows; a mean of 0, a deviation of 1, a ratio of 2
@@ -25,12 +25,12 @@ pairs = record {
 }
 
 -- of 1 2 and 3 4, in two channels without a delay, all four sums are at least twice the root of their 4 cells
-two_rows : folds_of_values (plain_cells 2) pairs 0 (1 ∷ 2 ∷ 3 ∷ 4 ∷ [])
+two_rows : folds_in_values (plain_cells 2) pairs 0 (1 ∷ 2 ∷ 3 ∷ 4 ∷ [])
     ≡ Fold 0 2 1 0 0 4 ∷ Fold 0 2 1 0 1 6 ∷ Fold 0 2 1 1 0 5 ∷ Fold 0 2 1 1 1 5 ∷ []
 two_rows = refl
 
 -- three values are no two rows
-three_values : folds_of_values (plain_cells 2) pairs 0 (1 ∷ 2 ∷ 3 ∷ []) ≡ []
+three_values : folds_in_values (plain_cells 2) pairs 0 (1 ∷ 2 ∷ 3 ∷ []) ≡ []
 three_values = refl
 
 -- delays are counted from the least one

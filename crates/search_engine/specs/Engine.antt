@@ -14,6 +14,7 @@ use Rattle.spectra_rows.specs.Unpacking.{Unpacking, StandsForBytes, whole_spectr
 use Rattle.subband_plan.specs.Plans.{band_plan}
 use Rattle.fdmt_carry.specs.Carrying as carry
 use Rattle.fdmt_carry.specs.Carrying.{IsStream}
+use Rattle.search_engine.specs.Counts.{most_pulses_at_end}
 use Rattle.search_engine.specs.Pulses.{pulses_of_ends}
 use Rattle.search_engine.specs.Sums.{ShardState, StandsForStream, sums_of}
 
@@ -76,7 +77,8 @@ pub record HasTaken (o : Observation) (bytes : List ℕ) (e : EngineState) : Typ
 -- searched
 pub record StandsForData (o : Observation) (bytes : List ℕ) (e : EngineState) : Type 0 where
   pub taken : HasTaken o bytes e
-  pub book : (f : Filterbank) → BeginsWith o bytes e.sums.carry.fed f → e.book ≡ book_of e.search.max_candidates
+  pub book : (f : Filterbank) → BeginsWith o bytes e.sums.carry.fed f
+      → e.book ≡ book_of e.search.max_candidates
       (pulses_of_ends (sums_of f (edges o)) e.search o.channels (shard_start e.search e.shard)
       (shard_start e.search (e.shard + 1)) 0 e.sums.carry.fed)
 
@@ -85,7 +87,7 @@ pub record EngineIsSound (e : EngineState) : Type 0 where
   pub observation : Observation
   pub bytes : List ℕ
   pub taken : HasTaken observation bytes e
-  pub room : e.has_ended ≡ false → e.book.count ≤ 49158 * e.sums.carry.fed
+  pub room : e.has_ended ≡ false → e.book.count ≤ most_pulses_at_end * e.sums.carry.fed
 
 -- opened for a shard of a search, and fed nothing
 pub record IsOpenedEngine (e : EngineState) (s : Search) (shard : ℕ) : Type 0 where
@@ -111,12 +113,15 @@ pub record HasSearched (o : Observation) (bytes : List ℕ) (e : EngineState) : 
   pub tables : e.sums.carry.has_tables ≡ true
 
 -- the search of the path sums of shard k, of which none is taken
-pub record IsOpenedSums (o : Observation) (search : Search) (k chunk : ℕ) (s : ShardState) : Type 0 where
-  pub plan : s.carry.tables.plan ≡ band_plan (edges o) (shard_start search k) (shard_start search (k + 1) - 1)
+pub record IsOpenedSums (o : Observation) (search : Search) (k chunk : ℕ) (s : ShardState)
+    : Type 0 where
+  pub plan : s.carry.tables.plan
+      ≡ band_plan (edges o) (shard_start search k) (shard_start search (k + 1) - 1)
   pub rows : s.carry.tables.chunk ≡ chunk
   pub greatest : s.carry.max_sample ≡ max_sample o
   pub search_is : s.pulses.search ≡ search
   pub nothing_fed : s.carry.fed ≡ 0
   pub stands : (f : Filterbank)
-      → IsStream (band_plan (edges o) (shard_start search k) (shard_start search (k + 1) - 1)) (max_sample o) f
+      → IsStream (band_plan (edges o) (shard_start search k) (shard_start search (k + 1) - 1))
+      (max_sample o) f
       → StandsForStream s f

@@ -8,6 +8,7 @@ use Rattle.search_model.specs.Samples.{Filterbank}
 use Rattle.search_model.specs.Search.{SettingsInRange, folds_are_on}
 use Rattle.search_model.specs.Folds.{series}
 use Rattle.search_model.specs.Candidates.{folds_of_delay}
+use Rattle.search_engine.specs.Counts.{most_folded}
 use Rattle.search_engine.specs.Series.{Front, no_front, IsFrontOf}
 
 -- what contracts see: the settings, how many channels there are; the delays from `first` up to, but without, `end`; no
@@ -51,21 +52,21 @@ pub record FoldsFor (f : Fronts) (search : Search) (channels first end bound : �
 
 -- the folds fit: their values into a folder, their sums into 32 bits
 pub record FoldsFit (s : Search) (bound : ℕ) : Type 0 where
-  pub size : s.fold_max * 2 ^ s.fold_rows ≤ 2 ^ 22
+  pub size : s.fold_max * 2 ^ s.fold_rows ≤ most_folded
   pub sums : bound * 2 ^ s.fold_rows < 2 ^ 32
 
 -- a folder of this room can fold for a search
 pub record CanFold (s : Search) (longest most : ℕ) : Type 0 where
   pub longest_is : longest ≡ s.fold_max
   pub most_is : most ≡ s.fold_rows
-  pub size : s.fold_max * 2 ^ s.fold_rows ≤ 2 ^ 22
+  pub size : s.fold_max * 2 ^ s.fold_rows ≤ most_folded
 
 -- the sums of these values fit into 32 bits
 abbrev pub FitFolds : Search → List ℕ → Type 0
 FitFolds s values = (k : ℕ) → slice_index values k * 2 ^ s.fold_rows < 2 ^ 32
 
 -- the delays are some of those that are searched
-pub record AreDelays (s : Search) (first end : ℕ) : Type 0 where
+pub record IsDelayRange (s : Search) (first end : ℕ) : Type 0 where
   pub from : s.min_delay ≤ first
   pub order : first ≤ end
   pub to : end ≤ s.max_delay + 1
@@ -94,7 +95,8 @@ AreFronts s first fronts =
 
 -- no value of a front is above the bound
 abbrev pub FrontsAreUpTo : ℕ → List Front → Type 0
-FrontsAreUpTo bound fronts = (k : ℕ) → All (λ x. x ≤ bound) (slice_index_or fronts k no_front).values
+FrontsAreUpTo bound fronts =
+    (k : ℕ) → All (λ x. x ≤ bound) (slice_index_or fronts k no_front).values
 
 -- what stands behind is as large as it has to be
 pub record IsReady
@@ -102,7 +104,7 @@ pub record IsReady
     : Type 0 where
   pub range : SettingsInRange s
   pub few : channels ≤ 4096
-  pub delays : AreDelays s first end
+  pub delays : IsDelayRange s first end
   pub fits : IsTrue (folds_are_on s) → FoldsFit s bound
   pub count : length kept ≡ end - first
   pub fronts : AreFronts s first kept
@@ -112,4 +114,5 @@ pub record IsReady
 -- the fronts of a list are those of the series of the delays from `first` on
 abbrev pub AreOfSeries : List Front → Filterbank → List ℕ → ℕ → Type 0
 AreOfSeries fronts f edges first =
-    (k : ℕ) → k < length fronts → IsFrontOf (slice_index_or fronts k no_front) (series f edges (first + k))
+    (k : ℕ) → k < length fronts
+    → IsFrontOf (slice_index_or fronts k no_front) (series f edges (first + k))

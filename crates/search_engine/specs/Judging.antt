@@ -16,12 +16,14 @@ abbrev pub noise_of : Search → Noise
 noise_of s = record { mean = s.mean; sd = s.sd; snr = s.snr }
 
 -- for each number of halvings, the least sum of a fold that is detected, where a path sum has so many cells
-abbrev pub AreLeast : Noise → ℕ → ℕ → List (Option ℕ) → Type 0
-AreLeast noise cells most least = (m : ℕ) → m ≤ most → StandOutFrom noise (2 ^ m * cells) (slice_index_or least m None)
+abbrev pub AreFoldThresholds : Noise → ℕ → ℕ → List (Option ℕ) → Type 0
+AreFoldThresholds noise cells most least =
+    (m : ℕ) → m ≤ most → StandOutFrom noise (2 ^ m * cells) (slice_index_or least m None)
 
 -- these candidates were added to a book
 abbrev pub Adds : BookContents → BookContents → List Candidate → Type 0
-Adds old new more = (list : List Candidate) → old ≡ book_of old.limit list → new ≡ book_of old.limit (list ++ more)
+Adds old new more = (list : List Candidate) → old ≡ book_of old.limit list
+    → new ≡ book_of old.limit (list ++ more)
 
 -- a sum is at least the least one
 abbrev pub reaches : Option ℕ → ℕ → Bool
@@ -31,7 +33,8 @@ reaches (Some least) sum = nat_le least sum
 -- the fold of a trial at a phase, where it reaches the least sum
 abbrev pub reaching_at : Option ℕ → ℕ → ℕ → ℕ → ℕ → List ℕ → ℕ → List Candidate
 reaching_at least d p m j sums phase =
-    if reaches least (slice_index sums phase) then Fold d p m j phase (slice_index sums phase) ∷ [] else []
+    if reaches least (slice_index sums phase)
+    then Fold d p m j phase (slice_index sums phase) ∷ [] else []
 
 -- those of a trial, where these are its sums, by phase
 abbrev pub reaching_folds : Option ℕ → ℕ → ℕ → ℕ → ℕ → List ℕ → List Candidate
@@ -45,21 +48,22 @@ detected_folds cells s d p m j sums =
     (range_with_len 0 (length sums))
 
 -- the detected folds of a list of values at a trial, by phase
-abbrev pub folds_of_trial : (ℕ → ℕ) → Search → ℕ → ℕ → ℕ → ℕ → List ℕ → List Candidate
-folds_of_trial cells s d p m j values =
-    flat_map (λ phase. if_detected cells s (Fold d p m j phase (fold_sum values p m j phase))) (range_with_len 0 p)
+abbrev pub folds_in_trial : (ℕ → ℕ) → Search → ℕ → ℕ → ℕ → ℕ → List ℕ → List Candidate
+folds_in_trial cells s d p m j values =
+    flat_map (λ phase. if_detected cells s (Fold d p m j phase (fold_sum values p m j phase)))
+    (range_with_len 0 p)
 
 -- those of all trials, by trial
-abbrev pub folds_of_trials : (ℕ → ℕ) → Search → ℕ → ℕ → ℕ → List ℕ → List Candidate
-folds_of_trials cells s d p m values =
-    flat_map (λ j. folds_of_trial cells s d p m j values) (range_with_len 0 (2 ^ m))
+abbrev pub folds_in_trials : (ℕ → ℕ) → Search → ℕ → ℕ → ℕ → List ℕ → List Candidate
+folds_in_trials cells s d p m values =
+    flat_map (λ j. folds_in_trial cells s d p m j values) (range_with_len 0 (2 ^ m))
 
 -- those of a period; none where not even two rows fit
-abbrev pub folds_of_period : (ℕ → ℕ) → Search → ℕ → ℕ → List ℕ → List Candidate
-folds_of_period cells s d p values =
+abbrev pub folds_in_period : (ℕ → ℕ) → Search → ℕ → ℕ → List ℕ → List Candidate
+folds_in_period cells s d p values =
     let m = halvings s.fold_rows p (length values) in
-    if nat_lt 0 m then folds_of_trials cells s d p m values else []
+    if nat_lt 0 m then folds_in_trials cells s d p m values else []
 
 -- those of all periods, by period
-abbrev pub folds_of_values : (ℕ → ℕ) → Search → ℕ → List ℕ → List Candidate
-folds_of_values cells s d values = flat_map (λ p. folds_of_period cells s d p values) (periods s)
+abbrev pub folds_in_values : (ℕ → ℕ) → Search → ℕ → List ℕ → List Candidate
+folds_in_values cells s d values = flat_map (λ p. folds_in_period cells s d p values) (periods s)

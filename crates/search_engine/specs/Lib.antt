@@ -1,9 +1,10 @@
+pub mod Counts
 pub mod Engine
 pub mod FoldSearch
 pub mod Judging
-pub mod Levels
 pub mod Plan
 pub mod PulseSearch
 pub mod Pulses
 pub mod Series
 pub mod Sums
+pub mod Thresholds

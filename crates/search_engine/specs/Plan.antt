@@ -1,4 +1,5 @@
 -- What the fault of a plan says.
+-- Source: this project's choice.
 use Rattle.std.specs.Prelude.{◌≡◌, ◌⊎◌, Option, Some}
 use Rattle.search_model.specs.Plan as model
 use Rattle.search_model.specs.Plan.{PlanRefusal}
@@ -7,7 +8,8 @@ use Rattle.search_engine.specs.declared.fault.PlanFault.TheVariants.{SumBound, F
 
 -- a fault is what is refused first
 abbrev pub IsRefusedFirst : Option PlanRefusal → PlanFault → Type 0
-IsRefusedFirst first (SumBound max_sample cells factor) = first ≡ Some (model.SumBound max_sample cells factor)
+IsRefusedFirst first (SumBound max_sample cells factor) =
+    first ≡ Some (model.SumBound max_sample cells factor)
 IsRefusedFirst first (FoldTooLarge pmax mmax) = first ≡ Some (model.FoldTooLarge pmax mmax)
 IsRefusedFirst first (TooManyFolds count) = first ≡ Some (model.TooManyFolds count)
 IsRefusedFirst first (TooManyShards count delays) = first ≡ Some (model.TooManyShards count delays)

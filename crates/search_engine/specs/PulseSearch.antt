@@ -5,9 +5,9 @@ use Rattle.box_sums.specs.Tails.{RowTails, StandsForRow, last_feed}
 use Rattle.box_sums.specs.Rows.{IsWidth}
 use Rattle.search_model.specs.declared.search.Search.{Search}
 use Rattle.search_model.specs.Search.{SettingsInRange}
-use Rattle.search_engine.specs.declared.levels.Hit.{Hit}
-use Rattle.search_engine.specs.declared.levels.Level.{Level}
-use Rattle.search_engine.specs.Levels.{AreLevels, IsHit}
+use Rattle.search_engine.specs.declared.thresholds.Hit.{Hit}
+use Rattle.search_engine.specs.declared.thresholds.BoxThresholds.{BoxThresholds}
+use Rattle.search_engine.specs.Thresholds.{AreOfAllWidths, IsHit}
 use Rattle.search_engine.specs.Pulses.{first_sums}
 
 -- a search over n channels of the delays from `first` up to, but without, `end`; its boxes over the rows of these
@@ -32,12 +32,13 @@ pub record HasBoxes (s : Search) (first end : ℕ) (b : RowTails) : Type 0 where
   pub widest : b.widest ≡ s.widest
 
 -- what always holds, where there is room for so many hits
-pub record PulsesAreSound (p : PulseState) (levels : List Level) (capacity : ℕ) : Type 0 where
+pub record PulsesAreSound (p : PulseState) (by_width : List BoxThresholds) (capacity : ℕ)
+    : Type 0 where
   pub range : SettingsInRange p.search
   pub few_channels : p.channels ≤ 4096
   pub few_delays : p.end ≤ 8193
   pub boxes : HasBoxes p.search p.first p.end p.boxes
-  pub judges : AreLevels p.search p.channels p.first p.end levels
+  pub judges : AreOfAllWidths p.search p.channels p.first p.end by_width
   pub hits : All (IsHit p.search p.channels p.first p.end) p.hits
   pub room : 6 * (p.end - p.first) ≤ capacity
 
@@ -62,8 +63,8 @@ RowsStandFor y p m = (d : ℕ) → SearchesDelay p d → StandsForRow p.boxes d 
 abbrev pub AreFed : PulseState → ℕ → ℕ → Type 0
 AreFed p d n = (e : ℕ) → SearchesDelay p e → e < d → last_feed p.boxes e ≡ n
 
--- a level can judge the boxes of a row
-pub record CanJudge (b : RowTails) (first d : ℕ) (level : Level) : Type 0 where
-  pub inside : d < first + length level.leasts.items
-  pub width : IsWidth level.width
-  pub narrow : level.width ≤ b.widest
+-- thresholds can judge the boxes of a row
+pub record CanJudge (b : RowTails) (first d : ℕ) (thresholds : BoxThresholds) : Type 0 where
+  pub inside : d < first + length thresholds.least_sums.items
+  pub width : IsWidth thresholds.width
+  pub narrow : thresholds.width ≤ b.widest

@@ -19,7 +19,8 @@ box_of y d u w = sum_by (λ k. if nat_le k u then y d (u - k) else 0) (range_wit
 -- the box of width w and delay d over n channels that ends at u, if it begins at the delay or later and is detected
 unfoldable pub pulse_of : (ℕ → ℕ → ℕ) → Search → ℕ → ℕ → ℕ → ℕ → List Candidate
 pulse_of y s n u d w =
-    if nat_le (d + w) (u + 1) then if_detected (plain_cells n) s (Pulse u d w (box_of y d u w)) else []
+    if nat_le (d + w) (u + 1)
+    then if_detected (plain_cells n) s (Pulse u d w (box_of y d u w)) else []
 
 -- those of one end and one delay, by width
 abbrev pub pulses_of_delay : (ℕ → ℕ → ℕ) → Search → ℕ → ℕ → ℕ → List Candidate
@@ -27,7 +28,8 @@ pulses_of_delay y s n u d = flat_map (λ w. pulse_of y s n u d w) (widths s)
 
 -- those of one end, by delay, from `first` up to, but without, `end`
 abbrev pub pulses_of_end : (ℕ → ℕ → ℕ) → Search → ℕ → ℕ → ℕ → ℕ → List Candidate
-pulses_of_end y s n first end u = flat_map (λ d. pulses_of_delay y s n u d) (range_with_len first (end - first))
+pulses_of_end y s n first end u =
+    flat_map (λ d. pulses_of_delay y s n u d) (range_with_len first (end - first))
 
 -- those of so many ends, from spectrum `start` on
 abbrev pub pulses_of_ends : (ℕ → ℕ → ℕ) → Search → ℕ → ℕ → ℕ → ℕ → ℕ → List Candidate

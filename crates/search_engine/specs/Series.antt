@@ -1,4 +1,5 @@
 -- The front of a series that is kept.
+-- Source: this project's choice.
 use Rattle.std.specs.Prelude.{ℕ, ◌≡◌, List, [], take}
 
 -- at most `most` values are kept, and these are

@@ -15,7 +15,7 @@ use Rattle.search_model.specs.Sums.{path_sum}
 use Rattle.box_sums.specs.Tails.{StandsForRow}
 use Rattle.dada_model.specs.Edges.{AreEdges}
 use Rattle.search_engine.specs.FoldSearch.{Fronts, HasDelay, FoldsFor, KeepsFrontOf}
-use Rattle.search_engine.specs.Levels.{pulses_of_hits}
+use Rattle.search_engine.specs.Thresholds.{pulses_of_hits}
 use Rattle.search_engine.specs.PulseSearch.{PulseState, SearchesDelay, SearchesFor, RowsStandFor}
 use Rattle.search_engine.specs.Pulses.{first_sums, pulses_of_end, pulses_of_ends}
 
@@ -52,7 +52,8 @@ pub record FitTogether (s : ShardState) : Type 0 where
 -- The parts were fed the sums of a stream: for the delays below d, n more than those that end at the first m spectra.
 -- The hits are those of these n spectra, for the delays below d.
 pub record HaveTaken (y : ℕ → ℕ → ℕ) (p : PulseState) (g : Fronts) (m n d : ℕ) : Type 0 where
-  pub rows_below : (e : ℕ) → SearchesDelay p e → e < d → StandsForRow p.boxes e (first_sums y e (m + n))
+  pub rows_below : (e : ℕ) → SearchesDelay p e → e < d
+      → StandsForRow p.boxes e (first_sums y e (m + n))
   pub rows_from : (e : ℕ) → SearchesDelay p e → d ≤ e → StandsForRow p.boxes e (first_sums y e m)
   pub folds_below : (e : ℕ) → HasDelay g e → e < d → KeepsFrontOf g e (sums_from_delay y e (m + n))
   pub folds_from : (e : ℕ) → HasDelay g e → d ≤ e → KeepsFrontOf g e (sums_from_delay y e m)
@@ -76,7 +77,7 @@ pub record HasStream (c : Carrying) : Type 0 where
   pub stands : carry.StandsForSamples c stream
 
 -- and one that goes on with these rows
-pub record GoesOn (c : Carrying) (rows : List ℕ) (spectra : ℕ) : Type 0 where
+pub record ContinuesStream (c : Carrying) (rows : List ℕ) (spectra : ℕ) : Type 0 where
   pub stream : Filterbank
   pub stands : carry.StandsForSamples c stream
   pub next : AreNext c stream rows spectra
@@ -94,4 +95,5 @@ pulses_of_plan f p s start count =
 
 -- and their folds
 abbrev pub folds_of_plan : Filterbank → BandPlan → Search → List Candidate
-folds_of_plan f p s = within_delays p.first (p.last + 1) (folds f p.edges (plain_cells (channels_of p.edges)) s)
+folds_of_plan f p s =
+    within_delays p.first (p.last + 1) (folds f p.edges (plain_cells (channels_of p.edges)) s)

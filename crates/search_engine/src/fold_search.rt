@@ -5,9 +5,10 @@ ghost use Rattle.search_model.specs.Search.{SettingsInRange, folds_are_on};
 ghost use Rattle.search_model.specs.Folds.{series};
 ghost use Rattle.search_model.specs.Candidates.{plain_cells, folds, within_delays};
 ghost use Rattle.fast_fold.specs.Folding.{HaveSameRoom};
+ghost use Rattle.search_engine.specs.Counts.{most_folded, most_folds, most_folds_of_delay};
 ghost use Rattle.search_engine.specs.Judging.{Adds};
 ghost use Rattle.search_engine.specs.Series.{no_front, IsFrontOf};
-ghost use Rattle.search_engine.specs.FoldSearch.{Fronts, HasDelay, KeepsFrontOf, FoldsAlike, FoldsFor, FoldsFit, AreDelays, AreFronts, AreOfSeries, CanFold, IsReady, is_folded as is_folded_of, most_used as most_used_of, FitFolds, folds_if_folded, folds_of_delays};
+ghost use Rattle.search_engine.specs.FoldSearch.{Fronts, HasDelay, KeepsFrontOf, FoldsAlike, FoldsFor, FoldsFit, IsDelayRange, AreFronts, AreOfSeries, CanFold, IsReady, is_folded as is_folded_of, most_used as most_used_of, FitFolds, folds_if_folded, folds_of_delays};
 
 use crate::judging::fold_values;
 use crate::series::Series;
@@ -20,7 +21,7 @@ use std::marker::Model;
 
 /// The series of a shard's delays that are folded, as far as folds can use them. All memory is taken at once.
 #[derive(Drop)]
-pub struct FoldSearch {
+pub(crate) struct FoldSearch {
     search: Search,
     channels: u32,
     first: u32,
@@ -49,7 +50,7 @@ impl Model for FoldSearch {
 impl FoldSearch {
     /// Takes the memory for the delays from `first` up to, but without, `end`, whose path sums over so many channels
     /// are at most `bound`.
-    pub fn open(
+    pub(crate) fn open(
         alloc: Global,
         search: &Search,
         channels: u32,
@@ -59,7 +60,7 @@ impl FoldSearch {
     ) -> Result<FoldSearch, Memory>
         requires range { SettingsInRange search.now }
         requires few { channels ≤ 4096 }
-        requires delays { AreDelays search.now first end }
+        requires delays { IsDelayRange search.now first end }
         requires fits { IsTrue (folds_are_on search.now) → FoldsFit search.now bound }
         ensures opened { IfOk result (λ f. FoldsFor f search.now channels first end bound) }
         ensures none { IfOk result (λ f. (d : ℕ) → HasDelay f d → KeepsFrontOf f d []) }
@@ -76,7 +77,7 @@ impl FoldSearch {
     }
 
     /// Takes the next path sums of a delay. The first of a delay is the one that ends at the spectrum of that number.
-    pub fn take(&mut self, delay: u32, row: &[u32])
+    pub(crate) fn take(&mut self, delay: u32, row: &[u32])
         requires delay { HasDelay self.old delay }
         requires small { All (λ x. x ≤ self.old.bound) row.now }
         ensures alike { FoldsAlike self.new self.old }
@@ -91,10 +92,10 @@ impl FoldSearch {
     }
 
     /// Adds the detected folds of the delays to a book, in the order of the candidate list.
-    pub fn end(&mut self, book: &mut Book)
-        requires { book.old.count + 2 ^ 56 ≤ 2 ^ 63 }
+    pub(crate) fn end(&mut self, book: &mut Book)
+        requires { book.old.count + most_folds ≤ 2 ^ 63 }
         ensures same { self.new ≡ self.old }
-        ensures count { book.new.count ≤ book.old.count + 2 ^ 56 }
+        ensures count { book.new.count ≤ book.old.count + most_folds }
         ensures folds { (f : Filterbank) (edges : List ℕ)
             → ((d : ℕ) → HasDelay self.old d → KeepsFrontOf self.old d (series f edges d))
             → Adds book.old book.new (within_delays self.old.first self.old.end
@@ -137,7 +138,7 @@ fn most_used(search: &Search, delay: u32) -> usize
 fn open_folder(alloc: Global, search: &Search) -> Result<Folder, Memory>
     requires range { SettingsInRange search.now }
     requires fits { IsTrue (folds_are_on search.now)
-        → search.now.fold_max * 2 ^ search.now.fold_rows ≤ 2 ^ 22 }
+        → search.now.fold_max * 2 ^ search.now.fold_rows ≤ most_folded }
     ensures { IfOk result (λ f. IsTrue (folds_are_on search.now)
         → CanFold search.now f.longest f.most) }
 {
@@ -151,7 +152,7 @@ fn open_folder(alloc: Global, search: &Search) -> Result<Folder, Memory>
 // The fronts of series of which no_front was taken.
 fn open_fronts(alloc: Global, search: &Search, first: u32, end: u32) -> Result<Vec<Series>, Memory>
     requires range { SettingsInRange search.now }
-    requires delays { AreDelays search.now first end }
+    requires delays { IsDelayRange search.now first end }
     ensures count { IfOk result (λ v. length v.items ≡ end - first) }
     ensures fronts { IfOk result (λ v. AreFronts search.now first v.items) }
     ensures none { IfOk result (λ v. (k : ℕ) → (slice_index_or v.items k no_front).values ≡ []) }
@@ -180,9 +181,9 @@ fn fold_front(
         → CanFold search.now folder.old.longest folder.old.most }
     requires most { front.now.most ≡ most_used_of search.now delay }
     requires fits { IsTrue (folds_are_on search.now) → FitFolds search.now front.now.values }
-    requires room { book.old.count + 2 ^ 42 ≤ 2 ^ 63 }
+    requires room { book.old.count + most_folds_of_delay ≤ 2 ^ 63 }
     ensures room { HaveSameRoom folder.new folder.old }
-    ensures count { book.new.count ≤ book.old.count + 2 ^ 42 }
+    ensures count { book.new.count ≤ book.old.count + most_folds_of_delay }
     ensures folds { (f : Filterbank) (edges : List ℕ) → IsFrontOf front.now (series f edges delay)
         → Adds book.old book.new
         (folds_if_folded f edges (plain_cells channels) search.now delay) }
@@ -203,16 +204,16 @@ fn fold_fronts(
     channels: u32,
 )
     requires range { SettingsInRange search.now }
-    requires delays { AreDelays search.now first (first + length fronts.now) }
+    requires delays { IsDelayRange search.now first (first + length fronts.now) }
     requires few { channels ≤ 4096 }
     requires folder { IsTrue (folds_are_on search.now)
         → CanFold search.now folder.old.longest folder.old.most }
     requires fronts { AreFronts search.now first fronts.now }
     requires fits { IsTrue (folds_are_on search.now) → (k : ℕ)
         → FitFolds search.now (slice_index_or fronts.now k no_front).values }
-    requires room { book.old.count + 2 ^ 56 ≤ 2 ^ 63 }
+    requires room { book.old.count + most_folds ≤ 2 ^ 63 }
     ensures room { HaveSameRoom folder.new folder.old }
-    ensures count { book.new.count ≤ book.old.count + 2 ^ 56 }
+    ensures count { book.new.count ≤ book.old.count + most_folds }
     ensures folds { (f : Filterbank) (edges : List ℕ) → AreOfSeries fronts.now f edges first
         → Adds book.old book.new (folds_of_delays f edges (plain_cells channels) search.now first
         (length fronts.now)) }

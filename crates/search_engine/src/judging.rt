@@ -6,7 +6,8 @@ ghost use Rattle.search_model.specs.Search.{SettingsInRange};
 ghost use Rattle.search_model.specs.Candidates.{plain_cells};
 ghost use Rattle.detect_rule.specs.Noise.{StandOutFrom};
 ghost use Rattle.fast_fold.specs.Folding.{StandsForSeries, IsAt, IsLoaded, HaveSameRoom};
-ghost use Rattle.search_engine.specs.Judging.{Adds, AreLeast, reaching_folds, detected_folds, noise_of, folds_of_trials, folds_of_period, folds_of_values};
+ghost use Rattle.search_engine.specs.Counts.{most_folded, most_folds_of_delay};
+ghost use Rattle.search_engine.specs.Judging.{Adds, AreFoldThresholds, reaching_folds, detected_folds, noise_of, folds_in_trials, folds_in_period, folds_in_values};
 ghost use Rattle.search_engine.specs.FoldSearch.{CanFold, FitFolds};
 
 use crate::plan::power;
@@ -15,6 +16,9 @@ use detect_rule::Rule;
 use fast_fold::{Folder, folds_see_rows};
 use fdmt_rows::greatest;
 use search_model::{Candidate, Search, tests_detection};
+
+/// How many numbers of halvings there can be, none among them.
+const LEAST_SUMS: usize = 13;
 
 // The trials of a delay's series at a period, with `2^halvings` rows.
 #[derive(Clone, Copy)]
@@ -71,13 +75,13 @@ fn judge_trials(book: &mut Book, folder: &Folder, least: Option<u32>, of: Trials
     requires loaded { IsLoaded folder.now }
     requires level { IsAt folder.now of.period of.halvings of.halvings }
     requires few { of.halvings ≤ 12 }
-    requires size { 2 ^ of.halvings * of.period ≤ 2 ^ 22 }
-    requires room { book.old.count + 2 ^ 22 ≤ 2 ^ 63 }
+    requires size { 2 ^ of.halvings * of.period ≤ most_folded }
+    requires room { book.old.count + most_folded ≤ 2 ^ 63 }
     ensures list { (cells : ℕ → ℕ) (s : Search) (values : List ℕ)
         → StandOutFrom (noise_of s) (2 ^ of.halvings * cells of.delay) least
         → StandsForSeries folder.now values
         → Adds book.old book.new
-        (folds_of_trials cells s of.delay of.period of.halvings values) }
+        (folds_in_trials cells s of.delay of.period of.halvings values) }
     ensures count { book.new.count ≤ book.old.count + 2 ^ of.halvings * of.period }
 {
     folds_see_rows();
@@ -121,12 +125,12 @@ fn halvings(most: u32, period: u32, room: usize) -> u32
 }
 
 // For each number of halvings up to `most`, the least sum of a fold that is detected.
-fn least_sums(rule: &Rule, cells: u32, most: u32) -> [Option<u32>; 13]
+fn least_sums(rule: &Rule, cells: u32, most: u32) -> [Option<u32>; LEAST_SUMS]
     requires few { most ≤ 12 }
     requires cells { cells ≤ 12288 }
-    ensures { AreLeast rule.now cells most result }
+    ensures { AreFoldThresholds rule.now cells most result }
 {
-    let mut least = [None; 13];
+    let mut least = [None; LEAST_SUMS];
     for halvings in 0..most + 1 {
         let rows = u64::from(power(halvings));
         least[halvings as usize] = rule.least(rows * u64::from(cells));
@@ -149,13 +153,13 @@ fn fold_period(
     requires period { period ≤ search.now.fold_max }
     requires some { 1 ≤ period }
     requires fits { FitFolds search.now values.now }
-    requires room { book.old.count + 2 ^ 22 ≤ 2 ^ 63 }
-    requires least { length least.now ≡ 13 }
+    requires room { book.old.count + most_folded ≤ 2 ^ 63 }
+    requires least { length least.now ≡ LEAST_SUMS }
     ensures room { HaveSameRoom folder.new folder.old }
     ensures list { (cells : ℕ → ℕ)
-        → AreLeast (noise_of search.now) (cells delay) search.now.fold_rows least.now
-        → Adds book.old book.new (folds_of_period cells search.now delay period values.now) }
-    ensures count { book.new.count ≤ book.old.count + 2 ^ 22 }
+        → AreFoldThresholds (noise_of search.now) (cells delay) search.now.fold_rows least.now
+        → Adds book.old book.new (folds_in_period cells search.now delay period values.now) }
+    ensures count { book.new.count ≤ book.old.count + most_folded }
 {
     let halvings = halvings(search.fold_rows, period, values.len());
     if halvings == 0 {
@@ -171,7 +175,7 @@ fn fold_period(
 }
 
 /// Adds the detected folds of the values of a delay's series, over all periods of a search of so many channels.
-pub fn fold_values(
+pub(crate) fn fold_values(
     book: &mut Book,
     folder: &mut Folder,
     search: &Search,
@@ -185,11 +189,11 @@ pub fn fold_values(
     requires fits { FitFolds search.now values.now }
     requires delay { delay ≤ 8192 }
     requires channels { channels ≤ 4096 }
-    requires room { book.old.count + 2 ^ 42 ≤ 2 ^ 63 }
+    requires room { book.old.count + most_folds_of_delay ≤ 2 ^ 63 }
     ensures room { HaveSameRoom folder.new folder.old }
     ensures list { Adds book.old book.new
-        (folds_of_values (plain_cells channels) search.now delay values.now) }
-    ensures count { book.new.count ≤ book.old.count + 2 ^ 42 }
+        (folds_in_values (plain_cells channels) search.now delay values.now) }
+    ensures count { book.new.count ≤ book.old.count + most_folds_of_delay }
 {
     let rule = Rule {
         mean: search.mean,

@@ -5,13 +5,12 @@ mod engine;
 mod fault;
 mod fold_search;
 mod judging;
-mod levels;
 mod plan;
 mod pulse_search;
 mod series;
 mod shard;
+mod thresholds;
 
 pub use engine::Engine;
 pub use fault::PlanFault;
-pub use fold_search::FoldSearch;
 pub use plan::check_plan;

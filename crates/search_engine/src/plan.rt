@@ -3,6 +3,7 @@ ghost use Rattle.std.specs.Prelude.{◌≡◌, ℕ, ◌+◌, ◌-◌, ◌*◌, �
 ghost use Rattle.dada_model.specs.Observation.{max_sample as max_sample_of};
 ghost use Rattle.search_model.specs.Search.{SettingsInRange, fold_delays, folds_are_on as folds_are_on_of, delay_count as delay_count_of};
 ghost use Rattle.search_model.specs.Plan.{plan_refusal, most_added as most_added_of};
+ghost use Rattle.search_engine.specs.Counts.{most_folded};
 ghost use Rattle.search_engine.specs.Plan.{IsRefusedFirst};
 
 use crate::fault::PlanFault;
@@ -67,7 +68,7 @@ fn is_past_sums(observation: &Observation, search: &Search) -> bool
 fn folds_are_too_large(search: &Search) -> bool
     requires { SettingsInRange search.now }
     ensures { result ≡ (folds_are_on_of search.now
-        && nat_lt (2 ^ 22) (search.now.fold_max * 2 ^ search.now.fold_rows)) }
+        && nat_lt most_folded (search.now.fold_max * 2 ^ search.now.fold_rows)) }
 {
     let most = u64::from(search.fold_max) * u64::from(power(search.fold_rows));
     folds_are_on(search) && most > MOST_FOLDED
@@ -107,7 +108,7 @@ fn fold_delay_count(search: &Search) -> u32
 }
 
 // 2^e, as a count of rows.
-pub fn power(e: u32) -> u32
+pub(crate) fn power(e: u32) -> u32
     requires { e ≤ 12 }
     ensures value { result ≡ 2 ^ e }
     ensures bound { result ≤ 4096 }

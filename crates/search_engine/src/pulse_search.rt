@@ -4,12 +4,12 @@ ghost use Rattle.std.specs.List.{flat_map, range_with_len};
 ghost use Rattle.box_sums.specs.Tails.{StandsForRow, last_feed};
 ghost use Rattle.search_model.specs.Search.{SettingsInRange};
 ghost use Rattle.search_engine.specs.Judging.{Adds};
-ghost use Rattle.search_engine.specs.Levels.{IsHit, IsLevel, pulses_of_hits, pulse_of_hit};
+ghost use Rattle.search_engine.specs.Thresholds.{IsHit, AreThresholds, pulses_of_hits, pulse_of_hit};
 ghost use Rattle.search_engine.specs.PulseSearch.{PulseState, PulsesAreSound, SearchesDelay, SearchesFor, SearchAlike, RowsStandFor, AreFed, CanJudge};
 ghost use Rattle.search_model.specs.declared.search.Search.{Search};
 ghost use Rattle.search_engine.specs.Pulses.{first_sums, pulse_of, pulses_of_delay};
 
-use crate::levels::{Hit, Level};
+use crate::thresholds::{BoxThresholds, Hit};
 use box_sums::Boxes;
 use candidate_book::Book;
 use psr_base::Memory;
@@ -21,7 +21,7 @@ use box_sums::sums_add_values;
 use search_model::tests_detection;
 
 /// How many widths a box can have.
-const MOST_LEVELS: usize = 6;
+const MOST_WIDTHS: usize = 6;
 
 /// Boxes over the path sums of some delays, and the search for those that are detected.
 #[derive(Drop)]
@@ -31,7 +31,7 @@ pub(crate) struct PulseSearch {
     first: u32,
     end: u32,
     boxes: Boxes,
-    levels: Vec<Level>,
+    by_width: Vec<BoxThresholds>,
     hits: Vec<Hit>,
 }
 
@@ -54,7 +54,7 @@ impl Model for PulseSearch {
       end = p.end;
       boxes = p.boxes;
       hits = p.hits.items;
-    }) p.levels.items (vec_capacity p.hits) };
+    }) p.by_width.items (vec_capacity p.hits) };
 }
 
 impl PulseSearch {
@@ -87,8 +87,8 @@ impl PulseSearch {
             first,
             end,
             boxes: Boxes::open(alloc, first, end - 1, chunk, search.widest, bound)?,
-            levels: Level::up_to(alloc, search, channels, first, end)?,
-            hits: Vec::with_capacity(alloc, MOST_LEVELS * delays)?,
+            by_width: BoxThresholds::up_to(alloc, search, channels, first, end)?,
+            hits: Vec::with_capacity(alloc, MOST_WIDTHS * delays)?,
         })
     }
 
@@ -124,7 +124,7 @@ impl PulseSearch {
         self.boxes.feed_row(d, row);
         note_hits(
             &mut self.hits,
-            self.levels.as_slice(),
+            self.by_width.as_slice(),
             &self.boxes,
             self.first,
             d,
@@ -201,25 +201,25 @@ impl PulseSearch {
 }
 
 // Notes the widths at which a box over row `d`, which was fed last, is detected.
-fn note_hits(hits: &mut Vec<Hit>, levels: &[Level], boxes: &Boxes, first: u32, d: u32)
+fn note_hits(hits: &mut Vec<Hit>, by_width: &[BoxThresholds], boxes: &Boxes, first: u32, d: u32)
     requires above { first ≤ d }
     requires newest { d ≡ boxes.now.newest }
-    requires levels { All (CanJudge boxes.now first d) levels.now }
-    requires room { vec_len hits.old + length levels.now ≤ vec_capacity hits.old }
+    requires by_width { All (CanJudge boxes.now first d) by_width.now }
+    requires room { vec_len hits.old + length by_width.now ≤ vec_capacity hits.old }
     ensures capacity { vec_capacity hits.new ≡ vec_capacity hits.old }
-    ensures few { length hits.new.items ≤ length hits.old.items + length levels.now }
-    ensures hits { (s : Search) (n end : ℕ) → All (IsLevel s n first end) levels.now
+    ensures few { length hits.new.items ≤ length hits.old.items + length by_width.now }
+    ensures hits { (s : Search) (n end : ℕ) → All (AreThresholds s n first end) by_width.now
         → All (IsHit s n first end) hits.old.items → All (IsHit s n first end) hits.new.items }
     ensures pulses { (s : Search) (n end m k : ℕ) (y : ℕ → ℕ → ℕ)
-        → All (IsLevel s n first end) levels.now
+        → All (AreThresholds s n first end) by_width.now
         → StandsForRow boxes.now d (first_sums y d (m + last_feed boxes.now d))
         → k < last_feed boxes.now d
         → pulses_of_hits y s n (m + k) hits.new.items
         ≡ pulses_of_hits y s n (m + k) hits.old.items
-        ++ flat_map (λ level. pulse_of y s n (m + k) d level.width) levels.now }
+        ++ flat_map (λ thresholds. pulse_of y s n (m + k) d thresholds.width) by_width.now }
 {
-    for level in levels {
-        note(hits, level.hit(boxes, first, d));
+    for thresholds in by_width {
+        note(hits, thresholds.hit(boxes, first, d));
     }
 }
 

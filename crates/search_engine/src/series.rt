@@ -8,7 +8,7 @@ use std::marker::Model;
 
 /// The first values of a series, as many as are ever used. Their memory is taken once.
 #[derive(Drop)]
-pub struct Series {
+pub(crate) struct Series {
     values: Vec<u32>,
     most: usize,
 }
@@ -27,7 +27,7 @@ impl Model for Series {
 
 impl Series {
     /// No values, with memory for so many.
-    pub fn open(alloc: Global, most: usize) -> Result<Series, Memory>
+    pub(crate) fn open(alloc: Global, most: usize) -> Result<Series, Memory>
         ensures { IfOk result (λ s. s ≡ record { most = most; values = [] }) }
     {
         Ok(Series {
@@ -37,7 +37,7 @@ impl Series {
     }
 
     /// Takes the next values, as far as they are used.
-    pub fn take(&mut self, row: &[u32])
+    pub(crate) fn take(&mut self, row: &[u32])
         ensures room { self.new.most ≡ self.old.most }
         ensures front { (xs : List ℕ) → IsFrontOf self.old xs
             → IsFrontOf self.new (xs ++ row.now) }
@@ -50,7 +50,7 @@ impl Series {
     }
 
     /// The values.
-    pub fn values(&self) -> &[u32]
+    pub(crate) fn values(&self) -> &[u32]
         ensures value { result.now ≡ self.now.values }
         ensures few { length result.now ≤ self.now.most }
     {

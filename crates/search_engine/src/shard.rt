@@ -6,10 +6,11 @@ ghost use Rattle.search_model.specs.Samples.{Filterbank};
 ghost use Rattle.search_model.specs.Search.{SettingsInRange, folds_are_on};
 ghost use Rattle.dada_model.specs.Edges.{AreEdges};
 ghost use Rattle.subband_plan.specs.Plans.{band_plan};
-ghost use Rattle.search_engine.specs.FoldSearch.{AreDelays, FoldsFit, HasDelay, FoldsAlike};
+ghost use Rattle.search_engine.specs.Counts.{most_pulses_at_end, most_folds};
+ghost use Rattle.search_engine.specs.FoldSearch.{IsDelayRange, FoldsFit, HasDelay, FoldsAlike};
 ghost use Rattle.search_engine.specs.Judging.{Adds};
 ghost use Rattle.search_engine.specs.PulseSearch.{SearchesDelay, SearchAlike, AreFed};
-ghost use Rattle.search_engine.specs.Sums.{ShardState, FitTogether, StandsForStream, HasStream, GoesOn, HaveTaken, IsRowOf, SumsAlike, sums_of, pulses_of_plan, folds_of_plan};
+ghost use Rattle.search_engine.specs.Sums.{ShardState, FitTogether, StandsForStream, HasStream, ContinuesStream, HaveTaken, IsRowOf, SumsAlike, sums_of, pulses_of_plan, folds_of_plan};
 
 use crate::fold_search::FoldSearch;
 use crate::pulse_search::PulseSearch;
@@ -60,7 +61,7 @@ impl ShardSearch {
         requires range { SettingsInRange search.now }
         requires band { AreEdges (channels_of edges.now) edges.now }
         requires few_channels { channels_of edges.now ≤ 4096 }
-        requires delays { AreDelays search.now first end }
+        requires delays { IsDelayRange search.now first end }
         requires some_delays { first < end }
         requires some_spectra { 1 ≤ chunk }
         requires most_spectra { chunk ≤ 65536 }
@@ -100,12 +101,12 @@ impl ShardSearch {
             ≡ channels_of self.old.carry.tables.plan.edges * self.old.carry.tables.chunk }
         requires short { spectra ≤ self.old.carry.tables.chunk }
         requires few { self.old.carry.fed + spectra ≤ 2 ^ 48 }
-        requires stream { GoesOn self.old.carry rows.now spectra }
-        requires room { book.old.count + 49158 * spectra < 2 ^ 63 }
+        requires stream { ContinuesStream self.old.carry rows.now spectra }
+        requires room { book.old.count + most_pulses_at_end * spectra < 2 ^ 63 }
         ensures alike { SumsAlike self.new self.old }
         ensures fed { self.new.carry.fed ≡ self.old.carry.fed + spectra }
         ensures tables { self.new.carry.has_tables ≡ with_tables }
-        ensures count { book.new.count ≤ book.old.count + 49158 * spectra }
+        ensures count { book.new.count ≤ book.old.count + most_pulses_at_end * spectra }
         ensures stands { (f : Filterbank) → StandsForStream self.old f
             → AreNext self.old.carry f rows.now spectra → StandsForStream self.new f }
         ensures pulses { (f : Filterbank) → StandsForStream self.old f
@@ -129,9 +130,9 @@ impl ShardSearch {
 
     /// Adds the folds of all that was taken to a book.
     pub(crate) fn end(&mut self, book: &mut Book)
-        requires { book.old.count + 2 ^ 56 ≤ 2 ^ 63 }
+        requires { book.old.count + most_folds ≤ 2 ^ 63 }
         ensures same { self.new ≡ self.old }
-        ensures count { book.new.count ≤ book.old.count + 2 ^ 56 }
+        ensures count { book.new.count ≤ book.old.count + most_folds }
         ensures folds { (f : Filterbank) → StandsForStream self.old f
             → f.spectra ≡ self.old.carry.fed
             → Adds book.old book.new

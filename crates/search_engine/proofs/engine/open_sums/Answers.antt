@@ -11,7 +11,7 @@ use Rattle.search_model.specs.Samples.{Filterbank}
 use Rattle.subband_plan.specs.Nodes.{BandPlan}
 use Rattle.subband_plan.specs.Plans.{band_plan}
 use Rattle.search_engine.specs.Engine.{IsOpenedSums}
-use Rattle.search_engine.specs.FoldSearch.{AreDelays, FoldsFit}
+use Rattle.search_engine.specs.FoldSearch.{IsDelayRange, FoldsFit}
 use Rattle.search_engine.specs.Sums.{ShardState, StandsForStream}
 use Rattle.search_engine.proofs.PlanFits.{boxes_fit, folds_fit, shard_delays}
 use Rattle.search_engine.proofs.engine.open_sums.Goals as goal
@@ -21,8 +21,8 @@ open-requires-clause-delays c =
     let o = c.args.observation.now in
     let s = c.args.search.now in
     let are = shard_delays o s c.args.shard c.requires.range c.requires.accepted c.requires.shard in
-    let P : ℕ → Type 0 = λ first. AreDelays s first c.shard_start-end.result in
-    let Q : ℕ → Type 0 = λ end. AreDelays s (shard_start s c.args.shard) end in
+    let P : ℕ → Type 0 = λ first. IsDelayRange s first c.shard_start-end.result in
+    let Q : ℕ → Type 0 = λ end. IsDelayRange s (shard_start s c.args.shard) end in
     subst P (sym c.shard_start-first.ensures) (subst Q (sym c.shard_start-end.ensures) are)
 
 -- the greatest path sum, by what the observation's methods answer

@@ -2,7 +2,7 @@ use Rattle.std.proofs.Common.{◌≡◌, ◌∙◌, ◌*◌, ◌^◌, true, [], 
 use Rattle.std.proofs.lemmas.Bool.{cond-true}
 use Rattle.search_model.specs.Folds.{series}
 use Rattle.search_model.specs.Candidates.{plain_cells, folds_of_delay}
-use Rattle.search_engine.specs.Judging.{folds_of_values}
+use Rattle.search_engine.specs.Judging.{folds_in_values}
 use Rattle.search_engine.specs.FoldSearch.{is_folded, folds_if_folded}
 use Rattle.search_engine.proofs.Adding.{adds_same}
 use Rattle.search_engine.proofs.Fronts.{values_front, delay_folds}
@@ -18,7 +18,7 @@ returns-then-is_folded-clause-folds c = λ f edges front.
     c.requires.most ∙ cond-true (is_folded s d) (s.fold_max * 2 ^ s.fold_rows) 0 folded in
     let some = c.requires.range.folds.least_min in
     adds_same c.args.book.now c.fold_values.new.book _ (folds_if_folded f edges cells s d)
-    (ap (folds_of_values cells s d) (c.values.ensures.value ∙ front)
+    (ap (folds_in_values cells s d) (c.values.ensures.value ∙ front)
     ∙ values_front c.folds_see_rows.ensures cells s d c.args.front.now.most (series f edges d) (omega arith) most
     ∙ delay_folds f edges cells s d
     ∙ sym (cond-true (is_folded s d) (folds_of_delay f edges cells s d) [] folded))

@@ -2,7 +2,7 @@ use Rattle.std.proofs.Common.{◌≡◌, ℕ, ◌+◌, ◌-◌, List, ap, ◌∙
 use Rattle.std.specs.List.{range_with_len, flat_map}
 use Rattle.search_model.specs.declared.candidate.Candidate.{Candidate}
 use Rattle.search_model.specs.Candidates.{plain_cells}
-use Rattle.search_engine.specs.Judging.{folds_of_period}
+use Rattle.search_engine.specs.Judging.{folds_in_period}
 use Rattle.search_engine.proofs.Adding.{adds_more, adds_same}
 use Rattle.search_engine.proofs.judging.fold_values.Goals as goal
 
@@ -14,7 +14,7 @@ loop-period-preserved c =
     let from = c.loop-period.auto.period in
     let room = c.fold_period.ensures.room in
     let piece : ℕ → List Candidate =
-    λ p. folds_of_period (plain_cells c.args.channels) s c.args.delay p c.args.values.now in
+    λ p. folds_in_period (plain_cells c.args.channels) s c.args.delay p c.args.values.now in
     let at : s.fold_min + (p - s.fold_min) ≡ p = omega arith in
     let next : p - s.fold_min + 1 ≡ p + 1 - s.fold_min = omega arith in
     record {

@@ -1,7 +1,7 @@
 use Rattle.std.proofs.Common.{◌≡◌, ℕ, ◌+◌, ◌^◌, List, ap, arith}
 use Rattle.std.specs.List.{range_with_len, flat_map}
 use Rattle.search_model.specs.declared.candidate.Candidate.{Candidate}
-use Rattle.search_engine.specs.Judging.{folds_of_trial}
+use Rattle.search_engine.specs.Judging.{folds_in_trial}
 use Rattle.search_engine.proofs.Adding.{adds_more, adds_same, profile_folds}
 use Rattle.search_engine.proofs.judging.judge_trials.Goals as goal
 
@@ -14,7 +14,7 @@ loop-trial-preserved c =
     let long = c.profile.ensures.phases in
     record {
       list = λ cells s values from stands.
-          let piece : ℕ → List Candidate = λ j. folds_of_trial cells s of.delay of.period of.halvings j values in
+          let piece : ℕ → List Candidate = λ j. folds_in_trial cells s of.delay of.period of.halvings j values in
           adds_more c.args.book.now c.loop-trial.book c.judge.new.book piece 0 j j at
           (before.list cells s values from stands)
           (adds_same c.loop-trial.book c.judge.new.book _ (piece j)
@@ -28,7 +28,7 @@ loop-trial-preserved c =
 pub returns-clause-list : goal.returns-clause-list
 returns-clause-list c = λ cells s values from stands.
     let of = c.args.of in
-    let piece : ℕ → List Candidate = λ j. folds_of_trial cells s of.delay of.period of.halvings j values in
+    let piece : ℕ → List Candidate = λ j. folds_in_trial cells s of.delay of.period of.halvings j values in
     let all : c.loop-trial.trial ≡ 2 ^ of.halvings = omega (arith, c.power-trial-end.ensures.value) in
     adds_same c.args.book.now c.loop-trial.book _ _ (ap (λ n. flat_map piece (range_with_len 0 n)) all)
     (c.loop-trial.invariant.list cells s values from stands)

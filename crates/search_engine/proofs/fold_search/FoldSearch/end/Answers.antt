@@ -5,7 +5,7 @@ use Rattle.search_model.specs.Candidates.{plain_cells, folds, within_delays}
 use Rattle.candidate_book.specs.Book.{BookContents}
 use Rattle.search_engine.specs.Judging.{Adds}
 use Rattle.search_engine.specs.Series.{Front, no_front, IsFrontOf}
-use Rattle.search_engine.specs.FoldSearch.{Fronts, HasDelay, KeepsFrontOf, AreDelays, AreOfSeries, folds_of_delays}
+use Rattle.search_engine.specs.FoldSearch.{Fronts, HasDelay, KeepsFrontOf, IsDelayRange, AreOfSeries, folds_of_delays}
 use Rattle.search_engine.proofs.Adding.{adds_same}
 use Rattle.search_engine.proofs.FoldLists.{folds_within}
 use Rattle.search_engine.proofs.fold_search.FoldSearch.end.Goals as goal
@@ -24,7 +24,7 @@ of_series seen fronts f edges same count all = λ k small.
 
 -- what is added over all delays
 ended : (old new : BookContents) (seen : Fronts) (fronts : List Front) (f : Filterbank) (edges : List ℕ) →
-    fronts ≡ seen.fronts → length seen.fronts ≡ seen.end - seen.first → AreDelays seen.search seen.first seen.end →
+    fronts ≡ seen.fronts → length seen.fronts ≡ seen.end - seen.first → IsDelayRange seen.search seen.first seen.end →
     (AreOfSeries fronts f edges seen.first →
     Adds old new (folds_of_delays f edges (plain_cells seen.channels) seen.search seen.first (length fronts))) →
     ((d : ℕ) → HasDelay seen d → KeepsFrontOf seen d (series f edges d)) →

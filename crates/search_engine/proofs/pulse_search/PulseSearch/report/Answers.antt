@@ -1,7 +1,7 @@
 use Rattle.std.proofs.Common.{◌≡◌, subst, arith, refl}
 use Rattle.std.specs.List.{range_with_len, flat_map}
 use Rattle.search_engine.specs.Judging.{Adds}
-use Rattle.search_engine.specs.Levels.{pulses_of_hits}
+use Rattle.search_engine.specs.Thresholds.{pulses_of_hits}
 use Rattle.search_engine.proofs.Adding.{adds_more}
 use Rattle.search_engine.proofs.pulse_search.PulseSearch.report.Goals as goal
 

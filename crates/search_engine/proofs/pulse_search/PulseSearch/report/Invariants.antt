@@ -1,7 +1,7 @@
 use Rattle.std.proofs.Common.{◌+◌, ◌*◌, ◌≤◌, ℕ, length}
 use Rattle.std.specs.List.{flat_map, range_with_len}
 use Rattle.search_engine.specs.Judging.{Adds}
-use Rattle.search_engine.specs.Levels.{pulses_of_hits}
+use Rattle.search_engine.specs.Thresholds.{pulses_of_hits}
 use Rattle.search_engine.specs.PulseSearch.{RowsStandFor}
 use Rattle.search_engine.proofs.pulse_search.PulseSearch.report.Given as goal
 

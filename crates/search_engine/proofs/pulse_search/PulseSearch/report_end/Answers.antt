@@ -2,9 +2,9 @@ use Rattle.std.proofs.Common.{◌≡◌, ℕ, ◌+◌, ◌<◌, List, length, ve
 use Rattle.std.proofs.lemmas.List.{take_all}
 use Rattle.std.proofs.lemmas.List.Elements.{All-get_or}
 use Rattle.search_model.specs.declared.search.Search.{Search}
-use Rattle.search_engine.specs.declared.levels.Hit.{Hit}
+use Rattle.search_engine.specs.declared.thresholds.Hit.{Hit}
 use Rattle.search_engine.specs.Judging.{Adds}
-use Rattle.search_engine.specs.Levels.{IsHit, pulses_of_hits, pulse_of_hit}
+use Rattle.search_engine.specs.Thresholds.{IsHit, pulses_of_hits, pulse_of_hit}
 use Rattle.search_engine.specs.PulseSearch.{PulseState, SearchesDelay}
 use Rattle.search_engine.proofs.Adding.{adds_both, adds_same}
 use Rattle.search_engine.proofs.Pieces.{flat_take_more}

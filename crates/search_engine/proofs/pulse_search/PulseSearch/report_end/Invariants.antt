@@ -1,6 +1,6 @@
 use Rattle.std.proofs.Common.{◌+◌, ◌≤◌, ℕ, take}
 use Rattle.search_engine.specs.Judging.{Adds}
-use Rattle.search_engine.specs.Levels.{pulses_of_hits}
+use Rattle.search_engine.specs.Thresholds.{pulses_of_hits}
 use Rattle.search_engine.specs.PulseSearch.{RowsStandFor, AreFed}
 use Rattle.search_engine.proofs.pulse_search.PulseSearch.report_end.Given as goal
 

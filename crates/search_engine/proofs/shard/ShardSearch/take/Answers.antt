@@ -3,7 +3,7 @@ use Rattle.fdmt_carry.specs.Carrying.{AreNext}
 use Rattle.fdmt_carry.specs.Tables.{Tables}
 use Rattle.search_engine.specs.PulseSearch.{PulseState, SearchAlike}
 use Rattle.search_engine.specs.Pulses.{pulses_of_ends}
-use Rattle.search_engine.specs.Sums.{ShardState, GoesOn, HaveTaken, StandsForStream, sums_of, pulses_of_plan}
+use Rattle.search_engine.specs.Sums.{ShardState, ContinuesStream, HaveTaken, StandsForStream, sums_of, pulses_of_plan}
 use Rattle.search_engine.proofs.Adding.{adds_same}
 use Rattle.search_engine.proofs.Chunks.{begun, all_rows, all_fronts, all_pulses, same_ends, plan_pulses, few_pulses}
 use Rattle.search_engine.proofs.shard.ShardSearch.take.Goals as goal
@@ -20,7 +20,7 @@ take_rows-requires-clause-order c =
 
 pub take_rows-requires-clause-stream : goal.take_rows-requires-clause-stream
 take_rows-requires-clause-stream c =
-    let P : ShardState → Type 0 = λ s. GoesOn s.carry c.args.rows.now c.args.spectra in
+    let P : ShardState → Type 0 = λ s. ContinuesStream s.carry c.args.rows.now c.args.spectra in
     let goes = subst P (sym c.self.view_is) c.requires.stream in
     record { stream = goes.stream; stands = c.advance.ensures.stands goes.stream goes.stands goes.next }
 

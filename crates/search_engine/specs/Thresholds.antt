@@ -1,4 +1,5 @@
 -- The least detected sums of boxes, and the rows in which a box is detected.
+-- Source: this project's choice.
 use Rattle.std.specs.Prelude.{◌≡◌, ℕ, ◌+◌, ◌-◌, ◌*◌, ◌≤◌, ◌<◌, All, List, Option, Some, map, slice_get, length}
 use Rattle.std.specs.List.{flat_map}
 use Rattle.box_sums.specs.Rows.{IsWidth}
@@ -6,27 +7,29 @@ use Rattle.detect_rule.specs.Noise.{StandOutFrom}
 use Rattle.search_model.specs.declared.candidate.Candidate.{Candidate}
 use Rattle.search_model.specs.declared.search.Search.{Search}
 use Rattle.search_model.specs.Search.{widths}
-use Rattle.search_engine.specs.declared.levels.Hit.{Hit}
-use Rattle.search_engine.specs.declared.levels.Level.{Level}
+use Rattle.search_engine.specs.declared.thresholds.Hit.{Hit}
+use Rattle.search_engine.specs.declared.thresholds.BoxThresholds.{BoxThresholds}
 use Rattle.search_engine.specs.Judging.{noise_of}
 use Rattle.search_engine.specs.Pulses.{pulse_of}
 
 -- place i has the least detected sum of w path sums of delay first + i over n channels
-abbrev pub AreLeasts : Search → ℕ → ℕ → ℕ → List (Option ℕ) → Type 0
-AreLeasts s n first w leasts = (i : ℕ) (least : Option ℕ) → slice_get leasts i ≡ Some least →
+abbrev pub AreLeastSums : Search → ℕ → ℕ → ℕ → List (Option ℕ) → Type 0
+AreLeastSums s n first w least_sums =
+    (i : ℕ) (least : Option ℕ) → slice_get least_sums i ≡ Some least →
     StandOutFrom (noise_of s) (w * (n + (first + i))) least
 
--- a level has a width of the search, and the least detected sums of the delays from `first` up to, but without, `end`
-pub record IsLevel (s : Search) (n first end : ℕ) (level : Level) : Type 0 where
-  pub width : IsWidth level.width
-  pub narrow : level.width ≤ s.widest
-  pub count : length level.leasts.items ≡ end - first
-  pub leasts : AreLeasts s n first level.width level.leasts.items
+-- they are of a width of the search: the least detected sums of the delays from `first` up to, but without, `end`
+pub record AreThresholds (s : Search) (n first end : ℕ) (thresholds : BoxThresholds) : Type 0 where
+  pub width : IsWidth thresholds.width
+  pub narrow : thresholds.width ≤ s.widest
+  pub count : length thresholds.least_sums.items ≡ end - first
+  pub least_sums : AreLeastSums s n first thresholds.width thresholds.least_sums.items
 
--- there is a level for each width
-pub record AreLevels (s : Search) (n first end : ℕ) (levels : List Level) : Type 0 where
-  pub widths : map (λ level. level.width) levels ≡ widths s
-  pub each : All (IsLevel s n first end) levels
+-- there are thresholds for each width
+pub record AreOfAllWidths (s : Search) (n first end : ℕ) (by_width : List BoxThresholds)
+    : Type 0 where
+  pub widths : map (λ thresholds. thresholds.width) by_width ≡ widths s
+  pub each : All (AreThresholds s n first end) by_width
 
 -- a row of boxes, with the least sum that is detected there
 pub record IsHit (s : Search) (n first end : ℕ) (hit : Hit) : Type 0 where

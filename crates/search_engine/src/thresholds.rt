@@ -30,39 +30,41 @@ pub(crate) struct Hit {
 
 /// A width of boxes, with the least detected sum of each delay from the first on, where there is one.
 #[derive(Drop)]
-pub(crate) struct Level {
+pub(crate) struct BoxThresholds {
     pub(crate) width: u32,
-    pub(crate) leasts: Vec<Option<u32>>,
+    pub(crate) least_sums: Vec<Option<u32>>,
 }
 
-impl Level {
-    ghost use Rattle.search_engine.specs.Levels.{IsLevel, AreLevels, IsHit, pulses_of_hits};
+impl BoxThresholds {
+    ghost use Rattle.search_engine.specs.Thresholds.{AreThresholds, AreOfAllWidths, IsHit, pulses_of_hits};
 
-    /// A level for each width of a search over so many channels, for the delays from `first` up to, but without, `end`.
+    /// The thresholds of each width of a search over so many channels, for the delays from `first` up to, but without,
+    /// `end`.
     pub(crate) fn up_to(
         alloc: Global,
         search: &Search,
         channels: u32,
         first: u32,
         end: u32,
-    ) -> Result<Vec<Level>, Memory>
+    ) -> Result<Vec<BoxThresholds>, Memory>
         requires range { SettingsInRange search.now }
         requires few_channels { channels ≤ 4096 }
         requires order { first ≤ end }
         requires few_delays { end ≤ 8193 }
-        ensures { IfOk result (λ levels. AreLevels search.now channels first end levels.items) }
+        ensures { IfOk result (λ by_width.
+            AreOfAllWidths search.now channels first end by_width.items) }
     {
-        let mut levels = Vec::with_capacity(alloc, WIDTHS.len())?;
+        let mut by_width = Vec::with_capacity(alloc, WIDTHS.len())?;
         for width in WIDTHS {
             if width <= search.widest {
-                let level = Level::open(alloc, search, channels, first, end, width)?;
-                levels.push(level)?;
+                let thresholds = BoxThresholds::open(alloc, search, channels, first, end, width)?;
+                by_width.push(thresholds)?;
             }
         }
-        Ok(levels)
+        Ok(by_width)
     }
 
-    // The level of a width.
+    // The thresholds of a width.
     fn open(
         alloc: Global,
         search: &Search,
@@ -70,41 +72,41 @@ impl Level {
         first: u32,
         end: u32,
         width: u32,
-    ) -> Result<Level, Memory>
+    ) -> Result<BoxThresholds, Memory>
         requires range { SettingsInRange search.now }
         requires few_channels { channels ≤ 4096 }
         requires order { first ≤ end }
         requires few_delays { end ≤ 8193 }
         requires width { IsWidth width }
         requires narrow { width ≤ search.now.widest }
-        ensures width { IfOk result (λ level. level.width ≡ width) }
-        ensures level { IfOk result (IsLevel search.now channels first end) }
+        ensures width { IfOk result (λ thresholds. thresholds.width ≡ width) }
+        ensures thresholds { IfOk result (AreThresholds search.now channels first end) }
     {
         let rule = Rule {
             mean: search.mean,
             sd: search.sd,
             snr: search.snr,
         };
-        let mut leasts = Vec::with_capacity(alloc, (end - first) as usize)?;
+        let mut least_sums = Vec::with_capacity(alloc, (end - first) as usize)?;
         for d in first..end {
             let cells = u64::from(width) * (u64::from(channels) + u64::from(d));
-            leasts.push(rule.least(cells))?;
+            least_sums.push(rule.least(cells))?;
         }
-        Ok(Level { width, leasts })
+        Ok(BoxThresholds { width, least_sums })
     }
 
     /// The row of delay `d`, which was fed last, if one of the spectra of its last feed ends a detected box of this
     /// width.
     pub(crate) fn hit(&self, boxes: &Boxes, first: u32, d: u32) -> Option<Hit>
         requires above { first ≤ d }
-        requires below { d < first + length self.now.leasts.items }
+        requires below { d < first + length self.now.least_sums.items }
         requires newest { d ≡ boxes.now.newest }
         requires width { IsWidth self.now.width }
         requires narrow { self.now.width ≤ boxes.now.widest }
-        ensures hit { (s : Search) (n end : ℕ) → IsLevel s n first end self.now
+        ensures hit { (s : Search) (n end : ℕ) → AreThresholds s n first end self.now
             → IfSome result (IsHit s n first end) }
         ensures pulses { (s : Search) (n end m k : ℕ) (y : ℕ → ℕ → ℕ)
-            → IsLevel s n first end self.now
+            → AreThresholds s n first end self.now
             → StandsForRow boxes.now d (first_sums y d (m + last_feed boxes.now d))
             → k < last_feed boxes.now d
             → pulses_of_hits y s n (m + k) (option_to_list result)
@@ -113,7 +115,7 @@ impl Level {
         sums_add_values();
         tests_detection();
         let most = greatest(boxes.row(d, self.width));
-        let least = self.leasts[(d - first) as usize]?;
+        let least = self.least_sums[(d - first) as usize]?;
         if most >= least {
             Some(Hit {
                 delay: d,

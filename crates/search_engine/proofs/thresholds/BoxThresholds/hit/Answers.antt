@@ -2,7 +2,7 @@ use Rattle.std.proofs.Common.{◌≡◌, ℕ, ◌+◌, ◌*◌, ◌<◌, Option,
 use Rattle.detect_rule.specs.Noise.{StandOutFrom}
 use Rattle.search_engine.specs.Judging.{noise_of}
 use Rattle.search_engine.proofs.Boxes.{quiet_row, least_at}
-use Rattle.search_engine.proofs.levels.Level.hit.Goals as goal
+use Rattle.search_engine.proofs.thresholds.BoxThresholds.hit.Goals as goal
 
 no_number : (least : Option ℕ) (x most : ℕ) → least ≡ None → least ≡ Some x → most < x
 no_number least x most none some = let both : None ≡ Some x = sym none ∙ some in absurd (cc)

@@ -1,0 +1,321 @@
+// Whole searches against direct sums.
+ghost use Rattle.std.specs.Prelude.{◌<◌};
+ghost use Rattle.search_model.specs.Search.{SettingsInRange};
+
+use crate::direct_folds::{is_folded, list_delay};
+use crate::direct_sums::{Row, Samples, list_pulses, rows};
+use crate::made::{TWO_CHANNELS, observation};
+use obs_plan::Observation;
+use psr_base::Memory;
+use search_engine::{Engine, PlanFault};
+use search_model::{Candidate, Search};
+use std::alloc::Global;
+use std::process::Abort;
+use std::test::Fail;
+
+const MANY_CHANNELS: &str = "HDR_SIZE 4096
+NCHAN 37
+NBIT 8
+NPOL 1
+NDIM 1
+TSAMP 64
+FREQ 1400
+BW -200
+OBS_OFFSET 0
+";
+
+const CHANNELS: u32 = 37;
+
+const SPECTRA: u32 = 300;
+
+// Boxes of all widths, and folds of every 17th delay from 5 on, of the periods 2 to 9 and up to 8 rows.
+const SEARCH: Search = Search {
+    min_delay: 5,
+    max_delay: 90,
+    widest: 32,
+    fold_min: 2,
+    fold_max: 9,
+    fold_rows: 3,
+    fold_step: 17,
+    chunk: 256,
+    shards: 1,
+    max_candidates: 100000,
+    mean: 127500,
+    sd: 73900,
+    snr: 250,
+};
+
+// Bytes that look like noise.
+fn noise(alloc: Global, count: usize) -> Result<Vec<u8>, Memory> {
+    let mut bytes = Vec::new(alloc);
+    let mut state: u32 = 14;
+    for _byte in 0..count {
+        state = state.wrapping_mul(1664525).wrapping_add(1013904223);
+        bytes.push((state >> 24) as u8)?;
+    }
+    Ok(bytes)
+}
+
+// Feeds a piece, if the engine takes it.
+fn feed_piece(engine: &mut Engine, piece: &[u8]) {
+    if !engine.has_ended() && engine.fed() <= 1 << 40 && piece.len() <= 1 << 20 {
+        engine.feed(piece);
+    }
+}
+
+// Feeds bytes in pieces of these lengths, over and over.
+fn feed_cut(engine: &mut Engine, bytes: &[u8], lengths: &[usize]) {
+    let mut rest = bytes;
+    for turn in 0..bytes.len() {
+        let length = lengths.get(turn % lengths.len().max(1)).copied();
+        let (piece, after) = rest.split_at(length.unwrap_or(1).min(rest.len()));
+        feed_piece(engine, piece);
+        rest = after;
+    }
+}
+
+// Searches bytes that are fed in pieces of these lengths.
+fn searched(
+    alloc: Global,
+    observation: &Observation,
+    search: &Search,
+    shard: u32,
+    bytes: &[u8],
+    lengths: &[usize],
+) -> Result<Engine, PlanFault>
+    requires range { SettingsInRange search.now }
+    requires shard { shard < search.now.shards }
+{
+    let mut engine = Engine::open(alloc, observation, search, shard)?;
+    feed_cut(&mut engine, bytes, lengths);
+    if !engine.has_ended() {
+        engine.end();
+    }
+    Ok(engine)
+}
+
+// Lists the detected folds of all delays.
+fn list_folds(
+    rt: &impl Abort,
+    list: &mut Vec<Candidate>,
+    search: &Search,
+    channels: u32,
+    rows: &[Row],
+) -> Result<(), Memory> {
+    for row in rows {
+        let series = row.sums.as_slice().get(row.delay as usize..).unwrap_or(&[]);
+        if is_folded(search, row.delay) {
+            let cells = channels.saturating_add(row.delay);
+            list_delay(rt, list, search, series, row.delay, cells)?;
+        }
+    }
+    Ok(())
+}
+
+// All candidates of a search of bytes.
+fn list_all(
+    rt: &impl Abort,
+    alloc: Global,
+    observation: &Observation,
+    search: &Search,
+    bytes: &[u8],
+) -> Result<Vec<Candidate>, Memory> {
+    let samples = Samples {
+        channels: CHANNELS as usize,
+        bytes,
+        edges: observation.edges(),
+    };
+    let rows = rows(alloc, samples, search, SPECTRA as usize)?;
+    let mut list = Vec::new(alloc);
+    list_pulses(rt, &mut list, search, CHANNELS, rows.as_slice(), SPECTRA)?;
+    list_folds(rt, &mut list, search, CHANNELS, rows.as_slice())?;
+    Ok(list)
+}
+
+fn delay_of(candidate: &Candidate) -> u32 {
+    match candidate {
+        Candidate::Pulse { delay, .. } => *delay,
+        Candidate::Fold { delay, .. } => *delay,
+    }
+}
+
+// The candidates of the delays from `first` up to, but without, `end`.
+fn of_delays(
+    alloc: Global,
+    list: &[Candidate],
+    first: u32,
+    end: u32,
+) -> Result<Vec<Candidate>, Memory> {
+    let mut some = Vec::new(alloc);
+    for candidate in list {
+        let delay = delay_of(candidate);
+        if first <= delay && delay < end {
+            some.push(*candidate)?;
+        }
+    }
+    Ok(some)
+}
+
+// The least delay of a shard.
+fn shard_start(search: &Search, shard: u32) -> u32 {
+    let delays = search
+        .max_delay
+        .wrapping_sub(search.min_delay)
+        .wrapping_add(1);
+    let before = shard.wrapping_mul(delays).checked_div(search.shards);
+    search.min_delay.wrapping_add(before.unwrap_or(0))
+}
+
+// What a search of a shard found, against the direct candidates of its delays.
+fn compare_shard(
+    rt: &impl Abort,
+    alloc: Global,
+    engine: &Engine,
+    search: &Search,
+    shard: u32,
+    direct: &[Candidate],
+) -> Result<(), Memory> {
+    let (first, end) = (
+        shard_start(search, shard),
+        shard_start(search, shard.wrapping_add(1)),
+    );
+    let wanted = of_delays(alloc, direct, first, end)?;
+    let book = engine.book();
+    assert_eq!(rt;
+        engine.spectra(),
+        u64::from(SPECTRA),
+        "chunks of {}",
+        search.chunk
+    );
+    assert_eq!(rt;
+        book.count(),
+        wanted.len() as u64,
+        "chunks of {}",
+        search.chunk
+    );
+    assert!(rt;
+        book.kept() == wanted.as_slice(),
+        "chunks of {}",
+        search.chunk
+    );
+    Ok(())
+}
+
+// The shards of a search against the direct candidates, where the bytes are fed in pieces of these lengths.
+fn compare(
+    rt: &impl Abort,
+    alloc: Global,
+    observation: &Observation,
+    search: &Search,
+    bytes: &[u8],
+    lengths: &[usize],
+    direct: &[Candidate],
+) -> Result<(), Fail> {
+    assert!(rt; search.in_range());
+    for shard in 0..search.shards {
+        let Ok(engine) = searched(alloc, observation, search, shard, bytes, lengths) else {
+            return Err("an engine".into());
+        };
+        compare_shard(rt, alloc, &engine, search, shard, direct)?;
+    }
+    Ok(())
+}
+
+#[test]
+fn all_candidates_are_the_direct_ones(rt: HostRuntime) -> Result<(), Fail> {
+    let alloc = rt.alloc();
+    let Some(observed) = observation(alloc, MANY_CHANNELS) else {
+        return Err("an observation".into());
+    };
+    // The last spectrum is not whole.
+    let bytes = noise(alloc, 300 * 37 + 20)?;
+    let direct = list_all(&rt, alloc, &observed, &SEARCH, bytes.as_slice())?;
+    assert!(rt; direct.len() > 1000, "{}", direct.len());
+    let cases: [(u32, u32, &[usize]); 6] = [
+        (256, 1, &[20000]),
+        (1, 1, &[1]),
+        (7, 2, &[37, 1, 36, 38]),
+        (64, 5, &[1000, 3]),
+        (299, 7, &[4096]),
+        (65536, 3, &[11099, 5]),
+    ];
+    for (chunk, shards, lengths) in cases {
+        let search = Search {
+            chunk,
+            shards,
+            ..SEARCH
+        };
+        compare(
+            &rt,
+            alloc,
+            &observed,
+            &search,
+            bytes.as_slice(),
+            lengths,
+            direct.as_slice(),
+        )?;
+    }
+    Ok(())
+}
+
+// The folds of a search of one delay, in two channels, with periods from the least one up to 2.
+fn folds_of(
+    rt: &impl Abort,
+    alloc: Global,
+    observation: &Observation,
+    fold_min: u32,
+    bytes: &[u8],
+) -> Option<Vec<Candidate>> {
+    let search = Search {
+        min_delay: 0,
+        max_delay: 0,
+        fold_min,
+        fold_max: 2,
+        fold_rows: 1,
+        mean: 0,
+        sd: 1000,
+        snr: 200,
+        ..SEARCH
+    };
+    assert!(rt; search.in_range());
+    let engine = searched(alloc, observation, &search, 0, bytes, &[3]).ok()?;
+    let mut folds = Vec::new(alloc);
+    for candidate in engine.book().kept() {
+        if matches!(candidate, Candidate::Fold { .. }) {
+            folds.push(*candidate).ok()?;
+        }
+    }
+    Some(folds)
+}
+
+#[test]
+fn two_rows_are_folded_where_they_fit(rt: HostRuntime) -> Result<(), Fail> {
+    let Some(observed) = observation(rt.alloc(), TWO_CHANNELS) else {
+        return Err("an observation".into());
+    };
+    let wanted = [(0, 0, 4), (0, 1, 6), (1, 0, 5), (1, 1, 5)].map(|(
+        trial,
+        phase,
+        sum,
+    )| Candidate::Fold {
+        delay: 0,
+        period: 2,
+        halvings: 1,
+        trial,
+        phase,
+        sum,
+    });
+    let cases: [(u32, &[u8], usize); 3] = [
+        (2, &[1, 0, 2, 0, 3, 0, 4, 0], 4),
+        (2, &[1, 0, 2, 0, 3, 0, 4], 0),
+        (3, &[1, 0, 2, 0, 3, 0, 4, 0], 0),
+    ];
+    for (fold_min, bytes, count) in cases {
+        let folds = folds_of(&rt, rt.alloc(), &observed, fold_min, bytes);
+        let Some(folds) = folds else {
+            return Err("an engine".into());
+        };
+        assert!(rt; folds.as_slice() == &wanted[..count], "{}", bytes.len());
+    }
+    Ok(())
+}
