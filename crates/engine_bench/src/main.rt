@@ -1,6 +1,7 @@
 //! Searches spectra of 1024 channels that look like noise, delays of 0 to 1024, on one thread. With the words SPECTRA
-//! WIDEST PERIODS it searches so many spectra, with boxes of up to WIDEST path sums and folds of the periods from 2 up
-//! to PERIODS, and prints the time; with none, 256 spectra, with the samples alone and no folds.
+//! WIDEST PERIODS CHUNK it searches so many spectra, with boxes of up to WIDEST path sums and folds of the periods from
+//! 2 up to PERIODS, in chunks of up to CHUNK, and prints the time; with none, 256 spectra, with the samples alone and no
+//! folds.
 #![tactic(auto)]
 
 ghost use Rattle.std.specs.Prelude.{◌≡◌, ◌≤◌, ◌^◌, false, length, IfOk, vec_len};
@@ -56,7 +57,7 @@ fn observation(alloc: Global) -> Option<Observation> {
     Observation::of(alloc, &header).ok()
 }
 
-fn settings(widest: u32, periods: u32) -> Search {
+fn settings(widest: u32, periods: u32, chunk: u32) -> Search {
     Search {
         min_delay: 0,
         max_delay: 1024,
@@ -65,7 +66,7 @@ fn settings(widest: u32, periods: u32) -> Search {
         fold_max: periods,
         fold_rows: 5,
         fold_step: 17,
-        chunk: 512,
+        chunk,
         shards: 1,
         max_candidates: 1000000,
         mean: 16500,
@@ -116,6 +117,7 @@ fn main(rt: HostRuntime) -> io::Result<()> {
     let wanted = settings(
         number(words.as_slice(), 1, 1),
         number(words.as_slice(), 2, 0),
+        number(words.as_slice(), 3, 256),
     );
     let start = Instant::now(&rt)?;
     if !wanted.in_range() || spectra > 1 << 22 {

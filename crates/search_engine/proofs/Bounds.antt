@@ -9,7 +9,8 @@ use Rattle.search_model.specs.declared.search.Search.{Search}
 use Rattle.search_model.specs.Samples.{Filterbank}
 use Rattle.search_model.specs.SubbandLaws.{SumsAreBounded}
 use Rattle.search_model.specs.Sums.{path_sum}
-use Rattle.search_engine.specs.Sums.{sum_bound, sums_of, IsRowOf}
+use Rattle.search_engine.specs.Pulses.{IsRowOf}
+use Rattle.search_engine.specs.Sums.{sum_bound, sums_of}
 
 pub sum_is_small : SumsAreBounded → (c : Carrying) (s : Search) (f : Filterbank) (u d : ℕ) →
     AreEdges (channels_of c.tables.plan.edges) c.tables.plan.edges → StandsForSamples c f → d ≤ s.max_delay →

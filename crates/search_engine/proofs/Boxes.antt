@@ -1,8 +1,9 @@
 -- Boxes over the sums of a stream, and which of them are detected.
-use Rattle.std.proofs.Common.{◌≡◌, ℕ, ◌+◌, ◌-◌, ◌*◌, ◌<◌, ◌≤◌, ◌^◌, Bool, true, false, cond, IsTrue, List, [], ◌∷◌, Option, Some, None, length, slice_index, nat_le, slice_get, get_or, sym, ◌∙◌, ap, subst, arith, refl}
+use Rattle.std.proofs.Common.{◌≡◌, ℕ, ◌+◌, ◌-◌, ◌*◌, ◌<◌, ◌≤◌, ◌^◌, Bool, true, false, cond, IsTrue, List, [], ◌∷◌, zero, suc, Option, Some, None, length, slice_index, nat_le, slice_get, get_or, sym, ◌∙◌, ap, subst, arith, refl}
+use Rattle.std.proofs.lemmas.Bool.{false≢true, le-leb}
 use Rattle.std.proofs.lemmas.List.FromFn.{length-map-range_with_len, get_or-map-range_with_len}
 use Rattle.std.proofs.lemmas.Option.{slice_get-get_or}
-use Rattle.box_sums.specs.Rows.{SumsAddValues, sum_ending, value_before}
+use Rattle.box_sums.specs.Rows.{IsWidth, SumsAddValues, sum_ending, value_before}
 use Rattle.detect_rule.specs.Noise.{StandOutFrom}
 use Rattle.search_model.specs.declared.search.Search.{Search}
 use Rattle.search_model.specs.declared.candidate.Candidate.TheVariants.{Pulse}
@@ -13,7 +14,7 @@ use Rattle.search_engine.specs.declared.thresholds.BoxThresholds.{BoxThresholds}
 use Rattle.search_engine.specs.Judging.{noise_of}
 use Rattle.search_engine.specs.Thresholds.{AreThresholds}
 use Rattle.search_engine.specs.Pulses.{first_sums, box_of, pulse_of}
-use Rattle.search_engine.proofs.Terms.{same_terms}
+use Rattle.search_engine.proofs.Terms.{one_term, same_terms}
 
 pub not_true : (b : Bool) → ¬ IsTrue b → b ≡ false
 not_true true no_way = absurd (no_way refl)
@@ -34,6 +35,21 @@ box_is adds y d m u w lt =
     adds (first_sums y d m) u w (omega arith)
     ∙ same_terms (λ i. value_before (first_sums y d m) u i) (λ i. cond (nat_le i u) (y d (u - i)) 0) w
     (λ i below. value_is y d m u i (nat_le i u) lt)
+
+width_one : (w : ℕ) → IsWidth w → w < 2 → w ≡ 1
+width_one zero is lt = absurd (false≢true is)
+width_one (suc zero) is lt = refl
+width_one (suc (suc w)) is lt = absurd (omega arith)
+
+sum_of_one : (y : ℕ → ℕ → ℕ) (d u : ℕ) → box_of y d u 1 ≡ y d u
+unfolding box_of
+sum_of_one y d u =
+    one_term (λ k. cond (nat_le k u) (y d (u - k)) 0)
+    ∙ ap (λ b. cond b (y d (u - 0)) 0) (le-leb 0 u (omega arith)) ∙ ap (y d) (let e : u - 0 ≡ u = omega arith in e)
+
+-- a box of one sum is the sum
+pub box_of_one : (y : ℕ → ℕ → ℕ) (d u w : ℕ) → IsWidth w → w < 2 → box_of y d u w ≡ y d u
+box_of_one y d u w is lt = ap (λ v. box_of y d u v) (width_one w is lt) ∙ sum_of_one y d u
 
 -- ---- detection
 
@@ -61,18 +77,12 @@ is_silent s cells sum (Some x) fits out below = λ is.
     let reached = (out sum fits).0 is in let short = below x refl in absurd (omega arith)
 is_silent s cells sum None fits out below = out sum fits
 
--- a row whose greatest value is below the least sum has no pulse
-pub quiet_row : SumsAddValues → TestsDetection → (y : ℕ → ℕ → ℕ) (s : Search) (n d w m lf k most : ℕ) (row : List ℕ)
-    (least : Option ℕ) → StandOutFrom (noise_of s) (w * (n + d)) least →
-    slice_index row k ≡ sum_ending (first_sums y d (m + lf)) (length (first_sums y d (m + lf)) - lf + k) w → k < lf →
-    slice_index row k ≤ most → most < 2 ^ 32 → ((x : ℕ) → least ≡ Some x → most < x) →
-    pulse_of y s n (m + k) d w ≡ []
-quiet_row adds tests y s n d w m lf k most row least out is inside bound fits below =
-    let long = length-map-range_with_len (y d) 0 (m + lf) in
-    let place : length (first_sums y d (m + lf)) - lf + k ≡ m + k = omega arith in
-    let value : slice_index row k ≡ box_of y d (m + k) w =
-    is ∙ ap (λ u. sum_ending (first_sums y d (m + lf)) u w) place ∙ box_is adds y d (m + lf) (m + k) w (omega arith) in
-    no_pulse tests y s n (m + k) d w (is_silent s (w * (n + d)) (box_of y d (m + k) w) least (omega arith) out
+-- a box that is at most a value below the least sum is no pulse
+pub quiet_box : TestsDetection → (y : ℕ → ℕ → ℕ) (s : Search) (n u d w most : ℕ) (least : Option ℕ) →
+    StandOutFrom (noise_of s) (w * (n + d)) least → box_of y d u w ≤ most → most < 2 ^ 32 →
+    ((x : ℕ) → least ≡ Some x → most < x) → pulse_of y s n u d w ≡ []
+quiet_box tests y s n u d w most least out bound fits below =
+    no_pulse tests y s n u d w (is_silent s (w * (n + d)) (box_of y d u w) least (omega arith) out
     (λ x e. let short = below x e in omega arith))
 
 -- the least sum of a delay

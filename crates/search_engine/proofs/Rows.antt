@@ -5,13 +5,12 @@ use Rattle.std.proofs.lemmas.Bool.{cases_lt}
 use Rattle.std.proofs.lemmas.List.{get_or_append_left, get_or-append_right, get_or-drop}
 use Rattle.std.proofs.lemmas.List.FromFn.{length-map-range_with_len, get_or-map-range_with_len}
 use Rattle.std.proofs.lemmas.Grind.{same_number_lists}
-use Rattle.box_sums.specs.Tails.{StandsForRow}
 use Rattle.search_model.specs.declared.search.Search.{Search}
 use Rattle.search_engine.specs.FoldSearch.{Fronts, HasDelay, FoldsAlike, KeepsFrontOf}
 use Rattle.search_engine.specs.Thresholds.{pulses_of_hits}
-use Rattle.search_engine.specs.PulseSearch.{PulseState, SearchesDelay, SearchAlike}
-use Rattle.search_engine.specs.Pulses.{first_sums, pulses_of_delay, pulses_of_end}
-use Rattle.search_engine.specs.Sums.{sums_from_delay, IsRowOf, HaveTaken}
+use Rattle.search_engine.specs.PulseSearch.{PulseState, SearchesDelay, SearchAlike, HasFed, HadLast, IsTaken}
+use Rattle.search_engine.specs.Pulses.{first_sums, IsRowOf, pulses_of_delay, pulses_of_end}
+use Rattle.search_engine.specs.Sums.{sums_from_delay, HaveTaken}
 use Rattle.search_engine.proofs.Ranges.{flat_more}
 
 -- a list of more values of a sequence
@@ -55,15 +54,15 @@ later_sums_more y d m row is =
 pub taken_more : (y : ℕ → ℕ → ℕ) (p p' : PulseState) (g g' : Fronts) (m d : ℕ) (row part : List ℕ) →
     SearchAlike p' p → FoldsAlike g' g → SearchesDelay p d → HasDelay g d → part ≡ drop (d - m) row →
     IsRowOf y d m row →
-    ((xs : List ℕ) → StandsForRow p.boxes d xs → StandsForRow p'.boxes d (xs ++ row)) →
-    ((e : ℕ) (xs : List ℕ) → SearchesDelay p e → e ≢ d → StandsForRow p.boxes e xs → StandsForRow p'.boxes e xs) →
+    HadLast p'.boxes d (length row) → ((xs : List ℕ) → HasFed p.boxes d xs → HasFed p'.boxes d (xs ++ row)) →
+    ((e : ℕ) (xs : List ℕ) → SearchesDelay p e → e ≢ d → HasFed p.boxes e xs → HasFed p'.boxes e xs) →
     ((xs : List ℕ) → KeepsFrontOf g d xs → KeepsFrontOf g' d (xs ++ part)) →
     ((e : ℕ) (xs : List ℕ) → HasDelay g e → e ≢ d → KeepsFrontOf g e xs → KeepsFrontOf g' e xs) →
-    ((k : ℕ) → StandsForRow p'.boxes d (first_sums y d (m + length row)) → k < length row →
+    ((k : ℕ) → IsTaken y p'.boxes d m row → k < length row →
     pulses_of_hits y p.search p.channels (m + k) p'.hits
     ≡ pulses_of_hits y p.search p.channels (m + k) p.hits ++ pulses_of_delay y p.search p.channels (m + k) d) →
     HaveTaken y p g m (length row) d → HaveTaken y p' g' m (length row) (d + 1)
-taken_more y p p' g g' m d row part alike same has fold is_part is own others fown fothers hits before =
+taken_more y p p' g g' m d row part alike same has fold is_part is last own others fown fothers hits before =
     let n = length row in
     let first = alike.first_is in
     let end = alike.end_is in
@@ -81,8 +80,8 @@ taken_more y p p' g g' m d row part alike same has fold is_part is own others fo
       below = (let b =
           h.below in omega (arith, b, fend));
     } in
-    let mine : StandsForRow p'.boxes d (first_sums y d (m + n)) =
-    subst (StandsForRow p'.boxes d) (sums_more y d m row is)
+    let mine : HasFed p'.boxes d (first_sums y d (m + n)) =
+    subst (HasFed p'.boxes d) (sums_more y d m row is)
     (own (first_sums y d m) (before.rows_from d has (omega arith))) in
     let my_fold : KeepsFrontOf g' d (sums_from_delay y d (m + n)) =
     subst (KeepsFrontOf g' d) (ap (λ xs. sums_from_delay y d m ++ xs) is_part ∙ later_sums_more y d m row is)
@@ -92,7 +91,7 @@ taken_more y p p' g g' m d row part alike same has fold is_part is own others fo
         | inl lower ↦ others e (first_sums y e (m + n)) (old e h) (λ q. absurd (omega arith))
             (before.rows_below e (old e h) lower)
         | inr at ↦ let q : d ≡ e = omega arith in
-            subst (λ i. StandsForRow p'.boxes i (first_sums y i (m + n))) q mine
+            subst (λ i. HasFed p'.boxes i (first_sums y i (m + n))) q mine
       ];
       rows_from = λ e h from. others e (first_sums y e m) (old e h) (λ q. absurd (omega arith))
           (before.rows_from e (old e h) (omega arith));
@@ -109,7 +108,7 @@ taken_more y p p' g g' m d row part alike same has fold is_part is own others fo
           let above = has.above in
           let all : pulses_of_hits y p.search p.channels u p'.hits
           ≡ pulses_of_end y p.search p.channels p.first (d + 1) u =
-          hits k mine below
+          hits k (record { values = is; fed = mine; last = last }) below
           ∙ ap (λ xs. xs ++ pulses_of_delay y p.search p.channels u d) (before.hits k below)
           ∙ sym (flat_more (λ i. pulses_of_delay y p.search p.channels u i) p.first (d - p.first) d (omega arith))
           ∙ ap (λ j. flat_map (λ i. pulses_of_delay y p.search p.channels u i) (range_with_len p.first j))

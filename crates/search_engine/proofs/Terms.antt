@@ -11,6 +11,9 @@ next_term f n =
     ∙ sum_by-map-range_with_len_more (λ x. x) f 0 n n (omega arith)
     ∙ ap (λ s. s + f n) (sum-map f (range_with_len 0 n))
 
+pub one_term : (f : ℕ → ℕ) → sum_by f (range_with_len 0 1) ≡ f 0
+one_term f = omega arith
+
 -- terms that are equal at each number
 pub same_terms : (f g : ℕ → ℕ) (n : ℕ) → ((i : ℕ) → i < n → f i ≡ g i) →
     sum_by f (range_with_len 0 n) ≡ sum_by g (range_with_len 0 n)

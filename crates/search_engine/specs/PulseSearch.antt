@@ -8,7 +8,7 @@ use Rattle.search_model.specs.Search.{SettingsInRange}
 use Rattle.search_engine.specs.declared.thresholds.Hit.{Hit}
 use Rattle.search_engine.specs.declared.thresholds.BoxThresholds.{BoxThresholds}
 use Rattle.search_engine.specs.Thresholds.{AreOfAllWidths, IsHit}
-use Rattle.search_engine.specs.Pulses.{first_sums}
+use Rattle.search_engine.specs.Pulses.{first_sums, IsRowOf}
 
 -- a search over n channels of the delays from `first` up to, but without, `end`; its boxes over the rows of these
 -- delays; and the rows of the last spectra in which a box is detected
@@ -55,13 +55,27 @@ pub record SearchesFor (p : PulseState) (s : Search) (n first end chunk bound : 
 abbrev pub SearchAlike : PulseState → PulseState → Type 0
 SearchAlike p q = SearchesFor p q.search q.channels q.first q.end q.boxes.chunk q.boxes.bound
 
+-- where boxes are wider than one sum, xs are the values that were fed of row d
+abbrev pub HasFed : RowTails → ℕ → List ℕ → Type 0
+HasFed b d xs = 1 < b.widest → StandsForRow b d xs
+
+-- and the last feed of row d had n values
+abbrev pub HadLast : RowTails → ℕ → ℕ → Type 0
+HadLast b d n = 1 < b.widest → last_feed b d ≡ n
+
+-- the row of delay d that was taken last has the sums of a stream that end at spectrum m and after it
+pub record IsTaken (y : ℕ → ℕ → ℕ) (b : RowTails) (d m : ℕ) (row : List ℕ) : Type 0 where
+  pub values : IsRowOf y d m row
+  pub fed : HasFed b d (first_sums y d (m + length row))
+  pub last : HadLast b d (length row)
+
 -- each row was fed with the sums of a stream that end at the first m spectra
 abbrev pub RowsStandFor : (ℕ → ℕ → ℕ) → PulseState → ℕ → Type 0
-RowsStandFor y p m = (d : ℕ) → SearchesDelay p d → StandsForRow p.boxes d (first_sums y d m)
+RowsStandFor y p m = (d : ℕ) → SearchesDelay p d → HasFed p.boxes d (first_sums y d m)
 
 -- the row of each delay below d had n values in its last feed
 abbrev pub AreFed : PulseState → ℕ → ℕ → Type 0
-AreFed p d n = (e : ℕ) → SearchesDelay p e → e < d → last_feed p.boxes e ≡ n
+AreFed p d n = (e : ℕ) → SearchesDelay p e → e < d → HadLast p.boxes e n
 
 -- thresholds can judge the boxes of a row
 pub record CanJudge (b : RowTails) (first d : ℕ) (thresholds : BoxThresholds) : Type 0 where

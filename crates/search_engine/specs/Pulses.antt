@@ -1,6 +1,6 @@
 -- The pulses of a stream of path sums, of which `y d u` is the one of delay d that ends at spectrum u.
 -- Source: this project's choice.
-use Rattle.std.specs.Prelude.{ℕ, ◌+◌, ◌-◌, List, [], map, sum_by, nat_le, if◌then◌else◌}
+use Rattle.std.specs.Prelude.{◌≡◌, ℕ, ◌+◌, ◌-◌, ◌<◌, List, [], map, length, slice_index, sum_by, nat_le, if◌then◌else◌}
 use Rattle.std.specs.List.{range_with_len, flat_map}
 use Rattle.search_model.specs.declared.candidate.Candidate.{Candidate}
 use Rattle.search_model.specs.declared.candidate.Candidate.TheVariants.{Pulse}
@@ -11,6 +11,10 @@ use Rattle.search_model.specs.Candidates.{if_detected, plain_cells}
 -- the path sums of delay d that end at the first m spectra
 abbrev pub first_sums : (ℕ → ℕ → ℕ) → ℕ → ℕ → List ℕ
 first_sums y d m = map (y d) (range_with_len 0 m)
+
+-- a row has the sums of delay d that end at spectrum m and after it
+abbrev pub IsRowOf : (ℕ → ℕ → ℕ) → ℕ → ℕ → List ℕ → Type 0
+IsRowOf y d m row = (k : ℕ) → k < length row → slice_index row k ≡ y d (m + k)
 
 -- the sum of the w path sums of delay d that end at u and before it, 0 before the first spectrum
 unfoldable pub box_of : (ℕ → ℕ → ℕ) → ℕ → ℕ → ℕ → ℕ

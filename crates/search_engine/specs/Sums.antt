@@ -12,11 +12,10 @@ use Rattle.search_model.specs.Candidates.{plain_cells, folds, within_delays}
 use Rattle.search_model.specs.Samples.{Filterbank}
 use Rattle.search_model.specs.Search.{SettingsInRange}
 use Rattle.search_model.specs.Sums.{path_sum}
-use Rattle.box_sums.specs.Tails.{StandsForRow}
 use Rattle.dada_model.specs.Edges.{AreEdges}
 use Rattle.search_engine.specs.FoldSearch.{Fronts, HasDelay, FoldsFor, KeepsFrontOf}
 use Rattle.search_engine.specs.Thresholds.{pulses_of_hits}
-use Rattle.search_engine.specs.PulseSearch.{PulseState, SearchesDelay, SearchesFor, RowsStandFor}
+use Rattle.search_engine.specs.PulseSearch.{PulseState, SearchesDelay, SearchesFor, HasFed, RowsStandFor}
 use Rattle.search_engine.specs.Pulses.{first_sums, pulses_of_end, pulses_of_ends}
 
 -- a carry over the delays of a shard, and the searches for pulses and for folds in its rows
@@ -37,6 +36,11 @@ sums_from_delay y d m = map (λ i. y d (d + i)) (range_with_len 0 (m - d))
 abbrev pub sum_bound : Carrying → Search → ℕ
 sum_bound c s = c.max_sample * (channels_of c.tables.plan.edges + s.max_delay)
 
+-- the carry has a row for each delay of the search
+pub record HasRows (c : Carrying) (p : PulseState) : Type 0 where
+  pub first : c.tables.plan.first ≤ p.first
+  pub last : p.end ≤ c.tables.plan.last + 1
+
 -- the parts search the same delays, over as many channels, in as large chunks
 pub record FitTogether (s : ShardState) : Type 0 where
   pub band : AreEdges (channels_of s.carry.tables.plan.edges) s.carry.tables.plan.edges
@@ -53,16 +57,12 @@ pub record FitTogether (s : ShardState) : Type 0 where
 -- The hits are those of these n spectra, for the delays below d.
 pub record HaveTaken (y : ℕ → ℕ → ℕ) (p : PulseState) (g : Fronts) (m n d : ℕ) : Type 0 where
   pub rows_below : (e : ℕ) → SearchesDelay p e → e < d
-      → StandsForRow p.boxes e (first_sums y e (m + n))
-  pub rows_from : (e : ℕ) → SearchesDelay p e → d ≤ e → StandsForRow p.boxes e (first_sums y e m)
+      → HasFed p.boxes e (first_sums y e (m + n))
+  pub rows_from : (e : ℕ) → SearchesDelay p e → d ≤ e → HasFed p.boxes e (first_sums y e m)
   pub folds_below : (e : ℕ) → HasDelay g e → e < d → KeepsFrontOf g e (sums_from_delay y e (m + n))
   pub folds_from : (e : ℕ) → HasDelay g e → d ≤ e → KeepsFrontOf g e (sums_from_delay y e m)
   pub hits : (k : ℕ) → k < n → pulses_of_hits y p.search p.channels (m + k) p.hits
       ≡ pulses_of_end y p.search p.channels p.first d (m + k)
-
--- a row has the sums of delay d that end at spectrum m and after it
-abbrev pub IsRowOf : (ℕ → ℕ → ℕ) → ℕ → ℕ → List ℕ → Type 0
-IsRowOf y d m row = (k : ℕ) → k < length row → slice_index row k ≡ y d (m + k)
 
 -- all parts were fed the first spectra of a stream
 pub record StandsForStream (s : ShardState) (f : Filterbank) : Type 0 where

@@ -1,17 +1,23 @@
 // The search for pulses in the path sums of a shard.
 ghost use Rattle.std.specs.Prelude.{◌≡◌, ◌≢◌, ℕ, ◌+◌, ◌-◌, ◌*◌, ◌^◌, ◌≤◌, ◌<◌, ◌++◌, [], All, List, IfOk, length, vec_len, vec_capacity, option_to_list, map};
 ghost use Rattle.std.specs.List.{flat_map, range_with_len};
-ghost use Rattle.box_sums.specs.Tails.{StandsForRow, last_feed};
+ghost use Rattle.box_sums.specs.Rows.{IsWidth};
+ghost use Rattle.box_sums.specs.Tails.{KeepsRow, AreAlike};
+ghost use Rattle.fdmt_carry.specs.Carrying.{StandsForSamples};
+ghost use Rattle.search_model.specs.Samples.{Filterbank};
+ghost use Rattle.subband_plan.specs.Nodes.{HasRow, root};
 ghost use Rattle.search_model.specs.Search.{SettingsInRange};
 ghost use Rattle.search_engine.specs.Judging.{Adds};
 ghost use Rattle.search_engine.specs.Thresholds.{IsHit, AreThresholds, pulses_of_hits, pulse_of_hit};
-ghost use Rattle.search_engine.specs.PulseSearch.{PulseState, PulsesAreSound, SearchesDelay, SearchesFor, SearchAlike, RowsStandFor, AreFed, CanJudge};
+ghost use Rattle.search_engine.specs.PulseSearch.{PulseState, PulsesAreSound, SearchesDelay, SearchesFor, SearchAlike, RowsStandFor, AreFed, CanJudge, HasFed, HadLast, IsTaken};
 ghost use Rattle.search_model.specs.declared.search.Search.{Search};
-ghost use Rattle.search_engine.specs.Pulses.{first_sums, pulse_of, pulses_of_delay};
+ghost use Rattle.search_engine.specs.Pulses.{first_sums, box_of, pulse_of, pulses_of_delay};
+ghost use Rattle.search_engine.specs.Sums.{HasRows, sums_of};
 
 use crate::thresholds::{BoxThresholds, Hit};
 use box_sums::Boxes;
 use candidate_book::Book;
+use fdmt_carry::Carry;
 use psr_base::Memory;
 use search_model::{Candidate, Search};
 use std::alloc::Global;
@@ -107,77 +113,89 @@ impl PulseSearch {
         requires room { length self.old.hits + 6 ≤ 6 * (self.old.end - self.old.first) }
         ensures alike { SearchAlike self.new self.old }
         ensures few { length self.new.hits ≤ length self.old.hits + 6 }
-        ensures count { last_feed self.new.boxes d ≡ length row.now }
-        ensures counts { (e : ℕ) → SearchesDelay self.old e → e ≢ d
-            → last_feed self.new.boxes e ≡ last_feed self.old.boxes e }
-        ensures own { (xs : List ℕ) → StandsForRow self.old.boxes d xs
-            → StandsForRow self.new.boxes d (xs ++ row.now) }
+        ensures count { HadLast self.new.boxes d (length row.now) }
+        ensures counts { (e n : ℕ) → SearchesDelay self.old e → e ≢ d
+            → HadLast self.old.boxes e n → HadLast self.new.boxes e n }
+        ensures own { (xs : List ℕ) → HasFed self.old.boxes d xs
+            → HasFed self.new.boxes d (xs ++ row.now) }
         ensures others { (e : ℕ) (xs : List ℕ) → SearchesDelay self.old e → e ≢ d
-            → StandsForRow self.old.boxes e xs → StandsForRow self.new.boxes e xs }
+            → HasFed self.old.boxes e xs → HasFed self.new.boxes e xs }
         ensures hits { (y : ℕ → ℕ → ℕ) (m k : ℕ)
-            → StandsForRow self.new.boxes d (first_sums y d (m + length row.now))
-            → k < length row.now
+            → IsTaken y self.new.boxes d m row.now → k < length row.now
             → pulses_of_hits y self.old.search self.old.channels (m + k) self.new.hits
             ≡ pulses_of_hits y self.old.search self.old.channels (m + k) self.old.hits
             ++ pulses_of_delay y self.old.search self.old.channels (m + k) d }
     {
-        self.boxes.feed_row(d, row);
+        feed_boxes(&mut self.boxes, self.search.widest, d, row);
         note_hits(
             &mut self.hits,
             self.by_width.as_slice(),
             &self.boxes,
+            row,
             self.first,
             d,
         );
     }
 
-    /// Adds the detected boxes of the hits that end at the last spectra, of which the first is `start`, to a book: by
-    /// end, then in the order in which the hits were noted.
-    pub(crate) fn report(&self, start: u64, spectra: u32, book: &mut Book)
-        requires fed { AreFed self.now self.now.end spectra }
+    /// Adds the detected boxes of the hits that end at the last spectra of a carry, of which the first is `start`, to a
+    /// book: by end, then in the order in which the hits were noted.
+    pub(crate) fn report(&self, carry: &Carry, start: u64, spectra: u32, book: &mut Book)
+        requires rows { HasRows carry.now self.now }
+        requires last { spectra ≡ carry.now.last }
+        requires start { start + spectra ≡ carry.now.fed }
+        requires fed { AreFed self.now self.now.end carry.now.last }
         requires early { start + spectra < 2 ^ 62 }
         requires room { book.old.count + spectra * length self.now.hits < 2 ^ 63 }
         ensures count { book.new.count ≤ book.old.count + spectra * length self.now.hits }
-        ensures pulses { (y : ℕ → ℕ → ℕ) → RowsStandFor y self.now (start + spectra)
+        ensures pulses { (f : Filterbank) → StandsForSamples carry.now f
+            → let y = sums_of f carry.now.tables.plan.edges in
+            RowsStandFor y self.now carry.now.fed
             → Adds book.old book.new (flat_map
             (λ u. pulses_of_hits y self.now.search self.now.channels u self.now.hits)
             (range_with_len start spectra)) }
     {
         for k in 0..spectra {
-            self.report_end(start, k, book);
+            self.report_end(carry, start, k, book);
         }
     }
 
     // Adds those that end at the k-th of these spectra.
-    fn report_end(&self, start: u64, k: u32, book: &mut Book)
-        requires fed { (e : ℕ) → SearchesDelay self.now e → k < last_feed self.now.boxes e }
+    fn report_end(&self, carry: &Carry, start: u64, k: u32, book: &mut Book)
+        requires rows { HasRows carry.now self.now }
+        requires spectrum { k < carry.now.last }
+        requires start { start + carry.now.last ≡ carry.now.fed }
+        requires fed { AreFed self.now self.now.end carry.now.last }
         requires early { start + k < 2 ^ 62 }
         requires room { book.old.count + length self.now.hits < 2 ^ 63 }
         ensures count { book.new.count ≤ book.old.count + length self.now.hits }
-        ensures pulses { (y : ℕ → ℕ → ℕ) (n : ℕ) → AreFed self.now self.now.end n
-            → RowsStandFor y self.now (start + n)
+        ensures pulses { (f : Filterbank) → StandsForSamples carry.now f
+            → let y = sums_of f carry.now.tables.plan.edges in
+            RowsStandFor y self.now carry.now.fed
             → Adds book.old book.new
             (pulses_of_hits y self.now.search self.now.channels (start + k) self.now.hits) }
     {
         for at in 0..self.hits.len() {
             let hit = self.hits[at];
-            self.report_hit(&hit, start, k, book);
+            self.report_hit(carry, &hit, start, k, book);
         }
     }
 
     // Adds the box of a hit, if it begins at the delay or later and is detected.
-    fn report_hit(&self, hit: &Hit, start: u64, k: u32, book: &mut Book)
+    fn report_hit(&self, carry: &Carry, hit: &Hit, start: u64, k: u32, book: &mut Book)
         requires hit { IsHit self.now.search self.now.channels self.now.first self.now.end hit.now }
-        requires fed { k < last_feed self.now.boxes hit.now.delay }
+        requires rows { HasRows carry.now self.now }
+        requires spectrum { k < carry.now.last }
+        requires start { start + carry.now.last ≡ carry.now.fed }
+        requires fed { HadLast self.now.boxes hit.now.delay carry.now.last }
         requires early { start + k < 2 ^ 62 }
         requires room { book.old.count < 2 ^ 63 }
         ensures count { book.new.count ≤ book.old.count + 1 }
-        ensures pulse { (y : ℕ → ℕ → ℕ) (n : ℕ) → last_feed self.now.boxes hit.now.delay ≡ n
-            → StandsForRow self.now.boxes hit.now.delay (first_sums y hit.now.delay (start + n))
+        ensures pulse { (f : Filterbank) → StandsForSamples carry.now f
+            → let y = sums_of f carry.now.tables.plan.edges in
+            HasFed self.now.boxes hit.now.delay (first_sums y hit.now.delay carry.now.fed)
             → Adds book.old book.new
             (pulse_of_hit y self.now.search self.now.channels (start + k) hit.now) }
     {
-        sums_add_values();
         tests_detection();
         let Hit {
             delay,
@@ -188,7 +206,7 @@ impl PulseSearch {
         if u64::from(delay) + u64::from(width) > end + 1 {
             return;
         }
-        let sum = self.boxes.sum(delay, k, width);
+        let sum = box_at(&self.boxes, carry, delay, k, width);
         if sum >= least {
             book.add(Candidate::Pulse {
                 end,
@@ -200,10 +218,57 @@ impl PulseSearch {
     }
 }
 
-// Notes the widths at which a box over row `d`, which was fed last, is detected.
-fn note_hits(hits: &mut Vec<Hit>, by_width: &[BoxThresholds], boxes: &Boxes, first: u32, d: u32)
+// Feeds the boxes with the next sums of row `d`, where they are wider than one sum.
+fn feed_boxes(boxes: &mut Boxes, widest: u32, d: u32, row: &[u32])
+    requires widest { widest ≡ boxes.old.widest }
+    requires row { KeepsRow boxes.old d }
+    requires short { length row.now ≤ boxes.old.chunk }
+    requires small { All (λ x. x ≤ boxes.old.bound) row.now }
+    ensures alike { AreAlike boxes.new boxes.old }
+    ensures newest { 1 < boxes.new.widest → d ≡ boxes.new.newest }
+    ensures count { HadLast boxes.new d (length row.now) }
+    ensures counts { (e n : ℕ) → KeepsRow boxes.old e → e ≢ d
+        → HadLast boxes.old e n → HadLast boxes.new e n }
+    ensures own { (xs : List ℕ) → HasFed boxes.old d xs → HasFed boxes.new d (xs ++ row.now) }
+    ensures others { (e : ℕ) (xs : List ℕ) → KeepsRow boxes.old e → e ≢ d
+        → HasFed boxes.old e xs → HasFed boxes.new e xs }
+{
+    if widest > 1 {
+        boxes.feed_row(d, row);
+    }
+}
+
+// The box of a width that ends at the k-th of the last spectra of a carry. One of one sum is the sum.
+fn box_at(boxes: &Boxes, carry: &Carry, d: u32, k: u32, width: u32) -> u32
+    requires row { HasRow (root carry.now.tables.plan) d }
+    requires keeps { KeepsRow boxes.now d }
+    requires spectrum { k < carry.now.last }
+    requires fed { HadLast boxes.now d carry.now.last }
+    requires width { IsWidth width }
+    requires narrow { width ≤ boxes.now.widest }
+    ensures { (f : Filterbank) → StandsForSamples carry.now f
+        → let y = sums_of f carry.now.tables.plan.edges in
+        HasFed boxes.now d (first_sums y d carry.now.fed)
+        → result ≡ box_of y d (carry.now.fed - carry.now.last + k) width }
+{
+    if width < 2 {
+        return carry.sum(d, k);
+    }
+    sums_add_values();
+    boxes.sum(d, k, width)
+}
+
+// Notes the widths at which a box over row `d`, which was taken last, is detected.
+fn note_hits(
+    hits: &mut Vec<Hit>,
+    by_width: &[BoxThresholds],
+    boxes: &Boxes,
+    row: &[u32],
+    first: u32,
+    d: u32,
+)
     requires above { first ≤ d }
-    requires newest { d ≡ boxes.now.newest }
+    requires newest { 1 < boxes.now.widest → d ≡ boxes.now.newest }
     requires by_width { All (CanJudge boxes.now first d) by_width.now }
     requires room { vec_len hits.old + length by_width.now ≤ vec_capacity hits.old }
     ensures capacity { vec_capacity hits.new ≡ vec_capacity hits.old }
@@ -212,14 +277,13 @@ fn note_hits(hits: &mut Vec<Hit>, by_width: &[BoxThresholds], boxes: &Boxes, fir
         → All (IsHit s n first end) hits.old.items → All (IsHit s n first end) hits.new.items }
     ensures pulses { (s : Search) (n end m k : ℕ) (y : ℕ → ℕ → ℕ)
         → All (AreThresholds s n first end) by_width.now
-        → StandsForRow boxes.now d (first_sums y d (m + last_feed boxes.now d))
-        → k < last_feed boxes.now d
+        → IsTaken y boxes.now d m row.now → k < length row.now
         → pulses_of_hits y s n (m + k) hits.new.items
         ≡ pulses_of_hits y s n (m + k) hits.old.items
         ++ flat_map (λ thresholds. pulse_of y s n (m + k) d thresholds.width) by_width.now }
 {
     for thresholds in by_width {
-        note(hits, thresholds.hit(boxes, first, d));
+        note(hits, thresholds.hit(boxes, row, first, d));
     }
 }
 

@@ -10,7 +10,8 @@ ghost use Rattle.search_engine.specs.Counts.{most_pulses_at_end, most_folds};
 ghost use Rattle.search_engine.specs.FoldSearch.{IsDelayRange, FoldsFit, HasDelay, FoldsAlike};
 ghost use Rattle.search_engine.specs.Judging.{Adds};
 ghost use Rattle.search_engine.specs.PulseSearch.{SearchesDelay, SearchAlike, AreFed};
-ghost use Rattle.search_engine.specs.Sums.{ShardState, FitTogether, StandsForStream, HasStream, ContinuesStream, HaveTaken, IsRowOf, SumsAlike, sums_of, pulses_of_plan, folds_of_plan};
+ghost use Rattle.search_engine.specs.Pulses.{IsRowOf};
+ghost use Rattle.search_engine.specs.Sums.{ShardState, FitTogether, StandsForStream, HasStream, ContinuesStream, HaveTaken, SumsAlike, sums_of, pulses_of_plan, folds_of_plan};
 
 use crate::fold_search::FoldSearch;
 use crate::pulse_search::PulseSearch;
@@ -125,7 +126,7 @@ impl ShardSearch {
             self.first,
             self.end,
         );
-        self.pulses.report(start, spectra, book);
+        self.pulses.report(&self.carry, start, spectra, book);
     }
 
     /// Adds the folds of all that was taken to a book.

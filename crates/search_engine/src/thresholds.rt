@@ -1,10 +1,10 @@
 // The least detected sums of boxes.
 ghost use Rattle.std.specs.Prelude.{◌≡◌, ℕ, ◌+◌, ◌-◌, ◌*◌, ◌≤◌, ◌<◌, All, IfOk, IfSome, length, option_to_list};
-ghost use Rattle.box_sums.specs.Tails.{StandsForRow, last_feed};
 ghost use Rattle.box_sums.specs.Rows.{IsWidth};
 ghost use Rattle.search_model.specs.declared.search.Search.{Search};
 ghost use Rattle.search_model.specs.Search.{SettingsInRange};
-ghost use Rattle.search_engine.specs.Pulses.{first_sums, pulse_of};
+ghost use Rattle.search_engine.specs.PulseSearch.{IsTaken};
+ghost use Rattle.search_engine.specs.Pulses.{box_of, pulse_of};
 
 use box_sums::Boxes;
 use detect_rule::Rule;
@@ -95,26 +95,23 @@ impl BoxThresholds {
         Ok(BoxThresholds { width, least_sums })
     }
 
-    /// The row of delay `d`, which was fed last, if one of the spectra of its last feed ends a detected box of this
-    /// width.
-    pub(crate) fn hit(&self, boxes: &Boxes, first: u32, d: u32) -> Option<Hit>
+    /// The row of delay `d`, which was taken last, if one of its sums ends a detected box of this width.
+    pub(crate) fn hit(&self, boxes: &Boxes, row: &[u32], first: u32, d: u32) -> Option<Hit>
         requires above { first ≤ d }
         requires below { d < first + length self.now.least_sums.items }
-        requires newest { d ≡ boxes.now.newest }
+        requires newest { 1 < boxes.now.widest → d ≡ boxes.now.newest }
         requires width { IsWidth self.now.width }
         requires narrow { self.now.width ≤ boxes.now.widest }
         ensures hit { (s : Search) (n end : ℕ) → AreThresholds s n first end self.now
             → IfSome result (IsHit s n first end) }
         ensures pulses { (s : Search) (n end m k : ℕ) (y : ℕ → ℕ → ℕ)
             → AreThresholds s n first end self.now
-            → StandsForRow boxes.now d (first_sums y d (m + last_feed boxes.now d))
-            → k < last_feed boxes.now d
+            → IsTaken y boxes.now d m row.now → k < length row.now
             → pulses_of_hits y s n (m + k) (option_to_list result)
             ≡ pulse_of y s n (m + k) d self.now.width }
     {
-        sums_add_values();
         tests_detection();
-        let most = greatest(boxes.row(d, self.width));
+        let most = greatest_box(boxes, row, d, self.width);
         let least = self.least_sums[(d - first) as usize]?;
         if most >= least {
             Some(Hit {
@@ -126,4 +123,19 @@ impl BoxThresholds {
             None
         }
     }
+}
+
+// The greatest box of a width that ends at one of the sums of row `d`, which was taken last. A box of one sum is the sum.
+fn greatest_box(boxes: &Boxes, row: &[u32], d: u32, width: u32) -> u32
+    requires newest { 1 < boxes.now.widest → d ≡ boxes.now.newest }
+    requires width { IsWidth width }
+    requires narrow { width ≤ boxes.now.widest }
+    ensures { (y : ℕ → ℕ → ℕ) (m k : ℕ) → IsTaken y boxes.now d m row.now → k < length row.now
+        → box_of y d (m + k) width ≤ result }
+{
+    if width < 2 {
+        return greatest(row);
+    }
+    sums_add_values();
+    greatest(boxes.row(d, width))
 }

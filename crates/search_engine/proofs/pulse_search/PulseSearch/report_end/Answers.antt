@@ -6,6 +6,7 @@ use Rattle.search_engine.specs.declared.thresholds.Hit.{Hit}
 use Rattle.search_engine.specs.Judging.{Adds}
 use Rattle.search_engine.specs.Thresholds.{IsHit, pulses_of_hits, pulse_of_hit}
 use Rattle.search_engine.specs.PulseSearch.{PulseState, SearchesDelay}
+use Rattle.search_engine.specs.Sums.{sums_of}
 use Rattle.search_engine.proofs.Adding.{adds_both, adds_same}
 use Rattle.search_engine.proofs.Pieces.{flat_take_more}
 use Rattle.search_engine.proofs.pulse_search.PulseSearch.report_end.Goals as goal
@@ -36,17 +37,19 @@ loop-at-preserved c =
     (All-get_or (IsHit f.search f.channels f.first f.end) f.hits.items at hit within c.self.invariant.hits) in
     record {
       count = let more = c.report_hit.ensures.count in let few = before.count in omega (arith, more, few);
-      pulses = λ y n fed stands.
+      pulses = λ f2 carried stands.
+          let y = sums_of f2 c.args.carry.now.tables.plan.edges in
           let u = c.args.start + c.args.k in
           let piece = λ (h : Hit). pulse_of_hit y s.search s.channels u h in
           let delay = own_delay f.search f.channels f.first f.end s hit first end hit_is in
           adds_same c.args.book.now c.report_hit.new.book _ _ (sym (flat_take_more piece s.hits at hit inside is))
-          (adds_both c.args.book.now c.loop-at.book c.report_hit.new.book _ _ (before.pulses y n fed stands)
-          (c.report_hit.ensures.pulse y n (fed hit.delay delay delay.below) (stands hit.delay delay)));
+          (adds_both c.args.book.now c.loop-at.book c.report_hit.new.book _ _ (before.pulses f2 carried stands)
+          (c.report_hit.ensures.pulse f2 carried (stands hit.delay delay)));
     }
 
 pub returns-clause-pulses : goal.returns-clause-pulses
-returns-clause-pulses c = λ y n fed stands.
+returns-clause-pulses c = λ f2 carried stands.
+    let y = sums_of f2 c.args.carry.now.tables.plan.edges in
     let s = c.args.self.now in
     let f = c.self.inside in
     let past = c.loop-at-test.false in
@@ -55,4 +58,4 @@ returns-clause-pulses c = λ y n fed stands.
     let count = c.len-at-end.ensures in
     subst (λ (xs : List Hit). Adds c.args.book.now c.loop-at.book
     (pulses_of_hits y s.search s.channels (c.args.start + c.args.k) xs))
-    (take_all c.loop-at.at s.hits (omega arith)) (c.loop-at.invariant.pulses y n fed stands)
+    (take_all c.loop-at.at s.hits (omega arith)) (c.loop-at.invariant.pulses f2 carried stands)

@@ -1,10 +1,10 @@
 use Rattle.std.proofs.Common.{◌≡◌, ◌+◌, ◌++◌, All, List, length, vec_len, sym, ◌∙◌, ap, subst, arith, rules}
 use Rattle.std.specs.List.{flat_map}
-use Rattle.box_sums.specs.Tails.{StandsForRow}
+use Rattle.box_sums.specs.Tails.{KeepsRow}
 use Rattle.search_engine.specs.declared.thresholds.BoxThresholds.{BoxThresholds}
 use Rattle.search_engine.specs.Thresholds.{AreThresholds, pulses_of_hits}
-use Rattle.search_engine.specs.PulseSearch.{PulseState}
-use Rattle.search_engine.specs.Pulses.{first_sums, pulse_of, pulses_of_delay}
+use Rattle.search_engine.specs.PulseSearch.{PulseState, SearchesDelay, HadLast}
+use Rattle.search_engine.specs.Pulses.{pulse_of, pulses_of_delay}
 use Rattle.search_engine.proofs.WidthCounts.{widths_few, pulses_by_width}
 use Rattle.search_engine.proofs.pulse_search.PulseSearch.take.Goals as goal
 
@@ -34,7 +34,7 @@ pub invariant_of-self : goal.invariant_of-self
 invariant_of-self c =
     let f = c.self.inside in
     let i = c.self.invariant in
-    let alike = c.feed_row.ensures.alike in
+    let alike = c.feed_boxes.ensures.alike in
     record {
       range = i.range;
       few_channels = i.few_channels;
@@ -50,21 +50,34 @@ invariant_of-self c =
       room = let same = c.note_hits.ensures.capacity in let room = i.room in omega (arith, same, room);
     }
 
+pub returns-clause-counts : goal.returns-clause-counts
+returns-clause-counts c = λ e n h apart last.
+    let f = c.self.inside in
+    let i = c.self.invariant in
+    let S : PulseState → Type 0 = λ p. SearchesDelay p e in
+    let P : PulseState → Type 0 = λ p. HadLast p.boxes e n in
+    let delay = subst S (sym c.self.view_is) h in
+    let first = i.boxes.first_row in
+    let end = i.boxes.last_row in
+    let keeps : KeepsRow f.boxes e = record {
+      above = (let above = delay.above in omega (arith, above, first));
+      below = (let below = delay.below in omega (arith, below, end));
+    } in
+    c.feed_boxes.ensures.counts e n keeps apart (subst P (sym c.self.view_is) last)
+
 pub returns-clause-hits : goal.returns-clause-hits
-returns-clause-hits c = λ y m k stands below.
+returns-clause-hits c = λ y m k taken below.
     let f = c.self.inside in
     let i = c.self.invariant in
     let d = c.args.d in
     let new = c.note_hits.new.hits.items in
-    let fed = c.feed_row.ensures.count in
     let P : PulseState → Type 0 = λ p. pulses_of_hits y p.search p.channels (m + k) new
     ≡ pulses_of_hits y p.search p.channels (m + k) p.hits ++ pulses_of_delay y p.search p.channels (m + k) d in
     let by_width = pulses_by_width y f.search f.channels f.first f.end (m + k) d f.by_width.items i.judges in
     subst P c.self.view_is
     (c.note_hits.ensures.pulses f.search f.channels f.end m k y
     (subst (All (AreThresholds f.search f.channels f.first f.end)) (sym c.as_slice.ensures.value) i.judges.each)
-    (subst (λ n. StandsForRow c.feed_row.new.self d (first_sums y d (m + n))) (sym fed) stands)
-    (omega (arith, fed, below))
+    taken below
     ∙ ap (λ (ls : List BoxThresholds). pulses_of_hits y f.search f.channels (m + k) f.hits.items
     ++ flat_map (λ (l : BoxThresholds). pulse_of y f.search f.channels (m + k) d l.width) ls) c.as_slice.ensures.value
     ∙ ap (λ xs. pulses_of_hits y f.search f.channels (m + k) f.hits.items ++ xs) by_width)

@@ -100,8 +100,8 @@ returns-clause-pulses c = λ f stands next.
     let y = sums_of f c.advance.new.carry.tables.plan.edges in
     let q = c.take_rows.new.pulses in
     let start = c.fed-start.result in
-    let rows = all_rows y q c.take_rows.new.folds start c.advance.new.carry.last i.end (start + c.args.spectra) have at
-    (ap (λ n. start + n) fed.last) in
+    let rows = all_rows y q c.take_rows.new.folds start c.advance.new.carry.last i.end c.advance.new.carry.fed have at
+    (let first = c.fed-start.ensures in let last = fed.last in let all = fed.fed in omega arith) in
     let R : ℕ → Type 0 = λ n. HaveTaken y q c.take_rows.new.folds start n i.end in
     let A : PulseState → Type 0 = λ p. SearchAlike q p in
     let alike = subst A c.begin.ensures c.take_rows.ensures.pulses in
@@ -118,4 +118,4 @@ returns-clause-pulses c = λ f stands next.
     ∙ plan_pulses f i.carry.tables.plan i.pulses i.carry.fed c.args.spectra fit.pulses.channels_is fit.pulses.first_is
     fit.pulses.end_is
     ∙ subst T c.self.view_is refl)
-    (c.report.ensures.pulses y rows)
+    (c.report.ensures.pulses f carried rows)
