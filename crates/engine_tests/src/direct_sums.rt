@@ -85,7 +85,12 @@ fn path_sum(samples: Samples<'_>, path: &[u32], d: u32, u: usize) -> u32 {
 }
 
 // The sums of delay `d` that end at each of so many spectra.
-fn sums_of(alloc: Global, samples: Samples<'_>, d: u32, spectra: usize) -> Result<Vec<u32>, Memory> {
+fn sums_of(
+    alloc: Global,
+    samples: Samples<'_>,
+    d: u32,
+    spectra: usize,
+) -> Result<Vec<u32>, Memory> {
     let path = path(alloc, samples, d)?;
     let mut row = Vec::new(alloc);
     for u in 0..spectra {
