@@ -1,0 +1,67 @@
+use Rattle.std.proofs.Common.{◌≡◌, ◌≢◌, ◌<◌, inl, inr, Some, None, length, slice_get, sym, ap, subst, ◌∙◌, arith}
+use Rattle.std.proofs.lemmas.Bool.{cases_lt}
+use Rattle.std.proofs.lemmas.List.{get_or_read}
+use Rattle.std.proofs.lemmas.Option.{slice_get_within}
+use Rattle.disk_feeder.specs.Feeder.{IsAcceptedAt, header_at}
+use Rattle.search_opening.proofs.Observed.{as_many, some_at, accepted_at}
+use Rattle.search_opening.proofs.accept.accept_all.Goals as goal
+
+pub unreachable-requires : goal.unreachable-requires
+unreachable-requires g c =
+    let headers = header_at c.args.feeder.now in
+    let observations = c.args.observations.now in
+    let o = some_at headers observations c.requires.observed c.loop-k.k c.loop-k-test.true in
+    let read = get_or_read observations c.loop-k.k c.index-observations-k.result c.loop-k-test.true
+    c.index-observations-k.is None in
+    c.in_default.not-Some o.0 (read ∙ o.1)
+
+pub accept-requires-clause-accepted : goal.accept-requires-clause-accepted
+accept-requires-clause-accepted g c = λ header there.
+    let observations = c.args.observations.now in
+    let read = get_or_read observations c.loop-k.k c.index-observations-k.result c.loop-k-test.true
+    c.index-observations-k.is None in
+    accepted_at (header_at c.args.feeder.now) observations c.requires.observed c.loop-k.k c.in-Some.observation header
+    (sym read ∙ c.in-Some.is)
+    (subst (λ hs. slice_get hs c.loop-k.k ≡ Some header) c.loop-k.invariant.headers there)
+
+pub loop-k-preserved : goal.loop-k-preserved
+loop-k-preserved g c =
+    let before = c.loop-k.invariant in
+    let now = c.accept.ensures in
+    record {
+      same_reference = now.same_reference ∙ before.same_reference;
+      inputs = now.inputs ∙ before.inputs;
+      plan = record {
+        names = now.plan.names ∙ before.plan.names;
+        starts = now.plan.starts ∙ before.plan.starts;
+        limit = now.plan.limit ∙ before.plan.limit;
+        size = now.plan.size ∙ before.plan.size;
+        headers = now.plan.headers ∙ before.plan.headers;
+      };
+      headers = now.headers ∙ before.headers;
+      begun = now.begun;
+      accepted = λ j header within there. elim (cases_lt j c.loop-k.k) [
+        | inl below ↦
+            let differs : j ≢ c.loop-k.k = λ same. omega (arith, below, same) in
+            now.accepts.others j header differs
+            (before.accepted j header below (subst (λ hs. slice_get hs j ≡ Some header) now.headers there))
+        | inr above ↦
+            let same : j ≡ c.loop-k.k = omega (arith, within, above) in
+            subst (λ i. IsAcceptedAt c.accept.new.self i header) (sym same)
+            (now.accepts.first header (subst (λ i. slice_get (header_at c.accept.new.self) i ≡ Some header) same there))
+      ];
+      reading = λ open_now. before.reading (now.reading open_now);
+      feeds = λ some all. now.feeds all;
+      faultless = λ some. now.faultless;
+      running = λ some. now.running;
+    }
+
+pub returns-clause-feeds : goal.returns-clause-feeds
+returns-clause-feeds g c =
+    let headers = header_at c.args.feeder.now in
+    let many = as_many headers c.args.observations.now c.requires.observed in
+    let same = ap length c.loop-k.invariant.headers in
+    let some : 0 < c.loop-k.k = omega (arith, c.requires.some, c.loop-k-test.false) in
+    c.loop-k.invariant.feeds some (λ j header there.
+    let within = slice_get_within (header_at c.loop-k.feeder) j header there in
+    c.loop-k.invariant.accepted j header (omega (arith, within, same, many, c.loop-k-test.false)) there)

@@ -1,0 +1,22 @@
+-- The plans of a search of all transfers, in order: they fit, or the first that does not.
+-- Source: this project's choice.
+use Rattle.std.specs.Prelude.{◌≡◌, ◌<◌, ℕ, List, Option, Some, None, All, IfSome, slice_get}
+use Rattle.dada_model.specs.Observation.{Observation}
+use Rattle.search_model.specs.declared.search.Search.{Search}
+use Rattle.search_model.specs.Plan.{plan_refusal}
+use Rattle.search_engine.specs.Plan.{IsRefusedFirst}
+use Rattle.search_engine.specs.declared.fault.PlanFault.{PlanFault}
+
+-- the search of each observation fits
+abbrev pub PlansFit : Search → List (Option Observation) → Type 0
+PlansFit s observations = All (λ at. IfSome at (λ o. plan_refusal o s ≡ None)) observations
+
+-- the search of the observation of some transfer is refused, and those before it fit
+pub record RefusesPlan (s : Search) (observations : List (Option Observation)) (fault : PlanFault) :
+    Type 0 where
+  pub transfer : ℕ
+  pub observation : Observation
+  pub there : slice_get observations transfer ≡ Some (Some observation)
+  pub cause : IsRefusedFirst (plan_refusal observation s) fault
+  pub earlier : (k : ℕ) (o : Observation) → k < transfer →
+      slice_get observations k ≡ Some (Some o) → plan_refusal o s ≡ None
