@@ -2,14 +2,16 @@
 use Rattle.std.proofs.Common.{◌≡◌, ℕ, ◌+◌, ◌-◌, ◌^◌, ◌≤◌, ◌<◌, length, arith, sym, ap, subst, ◌∙◌}
 use Rattle.std.proofs.Math.Nat.{mul-le-mul_right}
 use Rattle.band_paths.specs.Edges.{channels_of}
+use Rattle.search_model.specs.Laws.{SplitsFit}
 use Rattle.search_model.specs.Paths.{middle}
+use Rattle.search_model.specs.SubbandLaws.{SplitsStep}
 use Rattle.subband_plan.specs.declared.rows.Rows.{Rows}
 use Rattle.subband_plan.specs.Nodes.{BandPlan, IsPlan, HasKept, nodes_of, split_of}
 use Rattle.subband_plan.specs.NodeLaws.{PlansAreLaid}
 use Rattle.subband_plan.specs.Rows.{AreRows, merge_at, row_of}
 use Rattle.subband_plan.specs.RowLaws.{RowsAreNumbered, RowsAreFew, AreFew}
 use Rattle.fdmt_carry.specs.Tables.{Tables, AreTables, ArePlaced, IsRow, tables, node_of, node_count, all_rows, held_at, place_at, start_of, tail_of, row_number, next_of}
-use Rattle.fdmt_carry.specs.Making.{IsPair, IsSingle, IsMerge, IsRunOn, IsPart, AreParts, lower_of}
+use Rattle.fdmt_carry.specs.Making.{IsPair, IsSingle, IsWide, StepsAt, IsMerge, IsRunOn, IsPart, AreParts, lower_of}
 
 rows_placed : (t : Tables) → AreRows t.plan t.rows → AreFew t.rows → t.chunk ≤ 65536 → ArePlaced t (place_at t) t.chunk
 unfolding place_at
@@ -213,4 +215,37 @@ parts_known t is k pair =
       lower_end = omega arith;
       upper_part = part_known t is (k + 1) above;
       lower_part = part_known t is low below;
+    }
+
+-- how the delays of a node are split
+pub steps_known : SplitsFit → SplitsStep → (t : Tables) → AreTables t → (k : ℕ) → IsPair t k → (d : ℕ) → StepsAt t k d
+unfolding split_of
+steps_known fit steps t is k pair d =
+    let n = node_of t k in
+    let band = is.laid.band in
+    let within = (is.laid.each k pair.node).branch.within in
+    let two = pair.two in
+    let below = band.falls (middle n.lo n.hi) n.hi (omega arith) (omega arith) in
+    let above = band.falls n.lo (middle n.lo n.hi) (omega arith) (omega arith) in
+    let step = steps _ _ _ d below above in
+    record { part = fit.fits _ _ _ d below above; rises = step.rises; by_one = step.by_one }
+
+-- a node of four channels or more
+pub wide_known : (t : Tables) → AreTables t → (k : ℕ) → k < node_count t →
+    (node_of t k).lo + 4 ≤ (node_of t k).hi → IsWide t k
+wide_known t is k node four =
+    let n = node_of t k in
+    let pair : IsPair t k = record { node = node; two = omega arith } in
+    let parts = parts_known t is k pair in
+    let lays = is.laid.each k node in
+    let up = lays.upper pair.two in
+    let down = lays.lower pair.two in
+    let upper_lo : (node_of t (k + 1)).lo ≡ n.lo = ap (λ m. m.lo) up in
+    let upper_hi : (node_of t (k + 1)).hi ≡ middle n.lo n.hi = ap (λ m. m.hi) up in
+    let lower_lo : (node_of t (lower_of t k)).lo ≡ middle n.lo n.hi = ap (λ m. m.lo) down in
+    let lower_hi : (node_of t (lower_of t k)).hi ≡ n.hi = ap (λ m. m.hi) down in
+    record {
+      node = pair;
+      upper = record { node = parts.above; two = omega arith };
+      lower = record { node = parts.below; two = omega arith };
     }

@@ -8,3 +8,4 @@ pub mod Made
 pub mod Parts
 pub mod Reading
 pub mod Stands
+mod Wide

@@ -8,14 +8,49 @@ use Rattle.subband_plan.specs.declared.rows.Merge.{Merge}
 use Rattle.subband_plan.specs.Nodes.{split_of}
 use Rattle.fdmt_rows.specs.Rows.{wrapping_sum}
 use Rattle.fdmt_carry.specs.Values.{Begins, GoesOn, GoesOnWith, after}
-use Rattle.fdmt_carry.specs.Tables.{Tables, AreTables, IsRow, node_of, node_count, tail_of, row_number, start_of, held_at, place_at, place_of, hold_of, row_value}
-use Rattle.fdmt_carry.specs.Making.{IsPair, IsSingle, IsMerge, IsRunOn, ChannelHas, AreSamples, AreHalves, KeepsRow, RowStands, ChangesRow, lower_of}
+use Rattle.fdmt_carry.specs.Tables.{Tables, AreTables, IsRow, ListsRow, node_of, node_count, tail_of, row_number, start_of, held_at, place_at, place_of, hold_of, row_value}
+use Rattle.fdmt_carry.specs.Making.{IsPair, IsSingle, IsMerge, IsRunOn, ChannelHas, AreSamples, AreHalves, KeepsRow, HasRowAt, HasHalves, RowStandsAt, RowStands, ChangesRowAt, ChangesRow, lower_of}
 use Rattle.fdmt_carry.proofs.Known.{row_known}
 use Rattle.fdmt_carry.proofs.Law.{value_later, merged_value, channel_value, sample_value}
 use Rattle.fdmt_carry.proofs.Parts.{part_begins, put_listed, put_stays, parts_go_on}
 
--- A row and what is kept of it are written where they stand: what was kept begins the row, and it goes on with its
--- values.
+-- A row is written at a place, and what is kept of it where it stands: what was kept begins the row, and it goes on with
+-- its values.
+pub row_made_at : (t : Tables) (f : Filterbank) (u spectra k d at hold m n later : ℕ) (table kept row tail : List ℕ)
+    (Goes : (ℕ → ℕ) → Type 0) →
+    hold_of t k + hold ≡ held_at t (row_number t k d) →
+    m ≡ tail_of t (row_number t k d) + spectra → n ≡ tail_of t (row_number t k d) → later ≡ spectra →
+    at + m ≤ length table → hold + n ≤ length kept → length row ≡ m → length tail ≡ n →
+    ((g : ℕ → ℕ) → Begins g (take n (drop hold kept)) → Goes g → Begins g row) →
+    ((g : ℕ → ℕ) → Begins g (take n (drop hold kept)) → Goes g → Begins (after g later) tail) →
+    Goes (row_value t f u k d) → KeepsRow t f u k d kept →
+    RowStandsAt t f u spectra k d at (put_mid at m table row) (put_mid hold n kept tail)
+row_made_at t f u spectra k d at hold m n later table kept row tail Goes hold_is m_is n_is later_is in_table in_kept
+    row_size tail_size rows tails goes keeps =
+    let g : ℕ → ℕ = row_value t f u k d in
+    let r : ℕ = row_number t k d in
+    let begins : Begins g (take n (drop hold kept)) =
+    part_begins g (hold_of t k) (held_at t r) (tail_of t r + 0) hold n kept hold_is (omega arith) in_kept keeps in
+    record {
+      row = λ i p lt e.
+          put_listed g 0 at m at m table row (omega arith) (omega arith) in_table row_size (rows g begins goes) i p
+          (omega arith) (omega arith);
+      tail = λ i p lt e.
+          put_listed (after g later) (hold_of t k) (held_at t r) n hold n kept tail hold_is (omega arith) in_kept
+          tail_size (tails g begins goes) i p (omega arith) e
+          ∙ ap (λ s. g (s + i)) later_is
+          ∙ sym (value_later t f u spectra k d i);
+    }
+
+-- where it stands in the table of the node
+pub row_placed : (t : Tables) (f : Filterbank) (u spectra k d at : ℕ) (table kept : List ℕ) →
+    place_of t k + at ≡ place_at t (row_number t k d) → RowStandsAt t f u spectra k d at table kept →
+    RowStands t f u spectra k d table kept
+row_placed t f u spectra k d at table kept at_is stands = record {
+  row = λ i p lt e. stands.row i p lt (omega arith);
+  tail = stands.tail;
+}
+
 pub row_made : (t : Tables) (f : Filterbank) (u spectra k d at hold m n later : ℕ) (table kept row tail : List ℕ)
     (Goes : (ℕ → ℕ) → Type 0) →
     place_of t k + at ≡ place_at t (row_number t k d) → hold_of t k + hold ≡ held_at t (row_number t k d) →
@@ -27,20 +62,9 @@ pub row_made : (t : Tables) (f : Filterbank) (u spectra k d at hold m n later : 
     RowStands t f u spectra k d (put_mid at m table row) (put_mid hold n kept tail)
 row_made t f u spectra k d at hold m n later table kept row tail Goes at_is hold_is m_is n_is later_is in_table in_kept
     row_size tail_size rows tails goes keeps =
-    let g : ℕ → ℕ = row_value t f u k d in
-    let r : ℕ = row_number t k d in
-    let begins : Begins g (take n (drop hold kept)) =
-    part_begins g (hold_of t k) (held_at t r) (tail_of t r + 0) hold n kept hold_is (omega arith) in_kept keeps in
-    record {
-      row = λ i p lt e.
-          put_listed g (place_of t k) (place_at t r) m at m table row at_is (omega arith) in_table row_size
-          (rows g begins goes) i p (omega arith) e;
-      tail = λ i p lt e.
-          put_listed (after g later) (hold_of t k) (held_at t r) n hold n kept tail hold_is (omega arith) in_kept
-          tail_size (tails g begins goes) i p (omega arith) e
-          ∙ ap (λ s. g (s + i)) later_is
-          ∙ sym (value_later t f u spectra k d i);
-    }
+    row_placed t f u spectra k d at (put_mid at m table row) (put_mid hold n kept tail) at_is
+    (row_made_at t f u spectra k d at hold m n later table kept row tail Goes hold_is m_is n_is later_is in_table
+    in_kept row_size tail_size rows tails goes keeps)
 
 -- and nothing else is
 pub row_alone : (t : Tables) (k d r spectra at hold m n : ℕ) (table kept row tail : List ℕ) → IsRow t k r →
@@ -59,32 +83,76 @@ row_alone t k d r spectra at hold m n table kept row tail is number short at_is 
           (omega arith) in_kept tail_size;
     })
 
--- and rows of the halves go on with it
+-- at a place, and where it stands in the table of the node
+pub row_alone_at : (t : Tables) (k r at hold size m n : ℕ) (table kept row tail : List ℕ) → IsRow t k r →
+    hold_of t k + hold ≡ held_at t r → m ≡ size → n ≡ tail_of t r → at + m ≤ length table → hold + n ≤ length kept →
+    length row ≡ m → length tail ≡ n →
+    ChangesRowAt t k r at size table (put_mid at m table row) kept (put_mid hold n kept tail)
+row_alone_at t k r at hold size m n table kept row tail is hold_is m_is n_is in_table in_kept row_size tail_size =
+    let kept_next = is.kept_next in
+    record {
+      table_stays = put_stays 0 at (at + size) at m table row (omega arith) (omega arith) in_table row_size;
+      kept_stays = put_stays (hold_of t k) (held_at t r) (held_at t (r + 1)) hold n kept tail hold_is (omega arith)
+          in_kept tail_size;
+    }
+
+pub change_placed : (t : Tables) (k d r spectra at : ℕ) (table table' kept kept' : List ℕ) → IsRow t k r →
+    r ≡ row_number t k d → spectra ≤ t.chunk → place_of t k + at ≡ place_at t r →
+    ChangesRowAt t k r at (tail_of t r + spectra) table table' kept kept' →
+    ChangesRow t k (row_number t k d) table table' kept kept'
+change_placed t k d r spectra at table table' kept kept' is number short at_is changes =
+    let next = is.next in
+    subst (λ r. ChangesRow t k r table table' kept kept') number (record {
+      table_stays = record {
+        before = λ p lt. changes.table_stays.before p (omega arith);
+        after = λ p le. changes.table_stays.after p (omega arith);
+      };
+      kept_stays = changes.kept_stays;
+    })
+
+-- rows of the halves, in their tables
+row_at : (t : Tables) (f : Filterbank) (u spectra k d place : ℕ) (xs : List ℕ) →
+    place_of t k + place ≡ place_at t (row_number t k d) →
+    ListsRow t f u (place_at t) spectra k d (place_of t k) xs → HasRowAt t f u spectra k d place xs
+row_at t f u spectra k d place xs is lists i p lt e = lists i p lt (omega arith)
+
+pub halves_at : (t : Tables) (f : Filterbank) (u spectra k d above below : ℕ) (m : Merge) (upper lower : List ℕ) →
+    IsMerge t k d m → place_of t (k + 1) + above ≡ place_at t m.upper →
+    place_of t (lower_of t k) + below ≡ place_at t m.lower → AreHalves t f u spectra k upper lower →
+    HasHalves t f u spectra k d above below upper lower
+halves_at t f u spectra k d above below m upper lower merge above_is below_is halves =
+    let s : ℕ = split_of t.plan.edges (node_of t k) d in
+    let low : ℕ = lower_of t k in
+    record {
+      upper_row = row_at t f u spectra (k + 1) s above upper (above_is ∙ ap (place_at t) merge.upper)
+          (halves.upper_half s merge.upper_kept);
+      lower_row = subst (λ e. HasRowAt t f u spectra low e below lower) merge.late
+          (row_at t f u spectra low m.late below lower (below_is ∙ ap (place_at t) merge.lower)
+          (halves.lower_half m.late merge.lower_kept));
+    }
+
+-- a row goes on with the sums of theirs
 pub halves_go_on : HalvesAdd → TimeShifts → (t : Tables) → AreTables t →
     (f : Filterbank) (u spectra k d above below at_upper at_lower len m1 m2 : ℕ) (m : Merge) (upper lower : List ℕ) →
-    IsPair t k → IsMerge t k d m → AreHalves t f u spectra k upper lower →
-    place_of t (k + 1) + at_upper ≡ place_at t m.upper → above ≡ at_upper + (tail_of t m.upper - m.late) →
-    place_of t (lower_of t k) + at_lower ≡ place_at t m.lower → below ≡ at_lower + tail_of t m.lower →
+    IsPair t k → IsMerge t k d m → HasHalves t f u spectra k d at_upper at_lower upper lower →
+    above ≡ at_upper + (tail_of t m.upper - m.late) → below ≡ at_lower + tail_of t m.lower →
     len ≡ tail_of t (row_number t k d) → m1 ≡ spectra → m2 ≡ spectra → above + m1 ≤ length upper →
     GoesOn (row_value t f u k d) len (take m1 (drop above upper)) (take m2 (drop below lower))
 halves_go_on adds shifts t is f u spectra k d above below at_upper at_lower len m1 m2 m upper lower pair merge halves
-    at_is
-    above_is low_is below_is len_is first_is second_is in_upper =
+    above_is below_is len_is first_is second_is in_upper =
     let s : ℕ = split_of t.plan.edges (node_of t k) d in
     let low : ℕ = lower_of t k in
     let enough = merge.enough in
     let a : tail_of t m.upper ≡ tail_of t (row_number t (k + 1) s) = ap (tail_of t) merge.upper in
     let b : tail_of t m.lower ≡ tail_of t (row_number t low m.late) = ap (tail_of t) merge.lower in
-    let at_a : place_at t m.upper ≡ place_at t (row_number t (k + 1) s) = ap (place_at t) merge.upper in
-    let at_b : place_at t m.lower ≡ place_at t (row_number t low m.late) = ap (place_at t) merge.lower in
+    let lower_row : HasRowAt t f u spectra low m.late at_lower lower =
+    subst (λ e. HasRowAt t f u spectra low e at_lower lower) (sym merge.late) halves.lower_row in
     parts_go_on (row_value t f u k d) len (tail_of t (row_number t k d)) above below m1 m2 upper lower len_is
     (omega arith)
     in_upper
     (λ i lt.
-    let up = halves.upper_half s merge.upper_kept (tail_of t m.upper - m.late + i) (above + i) (omega arith)
-    (omega arith) in
-    let down = halves.lower_half m.late merge.lower_kept (tail_of t m.lower + i) (below + i) (omega arith)
-    (omega arith) in
+    let up = halves.upper_row (tail_of t m.upper - m.late + i) (above + i) (omega arith) (omega arith) in
+    let down = lower_row (tail_of t m.lower + i) (below + i) (omega arith) (omega arith) in
     merged_value adds shifts t is f u k d i m pair merge
     ∙ ap (λ x. wrapping_sum x (row_value t f u low m.late (tail_of t m.lower + i))) (sym up)
     ∙ ap (λ y. wrapping_sum (slice_index upper (above + i)) y) (sym down))

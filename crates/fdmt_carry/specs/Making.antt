@@ -1,11 +1,13 @@
 -- How the rows of a node are made, one after another.
-use Rattle.std.specs.Prelude.{◌≡◌, ℕ, ◌+◌, ◌-◌, ◌*◌, ◌%◌, ◌^◌, ◌≤◌, ◌<◌, Bool, List, length, slice_index}
+-- Source: Zackay & Ofek, ApJ 835:11, 2017, section 2 (a row is a row of each half); that what is needed later is kept, and
+-- where rows stand, is this project's choice.
+use Rattle.std.specs.Prelude.{◌≡◌, ℕ, ◌+◌, ◌-◌, ◌*◌, ◌%◌, ◌^◌, ◌≤◌, ◌<◌, true, Bool, List, length, slice_index, take, drop}
 use Rattle.band_paths.specs.Edges.{channels_of}
 use Rattle.search_model.specs.Samples.{Filterbank}
 use Rattle.subband_plan.specs.NodeLaws.{lower_number}
 use Rattle.subband_plan.specs.declared.rows.Merge.{Merge}
 use Rattle.subband_plan.specs.Nodes.{HasKept, split_of}
-use Rattle.fdmt_carry.specs.Tables.{Tables, IsRow, node_of, node_count, row_number, tail_of, place_at, held_at, place_of, hold_of, next_of, stop_of, ListsRow, ListsNode, AreKept, TablesStand}
+use Rattle.fdmt_carry.specs.Tables.{Tables, IsRow, node_of, node_count, row_number, row_value, tail_of, place_at, held_at, place_of, hold_of, next_of, stop_of, ListsRow, ListsNode, AreKept, TablesStand}
 
 -- the lower half of node k
 abbrev pub lower_of : Tables → ℕ → ℕ
@@ -20,6 +22,18 @@ pub record IsPair (t : Tables) (k : ℕ) : Type 0 where
 pub record IsSingle (t : Tables) (k : ℕ) : Type 0 where
   pub node : k < node_count t
   pub one : (node_of t k).hi ≤ (node_of t k).lo + 1
+
+-- a node whose halves have two channels or more each
+pub record IsWide (t : Tables) (k : ℕ) : Type 0 where
+  pub node : IsPair t k
+  pub upper : IsPair t (k + 1)
+  pub lower : IsPair t (lower_of t k)
+
+-- the part of the delay d that the upper half gets, and that of the next delay
+pub record StepsAt (t : Tables) (k d : ℕ) : Type 0 where
+  pub part : split_of t.plan.edges (node_of t k) d ≤ d
+  pub rises : split_of t.plan.edges (node_of t k) d ≤ split_of t.plan.edges (node_of t k) (d + 1)
+  pub by_one : split_of t.plan.edges (node_of t k) (d + 1) ≤ split_of t.plan.edges (node_of t k) d + 1
 
 -- what the row of delay d of a node of two channels or more is made of: rows of its halves, of which the upper one ends
 -- no earlier than its kept values reach
@@ -83,6 +97,16 @@ pub record FitNode (t : Tables) (k table kept : ℕ) : Type 0 where
 abbrev pub HasRoom : Tables → ℕ → ℕ → Type 0
 HasRoom t k size = place_of t (k + 1) ≤ place_of t k + size
 
+-- two lists of so many values have room for the rows of the halves of node k
+pub record HaveRoom (t : Tables) (k upper lower : ℕ) : Type 0 where
+  pub upper_room : HasRoom t (k + 1) upper
+  pub lower_room : HasRoom t (lower_of t k) lower
+
+-- a list of so many values has room for the rows of node k and of all nodes below it, and as many values are kept of them
+pub record FitPart (t : Tables) (k size kept : ℕ) : Type 0 where
+  pub room : place_of t (next_of t k) ≤ place_of t k + size
+  pub kept_size : hold_of t k + kept ≡ hold_of t (next_of t k)
+
 -- the halves of node k are there
 pub record AreHalves (t : Tables) (f : Filterbank) (u spectra k : ℕ) (upper lower : List ℕ) : Type 0 where
   pub channels : f.channels ≡ channels_of t.plan.edges
@@ -110,7 +134,22 @@ pub record AreSamples (t : Tables) (f : Filterbank) (u k : ℕ) (samples : List 
   pub channels : f.channels ≡ channels_of t.plan.edges
   pub are : (i : ℕ) → i < length samples → slice_index samples i ≡ f.value (node_of t k).lo (u + i) % 2 ^ 32
 
--- the row is made, and what is kept of it is that of the spectra after it
+-- from a place on, a list has the row of delay d of node k
+abbrev pub HasRowAt : Tables → Filterbank → ℕ → ℕ → ℕ → ℕ → ℕ → List ℕ → Type 0
+HasRowAt t f u spectra k d place xs = (i p : ℕ) → i < tail_of t (row_number t k d) + spectra → p ≡ place + i →
+    slice_index xs p ≡ row_value t f u k d i
+
+-- from two places on, two lists have the rows of its halves that it is made of
+pub record HasHalves (t : Tables) (f : Filterbank) (u spectra k d above below : ℕ) (upper lower : List ℕ) : Type 0 where
+  pub upper_row : HasRowAt t f u spectra (k + 1) (split_of t.plan.edges (node_of t k) d) above upper
+  pub lower_row : HasRowAt t f u spectra (lower_of t k) (d - split_of t.plan.edges (node_of t k) d) below lower
+
+-- from a place on, the row is made, and what is kept of it is that of the spectra after it
+pub record RowStandsAt (t : Tables) (f : Filterbank) (u spectra k d place : ℕ) (table kept : List ℕ) : Type 0 where
+  pub row : HasRowAt t f u spectra k d place table
+  pub tail : KeepsRow t f (u + spectra) k d kept
+
+-- the row is made where it stands in the table of the node, and what is kept of it is that of the spectra after it
 pub record RowStands (t : Tables) (f : Filterbank) (u spectra k d : ℕ) (table kept : List ℕ) : Type 0 where
   pub row : TableHas t f u spectra k d table
   pub tail : KeepsRow t f (u + spectra) k d kept
@@ -123,6 +162,11 @@ pub record StaysOutside (base from to : ℕ) (old new : List ℕ) : Type 0 where
 -- nothing but row r changed
 pub record ChangesRow (t : Tables) (k r : ℕ) (table table' kept kept' : List ℕ) : Type 0 where
   pub table_stays : StaysOutside (place_of t k) (place_at t r) (place_at t (r + 1)) table table'
+  pub kept_stays : StaysOutside (hold_of t k) (held_at t r) (held_at t (r + 1)) kept kept'
+
+-- nothing but `size` values from a place on changed, and what is kept of row r
+pub record ChangesRowAt (t : Tables) (k r place size : ℕ) (table table' kept kept' : List ℕ) : Type 0 where
+  pub table_stays : StaysOutside 0 place (place + size) table table'
   pub kept_stays : StaysOutside (hold_of t k) (held_at t r) (held_at t (r + 1)) kept kept'
 
 -- all rows of node k are made
@@ -139,3 +183,31 @@ pub record PartStands (t : Tables) (f : Filterbank) (u spectra : ℕ) (whole : B
     (table kept : List ℕ) : Type 0 where
   pub tables : TablesStand t f u spectra k (stop_of t whole k) table
   pub tails : KeepsPart t f (u + spectra) k kept
+
+-- The rows of node k of lesser delays than n were made one after another, all at the first place of a list, which has the
+-- last one. What is kept of them is that of the spectra after it.
+pub record LastStands (t : Tables) (f : Filterbank) (u spectra k n : ℕ) (row kept : List ℕ) : Type 0 where
+  pub made : (e : ℕ) → HasKept (node_of t k) e → e < n → KeepsRow t f (u + spectra) k e kept
+  pub rest : (e : ℕ) → HasKept (node_of t k) e → n ≤ e → KeepsRow t f u k e kept
+  pub last : (e : ℕ) → HasKept (node_of t k) e → e + 1 ≡ n → HasRowAt t f u spectra k e 0 row
+
+-- the rows of node k are made, and what is kept of those of its halves is that of the spectra after them
+pub record WideStands (t : Tables) (f : Filterbank) (u spectra k : ℕ) (table kept upper_kept lower_kept : List ℕ) :
+    Type 0 where
+  pub rows : NodeStands t f u spectra k table kept
+  pub upper_tails : KeepsNode t f (u + spectra) (k + 1) upper_kept
+  pub lower_tails : KeepsNode t f (u + spectra) (lower_of t k) lower_kept
+
+-- and of all nodes below it
+pub record WidePartStands (t : Tables) (f : Filterbank) (u spectra k : ℕ) (table kept upper_kept lower_kept : List ℕ) :
+    Type 0 where
+  pub rows : NodeStands t f u spectra k table kept
+  pub upper_tails : KeepsPart t f (u + spectra) (k + 1) upper_kept
+  pub lower_tails : KeepsPart t f (u + spectra) (lower_of t k) lower_kept
+
+-- the tables of both halves of node k are made, those of the lower half after the first n values
+pub record HalvesStand (t : Tables) (f : Filterbank) (u spectra : ℕ) (whole : Bool) (k n : ℕ) (below kept : List ℕ) :
+    Type 0 where
+  pub halves : AreHalves t f u spectra k (take n below) (drop n below)
+  pub tables : whole ≡ true → TablesStand t f u spectra (k + 1) (next_of t k) below
+  pub tails : AreKept t f (u + spectra) (k + 1) (next_of t k) kept

@@ -1,4 +1,5 @@
 -- What is read of tables.
+-- Source: this project's choice.
 use Rattle.std.specs.Prelude.{◌≡◌, ℕ, ◌+◌, ◌*◌, ◌^◌, ◌≤◌, ◌<◌}
 use Rattle.band_paths.specs.Edges.{channels_of}
 use Rattle.search_model.specs.Samples.{Filterbank}

@@ -1,4 +1,5 @@
 -- Values of a row.
+-- Source: this project's choice.
 use Rattle.std.specs.Prelude.{ℕ, ◌+◌, ◌≡◌, ◌<◌, List, length, slice_index}
 use Rattle.fdmt_rows.specs.Rows.{wrapping_sum}
 

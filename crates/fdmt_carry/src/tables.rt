@@ -2,17 +2,17 @@
 ghost use Rattle.std.specs.Prelude.{true, false, ◌≡◌, ℕ, ◌+◌, ◌-◌, ◌*◌, ◌%◌, ◌^◌, ◌<◌, ◌≤◌, List, length, slice_index, IfOk};
 ghost use Rattle.search_model.specs.Samples.{Filterbank};
 ghost use Rattle.band_paths.specs.Edges.{channels_of};
-ghost use Rattle.subband_plan.specs.Nodes.{HasKept};
+ghost use Rattle.subband_plan.specs.Nodes.{HasKept, split_of};
 ghost use Rattle.subband_plan.specs.Rows.{merge_at};
-ghost use Rattle.fdmt_carry.specs.Tables.{Tables as TablesOf, AreTables, IsRow, node_of, node_count, all_rows, held_at, place_at, tail_of, start_of, row_number, place_of, hold_of, next_of, stop_of, HasNext, tables as tables_of};
-ghost use Rattle.fdmt_carry.specs.Making.{IsPair, IsSingle, IsMerge, IsRunOn, AreBases, IsPart, AreParts, FitNode, HasRoom, AreHalves, AreSamples, ChannelHas, KeepsRow, KeepsNode, RowStands, ChangesRow, NodeStands, KeepsPart, PartStands, lower_of};
+ghost use Rattle.fdmt_carry.specs.Tables.{Tables as TablesOf, AreTables, IsRow, node_of, node_count, all_rows, held_at, place_at, tail_of, start_of, row_number, place_of, hold_of, next_of, stop_of, HasNext, AreKept, tables as tables_of};
+ghost use Rattle.fdmt_carry.specs.Making.{IsPair, IsSingle, IsWide, StepsAt, IsMerge, IsRunOn, AreBases, IsPart, AreParts, FitNode, FitPart, HasRoom, HaveRoom, AreHalves, AreSamples, ChannelHas, KeepsRow, KeepsNode, HasHalves, RowStandsAt, RowStands, StaysOutside, ChangesRowAt, ChangesRow, NodeStands, LastStands, WideStands, KeepsPart, HalvesStand, WidePartStands, PartStands, lower_of};
 ghost use Rattle.fdmt_carry.specs.Reading.{IsWhole, ArePlain};
 
 use crate::rows::{add_next, copy_next};
 use psr_base::Memory;
 use search_model::{
     halves_add, nothing_before, one_channel_adds, one_channel_is_its_sample, splits_fit,
-    time_shifts,
+    splits_step, time_shifts,
 };
 use std::alloc::Global;
 use std::marker::Model;
@@ -96,6 +96,20 @@ impl Tables {
         self.hold();
         let node = self.node(k);
         node.hi - node.lo < 2
+    }
+
+    // Whether both halves of node `k` have two channels or more, where their tables are not to stand.
+    fn is_wide(&self, k: usize, whole: bool) -> bool
+        requires { k < node_count self.now }
+        ensures alone { result ≡ true → whole ≡ false }
+        ensures wide { result ≡ true → IsWide self.now k }
+    {
+        if whole {
+            return false;
+        }
+        self.hold();
+        let node = self.node(k);
+        node.hi - node.lo >= 4
     }
 
     // The lower half of node `k`.
@@ -352,7 +366,80 @@ impl Tables {
         self.hold();
     }
 
-    // Makes row `r`, which is that of delay `d` of node `k`, from rows of its halves.
+    // How the delays of node `k` are split; it does nothing.
+    fn steps_of(&self, k: usize)
+        requires { IsPair self.now k }
+        ensures { (d : ℕ) → StepsAt self.now k d }
+    {
+        self.hold();
+        splits_fit();
+        splits_step();
+    }
+
+    // The delay of the row of the upper half that the row of delay `d` of node `k` is made of.
+    fn upper_delay(&self, k: usize, d: u32, merge: Merge) -> u32
+        requires node { IsPair self.now k }
+        requires merge { IsMerge self.now k d merge }
+        ensures value { result ≡ split_of self.now.plan.edges (node_of self.now k) d }
+        ensures kept { HasKept (node_of self.now (k + 1)) result }
+        ensures number { merge.upper ≡ row_number self.now (k + 1) result }
+    {
+        self.steps_of(k);
+        d - merge.late
+    }
+
+    // Makes row `r`, which is that of delay `d` of node `k`, at place `at` of a table, from rows of its halves that begin
+    // at places `above` and `below`.
+    #[inline(always)]
+    fn add_row(
+        &self,
+        k: usize,
+        d: u32,
+        r: usize,
+        merge: Merge,
+        table: &mut [u32],
+        at: usize,
+        kept: &mut [u32],
+        hold: usize,
+        upper: &[u32],
+        above: usize,
+        lower: &[u32],
+        below: usize,
+        spectra: usize,
+    )
+        requires node { IsPair self.now k }
+        requires row { HasKept (node_of self.now k) d }
+        requires number { r ≡ row_number self.now k d }
+        requires merge { IsMerge self.now k d merge }
+        requires table { at + (tail_of self.now r + spectra) ≤ length table.old }
+        requires hold { hold_of self.now k + hold ≡ held_at self.now r }
+        requires kept { hold + tail_of self.now r ≤ length kept.old }
+        requires upper { above + (tail_of self.now merge.upper + spectra) ≤ length upper.now }
+        requires lower { below + (tail_of self.now merge.lower + spectra) ≤ length lower.now }
+        ensures made { (f : Filterbank) (u : ℕ)
+            → HasHalves self.now f u spectra k d above below upper.now lower.now
+            → KeepsRow self.now f u k d kept.old
+            → RowStandsAt self.now f u spectra k d at table.new kept.new }
+        ensures rest { ChangesRowAt self.now k r at (tail_of self.now r + spectra)
+            table.old table.new kept.old kept.new }
+    {
+        self.hold();
+        halves_add();
+        time_shifts();
+        self.row_of(k, d, r);
+        let tail = self.tail(r);
+        let above = above + (self.tail(merge.upper as usize) - merge.late as usize);
+        let below = below + self.tail(merge.lower as usize);
+        add_next(
+            &mut table[at..at + (tail + spectra)],
+            &mut kept[hold..hold + tail],
+            &upper[above..above + spectra],
+            &lower[below..below + spectra],
+        );
+    }
+
+    // Makes row `r`, which is that of delay `d` of node `k`, from the tables of its halves.
+    #[inline(always)]
     fn merge_row(
         &self,
         k: usize,
@@ -379,22 +466,90 @@ impl Tables {
         ensures rest { ChangesRow self.now k (row_number self.now k d) table.old table.new
             kept.old kept.new }
     {
-        self.hold();
-        halves_add();
-        time_shifts();
         self.row_of(k, d, r);
         let merge = self.merge_of(k, d, r);
-        let (a, b) = (merge.upper as usize, merge.lower as usize);
         let at = self.place_in(bases.place, r);
         let hold = self.hold_in(bases.hold, r);
-        let tail = self.tail(r);
-        let above = self.place_in(bases.upper, a) + (self.tail(a) - merge.late as usize);
-        let below = self.place_in(bases.lower, b) + self.tail(b);
-        add_next(
-            &mut table[at..at + tail + spectra],
-            &mut kept[hold..hold + tail],
-            &upper[above..above + spectra],
-            &lower[below..below + spectra],
+        let above = self.place_in(bases.upper, merge.upper as usize);
+        let below = self.place_in(bases.lower, merge.lower as usize);
+        self.add_row(
+            k, d, r, merge, table, at, kept, hold, upper, above, lower, below, spectra,
+        );
+    }
+
+    // Makes row `r`, which is that of delay `d` of node `k`, from the tables of its halves, in place of another row.
+    #[inline(always)]
+    fn live_row(
+        &self,
+        k: usize,
+        d: u32,
+        r: usize,
+        bases: Bases,
+        row: &mut [u32],
+        kept: &mut [u32],
+        upper: &[u32],
+        lower: &[u32],
+        spectra: usize,
+    )
+        requires node { IsPair self.now k }
+        requires row { HasKept (node_of self.now k) d }
+        requires number { r ≡ row_number self.now k d }
+        requires bases { AreBases self.now k bases.place bases.hold bases.upper bases.lower }
+        requires short { spectra ≤ self.now.chunk }
+        requires own { FitNode self.now k (length row.old) (length kept.old) }
+        requires upper { HasRoom self.now (k + 1) (length upper.now) }
+        requires lower { HasRoom self.now (lower_of self.now k) (length lower.now) }
+        ensures made { (f : Filterbank) (u : ℕ) → AreHalves self.now f u spectra k upper.now
+            lower.now → KeepsRow self.now f u k d kept.old
+            → RowStandsAt self.now f u spectra k d 0 row.new kept.new }
+        ensures rest { StaysOutside (hold_of self.now k) (held_at self.now r)
+            (held_at self.now (r + 1)) kept.old kept.new }
+    {
+        self.row_of(k, d, r);
+        let merge = self.merge_of(k, d, r);
+        let hold = self.hold_in(bases.hold, r);
+        let above = self.place_in(bases.upper, merge.upper as usize);
+        let below = self.place_in(bases.lower, merge.lower as usize);
+        self.add_row(
+            k, d, r, merge, row, 0, kept, hold, upper, above, lower, below, spectra,
+        );
+    }
+
+    // Makes row `r`, which is that of delay `d` of node `k`, from the rows of its halves alone that it is made of.
+    #[inline(always)]
+    fn join_row(
+        &self,
+        k: usize,
+        d: u32,
+        r: usize,
+        bases: Bases,
+        table: &mut [u32],
+        kept: &mut [u32],
+        upper: &[u32],
+        lower: &[u32],
+        spectra: usize,
+    )
+        requires node { IsPair self.now k }
+        requires row { HasKept (node_of self.now k) d }
+        requires number { r ≡ row_number self.now k d }
+        requires bases { AreBases self.now k bases.place bases.hold bases.upper bases.lower }
+        requires short { spectra ≤ self.now.chunk }
+        requires own { FitNode self.now k (length table.old) (length kept.old) }
+        requires upper { HasRoom self.now (k + 1) (length upper.now) }
+        requires lower { HasRoom self.now (lower_of self.now k) (length lower.now) }
+        ensures made { (f : Filterbank) (u : ℕ)
+            → HasHalves self.now f u spectra k d 0 0 upper.now lower.now
+            → KeepsRow self.now f u k d kept.old
+            → RowStands self.now f u spectra k d table.new kept.new }
+        ensures rest { ChangesRow self.now k (row_number self.now k d) table.old table.new
+            kept.old kept.new }
+    {
+        self.row_of(k, d, r);
+        let merge = self.merge_of(k, d, r);
+        let at = self.place_in(bases.place, r);
+        let hold = self.hold_in(bases.hold, r);
+        self.add_row(
+            k, d, r, merge, table, at, kept, hold, upper, 0, lower, 0, spectra,
         );
     }
 
@@ -501,6 +656,125 @@ impl Tables {
         }
     }
 
+    // Has the row of delay `d` of node `k` ready, of whose rows those of lesser delays than `next` were made, one after
+    // another in one place. It is the last of these, or the next row.
+    #[inline(always)]
+    fn ready_row(
+        &self,
+        k: usize,
+        d: u32,
+        next: u32,
+        r: usize,
+        bases: Bases,
+        row: &mut [u32],
+        kept: &mut [u32],
+        upper: &[u32],
+        lower: &[u32],
+        spectra: usize,
+    )
+        requires node { IsPair self.now k }
+        requires row { HasKept (node_of self.now k) d }
+        requires number { r ≡ row_number self.now k d }
+        requires order { d ≤ next }
+        requires step { next ≤ d + 1 }
+        requires bases { AreBases self.now k bases.place bases.hold bases.upper bases.lower }
+        requires short { spectra ≤ self.now.chunk }
+        requires own { FitNode self.now k (length row.old) (length kept.old) }
+        requires upper { HasRoom self.now (k + 1) (length upper.now) }
+        requires lower { HasRoom self.now (lower_of self.now k) (length lower.now) }
+        ensures { (f : Filterbank) (u : ℕ) → AreHalves self.now f u spectra k upper.now lower.now
+            → LastStands self.now f u spectra k next row.old kept.old
+            → LastStands self.now f u spectra k (d + 1) row.new kept.new }
+    {
+        self.hold();
+        if d < next {
+            return;
+        }
+        self.live_row(k, d, r, bases, row, kept, upper, lower, spectra);
+    }
+
+    // Makes the rows of node `k` from those of its halves, of which one at a time is made where its table would stand:
+    // those of the upper half from the tables `upper_above` and `upper_below` of its halves, and so those of the lower half.
+    fn merge_wide(
+        &self,
+        k: usize,
+        table: &mut [u32],
+        kept: &mut [u32],
+        upper: &mut [u32],
+        upper_kept: &mut [u32],
+        upper_above: &[u32],
+        upper_below: &[u32],
+        lower: &mut [u32],
+        lower_kept: &mut [u32],
+        lower_above: &[u32],
+        lower_below: &[u32],
+        spectra: usize,
+    )
+        requires node { IsWide self.now k }
+        requires short { spectra ≤ self.now.chunk }
+        requires own { FitNode self.now k (length table.old) (length kept.old) }
+        requires upper { FitNode self.now (k + 1) (length upper.old) (length upper_kept.old) }
+        requires lower { FitNode self.now (lower_of self.now k) (length lower.old)
+            (length lower_kept.old) }
+        requires upper_room { HaveRoom self.now (k + 1) (length upper_above.now)
+            (length upper_below.now) }
+        requires lower_room { HaveRoom self.now (lower_of self.now k) (length lower_above.now)
+            (length lower_below.now) }
+        ensures { (f : Filterbank) (u : ℕ)
+            → AreHalves self.now f u spectra (k + 1) upper_above.now upper_below.now
+            → AreHalves self.now f u spectra (lower_of self.now k) lower_above.now
+            lower_below.now
+            → KeepsNode self.now f u k kept.old
+            → KeepsNode self.now f u (k + 1) upper_kept.old
+            → KeepsNode self.now f u (lower_of self.now k) lower_kept.old
+            → WideStands self.now f u spectra k table.new kept.new upper_kept.new
+            lower_kept.new }
+    {
+        self.hold();
+        self.parts_of(k);
+        let node = self.node(k);
+        let low = self.lower(k);
+        let (bases, upper_bases, lower_bases) = (self.bases(k), self.bases(k + 1), self.bases(low));
+        let first = self.start(k);
+        let least = node.least_row();
+        self.steps_of(k);
+        let mut upper_next = self.node(k + 1).least_row();
+        let mut lower_next = self.node(low).least_row();
+        for d in least..node.last_row + 1 {
+            let r = first + (d - least) as usize;
+            let merge = self.merge_of(k, d, r);
+            let early = self.upper_delay(k, d, merge);
+            let late = merge.late;
+            self.ready_row(
+                k + 1,
+                early,
+                upper_next,
+                merge.upper as usize,
+                upper_bases,
+                upper,
+                upper_kept,
+                upper_above,
+                upper_below,
+                spectra,
+            );
+            self.ready_row(
+                low,
+                late,
+                lower_next,
+                merge.lower as usize,
+                lower_bases,
+                lower,
+                lower_kept,
+                lower_above,
+                lower_below,
+                spectra,
+            );
+            upper_next = early + 1;
+            lower_next = late + 1;
+            self.join_row(k, d, r, bases, table, kept, upper, lower, spectra);
+        }
+    }
+
     // Makes the rows of a single channel from the next spectra.
     fn run_channel(
         &self,
@@ -524,8 +798,104 @@ impl Tables {
         self.run(k, table, kept, &rows[at..at + spectra]);
     }
 
+    // Makes the rows of both halves of node `k`, and of all nodes below them, and tells how many values come before the
+    // rows of the lower half.
+    #[cycle(fill)]
+    fn fill_halves(
+        &self,
+        k: usize,
+        below: &mut [u32],
+        kept: &mut [u32],
+        rows: &[u32],
+        spectra: usize,
+        whole: bool,
+    ) -> usize
+        requires node { IsPair self.now k }
+        requires room { place_of self.now (next_of self.now k)
+            ≤ place_of self.now (k + 1) + length below.old }
+        requires tails { hold_of self.now (k + 1) + length kept.old
+            ≡ hold_of self.now (next_of self.now k) }
+        requires rows { length rows.now ≡ channels_of self.now.plan.edges * self.now.chunk }
+        requires short { spectra ≤ self.now.chunk }
+        ensures value { place_of self.now (k + 1) + result
+            ≡ place_of self.now (stop_of self.now whole (k + 1)) }
+        ensures within { result ≤ length below.new }
+        ensures room { HaveRoom self.now k result (length below.new - result) }
+        ensures made { (f : Filterbank) (u : ℕ) → HasNext self.now f u spectra rows.now
+            → AreKept self.now f u (k + 1) (next_of self.now k) kept.old
+            → HalvesStand self.now f u spectra whole k result below.new kept.new }
+    {
+        self.hold();
+        self.part_of(k);
+        self.parts_of(k);
+        let low = self.lower(k);
+        let (upper_kept, lower_kept) = kept.split_at_mut(self.kept_span(k + 1, low));
+        self.fill(k + 1, below, upper_kept, rows, spectra, whole);
+        let made = self.span(k + 1, self.stop(k + 1, whole));
+        let (_, lower) = below.split_at_mut(made);
+        self.fill(low, lower, lower_kept, rows, spectra, whole);
+        made
+    }
+
+    // Makes the rows of node `k` from the next spectra, and those of all nodes below it, whose parts are given half by
+    // half; the tables of its halves are not made.
+    #[cycle(fill)]
+    fn fill_wide(
+        &self,
+        k: usize,
+        table: &mut [u32],
+        kept: &mut [u32],
+        upper: &mut [u32],
+        upper_kept: &mut [u32],
+        lower: &mut [u32],
+        lower_kept: &mut [u32],
+        rows: &[u32],
+        spectra: usize,
+    )
+        requires node { IsWide self.now k }
+        requires short { spectra ≤ self.now.chunk }
+        requires own { FitNode self.now k (length table.old) (length kept.old) }
+        requires upper { FitPart self.now (k + 1) (length upper.old) (length upper_kept.old) }
+        requires lower { FitPart self.now (lower_of self.now k) (length lower.old)
+            (length lower_kept.old) }
+        requires rows { length rows.now ≡ channels_of self.now.plan.edges * self.now.chunk }
+        ensures { (f : Filterbank) (u : ℕ) → HasNext self.now f u spectra rows.now
+            → KeepsNode self.now f u k kept.old
+            → KeepsPart self.now f u (k + 1) upper_kept.old
+            → KeepsPart self.now f u (lower_of self.now k) lower_kept.old
+            → WidePartStands self.now f u spectra k table.new kept.new upper_kept.new
+            lower_kept.new }
+    {
+        self.hold();
+        self.parts_of(k);
+        let low = self.lower(k);
+        let (upper_row, upper_rest) = upper.split_at_mut(self.span(k + 1, k + 1 + 1));
+        let (upper_own, upper_tails) = upper_kept.split_at_mut(self.kept_span(k + 1, k + 1 + 1));
+        let (lower_row, lower_rest) = lower.split_at_mut(self.span(low, low + 1));
+        let (lower_own, lower_tails) = lower_kept.split_at_mut(self.kept_span(low, low + 1));
+        let upper_made = self.fill_halves(k + 1, upper_rest, upper_tails, rows, spectra, false);
+        let lower_made = self.fill_halves(low, lower_rest, lower_tails, rows, spectra, false);
+        let (upper_above, upper_below) = upper_rest.split_at(upper_made);
+        let (lower_above, lower_below) = lower_rest.split_at(lower_made);
+        self.merge_wide(
+            k,
+            table,
+            kept,
+            upper_row,
+            upper_own,
+            upper_above,
+            upper_below,
+            lower_row,
+            lower_own,
+            lower_above,
+            lower_below,
+            spectra,
+        );
+    }
+
     /// Makes the rows of node `k` from the next spectra, and those of all nodes below it; `whole` says whether the
     /// tables of these stand too.
+    #[cycle(fill)]
     pub fn fill(
         &self,
         k: usize,
@@ -554,13 +924,18 @@ impl Tables {
             self.run_channel(k, own, own_kept, rows, spectra);
             return;
         }
-        self.parts_of(k);
-        let low = self.lower(k);
-        let (upper_kept, lower_kept) = below_kept.split_at_mut(self.kept_span(k + 1, low));
-        self.fill(k + 1, below, upper_kept, rows, spectra, whole);
-        let made = self.span(k + 1, self.stop(k + 1, whole));
-        let (upper, lower) = below.split_at_mut(made);
-        self.fill(low, lower, lower_kept, rows, spectra, whole);
+        if self.is_wide(k, whole) {
+            self.parts_of(k);
+            let low = self.lower(k);
+            let (upper, lower) = below.split_at_mut(self.span(k + 1, low));
+            let (upper_kept, lower_kept) = below_kept.split_at_mut(self.kept_span(k + 1, low));
+            self.fill_wide(
+                k, own, own_kept, upper, upper_kept, lower, lower_kept, rows, spectra,
+            );
+            return;
+        }
+        let made = self.fill_halves(k, below, below_kept, rows, spectra, whole);
+        let (upper, lower) = below.split_at(made);
         self.merge(k, own, own_kept, upper, lower, spectra);
     }
 }
