@@ -1,6 +1,7 @@
 -- The rows of a node and of all nodes below it.
 use Rattle.std.proofs.Common.{◌≡◌, ℕ, ◌+◌, ◌≤◌, ◌<◌, true, false, Bool, List, length, take, drop, ◌++◌, arith, sym, ap, subst, ◌∙◌, refl}
-use Rattle.std.proofs.Math.Seq.{take-append_seam, drop-append_seam}
+use Rattle.std.proofs.Math.Seq.{take-append_seam, drop-append_seam, take-add}
+use Rattle.std.proofs.lemmas.List.{drop-take}
 use Rattle.search_model.specs.Samples.{Filterbank}
 use Rattle.band_paths.specs.Edges.{channels_of}
 use Rattle.fdmt_carry.specs.Tables.{Tables, AreTables, ListsNode, AreKept, TablesStand, node_count, start_of, held_at, place_at, place_of, hold_of, next_of, stop_of}
@@ -104,6 +105,24 @@ take_front n xs ys long = ap (λ m. take m (xs ++ ys)) (sym long) ∙ take-appen
 
 drop_front : (n : ℕ) (xs ys : List ℕ) → length xs ≡ n → drop n (xs ++ ys) ≡ ys
 drop_front n xs ys long = ap (λ m. drop m (xs ++ ys)) (sym long) ∙ drop-append_seam xs ys
+
+take_part : (n m : ℕ) (xs : List ℕ) → length (take n xs) ≡ n → take n (take (n + m) xs) ≡ take n xs
+take_part n m xs long = rw take-add (take_front n (take n xs) (take m (drop n xs)) long)
+
+-- the tables of the halves, where what comes after them is cut off
+pub halves_cut : (t : Tables) → AreTables t → (f : Filterbank) (u spectra k n m : ℕ) (xs : List ℕ) → AreParts t k →
+    spectra ≤ t.chunk → place_of t (lower_of t k) + m ≡ place_of t (lower_of t k + 1) → length (take n xs) ≡ n →
+    AreHalves t f u spectra k (take n xs) (drop n xs) →
+    AreHalves t f u spectra k (take n (take (n + m) xs)) (drop n (take (n + m) xs))
+halves_cut t is f u spectra k n m xs parts short size long halves =
+    let low : ℕ = lower_of t k in
+    let below = parts.below in
+    let lower : ListsNode t f u (place_at t) spectra low (place_of t low) (take m (drop n xs)) =
+    stands_front t is f u (place_at t) spectra t.chunk low (low + 1) (low + 1) m (drop n xs) is.placed short
+    (omega arith) (omega arith) size (only t f u (place_at t) spectra low (drop n xs) halves.lower_half) low
+    (omega arith) (omega arith) in
+    rw (take_part n m xs long, drop-take n m xs)
+    (record { channels = halves.channels; upper_half = halves.upper_half; lower_half = lower })
 
 -- where tables end
 whole_stop : (t : Tables) (k : ℕ) (whole : Bool) → whole ≡ true → stop_of t whole k ≡ next_of t k

@@ -102,11 +102,6 @@ pub record HaveRoom (t : Tables) (k upper lower : ℕ) : Type 0 where
   pub upper_room : HasRoom t (k + 1) upper
   pub lower_room : HasRoom t (lower_of t k) lower
 
--- a list of so many values has room for the rows of node k and of all nodes below it, and as many values are kept of them
-pub record FitPart (t : Tables) (k size kept : ℕ) : Type 0 where
-  pub room : place_of t (next_of t k) ≤ place_of t k + size
-  pub kept_size : hold_of t k + kept ≡ hold_of t (next_of t k)
-
 -- the halves of node k are there
 pub record AreHalves (t : Tables) (f : Filterbank) (u spectra k : ℕ) (upper lower : List ℕ) : Type 0 where
   pub channels : f.channels ≡ channels_of t.plan.edges

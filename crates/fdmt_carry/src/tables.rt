@@ -5,7 +5,7 @@ ghost use Rattle.band_paths.specs.Edges.{channels_of};
 ghost use Rattle.subband_plan.specs.Nodes.{HasKept, split_of};
 ghost use Rattle.subband_plan.specs.Rows.{merge_at};
 ghost use Rattle.fdmt_carry.specs.Tables.{Tables as TablesOf, AreTables, IsRow, node_of, node_count, all_rows, held_at, place_at, tail_of, start_of, row_number, place_of, hold_of, next_of, stop_of, HasNext, AreKept, tables as tables_of};
-ghost use Rattle.fdmt_carry.specs.Making.{IsPair, IsSingle, IsWide, StepsAt, IsMerge, IsRunOn, AreBases, IsPart, AreParts, FitNode, FitPart, HasRoom, HaveRoom, AreHalves, AreSamples, ChannelHas, KeepsRow, KeepsNode, HasHalves, RowStandsAt, RowStands, StaysOutside, ChangesRowAt, ChangesRow, NodeStands, LastStands, WideStands, KeepsPart, HalvesStand, WidePartStands, PartStands, lower_of};
+ghost use Rattle.fdmt_carry.specs.Making.{IsPair, IsSingle, IsWide, StepsAt, IsMerge, IsRunOn, AreBases, IsPart, AreParts, FitNode, HasRoom, HaveRoom, AreHalves, AreSamples, ChannelHas, KeepsRow, KeepsNode, HasHalves, RowStandsAt, RowStands, StaysOutside, ChangesRowAt, ChangesRow, NodeStands, LastStands, WideStands, KeepsPart, HalvesStand, WidePartStands, PartStands, lower_of};
 ghost use Rattle.fdmt_carry.specs.Reading.{IsWhole, ArePlain};
 
 use crate::rows::{add_next, copy_next};
@@ -837,17 +837,27 @@ impl Tables {
         made
     }
 
-    // Makes the rows of node `k` from the next spectra, and those of all nodes below it, whose parts are given half by
-    // half; the tables of its halves are not made.
+    // How many values the rows of the lower half of node `k` have.
+    fn lower_span(&self, k: usize) -> usize
+        requires { IsPair self.now k }
+        ensures { place_of self.now (lower_of self.now k) + result
+            ≡ place_of self.now (lower_of self.now k + 1) }
+    {
+        self.hold();
+        self.parts_of(k);
+        let low = self.lower(k);
+        self.span(low, low + 1)
+    }
+
+    // Makes the rows of node `k` from the next spectra, and those of all nodes below it, but not the tables of its halves.
     #[cycle(fill)]
     fn fill_wide(
         &self,
         k: usize,
         table: &mut [u32],
         kept: &mut [u32],
-        upper: &mut [u32],
+        below: &mut [u32],
         upper_kept: &mut [u32],
-        lower: &mut [u32],
         lower_kept: &mut [u32],
         rows: &[u32],
         spectra: usize,
@@ -855,9 +865,12 @@ impl Tables {
         requires node { IsWide self.now k }
         requires short { spectra ≤ self.now.chunk }
         requires own { FitNode self.now k (length table.old) (length kept.old) }
-        requires upper { FitPart self.now (k + 1) (length upper.old) (length upper_kept.old) }
-        requires lower { FitPart self.now (lower_of self.now k) (length lower.old)
-            (length lower_kept.old) }
+        requires room { place_of self.now (next_of self.now k)
+            ≤ place_of self.now (k + 1) + length below.old }
+        requires upper { hold_of self.now (k + 1) + length upper_kept.old
+            ≡ hold_of self.now (next_of self.now (k + 1)) }
+        requires lower { hold_of self.now (lower_of self.now k) + length lower_kept.old
+            ≡ hold_of self.now (next_of self.now (lower_of self.now k)) }
         requires rows { length rows.now ≡ channels_of self.now.plan.edges * self.now.chunk }
         ensures { (f : Filterbank) (u : ℕ) → HasNext self.now f u spectra rows.now
             → KeepsNode self.now f u k kept.old
@@ -868,15 +881,18 @@ impl Tables {
     {
         self.hold();
         self.parts_of(k);
+        self.parts_of(k + 1);
         let low = self.lower(k);
-        let (upper_row, upper_rest) = upper.split_at_mut(self.span(k + 1, k + 1 + 1));
         let (upper_own, upper_tails) = upper_kept.split_at_mut(self.kept_span(k + 1, k + 1 + 1));
-        let (lower_row, lower_rest) = lower.split_at_mut(self.span(low, low + 1));
         let (lower_own, lower_tails) = lower_kept.split_at_mut(self.kept_span(low, low + 1));
-        let upper_made = self.fill_halves(k + 1, upper_rest, upper_tails, rows, spectra, false);
-        let lower_made = self.fill_halves(low, lower_rest, lower_tails, rows, spectra, false);
-        let (upper_above, upper_below) = upper_rest.split_at(upper_made);
-        let (lower_above, lower_below) = lower_rest.split_at(lower_made);
+        let (upper_row, rest) = below.split_at_mut(self.span(k + 1, k + 1 + 1));
+        let upper_made = self.fill_halves(k + 1, rest, upper_tails, rows, spectra, false);
+        let upper_end = upper_made + self.lower_span(k + 1);
+        let (upper_tables, lower) = rest.split_at_mut(upper_end);
+        let (lower_row, lower_tables) = lower.split_at_mut(self.span(low, low + 1));
+        let lower_made = self.fill_halves(low, lower_tables, lower_tails, rows, spectra, false);
+        let (upper_above, upper_below) = upper_tables.split_at(upper_made);
+        let (lower_above, lower_below) = lower_tables.split_at(lower_made);
         self.merge_wide(
             k,
             table,
@@ -927,10 +943,9 @@ impl Tables {
         if self.is_wide(k, whole) {
             self.parts_of(k);
             let low = self.lower(k);
-            let (upper, lower) = below.split_at_mut(self.span(k + 1, low));
             let (upper_kept, lower_kept) = below_kept.split_at_mut(self.kept_span(k + 1, low));
             self.fill_wide(
-                k, own, own_kept, upper, upper_kept, lower, lower_kept, rows, spectra,
+                k, own, own_kept, below, upper_kept, lower_kept, rows, spectra,
             );
             return;
         }

@@ -1,7 +1,8 @@
 use Rattle.std.proofs.Common.{ℕ, ◌≡◌, ◌+◌, ◌≤◌, ◌<◌, false, length, take, drop, ◌++◌, ap, sym, subst, ◌∙◌, arith}
+use Rattle.std.proofs.lemmas.List.{length-take-le}
 use Rattle.fdmt_carry.specs.Tables.{AreKept, place_of, hold_of, next_of, stop_of, node_count}
 use Rattle.fdmt_carry.specs.Making.{KeepsNode, KeepsPart, PartStands, HalvesStand, AreHalves, lower_of}
-use Rattle.fdmt_carry.proofs.Halves.{KeepsRest, own_kept, below_kept, upper_kept, lower_kept, kept_more, halves_joined, part_joined, wide_joined, channel_made, channel_next, stop_above}
+use Rattle.fdmt_carry.proofs.Halves.{KeepsRest, own_kept, below_kept, upper_kept, lower_kept, kept_more, halves_cut, halves_joined, part_joined, wide_joined, channel_made, channel_next, stop_above}
 use Rattle.fdmt_carry.proofs.tables.Tables.+fill.Goals as goal
 
 pub fill-returns-then-is_single : goal.fill-returns-then-is_single
@@ -62,7 +63,7 @@ fill-returns-then-is_wide t c = λ f u next keeps.
     let upper_same : length c.fill_wide.new.upper_kept ≡ length c.split_at_mut-upper_kept.result.0.now =
     c.fill_wide.auto.upper_kept in
     wide_joined self is f u c.args.spectra k c.args.whole c.fill_wide.new.table c.fill_wide.new.kept
-    (c.fill_wide.new.upper ++ c.fill_wide.new.lower) c.fill_wide.new.upper_kept c.fill_wide.new.lower_kept
+    c.fill_wide.new.below c.fill_wide.new.upper_kept c.fill_wide.new.lower_kept
     (c.is_wide.ensures.alone c.if-is_wide.true) part parts c.requires.short (omega arith) (omega arith) (omega arith)
     (c.fill_wide.ensures f u next own keeps_upper keeps_lower)
 
@@ -169,11 +170,13 @@ fill_wide-returns t c = λ f u next keeps upper_keeps lower_keeps.
     (below_kept self f u low m c.args.lower_kept.now lower_size lower_keeps) in
     let above : ℕ = c.fill_halves-upper_made.result in
     let below : ℕ = c.fill_halves-lower_made.result in
-    let upper_tables = c.fill_halves-upper_made.new.below in
+    let rest = c.fill_halves-upper_made.new.below in
+    let upper_tables = c.split_at_mut-upper_tables.result.0.now in
+    let cut : ℕ = c.lower_span.result in
     let lower_tables = c.fill_halves-lower_made.new.below in
     let upper_tails = c.fill_halves-upper_made.new.kept in
     let lower_tails = c.fill_halves-lower_made.new.kept in
-    let upper_stand : HalvesStand self f u spectra false (k + 1) above upper_tables upper_tails =
+    let upper_stand : HalvesStand self f u spectra false (k + 1) above rest upper_tails =
     c.fill_halves-upper_made.ensures.made f u next upper_kept_rest in
     let lower_stand : HalvesStand self f u spectra false low below lower_tables lower_tails =
     subst (λ j. HalvesStand self f u spectra false j below lower_tables lower_tails) low_is
@@ -184,7 +187,11 @@ fill_wide-returns t c = λ f u next keeps upper_keeps lower_keeps.
     subst (λ xs. AreHalves self f u spectra (k + 1) xs c.split_at.result.1.now)
     (sym c.split_at.ensures.front)
     (subst (λ xs. AreHalves self f u spectra (k + 1) (take above upper_tables) xs)
-    (sym c.split_at.ensures.back) upper_stand.halves) in
+    (sym c.split_at.ensures.back)
+    (subst (λ xs. AreHalves self f u spectra (k + 1) (take above xs) (drop above xs))
+    (sym c.split_at_mut-upper_tables.ensures.front)
+    (halves_cut self is f u spectra (k + 1) above cut rest c.parts_of-2.ensures c.requires.short c.lower_span.ensures
+    (length-take-le above rest c.fill_halves-upper_made.ensures.within) upper_stand.halves))) in
     let lower_halves : AreHalves self f u spectra low c.split_at-2.result.0.now
     c.split_at-2.result.1.now =
     subst (λ xs. AreHalves self f u spectra low xs c.split_at-2.result.1.now)
