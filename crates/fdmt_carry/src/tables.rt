@@ -883,14 +883,17 @@ impl Tables {
         self.parts_of(k);
         self.parts_of(k + 1);
         let low = self.lower(k);
+        self.parts_of(low);
         let (upper_own, upper_tails) = upper_kept.split_at_mut(self.kept_span(k + 1, k + 1 + 1));
         let (lower_own, lower_tails) = lower_kept.split_at_mut(self.kept_span(low, low + 1));
-        let (upper_row, rest) = below.split_at_mut(self.span(k + 1, k + 1 + 1));
-        let upper_made = self.fill_halves(k + 1, rest, upper_tails, rows, spectra, false);
+        let upper_made = self.fill_halves(k + 1, below, upper_tails, rows, spectra, false);
         let upper_end = upper_made + self.lower_span(k + 1);
-        let (upper_tables, lower) = rest.split_at_mut(upper_end);
-        let (lower_row, lower_tables) = lower.split_at_mut(self.span(low, low + 1));
-        let lower_made = self.fill_halves(low, lower_tables, lower_tails, rows, spectra, false);
+        let (upper_tables, rest) = below.split_at_mut(upper_end);
+        let lower_made = self.fill_halves(low, rest, lower_tails, rows, spectra, false);
+        let lower_end = lower_made + self.lower_span(low);
+        let (lower_tables, rest) = rest.split_at_mut(lower_end);
+        let (upper_row, rest) = rest.split_at_mut(self.span(k + 1, k + 1 + 1));
+        let (lower_row, _) = rest.split_at_mut(self.span(low, low + 1));
         let (upper_above, upper_below) = upper_tables.split_at(upper_made);
         let (lower_above, lower_below) = lower_tables.split_at(lower_made);
         self.merge_wide(

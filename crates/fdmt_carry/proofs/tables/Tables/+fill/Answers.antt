@@ -1,7 +1,7 @@
 use Rattle.std.proofs.Common.{ℕ, ◌≡◌, ◌+◌, ◌≤◌, ◌<◌, false, length, take, drop, ◌++◌, ap, sym, subst, ◌∙◌, arith}
 use Rattle.std.proofs.lemmas.List.{length-take-le}
 use Rattle.fdmt_carry.specs.Tables.{AreKept, place_of, hold_of, next_of, stop_of, node_count}
-use Rattle.fdmt_carry.specs.Making.{KeepsNode, KeepsPart, PartStands, HalvesStand, AreHalves, lower_of}
+use Rattle.fdmt_carry.specs.Making.{KeepsNode, KeepsPart, PartStands, HalvesStand, AreHalves, AreParts, lower_of}
 use Rattle.fdmt_carry.proofs.Halves.{KeepsRest, own_kept, below_kept, upper_kept, lower_kept, kept_more, halves_cut, halves_joined, part_joined, wide_joined, channel_made, channel_next, stop_above}
 use Rattle.fdmt_carry.proofs.tables.Tables.+fill.Goals as goal
 
@@ -156,6 +156,10 @@ fill_wide-returns t c = λ f u next keeps upper_keeps lower_keeps.
     let m : ℕ = c.kept_span-2.result in
     let lower_size : hold_of self low + m ≡ hold_of self (low + 1) =
     subst (λ j. hold_of self j + m ≡ hold_of self (j + 1)) low_is c.kept_span-2.ensures in
+    let lower_parts : AreParts self low = subst (λ j. AreParts self j) low_is c.parts_of-3.ensures in
+    let lower_span : place_of self (lower_of self low) + c.lower_span-2.result ≡ place_of self (lower_of self low + 1) =
+    subst (λ j. place_of self (lower_of self j) + c.lower_span-2.result ≡ place_of self (lower_of self j + 1)) low_is
+    c.lower_span-2.ensures in
     let upper_kept_own : KeepsNode self f u (k + 1) c.split_at_mut-upper_own.result.0.now =
     subst (λ xs. KeepsNode self f u (k + 1) xs) (sym c.split_at_mut-upper_own.ensures.front)
     (own_kept self is f u (k + 1) n c.args.upper_kept.now parts.upper_part size upper_keeps) in
@@ -170,16 +174,18 @@ fill_wide-returns t c = λ f u next keeps upper_keeps lower_keeps.
     (below_kept self f u low m c.args.lower_kept.now lower_size lower_keeps) in
     let above : ℕ = c.fill_halves-upper_made.result in
     let below : ℕ = c.fill_halves-lower_made.result in
-    let rest = c.fill_halves-upper_made.new.below in
+    let upper_all = c.fill_halves-upper_made.new.below in
+    let lower_all = c.fill_halves-lower_made.new.below in
     let upper_tables = c.split_at_mut-upper_tables.result.0.now in
-    let cut : ℕ = c.lower_span.result in
-    let lower_tables = c.fill_halves-lower_made.new.below in
+    let lower_tables = c.split_at_mut-lower_tables.result.0.now in
+    let upper_cut : ℕ = c.lower_span.result in
+    let lower_cut : ℕ = c.lower_span-2.result in
     let upper_tails = c.fill_halves-upper_made.new.kept in
     let lower_tails = c.fill_halves-lower_made.new.kept in
-    let upper_stand : HalvesStand self f u spectra false (k + 1) above rest upper_tails =
+    let upper_stand : HalvesStand self f u spectra false (k + 1) above upper_all upper_tails =
     c.fill_halves-upper_made.ensures.made f u next upper_kept_rest in
-    let lower_stand : HalvesStand self f u spectra false low below lower_tables lower_tails =
-    subst (λ j. HalvesStand self f u spectra false j below lower_tables lower_tails) low_is
+    let lower_stand : HalvesStand self f u spectra false low below lower_all lower_tails =
+    subst (λ j. HalvesStand self f u spectra false j below lower_all lower_tails) low_is
     (c.fill_halves-lower_made.ensures.made f u next
     (subst (λ j. KeepsRest self f u j c.split_at_mut-lower_own.result.1.now) (sym low_is) lower_kept_rest)) in
     let upper_halves : AreHalves self f u spectra (k + 1) c.split_at.result.0.now
@@ -190,14 +196,18 @@ fill_wide-returns t c = λ f u next keeps upper_keeps lower_keeps.
     (sym c.split_at.ensures.back)
     (subst (λ xs. AreHalves self f u spectra (k + 1) (take above xs) (drop above xs))
     (sym c.split_at_mut-upper_tables.ensures.front)
-    (halves_cut self is f u spectra (k + 1) above cut rest c.parts_of-2.ensures c.requires.short c.lower_span.ensures
-    (length-take-le above rest c.fill_halves-upper_made.ensures.within) upper_stand.halves))) in
+    (halves_cut self is f u spectra (k + 1) above upper_cut upper_all c.parts_of-2.ensures c.requires.short c.lower_span.ensures
+    (length-take-le above upper_all c.fill_halves-upper_made.ensures.within) upper_stand.halves))) in
     let lower_halves : AreHalves self f u spectra low c.split_at-2.result.0.now
     c.split_at-2.result.1.now =
     subst (λ xs. AreHalves self f u spectra low xs c.split_at-2.result.1.now)
     (sym c.split_at-2.ensures.front)
     (subst (λ xs. AreHalves self f u spectra low (take below lower_tables) xs)
-    (sym c.split_at-2.ensures.back) lower_stand.halves) in
+    (sym c.split_at-2.ensures.back)
+    (subst (λ xs. AreHalves self f u spectra low (take below xs) (drop below xs))
+    (sym c.split_at_mut-lower_tables.ensures.front)
+    (halves_cut self is f u spectra low below lower_cut lower_all lower_parts c.requires.short lower_span
+    (length-take-le below lower_all c.fill_halves-lower_made.ensures.within) lower_stand.halves))) in
     let made = c.merge_wide.ensures f u upper_halves lower_halves keeps upper_kept_own lower_kept_own in
     let upper_long = c.split_at_mut-upper_own.ensures.front_len in
     let lower_long = c.split_at_mut-lower_own.ensures.front_len in
