@@ -1,15 +1,15 @@
 -- What contracts see of a carry, and the streams of samples that it stands for.
--- Source: Zackay & Ofek, ApJ 835:11, 2017, section 2 (the dispersion transform, table by table); that a stream is fed
--- chunk by chunk is this project's choice.
+-- Source: Zackay & Ofek, ApJ 835:11, 2017, section 2 (the dispersion transform, table by table);
+-- that a stream is fed chunk by chunk is this project's choice.
 use Rattle.std.specs.Prelude.{◌≡◌, ℕ, ◌+◌, ◌-◌, ◌*◌, ◌^◌, ◌≤◌, ◌<◌, true, false, Bool, List, length, slice_index}
 use Rattle.band_paths.specs.Edges.{channels_of}
 use Rattle.search_model.specs.Samples.{Filterbank}
 use Rattle.subband_plan.specs.Nodes.{BandPlan}
 use Rattle.fdmt_carry.specs.Tables.{Tables, node_count, all_rows, held_at, place_at, AreKept, TablesStand}
 
--- Tables that were fed `fed` spectra in all and `last` of them by the last call; `has_tables` tells whether that was a
--- feed, after which the tables of all nodes stand. `tables` says where the rows are; `kept` has what is kept of them for
--- the next call, `values` what the last call made.
+-- Tables that were fed `fed` spectra in all and `last` of them by the last call; `has_tables` tells
+-- whether that was a feed, after which the tables of all nodes stand. `tables` says where the rows
+-- are; `kept` has what is kept of them for the next call, `values` what the last call made.
 pub record Carrying : Type 0 where
   pub tables : Tables
   pub max_sample : ℕ
@@ -56,14 +56,16 @@ abbrev pub AreNext : Carrying → Filterbank → List ℕ → ℕ → Type 0
 AreNext c f rows spectra = (channel i : ℕ) → channel < f.channels → i < spectra →
     slice_index rows (channel * c.tables.chunk + i) ≡ f.value channel (c.fed + i)
 
--- The carry was fed the first spectra of a stream: `c.fed` of them, whatever the others are. What is kept is of these,
--- the rows of the whole band are those of the last call, and so are the rows of all nodes where their tables stand.
+-- The carry was fed the first spectra of a stream: `c.fed` of them, whatever the others are. What
+-- is kept is of these, the rows of the whole band are those of the last call, and so are the rows
+-- of all nodes where their tables stand.
 pub record StandsForSamples (c : Carrying) (f : Filterbank) : Type 0 where
   pub stream : IsStream c.tables.plan c.max_sample f
   pub before : c.last ≤ c.fed
   pub kept : AreKept c.tables f c.fed 0 (node_count c.tables) c.kept
   pub band : TablesStand c.tables f (c.fed - c.last) c.last 0 1 c.values
-  pub nodes : c.has_tables ≡ true → TablesStand c.tables f (c.fed - c.last) c.last 0 (node_count c.tables) c.values
+  pub nodes : c.has_tables ≡ true →
+      TablesStand c.tables f (c.fed - c.last) c.last 0 (node_count c.tables) c.values
 
 -- what holds of a carry
 pub record IsSound (c : Carrying) : Type 0 where

@@ -1,6 +1,6 @@
 -- How the rows of a node are made, one after another.
--- Source: Zackay & Ofek, ApJ 835:11, 2017, section 2 (a row is a row of each half); that what is needed later is kept, and
--- where rows stand, is this project's choice.
+-- Source: Zackay & Ofek, ApJ 835:11, 2017, section 2 (a row is a row of each half); that what is
+-- needed later is kept, and where rows stand, is this project's choice.
 use Rattle.std.specs.Prelude.{◌≡◌, ℕ, ◌+◌, ◌-◌, ◌*◌, ◌%◌, ◌^◌, ◌≤◌, ◌<◌, true, Bool, List, length, slice_index, take, drop}
 use Rattle.band_paths.specs.Edges.{channels_of}
 use Rattle.search_model.specs.Samples.{Filterbank}
@@ -33,10 +33,11 @@ pub record IsWide (t : Tables) (k : ℕ) : Type 0 where
 pub record StepsAt (t : Tables) (k d : ℕ) : Type 0 where
   pub part : split_of t.plan.edges (node_of t k) d ≤ d
   pub rises : split_of t.plan.edges (node_of t k) d ≤ split_of t.plan.edges (node_of t k) (d + 1)
-  pub by_one : split_of t.plan.edges (node_of t k) (d + 1) ≤ split_of t.plan.edges (node_of t k) d + 1
+  pub by_one : split_of t.plan.edges (node_of t k) (d + 1)
+      ≤ split_of t.plan.edges (node_of t k) d + 1
 
--- what the row of delay d of a node of two channels or more is made of: rows of its halves, of which the upper one ends
--- no earlier than its kept values reach
+-- what the row of delay d of a node of two channels or more is made of: rows of its halves, of
+-- which the upper one ends no earlier than its kept values reach
 pub record IsMerge (t : Tables) (k d : ℕ) (m : Merge) : Type 0 where
   pub late : m.late ≡ d - split_of t.plan.edges (node_of t k) d
   pub upper : m.upper ≡ row_number t (k + 1) (split_of t.plan.edges (node_of t k) d)
@@ -49,8 +50,8 @@ pub record IsMerge (t : Tables) (k d : ℕ) (m : Merge) : Type 0 where
   pub below : lower_of t k < node_count t
   pub enough : m.late ≤ tail_of t m.upper
 
--- what the row of delay d of a single channel is made of: the row of delay 0, of which enough is kept, and the row
--- before
+-- what the row of delay d of a single channel is made of: the row of delay 0, of which enough is
+-- kept, and the row before
 pub record IsRunOn (t : Tables) (k d : ℕ) : Type 0 where
   pub zero_kept : HasKept (node_of t k) 0
   pub prior_kept : HasKept (node_of t k) (d - 1)
@@ -103,10 +104,12 @@ pub record HaveRoom (t : Tables) (k upper lower : ℕ) : Type 0 where
   pub lower_room : HasRoom t (lower_of t k) lower
 
 -- the halves of node k are there
-pub record AreHalves (t : Tables) (f : Filterbank) (u spectra k : ℕ) (upper lower : List ℕ) : Type 0 where
+pub record AreHalves (t : Tables) (f : Filterbank) (u spectra k : ℕ) (upper lower : List ℕ) :
+    Type 0 where
   pub channels : f.channels ≡ channels_of t.plan.edges
   pub upper_half : ListsNode t f u (place_at t) spectra (k + 1) (place_of t (k + 1)) upper
-  pub lower_half : ListsNode t f u (place_at t) spectra (lower_of t k) (place_of t (lower_of t k)) lower
+  pub lower_half : ListsNode t f u (place_at t) spectra (lower_of t k)
+      (place_of t (lower_of t k)) lower
 
 -- what is kept of the row of delay d of node k
 abbrev pub KeepsRow : Tables → Filterbank → ℕ → ℕ → ℕ → List ℕ → Type 0
@@ -120,32 +123,40 @@ abbrev pub TableHas : Tables → Filterbank → ℕ → ℕ → ℕ → ℕ → 
 TableHas t f u spectra k d table = ListsRow t f u (place_at t) spectra k d (place_of t k) table
 
 -- the rows that the row of delay d of a single channel is made of
-pub record ChannelHas (t : Tables) (f : Filterbank) (u spectra k d : ℕ) (table : List ℕ) : Type 0 where
+pub record ChannelHas (t : Tables) (f : Filterbank) (u spectra k d : ℕ) (table : List ℕ) :
+    Type 0 where
   pub first : TableHas t f u spectra k 0 table
   pub prior : TableHas t f u spectra k (d - 1) table
 
 -- the next samples of the channel of node k
 pub record AreSamples (t : Tables) (f : Filterbank) (u k : ℕ) (samples : List ℕ) : Type 0 where
   pub channels : f.channels ≡ channels_of t.plan.edges
-  pub are : (i : ℕ) → i < length samples → slice_index samples i ≡ f.value (node_of t k).lo (u + i) % 2 ^ 32
+  pub are : (i : ℕ) → i < length samples →
+      slice_index samples i ≡ f.value (node_of t k).lo (u + i) % 2 ^ 32
 
 -- from a place on, a list has the row of delay d of node k
 abbrev pub HasRowAt : Tables → Filterbank → ℕ → ℕ → ℕ → ℕ → ℕ → List ℕ → Type 0
-HasRowAt t f u spectra k d place xs = (i p : ℕ) → i < tail_of t (row_number t k d) + spectra → p ≡ place + i →
-    slice_index xs p ≡ row_value t f u k d i
+HasRowAt t f u spectra k d place xs = (i p : ℕ) → i < tail_of t (row_number t k d) + spectra →
+    p ≡ place + i → slice_index xs p ≡ row_value t f u k d i
 
 -- from two places on, two lists have the rows of its halves that it is made of
-pub record HasHalves (t : Tables) (f : Filterbank) (u spectra k d above below : ℕ) (upper lower : List ℕ) : Type 0 where
-  pub upper_row : HasRowAt t f u spectra (k + 1) (split_of t.plan.edges (node_of t k) d) above upper
-  pub lower_row : HasRowAt t f u spectra (lower_of t k) (d - split_of t.plan.edges (node_of t k) d) below lower
+pub record HasHalves (t : Tables) (f : Filterbank) (u spectra k d above below : ℕ)
+    (upper lower : List ℕ) : Type 0 where
+  pub upper_row : HasRowAt t f u spectra (k + 1) (split_of t.plan.edges (node_of t k) d) above
+      upper
+  pub lower_row : HasRowAt t f u spectra (lower_of t k)
+      (d - split_of t.plan.edges (node_of t k) d) below lower
 
 -- from a place on, the row is made, and what is kept of it is that of the spectra after it
-pub record RowStandsAt (t : Tables) (f : Filterbank) (u spectra k d place : ℕ) (table kept : List ℕ) : Type 0 where
+pub record RowStandsAt (t : Tables) (f : Filterbank) (u spectra k d place : ℕ)
+    (table kept : List ℕ) : Type 0 where
   pub row : HasRowAt t f u spectra k d place table
   pub tail : KeepsRow t f (u + spectra) k d kept
 
--- the row is made where it stands in the table of the node, and what is kept of it is that of the spectra after it
-pub record RowStands (t : Tables) (f : Filterbank) (u spectra k d : ℕ) (table kept : List ℕ) : Type 0 where
+-- the row is made where it stands in the table of the node, and what is kept of it is that of the
+-- spectra after it
+pub record RowStands (t : Tables) (f : Filterbank) (u spectra k d : ℕ) (table kept : List ℕ) :
+    Type 0 where
   pub row : TableHas t f u spectra k d table
   pub tail : KeepsRow t f (u + spectra) k d kept
 
@@ -160,7 +171,8 @@ pub record ChangesRow (t : Tables) (k r : ℕ) (table table' kept kept' : List �
   pub kept_stays : StaysOutside (hold_of t k) (held_at t r) (held_at t (r + 1)) kept kept'
 
 -- nothing but `size` values from a place on changed, and what is kept of row r
-pub record ChangesRowAt (t : Tables) (k r place size : ℕ) (table table' kept kept' : List ℕ) : Type 0 where
+pub record ChangesRowAt (t : Tables) (k r place size : ℕ) (table table' kept kept' : List ℕ) :
+    Type 0 where
   pub table_stays : StaysOutside 0 place (place + size) table table'
   pub kept_stays : StaysOutside (hold_of t k) (held_at t r) (held_at t (r + 1)) kept kept'
 
@@ -179,30 +191,32 @@ pub record PartStands (t : Tables) (f : Filterbank) (u spectra : ℕ) (whole : B
   pub tables : TablesStand t f u spectra k (stop_of t whole k) table
   pub tails : KeepsPart t f (u + spectra) k kept
 
--- The rows of node k of lesser delays than n were made one after another, all at the first place of a list, which has the
--- last one. What is kept of them is that of the spectra after it.
-pub record LastStands (t : Tables) (f : Filterbank) (u spectra k n : ℕ) (row kept : List ℕ) : Type 0 where
+-- The rows of node k of lesser delays than n were made one after another, all at the first place of
+-- a list, which has the last one. What is kept of them is that of the spectra after it.
+pub record LastStands (t : Tables) (f : Filterbank) (u spectra k n : ℕ) (row kept : List ℕ) :
+    Type 0 where
   pub made : (e : ℕ) → HasKept (node_of t k) e → e < n → KeepsRow t f (u + spectra) k e kept
   pub rest : (e : ℕ) → HasKept (node_of t k) e → n ≤ e → KeepsRow t f u k e kept
   pub last : (e : ℕ) → HasKept (node_of t k) e → e + 1 ≡ n → HasRowAt t f u spectra k e 0 row
 
--- the rows of node k are made, and what is kept of those of its halves is that of the spectra after them
-pub record WideStands (t : Tables) (f : Filterbank) (u spectra k : ℕ) (table kept upper_kept lower_kept : List ℕ) :
-    Type 0 where
+-- the rows of node k are made, and what is kept of those of its halves is that of the spectra after
+-- them
+pub record WideStands (t : Tables) (f : Filterbank) (u spectra k : ℕ)
+    (table kept upper_kept lower_kept : List ℕ) : Type 0 where
   pub rows : NodeStands t f u spectra k table kept
   pub upper_tails : KeepsNode t f (u + spectra) (k + 1) upper_kept
   pub lower_tails : KeepsNode t f (u + spectra) (lower_of t k) lower_kept
 
 -- and of all nodes below it
-pub record WidePartStands (t : Tables) (f : Filterbank) (u spectra k : ℕ) (table kept upper_kept lower_kept : List ℕ) :
-    Type 0 where
+pub record WidePartStands (t : Tables) (f : Filterbank) (u spectra k : ℕ)
+    (table kept upper_kept lower_kept : List ℕ) : Type 0 where
   pub rows : NodeStands t f u spectra k table kept
   pub upper_tails : KeepsPart t f (u + spectra) (k + 1) upper_kept
   pub lower_tails : KeepsPart t f (u + spectra) (lower_of t k) lower_kept
 
 -- the tables of both halves of node k are made, those of the lower half after the first n values
-pub record HalvesStand (t : Tables) (f : Filterbank) (u spectra : ℕ) (whole : Bool) (k n : ℕ) (below kept : List ℕ) :
-    Type 0 where
+pub record HalvesStand (t : Tables) (f : Filterbank) (u spectra : ℕ) (whole : Bool) (k n : ℕ)
+    (below kept : List ℕ) : Type 0 where
   pub halves : AreHalves t f u spectra k (take n below) (drop n below)
   pub tables : whole ≡ true → TablesStand t f u spectra (k + 1) (next_of t k) below
   pub tails : AreKept t f (u + spectra) (k + 1) (next_of t k) kept

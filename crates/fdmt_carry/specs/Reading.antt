@@ -17,7 +17,8 @@ pub record IsWhole (t : Tables) : Type 0 where
   pub last_held : hold_of t (node_count t) ≡ held_at t (all_rows t)
   pub band : node_of t 0 ≡ root t.plan
 
--- where no sum over the band passes 32 bits, the values past those that are kept are the sums themselves
+-- where no sum over the band passes 32 bits, the values past those that are kept are the sums
+-- themselves
 abbrev pub ArePlain : Tables → Type 0
 ArePlain t = (f : Filterbank) (m : ℕ) → m * (channels_of t.plan.edges + t.plan.last) < 2 ^ 32 →
     ((c s : ℕ) → f.value c s ≤ m) → (k d u i : ℕ) → k < node_count t → HasKept (node_of t k) d →

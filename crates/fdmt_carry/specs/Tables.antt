@@ -1,6 +1,6 @@
 -- Where the rows of all tables stand, and what they list.
--- Source: Zackay & Ofek, ApJ 835:11, 2017, section 2 (the partial sums of the transform); that values are kept from
--- chunk to chunk is this project's choice.
+-- Source: Zackay & Ofek, ApJ 835:11, 2017, section 2 (the partial sums of the transform); that
+-- values are kept from chunk to chunk is this project's choice.
 use Rattle.std.specs.Prelude.{◌≡◌, ℕ, ◌+◌, ◌-◌, ◌*◌, ◌%◌, ◌^◌, ◌≤◌, ◌<◌, Bool, List, length, slice_index, if◌then◌else◌}
 use Rattle.dada_model.specs.Bounds.{most_delay}
 use Rattle.band_paths.specs.Edges.{channels_of}
@@ -65,7 +65,8 @@ place_of t k = place_at t (start_of t k)
 abbrev pub hold_of : Tables → ℕ → ℕ
 hold_of t k = held_at t (start_of t k)
 
--- how many values a row has of which so many are kept, row by row, and that they stand one after another
+-- how many values a row has of which so many are kept, row by row, and that they stand one after
+-- another
 pub record ArePlaced (t : Tables) (at : ℕ → ℕ) (more : ℕ) : Type 0 where
   pub first : at 0 ≡ 0
   pub next : (r : ℕ) → r < all_rows t → at (r + 1) ≡ at r + (tail_of t r + more)
@@ -97,15 +98,16 @@ pub record IsRow (t : Tables) (k r : ℕ) : Type 0 where
   pub kept_to : held_at t (r + 1) ≤ hold_of t (k + 1)
   pub short : tail_of t r ≤ most_delay
 
--- Value i of the row of delay d of node k, where the values after those that are kept are sums that end at spectrum u
--- and later: in 32 bits, the sum over the node along the path of d that ends at spectrum u + i, less the kept ones.
+-- Value i of the row of delay d of node k, where the values after those that are kept are sums that
+-- end at spectrum u and later: in 32 bits, the sum over the node along the path of d that ends at
+-- spectrum u + i, less the kept ones.
 unfoldable pub row_value : Tables → Filterbank → ℕ → ℕ → ℕ → ℕ → ℕ
 row_value t f u k d i =
     let n = node_of t k in
     node_sum f t.plan.edges n.lo n.hi d (u + i) (tail_of t (row_number t k d)) % 2 ^ 32
 
--- A list has the row of delay d of node k: `more` values after those that are kept of it. Place p of the list is place
--- base + p of all rows, of which row r begins at `at r`.
+-- A list has the row of delay d of node k: `more` values after those that are kept of it. Place p
+-- of the list is place base + p of all rows, of which row r begins at `at r`.
 abbrev pub ListsRow : Tables → Filterbank → ℕ → (ℕ → ℕ) → ℕ → ℕ → ℕ → ℕ → List ℕ → Type 0
 ListsRow t f u at more k d base xs = (i p : ℕ) → i < tail_of t (row_number t k d) + more →
     base + p ≡ at (row_number t k d) + i → slice_index xs p ≡ row_value t f u k d i
@@ -115,10 +117,11 @@ abbrev pub ListsNode : Tables → Filterbank → ℕ → (ℕ → ℕ) → ℕ �
 ListsNode t f u at more k base xs = (d : ℕ) → HasKept (node_of t k) d →
     ListsRow t f u at more k d base xs
 
--- Before the sums that end at spectrum u, the list has what is kept of the rows of the nodes from `from` up to `to`, of
--- which the first begins where the list does.
+-- Before the sums that end at spectrum u, the list has what is kept of the rows of the nodes from
+-- `from` up to `to`, of which the first begins where the list does.
 abbrev pub AreKept : Tables → Filterbank → ℕ → ℕ → ℕ → List ℕ → Type 0
-AreKept t f u from to xs = (k : ℕ) → from ≤ k → k < to → ListsNode t f u (held_at t) 0 k (hold_of t from) xs
+AreKept t f u from to xs = (k : ℕ) → from ≤ k → k < to →
+    ListsNode t f u (held_at t) 0 k (hold_of t from) xs
 
 -- the list has their rows, with so many sums each
 abbrev pub TablesStand : Tables → Filterbank → ℕ → ℕ → ℕ → ℕ → List ℕ → Type 0

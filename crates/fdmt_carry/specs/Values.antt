@@ -9,7 +9,8 @@ Begins g row = (i : ℕ) → i < length row → slice_index row i ≡ g i
 
 -- from value n on, the sequence has the sums of two rows
 abbrev pub GoesOn : (ℕ → ℕ) → ℕ → List ℕ → List ℕ → Type 0
-GoesOn g n a b = (i : ℕ) → i < length a → g (n + i) ≡ wrapping_sum (slice_index a i) (slice_index b i)
+GoesOn g n a b = (i : ℕ) → i < length a →
+    g (n + i) ≡ wrapping_sum (slice_index a i) (slice_index b i)
 
 -- from value n on, it has the values of a list
 abbrev pub GoesOnWith : (ℕ → ℕ) → ℕ → List ℕ → Type 0

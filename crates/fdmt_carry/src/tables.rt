@@ -388,8 +388,8 @@ impl Tables {
         d - merge.late
     }
 
-    // Makes row `r`, which is that of delay `d` of node `k`, at place `at` of a table, from rows of its halves that begin
-    // at places `above` and `below`.
+    // Makes row `r`, which is that of delay `d` of node `k`, at place `at` of a table, from rows of its halves that
+    // begin at places `above` and `below`.
     #[inline(always)]
     fn add_row(
         &self,
@@ -693,8 +693,8 @@ impl Tables {
         self.live_row(k, d, r, bases, row, kept, upper, lower, spectra);
     }
 
-    // Makes the rows of node `k` from those of its halves, of which one at a time is made where its table would stand:
-    // those of the upper half from the tables `upper_above` and `upper_below` of its halves, and so those of the lower half.
+    // Makes the rows of node `k` from those of its halves, of which one at a time is made in one place: those of the
+    // upper half from the tables `upper_above` and `upper_below` of its halves, and so those of the lower half.
     fn merge_wide(
         &self,
         k: usize,
@@ -849,7 +849,8 @@ impl Tables {
         self.span(low, low + 1)
     }
 
-    // Makes the rows of node `k` from the next spectra, and those of all nodes below it, but not the tables of its halves.
+    // Makes the rows of node `k` from the next spectra, and those of all nodes below it, but not the tables of its
+    // halves.
     #[cycle(fill)]
     fn fill_wide(
         &self,

@@ -1,5 +1,6 @@
 -- How the merges of all rows are laid one after another.
--- Source: Zackay & Ofek, ApJ 835:11, 2017, section 2; the order of the rows is this project's choice.
+-- Source: Zackay & Ofek, ApJ 835:11, 2017, section 2; the order of the rows is this project's
+-- choice.
 use Rattle.std.specs.Prelude.{◌≡◌, ℕ, List, length, slice_index}
 use Rattle.subband_plan.specs.declared.nodes.Node.{Node}
 use Rattle.subband_plan.specs.declared.rows.Merge.{Merge}

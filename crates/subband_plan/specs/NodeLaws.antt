@@ -1,5 +1,6 @@
 -- Laws of the nodes of a plan; the functions of this crate carry them.
--- Source: Zackay & Ofek, ApJ 835:11, 2017, section 2; the order of the nodes is this project's choice.
+-- Source: Zackay & Ofek, ApJ 835:11, 2017, section 2; the order of the nodes is this project's
+-- choice.
 use Rattle.std.specs.Prelude.{◌≡◌, ℕ, ◌+◌, ◌-◌, ◌*◌, ◌≤◌, ◌<◌, List, length}
 use Rattle.dada_model.specs.Edges.{AreEdges}
 use Rattle.band_paths.specs.Edges.{channels_of}
@@ -11,8 +12,8 @@ use Rattle.subband_plan.specs.Nodes.{BandPlan, IsPlan, IsBranch, HasRow, split_o
 abbrev pub lower_number : Node → ℕ → ℕ
 lower_number n k = k + 2 * (middle n.lo n.hi - n.lo)
 
--- node k with what lies below it: the halves stand where they are looked for, and all below it comes before node
--- k + 2 * its channels - 1
+-- node k with what lies below it: the halves stand where they are looked for, and all below it
+-- comes before node k + 2 * its channels - 1
 pub record IsLaid (edges : List ℕ) (nodes : List Node) (k : ℕ) (n : Node) : Type 0 where
   pub branch : IsBranch edges n
   pub below : k + 2 * (n.hi - n.lo) ≤ length nodes + 1
@@ -24,7 +25,8 @@ pub record AreLaid (edges : List ℕ) (nodes : List Node) : Type 0 where
   pub count : length nodes + 1 ≡ 2 * channels_of edges
   pub each : (k : ℕ) → k < length nodes → IsLaid edges nodes k (node_at nodes k)
 
--- a plan over n channels has 2 n - 1 nodes, the whole band first, and the halves of each are among them
+-- a plan over n channels has 2 n - 1 nodes, the whole band first, and the halves of each are among
+-- them
 abbrev pub PlansAreLaid : Type 0
 PlansAreLaid =
     (p : BandPlan) → IsPlan p → (AreLaid p.edges (nodes_of p)) × (node_at (nodes_of p) 0 ≡ root p)

@@ -1,6 +1,8 @@
--- The nodes of a plan: one for each part of the band that the halving tree comes to, with the delays of its rows.
--- Source: Zackay & Ofek, ApJ 835:11, 2017, section 2 (the band is halved again and again, and a row of the whole is a
--- row of the upper half and one of the lower half); the order of the nodes is this project's profile.
+-- The nodes of a plan: one for each part of the band that the halving tree comes to, with the
+-- delays of its rows.
+-- Source: Zackay & Ofek, ApJ 835:11, 2017, section 2 (the band is halved again and again, and a row
+-- of the whole is a row of the upper half and one of the lower half); the order of the nodes is
+-- this project's profile.
 use Rattle.std.specs.Prelude.{◌≡◌, ℕ, ◌+◌, ◌-◌, ◌*◌, ◌^◌, ◌≤◌, ◌<◌, true, false, List, [], ◌∷◌, ◌++◌, length, zero, suc, nat_le, slice_index_or, if◌then◌else◌}
 use Rattle.dada_model.specs.Bounds.{most_delay}
 use Rattle.dada_model.specs.Edges.{AreEdges}
@@ -8,7 +10,8 @@ use Rattle.band_paths.specs.Edges.{channels_of}
 use Rattle.search_model.specs.Paths.{middle, split_at}
 use Rattle.subband_plan.specs.declared.nodes.Node.{Node}
 
--- what contracts see in a plan: the edges of the channels in kHz, the highest first, and the delays of the whole band
+-- what contracts see in a plan: the edges of the channels in kHz, the highest first, and the delays
+-- of the whole band
 pub record BandPlan : Type 0 where
   pub edges : List ℕ
   pub first : ℕ
@@ -18,8 +21,8 @@ pub record BandPlan : Type 0 where
 unfoldable pub split_of : List ℕ → Node → ℕ → ℕ
 split_of edges n d = split_at edges n.lo n.hi d
 
--- The upper half of a node has the rows that the node's rows ask for, and keeps as much of each for the next spectra as
--- the greatest delay of the lower half.
+-- The upper half of a node has the rows that the node's rows ask for, and keeps as much of each for
+-- the next spectra as the greatest delay of the lower half.
 abbrev pub upper_half : List ℕ → Node → Node
 upper_half edges n = record {
   lo = n.lo;
@@ -39,8 +42,8 @@ lower_half edges n = record {
   tail = 0;
 }
 
--- a node, its upper half and what lies below that, its lower half and what lies below that; `depth` bounds how often
--- it is halved
+-- a node, its upper half and what lies below that, its lower half and what lies below that; `depth`
+-- bounds how often it is halved
 unfoldable pub tree : ℕ → List ℕ → Node → List Node
 tree zero edges n = n ∷ []
 tree (suc depth) edges n =
@@ -94,8 +97,8 @@ pub record HasRow (n : Node) (d : ℕ) : Type 0 where
   pub least : n.first_row ≤ d
   pub most : d ≤ n.last_row
 
--- the least delay of a node's kept rows; those of a single channel begin at delay 0, since each is made of the one
--- before
+-- the least delay of a node's kept rows; those of a single channel begin at delay 0, since each is
+-- made of the one before
 unfoldable pub least_row : Node → ℕ
 least_row n = if nat_le 2 (n.hi - n.lo) then n.first_row else 0
 

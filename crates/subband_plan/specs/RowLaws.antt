@@ -1,5 +1,6 @@
 -- Laws of the rows of a plan's tables; the functions of this crate carry them.
--- Source: Zackay & Ofek, ApJ 835:11, 2017, section 2; the order of the rows is this project's choice.
+-- Source: Zackay & Ofek, ApJ 835:11, 2017, section 2; the order of the rows is this project's
+-- choice.
 use Rattle.std.specs.Prelude.{◌≡◌, ℕ, ◌+◌, ◌-◌, ◌*◌, ◌^◌, ◌≤◌, ◌<◌, List, length, slice_index}
 use Rattle.dada_model.specs.Bounds.{most_delay}
 use Rattle.subband_plan.specs.declared.nodes.Node.{Node}
@@ -8,7 +9,8 @@ use Rattle.subband_plan.specs.Nodes.{BandPlan, IsPlan, HasKept, least_row, split
 use Rattle.subband_plan.specs.NodeLaws.{AreLaid}
 use Rattle.subband_plan.specs.Rows.{AreRows, AreStarts, row_of}
 
--- the rows of a node are numbered from its start up to the next node's, and the halves have the rows that it asks for
+-- the rows of a node are numbered from its start up to the next node's, and the halves have the
+-- rows that it asks for
 pub record AreNumbered (edges : List ℕ) (nodes : List Node) (starts : List ℕ) : Type 0 where
   pub rise : (j k : ℕ) → j ≤ k → k ≤ length nodes → slice_index starts j ≤ slice_index starts k
   pub few : (k : ℕ) → k ≤ length nodes → slice_index starts k ≤ (most_delay + 1) * k

@@ -1,7 +1,7 @@
--- The rows of tables that are carried from chunk to chunk: how they are numbered, of which rows each is made, and how
--- much of each is kept.
--- Source: Zackay & Ofek, ApJ 835:11, 2017, section 2 (a row is a row of the upper half, which ends earlier, added to
--- one of the lower half); the order of the rows is this project's profile.
+-- The rows of tables that are carried from chunk to chunk: how they are numbered, of which rows
+-- each is made, and how much of each is kept.
+-- Source: Zackay & Ofek, ApJ 835:11, 2017, section 2 (a row is a row of the upper half, which ends
+-- earlier, added to one of the lower half); the order of the rows is this project's profile.
 use Rattle.std.specs.Prelude.{◌≡◌, ℕ, ◌+◌, ◌-◌, ◌≤◌, ◌<◌, List, length, slice_index, slice_index_or}
 use Rattle.dada_model.specs.Bounds.{most_delay}
 use Rattle.subband_plan.specs.declared.nodes.Node.{Node}
@@ -24,8 +24,9 @@ AreStarts nodes starts = ArePlaces (λ k. kept_count (node_at nodes k)) (length 
 abbrev pub row_of : List ℕ → ℕ → Node → ℕ → ℕ
 row_of starts k n d = slice_index starts k + (d - least_row n)
 
--- Of which rows the row of delay d of n, which is node k, is made. The upper one ends `late` spectra before the lower
--- one. A single channel's row is that of delay 0, as much earlier as the row's delay, added to the row before.
+-- Of which rows the row of delay d of n, which is node k, is made. The upper one ends `late`
+-- spectra before the lower one. A single channel's row is that of delay 0, as much earlier as the
+-- row's delay, added to the row before.
 pub record IsMade (edges : List ℕ) (starts : List ℕ) (k : ℕ) (n : Node) (d : ℕ)
     (m : Merge) : Type 0 where
   pub upper : n.lo + 2 ≤ n.hi →
@@ -56,7 +57,8 @@ pub record IsWithin (rows : ℕ) (m : Merge) : Type 0 where
 abbrev pub AreWithin : ℕ → List Merge → Type 0
 AreWithin rows merges = (r : ℕ) → r < length merges → IsWithin rows (merge_at merges r)
 
--- Of each row as many values are kept as the first rows ask for of those before a chunk, and no more.
+-- Of each row as many values are kept as the first rows ask for of those before a chunk, and no
+-- more.
 pub record AreTails (merges : List Merge) (count : ℕ) (tails : List ℕ) : Type 0 where
   pub entries : length tails ≡ length merges
   pub enough : (r : ℕ) → r < count →
