@@ -4,7 +4,7 @@ use Rattle.std.proofs.lemmas.Bool.{cases_lt}
 use Rattle.search_model.specs.Samples.{Filterbank}
 use Rattle.subband_plan.specs.Nodes.{HasKept, least_row, split_of}
 use Rattle.fdmt_carry.specs.Tables.{Tables, AreTables, node_of, node_count, row_number, held_at, hold_of}
-use Rattle.fdmt_carry.specs.Making.{IsPair, IsWide, StepsAt, StaysOutside, HasRowAt, HasHalves, RowStandsAt, KeepsRow, KeepsNode, LastStands, lower_of}
+use Rattle.fdmt_carry.specs.Making.{IsWide, StepsAt, StaysOutside, HasRowAt, RowStandsAt, KeepsRow, KeepsNode, LastStands, lower_of}
 use Rattle.fdmt_carry.proofs.Loops.{StandBelow}
 use Rattle.fdmt_carry.proofs.Stands.{row_stays}
 

@@ -1,6 +1,6 @@
-use Rattle.std.proofs.Common.{ℕ, ◌≡◌, ◌+◌, ◌≤◌, ◌<◌, false, length, take, drop, ◌++◌, ap, sym, subst, ◌∙◌, arith}
+use Rattle.std.proofs.Common.{ℕ, ◌≡◌, ◌+◌, ◌≤◌, ◌<◌, false, length, take, drop, ap, sym, subst, ◌∙◌, arith}
 use Rattle.std.proofs.lemmas.List.{length-take-le}
-use Rattle.fdmt_carry.specs.Tables.{AreKept, place_of, hold_of, next_of, stop_of, node_count}
+use Rattle.fdmt_carry.specs.Tables.{place_of, hold_of, stop_of, node_count}
 use Rattle.fdmt_carry.specs.Making.{KeepsNode, KeepsPart, PartStands, HalvesStand, AreHalves, AreParts, lower_of}
 use Rattle.fdmt_carry.proofs.Halves.{KeepsRest, own_kept, below_kept, upper_kept, lower_kept, kept_more, halves_cut, halves_joined, part_joined, wide_joined, channel_made, channel_next, stop_above}
 use Rattle.fdmt_carry.proofs.tables.Tables.+fill.Goals as goal

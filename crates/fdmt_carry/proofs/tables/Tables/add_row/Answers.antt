@@ -1,5 +1,5 @@
-use Rattle.std.proofs.Common.{ℕ, ◌≡◌, ◌+◌, ◌-◌, ◌≤◌, length, ap, sym, ◌∙◌, arith}
-use Rattle.fdmt_carry.specs.Tables.{tail_of, row_number, held_at, hold_of}
+use Rattle.std.proofs.Common.{ℕ, ◌≡◌, ◌+◌, ◌-◌, ◌≤◌, length, ap, ◌∙◌, arith}
+use Rattle.fdmt_carry.specs.Tables.{tail_of, row_number, held_at}
 use Rattle.fdmt_carry.proofs.Parts.{part_length}
 use Rattle.fdmt_carry.proofs.Made.{row_made_at, row_alone_at, halves_go_on}
 use Rattle.fdmt_carry.proofs.tables.Tables.add_row.Goals as goal

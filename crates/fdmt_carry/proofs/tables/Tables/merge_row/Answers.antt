@@ -1,4 +1,4 @@
-use Rattle.std.proofs.Common.{ℕ, ◌≡◌, ◌+◌, ap, subst, ◌∙◌, arith}
+use Rattle.std.proofs.Common.{ℕ, ◌≡◌, ◌+◌, ap, ◌∙◌, arith}
 use Rattle.fdmt_carry.specs.Tables.{place_at, place_of}
 use Rattle.fdmt_carry.specs.Making.{lower_of}
 use Rattle.fdmt_carry.proofs.Made.{row_placed, change_placed, halves_at}

@@ -1,5 +1,5 @@
-use Rattle.std.proofs.Common.{ℕ, ◌≡◌, ◌+◌, ◌-◌, List, ap, sym, subst, ◌∙◌, arith, refl}
-use Rattle.subband_plan.specs.Nodes.{HasKept, least_row, split_of}
+use Rattle.std.proofs.Common.{ℕ, ◌≡◌, ◌+◌, ap, sym, subst, ◌∙◌, arith, refl}
+use Rattle.subband_plan.specs.Nodes.{HasKept, least_row}
 use Rattle.fdmt_carry.specs.Tables.{node_of}
 use Rattle.fdmt_carry.specs.Making.{AreHalves, HasRowAt, HasHalves, LastStands, lower_of}
 use Rattle.fdmt_carry.proofs.Loops.{none_made, one_more, all_made}

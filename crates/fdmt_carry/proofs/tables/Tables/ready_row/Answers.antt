@@ -1,4 +1,4 @@
-use Rattle.std.proofs.Common.{ℕ, ◌≡◌, ◌+◌, arith, subst, sym}
+use Rattle.std.proofs.Common.{◌≡◌, ◌+◌, arith, subst}
 use Rattle.fdmt_carry.specs.Making.{LastStands}
 use Rattle.fdmt_carry.proofs.Wide.{next_last}
 use Rattle.fdmt_carry.proofs.tables.Tables.ready_row.Goals as goal

@@ -1,0 +1,158 @@
+// How the next spectra are taken into the tables of a node and of all nodes below it.
+ghost use Rattle.std.specs.Prelude.{◌≡◌, ℕ, ◌+◌, ◌-◌, ◌*◌, ◌<◌, ◌≤◌, length};
+ghost use Rattle.search_model.specs.Samples.{Filterbank};
+ghost use Rattle.band_paths.specs.Edges.{channels_of};
+ghost use Rattle.fdmt_carry.specs.Tables.{node_count, place_of, hold_of, next_of, stop_of, HasNext, AreKept};
+ghost use Rattle.fdmt_carry.specs.Making.{IsPair, IsWide, FitNode, HaveRoom, KeepsNode, KeepsPart, HalvesStand, WidePartStands, PartStands, lower_of};
+
+use super::Tables;
+
+impl Tables {
+    // Makes the rows of both halves of node `k`, and of all nodes below them, and tells how many values come before the
+    // rows of the lower half.
+    #[cycle(fill)]
+    fn fill_halves(
+        &self,
+        k: usize,
+        below: &mut [u32],
+        kept: &mut [u32],
+        rows: &[u32],
+        spectra: usize,
+        whole: bool,
+    ) -> usize
+        requires node { IsPair self.now k }
+        requires room { place_of self.now (next_of self.now k)
+            ≤ place_of self.now (k + 1) + length below.old }
+        requires tails { hold_of self.now (k + 1) + length kept.old
+            ≡ hold_of self.now (next_of self.now k) }
+        requires rows { length rows.now ≡ channels_of self.now.plan.edges * self.now.chunk }
+        requires short { spectra ≤ self.now.chunk }
+        ensures value { place_of self.now (k + 1) + result
+            ≡ place_of self.now (stop_of self.now whole (k + 1)) }
+        ensures within { result ≤ length below.new }
+        ensures room { HaveRoom self.now k result (length below.new - result) }
+        ensures made { (f : Filterbank) (u : ℕ) → HasNext self.now f u spectra rows.now
+            → AreKept self.now f u (k + 1) (next_of self.now k) kept.old
+            → HalvesStand self.now f u spectra whole k result below.new kept.new }
+    {
+        self.hold();
+        self.part_of(k);
+        self.parts_of(k);
+        let low = self.lower(k);
+        let (upper_kept, lower_kept) = kept.split_at_mut(self.kept_span(k + 1, low));
+        self.fill(k + 1, below, upper_kept, rows, spectra, whole);
+        let made = self.span(k + 1, self.stop(k + 1, whole));
+        let (_, lower) = below.split_at_mut(made);
+        self.fill(low, lower, lower_kept, rows, spectra, whole);
+        made
+    }
+
+    // Makes the rows of node `k` from the next spectra, and those of all nodes below it, but not the tables of its
+    // halves.
+    #[cycle(fill)]
+    fn fill_wide(
+        &self,
+        k: usize,
+        table: &mut [u32],
+        kept: &mut [u32],
+        below: &mut [u32],
+        upper_kept: &mut [u32],
+        lower_kept: &mut [u32],
+        rows: &[u32],
+        spectra: usize,
+    )
+        requires node { IsWide self.now k }
+        requires short { spectra ≤ self.now.chunk }
+        requires own { FitNode self.now k (length table.old) (length kept.old) }
+        requires room { place_of self.now (next_of self.now k)
+            ≤ place_of self.now (k + 1) + length below.old }
+        requires upper { hold_of self.now (k + 1) + length upper_kept.old
+            ≡ hold_of self.now (next_of self.now (k + 1)) }
+        requires lower { hold_of self.now (lower_of self.now k) + length lower_kept.old
+            ≡ hold_of self.now (next_of self.now (lower_of self.now k)) }
+        requires rows { length rows.now ≡ channels_of self.now.plan.edges * self.now.chunk }
+        ensures { (f : Filterbank) (u : ℕ) → HasNext self.now f u spectra rows.now
+            → KeepsNode self.now f u k kept.old
+            → KeepsPart self.now f u (k + 1) upper_kept.old
+            → KeepsPart self.now f u (lower_of self.now k) lower_kept.old
+            → WidePartStands self.now f u spectra k table.new kept.new upper_kept.new
+            lower_kept.new }
+    {
+        self.hold();
+        self.parts_of(k);
+        self.parts_of(k + 1);
+        let low = self.lower(k);
+        self.parts_of(low);
+        let (upper_own, upper_tails) = upper_kept.split_at_mut(self.kept_span(k + 1, k + 1 + 1));
+        let (lower_own, lower_tails) = lower_kept.split_at_mut(self.kept_span(low, low + 1));
+        let upper_made = self.fill_halves(k + 1, below, upper_tails, rows, spectra, false);
+        let upper_end = upper_made + self.lower_span(k + 1);
+        let (upper_tables, rest) = below.split_at_mut(upper_end);
+        let lower_made = self.fill_halves(low, rest, lower_tails, rows, spectra, false);
+        let lower_end = lower_made + self.lower_span(low);
+        let (lower_tables, rest) = rest.split_at_mut(lower_end);
+        let (upper_row, rest) = rest.split_at_mut(self.span(k + 1, k + 1 + 1));
+        let (lower_row, _) = rest.split_at_mut(self.span(low, low + 1));
+        let (upper_above, upper_below) = upper_tables.split_at(upper_made);
+        let (lower_above, lower_below) = lower_tables.split_at(lower_made);
+        self.merge_wide(
+            k,
+            table,
+            kept,
+            upper_row,
+            upper_own,
+            upper_above,
+            upper_below,
+            lower_row,
+            lower_own,
+            lower_above,
+            lower_below,
+            spectra,
+        );
+    }
+
+    /// Makes the rows of node `k` from the next spectra, and those of all nodes below it; `whole` says whether the
+    /// tables of these stand too.
+    #[cycle(fill)]
+    pub fn fill(
+        &self,
+        k: usize,
+        table: &mut [u32],
+        kept: &mut [u32],
+        rows: &[u32],
+        spectra: usize,
+        whole: bool,
+    )
+        requires node { k < node_count self.now }
+        requires room { place_of self.now (next_of self.now k)
+            ≤ place_of self.now k + length table.old }
+        requires tails { hold_of self.now k + length kept.old
+            ≡ hold_of self.now (next_of self.now k) }
+        requires rows { length rows.now ≡ channels_of self.now.plan.edges * self.now.chunk }
+        requires short { spectra ≤ self.now.chunk }
+        ensures { (f : Filterbank) (u : ℕ) → HasNext self.now f u spectra rows.now
+            → KeepsPart self.now f u k kept.old
+            → PartStands self.now f u spectra whole k table.new kept.new }
+    {
+        self.hold();
+        self.part_of(k);
+        let (own, below) = table.split_at_mut(self.span(k, k + 1));
+        let (own_kept, below_kept) = kept.split_at_mut(self.kept_span(k, k + 1));
+        if self.is_single(k) {
+            self.run_channel(k, own, own_kept, rows, spectra);
+            return;
+        }
+        if self.is_wide(k, whole) {
+            self.parts_of(k);
+            let low = self.lower(k);
+            let (upper_kept, lower_kept) = below_kept.split_at_mut(self.kept_span(k + 1, low));
+            self.fill_wide(
+                k, own, own_kept, below, upper_kept, lower_kept, rows, spectra,
+            );
+            return;
+        }
+        let made = self.fill_halves(k, below, below_kept, rows, spectra, whole);
+        let (upper, lower) = below.split_at(made);
+        self.merge(k, own, own_kept, upper, lower, spectra);
+    }
+}
