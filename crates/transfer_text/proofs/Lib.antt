@@ -3,3 +3,4 @@ pub mod Places
 pub mod Parts
 pub mod Merging
 pub mod Transfers
+pub mod Few

@@ -3,3 +3,4 @@ pub mod Searched
 pub mod Books
 pub mod Found
 pub mod Worked
+pub mod Laws

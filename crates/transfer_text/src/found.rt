@@ -2,7 +2,7 @@
 ghost use Rattle.std.specs.Prelude.{◌≡◌, ◌≤◌, ◌<◌, ◌^◌, List, map, length};
 ghost use Rattle.std.specs.List.{sum_by};
 ghost use Rattle.search_model.specs.Search.{SettingsInRange};
-ghost use Rattle.transfer_text.specs.Searched.{ObservedTransfer};
+ghost use Rattle.transfer_text.specs.Searched.{ObservedTransfer, candidate_total};
 ghost use Rattle.transfer_text.specs.Found.{count_in as count_of, book_total, HoldTransfers, EndsText};
 
 use crate::texts::{MOST_SHARDS, write_texts};
@@ -71,9 +71,10 @@ pub fn write_found<K: Sink>(
 ) -> Result<(), TextStop>
     requires range { SettingsInRange search.now }
     requires few { length books.now ≤ 8 }
-    requires total { book_total (map (λ shards. shards.items) books.now) < 2 ^ 64 }
-    requires found { (transfers : List ObservedTransfer) × HoldTransfers search.now transfers
-        observations.now (map (λ shards. shards.items) books.now) spectra.now }
+    requires found { (transfers : List ObservedTransfer)
+        × HoldTransfers search.now transfers observations.now
+        (map (λ shards. shards.items) books.now) spectra.now
+        × (candidate_total search.now transfers < 2 ^ 64) }
     ensures { (transfers : List ObservedTransfer) → HoldTransfers search.now transfers
         observations.now (map (λ shards. shards.items) books.now) spectra.now
         → EndsText search.now transfers (K.seen out.old) (K.seen out.new) result }

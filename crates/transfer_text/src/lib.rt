@@ -2,7 +2,9 @@
 #![tactic(auto)]
 
 mod found;
+mod laws;
 mod texts;
 
 pub use found::{TextStop, write_found};
+pub use laws::{candidates_are_few, totals_are_counted};
 pub use texts::{MOST_SHARDS, write_texts};

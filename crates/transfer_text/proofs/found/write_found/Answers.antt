@@ -3,6 +3,14 @@ use Rattle.transfer_text.specs.Searched.{found_in, candidate_total}
 use Rattle.transfer_text.proofs.Transfers.{total_is, can_be_written, are_merged}
 use Rattle.transfer_text.proofs.found.write_found.Goals as goal
 
+pub count_all-count-requires : goal.count_all-count-requires
+count_all-count-requires g c =
+    let books = map (λ shards. shards.items) c.args.books.now in
+    let total = total_is c.candidates_are_listed.ensures c.candidates_rise.ensures c.shards_merge.ensures
+    c.args.search.now c.requires.range c.requires.found.0 c.args.observations.now books c.args.spectra.now
+    c.requires.found.1 in
+    omega (arith, total, c.requires.found.2)
+
 pub returns-then-count-from : goal.returns-then-count-from
 returns-then-count-from g c = λ transfers holds.
     let books = map (λ shards. shards.items) c.args.books.now in
