@@ -1,2 +1,3 @@
 pub mod First
 pub mod Plans
+pub mod Rings
