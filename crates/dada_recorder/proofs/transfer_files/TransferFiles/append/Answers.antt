@@ -1,0 +1,62 @@
+use Rattle.std.proofs.Common.{ℕ, ◌-◌, List, ◌++◌, length, take, drop, sym, ◌∙◌, subst, arith}
+use Rattle.std.proofs.lemmas.List.{length-take, length-drop}
+use Rattle.stream_model.specs.Recorded.{Recording, recorded_files}
+use Rattle.dada_recorder.specs.Making.{HasMade, IsFileFront}
+use Rattle.dada_recorder.specs.TransferFiles.{recording_in}
+use Rattle.dada_recorder.proofs.Stepping.{taken_more, taken_all, taken_length}
+use Rattle.dada_recorder.proofs.transfer_files.TransferFiles.append.Goals as goal
+
+pub loop-taken-preserved : goal.loop-taken-preserved
+loop-taken-preserved g c =
+    let before = c.loop-taken.invariant in
+    let t = c.loop-taken.taken in
+    let n = c.in-Ok.n in
+    let ys = c.args.bytes.now in
+    let old = g.F.Files.seen c.loop-taken.files in
+    let new = g.F.Files.seen c.step.new.files in
+    let r = recording_in c.args.self.now in
+    let bound = c.in-Ok.ensures.bound in
+    let rest = length-take (length ys - t) (drop t ys) in
+    let count = c.in-Ok.ensures.taken in
+    let was = before.count in
+    record {
+      within = let dropped = length-drop t ys in omega (arith, bound.1, rest, dropped);
+      kept = c.in-Ok.ensures.kept ∙ before.kept;
+      placed = c.in-Ok.ensures.placed;
+      count = omega (arith, count, was);
+      is_open = c.in-Ok.ensures.is_open;
+      faults = c.in-Ok.ensures.faults.none ∙ before.faults;
+      made = λ files xs is outset has.
+          let Was : Recording → Type 0 = λ s.
+          HasMade outset c.loop-taken.self.place.is_open (files ++ recorded_files s (xs ++ take t ys)) old in
+          let Now : Recording → Type 0 = λ s.
+          HasMade outset c.step.new.self.place.is_open
+          (files ++ recorded_files s ((xs ++ take t ys) ++ take n (take (length ys - t) (drop t ys)))) new in
+          let Bytes : List ℕ → Type 0 = λ bytes.
+          HasMade outset c.step.new.self.place.is_open (files ++ recorded_files r bytes) new in
+          let now = (c.in-Ok.ensures.made files (xs ++ take t ys)
+          (taken_length t _ _ xs ys before.within is before.count)).all outset
+          (subst Was (sym before.kept) (before.made files xs is outset has)) in
+          subst Bytes (taken_more t n xs ys) (subst Now before.kept now);
+    }
+
+pub returns-in-Err-clause-made : goal.returns-in-Err-clause-made
+returns-in-Err-clause-made g c = λ files xs is.
+    let before = c.loop-taken.invariant in
+    let t = c.loop-taken.taken in
+    let ys = c.args.bytes.now in
+    let old = g.F.Files.seen c.loop-taken.files in
+    let r = recording_in c.args.self.now in
+    record {
+      all = λ outset has. tt;
+      front = λ outset all has front.
+          let Was : Recording → Type 0 = λ s.
+          HasMade outset c.loop-taken.self.place.is_open (files ++ recorded_files s (xs ++ take t ys)) old in
+          let To : Recording → Type 0 = λ s.
+          IsFileFront (files ++ recorded_files s ((xs ++ take t ys) ++ take (length ys - t) (drop t ys))) all in
+          let Bytes : List ℕ → Type 0 = λ bytes. IsFileFront (files ++ recorded_files r bytes) all in
+          (c.in-Err.ensures.made files (xs ++ take t ys)
+          (taken_length t _ _ xs ys before.within is before.count)).front outset all
+          (subst Was (sym before.kept) (before.made files xs is outset has))
+          (subst To (sym before.kept) (subst Bytes (sym (taken_all t xs ys)) front));
+    }

@@ -1,0 +1,9 @@
+pub mod Changes
+pub mod Making
+pub mod Blocks
+pub mod Recording
+pub mod RecordingLaws
+pub mod TransferFiles
+pub mod Transfers
+pub mod Turns
+pub mod Recorder

@@ -1,0 +1,41 @@
+-- What contracts see of a recorder.
+-- Source: this project's profile.
+use Rattle.std.specs.Prelude.{ℕ, Bool, Option, List}
+use Rattle.psr_base.specs.Made.{FilesSeen}
+use Rattle.ring_blocks.specs.declared.Entry.{Entry}
+use Rattle.dada_recorder.specs.declared.answers.RecordEnd.{RecordEnd}
+use Rattle.dada_recorder.specs.declared.recorder.Recorder.{Recorder}
+use Rattle.dada_recorder.specs.Blocks.{RecordPlan}
+use Rattle.dada_recorder.specs.Making.{Outset}
+use Rattle.dada_recorder.specs.Recording.{FilesAre}
+use Rattle.dada_recorder.specs.Transfers.{plan_in, StandsAt}
+
+-- what it records of: the offsets of its transfers, and its limits
+abbrev pub plan_of : {F : Type 0} → Recorder F → RecordPlan
+plan_of r = plan_in r.track.transfers
+
+-- the size of the data ring's blocks
+abbrev pub block_size : {F : Type 0} → Recorder F → ℕ
+block_size r = r.track.block
+
+-- how it ended, if it did
+abbrev pub has_end : {F : Type 0} → Recorder F → Option RecordEnd
+has_end r = r.track.end
+
+-- the header of a transfer was cleared, and its data are next
+abbrev pub has_header : {F : Type 0} → Recorder F → Bool
+has_header r = r.track.transfers.has_header
+
+-- the file that was created last isn't finished
+abbrev pub has_open_file : {F : Type 0} → Recorder F → Bool
+has_open_file r = r.track.transfers.files.place.is_open
+
+-- it cleared these blocks of the header ring and of the data ring
+abbrev pub RecorderStands : {F : Type 0} → Recorder F → List Entry → List Entry → Type 0
+RecorderStands r headers blocks = StandsAt r.track.transfers headers blocks r.track.end
+
+-- what the files tell of these blocks
+abbrev pub FilesAreOf : {F : Type 0} → Recorder F → Outset → List Entry → List Entry →
+    FilesSeen → Type 0
+FilesAreOf r outset headers blocks seen =
+    FilesAre (plan_of r) outset (has_open_file r) headers blocks (has_end r) seen

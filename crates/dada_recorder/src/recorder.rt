@@ -1,0 +1,97 @@
+//! The recorder.
+ghost use Rattle.std.specs.Prelude.{◌≡◌, ◌≢◌, ℕ, ◌^◌, ◌≤◌, true, false, List, [], length, None, Some, IfOk};
+ghost use Rattle.psr_base.specs.Count.{Rose};
+ghost use Rattle.dada_hdu.specs.Passes.{ReadsBoth, data_shape};
+ghost use Rattle.dada_recorder.specs.declared.answers.RecordEnd.TheVariants.{FileFault};
+ghost use Rattle.dada_recorder.specs.Blocks.{PlanInRange, record_plan};
+ghost use Rattle.dada_recorder.specs.Making.{Outset, BeginsAt, IsOpenAs};
+ghost use Rattle.dada_recorder.specs.Turns.{RecordAnswers, cleared_headers, cleared_blocks};
+
+use crate::answers::RecordTurn;
+use crate::track::Track;
+use dada_hdu::{Hdu, HduReader};
+use psr_base::{Files, Memory};
+use std::alloc::Global;
+
+/// Records the blocks of two rings into borrowed files.
+///
+/// It is opened, and then takes turns until it ended. No call after `open` takes memory.
+#[derive(Drop)]
+pub struct Recorder<'a, F> {
+    files: &'a mut F,
+    track: Track<'a>,
+}
+
+impl<'a, F: Files> Recorder<'a, F> {
+    ghost use Rattle.dada_recorder.specs.Recorder.{plan_of, block_size, has_end, has_header, has_open_file, RecorderStands, FilesAreOf};
+
+    /// Takes all space. `first_offsets` has the OBS_OFFSET of each transfer's first data byte, `block` is the size of the
+    /// data ring's blocks, a file has at most `file_size` data bytes, and all transfers together `max_bytes`.
+    pub fn open(
+        alloc: Global,
+        files: &'a mut F,
+        first_offsets: &'a [u64],
+        block: u32,
+        file_size: u64,
+        max_bytes: u64,
+    ) -> Result<Recorder<'a, F>, Memory>
+        requires plan { PlanInRange (record_plan first_offsets.now file_size max_bytes) }
+        requires block { (1 ≤ block) × (block ≤ 2 ^ 24) }
+        requires closed { ¬ F.is_open files.old }
+        ensures files { IfOk result (λ r. r.files.now ≡ files.old) }
+        ensures same_reference { IfOk result (λ r. r.files.ghost_name ≡ files.entry.ghost_name) }
+        ensures plan { IfOk result (λ r.
+            plan_of r ≡ record_plan first_offsets.now file_size max_bytes) }
+        ensures block { IfOk result (λ r. block_size r ≡ block) }
+        ensures closed { IfOk result (λ r. has_open_file r ≡ false) }
+        ensures running { IfOk result (λ r. has_end r ≡ None) }
+        ensures stands { IfOk result (λ r. RecorderStands r [] []) }
+        ensures made { IfOk result (λ r. (outset : Outset) → BeginsAt outset (F.seen files.old)
+            → FilesAreOf r outset [] [] (F.seen files.old)) }
+    {
+        let track = Track::open(alloc, first_offsets, block, file_size, max_bytes)?;
+        Ok(Recorder { files, track })
+    }
+
+    /// Reads one block: a header block where a transfer is next, and else a data block. It goes into files and is
+    /// cleared.
+    pub fn turn(&mut self, hdu: &Hdu, pass: &mut HduReader) -> RecordTurn
+        requires ring { ReadsBoth hdu.now pass.old }
+        requires size { (data_shape hdu.now).size ≡ block_size self.old }
+        requires running { has_end self.old ≡ None }
+        requires is_open { IsOpenAs (has_open_file self.old) (F.is_open self.old.files.now) }
+        requires stands { RecorderStands self.old (cleared_headers pass.old)
+            (cleared_blocks pass.old) }
+        ensures ring { ReadsBoth hdu.now pass.new }
+        ensures same_reference { self.new.files.ghost_name ≡ self.old.files.ghost_name }
+        ensures plan { plan_of self.new ≡ plan_of self.old }
+        ensures block { block_size self.new ≡ block_size self.old }
+        ensures is_open { has_end self.new ≡ None
+            → IsOpenAs (has_open_file self.new) (F.is_open self.new.files.now) }
+        ensures stands { RecorderStands self.new (cleared_headers pass.new)
+            (cleared_blocks pass.new) }
+        ensures answer { RecordAnswers (has_header self.old) pass.old pass.new
+            (has_end self.new) result }
+        ensures made { (outset : Outset)
+            → FilesAreOf self.old outset (cleared_headers pass.old) (cleared_blocks pass.old)
+            (F.seen self.old.files.now)
+            → FilesAreOf self.new outset (cleared_headers pass.new) (cleared_blocks pass.new)
+            (F.seen self.new.files.now) }
+        ensures failed { has_end self.new ≡ Some FileFault
+            → Rose (F.seen self.old.files.now).faults (F.seen self.new.files.now).faults }
+        ensures quiet { has_end self.new ≢ Some FileFault
+            → (F.seen self.new.files.now).faults ≡ (F.seen self.old.files.now).faults }
+        ensures count { (F.seen self.old.files.now).faults ≤ (F.seen self.new.files.now).faults }
+    {
+        self.track.turn(self.files, hdu, pass)
+    }
+
+    /// Gives the files back.
+    pub fn close(self) -> &'a mut F
+        ensures files { result.now ≡ self.entry.files.now }
+        ensures same_reference { result.ghost_name ≡ self.entry.files.ghost_name }
+    {
+        let Recorder { files, track: _ } = self;
+        files
+    }
+}
