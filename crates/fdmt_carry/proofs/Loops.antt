@@ -4,13 +4,13 @@ use Rattle.std.proofs.lemmas.Bool.{cases_lt}
 use Rattle.search_model.specs.Samples.{Filterbank}
 use Rattle.subband_plan.specs.Nodes.{HasKept}
 use Rattle.fdmt_carry.specs.Tables.{Tables, AreTables, node_of, node_count, row_number, held_at, place_at, place_of, hold_of}
-use Rattle.fdmt_carry.specs.Making.{KeepsRow, KeepsNode, RowStands, ChangesRow, NodeStands}
+use Rattle.fdmt_carry.specs.Making.{KeepsTail, KeepsNode, RowStands, ChangesRow, NodeStands}
 use Rattle.fdmt_carry.proofs.Stands.{row_stays}
 
 -- the rows of lesser delays than d are made, and those of the others are kept
 pub record StandBelow (t : Tables) (f : Filterbank) (u spectra k d : ℕ) (table kept : List ℕ) : Type 0 where
   pub made : (e : ℕ) → HasKept (node_of t k) e → e < d → RowStands t f u spectra k e table kept
-  pub rest : (e : ℕ) → HasKept (node_of t k) e → d ≤ e → KeepsRow t f u k e kept
+  pub rest : (e : ℕ) → HasKept (node_of t k) e → d ≤ e → KeepsTail t f u k e kept
 
 -- none is made
 pub none_made : (t : Tables) (f : Filterbank) (u spectra k d : ℕ) (table kept : List ℕ) →

@@ -9,7 +9,7 @@ use Rattle.subband_plan.specs.Nodes.{split_of}
 use Rattle.fdmt_rows.specs.Rows.{wrapping_sum}
 use Rattle.fdmt_carry.specs.Values.{Begins, GoesOn, GoesOnWith, after}
 use Rattle.fdmt_carry.specs.Tables.{Tables, AreTables, IsRow, ListsRow, node_of, node_count, tail_of, row_number, start_of, held_at, place_at, place_of, hold_of, row_value}
-use Rattle.fdmt_carry.specs.Making.{IsPair, IsSingle, IsMerge, IsRunOn, ChannelHas, AreSamples, AreHalves, KeepsRow, HasRowAt, HasHalves, RowStandsAt, RowStands, ChangesRowAt, ChangesRow, lower_of}
+use Rattle.fdmt_carry.specs.Making.{IsPair, IsSingle, IsMerge, IsRunOn, ChannelHas, AreSamples, AreHalves, KeepsTail, HasRowAt, HaveHalfRows, RowStandsAt, RowStands, ChangesRowAt, ChangesRow, lower_of}
 use Rattle.fdmt_carry.proofs.Known.{row_known}
 use Rattle.fdmt_carry.proofs.Law.{value_later, merged_value, channel_value, sample_value}
 use Rattle.fdmt_carry.proofs.Parts.{part_begins, put_listed, put_stays, parts_go_on}
@@ -23,7 +23,7 @@ pub row_made_at : (t : Tables) (f : Filterbank) (u spectra k d at hold m n later
     at + m ≤ length table → hold + n ≤ length kept → length row ≡ m → length tail ≡ n →
     ((g : ℕ → ℕ) → Begins g (take n (drop hold kept)) → Goes g → Begins g row) →
     ((g : ℕ → ℕ) → Begins g (take n (drop hold kept)) → Goes g → Begins (after g later) tail) →
-    Goes (row_value t f u k d) → KeepsRow t f u k d kept →
+    Goes (row_value t f u k d) → KeepsTail t f u k d kept →
     RowStandsAt t f u spectra k d at (put_mid at m table row) (put_mid hold n kept tail)
 row_made_at t f u spectra k d at hold m n later table kept row tail Goes hold_is m_is n_is later_is in_table in_kept
     row_size tail_size rows tails goes keeps =
@@ -58,7 +58,7 @@ pub row_made : (t : Tables) (f : Filterbank) (u spectra k d at hold m n later : 
     at + m ≤ length table → hold + n ≤ length kept → length row ≡ m → length tail ≡ n →
     ((g : ℕ → ℕ) → Begins g (take n (drop hold kept)) → Goes g → Begins g row) →
     ((g : ℕ → ℕ) → Begins g (take n (drop hold kept)) → Goes g → Begins (after g later) tail) →
-    Goes (row_value t f u k d) → KeepsRow t f u k d kept →
+    Goes (row_value t f u k d) → KeepsTail t f u k d kept →
     RowStands t f u spectra k d (put_mid at m table row) (put_mid hold n kept tail)
 row_made t f u spectra k d at hold m n later table kept row tail Goes at_is hold_is m_is n_is later_is in_table in_kept
     row_size tail_size rows tails goes keeps =
@@ -119,7 +119,7 @@ row_at t f u spectra k d place xs is lists i p lt e = lists i p lt (omega arith)
 pub halves_at : (t : Tables) (f : Filterbank) (u spectra k d above below : ℕ) (m : Merge) (upper lower : List ℕ) →
     IsMerge t k d m → place_of t (k + 1) + above ≡ place_at t m.upper →
     place_of t (lower_of t k) + below ≡ place_at t m.lower → AreHalves t f u spectra k upper lower →
-    HasHalves t f u spectra k d above below upper lower
+    HaveHalfRows t f u spectra k d above below upper lower
 halves_at t f u spectra k d above below m upper lower merge above_is below_is halves =
     let s : ℕ = split_of t.plan.edges (node_of t k) d in
     let low : ℕ = lower_of t k in
@@ -134,7 +134,7 @@ halves_at t f u spectra k d above below m upper lower merge above_is below_is ha
 -- a row goes on with the sums of theirs
 pub halves_go_on : HalvesAdd → TimeShifts → (t : Tables) → AreTables t →
     (f : Filterbank) (u spectra k d above below at_upper at_lower len m1 m2 : ℕ) (m : Merge) (upper lower : List ℕ) →
-    IsPair t k → IsMerge t k d m → HasHalves t f u spectra k d at_upper at_lower upper lower →
+    IsPair t k → IsMerge t k d m → HaveHalfRows t f u spectra k d at_upper at_lower upper lower →
     above ≡ at_upper + (tail_of t m.upper - m.late) → below ≡ at_lower + tail_of t m.lower →
     len ≡ tail_of t (row_number t k d) → m1 ≡ spectra → m2 ≡ spectra → above + m1 ≤ length upper →
     GoesOn (row_value t f u k d) len (take m1 (drop above upper)) (take m2 (drop below lower))

@@ -4,7 +4,7 @@ use Rattle.std.proofs.lemmas.Bool.{cases_lt}
 use Rattle.search_model.specs.Samples.{Filterbank}
 use Rattle.subband_plan.specs.Nodes.{HasKept, least_row, split_of}
 use Rattle.fdmt_carry.specs.Tables.{Tables, AreTables, node_of, node_count, row_number, held_at, hold_of}
-use Rattle.fdmt_carry.specs.Making.{IsWide, StepsAt, StaysOutside, HasRowAt, RowStandsAt, KeepsRow, KeepsNode, LastStands, lower_of}
+use Rattle.fdmt_carry.specs.Making.{IsWide, StepsAt, StaysOutside, HasRowAt, RowStandsAt, KeepsTail, KeepsNode, LastStands, lower_of}
 use Rattle.fdmt_carry.proofs.Loops.{StandBelow}
 use Rattle.fdmt_carry.proofs.Stands.{row_stays}
 
@@ -33,7 +33,7 @@ next_last t is f u spectra k d r row row' kept kept' node has number here stays 
             has_e (inr before) outside (so_far.made e has_e before)
         | inr last ↦
             let same : d ≡ e = omega arith in
-            subst (λ e. KeepsRow t f (u + spectra) k e kept') same here.tail
+            subst (λ e. KeepsTail t f (u + spectra) k e kept') same here.tail
       ];
       rest = λ e has_e le.
           row_stays t is f u (held_at t) 0 0 k d e (hold_of t k) kept kept' is.held (omega arith) node has has_e

@@ -112,8 +112,8 @@ pub record AreHalves (t : Tables) (f : Filterbank) (u spectra k : ℕ) (upper lo
       (place_of t (lower_of t k)) lower
 
 -- what is kept of the row of delay d of node k
-abbrev pub KeepsRow : Tables → Filterbank → ℕ → ℕ → ℕ → List ℕ → Type 0
-KeepsRow t f u k d kept = ListsRow t f u (held_at t) 0 k d (hold_of t k) kept
+abbrev pub KeepsTail : Tables → Filterbank → ℕ → ℕ → ℕ → List ℕ → Type 0
+KeepsTail t f u k d kept = ListsRow t f u (held_at t) 0 k d (hold_of t k) kept
 
 abbrev pub KeepsNode : Tables → Filterbank → ℕ → ℕ → List ℕ → Type 0
 KeepsNode t f u k kept = ListsNode t f u (held_at t) 0 k (hold_of t k) kept
@@ -140,7 +140,7 @@ HasRowAt t f u spectra k d place xs = (i p : ℕ) → i < tail_of t (row_number 
     p ≡ place + i → slice_index xs p ≡ row_value t f u k d i
 
 -- from two places on, two lists have the rows of its halves that it is made of
-pub record HasHalves (t : Tables) (f : Filterbank) (u spectra k d above below : ℕ)
+pub record HaveHalfRows (t : Tables) (f : Filterbank) (u spectra k d above below : ℕ)
     (upper lower : List ℕ) : Type 0 where
   pub upper_row : HasRowAt t f u spectra (k + 1) (split_of t.plan.edges (node_of t k) d) above
       upper
@@ -151,14 +151,14 @@ pub record HasHalves (t : Tables) (f : Filterbank) (u spectra k d above below : 
 pub record RowStandsAt (t : Tables) (f : Filterbank) (u spectra k d place : ℕ)
     (table kept : List ℕ) : Type 0 where
   pub row : HasRowAt t f u spectra k d place table
-  pub tail : KeepsRow t f (u + spectra) k d kept
+  pub tail : KeepsTail t f (u + spectra) k d kept
 
 -- the row is made where it stands in the table of the node, and what is kept of it is that of the
 -- spectra after it
 pub record RowStands (t : Tables) (f : Filterbank) (u spectra k d : ℕ) (table kept : List ℕ) :
     Type 0 where
   pub row : TableHas t f u spectra k d table
-  pub tail : KeepsRow t f (u + spectra) k d kept
+  pub tail : KeepsTail t f (u + spectra) k d kept
 
 -- values outside of a part are what they were; place 0 of the lists is place `base` of all
 pub record StaysOutside (base from to : ℕ) (old new : List ℕ) : Type 0 where
@@ -195,8 +195,8 @@ pub record PartStands (t : Tables) (f : Filterbank) (u spectra : ℕ) (whole : B
 -- a list, which has the last one. What is kept of them is that of the spectra after it.
 pub record LastStands (t : Tables) (f : Filterbank) (u spectra k n : ℕ) (row kept : List ℕ) :
     Type 0 where
-  pub made : (e : ℕ) → HasKept (node_of t k) e → e < n → KeepsRow t f (u + spectra) k e kept
-  pub rest : (e : ℕ) → HasKept (node_of t k) e → n ≤ e → KeepsRow t f u k e kept
+  pub made : (e : ℕ) → HasKept (node_of t k) e → e < n → KeepsTail t f (u + spectra) k e kept
+  pub rest : (e : ℕ) → HasKept (node_of t k) e → n ≤ e → KeepsTail t f u k e kept
   pub last : (e : ℕ) → HasKept (node_of t k) e → e + 1 ≡ n → HasRowAt t f u spectra k e 0 row
 
 -- the rows of node k are made, and what is kept of those of its halves is that of the spectra after

@@ -4,7 +4,7 @@ ghost use Rattle.search_model.specs.Samples.{Filterbank};
 ghost use Rattle.band_paths.specs.Edges.{channels_of};
 ghost use Rattle.subband_plan.specs.Nodes.{HasKept};
 ghost use Rattle.fdmt_carry.specs.Tables.{node_of, held_at, tail_of, row_number, hold_of, HasNext};
-ghost use Rattle.fdmt_carry.specs.Making.{IsPair, IsSingle, IsWide, IsMerge, AreBases, FitNode, HasRoom, HaveRoom, AreHalves, AreSamples, ChannelHas, KeepsRow, KeepsNode, HasHalves, RowStandsAt, RowStands, StaysOutside, ChangesRowAt, ChangesRow, NodeStands, LastStands, WideStands, lower_of};
+ghost use Rattle.fdmt_carry.specs.Making.{IsPair, IsSingle, IsWide, IsMerge, AreBases, FitNode, HasRoom, HaveRoom, AreHalves, AreSamples, ChannelHas, KeepsTail, KeepsNode, HaveHalfRows, RowStandsAt, RowStands, StaysOutside, ChangesRowAt, ChangesRow, NodeStands, LastStands, WideStands, lower_of};
 
 use super::{Bases, Tables};
 use crate::rows::{add_next, copy_next};
@@ -41,8 +41,8 @@ impl Tables {
         requires upper { above + (tail_of self.now merge.upper + spectra) ≤ length upper.now }
         requires lower { below + (tail_of self.now merge.lower + spectra) ≤ length lower.now }
         ensures made { (f : Filterbank) (u : ℕ)
-            → HasHalves self.now f u spectra k d above below upper.now lower.now
-            → KeepsRow self.now f u k d kept.old
+            → HaveHalfRows self.now f u spectra k d above below upper.now lower.now
+            → KeepsTail self.now f u k d kept.old
             → RowStandsAt self.now f u spectra k d at table.new kept.new }
         ensures rest { ChangesRowAt self.now k r at (tail_of self.now r + spectra)
             table.old table.new kept.old kept.new }
@@ -85,7 +85,7 @@ impl Tables {
         requires upper { HasRoom self.now (k + 1) (length upper.now) }
         requires lower { HasRoom self.now (lower_of self.now k) (length lower.now) }
         ensures made { (f : Filterbank) (u : ℕ) → AreHalves self.now f u spectra k upper.now
-            lower.now → KeepsRow self.now f u k d kept.old
+            lower.now → KeepsTail self.now f u k d kept.old
             → RowStands self.now f u spectra k d table.new kept.new }
         ensures rest { ChangesRow self.now k (row_number self.now k d) table.old table.new
             kept.old kept.new }
@@ -124,7 +124,7 @@ impl Tables {
         requires upper { HasRoom self.now (k + 1) (length upper.now) }
         requires lower { HasRoom self.now (lower_of self.now k) (length lower.now) }
         ensures made { (f : Filterbank) (u : ℕ) → AreHalves self.now f u spectra k upper.now
-            lower.now → KeepsRow self.now f u k d kept.old
+            lower.now → KeepsTail self.now f u k d kept.old
             → RowStandsAt self.now f u spectra k d 0 row.new kept.new }
         ensures rest { StaysOutside (hold_of self.now k) (held_at self.now r)
             (held_at self.now (r + 1)) kept.old kept.new }
@@ -162,8 +162,8 @@ impl Tables {
         requires upper { HasRoom self.now (k + 1) (length upper.now) }
         requires lower { HasRoom self.now (lower_of self.now k) (length lower.now) }
         ensures made { (f : Filterbank) (u : ℕ)
-            → HasHalves self.now f u spectra k d 0 0 upper.now lower.now
-            → KeepsRow self.now f u k d kept.old
+            → HaveHalfRows self.now f u spectra k d 0 0 upper.now lower.now
+            → KeepsTail self.now f u k d kept.old
             → RowStands self.now f u spectra k d table.new kept.new }
         ensures rest { ChangesRow self.now k (row_number self.now k d) table.old table.new
             kept.old kept.new }
@@ -216,7 +216,7 @@ impl Tables {
         requires own { FitNode self.now k (length table.old) (length kept.old) }
         ensures made { (f : Filterbank) (u : ℕ) → f.channels ≡ channels_of self.now.plan.edges
             → ChannelHas self.now f u spectra k d table.old
-            → KeepsRow self.now f u k d kept.old
+            → KeepsTail self.now f u k d kept.old
             → RowStands self.now f u spectra k d table.new kept.new }
         ensures rest { ChangesRow self.now k (row_number self.now k d) table.old table.new
             kept.old kept.new }
@@ -248,7 +248,7 @@ impl Tables {
         requires short { length samples.now ≤ self.now.chunk }
         requires own { FitNode self.now k (length table.old) (length kept.old) }
         ensures made { (f : Filterbank) (u : ℕ) → AreSamples self.now f u k samples.now
-            → KeepsRow self.now f u k 0 kept.old
+            → KeepsTail self.now f u k 0 kept.old
             → RowStands self.now f u (length samples.now) k 0 table.new kept.new }
         ensures rest { ChangesRow self.now k (row_number self.now k 0) table.old table.new
             kept.old kept.new }

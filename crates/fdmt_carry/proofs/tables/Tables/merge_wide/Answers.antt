@@ -1,7 +1,7 @@
 use Rattle.std.proofs.Common.{ℕ, ◌≡◌, ◌+◌, ap, sym, subst, ◌∙◌, arith, refl}
 use Rattle.subband_plan.specs.Nodes.{HasKept, least_row}
 use Rattle.fdmt_carry.specs.Tables.{node_of}
-use Rattle.fdmt_carry.specs.Making.{AreHalves, HasRowAt, HasHalves, LastStands, lower_of}
+use Rattle.fdmt_carry.specs.Making.{AreHalves, HasRowAt, HaveHalfRows, LastStands, lower_of}
 use Rattle.fdmt_carry.proofs.Loops.{none_made, one_more, all_made}
 use Rattle.fdmt_carry.proofs.Wide.{none_last, all_last, ask_next, halves_end, first_rows, later_rows}
 use Rattle.fdmt_carry.proofs.tables.Tables.merge_wide.Goals as goal
@@ -108,7 +108,7 @@ loop-d-preserved c =
           (subst (λ j. AreHalves t f u spectra j c.args.lower_above.now c.args.lower_below.now) (sym low_is) lower_halves)
           (subst (λ j. LastStands t f u spectra j c.loop-d.lower_next c.loop-d.lower c.loop-d.lower_kept) (sym low_is)
           so_far.lower_rows)) in
-          let halves : HasHalves t f u spectra k d 0 0 upper_row lower_row =
+          let halves : HaveHalfRows t f u spectra k d 0 0 upper_row lower_row =
           record {
             upper_row = subst (λ s. HasRowAt t f u spectra (k + 1) s 0 upper_row) early_is
                 (upper_now.last early c.upper_delay-early.ensures.kept refl);
