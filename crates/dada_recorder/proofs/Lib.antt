@@ -16,3 +16,4 @@ pub mod Refusals
 pub mod Names
 pub mod Turning
 pub mod Opening
+pub mod WorkedMaking
