@@ -6,7 +6,7 @@ set -eu
 spectra=${1:-8192}
 cd "$(dirname "$0")/../crates/engine_bench"
 cpu=$(grep -qw avx2 /proc/cpuinfo && echo x86-64-v3 || echo x86-64)
-rt run --cpu="$cpu" >/dev/null
+rt run --cpu="$cpu" >/dev/null 2>&1
 for row in '1 0 samples' '32 0 boxes' '32 64 folds'; do
     set -- $row
     for n in "$spectra" $((8 * spectra)); do

@@ -7,8 +7,13 @@ cd "$(dirname "$0")/../crates"
 cpu=$(grep -qw avx2 /proc/cpuinfo && echo --cpu=x86-64-v3 || true)
 folder=$(mktemp -d /dev/shm/psr_search.XXXXXX)
 trap 'rm -rf "$folder"' EXIT
-(cd psr_make_main && rt run $cpu -- "$folder/first.dada" >/dev/null)
-(cd psr_search_main && rt run $cpu -- --mean 1 --sd 2 --snr 7 --max-delay 1 --widths 1 data/pulse.dada >/dev/null)
+build() { # build PROGRAM WORD..: proves and builds a program, and runs it once
+    local program=$1
+    shift
+    (cd "$program" && rt run $cpu -- "$@") >"$folder/build" 2>&1 || { cat "$folder/build"; exit 1; }
+}
+build psr_make_main "$folder/first.dada"
+build psr_search_main --mean 1 --sd 2 --snr 7 --max-delay 1 --widths 1 data/pulse.dada
 words=(--mean 16 --sd 2.828 --max-delay 1024 --max-candidates 1000000)
 
 least() { # least NAME WORD..: the least processor time of three runs, the peak of memory, and the last line

@@ -166,59 +166,42 @@ fn shard_start(search: &Search, shard: u32) -> u32 {
     search.min_delay.wrapping_add(before.unwrap_or(0))
 }
 
-// What a search of a shard found, against the direct candidates of its delays.
-fn compare_shard(
-    rt: &impl Abort,
+// Whether a search of a shard found the direct candidates of its delays.
+fn agrees(
     alloc: Global,
     engine: &Engine,
     search: &Search,
     shard: u32,
     direct: &[Candidate],
-) -> Result<(), Memory> {
-    let (first, end) = (
-        shard_start(search, shard),
-        shard_start(search, shard.wrapping_add(1)),
-    );
+) -> Result<bool, Memory> {
+    let first = shard_start(search, shard);
+    let end = shard_start(search, shard.wrapping_add(1));
     let wanted = of_delays(alloc, direct, first, end)?;
     let book = engine.book();
-    assert_eq!(rt;
-        engine.spectra(),
-        u64::from(SPECTRA),
-        "chunks of {}",
-        search.chunk
-    );
-    assert_eq!(rt;
-        book.count(),
-        wanted.len() as u64,
-        "chunks of {}",
-        search.chunk
-    );
-    assert!(rt;
-        book.kept() == wanted.as_slice(),
-        "chunks of {}",
-        search.chunk
-    );
-    Ok(())
+    let counts = engine.spectra() == u64::from(SPECTRA) && book.count() == wanted.len() as u64;
+    Ok(counts && book.kept() == wanted.as_slice())
 }
 
-// The shards of a search against the direct candidates, where the bytes are fed in pieces of these lengths.
-fn compare(
-    rt: &impl Abort,
+// Whether all shards of a search do, where the bytes are fed in pieces of these lengths.
+fn all_agree(
     alloc: Global,
     observation: &Observation,
     search: &Search,
     bytes: &[u8],
     lengths: &[usize],
     direct: &[Candidate],
-) -> Result<(), Fail> {
-    assert!(rt; search.in_range());
+) -> Result<bool, Memory>
+    requires { SettingsInRange search.now }
+{
     for shard in 0..search.shards {
         let Ok(engine) = searched(alloc, observation, search, shard, bytes, lengths) else {
-            return Err("an engine".into());
+            return Err(Memory);
         };
-        compare_shard(rt, alloc, &engine, search, shard, direct)?;
+        if !agrees(alloc, &engine, search, shard, direct)? {
+            return Ok(false);
+        }
     }
-    Ok(())
+    Ok(true)
 }
 
 #[test]
@@ -245,8 +228,8 @@ fn all_candidates_are_the_direct_ones(rt: HostRuntime) -> Result<(), Fail> {
             shards,
             ..SEARCH
         };
-        compare(
-            &rt,
+        assert!(rt; search.in_range());
+        let same = all_agree(
             alloc,
             &observed,
             &search,
@@ -254,6 +237,7 @@ fn all_candidates_are_the_direct_ones(rt: HostRuntime) -> Result<(), Fail> {
             lengths,
             direct.as_slice(),
         )?;
+        assert!(rt; same, "chunks of {chunk}");
     }
     Ok(())
 }
