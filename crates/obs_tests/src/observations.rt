@@ -129,29 +129,75 @@ fn a_keyword_is_missing(rt: HostRuntime) -> Result<(), Fail> {
     Ok(())
 }
 
+// The observation of the plain header with lines before it.
+fn observation_with(alloc: Global, lines: &[u8]) -> Result<Observation, Fail> {
+    let header = header_with(alloc, lines)?;
+    observation(alloc, &header)
+}
+
+// The channels of a spectrum, and the bits and polarisations of a sample.
+fn shape_of(observation: &Observation) -> (u32, u32, u32) {
+    (
+        observation.channels(),
+        observation.nbit(),
+        observation.npol(),
+    )
+}
+
+// The time from one spectrum to the next, the bytes before the file's, and whether the band falls.
+fn place_of(observation: &Observation) -> (u64, u64, bool) {
+    (
+        observation.tsamp_ns(),
+        observation.obs_offset(),
+        observation.falling(),
+    )
+}
+
+const WIDE: &[u8] =
+    b"NCHAN 1024.9\nNBIT 16.9\nNPOL 2\nTSAMP 64.0009\nFREQ 1382\nBW -400\nOBS_OFFSET 12";
+
+const RISING: &[u8] = b"BW 200\nOBS_OFFSET -0.9";
+
 #[test]
 fn numbers_are_read_in_their_units(rt: HostRuntime) -> Result<(), Fail> {
-    let wide = header_with(
-        rt.alloc(),
-        b"NCHAN 1024.9\nNBIT 16.9\nNPOL 2\nTSAMP 64.0009\nFREQ 1382\nBW -400\nOBS_OFFSET 12",
-    )?;
-    let wide = observation(rt.alloc(), &wide)?;
-    assert_eq!(rt; (wide.channels(), wide.nbit(), wide.npol()), (1024, 16, 2));
-    assert_eq!(rt; (wide.tsamp_ns(), wide.obs_offset()), (64000, 12));
-    assert_eq!(rt; (wide.falling(), wide.max_sample()), (true, 131070));
-    assert_eq!(rt;
-        (wide.edges().first(), wide.edges().last()),
-        (Some(&1582000), Some(&1182000))
-    );
-    assert_eq!(rt; (wide.dm(0), wide.dm(512)), (0, 24975));
-    let rising = header_with(rt.alloc(), b"BW 200\nOBS_OFFSET -0.9")?;
-    let rising = observation(rt.alloc(), &rising)?;
-    assert_eq!(rt;
-        (rising.falling(), rising.max_sample(), rising.obs_offset()),
-        (false, 255, 0)
-    );
-    assert_eq!(rt; rising.edges(), [1500000, 1400000, 1300000].as_slice());
-    assert_eq!(rt; (rising.dm(1), rising.profile().bw_hz), (104, 200_000_000));
+    let cases = [
+        (WIDE, (1024, 16, 2), (64000, 12, true), 131070, -400_000_000),
+        (RISING, (2, 8, 1), (64000, 0, false), 255, 200_000_000),
+    ];
+    for (lines, shape, place, most, bw_hz) in cases {
+        let observation = observation_with(rt.alloc(), lines)?;
+        assert_eq!(rt; shape_of(&observation), shape, "{lines:?}");
+        assert_eq!(rt; place_of(&observation), place, "{lines:?}");
+        assert_eq!(rt; observation.max_sample(), most, "{lines:?}");
+        assert_eq!(rt; observation.profile().bw_hz, bw_hz, "{lines:?}");
+    }
+    Ok(())
+}
+
+#[test]
+fn a_band_has_its_edges(rt: HostRuntime) -> Result<(), Fail> {
+    let cases = [
+        (WIDE, 0, Some(1582000)),
+        (WIDE, 1024, Some(1182000)),
+        (WIDE, 1025, None),
+        (RISING, 0, Some(1500000)),
+        (RISING, 1, Some(1400000)),
+        (RISING, 2, Some(1300000)),
+        (RISING, 3, None),
+    ];
+    for (lines, k, edge) in cases {
+        let observation = observation_with(rt.alloc(), lines)?;
+        assert_eq!(rt; observation.edges().get(k).copied(), edge, "{k}");
+    }
+    Ok(())
+}
+
+#[test]
+fn a_delay_has_its_dispersion_measure(rt: HostRuntime) -> Result<(), Fail> {
+    for (lines, delay, dm) in [(WIDE, 0, 0), (WIDE, 512, 24975), (RISING, 1, 104)] {
+        let observation = observation_with(rt.alloc(), lines)?;
+        assert_eq!(rt; observation.dm(delay.min(8192)), dm, "{delay}");
+    }
     Ok(())
 }
 
