@@ -9,6 +9,7 @@ use Rattle.std.proofs.lemmas.Bool.{cases_lt}
 use Rattle.search_model.specs.declared.search.Search.{Search}
 use Rattle.search_model.specs.Plan.{plan_refusal}
 use Rattle.search_opening.specs.Plans.{PlansFit}
+use Rattle.search_opening.specs.Recordings.{RecordingFits, RecordingsFit}
 use Rattle.search_opening.specs.First.{AreObserved}
 
 -- none
@@ -112,3 +113,23 @@ all_fit s observations k all before i d within = fits (get_or observations i d) 
     fits : (at : Option Observation) → slice_get observations i ≡ Some at → IfSome at (λ o. plan_refusal o s ≡ None)
     fits None there = tt
     fits (Some o) there = before i o (omega (arith, within, all)) there
+
+-- ---- recordings
+
+pub one_recorded : (file_size max_bytes : ℕ) (headers : List HeaderText) (observations : List (Option Observation))
+    (k : ℕ) (header : HeaderText) (o : Observation) → RecordingsFit file_size max_bytes headers observations k →
+    slice_get headers k ≡ Some header → get_or observations k None ≡ Some o →
+    RecordingFits file_size max_bytes header o → RecordingsFit file_size max_bytes headers observations (k + 1)
+one_recorded file_size max_bytes headers observations k header o before there said fits j other p within at is =
+    elim (cases_lt j k) [
+      | inl below ↦ before j other p below at is
+      | inr above ↦
+          let same : j ≡ k = omega (arith, within, above) in
+          let h : header ≡ other = same_Some header other
+          (sym there ∙ subst (λ i. slice_get headers i ≡ Some other) same at) in
+          let q : o ≡ p = same_Some o p
+          (sym said ∙ get_or_from_slice_get observations k (Some p) None
+          (subst (λ i. slice_get observations i ≡ Some (Some p)) same is)) in
+          subst (λ (x : HeaderText). RecordingFits file_size max_bytes x p) h
+          (subst (λ y. RecordingFits file_size max_bytes header y) q fits)
+    ]

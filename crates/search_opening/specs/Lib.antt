@@ -1,3 +1,5 @@
 pub mod First
 pub mod Plans
 pub mod Rings
+pub mod Engines
+pub mod Recordings

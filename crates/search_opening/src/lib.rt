@@ -3,11 +3,15 @@
 #![tactic(auto)]
 
 mod accept;
+mod engines;
 mod first;
 mod plans;
+mod recordings;
 mod rings;
 
 pub use accept::accept_all;
+pub use engines::open_engines;
 pub use first::{MOST_TRANSFERS, RefusedHeader, observe_all};
 pub use plans::check_plans;
+pub use recordings::fit_all;
 pub use rings::{open_rings, run_shape};

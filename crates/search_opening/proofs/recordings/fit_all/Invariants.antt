@@ -1,0 +1,9 @@
+use Rattle.disk_feeder.specs.Feeder.{header_at}
+use Rattle.search_opening.specs.Recordings.{RecordingsFit}
+use Rattle.search_opening.proofs.recordings.fit_all.Given as goal
+
+-- the recordings of the transfers before fit
+abbrev pub invariant-loop-k : goal.invariant-loop-k
+invariant-loop-k g l = record {
+  fit : RecordingsFit l.file_size l.max_bytes (header_at l.feeder) l.observations l.k;
+}

@@ -1,0 +1,32 @@
+-- The recordings of all transfers, in order: they fit, or the first that does not.
+-- Source: this project's choice.
+use Rattle.std.specs.Prelude.{◌≡◌, ◌<◌, ℕ, List, Option, Some, None, slice_get}
+use Rattle.dada_model.specs.Fields.{HeaderText}
+use Rattle.dada_model.specs.Observation.{Observation}
+use Rattle.stream_model.specs.Recorded.{record_refusal}
+use Rattle.dada_recorder.specs.Changes.{recording, RefusesRecording}
+use Rattle.dada_recorder.specs.declared.answers.RecordFault.{RecordFault}
+
+-- under the header, from the observation's OBS_OFFSET on, so many data bytes can be recorded in files of this size
+abbrev pub RecordingFits : ℕ → ℕ → HeaderText → Observation → Type 0
+RecordingFits file_size max_bytes header o =
+    record_refusal (recording header o.obs_offset file_size) max_bytes ≡ None
+
+-- and so it is with the first transfers
+abbrev pub RecordingsFit : ℕ → ℕ → List HeaderText → List (Option Observation) → ℕ → Type 0
+RecordingsFit file_size max_bytes headers observations count =
+    (k : ℕ) (header : HeaderText) (o : Observation) → k < count →
+    slice_get headers k ≡ Some header → slice_get observations k ≡ Some (Some o) →
+    RecordingFits file_size max_bytes header o
+
+-- the recording of some transfer is refused, and those before it fit
+pub record RefusesTransfer
+    (file_size max_bytes : ℕ) (headers : List HeaderText)
+    (observations : List (Option Observation)) (fault : RecordFault) : Type 0 where
+  pub transfer : ℕ
+  pub header : HeaderText
+  pub observation : Observation
+  pub there : slice_get headers transfer ≡ Some header
+  pub said : slice_get observations transfer ≡ Some (Some observation)
+  pub cause : RefusesRecording (recording header observation.obs_offset file_size) max_bytes fault
+  pub earlier : RecordingsFit file_size max_bytes headers observations transfer

@@ -1,0 +1,64 @@
+// Whether the data of all transfers can be recorded.
+ghost use Rattle.std.specs.Prelude.{◌≡◌, ◌^◌, ◌≤◌, ◌⊎◌, Some, IsSome, IfErr, OnOk, length};
+ghost use Rattle.dada_model.specs.Observation.{Observation as Described};
+ghost use Rattle.disk_feeder.specs.Feeder.{header_at};
+ghost use Rattle.dada_recorder.specs.Changes.{recording, RefusesRecording};
+ghost use Rattle.search_opening.specs.First.{AreObserved};
+ghost use Rattle.search_opening.specs.Recordings.{RecordingFits, RecordingsFit, RefusesTransfer};
+
+use dada_header::Header;
+use dada_recorder::{RecordFault, fits};
+use disk_feeder::Feeder;
+use obs_plan::Observation;
+use psr_base::Inputs;
+
+// Whether the data of a transfer can be recorded under its header, from the observation's OBS_OFFSET on.
+fn fits_one(
+    header: &Header,
+    observation: &Option<Observation>,
+    space: &mut Header,
+    file_size: u64,
+    max_bytes: u64,
+) -> Result<(), RecordFault>
+    requires there { IsSome observation.now }
+    requires file_size { (1 ≤ file_size) × (file_size ≤ 2 ^ 40) }
+    requires limit { max_bytes ≤ 2 ^ 48 }
+    ensures fits { (o : Described) → observation.now ≡ Some o
+        → OnOk result (RecordingFits file_size max_bytes header.now o) }
+    ensures refused { (o : Described) → observation.now ≡ Some o
+        → IfErr result (RefusesRecording (recording header.now o.obs_offset file_size) max_bytes) }
+{
+    let Some(observation) = observation else {
+        unreachable!()
+    };
+    observation.lies_in_range();
+    space.copy_from(header);
+    fits(space, observation.obs_offset(), file_size, max_bytes)
+}
+
+/// Whether the data of each transfer, at most `max_bytes` of them, can be recorded in files of `file_size` data bytes, in
+/// order, or why the first that can't is refused. The headers are judged in `space`.
+pub fn fit_all<'a, I: Inputs>(
+    feeder: &Feeder<'a, I>,
+    observations: &[Option<Observation>],
+    space: &mut Header,
+    file_size: u64,
+    max_bytes: u64,
+) -> Result<(), RecordFault>
+    requires observed { AreObserved (header_at feeder.now) observations.now }
+    requires file_size { (1 ≤ file_size) × (file_size ≤ 2 ^ 40) }
+    requires limit { max_bytes ≤ 2 ^ 48 }
+    ensures fit { OnOk result (RecordingsFit file_size max_bytes (header_at feeder.now)
+        observations.now (length observations.now)) }
+    ensures refused { IfErr result (RefusesTransfer file_size max_bytes (header_at feeder.now)
+        observations.now) }
+{
+    for k in 0..observations.len() {
+        let header = feeder.header(k);
+        match fits_one(header, &observations[k], space, file_size, max_bytes) {
+            Ok(()) => {}
+            Err(fault) => return Err(fault),
+        }
+    }
+    Ok(())
+}
