@@ -1,7 +1,7 @@
 #!/usr/bin/env bash
 # How long the engine takes for each data byte: 1024 channels, delays of 0 to 1024, one thread. Each row is a search
 # of the samples alone, of boxes of all widths, or of folds of the periods 2 to 64 too; at SPECTRA spectra and at 8
-# times as many. The least of three, and the peak of memory.
+# times as many. The least processor time of three, and the peak of memory.
 set -eu
 spectra=${1:-8192}
 cd "$(dirname "$0")/../crates/engine_bench"
@@ -11,8 +11,8 @@ for row in '1 0 samples' '32 0 boxes' '32 64 folds'; do
     set -- $row
     for n in "$spectra" $((8 * spectra)); do
         for _ in 1 2 3; do
-            out/engine_bench "$n" "$1" "$2" | awk '/ns in all/ { print $1 }'
-        done | sort -n | head -1 |
+            { TIMEFORMAT='%U %S'; time out/engine_bench "$n" "$1" "$2" >/dev/null; } 2>&1
+        done | awk '{ print 1e9 * ($1 + $2) }' | sort -n | head -1 |
             awk -v n="$n" -v what="$3" '{ printf "%-8s %8d spectra: %.3f ns a byte\n", what, n, $1 / (n * 1024) }'
     done
     peak='?'
