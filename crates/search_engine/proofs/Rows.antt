@@ -8,7 +8,7 @@ use Rattle.std.proofs.lemmas.Grind.{same_number_lists}
 use Rattle.search_model.specs.declared.search.Search.{Search}
 use Rattle.search_engine.specs.FoldSearch.{Fronts, HasDelay, FoldsAlike, KeepsFrontOf}
 use Rattle.search_engine.specs.Thresholds.{pulses_of_hits}
-use Rattle.search_engine.specs.PulseSearch.{PulseState, SearchesDelay, SearchAlike, HasFed, HadLast, IsTaken}
+use Rattle.search_engine.specs.PulseSearch.{PulseState, SearchesDelay, SearchAlike, WideRowHas, WideRowFed, IsTakenRow}
 use Rattle.search_engine.specs.Pulses.{first_sums, IsRowOf, pulses_of_delay, pulses_of_end}
 use Rattle.search_engine.specs.Sums.{sums_from_delay, HaveTaken}
 use Rattle.search_engine.proofs.Ranges.{flat_more}
@@ -54,11 +54,11 @@ later_sums_more y d m row is =
 pub taken_more : (y : ℕ → ℕ → ℕ) (p p' : PulseState) (g g' : Fronts) (m d : ℕ) (row part : List ℕ) →
     SearchAlike p' p → FoldsAlike g' g → SearchesDelay p d → HasDelay g d → part ≡ drop (d - m) row →
     IsRowOf y d m row →
-    HadLast p'.boxes d (length row) → ((xs : List ℕ) → HasFed p.boxes d xs → HasFed p'.boxes d (xs ++ row)) →
-    ((e : ℕ) (xs : List ℕ) → SearchesDelay p e → e ≢ d → HasFed p.boxes e xs → HasFed p'.boxes e xs) →
+    WideRowFed p'.boxes d (length row) → ((xs : List ℕ) → WideRowHas p.boxes d xs → WideRowHas p'.boxes d (xs ++ row)) →
+    ((e : ℕ) (xs : List ℕ) → SearchesDelay p e → e ≢ d → WideRowHas p.boxes e xs → WideRowHas p'.boxes e xs) →
     ((xs : List ℕ) → KeepsFrontOf g d xs → KeepsFrontOf g' d (xs ++ part)) →
     ((e : ℕ) (xs : List ℕ) → HasDelay g e → e ≢ d → KeepsFrontOf g e xs → KeepsFrontOf g' e xs) →
-    ((k : ℕ) → IsTaken y p'.boxes d m row → k < length row →
+    ((k : ℕ) → IsTakenRow y p'.boxes d m row → k < length row →
     pulses_of_hits y p.search p.channels (m + k) p'.hits
     ≡ pulses_of_hits y p.search p.channels (m + k) p.hits ++ pulses_of_delay y p.search p.channels (m + k) d) →
     HaveTaken y p g m (length row) d → HaveTaken y p' g' m (length row) (d + 1)
@@ -80,8 +80,8 @@ taken_more y p p' g g' m d row part alike same has fold is_part is last own othe
       below = (let b =
           h.below in omega (arith, b, fend));
     } in
-    let mine : HasFed p'.boxes d (first_sums y d (m + n)) =
-    subst (HasFed p'.boxes d) (sums_more y d m row is)
+    let mine : WideRowHas p'.boxes d (first_sums y d (m + n)) =
+    subst (WideRowHas p'.boxes d) (sums_more y d m row is)
     (own (first_sums y d m) (before.rows_from d has (omega arith))) in
     let my_fold : KeepsFrontOf g' d (sums_from_delay y d (m + n)) =
     subst (KeepsFrontOf g' d) (ap (λ xs. sums_from_delay y d m ++ xs) is_part ∙ later_sums_more y d m row is)
@@ -91,7 +91,7 @@ taken_more y p p' g g' m d row part alike same has fold is_part is last own othe
         | inl lower ↦ others e (first_sums y e (m + n)) (old e h) (λ q. absurd (omega arith))
             (before.rows_below e (old e h) lower)
         | inr at ↦ let q : d ≡ e = omega arith in
-            subst (λ i. HasFed p'.boxes i (first_sums y i (m + n))) q mine
+            subst (λ i. WideRowHas p'.boxes i (first_sums y i (m + n))) q mine
       ];
       rows_from = λ e h from. others e (first_sums y e m) (old e h) (λ q. absurd (omega arith))
           (before.rows_from e (old e h) (omega arith));

@@ -56,26 +56,26 @@ abbrev pub SearchAlike : PulseState → PulseState → Type 0
 SearchAlike p q = SearchesFor p q.search q.channels q.first q.end q.boxes.chunk q.boxes.bound
 
 -- where boxes are wider than one sum, xs are the values that were fed of row d
-abbrev pub HasFed : RowTails → ℕ → List ℕ → Type 0
-HasFed b d xs = 1 < b.widest → StandsForRow b d xs
+abbrev pub WideRowHas : RowTails → ℕ → List ℕ → Type 0
+WideRowHas b d xs = 1 < b.widest → StandsForRow b d xs
 
 -- and the last feed of row d had n values
-abbrev pub HadLast : RowTails → ℕ → ℕ → Type 0
-HadLast b d n = 1 < b.widest → last_feed b d ≡ n
+abbrev pub WideRowFed : RowTails → ℕ → ℕ → Type 0
+WideRowFed b d n = 1 < b.widest → last_feed b d ≡ n
 
 -- the row of delay d that was taken last has the sums of a stream that end at spectrum m and after it
-pub record IsTaken (y : ℕ → ℕ → ℕ) (b : RowTails) (d m : ℕ) (row : List ℕ) : Type 0 where
+pub record IsTakenRow (y : ℕ → ℕ → ℕ) (b : RowTails) (d m : ℕ) (row : List ℕ) : Type 0 where
   pub values : IsRowOf y d m row
-  pub fed : HasFed b d (first_sums y d (m + length row))
-  pub last : HadLast b d (length row)
+  pub fed : WideRowHas b d (first_sums y d (m + length row))
+  pub last : WideRowFed b d (length row)
 
 -- each row was fed with the sums of a stream that end at the first m spectra
 abbrev pub RowsStandFor : (ℕ → ℕ → ℕ) → PulseState → ℕ → Type 0
-RowsStandFor y p m = (d : ℕ) → SearchesDelay p d → HasFed p.boxes d (first_sums y d m)
+RowsStandFor y p m = (d : ℕ) → SearchesDelay p d → WideRowHas p.boxes d (first_sums y d m)
 
 -- the row of each delay below d had n values in its last feed
 abbrev pub AreFed : PulseState → ℕ → ℕ → Type 0
-AreFed p d n = (e : ℕ) → SearchesDelay p e → e < d → HadLast p.boxes e n
+AreFed p d n = (e : ℕ) → SearchesDelay p e → e < d → WideRowFed p.boxes e n
 
 -- thresholds can judge the boxes of a row
 pub record CanJudge (b : RowTails) (first d : ℕ) (thresholds : BoxThresholds) : Type 0 where

@@ -15,7 +15,7 @@ use Rattle.search_model.specs.Sums.{path_sum}
 use Rattle.dada_model.specs.Edges.{AreEdges}
 use Rattle.search_engine.specs.FoldSearch.{Fronts, HasDelay, FoldsFor, KeepsFrontOf}
 use Rattle.search_engine.specs.Thresholds.{pulses_of_hits}
-use Rattle.search_engine.specs.PulseSearch.{PulseState, SearchesDelay, SearchesFor, HasFed, RowsStandFor}
+use Rattle.search_engine.specs.PulseSearch.{PulseState, SearchesDelay, SearchesFor, WideRowHas, RowsStandFor}
 use Rattle.search_engine.specs.Pulses.{first_sums, pulses_of_end, pulses_of_ends}
 
 -- a carry over the delays of a shard, and the searches for pulses and for folds in its rows
@@ -57,8 +57,8 @@ pub record FitTogether (s : ShardState) : Type 0 where
 -- The hits are those of these n spectra, for the delays below d.
 pub record HaveTaken (y : ℕ → ℕ → ℕ) (p : PulseState) (g : Fronts) (m n d : ℕ) : Type 0 where
   pub rows_below : (e : ℕ) → SearchesDelay p e → e < d
-      → HasFed p.boxes e (first_sums y e (m + n))
-  pub rows_from : (e : ℕ) → SearchesDelay p e → d ≤ e → HasFed p.boxes e (first_sums y e m)
+      → WideRowHas p.boxes e (first_sums y e (m + n))
+  pub rows_from : (e : ℕ) → SearchesDelay p e → d ≤ e → WideRowHas p.boxes e (first_sums y e m)
   pub folds_below : (e : ℕ) → HasDelay g e → e < d → KeepsFrontOf g e (sums_from_delay y e (m + n))
   pub folds_from : (e : ℕ) → HasDelay g e → d ≤ e → KeepsFrontOf g e (sums_from_delay y e m)
   pub hits : (k : ℕ) → k < n → pulses_of_hits y p.search p.channels (m + k) p.hits

@@ -9,7 +9,7 @@ ghost use Rattle.subband_plan.specs.Nodes.{HasRow, root};
 ghost use Rattle.search_model.specs.Search.{SettingsInRange};
 ghost use Rattle.search_engine.specs.Judging.{Adds};
 ghost use Rattle.search_engine.specs.Thresholds.{IsHit, AreThresholds, pulses_of_hits, pulse_of_hit};
-ghost use Rattle.search_engine.specs.PulseSearch.{PulseState, PulsesAreSound, SearchesDelay, SearchesFor, SearchAlike, RowsStandFor, AreFed, CanJudge, HasFed, HadLast, IsTaken};
+ghost use Rattle.search_engine.specs.PulseSearch.{PulseState, PulsesAreSound, SearchesDelay, SearchesFor, SearchAlike, RowsStandFor, AreFed, CanJudge, WideRowHas, WideRowFed, IsTakenRow};
 ghost use Rattle.search_model.specs.declared.search.Search.{Search};
 ghost use Rattle.search_engine.specs.Pulses.{first_sums, box_of, pulse_of, pulses_of_delay};
 ghost use Rattle.search_engine.specs.Sums.{HasRows, sums_of};
@@ -113,15 +113,15 @@ impl PulseSearch {
         requires room { length self.old.hits + 6 ≤ 6 * (self.old.end - self.old.first) }
         ensures alike { SearchAlike self.new self.old }
         ensures few { length self.new.hits ≤ length self.old.hits + 6 }
-        ensures count { HadLast self.new.boxes d (length row.now) }
+        ensures count { WideRowFed self.new.boxes d (length row.now) }
         ensures counts { (e n : ℕ) → SearchesDelay self.old e → e ≢ d
-            → HadLast self.old.boxes e n → HadLast self.new.boxes e n }
-        ensures own { (xs : List ℕ) → HasFed self.old.boxes d xs
-            → HasFed self.new.boxes d (xs ++ row.now) }
+            → WideRowFed self.old.boxes e n → WideRowFed self.new.boxes e n }
+        ensures own { (xs : List ℕ) → WideRowHas self.old.boxes d xs
+            → WideRowHas self.new.boxes d (xs ++ row.now) }
         ensures others { (e : ℕ) (xs : List ℕ) → SearchesDelay self.old e → e ≢ d
-            → HasFed self.old.boxes e xs → HasFed self.new.boxes e xs }
+            → WideRowHas self.old.boxes e xs → WideRowHas self.new.boxes e xs }
         ensures hits { (y : ℕ → ℕ → ℕ) (m k : ℕ)
-            → IsTaken y self.new.boxes d m row.now → k < length row.now
+            → IsTakenRow y self.new.boxes d m row.now → k < length row.now
             → pulses_of_hits y self.old.search self.old.channels (m + k) self.new.hits
             ≡ pulses_of_hits y self.old.search self.old.channels (m + k) self.old.hits
             ++ pulses_of_delay y self.old.search self.old.channels (m + k) d }
@@ -186,13 +186,13 @@ impl PulseSearch {
         requires rows { HasRows carry.now self.now }
         requires spectrum { k < carry.now.last }
         requires start { start + carry.now.last ≡ carry.now.fed }
-        requires fed { HadLast self.now.boxes hit.now.delay carry.now.last }
+        requires fed { WideRowFed self.now.boxes hit.now.delay carry.now.last }
         requires early { start + k < 2 ^ 62 }
         requires room { book.old.count < 2 ^ 63 }
         ensures count { book.new.count ≤ book.old.count + 1 }
         ensures pulse { (f : Filterbank) → StandsForSamples carry.now f
             → let y = sums_of f carry.now.tables.plan.edges in
-            HasFed self.now.boxes hit.now.delay (first_sums y hit.now.delay carry.now.fed)
+            WideRowHas self.now.boxes hit.now.delay (first_sums y hit.now.delay carry.now.fed)
             → Adds book.old book.new
             (pulse_of_hit y self.now.search self.now.channels (start + k) hit.now) }
     {
@@ -226,12 +226,13 @@ fn feed_boxes(boxes: &mut Boxes, widest: u32, d: u32, row: &[u32])
     requires small { All (λ x. x ≤ boxes.old.bound) row.now }
     ensures alike { AreAlike boxes.new boxes.old }
     ensures newest { 1 < boxes.new.widest → d ≡ boxes.new.newest }
-    ensures count { HadLast boxes.new d (length row.now) }
+    ensures count { WideRowFed boxes.new d (length row.now) }
     ensures counts { (e n : ℕ) → KeepsRow boxes.old e → e ≢ d
-        → HadLast boxes.old e n → HadLast boxes.new e n }
-    ensures own { (xs : List ℕ) → HasFed boxes.old d xs → HasFed boxes.new d (xs ++ row.now) }
+        → WideRowFed boxes.old e n → WideRowFed boxes.new e n }
+    ensures own { (xs : List ℕ) → WideRowHas boxes.old d xs
+        → WideRowHas boxes.new d (xs ++ row.now) }
     ensures others { (e : ℕ) (xs : List ℕ) → KeepsRow boxes.old e → e ≢ d
-        → HasFed boxes.old e xs → HasFed boxes.new e xs }
+        → WideRowHas boxes.old e xs → WideRowHas boxes.new e xs }
 {
     if widest > 1 {
         boxes.feed_row(d, row);
@@ -243,12 +244,12 @@ fn box_at(boxes: &Boxes, carry: &Carry, d: u32, k: u32, width: u32) -> u32
     requires row { HasRow (root carry.now.tables.plan) d }
     requires keeps { KeepsRow boxes.now d }
     requires spectrum { k < carry.now.last }
-    requires fed { HadLast boxes.now d carry.now.last }
+    requires fed { WideRowFed boxes.now d carry.now.last }
     requires width { IsWidth width }
     requires narrow { width ≤ boxes.now.widest }
     ensures { (f : Filterbank) → StandsForSamples carry.now f
         → let y = sums_of f carry.now.tables.plan.edges in
-        HasFed boxes.now d (first_sums y d carry.now.fed)
+        WideRowHas boxes.now d (first_sums y d carry.now.fed)
         → result ≡ box_of y d (carry.now.fed - carry.now.last + k) width }
 {
     if width < 2 {
@@ -277,7 +278,7 @@ fn note_hits(
         → All (IsHit s n first end) hits.old.items → All (IsHit s n first end) hits.new.items }
     ensures pulses { (s : Search) (n end m k : ℕ) (y : ℕ → ℕ → ℕ)
         → All (AreThresholds s n first end) by_width.now
-        → IsTaken y boxes.now d m row.now → k < length row.now
+        → IsTakenRow y boxes.now d m row.now → k < length row.now
         → pulses_of_hits y s n (m + k) hits.new.items
         ≡ pulses_of_hits y s n (m + k) hits.old.items
         ++ flat_map (λ thresholds. pulse_of y s n (m + k) d thresholds.width) by_width.now }

@@ -3,7 +3,7 @@ ghost use Rattle.std.specs.Prelude.{◌≡◌, ℕ, ◌+◌, ◌-◌, ◌*◌, �
 ghost use Rattle.box_sums.specs.Rows.{IsWidth};
 ghost use Rattle.search_model.specs.declared.search.Search.{Search};
 ghost use Rattle.search_model.specs.Search.{SettingsInRange};
-ghost use Rattle.search_engine.specs.PulseSearch.{IsTaken};
+ghost use Rattle.search_engine.specs.PulseSearch.{IsTakenRow};
 ghost use Rattle.search_engine.specs.Pulses.{box_of, pulse_of};
 
 use box_sums::Boxes;
@@ -106,7 +106,7 @@ impl BoxThresholds {
             → IfSome result (IsHit s n first end) }
         ensures pulses { (s : Search) (n end m k : ℕ) (y : ℕ → ℕ → ℕ)
             → AreThresholds s n first end self.now
-            → IsTaken y boxes.now d m row.now → k < length row.now
+            → IsTakenRow y boxes.now d m row.now → k < length row.now
             → pulses_of_hits y s n (m + k) (option_to_list result)
             ≡ pulse_of y s n (m + k) d self.now.width }
     {
@@ -125,12 +125,13 @@ impl BoxThresholds {
     }
 }
 
-// The greatest box of a width that ends at one of the sums of row `d`, which was taken last. A box of one sum is the sum.
+// The greatest box of a width that ends at one of the sums of row `d`, which was taken last. A box of one sum is that
+// sum.
 fn greatest_box(boxes: &Boxes, row: &[u32], d: u32, width: u32) -> u32
     requires newest { 1 < boxes.now.widest → d ≡ boxes.now.newest }
     requires width { IsWidth width }
     requires narrow { width ≤ boxes.now.widest }
-    ensures { (y : ℕ → ℕ → ℕ) (m k : ℕ) → IsTaken y boxes.now d m row.now → k < length row.now
+    ensures { (y : ℕ → ℕ → ℕ) (m k : ℕ) → IsTakenRow y boxes.now d m row.now → k < length row.now
         → box_of y d (m + k) width ≤ result }
 {
     if width < 2 {

@@ -2,7 +2,7 @@ use Rattle.std.proofs.Common.{◌≡◌, ◌+◌, ◌<◌, ◌≤◌, ◌++◌, 
 use Rattle.std.specs.List.{flat_map}
 use Rattle.search_model.specs.declared.search.Search.{Search}
 use Rattle.search_engine.specs.Thresholds.{IsHit, AreThresholds, pulses_of_hits}
-use Rattle.search_engine.specs.PulseSearch.{IsTaken}
+use Rattle.search_engine.specs.PulseSearch.{IsTakenRow}
 use Rattle.search_engine.specs.Pulses.{pulse_of}
 use Rattle.search_engine.proofs.pulse_search.note_hits.Given as goal
 
@@ -14,7 +14,7 @@ invariant-loop-thresholds l = record {
   hits : (s : Search) (n end : ℕ) → All (AreThresholds s n l.first end) l.by_width
       → All (IsHit s n l.first end) l.fn.hits.items → All (IsHit s n l.first end) l.hits.items;
   pulses : (s : Search) (n end m k : ℕ) (y : ℕ → ℕ → ℕ) → All (AreThresholds s n l.first end) l.by_width
-      → IsTaken y l.boxes l.d m l.row → k < length l.row
+      → IsTakenRow y l.boxes l.d m l.row → k < length l.row
       → pulses_of_hits y s n (m + k) l.hits.items ≡ pulses_of_hits y s n (m + k) l.fn.hits.items
       ++ flat_map (λ thresholds. pulse_of y s n (m + k) l.d thresholds.width) (take l.thresholds-index l.by_width);
 }

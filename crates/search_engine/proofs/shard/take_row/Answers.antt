@@ -1,6 +1,6 @@
 use Rattle.std.proofs.Common.{◌≡◌, ◌+◌, ◌<◌, inl, inr, length, subst, arith}
 use Rattle.std.proofs.lemmas.Bool.{cases_lt}
-use Rattle.search_engine.specs.PulseSearch.{SearchesDelay, HadLast}
+use Rattle.search_engine.specs.PulseSearch.{SearchesDelay, WideRowFed}
 use Rattle.search_engine.proofs.Rows.{taken_more}
 use Rattle.search_engine.proofs.shard.take_row.Goals as goal
 
@@ -17,7 +17,7 @@ returns-clause-fed c = λ fed e h below.
     elim (cases_lt e a.d) [
       | inl lower ↦ c.take.ensures.counts e n old (λ q. absurd (omega arith)) (fed e old lower)
       | inr at ↦ let q : a.d ≡ e = omega arith in
-          subst (λ i. HadLast c.take.new.self.boxes i n) q c.take.ensures.count
+          subst (λ i. WideRowFed c.take.new.self.boxes i n) q c.take.ensures.count
     ]
 
 pub returns-clause-stands : goal.returns-clause-stands

@@ -1,7 +1,7 @@
 use Rattle.std.proofs.Common.{◌≡◌, ℕ, ◌+◌, ◌-◌, [], ◌∷◌, sym, ◌∙◌, ap, subst, arith}
 use Rattle.box_sums.specs.Tails.{RowTails}
 use Rattle.search_model.specs.declared.candidate.Candidate.TheVariants.{Pulse}
-use Rattle.search_engine.specs.PulseSearch.{PulseState, HasFed}
+use Rattle.search_engine.specs.PulseSearch.{PulseState, WideRowHas}
 use Rattle.search_engine.specs.Pulses.{first_sums, box_of}
 use Rattle.search_engine.specs.Sums.{sums_of}
 use Rattle.search_engine.proofs.Adding.{adds_none, adds_same}
@@ -10,10 +10,10 @@ use Rattle.search_engine.proofs.pulse_search.PulseSearch.report_hit.Goals as goa
 
 -- the sum of the fields is that of what contracts see
 sum_seen : (y : ℕ → ℕ → ℕ) (d start fed last k w sum : ℕ) (inside seen : RowTails) → inside ≡ seen → start + last ≡ fed →
-    HasFed seen d (first_sums y d fed) →
-    (HasFed inside d (first_sums y d fed) → sum ≡ box_of y d (fed - last + k) w) → sum ≡ box_of y d (start + k) w
+    WideRowHas seen d (first_sums y d fed) →
+    (WideRowHas inside d (first_sums y d fed) → sum ≡ box_of y d (fed - last + k) w) → sum ≡ box_of y d (start + k) w
 sum_seen y d start fed last k w sum inside seen same total stands is =
-    let P : RowTails → Type 0 = λ b. HasFed b d (first_sums y d fed) in
+    let P : RowTails → Type 0 = λ b. WideRowHas b d (first_sums y d fed) in
     is (subst P (sym same) stands) ∙ ap (λ u. box_of y d u w) (let e : fed - last + k ≡ start + k = omega arith in e)
 
 pub returns-then-from-end-clause-pulse : goal.returns-then-from-end-clause-pulse

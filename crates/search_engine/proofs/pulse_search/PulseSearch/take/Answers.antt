@@ -3,7 +3,7 @@ use Rattle.std.specs.List.{flat_map}
 use Rattle.box_sums.specs.Tails.{KeepsRow}
 use Rattle.search_engine.specs.declared.thresholds.BoxThresholds.{BoxThresholds}
 use Rattle.search_engine.specs.Thresholds.{AreThresholds, pulses_of_hits}
-use Rattle.search_engine.specs.PulseSearch.{PulseState, SearchesDelay, HadLast}
+use Rattle.search_engine.specs.PulseSearch.{PulseState, SearchesDelay, WideRowFed}
 use Rattle.search_engine.specs.Pulses.{pulse_of, pulses_of_delay}
 use Rattle.search_engine.proofs.WidthCounts.{widths_few, pulses_by_width}
 use Rattle.search_engine.proofs.pulse_search.PulseSearch.take.Goals as goal
@@ -55,7 +55,7 @@ returns-clause-counts c = λ e n h apart last.
     let f = c.self.inside in
     let i = c.self.invariant in
     let S : PulseState → Type 0 = λ p. SearchesDelay p e in
-    let P : PulseState → Type 0 = λ p. HadLast p.boxes e n in
+    let P : PulseState → Type 0 = λ p. WideRowFed p.boxes e n in
     let delay = subst S (sym c.self.view_is) h in
     let first = i.boxes.first_row in
     let end = i.boxes.last_row in
