@@ -1,0 +1,205 @@
+-- What is known once all actors have ended: two lists are compared once.
+use Rattle.std.proofs.Common.{◌≡◌, ◌≢◌, ℕ, ◌+◌, ◌<◌, ◌≤◌, Bool, true, false, List, [], ◌++◌, length, Option, Some, None, slice_get, slice_index_or, refl, sym, ap, ◌∙◌, subst, arith}
+use Rattle.std.specs.Prelude.{All, IfSome, IsSome, nat_lt}
+use Rattle.std.proofs.lemmas.List.{append-nil}
+use Rattle.std.proofs.lemmas.List.Elements.{All-weaker}
+use Rattle.std.proofs.lemmas.Bool.Decides.{nat_tests}
+use Rattle.std.proofs.lemmas.Option.{slice_get_within, get_or_from_slice_get}
+use Rattle.arrayvec.specs.ArrayVec.{ArrayVec}
+use Rattle.dada_model.specs.Observation.{Observation}
+use Rattle.search_model.specs.declared.search.Search.{Search}
+use Rattle.search_model.specs.Candidates.{shard_part}
+use Rattle.search_model.specs.Observed.{filterbank_of, candidates_of}
+use Rattle.candidate_book.specs.Book.{BookContents, book_of}
+use Rattle.psr_base.specs.Count.{Rose}
+use Rattle.psr_base.specs.Told.{Told}
+use Rattle.ring_blocks.specs.declared.Entry.{Entry}
+use Rattle.ring_words.specs.Ring.{Begins}
+use Rattle.ring_ends.specs.Ended.{sealed_at_end, cleared_at_end}
+use Rattle.dada_hdu.specs.declared.hdu.Hdu.{Hdu}
+use Rattle.stream_model.specs.Blocks.{ended_transfers, transfer_bytes, is_over}
+use Rattle.search_engine.specs.Engine.{EngineState, SameShard, StandsForData, HasSearched}
+use Rattle.disk_feeder.specs.declared.answers.FeedEnd.{FeedEnd}
+use Rattle.disk_feeder.specs.declared.answers.FeedEnd.TheVariants.{Whole, ReadFault}
+use Rattle.disk_feeder.specs.declared.feeder.Feeder.{Feeder}
+use Rattle.disk_feeder.specs.Plan.{Plan}
+use Rattle.disk_feeder.specs.Feeder.{plan_at, block_size, has_end, stream_at, FeederFaultless, FeederSince}
+use Rattle.disk_feeder.specs.Feeding.{IsEnding, IsEnded, FeedsTo}
+use Rattle.disk_feeder.specs.Turns.{sealed_headers, sealed_blocks}
+use Rattle.disk_feeder.specs.Laws.{FeedersEnd}
+use Rattle.search_session.specs.declared.lane.Lane.{Lane}
+use Rattle.search_session.specs.declared.feed.FeedActor.{FeedActor}
+use Rattle.search_session.specs.declared.shard.ShardActor.{ShardActor}
+use Rattle.search_session.specs.declared.hand.Hand.{Hand}
+use Rattle.search_session.specs.declared.ended.SessionEnd.{SessionEnd}
+use Rattle.search_session.specs.Lanes.{HasEngine, Stands}
+use Rattle.search_session.specs.Shards.{StandsAt, EngineFollows, EnginesFollow, shard_cleared, shard_number, ShardOn}
+use Rattle.search_session.specs.Feeds.{FeedOn, FeedMoved}
+use Rattle.search_session.specs.Hands.{HandOn, HandEnded}
+use Rattle.search_session.specs.Stages.{IsOfLane, AreOfLanes, IsIn}
+use Rattle.search_session.specs.Books.{HasLane, HasBook}
+use Rattle.search_session.specs.Sessions.{FeedAnswers, ShardAnswers, IsSearched, IsEndOf, data_through}
+use Rattle.search_session.proofs.Engines.{nothing}
+use Rattle.search_session.proofs.Turning.{none_ended, not_below_zero}
+
+-- ---- what holds of all is true of one
+
+all_at : {A : Type 0} (P : A → Type 0) (xs : List A) (k : ℕ) (x : A) → slice_get xs k ≡ Some x → All P xs → P x
+all_at P xs k x at all = subst P (get_or_from_slice_get xs k x x at) (all k x (slice_get_within xs k x at))
+
+if_some : {A : Type 0} (P : A → Type 0) (slot : Option A) (x : A) → slot ≡ Some x → IfSome slot P → P x
+if_some P None x is holds = absurd cc
+if_some P (Some y) x is holds = let same : y ≡ x = cc in subst P same holds
+
+module _ {I : Type 0} where
+  all_slots : (P : ShardActor → Type 0) (hands : List (Hand I)) (x : ShardActor) →
+      All (λ h. All (λ slot. IfSome slot P) h.shards.items) hands → IsIn hands x → P x
+  all_slots P hands x all is =
+      all_at (λ slot. IfSome slot P) is.hand.shards.items is.place (Some x) is.works
+      (all_at (λ (h : Hand I). All (λ slot. IfSome slot P) h.shards.items) hands is.hand_place is.hand is.there all)
+
+  pub ended_in : (hands : List (Hand I)) (x : ShardActor) → All HandEnded hands → IsIn hands x → x.ended ≡ true
+  ended_in hands x ended is = all_slots (λ y. y.ended ≡ true) hands x
+      (All-weaker HandEnded (λ h. All (λ slot. IfSome slot (λ y. y.ended ≡ true)) h.shards.items) (λ h e. e.shards)
+      hands ended) is
+
+  pub of_lane_in : (lanes : List (Option Lane)) (hands : List (Hand I)) (x : ShardActor) → AreOfLanes lanes hands →
+      IsIn hands x → IsOfLane lanes x
+  of_lane_in lanes hands x of is = all_slots (IsOfLane lanes) hands x of is
+
+  pub feeder_ended : (hands : List (Hand I)) (h : Hand I) (f : FeedActor I) → All HandEnded hands →
+      slice_get hands 0 ≡ Some h → h.feeder ≡ Some f → IsSome f.end
+  feeder_ended hands h f ended at works =
+      if_some (λ (x : FeedActor I). IsSome x.end) h.feeder f works (all_at HandEnded hands 0 h at ended).feeder
+
+module _ {I : Type 0} (told : I → Told) (is_open : I → Type 0) (hdu : Hdu) (hands : List (Hand I))
+    (on : All (HandOn told is_open hdu) hands) where
+  pub on_in : (x : ShardActor) → IsIn hands x → ShardOn hdu x
+  on_in x is = all_slots (ShardOn hdu) hands x (All-weaker (HandOn told is_open hdu)
+      (λ h. All (λ slot. IfSome slot (ShardOn hdu)) h.shards.items) (λ h o. o.shards) hands on) is
+
+  pub feeder_on : (h : Hand I) (f : FeedActor I) → slice_get hands 0 ≡ Some h → h.feeder ≡ Some f →
+      FeedOn told is_open hdu f
+  feeder_on h f at works = if_some (FeedOn told is_open hdu) h.feeder f works
+      (all_at (HandOn told is_open hdu) hands 0 h at on).feeder
+
+-- ---- the feeder's end
+
+-- a feeder that runs and met no fault has met none since now
+since_now : {I : Type 0} (f : Feeder I) (k : ℕ) → has_end f ≡ None → FeederFaultless f → FeederSince k k f
+since_now f k running faultless = record {
+  count = omega arith;
+  due_failed = λ due. absurd (faultless.0 due);
+  end_failed = λ end. absurd (faultless.1 end);
+  due_quiet = λ end due. refl;
+  end_quiet = λ stop end other. refl;
+}
+
+module _ {I : Type 0} (told : I → Told) (is_open is_calm : I → Type 0) (faults : I → ℕ) (hdu : Hdu)
+    (start f : FeedActor I) (n : ℕ) (moved : FeedMoved told is_calm faults n start f) (on : FeedOn told is_open hdu f)
+    (end : SessionEnd I) (feed : f.end ≡ Some end.feed) (inputs : end.inputs.now ≡ f.part.inputs.now)
+    (sealed : sealed_at_end end.blocks ≡ sealed_blocks f.pass) where
+  part_end : has_end f.part ≡ Some end.feed
+  part_end = sym on.end ∙ feed
+
+  part_ended : IsEnded (plan_at f.part) (told f.part.inputs.now) (block_size f.part) (sealed_headers f.pass)
+      (sealed_blocks f.pass) end.feed
+  part_ended = subst (λ (e : Option FeedEnd). FeedsTo (stream_at f.part) (told f.part.inputs.now)
+      (sealed_headers f.pass) (sealed_blocks f.pass) e) part_end on.feeding
+
+  all_sealed : IsEnded (plan_at start.part) (told end.inputs.now) (block_size start.part) (sealed_headers f.pass)
+      (sealed_at_end end.blocks) end.feed
+  all_sealed =
+      subst (λ (p : Plan). IsEnded p (told end.inputs.now) (block_size start.part) (sealed_headers f.pass)
+      (sealed_at_end end.blocks) end.feed) moved.plan
+      (subst (λ (i : I). IsEnded (plan_at f.part) (told i) (block_size start.part) (sealed_headers f.pass)
+      (sealed_at_end end.blocks) end.feed) (sym inputs)
+      (subst (λ (z : ℕ). IsEnded (plan_at f.part) (told f.part.inputs.now) z (sealed_headers f.pass)
+      (sealed_at_end end.blocks) end.feed) moved.size
+      (subst (λ (l : List Entry). IsEnded (plan_at f.part) (told f.part.inputs.now) (block_size f.part)
+      (sealed_headers f.pass) l end.feed) (sym sealed) part_ended)))
+
+  pub feed_answers : end.inputs.ghost_name ≡ f.part.inputs.ghost_name → has_end start.part ≡ None →
+      FeederFaultless start.part → FeedAnswers told is_calm faults start.part end
+  feed_answers name running faultless =
+      let k = faults start.part.inputs.now in
+      let since = moved.inputs.since k (since_now start.part k running faultless) in
+      let same : faults end.inputs.now ≡ faults f.part.inputs.now = ap faults inputs in
+      let count = moved.inputs.count in
+      record {
+        same_reference = name ∙ moved.inputs.same_reference;
+        names = ap (λ (i : I). (told i).bytes_under) inputs ∙ moved.inputs.names;
+        count = omega arith;
+        calm = λ was. subst is_calm (sym inputs) (moved.inputs.calm was);
+        failed = λ is. subst (λ (m : ℕ). Rose k m) (sym same) (since.end_failed (part_end ∙ ap (λ (e : FeedEnd). Some e)
+            is));
+        quiet = λ other. same ∙ since.end_quiet end.feed part_end other;
+        serves = λ calm holds is. (moved.inputs.serves calm holds faultless).1
+            (part_end ∙ ap (λ (e : FeedEnd). Some e) is);
+        headers = sealed_headers f.pass;
+        sealed = all_sealed;
+      }
+
+  pub is_ending : FeedersEnd I → IsEnding (length (plan_at start.part).starts) (sealed_at_end end.blocks) end.feed
+  is_ending law =
+      subst (λ (p : Plan). IsEnding (length p.starts) (sealed_at_end end.blocks) end.feed) moved.plan
+      (subst (λ (l : List Entry). IsEnding (length (plan_at f.part).starts) l end.feed) (sym sealed)
+      (law f.part (told f.part.inputs.now) (sealed_headers f.pass) (sealed_blocks f.pass) end.feed on.feeding
+      part_end))
+
+-- ---- the shards' ends
+
+none_stands : (o : Observation) (k : ℕ) (e : EngineState) → StandsForData o [] e → StandsAt o k [] e
+none_stands o k e stands =
+    subst (λ (n : ℕ). Stands (nat_lt k n) o (transfer_bytes k []) e) (sym none_ended)
+    (subst (λ (b : Bool). Stands b o (transfer_bytes k []) e) (sym (not_below_zero k))
+    (subst (λ (l : List ℕ). StandsForData o l e) (sym (nothing k)) stands))
+
+below_true : (a b : ℕ) → a < b → nat_lt a b ≡ true
+below_true a b less = grind (arith, nat_tests)
+
+-- the book of an engine that searched all data of its transfer
+book_is : (o : Observation) (bytes : List ℕ) (e f : EngineState) → SameShard f e → HasSearched o bytes f →
+    f.book ≡ book_of e.search.max_candidates (shard_part e.search e.shard (candidates_of o e.search bytes))
+book_is o bytes e f same searched = searched.book
+    ∙ (ap (λ (s : Search). book_of s.max_candidates (shard_part s f.shard (candidates_of o s bytes))) same.search
+    ∙ ap (λ (k : ℕ). book_of e.search.max_candidates (shard_part e.search k (candidates_of o e.search bytes)))
+    same.shard)
+
+module _ {I : Type 0} (hdu : Hdu) (transfers : ℕ) (lanes : List (Option Lane)) (end : SessionEnd I)
+    (ending : IsEnding transfers (sealed_at_end end.blocks) end.feed) (s : ℕ) (x : ShardActor)
+    (number : shard_number x ≡ s) (is_end : IsEndOf end s x) (on : ShardOn hdu x) (ended : x.ended ≡ true)
+    (of : IsOfLane lanes x) (lane : Lane) (at : HasLane lanes s lane)
+    (count : length lane.engines.items ≡ transfers) where
+  follow : EnginesFollow [] (shard_cleared x) lane.engines.items x.part.engines.items
+  follow = of lane (subst (λ (k : ℕ). slice_get lanes k ≡ Some (Some lane)) (sym number) at)
+
+  over : is_over transfers (shard_cleared x) ≡ true
+  over = ap (λ (k : ℕ). is_over k (shard_cleared x)) (sym (follow.count ∙ count)) ∙ (sym on.over ∙ ended)
+
+  pub cleared_all : shard_cleared x ≡ sealed_at_end end.blocks
+  cleared_all =
+      let none = ending.once (shard_cleared x) is_end.begins.0 (sym is_end.begins.1) over in
+      sym (is_end.begins.1 ∙ (ap (λ (l : List Entry). shard_cleared x ++ l) none ∙ append-nil (shard_cleared x)))
+
+  pub cleared_at : cleared_at_end end.blocks s ≡ sealed_at_end end.blocks
+  cleared_at = is_end.cleared ∙ cleared_all
+
+  pub searched : (bytes : ℕ) → end.feed ≡ Whole bytes → (transfer : ℕ) (e : EngineState) (o : Observation) →
+      HasEngine lane.engines.items transfer e → StandsForData o [] e → IsSearched end transfer s o e
+  searched bytes whole transfer e o has stands =
+      let f = follow.each transfer e has in
+      let near = slice_get_within lane.engines.items transfer (Some e) has in
+      let all = ending.all bytes whole in
+      let below : nat_lt transfer (ended_transfers (sealed_at_end end.blocks)) ≡ true =
+      below_true transfer (ended_transfers (sealed_at_end end.blocks)) (omega arith) in
+      let stood : StandsAt o transfer (sealed_at_end end.blocks) f.0 =
+      subst (λ (l : List Entry). StandsAt o transfer l f.0) cleared_all
+      (f.2.stands o (none_stands o transfer e stands)) in
+      let done : HasSearched o (data_through end transfer) f.0 =
+      subst (λ (b : Bool). Stands b o (data_through end transfer) f.0) below stood in
+      record {
+        book = subst (λ (b : BookContents). HasBook end.books.items transfer s b)
+            (book_is o (data_through end transfer) e f.0 f.2.same done) (is_end.books transfer f.0 f.1);
+        spectra = λ first. is_end.spectra first transfer f.0 f.1 ∙ ap (λ (t : ℕ). Some t) done.spectra;
+      }

@@ -1,0 +1,196 @@
+-- The engines of a shard and the blocks that it cleared.
+use Rattle.std.proofs.Common.{◌≡◌, ◌≢◌, ℕ, zero, suc, ◌+◌, ◌-◌, ◌*◌, ◌<◌, ◌≤◌, Bool, true, false, List, [], ◌∷◌, ◌++◌, length, length-append, Option, Some, slice_get, refl, sym, ap, ◌∙◌, subst, arith}
+use Rattle.std.specs.Prelude.{if◌then◌else◌, nat_lt}
+use Rattle.std.proofs.lemmas.List.{append-nil}
+use Rattle.std.proofs.lemmas.Bool.Decides.{nat_tests}
+use mathlib.Core.Logic.{dite}
+use native.Mathlib.Decide.{ℕ_discrete, dec_le}
+use Rattle.dada_model.specs.Observation.{Observation}
+use Rattle.ring_blocks.specs.declared.Entry.{Entry}
+use Rattle.stream_model.specs.Blocks.{is_end, ended_transfers, transfer_bytes}
+use Rattle.stream_model.specs.BlockLaws.{EndsAreCounted, EntriesAreOfTransfers}
+use Rattle.search_engine.specs.Engine.{EngineState, SameShard, StandsForData}
+use Rattle.search_session.specs.Lanes.{HasEngine, Stands, IsFed, IsFedAt}
+use Rattle.search_session.specs.Shards.{StandsAt, IsEngineAt, AreEnginesAt, EngineFollows, EnginesFollow}
+
+-- ---- one block more
+
+pub nothing : (k : ℕ) → transfer_bytes k [] ≡ []
+unfolding transfer_bytes
+nothing zero = refl
+nothing (suc k) = refl
+
+-- a block has nothing of a later transfer
+none_later : (m : ℕ) (e : Entry) → 0 < m → transfer_bytes m (e ∷ []) ≡ []
+unfolding transfer_bytes
+none_later zero e later = absurd (omega arith)
+none_later (suc m) e later = nothing (if is_end e.mark then m else suc m)
+
+ended_one : (e : Entry) → ended_transfers (e ∷ []) ≡ (if is_end e.mark then 1 else 0) + 0
+unfolding ended_transfers
+ended_one e = refl
+
+-- how many transfers have ended with one block more
+pub ended_more : EndsAreCounted → (xs : List Entry) (e : Entry) →
+    ended_transfers (xs ++ e ∷ []) ≡ ended_transfers xs + (if is_end e.mark then 1 else 0)
+ended_more counted xs e =
+    let one = ended_one e in
+    let all = counted.append xs (e ∷ []) in
+    omega arith
+
+lt_other : (k d m : ℕ) (b : Bool) → k ≢ d → m ≡ d + (if b then 1 else 0) → nat_lt k m ≡ nat_lt k d
+lt_other k d m true other is = grind (arith, nat_tests)
+lt_other k d m false other is = grind (arith, nat_tests)
+
+lt_same : (d m : ℕ) (b : Bool) → m ≡ d + (if b then 1 else 0) → nat_lt d m ≡ b
+lt_same d m true is = grind (arith, nat_tests)
+lt_same d m false is = grind (arith, nat_tests)
+
+pub not_below_itself : (d : ℕ) → nat_lt d d ≡ false
+not_below_itself d = grind (arith, nat_tests)
+
+-- a block belongs to one transfer, and the others gain nothing
+bytes_other : EntriesAreOfTransfers → (k : ℕ) (xs : List Entry) (e : Entry) → k ≢ ended_transfers xs →
+    transfer_bytes k (xs ++ e ∷ []) ≡ transfer_bytes k xs
+bytes_other of k xs e other = dite (dec_le (ended_transfers xs) k)
+    (λ after. let later : 0 < k - ended_transfers xs = omega arith in
+    of.open_still k xs (e ∷ []) after
+    ∙ (ap (λ bytes. transfer_bytes k xs ++ bytes) (none_later (k - ended_transfers xs) e later)
+    ∙ append-nil (transfer_bytes k xs)))
+    (λ before. of.done k xs (e ∷ []) (omega arith))
+
+-- what an engine stands for, where the bytes of its transfer and whether that ended are the same
+stands_same : (o : Observation) (k : ℕ) (xs ys : List Entry) (e : EngineState) →
+    nat_lt k (ended_transfers ys) ≡ nat_lt k (ended_transfers xs) → transfer_bytes k ys ≡ transfer_bytes k xs →
+    StandsAt o k xs e → StandsAt o k ys e
+stands_same o k xs ys e ended bytes stands =
+    subst (λ (b : Bool). Stands b o (transfer_bytes k ys) e) (sym ended)
+    (subst (λ (l : List ℕ). Stands (nat_lt k (ended_transfers xs)) o l e) (sym bytes) stands)
+
+-- ---- the engine that is fed
+
+module _ (counted : EndsAreCounted) (of : EntriesAreOfTransfers) (size : ℕ) (xs : List Entry) (e : Entry)
+    (fits : length e.bytes ≤ size) where
+  this_at : (old new : EngineState) → IsEngineAt size xs (ended_transfers xs) old →
+      IsFed old e.bytes (is_end e.mark) new → IsEngineAt size (xs ++ e ∷ []) (ended_transfers xs) new
+  this_at old new at fed =
+      let bytes = ap (length {A = ℕ}) (of.next (ended_transfers xs) xs e refl) in
+      let all = length-append (transfer_bytes (ended_transfers xs) xs) e.bytes in
+      let before = at.fed in
+      let most = at.most in
+      let more = fed.fed in
+      let long = length-append xs (e ∷ []) in
+      record {
+        ended = fed.ended
+            ∙ sym (lt_same (ended_transfers xs) (ended_transfers (xs ++ e ∷ [])) (is_end e.mark) (ended_more counted xs
+            e));
+        fed = omega arith;
+        most = most_more (length xs) (length (xs ++ e ∷ [])) size old.fed new.fed (length e.bytes) most more fits long;
+      }
+    where
+      most_more : (n m z a b c : ℕ) → a ≤ n * z → b ≡ a + c → c ≤ z → m ≡ n + 1 → b ≤ m * z
+      most_more n m z a b c most more fits long = rw long (grind arith)
+
+  this_follows : (old new : EngineState) → IsFed old e.bytes (is_end e.mark) new →
+      EngineFollows (ended_transfers xs) xs (xs ++ e ∷ []) old new
+  this_follows old new fed = record {
+    same = fed.same;
+    stands = λ o stands.
+        let d = ended_transfers xs in
+        let was : StandsForData o (transfer_bytes d xs) old =
+        subst (λ (b : Bool). Stands b o (transfer_bytes d xs) old) (not_below_itself d) stands in
+        subst (λ (l : List ℕ). Stands (nat_lt d (ended_transfers (xs ++ e ∷ []))) o l new) (sym (of.next d xs e refl))
+        (subst (λ (b : Bool). Stands b o (transfer_bytes d xs ++ e.bytes) new)
+        (sym (lt_same d (ended_transfers (xs ++ e ∷ [])) (is_end e.mark) (ended_more counted xs e)))
+        (fed.stands o (transfer_bytes d xs) was));
+  }
+
+  -- ---- the others
+
+  ended_other : (k : ℕ) → k ≢ ended_transfers xs →
+      nat_lt k (ended_transfers (xs ++ e ∷ [])) ≡ nat_lt k (ended_transfers xs)
+  ended_other k other = lt_other k (ended_transfers xs) (ended_transfers (xs ++ e ∷ [])) (is_end e.mark) other
+      (ended_more counted xs e)
+
+  other_at : (k : ℕ) (f : EngineState) → k ≢ ended_transfers xs → IsEngineAt size xs k f →
+      IsEngineAt size (xs ++ e ∷ []) k f
+  other_at k f other at =
+      let most = at.most in
+      let long = length-append xs (e ∷ []) in
+      record {
+        ended = at.ended ∙ sym (ended_other k other);
+        fed = at.fed ∙ sym (ap (length {A = ℕ}) (bytes_other of k xs e other));
+        most = longer (length xs) (length (xs ++ e ∷ [])) size f.fed most long;
+      }
+    where
+      longer : (n m z a : ℕ) → a ≤ n * z → m ≡ n + 1 → a ≤ m * z
+      longer n m z a most long = rw long (grind arith)
+
+  other_follows : (k : ℕ) (f : EngineState) → k ≢ ended_transfers xs → EngineFollows k xs (xs ++ e ∷ []) f f
+  other_follows k f other = record {
+    same = record { search = refl; shard = refl };
+    stands = λ o stands. stands_same o k xs (xs ++ e ∷ []) f (ended_other k other) (bytes_other of k xs e other) stands;
+  }
+
+  -- ---- all
+
+  pub engines_at : (old new : List (Option EngineState)) → AreEnginesAt size xs old →
+      IsFedAt old (ended_transfers xs) e.bytes (is_end e.mark) new → AreEnginesAt size (xs ++ e ∷ []) new
+  engines_at old new at fed = λ k near. dite (ℕ_discrete k (ended_transfers xs))
+      (λ same.
+      let count = fed.count in
+      let was = at (ended_transfers xs) (omega arith) in
+      let now = fed.this was.0 was.1 in
+      subst (λ (j : ℕ). (f : EngineState) × HasEngine new j f × IsEngineAt size (xs ++ e ∷ []) j f) (sym same)
+      (now.0, now.1, this_at was.0 now.0 was.2 now.2))
+      (λ other.
+      let count = fed.count in
+      let was = at k (omega arith) in
+      (was.0, fed.others k other ∙ was.1, other_at k was.0 other was.2))
+
+  pub engines_follow : (old new : List (Option EngineState)) →
+      IsFedAt old (ended_transfers xs) e.bytes (is_end e.mark) new → EnginesFollow xs (xs ++ e ∷ []) old new
+  engines_follow old new fed = record {
+    count = fed.count;
+    each = λ k f there. dite (ℕ_discrete k (ended_transfers xs))
+        (λ same.
+        let now = fed.this f (subst (λ (j : ℕ). HasEngine old j f) same there) in
+        subst (λ (j : ℕ). (g : EngineState) × HasEngine new j g × EngineFollows j xs (xs ++ e ∷ []) f g) (sym same)
+        (now.0, now.1, this_follows f now.0 now.2))
+        (λ other. (f, fed.others k other ∙ there, other_follows k f other));
+  }
+
+-- ---- no block, and blocks after blocks
+
+pub follow_still : (xs ys : List Entry) (engines : List (Option EngineState)) → ys ≡ xs →
+    EnginesFollow xs ys engines engines
+follow_still xs ys engines is = record {
+  count = refl;
+  each = λ k f there. (
+    f,
+    there,
+    record {
+      same = record { search = refl; shard = refl };
+      stands = λ o stands. subst (λ (l : List Entry). StandsAt o k l f) (sym is) stands;
+    },
+  );
+}
+
+pub follow_more : (xs ys zs : List Entry) (a b c : List (Option EngineState)) → EnginesFollow xs ys a b →
+    EnginesFollow ys zs b c → EnginesFollow xs zs a c
+follow_more xs ys zs a b c first second = record {
+  count = second.count ∙ first.count;
+  each = λ k e there.
+      let f = first.each k e there in
+      let g = second.each k f.0 f.1 in (
+        g.0,
+        g.1,
+        record {
+          same = record {
+            search = g.2.same.search ∙ f.2.same.search;
+            shard = g.2.same.shard ∙ f.2.same.shard;
+          };
+          stands = λ o stands. g.2.stands o (f.2.stands o stands);
+        },
+      );
+}

@@ -1,0 +1,152 @@
+-- Turns of a feeder that follow one another.
+use Rattle.std.proofs.Common.{◌≡◌, ℕ, zero, suc, ◌+◌, ◌<◌, ◌≤◌, ◌^◌, min, [], Option, Some, None, slice_index_or, refl, sym, ap, ◌∙◌, subst, arith, rules}
+use Rattle.std.specs.Prelude.{IsSome}
+use Rattle.psr_base.specs.Told.{Told}
+use Rattle.ring_core.specs.Machine.{greatest}
+use Rattle.dada_hdu.specs.declared.passes.HduWriter.{HduWriter}
+use Rattle.disk_feeder.specs.declared.answers.FeedEnd.{FeedEnd}
+use Rattle.disk_feeder.specs.declared.answers.FeedTurn.{FeedTurn}
+use Rattle.disk_feeder.specs.Feeder.{names_at, plan_at, block_size, has_end, FeederFaultless}
+use Rattle.disk_feeder.specs.Turns.{TurnAnswers}
+use Rattle.disk_feeder.specs.Filling.{HoldsAll}
+use Rattle.disk_feeder.specs.Plan.{Plan}
+use Rattle.search_session.specs.declared.feed.FeedActor.{FeedActor}
+use Rattle.search_session.specs.Feeds.{HasWritten, Writes, InputsKept, FeedMoved}
+
+-- ---- writes
+
+pub no_writes : (p : HduWriter) → Writes 0 p p
+unfolding Writes
+no_writes p = refl
+
+pub one_write : (p q : HduWriter) → HasWritten p q → Writes 1 p q
+unfolding Writes
+one_write p q written = (p, refl, written)
+
+writes_more : (n m : ℕ) (p q r : HduWriter) → Writes n p q → Writes m q r → Writes (n + m) p r
+unfolding Writes
+writes_more n zero p q r first second =
+    subst (λ (k : ℕ). Writes k p r) (let same : n ≡ n + 0 = omega arith in same)
+    (subst (λ (w : HduWriter). Writes n p w) (sym second) first)
+writes_more n (suc m) p q r first second =
+    subst (λ (k : ℕ). Writes k p r) (let same : suc (n + m) ≡ n + suc m = omega arith in same)
+    (second.0, writes_more n m p q second.0 first second.1, second.2)
+
+-- ---- turns
+
+some_not_none : (end : Option FeedEnd) → IsSome end → end ≡ None → ⊥
+some_not_none None some none = cc
+some_not_none (Some e) some none = cc
+
+module _ {I : Type 0} (told : I → Told) (is_calm : I → Type 0) (faults : I → ℕ) where
+  keeps_itself : (f : FeedActor I) → InputsKept told is_calm faults f f
+  keeps_itself f = record {
+    same_reference = refl;
+    names = refl;
+    count = omega arith;
+    since = λ k was. was;
+    calm = λ was. was;
+    serves = λ calm holds was. was;
+  }
+
+  keeps_more : (f g h : FeedActor I) → plan_at g.part ≡ plan_at f.part → InputsKept told is_calm faults f g →
+      InputsKept told is_calm faults g h → InputsKept told is_calm faults f h
+  keeps_more f g h plan a b =
+      let first = a.count in
+      let second = b.count in
+      record {
+        same_reference = b.same_reference ∙ a.same_reference;
+        names = b.names ∙ a.names;
+        count = omega arith;
+        since = λ k was. b.since k (a.since k was);
+        calm = λ was. b.calm (a.calm was);
+        serves = λ calm holds was. b.serves (a.calm calm) (holds_still holds) (a.serves calm holds was);
+      }
+    where
+      holds_still : HoldsAll (told f.part.inputs.now) (names_at f.part) →
+          HoldsAll (told g.part.inputs.now) (names_at g.part)
+      holds_still holds =
+          subst (λ (p : Plan). HoldsAll (told g.part.inputs.now) p.names) (sym plan) (holds_names holds)
+        where
+          holds_names : HoldsAll (told f.part.inputs.now) (names_at f.part) →
+              HoldsAll (told g.part.inputs.now) (names_at f.part)
+          holds_names all = λ k near. subst (λ w. IsSome (w (slice_index_or (names_at f.part) k []))) (sym a.names)
+              (all k near)
+
+  stands : (n : ℕ) (f : FeedActor I) → f.turns < 2 ^ 64 → (f.end ≡ None → 0 ≡ n) →
+      FeedMoved told is_calm faults n f f
+  stands n f small all =
+      let turns : f.turns ≡ min greatest (f.turns + 0) = omega arith in
+      record {
+        inputs = keeps_itself f;
+        plan = refl;
+        size = refl;
+        made = 0;
+        most = omega arith;
+        all = all;
+        none = λ ended. refl;
+        stays = λ ended. refl;
+        turns = turns;
+        writes = no_writes f.pass;
+      }
+
+  pub feed_none : (f : FeedActor I) → f.turns < 2 ^ 64 → FeedMoved told is_calm faults 0 f f
+  feed_none f small = stands 0 f small (λ running. refl)
+
+  pub feed_still : (n : ℕ) (f : FeedActor I) → f.turns < 2 ^ 64 → IsSome f.end → FeedMoved told is_calm faults n f f
+  feed_still n f small ended = stands n f small (λ running. absurd (some_not_none f.end ended running))
+
+  -- a turn and its write
+  pub feed_turned : (f h : FeedActor I) (answer : FeedTurn) → f.end ≡ None → InputsKept told is_calm faults f h →
+      plan_at h.part ≡ plan_at f.part → block_size h.part ≡ block_size f.part →
+      TurnAnswers f.pass h.pass (has_end h.part) answer → h.turns ≡ min greatest (f.turns + 1) →
+      FeedMoved told is_calm faults 1 f h
+  feed_turned f h answer running kept plan size did turns = record {
+    inputs = kept;
+    plan = plan;
+    size = size;
+    made = 1;
+    most = omega arith;
+    all = λ on. refl;
+    none = λ ended. absurd (some_not_none f.end ended running);
+    stays = λ ended. absurd (some_not_none f.end ended running);
+    turns = turns;
+    writes = one_write f.pass h.pass (record { answer = answer; end = has_end h.part; did = did });
+  }
+
+  pub feed_more : (n m : ℕ) (f g h : FeedActor I) → FeedMoved told is_calm faults n f g →
+      FeedMoved told is_calm faults m g h → FeedMoved told is_calm faults (n + m) f h
+  feed_more n m f g h a b =
+      let made_a = a.most in
+      let made_b = b.most in
+      let turns_a = a.turns in
+      let turns_b = b.turns in
+      record {
+        inputs = keeps_more f g h a.plan a.inputs b.inputs;
+        plan = b.plan ∙ a.plan;
+        size = b.size ∙ a.size;
+        made = a.made + b.made;
+        most = omega arith;
+        all = λ on. all_made g.end refl on;
+        none = λ ended.
+            let none_a = a.none ended in
+            let none_b = b.none (stays_some ended) in
+            omega arith;
+        stays = λ ended. b.stays (stays_some ended) ∙ a.stays ended;
+        turns = omega arith;
+        writes = writes_more a.made b.made f.pass g.pass h.pass a.writes b.writes;
+      }
+    where
+      stays_some : IsSome f.end → IsSome g.end
+      stays_some ended = subst (λ (e : Option FeedEnd). IsSome e) (sym (a.stays ended)) ended
+
+      all_made : (e : Option FeedEnd) → g.end ≡ e → h.end ≡ None → a.made + b.made ≡ n + m
+      all_made None is on = let all_a = a.all is in let all_b = b.all on in omega arith
+      all_made (Some e) is on = absurd (some_not_none h.end
+          (subst (λ (x : Option FeedEnd). IsSome x) (sym (b.stays (some_of is) ∙ is)) (some_is e)) on)
+        where
+          some_is : (e : FeedEnd) → IsSome (Some e)
+          some_is e = search rules
+
+          some_of : g.end ≡ Some e → IsSome g.end
+          some_of same = subst (λ (x : Option FeedEnd). IsSome x) (sym same) (some_is e)

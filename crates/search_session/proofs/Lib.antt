@@ -1,0 +1,14 @@
+mod Engines
+mod Rows
+mod Turning
+mod Moves
+mod Feeding
+mod Handling
+mod Working
+mod Gathered
+mod Staffing
+mod Parting
+mod Taking
+mod Finishing
+mod Ending
+mod Closing

@@ -1,0 +1,115 @@
+-- Turns that follow one another, of shards and of slots.
+use Rattle.std.proofs.Common.{◌≡◌, ℕ, ◌+◌, ◌<◌, ◌≤◌, ◌^◌, min, Bool, true, false, List, [], ◌++◌, length, Option, Some, None, slice_index_or, refl, sym, ap, ◌∙◌, append_assoc, arith}
+use Rattle.std.proofs.lemmas.List.{append-nil}
+use Rattle.ring_core.specs.Machine.{greatest}
+use Rattle.ring_blocks.specs.declared.Entry.{Entry}
+use Rattle.ring_words.specs.Ring.{Begins}
+use Rattle.dada_hdu.specs.Passes.{tries_of}
+use Rattle.search_session.specs.declared.shard.ShardActor.{ShardActor}
+use Rattle.search_session.specs.Shards.{shard_cleared, ShardMoved, ShardStepped}
+use Rattle.search_session.specs.Hands.{SlotMoved, EachMoved, FirstMoved}
+use Rattle.search_session.proofs.Engines.{follow_still, follow_more}
+
+-- ---- shards
+
+begins_itself : (xs : List Entry) → Begins xs xs
+begins_itself xs = ([], sym (append-nil xs))
+
+begins_more : (xs ys zs : List Entry) → Begins xs ys → Begins ys zs → Begins xs zs
+begins_more xs ys zs a b =
+    (a.0 ++ b.0, b.1 ∙ (ap (λ (l : List Entry). l ++ b.0) a.1 ∙ append_assoc xs a.0 b.0))
+
+-- no turn was made
+stands : (n : ℕ) (x : ShardActor) → x.turns < 2 ^ 64 → (x.ended ≡ false → 0 ≡ n) → ShardMoved n x x
+stands n x small all =
+    let turns : x.turns ≡ min greatest (x.turns + 0) = omega arith in
+    let tries : tries_of x.pass ≡ tries_of x.pass + 0 = omega arith in
+    record {
+      number = refl;
+      made = 0;
+      most = omega arith;
+      all = all;
+      none = λ ended. refl;
+      stays = λ ended. ended;
+      turns = turns;
+      tries = tries;
+      grown = begins_itself (shard_cleared x);
+      engines = follow_still (shard_cleared x) (shard_cleared x) x.part.engines.items refl;
+    }
+
+pub shard_none : (x : ShardActor) → x.turns < 2 ^ 64 → ShardMoved 0 x x
+shard_none x small = stands 0 x small (λ running. refl)
+
+pub shard_still : (n : ℕ) (x : ShardActor) → x.turns < 2 ^ 64 → x.ended ≡ true → ShardMoved n x x
+shard_still n x small ended = stands n x small (λ running. absurd (apart (x.ended) ended running))
+  where
+    apart : (b : Bool) → b ≡ true → b ≡ false → ⊥
+    apart b t f = cc
+
+-- a turn and its read
+pub shard_turned : (x y : ShardActor) → x.ended ≡ false → ShardStepped x y → (turns : ℕ) →
+    turns ≡ min greatest (x.turns + 1) → y.turns ≡ turns → ShardMoved 1 x y
+shard_turned x y running step turns is same = record {
+  number = step.number;
+  made = 1;
+  most = omega arith;
+  all = λ on. refl;
+  none = λ ended. absurd (apart (x.ended) ended running);
+  stays = λ ended. absurd (apart (x.ended) ended running);
+  turns = same ∙ is;
+  tries = step.tries;
+  grown = step.grown;
+  engines = step.engines;
+}
+  where
+    apart : (b : Bool) → b ≡ true → b ≡ false → ⊥
+    apart b t f = cc
+
+pub shard_more : (n m : ℕ) (x y z : ShardActor) → ShardMoved n x y → ShardMoved m y z → ShardMoved (n + m) x z
+shard_more n m x y z a b =
+    let made_a = a.most in
+    let made_b = b.most in
+    let turns_a = a.turns in
+    let turns_b = b.turns in
+    let tries_a = a.tries in
+    let tries_b = b.tries in
+    record {
+      number = b.number ∙ a.number;
+      made = a.made + b.made;
+      most = omega arith;
+      all = λ on. all_made y.ended refl on;
+      none = λ ended. let none_a = a.none ended in let none_b = b.none (a.stays ended) in omega arith;
+      stays = λ ended. b.stays (a.stays ended);
+      turns = omega arith;
+      tries = omega arith;
+      grown = begins_more (shard_cleared x) (shard_cleared y) (shard_cleared z) a.grown b.grown;
+      engines = follow_more (shard_cleared x) (shard_cleared y) (shard_cleared z) x.part.engines.items
+          y.part.engines.items z.part.engines.items a.engines b.engines;
+    }
+  where
+    apart : (c : Bool) → c ≡ true → c ≡ false → ⊥
+    apart c t f = cc
+
+    all_made : (c : Bool) → y.ended ≡ c → z.ended ≡ false → a.made + b.made ≡ n + m
+    all_made true is on = absurd (apart z.ended (b.stays is) on)
+    all_made false is on = let all_a = a.all is in let all_b = b.all on in omega arith
+
+-- ---- slots
+
+module _ {A : Type 0} (R S T : A → A → Type 0) (both : (x y z : A) → R x y → S y z → T x z) where
+  pub slot_more : (a b c : Option A) → SlotMoved R a b → SlotMoved S b c → SlotMoved T a c
+  slot_more None None None first second = tt
+  slot_more None None (Some z) first second = second
+  slot_more None (Some y) c first second = absurd first
+  slot_more (Some x) None c first second = absurd first
+  slot_more (Some x) (Some y) None first second = second
+  slot_more (Some x) (Some y) (Some z) first second = both x y z first second
+
+  pub each_more : (xs ys zs : List A) → EachMoved R xs ys → EachMoved S ys zs → EachMoved T xs zs
+  each_more xs ys zs first second = record {
+    count = second.count ∙ first.count;
+    each = λ k d near.
+        let count = first.count in
+        both (slice_index_or xs k d) (slice_index_or ys k d) (slice_index_or zs k d) (first.each k d near)
+        (second.each k d (omega arith));
+  }

@@ -1,0 +1,273 @@
+-- The actors of a session come to their hands.
+use Rattle.std.proofs.Common.{◌≡◌, ◌≢◌, ℕ, ◌+◌, ◌%◌, ◌<◌, ◌≤◌, List, [], ◌∷◌, ◌++◌, length, length-append, Option, Some, None, slice_get, drop, slice_set, slice_index_or, refl, sym, ap, ◌∙◌, subst, arith}
+use Rattle.std.specs.Prelude.{All, IfSome, IsSomeAnd}
+use Rattle.std.proofs.lemmas.List.{length-set}
+use Rattle.std.proofs.lemmas.List.Elements.{All-set, All-push, All-weaker}
+use Rattle.std.proofs.lemmas.Option.{slice_get_within, slice_get-get_or, get_or_from_slice_get}
+use mathlib.Core.Logic.{dite}
+use native.Mathlib.Decide.{ℕ_discrete}
+use Rattle.psr_base.specs.Told.{Told}
+use Rattle.dada_hdu.specs.declared.hdu.Hdu.{Hdu}
+use Rattle.search_session.specs.declared.lane.Lane.{Lane}
+use Rattle.search_session.specs.declared.feed.FeedActor.{FeedActor}
+use Rattle.search_session.specs.declared.shard.ShardActor.{ShardActor}
+use Rattle.search_session.specs.declared.hand.Hand.{Hand}
+use Rattle.search_session.specs.Shards.{shard_cleared, shard_number, ShardOn, EnginesFollow}
+use Rattle.search_session.specs.Feeds.{FeedOn, FeedMoved}
+use Rattle.search_session.specs.Hands.{HandOn}
+use Rattle.search_session.specs.Stages.{IsEmptyHand, IsShardOf, IsOfLane, AreOfLanes, HasShard, HasFeeder, TakesShard, TakesFeeder, AreStaffed}
+use Rattle.search_session.proofs.Engines.{follow_still}
+use Rattle.search_session.proofs.Feeding.{feed_none}
+use Rattle.search_session.proofs.Rows.{removed, longer, at_end}
+use Rattle.search_session.proofs.Gathered.{put_at, put_here, count_same}
+
+all_at : {A : Type 0} (P : A → Type 0) (xs : List A) (k : ℕ) (x : A) → slice_get xs k ≡ Some x → All P xs → P x
+all_at P xs k x at all = subst P (get_or_from_slice_get xs k x x at) (all k x (slice_get_within xs k x at))
+
+-- what is taken out of its slot: the element of the list, and the space that serves
+pub taken_is : {X : Type 0} (all left : List (Option X)) (s : ℕ) (r : Option X) (x y : X) →
+    slice_get all s ≡ Some (Some x) → left ≡ drop s all → r ≡ slice_index_or left 0 r → r ≡ Some y → x ≡ y
+taken_is all left s r x y at is first some =
+    let there : r ≡ Some x = removed all left s (Some x) r at is first in cc
+
+pub none_taken : {X : Type 0} (all left : List (Option X)) (s : ℕ) (r : Option X) (x : X) →
+    slice_get all s ≡ Some (Some x) → left ≡ drop s all → r ≡ slice_index_or left 0 r → r ≡ None → ⊥
+none_taken all left s r x at is first none =
+    let there : r ≡ Some x = removed all left s (Some x) r at is first in cc
+
+some_and : {X : Type 0} (P : X → Type 0) (slot : Option X) (x : X) → IsSomeAnd slot P → slot ≡ Some x → P x
+some_and P None x holds is = absurd cc
+some_and P (Some y) x holds is = let same : y ≡ x = cc in subst P same holds
+
+some_there : {X : Type 0} (P : X → Type 0) (slot : Option X) → IsSomeAnd slot P → slot ≡ None → ⊥
+some_there P None holds is = absurd holds
+some_there P (Some y) holds is = cc
+
+module _ {X : Type 0} (P : X → Type 0) (all left : List (Option X)) (s : ℕ) (r : Option X)
+    (each : All (λ slot. IsSomeAnd slot P) all) (near : s < length all) (is : left ≡ drop s all)
+    (first : r ≡ slice_index_or left 0 r) where
+  r_holds : IsSomeAnd r P
+  r_holds = subst (λ (slot : Option X). IsSomeAnd slot P)
+      (sym (removed all left s (slice_index_or all s r) r (slice_get-get_or all s r near) is first)) (each s r near)
+
+  pub taken_holds : (x : X) → r ≡ Some x → P x
+  taken_holds x some = some_and P r x r_holds some
+
+  pub taken_there : r ≡ None → ⊥
+  taken_there none = some_there P r r_holds none
+
+-- ---- empty hands
+
+module _ {I : Type 0} (told : I → Told) (is_open : I → Type 0) (hdu : Hdu) (lanes : List (Option Lane)) where
+  none_if : (slot : Option (FeedActor I)) → slot ≡ None → IfSome slot (FeedOn told is_open hdu)
+  none_if None is = tt
+  none_if (Some f) is = absurd cc
+
+  none_all : {A : Type 0} (P : A → Type 0) (xs : List A) → xs ≡ [] → All P xs
+  none_all P xs is = λ k d near. let none : length xs ≡ 0 = ap length is in absurd (omega arith)
+
+  empty_on : (h : Hand I) → IsEmptyHand h → HandOn told is_open hdu h
+  empty_on h empty = record {
+    feeder = none_if h.feeder empty.feeder;
+    shards = none_all (λ slot. IfSome slot (ShardOn hdu)) h.shards.items empty.shards;
+  }
+
+  pub staffed_none : (hands : List (Hand I)) → All IsEmptyHand hands →
+      AreStaffed told is_open hdu lanes 0 (length hands) hands
+  staffed_none hands empty = record {
+    on = All-weaker IsEmptyHand (HandOn told is_open hdu) empty_on hands empty;
+    few = All-weaker IsEmptyHand (λ h. length h.shards.items ≤ 0) (λ h e. let none : length h.shards.items ≡ 0 =
+        ap length e.shards in omega arith) hands empty;
+    count_is = refl;
+    placed = λ s near. absurd (omega arith);
+    of_lanes = All-weaker IsEmptyHand (λ h. All (λ slot. IfSome slot (IsOfLane lanes)) h.shards.items)
+        (λ h e. none_all (λ slot. IfSome slot (IsOfLane lanes)) h.shards.items e.shards) hands empty;
+  }
+
+  -- ---- a shard comes
+
+  some_lane : (x : ShardActor) (n : ℕ) (lane : Lane) → slice_get lanes n ≡ Some (Some lane) → IsShardOf lane n x →
+      IsOfLane lanes x
+  some_lane x n lane at new = λ other there.
+      let same : lane ≡ other = inside lane other (sym at
+      ∙ (ap (λ (k : ℕ). slice_get lanes k) (sym new.number_is) ∙ there)) in
+      subst (λ (l : Lane). EnginesFollow [] (shard_cleared x) l.engines.items x.part.engines.items)
+      (new.lane_is ∙ same) (follow_still [] (shard_cleared x) x.part.engines.items new.nothing)
+    where
+      inside : (a b : Lane) → Some (Some a) ≡ Some (Some b) → a ≡ b
+      inside a b e = cc
+
+  module _ (old new : List (Hand I)) (n count : ℕ) (x : ShardActor) (lane : Lane)
+      (staffed : AreStaffed told is_open hdu lanes n count old) (takes : TakesShard old ((n + 1) % length old) x new)
+      (at : slice_get lanes n ≡ Some (Some lane)) (fresh : IsShardOf lane n x) (on : ShardOn hdu x) where
+    near : (n + 1) % length old < length old
+    near = slice_get_within old ((n + 1) % length old) takes.before takes.there
+
+    same_count : length new ≡ length old
+    same_count = count_same old new ((n + 1) % length old) takes.after takes.hands
+
+    all_new : (P : Hand I → Type 0) → All P old → P takes.after → All P new
+    all_new P was now = subst (λ (l : List (Hand I)). All P l) (sym takes.hands)
+        (All-set P old ((n + 1) % length old) takes.after now was)
+
+    before_on : HandOn told is_open hdu takes.before
+    before_on = all_at (HandOn told is_open hdu) old ((n + 1) % length old) takes.before takes.there staffed.on
+
+    after_on : HandOn told is_open hdu takes.after
+    after_on = record {
+      feeder = subst (λ (slot : Option (FeedActor I)). IfSome slot (FeedOn told is_open hdu)) (sym takes.feeder)
+          before_on.feeder;
+      shards = subst (λ (l : List (Option ShardActor)). All (λ slot. IfSome slot (ShardOn hdu)) l) (sym takes.shards)
+          (All-push (λ slot. IfSome slot (ShardOn hdu)) takes.before.shards.items (Some x) before_on.shards on);
+    }
+
+    after_few : length takes.after.shards.items ≤ n + 1
+    after_few =
+        let before : length takes.before.shards.items ≤ n =
+        all_at (λ (h : Hand I). length h.shards.items ≤ n) old ((n + 1) % length old) takes.before takes.there
+        staffed.few in
+        let long = ap length takes.shards ∙ length-append takes.before.shards.items (Some x ∷ []) in
+        omega arith
+
+    after_of : All (λ slot. IfSome slot (IsOfLane lanes)) takes.after.shards.items
+    after_of = subst (λ (l : List (Option ShardActor)). All (λ slot. IfSome slot (IsOfLane lanes)) l) (sym takes.shards)
+        (All-push (λ slot. IfSome slot (IsOfLane lanes)) takes.before.shards.items (Some x)
+        (all_at (λ (h : Hand I). All (λ slot. IfSome slot (IsOfLane lanes)) h.shards.items) old ((n + 1) % length old)
+        takes.before takes.there staffed.of_lanes) (some_lane x n lane at fresh))
+
+    here : HasShard new n
+    here = record {
+      hand = takes.after;
+      there = subst (λ (k : ℕ). slice_get new ((n + 1) % k) ≡ Some takes.after) (sym same_count)
+          (put_here old new ((n + 1) % length old) ((n + 1) % length old) takes.after takes.hands near refl);
+      shard = x;
+      place = length takes.before.shards.items;
+      works = ap (λ (l : List (Option ShardActor)). slice_get l (length takes.before.shards.items)) takes.shards
+          ∙ at_end takes.before.shards.items (Some x) (length takes.before.shards.items) refl;
+      number = fresh.number_is;
+    }
+
+    earlier : (s : ℕ) → HasShard old s → HasShard new s
+    earlier s has = dite (ℕ_discrete ((s + 1) % length old) ((n + 1) % length old))
+        (λ same.
+        let before_is : has.hand ≡ takes.before = first has.hand takes.before (sym has.there
+        ∙ (ap (λ (k : ℕ). slice_get old k) same ∙ takes.there)) in
+        record {
+          hand = takes.after;
+          there = at_new takes.after (put_here old new ((n + 1) % length old) ((s + 1) % length old) takes.after
+              takes.hands near same);
+          shard = has.shard;
+          place = has.place;
+          works = ap (λ (l : List (Option ShardActor)). slice_get l has.place) takes.shards
+              ∙ longer takes.before.shards.items (Some x ∷ []) has.place (Some has.shard)
+              (subst (λ (h : Hand I). slice_get h.shards.items has.place ≡ Some (Some has.shard)) before_is has.works);
+          number = has.number;
+        })
+        (λ other. record {
+          hand = has.hand;
+          there = at_new has.hand (put_at old new ((n + 1) % length old) ((s + 1) % length old) takes.after has.hand
+              takes.hands has.there other);
+          shard = has.shard;
+          place = has.place;
+          works = has.works;
+          number = has.number;
+        })
+      where
+        first : (g h : Hand I) → Some g ≡ Some h → g ≡ h
+        first g h e = cc
+
+        at_new : (h : Hand I) → slice_get new ((s + 1) % length old) ≡ Some h →
+            slice_get new ((s + 1) % length new) ≡ Some h
+        at_new h there = subst (λ (k : ℕ). slice_get new ((s + 1) % k) ≡ Some h) (sym same_count) there
+
+    pub staffed_more : AreStaffed told is_open hdu lanes (n + 1) count new
+    staffed_more = record {
+      on = all_new (HandOn told is_open hdu) staffed.on after_on;
+      few = all_new (λ h. length h.shards.items ≤ n + 1) (All-weaker (λ h. length h.shards.items ≤ n)
+          (λ h. length h.shards.items ≤ n + 1) (λ h few. omega arith) old staffed.few) after_few;
+      count_is = same_count ∙ staffed.count_is;
+      placed = λ s before. dite (ℕ_discrete s n)
+          (λ same. subst (λ (k : ℕ). HasShard new k) (sym same) here)
+          (λ other. earlier s (staffed.placed s (omega arith)));
+      of_lanes = all_new (λ h. All (λ slot. IfSome slot (IsOfLane lanes)) h.shards.items) staffed.of_lanes after_of;
+    }
+
+  -- ---- the feeder comes
+
+  module _ (is_calm : I → Type 0) (faults : I → ℕ) (old new : List (Hand I)) (n count : ℕ) (f : FeedActor I)
+      (staffed : AreStaffed told is_open hdu lanes n count old) (takes : TakesFeeder old f new)
+      (on : FeedOn told is_open hdu f) where
+    near_first : 0 < length old
+    near_first = slice_get_within old 0 takes.before takes.there
+
+    count_first : length new ≡ length old
+    count_first = count_same old new 0 takes.after takes.hands
+
+    all_first : (P : Hand I → Type 0) → All P old → P takes.after → All P new
+    all_first P was now = subst (λ (l : List (Hand I)). All P l) (sym takes.hands)
+        (All-set P old 0 takes.after now was)
+
+    first_on : HandOn told is_open hdu takes.after
+    first_on = record {
+      feeder = subst (λ (slot : Option (FeedActor I)). IfSome slot (FeedOn told is_open hdu)) (sym takes.works) on;
+      shards = subst (λ shards. All (λ slot. IfSome slot (ShardOn hdu)) shards.items) (sym takes.shards)
+          (all_at (HandOn told is_open hdu) old 0 takes.before takes.there staffed.on).shards;
+    }
+
+    pub fed_on : All (HandOn told is_open hdu) new
+    fed_on = all_first (HandOn told is_open hdu) staffed.on first_on
+
+    pub fed_some : 0 < length new
+    fed_some = let some = near_first in let count = count_first in omega arith
+
+    pub fed_feeder : HasFeeder told is_calm faults f new
+    fed_feeder = record {
+      turns = 0;
+      hand = takes.after;
+      there = put_here old new 0 0 takes.after takes.hands near_first refl;
+      feeder = f;
+      works = takes.works;
+      moved = feed_none told is_calm faults f on.count;
+    }
+
+    pub fed_of : AreOfLanes lanes new
+    fed_of = all_first (λ h. All (λ slot. IfSome slot (IsOfLane lanes)) h.shards.items) staffed.of_lanes
+        (subst (λ shards. All (λ slot. IfSome slot (IsOfLane lanes)) shards.items) (sym takes.shards)
+        (all_at (λ (h : Hand I). All (λ slot. IfSome slot (IsOfLane lanes)) h.shards.items) old 0 takes.before
+        takes.there staffed.of_lanes))
+
+    pub fed_shards : (s : ℕ) → s < n → HasShard new s
+    fed_shards s before = moved_to (staffed.placed s before)
+      where
+        first : (g h : Hand I) → Some g ≡ Some h → g ≡ h
+        first g h e = cc
+
+        at_new : (h : Hand I) → slice_get new ((s + 1) % length old) ≡ Some h →
+            slice_get new ((s + 1) % length new) ≡ Some h
+        at_new h there = subst (λ (k : ℕ). slice_get new ((s + 1) % k) ≡ Some h) (sym count_first) there
+
+        moved_to : HasShard old s → HasShard new s
+        moved_to has = dite (ℕ_discrete ((s + 1) % length old) 0)
+            (λ same.
+            let before_is : has.hand ≡ takes.before = first has.hand takes.before (sym has.there
+            ∙ (ap (λ (k : ℕ). slice_get old k) same ∙ takes.there)) in
+            record {
+              hand = takes.after;
+              there = at_new takes.after (put_here old new 0 ((s + 1) % length old) takes.after takes.hands near_first
+                  same);
+              shard = has.shard;
+              place = has.place;
+              works = subst (λ shards. slice_get shards.items has.place ≡ Some (Some has.shard)) (sym takes.shards)
+                  (subst (λ (h : Hand I). slice_get h.shards.items has.place ≡ Some (Some has.shard)) before_is
+                  has.works);
+              number = has.number;
+            })
+            (λ other. record {
+              hand = has.hand;
+              there = at_new has.hand (put_at old new 0 ((s + 1) % length old) takes.after has.hand takes.hands
+                  has.there other);
+              shard = has.shard;
+              place = has.place;
+              works = has.works;
+              number = has.number;
+            })

@@ -1,0 +1,333 @@
+-- One read of a shard.
+use Rattle.std.proofs.Common.{◌≡◌, ℕ, ◌+◌, ◌*◌, ◌<◌, ◌≤◌, ◌^◌, min, Bool, true, false, ◌||◌, List, [], ◌∷◌, ◌++◌, length, take, length-append, vec_len, Option, Some, refl, sym, ap, ◌∙◌, subst, arith}
+use Rattle.std.specs.Prelude.{if◌then◌else◌, nat_le, nat_lt}
+use Rattle.std.proofs.lemmas.Bool.Decides.{nat_tests}
+use Rattle.std.proofs.lemmas.List.{append-nil}
+use Rattle.std.proofs.Math.Nat.{mul-le-mul_right}
+use Rattle.ring_core.specs.Machine.{greatest}
+use Rattle.ring_blocks.specs.declared.Entry.{Entry}
+use Rattle.ring_blocks.specs.declared.Mark.{Mark}
+use Rattle.ring_words.specs.Ring.{Begins}
+use Rattle.ring_words.specs.declared.views.ReaderView.{ReaderView}
+use Rattle.ring_words.specs.Views.{after_clear, got_list}
+use Rattle.ring_ends.specs.declared.passes.ReaderPass.{ReaderPass}
+use Rattle.ring_ends.specs.Passes.{reader_knows, ended_knows}
+use Rattle.ring_ends.specs.declared.answers.Taken.{Taken}
+use Rattle.dada_hdu.specs.declared.hdu.Hdu.{Hdu}
+use Rattle.dada_hdu.specs.declared.passes.HduReader.{HduReader}
+use Rattle.dada_hdu.specs.declared.ended.HduEnded.{HduEnded}
+use Rattle.dada_hdu.specs.declared.ended.HduEnded.TheVariants.{Here}
+use Rattle.dada_hdu.specs.Answers.{ClearAnswers}
+use Rattle.dada_hdu.specs.Passes.{data_shape, data_end, number_of, tries_of, ReadsBoth, EndedFromBoth}
+use Rattle.stream_model.specs.Blocks.{is_end, is_cut, ended_transfers, has_cut, is_over, transfer_bytes}
+use Rattle.stream_model.specs.BlockLaws.{EndsAreCounted, EntriesAreOfTransfers}
+use Rattle.search_engine.specs.Engine.{EngineState, most_fed}
+use Rattle.search_session.specs.declared.lane.Lane.{Lane}
+use Rattle.search_session.specs.declared.shard.ShardActor.{ShardActor}
+use Rattle.search_session.specs.Lanes.{HasEngine, IsFedAt}
+use Rattle.search_session.specs.Stages.{IsUnfed}
+use Rattle.search_session.specs.Shards.{IsEngineAt, AreEnginesAt, EnginesFollow, HasTried, HasBlock, blocks_cleared, reader_tries, shard_cleared, shard_number, HasSameReads, ShardOn, ShardStepped, ShardMoved}
+use Rattle.search_session.proofs.Engines.{nothing, ended_more, not_below_itself, engines_at, engines_follow, follow_still}
+
+-- ---- ends
+
+over_parts : (a b : Bool) → (a || b) ≡ false → (a ≡ false) × (b ≡ false)
+over_parts true b off = absurd cc
+over_parts false b off = (refl, off)
+
+le_false : (a b : ℕ) → nat_le a b ≡ false → b < a
+le_false a b off = grind (arith, nat_tests)
+
+-- until a stream of transfers is over, fewer have ended
+pub few_ended : (n : ℕ) (xs : List Entry) → is_over n xs ≡ false → ended_transfers xs < n
+few_ended n xs off =
+    le_false n (ended_transfers xs) (over_parts (nat_le n (ended_transfers xs)) (has_cut xs) off).0
+
+cut_one : (e : Entry) → has_cut (e ∷ []) ≡ (is_cut e.mark || false)
+unfolding has_cut
+cut_one e = refl
+
+or_false : (b : Bool) → (b || false) ≡ b
+or_false true = refl
+or_false false = refl
+
+-- whether it is over with one block more
+pub over_more : EndsAreCounted → (n d : ℕ) (xs : List Entry) (e : Entry) → is_over n xs ≡ false →
+    d ≡ ended_transfers (xs ++ e ∷ []) → is_over n (xs ++ e ∷ []) ≡ (nat_le n d || is_cut e.mark)
+over_more counted n d xs e off is =
+    let uncut = (over_parts (nat_le n (ended_transfers xs)) (has_cut xs) off).1 in
+    let cut : has_cut (xs ++ e ∷ []) ≡ is_cut e.mark =
+    counted.cut_append xs (e ∷ []) ∙ (ap (λ (b : Bool). b || has_cut (e ∷ [])) uncut ∙ (cut_one e
+    ∙ or_false (is_cut e.mark))) in
+    ap (λ (b : Bool). nat_le n (ended_transfers (xs ++ e ∷ [])) || b) cut
+    ∙ ap (λ (k : ℕ). nat_le n k || is_cut e.mark) (sym is)
+
+-- ---- a shard before and after a read
+
+module _ (hdu : Hdu) (x y : ShardActor) (reader reader' : HduReader) (was : x.pass ≡ Here reader)
+    (now : y.pass ≡ Here reader') where
+  cleared_was : shard_cleared x ≡ blocks_cleared reader
+  cleared_was = ap (λ (p : HduEnded). (ended_knows (data_end p)).cleared) was
+
+  cleared_now : shard_cleared y ≡ blocks_cleared reader'
+  cleared_now = ap (λ (p : HduEnded). (ended_knows (data_end p)).cleared) now
+
+  number_same : number_of (Here reader') ≡ number_of (Here reader) → shard_number y ≡ shard_number x
+  number_same same = ap number_of now ∙ (same ∙ sym (ap number_of was))
+
+  tries_more : reader_tries reader' ≡ reader_tries reader + 1 → tries_of y.pass ≡ tries_of x.pass + 1
+  tries_more more = ap tries_of now ∙ (more ∙ ap (λ (n : ℕ). n + 1) (sym (ap tries_of was)))
+
+  -- ---- nothing was fed
+
+  cleared_same : HasTried reader reader' → shard_cleared y ≡ shard_cleared x
+  cleared_same tried = cleared_now ∙ (tried.cleared ∙ sym cleared_was)
+
+  pub on_still : ReadsBoth hdu reader' → HasTried reader reader' → y.part ≡ x.part →
+      vec_len y.space ≡ vec_len x.space → y.turns ≡ x.turns → y.done ≡ x.done → y.ended ≡ x.ended → ShardOn hdu x →
+      ShardOn hdu y
+  on_still reads tried part space turns done ended on =
+      let header_room = on.header_room in
+      let block_room = on.block_room in
+      let count = on.count in
+      record {
+        reads = subst (λ (p : HduEnded). EndedFromBoth hdu p) (sym now) reads;
+        here = λ running. (reader', now);
+        header_room = omega arith;
+        block_room = omega arith;
+        few = on.few;
+        done = done ∙ (on.done ∙ ap ended_transfers (sym (cleared_same tried)));
+        over = ended ∙ (on.over
+            ∙ (ap (λ (l : List Entry). is_over (length x.part.engines.items) l) (sym (cleared_same tried))
+            ∙ ap (λ (lane : Lane). is_over (length lane.engines.items) (shard_cleared y)) (sym part)));
+        engines = subst (λ (lane : Lane). AreEnginesAt (data_shape hdu).size (shard_cleared y) lane.engines.items)
+            (sym part) (subst (λ (l : List Entry). AreEnginesAt (data_shape hdu).size l x.part.engines.items)
+            (sym (cleared_same tried)) on.engines);
+        count = omega arith;
+      }
+
+  pub stepped_still : HasTried reader reader' → y.part ≡ x.part → y.turns ≡ x.turns → ShardStepped x y
+  stepped_still tried part turns = record {
+    number = number_same tried.number;
+    turns = turns;
+    tries = tries_more tried.tries;
+    grown = ([], cleared_same tried ∙ sym (append-nil (shard_cleared x)));
+    engines = subst (λ (lane : Lane). EnginesFollow (shard_cleared x) (shard_cleared y) x.part.engines.items
+        lane.engines.items) (sym part) (follow_still (shard_cleared x) (shard_cleared y) x.part.engines.items
+        (cleared_same tried));
+  }
+
+  -- ---- a block was fed
+
+  module _ (counted : EndsAreCounted) (of : EntriesAreOfTransfers) (e : Entry)
+      (more : blocks_cleared reader' ≡ blocks_cleared reader ++ e ∷ []) (fits : length e.bytes ≤ (data_shape hdu).size)
+      (on : ShardOn hdu x) (fed : IsFedAt x.part.engines.items x.done e.bytes (is_end e.mark) y.part.engines.items)
+    where
+      cleared_more : shard_cleared y ≡ shard_cleared x ++ e ∷ []
+      cleared_more = cleared_now ∙ (more ∙ ap (λ (l : List Entry). l ++ e ∷ []) (sym cleared_was))
+
+      fed_at : IsFedAt x.part.engines.items (ended_transfers (shard_cleared x)) e.bytes (is_end e.mark)
+          y.part.engines.items
+      fed_at = subst (λ (k : ℕ). IsFedAt x.part.engines.items k e.bytes (is_end e.mark) y.part.engines.items) on.done fed
+
+      pub on_fed : ReadsBoth hdu reader' → vec_len y.space ≡ vec_len x.space → y.turns ≡ x.turns →
+          x.ended ≡ false → y.done ≡ x.done + (if is_end e.mark then 1 else 0) →
+          y.ended ≡ (nat_le (length y.part.engines.items) y.done || is_cut e.mark) → ShardOn hdu y
+      on_fed reads space turns running done ended =
+          let header_room = on.header_room in
+          let block_room = on.block_room in
+          let count = on.count in
+          let off : is_over (length y.part.engines.items) (shard_cleared x) ≡ false =
+          ap (λ (n : ℕ). is_over n (shard_cleared x)) fed.count ∙ (sym on.over ∙ running) in
+          let done_is : y.done ≡ ended_transfers (shard_cleared x ++ e ∷ []) =
+          done ∙ (ap (λ (k : ℕ). k + (if is_end e.mark then 1 else 0)) on.done
+          ∙ sym (ended_more counted (shard_cleared x) e)) in
+          record {
+            reads = subst (λ (p : HduEnded). EndedFromBoth hdu p) (sym now) reads;
+            here = λ running. (reader', now);
+            header_room = omega arith;
+            block_room = omega arith;
+            few = on.few;
+            done = done_is ∙ ap ended_transfers (sym cleared_more);
+            over = ended ∙ (sym (over_more counted (length y.part.engines.items) y.done (shard_cleared x) e off done_is)
+                ∙ ap (λ (l : List Entry). is_over (length y.part.engines.items) l) (sym cleared_more));
+            engines = subst (λ (l : List Entry). AreEnginesAt (data_shape hdu).size l y.part.engines.items)
+                (sym cleared_more) (engines_at counted of (data_shape hdu).size (shard_cleared x) e fits
+                x.part.engines.items y.part.engines.items on.engines fed_at);
+            count = omega arith;
+          }
+
+      pub stepped_fed : number_of (Here reader') ≡ number_of (Here reader) →
+          reader_tries reader' ≡ reader_tries reader + 1 → y.turns ≡ x.turns → ShardStepped x y
+      stepped_fed number tries turns = record {
+        number = number_same number;
+        turns = turns;
+        tries = tries_more tries;
+        grown = (e ∷ [], cleared_more);
+        engines = subst (λ (l : List Entry). EnginesFollow (shard_cleared x) l x.part.engines.items
+            y.part.engines.items) (sym cleared_more) (engines_follow counted of (data_shape hdu).size (shard_cleared x) e
+            fits x.part.engines.items y.part.engines.items fed_at);
+      }
+
+-- ---- a block that was read and is cleared
+
+-- the reader before it was read
+pub within_was : (x : ShardActor) (reader reader' : HduReader) (m : ℕ) → x.pass ≡ Here reader →
+    HasTried reader reader' → length (blocks_cleared reader') < m → length (shard_cleared x) < m
+within_was x reader reader' m was tried within =
+    subst (λ (l : List Entry). length l < m)
+    (tried.cleared ∙ sym (ap (λ (p : HduEnded). (ended_knows (data_end p)).cleared) was)) within
+
+one_cleared : (r r' : ReaderView) (e : Entry) → r' ≡ after_clear r → r.got ≡ Some e → r'.cleared ≡ r.cleared ++ e ∷ []
+one_cleared r r' e is got = ap (λ (v : ReaderView). v.cleared) is
+    ∙ ap (λ (g : Option Entry). r.cleared ++ got_list g) got
+
+-- the reader that cleared it
+pub record HasCleared (old new : HduReader) (e : Entry) : Type 0 where
+  pub number : number_of (Here new) ≡ number_of (Here old)
+  pub tries : reader_tries new ≡ reader_tries old + 1
+  pub more : blocks_cleared new ≡ blocks_cleared old ++ e ∷ []
+
+pub has_cleared : (old mid new : HduReader) (e : Entry) (n : ℕ) → HasTried old mid →
+    (reader_knows mid.blocks).got ≡ Some e → ClearAnswers mid.blocks n new.blocks → new.header ≡ mid.header →
+    HasCleared old new e
+has_cleared old mid new e n tried got cleared header = record {
+  number = ap (λ (v : ReaderView). v.number) cleared.cleared ∙ tried.number;
+  tries = ap (λ (p : ReaderPass). (reader_knows p).tries + (reader_knows new.blocks).tries) header
+      ∙ (ap (λ (v : ReaderView). (reader_knows mid.header).tries + v.tries) cleared.cleared ∙ tried.tries);
+  more = one_cleared (reader_knows mid.blocks) (reader_knows new.blocks) e cleared.cleared got
+      ∙ ap (λ (l : List Entry). l ++ e ∷ []) tried.cleared;
+}
+
+-- the same lists of engines, bytes and mark
+pub fed_as : (old old' new new' : List (Option EngineState)) (k : ℕ) (bytes bytes' : List ℕ) (b b' : Bool) →
+    old ≡ old' → bytes ≡ bytes' → b ≡ b' → new ≡ new' → IsFedAt old k bytes b new → IsFedAt old' k bytes' b' new'
+fed_as old old' new new' k bytes bytes' b b' is_old is_bytes is_b is_new fed =
+    subst (λ (l : List (Option EngineState)). IsFedAt l k bytes' b' new') is_old
+    (subst (λ (l : List ℕ). IsFedAt old k l b' new') is_bytes
+    (subst (λ (c : Bool). IsFedAt old k bytes c new') is_b
+    (subst (λ (l : List (Option EngineState)). IsFedAt old k bytes b l) is_new fed)))
+
+pub ended_as : (r : Bool) (a a' d : ℕ) (m m' : Mark) → r ≡ (nat_le a d || is_cut m) → a ≡ a' → m ≡ m' →
+    r ≡ (nat_le a' d || is_cut m')
+ended_as r a a' d m m' is count mark = is ∙ (ap (λ (n : ℕ). nat_le n d || is_cut m) count
+    ∙ ap (λ (k : Mark). nat_le a' d || is_cut k) mark)
+
+-- ---- the engine that is fed
+
+most_more : (n m z a b c : ℕ) → a ≤ n * z → b ≤ z → n < m → m * z ≤ c → a + b ≤ c
+most_more n m z a b c fed fits within few =
+    let most : (n + 1) * z ≤ m * z = mul-le-mul_right z (omega arith) in
+    let next : (n + 1) * z ≡ n * z + z = grind arith in
+    omega arith
+
+-- the engine of the transfer that goes on takes one block more
+pub takes_block : (hdu : Hdu) (x : ShardActor) (used : ℕ) → ShardOn hdu x → x.ended ≡ false →
+    used ≤ (data_shape hdu).size → length (shard_cleared x) < (data_shape hdu).max_blocks →
+    (e : EngineState) × HasEngine x.part.engines.items x.done e × (e.has_ended ≡ false) × (e.fed + used ≤ most_fed)
+takes_block hdu x used on running fits within =
+    let d = ended_transfers (shard_cleared x) in
+    let less = few_ended (length x.part.engines.items) (shard_cleared x) (sym on.over ∙ running) in
+    let h = on.engines d less in (
+      h.0,
+      subst (λ (k : ℕ). HasEngine x.part.engines.items k h.0) (sym on.done) h.1,
+      h.2.ended ∙ not_below_itself d,
+      most_more (length (shard_cleared x)) (data_shape hdu).max_blocks (data_shape hdu).size h.0.fed used most_fed
+          h.2.most fits within on.few,
+    )
+
+-- ---- before the first turn
+
+pub none_ended : ended_transfers [] ≡ 0
+unfolding ended_transfers
+none_ended = refl
+
+no_cut : has_cut [] ≡ false
+unfolding has_cut
+no_cut = refl
+
+pub not_below_zero : (k : ℕ) → nat_lt k 0 ≡ false
+not_below_zero k = grind (arith, nat_tests)
+
+not_most : (n : ℕ) → 0 < n → nat_le n 0 ≡ false
+not_most n some = grind (arith, nat_tests)
+
+not_over : (n : ℕ) → 0 < n → is_over n [] ≡ false
+not_over n some = ap (λ (k : ℕ). nat_le n k || has_cut []) none_ended
+    ∙ (ap (λ (b : Bool). b || has_cut []) (not_most n some) ∙ no_cut)
+
+-- engines that were fed nothing, where no block was cleared
+pub unfed_at : (size transfers : ℕ) (xs : List Entry) (lane : Lane) → xs ≡ [] → IsUnfed transfers lane →
+    AreEnginesAt size xs lane.engines.items
+unfed_at size transfers xs lane none unfed = λ k near.
+    let count = unfed.count in
+    let h = unfed.each k (omega arith) in
+    let fed = h.2 in (
+      h.0,
+      h.1,
+      record {
+        ended = h.3 ∙ (sym (not_below_zero k)
+            ∙ ap (λ (n : ℕ). nat_lt k n) (sym none_ended ∙ ap ended_transfers (sym none)));
+        fed = h.2 ∙ ap (length {A = ℕ}) (sym (nothing k) ∙ ap (transfer_bytes k) (sym none));
+        most = omega arith;
+      },
+    )
+
+pub unread_over : (transfers : ℕ) (xs : List Entry) (lane : Lane) → xs ≡ [] → 0 < transfers → IsUnfed transfers lane →
+    false ≡ is_over (length lane.engines.items) xs
+unread_over transfers xs lane none some unfed =
+    sym (not_over transfers some) ∙ (ap (λ (n : ℕ). is_over n []) (sym unfed.count)
+    ∙ ap (λ (l : List Entry). is_over (length lane.engines.items) l) (sym none))
+
+pub unread_done : (xs : List Entry) → xs ≡ [] → 0 ≡ ended_transfers xs
+unread_done xs none = sym none_ended ∙ ap ended_transfers (sym none)
+
+-- ---- a shard that retired
+
+module _ (hdu : Hdu) (x y : ShardActor) (same : HasSameReads x.pass y.pass) (part : y.part ≡ x.part)
+    (turns : y.turns ≡ x.turns) where
+  cleared_still : shard_cleared y ≡ shard_cleared x
+  cleared_still = same.blocks
+
+  pub on_retired : EndedFromBoth hdu y.pass → vec_len y.space ≡ vec_len x.space → y.done ≡ x.done →
+      y.ended ≡ x.ended → x.ended ≡ true → ShardOn hdu x → ShardOn hdu y
+  on_retired reads space done ended over on =
+      let header_room = on.header_room in
+      let block_room = on.block_room in
+      let count = on.count in
+      record {
+        reads = reads;
+        here = λ running. absurd (apart y.ended (ended ∙ over) running);
+        header_room = omega arith;
+        block_room = omega arith;
+        few = on.few;
+        done = done ∙ (on.done ∙ ap ended_transfers (sym cleared_still));
+        over = ended ∙ (on.over
+            ∙ (ap (λ (l : List Entry). is_over (length x.part.engines.items) l) (sym cleared_still)
+            ∙ ap (λ (lane : Lane). is_over (length lane.engines.items) (shard_cleared y)) (sym part)));
+        engines = subst (λ (lane : Lane). AreEnginesAt (data_shape hdu).size (shard_cleared y) lane.engines.items)
+            (sym part) (subst (λ (l : List Entry). AreEnginesAt (data_shape hdu).size l x.part.engines.items)
+            (sym cleared_still) on.engines);
+        count = omega arith;
+      }
+    where
+      apart : (b : Bool) → b ≡ true → b ≡ false → ⊥
+      apart b t f = cc
+
+  pub moved_retired : x.turns < 2 ^ 64 → y.ended ≡ x.ended → x.ended ≡ true → ShardMoved 0 x y
+  moved_retired small ended over =
+      let tries = same.tries in
+      record {
+        number = same.number;
+        made = 0;
+        most = omega arith;
+        all = λ running. refl;
+        none = λ was. refl;
+        stays = λ was. ended ∙ was;
+        turns = omega arith;
+        tries = omega arith;
+        grown = ([], cleared_still ∙ sym (append-nil (shard_cleared x)));
+        engines = subst (λ (lane : Lane). EnginesFollow (shard_cleared x) (shard_cleared y) x.part.engines.items
+            lane.engines.items) (sym part) (follow_still (shard_cleared x) (shard_cleared y) x.part.engines.items
+            cleared_still);
+      }

@@ -1,0 +1,100 @@
+-- Who works in which hand, through rounds.
+use Rattle.std.proofs.Common.{◌≡◌, ℕ, ◌+◌, ◌%◌, ◌<◌, List, [], length, Option, Some, None, slice_get, slice_index_or, refl, sym, ap, ◌∙◌, subst, arith}
+use Rattle.std.specs.Prelude.{All, IfSome}
+use Rattle.std.proofs.lemmas.Option.{slice_get_within, slice_get-get_or, get_or_from_slice_get}
+use Rattle.psr_base.specs.Told.{Told}
+use Rattle.search_session.specs.declared.lane.Lane.{Lane}
+use Rattle.search_session.specs.declared.feed.FeedActor.{FeedActor}
+use Rattle.search_session.specs.declared.shard.ShardActor.{ShardActor}
+use Rattle.search_session.specs.declared.hand.Hand.{Hand}
+use Rattle.search_session.specs.Shards.{shard_cleared, shard_number, EnginesFollow, ShardMoved}
+use Rattle.search_session.specs.Feeds.{FeedMoved}
+use Rattle.search_session.specs.Hands.{SlotMoved, EachMoved, HandMoved}
+use Rattle.search_session.specs.Stages.{HasFeeder, HasShard, IsOfLane, AreOfLanes}
+use Rattle.search_session.proofs.Engines.{follow_more}
+use Rattle.search_session.proofs.Feeding.{feed_more}
+
+-- ---- slots and places
+
+module _ {A : Type 0} (R : A → A → Type 0) where
+  pub slot_some : (a b : Option A) (x : A) → a ≡ Some x → SlotMoved R a b → (y : A) × (b ≡ Some y) × R x y
+  slot_some None b x is moved = absurd cc
+  slot_some (Some z) None x is moved = absurd moved
+  slot_some (Some z) (Some y) x is moved =
+      let same : z ≡ x = cc in
+      (y, refl, subst (λ (w : A). R w y) same moved)
+
+  pub each_at : (xs ys : List A) (k : ℕ) (x : A) → EachMoved R xs ys → slice_get xs k ≡ Some x →
+      (y : A) × (slice_get ys k ≡ Some y) × R x y
+  each_at xs ys k x moved at =
+      let near = slice_get_within xs k x at in
+      let count = moved.count in
+      let there : k < length ys = omega arith in (
+        slice_index_or ys k x,
+        slice_get-get_or ys k x there,
+        subst (λ (w : A). R w (slice_index_or ys k x)) (get_or_from_slice_get xs k x x at) (moved.each k x near),
+      )
+
+-- ---- shards
+
+of_lane_moved : (lanes : List (Option Lane)) (n : ℕ) (x y : ShardActor) → ShardMoved n x y → IsOfLane lanes x →
+    IsOfLane lanes y
+of_lane_moved lanes n x y moved of = λ lane at.
+    follow_more [] (shard_cleared x) (shard_cleared y) lane.engines.items x.part.engines.items y.part.engines.items
+    (of lane (subst (λ (s : ℕ). slice_get lanes s ≡ Some (Some lane)) moved.number at)) moved.engines
+
+slot_of_lane : (lanes : List (Option Lane)) (n : ℕ) (a b : Option ShardActor) → SlotMoved (ShardMoved n) a b →
+    IfSome a (IsOfLane lanes) → IfSome b (IsOfLane lanes)
+slot_of_lane lanes n None None moved of = of
+slot_of_lane lanes n None (Some y) moved of = absurd moved
+slot_of_lane lanes n (Some x) None moved of = absurd moved
+slot_of_lane lanes n (Some x) (Some y) moved of = of_lane_moved lanes n x y moved of
+
+module _ {I : Type 0} (told : I → Told) (is_calm : I → Type 0) (faults : I → ℕ) (n : ℕ) (old new : List (Hand I))
+    (moved : EachMoved (HandMoved told is_calm faults n) old new) where
+  -- the feeder is still in its hand
+  pub feeder_stays : (start : FeedActor I) → HasFeeder told is_calm faults start old →
+      HasFeeder told is_calm faults start new
+  feeder_stays start has =
+      let h = each_at (HandMoved told is_calm faults n) old new 0 has.hand moved has.there in
+      let f = slot_some (FeedMoved told is_calm faults n) has.hand.feeder h.0.feeder has.feeder has.works h.2.feeder in
+      record {
+        turns = has.turns + n;
+        hand = h.0;
+        there = h.1;
+        feeder = f.0;
+        works = f.1;
+        moved = feed_more told is_calm faults has.turns n start has.feeder f.0 has.moved f.2;
+      }
+
+  -- each shard is still in its hand
+  pub shard_stays : (s : ℕ) → HasShard old s → HasShard new s
+  shard_stays s has =
+      let there : slice_get old ((s + 1) % length new) ≡ Some has.hand =
+      subst (λ (k : ℕ). slice_get old ((s + 1) % k) ≡ Some has.hand) (sym moved.count) has.there in
+      let h = each_at (HandMoved told is_calm faults n) old new ((s + 1) % length new) has.hand moved there in
+      let slot = each_at (SlotMoved (ShardMoved n)) has.hand.shards.items h.0.shards.items has.place (Some has.shard)
+      h.2.shards has.works in
+      let x = slot_some (ShardMoved n) (Some has.shard) slot.0 has.shard refl slot.2 in
+      record {
+        hand = h.0;
+        there = h.1;
+        shard = x.0;
+        place = has.place;
+        works = slot.1 ∙ ap (λ (a : Option ShardActor). Some a) x.1;
+        number = x.2.number ∙ has.number;
+      }
+
+  -- and its engines are those of its lane
+  pub lanes_stay : (lanes : List (Option Lane)) → AreOfLanes lanes old → AreOfLanes lanes new
+  lanes_stay lanes of = λ k d near.
+      let count = moved.count in
+      let was : k < length old = omega arith in
+      let h = slice_index_or old k d in
+      let h' = slice_index_or new k d in
+      let m = moved.each k d was in
+      λ j e here.
+      let count = m.shards.count in
+      let before : j < length h.shards.items = omega arith in
+      slot_of_lane lanes n (slice_index_or h.shards.items j e) (slice_index_or h'.shards.items j e)
+      (m.shards.each j e before) (of k d was j e before)

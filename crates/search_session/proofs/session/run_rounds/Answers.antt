@@ -1,0 +1,51 @@
+use Rattle.std.proofs.Common.{ℕ, ◌+◌}
+use Rattle.search_session.specs.Hands.{HandMoved, EachMoved}
+use Rattle.search_session.proofs.Handling.{hands_none, hands_more}
+use Rattle.search_session.proofs.session.run_rounds.Goals as goal
+
+pub loop-round-init : goal.loop-round-init
+loop-round-init g c = record {
+  on = c.requires;
+  moved = (
+    0,
+    hands_none g.I.Inputs.told g.I.Inputs.is_open g.I.Inputs.is_calm g.I.Inputs.faults c.args.hdu.now
+        c.args.hands.now c.requires,
+  );
+}
+
+pub loop-round-preserved : goal.loop-round-preserved
+loop-round-preserved g c =
+    let told = g.I.Inputs.told in
+    let is_open = g.I.Inputs.is_open in
+    let is_calm = g.I.Inputs.is_calm in
+    let faults = g.I.Inputs.faults in
+    let before = c.loop-round.invariant.moved in
+    let first = hands_more told is_open is_calm faults before.0 c.args.turns c.args.hands.now c.loop-round.hands
+    c.round.new.hands before.1 c.round.ensures.moved in
+    record {
+      on = c.retire_ended.ensures.on;
+      moved = (
+        before.0 + c.args.turns + 0,
+        hands_more told is_open is_calm faults (before.0 + c.args.turns) 0
+            c.args.hands.now c.round.new.hands c.retire_ended.new.hands first c.retire_ended.ensures.moved,
+      );
+    }
+
+pub returns-then-all_ended : goal.returns-then-all_ended
+returns-then-all_ended g c =
+    let told = g.I.Inputs.told in
+    let is_open = g.I.Inputs.is_open in
+    let is_calm = g.I.Inputs.is_calm in
+    let faults = g.I.Inputs.faults in
+    let before = c.loop-round.invariant.moved in
+    let first = hands_more told is_open is_calm faults before.0 c.args.turns c.args.hands.now c.loop-round.hands
+    c.round.new.hands before.1 c.round.ensures.moved in
+    record {
+      on = c.retire_ended.ensures.on;
+      ended = c.all_ended.ensures c.if-all_ended.true;
+      moved = (
+        before.0 + c.args.turns + 0,
+        hands_more told is_open is_calm faults (before.0 + c.args.turns) 0
+            c.args.hands.now c.round.new.hands c.retire_ended.new.hands first c.retire_ended.ensures.moved,
+      );
+    }

@@ -1,0 +1,16 @@
+use Rattle.std.proofs.Common.{◌≡◌, true, refl, rules}
+use Rattle.search_session.proofs.Moves.{shard_none}
+use Rattle.search_session.proofs.Turning.{on_retired, moved_retired}
+use Rattle.search_session.proofs.shard.ShardActor.retired.Goals as goal
+
+pub returns-then-not-self-clause-moved : goal.returns-then-not-self-clause-moved
+returns-then-not-self-clause-moved c = shard_none c.args.self c.requires.count
+
+pub returns : goal.returns
+returns c =
+    let over : c.args.self.ended ≡ true = search rules in
+    record {
+      on = on_retired c.args.hdu.now c.args.self _ c.retire.ensures.same refl refl c.retire.ensures.reads refl refl refl
+          over c.requires;
+      moved = moved_retired c.args.hdu.now c.args.self _ c.retire.ensures.same refl refl c.requires.count refl over;
+    }

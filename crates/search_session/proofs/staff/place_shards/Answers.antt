@@ -1,0 +1,90 @@
+use Rattle.std.proofs.Common.{◌≡◌, ℕ, ◌+◌, ◌<◌, Option, Some, length, drop, slice_get, refl, sym, ap, ◌∙◌, subst, arith}
+use Rattle.search_session.specs.declared.lane.Lane.{Lane}
+use Rattle.search_session.specs.Stages.{IsUnread, IsUnfed, HasRoomFor}
+use Rattle.dada_hdu.specs.declared.passes.HduReader.{HduReader}
+use Rattle.search_session.proofs.Rows.{left_over}
+use Rattle.search_session.proofs.Staffing.{taken_is, none_taken, taken_holds, taken_there, staffed_none, staffed_more}
+use Rattle.search_session.proofs.staff.place_shards.Goals as goal
+
+pub loop-s-init : goal.loop-s-init
+loop-s-init g c = record {
+  lanes = refl;
+  readers = refl;
+  spaces = refl;
+  staffed = staffed_none g.I.Inputs.told g.I.Inputs.is_open c.args.hdu.now c.args.lanes.items c.args.hands.now
+      c.requires.empty;
+}
+
+pub unreachable-requires-in_default-remove : goal.unreachable-requires-in_default-remove
+unreachable-requires-in_default-remove g c =
+    let s = c.loop-s.s in
+    let count = c.requires.count in
+    let near : s < length c.args.readers.items = omega arith in
+    let h = c.requires.parts.1.unread s near in
+    none_taken c.args.readers.items c.loop-s.readers.items s c.remove-in-loop-s.result h.0 h.1
+    c.loop-s.invariant.readers c.remove-in-loop-s.ensures.value c.in_default-remove.is
+
+pub unreachable-requires-in_default-remove-2 : goal.unreachable-requires-in_default-remove-2
+unreachable-requires-in_default-remove-2 g c =
+    let s = c.loop-s.s in
+    let count = c.requires.spaces_count in
+    let near : s < length c.args.spaces.items = omega arith in
+    taken_there _ c.args.spaces.items c.loop-s.spaces.items s c.remove-in-loop-s-2.result c.requires.spaces near
+    c.loop-s.invariant.spaces c.remove-in-loop-s-2.ensures.value c.in_default-remove-2.is
+
+pub shard_of-requires-clause-reader : goal.shard_of-requires-clause-reader
+shard_of-requires-clause-reader g c =
+    let s = c.loop-s.s in
+    let count = c.requires.count in
+    let near : s < length c.args.readers.items = omega arith in
+    let h = c.requires.parts.1.unread s near in
+    subst (λ (r : HduReader). IsUnread c.args.hdu.now s r)
+    (taken_is c.args.readers.items c.loop-s.readers.items s c.remove-in-loop-s.result h.0 c.in-Some-remove.reader h.1
+    c.loop-s.invariant.readers c.remove-in-loop-s.ensures.value c.in-Some-remove.is) h.2
+
+pub shard_of-requires-clause-lane : goal.shard_of-requires-clause-lane
+shard_of-requires-clause-lane g c =
+    let s = c.loop-s.s in
+    let near : s < length c.args.lanes.items = omega arith in
+    let transfers = c.requires.parts.0 in
+    let h = c.requires.parts.1.unfed s near in (
+      transfers,
+      c.requires.parts.1.some,
+      subst (λ (lane : Lane). IsUnfed transfers lane)
+          (taken_is c.args.lanes.items c.loop-s.lanes.items s c.remove.result h.0 c.in-Some.lane h.1
+          c.loop-s.invariant.lanes c.remove.ensures.value c.in-Some.is) h.2,
+    )
+
+pub shard_of-requires-clause-space : goal.shard_of-requires-clause-space
+shard_of-requires-clause-space g c =
+    let s = c.loop-s.s in
+    let count = c.requires.spaces_count in
+    let near : s < length c.args.spaces.items = omega arith in
+    taken_holds _ c.args.spaces.items c.loop-s.spaces.items s c.remove-in-loop-s-2.result c.requires.spaces near
+    c.loop-s.invariant.spaces c.remove-in-loop-s-2.ensures.value c.in-Some-remove-2.space c.in-Some-remove-2.is
+
+pub loop-s-preserved : goal.loop-s-preserved
+loop-s-preserved g c =
+    let s = c.loop-s.s in
+    let inv = c.loop-s.invariant in
+    let count = c.requires.count in
+    let spaces_count = c.requires.spaces_count in
+    let near : s < length c.args.lanes.items = omega arith in
+    let near_reader : s < length c.args.readers.items = omega arith in
+    let near_space : s < length c.args.spaces.items = omega arith in
+    let h = c.requires.parts.1.unfed s near in
+    let lane : h.0 ≡ c.in-Some.lane =
+    taken_is c.args.lanes.items c.loop-s.lanes.items s c.remove.result h.0 c.in-Some.lane h.1 inv.lanes
+    c.remove.ensures.value c.in-Some.is in
+    record {
+      lanes = left_over c.args.lanes.items c.loop-s.lanes.items c.remove.new.self.items s c.remove.result near inv.lanes
+          c.remove.ensures.items;
+      readers = left_over c.args.readers.items c.loop-s.readers.items c.remove-in-loop-s.new.self.items s
+          c.remove-in-loop-s.result near_reader inv.readers c.remove-in-loop-s.ensures.items;
+      spaces = left_over c.args.spaces.items c.loop-s.spaces.items c.remove-in-loop-s-2.new.self.items s
+          c.remove-in-loop-s-2.result near_space inv.spaces c.remove-in-loop-s-2.ensures.items;
+      staffed = staffed_more g.I.Inputs.told g.I.Inputs.is_open c.args.hdu.now c.args.lanes.items c.loop-s.hands
+          c.place_shard.new.hands s (length c.args.hands.now) c.shard_of.result c.in-Some.lane inv.staffed
+          c.place_shard.ensures (h.1 ∙ ap (λ (l : Lane). Some (Some l)) lane) c.shard_of.ensures.new
+          c.shard_of.ensures.on;
+    }

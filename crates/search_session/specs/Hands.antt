@@ -1,0 +1,60 @@
+-- The hands of a session, and what their turns did.
+-- Source: this project's choice.
+use Rattle.std.specs.Prelude.{◌≡◌, ℕ, ◌+◌, ◌<◌, ◌≤◌, ⊤, true, All, IfSome, IsSome, List, length, slice_index_or, Option, Some, None}
+use Rattle.psr_base.specs.Told.{Told}
+use Rattle.dada_hdu.specs.declared.hdu.Hdu.{Hdu}
+use Rattle.search_session.specs.declared.shard.ShardActor.{ShardActor}
+use Rattle.search_session.specs.declared.hand.Hand.{Hand}
+use Rattle.search_session.specs.Shards.{ShardOn, ShardMoved}
+use Rattle.search_session.specs.Feeds.{FeedOn, FeedMoved}
+
+-- ---- slots
+
+-- what is true of the actor of a slot before and after; an empty slot stays empty
+abbrev pub SlotMoved : {A : Type 0} → (A → A → Type 0) → Option A → Option A → Type 0
+SlotMoved R None None = ⊤
+SlotMoved R None (Some new) = ⊥
+SlotMoved R (Some old) None = ⊥
+SlotMoved R (Some old) (Some new) = R old new
+
+-- the same of each element of a list and the one at its place of another
+pub record EachMoved {A : Type 0} (R : A → A → Type 0) (old new : List A) : Type 0 where
+  pub count : length new ≡ length old
+  pub each : (k : ℕ) (d : A) → k < length old → R (slice_index_or old k d) (slice_index_or new k d)
+
+-- the first n of them have moved, and the others stand
+pub record FirstMoved {A : Type 0} (R : A → A → Type 0) (n : ℕ) (old new : List A) : Type 0 where
+  pub count : length new ≡ length old
+  pub moved : (k : ℕ) (d : A) → k < n → k < length old → R (slice_index_or old k d)
+      (slice_index_or new k d)
+  pub ahead : (k : ℕ) (d : A) → n ≤ k → slice_index_or new k d ≡ slice_index_or old k d
+
+-- ---- hands
+
+-- each shard is one of these rings
+abbrev pub ShardsOn : Hdu → List (Option ShardActor) → Type 0
+ShardsOn hdu slots = All (λ slot. IfSome slot (ShardOn hdu)) slots
+
+abbrev pub ShardsMoved : ℕ → List (Option ShardActor) → List (Option ShardActor) → Type 0
+ShardsMoved n old new = EachMoved (SlotMoved (ShardMoved n)) old new
+
+abbrev pub ShardsEnded : List (Option ShardActor) → Type 0
+ShardsEnded slots = All (λ slot. IfSome slot (λ x. x.ended ≡ true)) slots
+
+-- each actor of a hand is one of these rings
+pub record HandOn {I : Type 0} (told : I → Told) (is_open : I → Type 0) (hdu : Hdu) (h : Hand I) :
+    Type 0 where
+  pub feeder : IfSome h.feeder (FeedOn told is_open hdu)
+  pub shards : ShardsOn hdu h.shards.items
+
+-- each actor of a hand made n turns, or fewer where it ended
+pub record HandMoved {I : Type 0} (told : I → Told) (is_calm : I → Type 0) (faults : I → ℕ)
+    (n : ℕ) (old new : Hand I) :
+    Type 0 where
+  pub feeder : SlotMoved (FeedMoved told is_calm faults n) old.feeder new.feeder
+  pub shards : ShardsMoved n old.shards.items new.shards.items
+
+-- each actor of a hand ended
+pub record HandEnded {I : Type 0} (h : Hand I) : Type 0 where
+  pub feeder : IfSome h.feeder (λ f. IsSome f.end)
+  pub shards : ShardsEnded h.shards.items

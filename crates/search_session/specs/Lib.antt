@@ -1,0 +1,9 @@
+pub mod Lanes
+pub mod Shards
+pub mod Feeds
+pub mod Hands
+pub mod Gathering
+pub mod Stages
+pub mod Books
+pub mod Ends
+pub mod Sessions

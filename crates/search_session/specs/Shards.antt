@@ -1,0 +1,133 @@
+-- What a shard has read, and what its turns did.
+-- Source: this project's choice.
+use Rattle.std.specs.Prelude.{◌≡◌, ℕ, ◌+◌, ◌*◌, ◌<◌, ◌≤◌, ◌^◌, min, Bool, true, false, nat_lt, List, [], ◌++◌, length, take, vec_len, Option, Some}
+use Rattle.dada_model.specs.Observation.{Observation}
+use Rattle.ring_core.specs.Machine.{greatest}
+use Rattle.ring_blocks.specs.declared.Entry.{Entry}
+use Rattle.ring_words.specs.Ring.{Begins}
+use Rattle.ring_ends.specs.Passes.{reader_knows, ended_knows, is_read}
+use Rattle.ring_ends.specs.declared.answers.Taken.{Taken}
+use Rattle.dada_hdu.specs.declared.hdu.Hdu.{Hdu}
+use Rattle.dada_hdu.specs.declared.passes.HduReader.{HduReader}
+use Rattle.dada_hdu.specs.declared.ended.HduEnded.{HduEnded}
+use Rattle.dada_hdu.specs.declared.ended.HduEnded.TheVariants.{Here}
+use Rattle.dada_hdu.specs.Passes.{data_shape, header_end, data_end, number_of, tries_of, ReadsBoth, EndedFromBoth}
+use Rattle.stream_model.specs.Blocks.{ended_transfers, is_over, transfer_bytes}
+use Rattle.search_engine.specs.Engine.{EngineState, SameShard, most_fed}
+use Rattle.search_session.specs.declared.shard.ShardActor.{ShardActor}
+use Rattle.search_session.specs.Lanes.{HasEngine, Stands}
+
+-- ---- engines and the blocks that were cleared
+
+-- the engine of a transfer stands for the bytes of that transfer among the blocks, and has ended where they have
+abbrev pub StandsAt : Observation → ℕ → List Entry → EngineState → Type 0
+StandsAt o transfer blocks e =
+    Stands (nat_lt transfer (ended_transfers blocks)) o (transfer_bytes transfer blocks) e
+
+-- it was fed as many, and ended there
+pub record IsEngineAt (size : ℕ) (blocks : List Entry) (transfer : ℕ) (e : EngineState) :
+    Type 0 where
+  pub ended : e.has_ended ≡ nat_lt transfer (ended_transfers blocks)
+  pub fed : e.fed ≡ length (transfer_bytes transfer blocks)
+  pub most : e.fed ≤ length blocks * size
+
+-- each of them was
+abbrev pub AreEnginesAt : ℕ → List Entry → List (Option EngineState) → Type 0
+AreEnginesAt size blocks engines = (k : ℕ) → k < length engines →
+    (e : EngineState) × HasEngine engines k e × IsEngineAt size blocks k e
+
+-- as the blocks became more, it was fed the bytes of its transfer that came
+pub record EngineFollows (transfer : ℕ) (before after : List Entry) (e f : EngineState) :
+    Type 0 where
+  pub same : SameShard f e
+  pub stands : (o : Observation) → StandsAt o transfer before e → StandsAt o transfer after f
+
+-- each of them was
+pub record EnginesFollow (before after : List Entry) (old new : List (Option EngineState)) :
+    Type 0 where
+  pub count : length new ≡ length old
+  pub each : (k : ℕ) (e : EngineState) → HasEngine old k e →
+      (f : EngineState) × HasEngine new k f × EngineFollows k before after e f
+
+-- ---- a read
+
+-- a reader's tries, of either ring
+abbrev pub reader_tries : HduReader → ℕ
+reader_tries reader = tries_of (Here reader)
+
+abbrev pub blocks_cleared : HduReader → List Entry
+blocks_cleared reader = (reader_knows reader.blocks).cleared
+
+-- one read was made of one of the rings; which blocks of data are cleared stays
+pub record HasTried (old new : HduReader) : Type 0 where
+  pub number : number_of (Here new) ≡ number_of (Here old)
+  pub tries : reader_tries new ≡ reader_tries old + 1
+  pub cleared : blocks_cleared new ≡ blocks_cleared old
+
+-- a block of data was read to the front of the space
+pub record HasBlock (size max_blocks : ℕ) (reader : HduReader) (space : List ℕ) (taken : Taken)
+    (block : Entry) :
+    Type 0 where
+  pub got : (reader_knows reader.blocks).got ≡ Some block
+  pub read : is_read reader.blocks ≡ true
+  pub mark : taken.mark ≡ block.mark
+  pub used : taken.used ≡ length block.bytes
+  pub fits : taken.used ≤ size
+  pub room : taken.used ≤ length space
+  pub bytes : take taken.used space ≡ block.bytes
+  pub within : length (blocks_cleared reader) < max_blocks
+
+-- a reader that retired: what it read stays
+pub record HasSameReads (old new : HduEnded) : Type 0 where
+  pub number : number_of new ≡ number_of old
+  pub tries : tries_of new ≡ tries_of old
+  pub headers : (ended_knows (header_end new)).cleared ≡ (ended_knows (header_end old)).cleared
+  pub blocks : (ended_knows (data_end new)).cleared ≡ (ended_knows (data_end old)).cleared
+
+-- ---- a shard
+
+-- the blocks of data that it cleared
+abbrev pub shard_cleared : ShardActor → List Entry
+shard_cleared x = (ended_knows (data_end x.pass)).cleared
+
+abbrev pub shard_number : ShardActor → ℕ
+shard_number x = number_of x.pass
+
+-- it reads
+abbrev pub IsHere : HduEnded → Type 0
+IsHere pass = (reader : HduReader) × (pass ≡ Here reader)
+
+-- A shard of these rings: its engines were fed exactly the blocks that it cleared, and it ended where they did.
+pub record ShardOn (hdu : Hdu) (x : ShardActor) : Type 0 where
+  pub reads : EndedFromBoth hdu x.pass
+  pub here : x.ended ≡ false → IsHere x.pass
+  pub header_room : 65537 ≤ vec_len x.space
+  pub block_room : (data_shape hdu).size ≤ vec_len x.space
+  pub few : (data_shape hdu).max_blocks * (data_shape hdu).size ≤ most_fed
+  pub done : x.done ≡ ended_transfers (shard_cleared x)
+  pub over : x.ended ≡ is_over (length x.part.engines.items) (shard_cleared x)
+  pub engines : AreEnginesAt (data_shape hdu).size (shard_cleared x) x.part.engines.items
+  pub count : x.turns < 2 ^ 64
+
+-- one read of a shard: what it got was fed
+pub record ShardStepped (x y : ShardActor) : Type 0 where
+  pub number : shard_number y ≡ shard_number x
+  pub turns : y.turns ≡ x.turns
+  pub tries : tries_of y.pass ≡ tries_of x.pass + 1
+  pub grown : Begins (shard_cleared x) (shard_cleared y)
+  pub engines : EnginesFollow (shard_cleared x)
+      (shard_cleared y) x.part.engines.items y.part.engines.items
+
+-- n turns of a shard, or fewer where it ended: each made one read
+pub record ShardMoved (n : ℕ) (x y : ShardActor) : Type 0 where
+  pub number : shard_number y ≡ shard_number x
+  pub made : ℕ
+  pub most : made ≤ n
+  pub all : y.ended ≡ false → made ≡ n
+  pub none : x.ended ≡ true → made ≡ 0
+  pub stays : x.ended ≡ true → y.ended ≡ true
+  pub turns : y.turns ≡ min greatest (x.turns + made)
+  pub tries : tries_of y.pass ≡ tries_of x.pass + made
+  pub grown : Begins (shard_cleared x) (shard_cleared y)
+  pub engines : EnginesFollow (shard_cleared x)
+      (shard_cleared y) x.part.engines.items y.part.engines.items

@@ -1,0 +1,35 @@
+//! A feeder that takes turns.
+ghost use Rattle.std.specs.Prelude.{◌≡◌, None};
+
+use dada_hdu::{Hdu, HduWriter};
+use disk_feeder::{FeedEnd, FeedTurn, Feeder};
+use psr_base::Inputs;
+use std::thread;
+
+/// The feeder of a session, and the pass by which it seals.
+#[derive(Drop)]
+pub struct FeedActor<'a, I> {
+    pub part: Feeder<'a, I>,
+    pub pass: HduWriter,
+    pub turns: u64,
+    pub end: Option<FeedEnd>,
+}
+
+impl<'a, I: Inputs> FeedActor<'a, I> {
+    ghost use Rattle.search_session.specs.Feeds.{FeedOn, FeedMoved};
+
+    /// Takes one turn: it seals one block, or finds the ring full and lets other threads run.
+    pub fn turn(&mut self, hdu: &Hdu)
+        requires on { FeedOn I.told I.is_open hdu.now self.old }
+        requires running { self.old.end ≡ None }
+        ensures on { FeedOn I.told I.is_open hdu.now self.new }
+        ensures moved { FeedMoved I.told I.is_calm I.faults 1 self.old self.new }
+    {
+        self.turns = self.turns.saturating_add(1);
+        match self.part.turn(hdu, &mut self.pass) {
+            FeedTurn::Moved => {}
+            FeedTurn::Waiting { .. } => thread::yield_now(),
+            FeedTurn::Ended(end) => self.end = Some(end),
+        }
+    }
+}

@@ -1,0 +1,173 @@
+//! A hand: actors that take turns one after another, in a thread of their own.
+ghost use Rattle.std.specs.Prelude.{◌≡◌, true, None, [], IfSome, IsSome};
+ghost use Rattle.search_session.specs.Feeds.{FeedOn, FeedMoved};
+ghost use Rattle.search_session.specs.Shards.{ShardOn, ShardMoved};
+
+use crate::feed::FeedActor;
+use crate::gate::Gate;
+use crate::shard::ShardActor;
+use arrayvec::ArrayVec;
+use dada_hdu::Hdu;
+use psr_base::Inputs;
+use std::mem;
+
+/// The number by which a gate knows the feeder; shard s is actor s + 1.
+const FEEDER: u32 = 0;
+
+/// The actors that one thread drives. Each shard is `Some`.
+#[derive(Drop)]
+pub struct Hand<'a, I> {
+    pub feeder: Option<FeedActor<'a, I>>,
+    pub shards: ArrayVec<Option<ShardActor>, 7>,
+}
+
+// A turn of the feeder of a slot, unless it ended.
+fn turn_feeder<I: Inputs, G: Gate>(slot: &mut Option<FeedActor<'_, I>>, hdu: &Hdu, gate: &G)
+    requires { IfSome slot.old (FeedOn I.told I.is_open hdu.now) }
+    ensures on { IfSome slot.new (FeedOn I.told I.is_open hdu.now) }
+    ensures moved { SlotMoved (FeedMoved I.told I.is_calm I.faults 1) slot.old slot.new }
+{
+    let Some(feeder) = slot else { return };
+    if feeder.end.is_some() {
+        return;
+    }
+    gate.pass(FEEDER, feeder.turns);
+    feeder.turn(hdu);
+}
+
+// A turn of the shard of a slot, unless it ended.
+fn turn_shard<G: Gate>(slot: &mut Option<ShardActor>, hdu: &Hdu, gate: &G)
+    requires { IfSome slot.old (ShardOn hdu.now) }
+    ensures on { IfSome slot.new (ShardOn hdu.now) }
+    ensures moved { SlotMoved (ShardMoved 1) slot.old slot.new }
+{
+    let Some(shard) = slot else { return };
+    if shard.ended {
+        return;
+    }
+    gate.pass(shard.pass.number() + 1, shard.turns);
+    shard.turn(hdu);
+}
+
+// A turn of each shard.
+fn turn_shards<G: Gate>(slots: &mut [Option<ShardActor>], hdu: &Hdu, gate: &G)
+    requires { ShardsOn hdu.now slots.old }
+    ensures on { ShardsOn hdu.now slots.new }
+    ensures moved { ShardsMoved 1 slots.old slots.new }
+{
+    for place in 0..slots.len() {
+        turn_shard(&mut slots[place], hdu, gate);
+    }
+}
+
+// Retires the shard of a slot, where it ended.
+fn retire_shard(slot: &mut Option<ShardActor>, hdu: &Hdu)
+    requires { IfSome slot.old (ShardOn hdu.now) }
+    ensures on { IfSome slot.new (ShardOn hdu.now) }
+    ensures moved { SlotMoved (ShardMoved 0) slot.old slot.new }
+{
+    let Some(shard) = mem::replace(slot, None) else {
+        return;
+    };
+    *slot = Some(shard.retired(hdu));
+}
+
+// Retires each shard that ended.
+fn retire_shards(slots: &mut [Option<ShardActor>], hdu: &Hdu)
+    requires { ShardsOn hdu.now slots.old }
+    ensures on { ShardsOn hdu.now slots.new }
+    ensures moved { ShardsMoved 0 slots.old slots.new }
+{
+    for place in 0..slots.len() {
+        retire_shard(&mut slots[place], hdu);
+    }
+}
+
+// Whether the shard of a slot ended, if there is one.
+fn shard_ended(slot: &Option<ShardActor>) -> bool
+    ensures { result ≡ true → IfSome slot.now (λ x. x.ended ≡ true) }
+{
+    match slot {
+        Some(shard) => shard.ended,
+        None => true,
+    }
+}
+
+// Whether all shards ended.
+fn shards_ended(slots: &[Option<ShardActor>]) -> bool
+    ensures { result ≡ true → ShardsEnded slots.now }
+{
+    for place in 0..slots.len() {
+        if !shard_ended(&slots[place]) {
+            return false;
+        }
+    }
+    true
+}
+
+ghost use Rattle.search_session.specs.Hands.{SlotMoved, ShardsOn, ShardsMoved, ShardsEnded};
+
+impl<'a, I: Inputs> Hand<'a, I> {
+    ghost use Rattle.search_session.specs.Hands.{HandOn, HandMoved, HandEnded};
+
+    /// No actor.
+    pub fn empty() -> Hand<'a, I>
+        ensures feeder { result.feeder ≡ None }
+        ensures shards { result.shards.items ≡ [] }
+    {
+        Hand {
+            feeder: None,
+            shards: ArrayVec::new(),
+        }
+    }
+
+    // A turn of each actor that has not ended.
+    fn turn<G: Gate>(&mut self, hdu: &Hdu, gate: &G)
+        requires { HandOn I.told I.is_open hdu.now self.old }
+        ensures on { HandOn I.told I.is_open hdu.now self.new }
+        ensures moved { HandMoved I.told I.is_calm I.faults 1 self.old self.new }
+    {
+        turn_feeder(&mut self.feeder, hdu, gate);
+        turn_shards(self.shards.as_mut_slice(), hdu, gate);
+    }
+
+    // So many turns of each actor, fewer of one that ends.
+    pub(crate) fn drive<G: Gate>(&mut self, hdu: &Hdu, turns: u32, gate: &G)
+        requires { HandOn I.told I.is_open hdu.now self.old }
+        ensures on { HandOn I.told I.is_open hdu.now self.new }
+        ensures moved { HandMoved I.told I.is_calm I.faults turns self.old self.new }
+    {
+        for _turn in 0..turns {
+            self.turn(hdu, gate);
+        }
+    }
+
+    // Retires each shard that ended.
+    pub(crate) fn retire(&mut self, hdu: &Hdu)
+        requires { HandOn I.told I.is_open hdu.now self.old }
+        ensures on { HandOn I.told I.is_open hdu.now self.new }
+        ensures moved { HandMoved I.told I.is_calm I.faults 0 self.old self.new }
+    {
+        retire_shards(self.shards.as_mut_slice(), hdu);
+    }
+
+    // Whether the feeder ended, if there is one.
+    fn feeder_ended(&self) -> bool
+        ensures { result ≡ true → IfSome self.now.feeder (λ f. IsSome f.end) }
+    {
+        match &self.feeder {
+            Some(feeder) => feeder.end.is_some(),
+            None => true,
+        }
+    }
+
+    // Whether all actors ended.
+    pub(crate) fn has_ended(&self) -> bool
+        ensures { result ≡ true → HandEnded self.now }
+    {
+        if !self.feeder_ended() {
+            return false;
+        }
+        shards_ended(self.shards.as_slice())
+    }
+}

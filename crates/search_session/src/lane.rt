@@ -1,0 +1,41 @@
+//! The engines of a shard.
+ghost use Rattle.std.specs.Prelude.{◌≡◌, ℕ, ◌+◌, ◌<◌, ◌≤◌, false, Some, length, slice_get};
+ghost use Rattle.search_engine.specs.Engine.{EngineState, most_fed};
+ghost use Rattle.search_session.specs.Lanes.{HasEngine, IsFed, IsFedAt};
+
+use arrayvec::ArrayVec;
+use search_engine::Engine;
+
+/// The engines of a shard, one for each transfer in order. Each is `Some`.
+#[derive(Drop)]
+pub struct Lane {
+    pub engines: ArrayVec<Option<Engine>, 8>,
+}
+
+// Feeds the engine of a slot, and ends it after the last bytes.
+fn feed_slot(slot: &mut Option<Engine>, bytes: &[u8], is_last: bool)
+    requires { (e : EngineState) × (slot.old ≡ Some e) × (e.has_ended ≡ false)
+        × (e.fed + length bytes.now ≤ most_fed) }
+    ensures { (e : EngineState) → slot.old ≡ Some e
+        → (f : EngineState) × (slot.new ≡ Some f) × IsFed e bytes.now is_last f }
+{
+    let Some(engine) = slot else { unreachable!() };
+    engine.feed(bytes);
+    if is_last {
+        engine.end();
+    }
+}
+
+// Feeds the engine of a transfer, and ends it after the last bytes.
+pub(crate) fn feed_engine(
+    engines: &mut [Option<Engine>],
+    transfer: usize,
+    bytes: &[u8],
+    is_last: bool,
+)
+    requires there { (e : EngineState) × HasEngine engines.old transfer e
+        × (e.has_ended ≡ false) × (e.fed + length bytes.now ≤ most_fed) }
+    ensures { IsFedAt engines.old transfer bytes.now is_last engines.new }
+{
+    feed_slot(&mut engines[transfer], bytes, is_last);
+}

@@ -1,0 +1,29 @@
+//! The session of a search: a feeder, the shards of a search and a recorder take turns over two rings, in hands that run
+//! beside each other.
+//!
+//! A round of turns waits for nobody; rounds follow one another until all have ended. No call takes memory.
+#![tactic(auto)]
+
+mod books;
+mod ended;
+mod feed;
+mod gate;
+mod gathering;
+mod hand;
+mod lane;
+mod reading;
+mod rounds;
+mod session;
+mod shard;
+mod staff;
+mod stage;
+
+pub use ended::{Ran, SessionEnd};
+pub use feed::FeedActor;
+pub use gate::{Gate, NoGate};
+pub use hand::Hand;
+pub use lane::Lane;
+pub use rounds::round;
+pub use session::run_session;
+pub use shard::ShardActor;
+pub use stage::Stage;

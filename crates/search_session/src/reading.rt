@@ -1,0 +1,57 @@
+//! Reads of the two rings.
+ghost use Rattle.std.specs.Prelude.{◌≡◌, ◌≤◌, length, IfSome};
+ghost use Rattle.dada_hdu.specs.Passes.{data_shape, ReadsBoth, EndedFromBoth};
+ghost use Rattle.search_session.specs.Shards.{HasTried, HasBlock, HasSameReads};
+ghost use Rattle.ring_blocks.specs.declared.Entry.{Entry};
+
+use dada_hdu::{Hdu, HduEnded, HduReader, Taken};
+use std::thread;
+
+// Reads the next header and clears it. Where there is none it lets other threads run.
+pub(crate) fn pass_header(hdu: &Hdu, reader: &mut HduReader, space: &mut [u8])
+    requires reads { ReadsBoth hdu.now reader.old }
+    requires room { 65537 ≤ length space.old }
+    ensures reads { ReadsBoth hdu.now reader.new }
+    ensures tried { HasTried reader.old reader.new }
+    ensures room { length space.new ≡ length space.old }
+{
+    match hdu.read_header(reader, space) {
+        Ok(_taken) => {
+            hdu.clear_header(reader);
+        }
+        Err(_stop) => thread::yield_now(),
+    }
+}
+
+// Reads the next block of data to the front of the space. Where there is none it lets other threads run.
+pub(crate) fn read_block(hdu: &Hdu, reader: &mut HduReader, space: &mut [u8]) -> Option<Taken>
+    requires reads { ReadsBoth hdu.now reader.old }
+    requires room { (data_shape hdu.now).size ≤ length space.old }
+    ensures reads { ReadsBoth hdu.now reader.new }
+    ensures tried { HasTried reader.old reader.new }
+    ensures room { length space.new ≡ length space.old }
+    ensures block { IfSome result (λ taken. (block : Entry)
+        × HasBlock (data_shape hdu.now).size (data_shape hdu.now).max_blocks reader.new
+        space.new taken block) }
+{
+    match hdu.read(reader, space) {
+        Ok(taken) => Some(taken),
+        Err(_stop) => {
+            thread::yield_now();
+            None
+        }
+    }
+}
+
+// The writer no longer waits for the reader.
+pub(crate) fn retire(hdu: &Hdu, pass: HduEnded) -> HduEnded
+    requires { EndedFromBoth hdu.now pass }
+    ensures reads { EndedFromBoth hdu.now result }
+    ensures same { HasSameReads pass result }
+{
+    match pass {
+        HduEnded::Here(reader) => HduEnded::Retired(hdu.retire(reader)),
+        HduEnded::Away(reader) => HduEnded::Away(reader),
+        HduEnded::Retired(reader) => HduEnded::Retired(reader),
+    }
+}

@@ -1,0 +1,58 @@
+//! A round: hands that run beside each other.
+ghost use Rattle.std.specs.Prelude.{◌≡◌, true, All};
+ghost use Rattle.search_session.specs.Hands.{HandOn, HandMoved, HandEnded, EachMoved};
+
+use crate::gate::Gate;
+use crate::hand::Hand;
+use dada_hdu::Hdu;
+use psr_base::Inputs;
+use std::thread::{Threads, for_each_mut};
+
+/// Drives each hand in a thread of its own: each of its actors takes so many turns, fewer only where it ends. No turn
+/// waits.
+pub fn round<'a, I: Inputs + Send, G: Gate + Sync, R: Threads + Sync>(
+    rt: &R,
+    hands: &mut [Hand<'a, I>],
+    hdu: &Hdu,
+    turns: u32,
+    gate: &G,
+)
+    requires { All (HandOn I.told I.is_open hdu.now) hands.old }
+    ensures on { All (HandOn I.told I.is_open hdu.now) hands.new }
+    ensures moved { EachMoved (HandMoved I.told I.is_calm I.faults turns) hands.old hands.new }
+{
+    let threads = hands.len().max(1);
+    for_each_mut(
+        rt,
+        hands,
+        threads,
+        &|_place: usize, hand: &mut Hand<'_, I>|
+            requires { HandOn I.told I.is_open hdu.now hand.old }
+            ensures { HandOn I.told I.is_open hdu.entry.now hand.new
+                × HandMoved I.told I.is_calm I.faults turns hand.old hand.new }
+        { hand.drive(hdu, turns, gate) },
+    );
+}
+
+/// Retires each shard that ended.
+pub(crate) fn retire_ended<I: Inputs>(hands: &mut [Hand<'_, I>], hdu: &Hdu)
+    requires { All (HandOn I.told I.is_open hdu.now) hands.old }
+    ensures on { All (HandOn I.told I.is_open hdu.now) hands.new }
+    ensures moved { EachMoved (HandMoved I.told I.is_calm I.faults 0) hands.old hands.new }
+{
+    for place in 0..hands.len() {
+        hands[place].retire(hdu);
+    }
+}
+
+/// Whether all actors ended.
+pub(crate) fn all_ended<I: Inputs>(hands: &[Hand<'_, I>]) -> bool
+    ensures { result ≡ true → All HandEnded hands.now }
+{
+    for place in 0..hands.len() {
+        if !hands[place].has_ended() {
+            return false;
+        }
+    }
+    true
+}

@@ -1,0 +1,140 @@
+//! A shard: the engines of a part of the search, and the reader that feeds them.
+ghost use Rattle.std.specs.Prelude.{◌≡◌, ◌+◌, ◌≤◌, false, true, length, if◌then◌else◌, nat_le, ◌||◌};
+ghost use Rattle.stream_model.specs.Blocks.{is_end, is_cut};
+
+use crate::lane::{Lane, feed_engine};
+use crate::reading::{pass_header, read_block, retire};
+use dada_hdu::{Hdu, HduEnded, Mark};
+// Laws: they do nothing when they run, and the proofs use what they ensure.
+use stream_model::{ends_are_counted, entries_are_of_transfers};
+
+/// The shard of a search: one engine for each transfer, a reader of both rings, and the space that it reads to. `done`
+/// counts the engines that ended.
+#[derive(Drop)]
+pub struct ShardActor {
+    pub part: Lane,
+    pub pass: HduEnded,
+    pub space: Vec<u8>,
+    pub turns: u64,
+    pub done: u32,
+    pub ended: bool,
+}
+
+// Whether a transfer ends with this mark.
+fn ends_transfer(mark: Mark) -> bool
+    ensures { result ≡ is_end mark }
+{
+    match mark {
+        Mark::End => true,
+        Mark::More | Mark::Cut => false,
+    }
+}
+
+// How many transfers end with this mark.
+fn ended_with(mark: Mark) -> u32
+    ensures { result ≡ (if is_end mark then 1 else 0) }
+{
+    match mark {
+        Mark::End => 1,
+        Mark::More | Mark::Cut => 0,
+    }
+}
+
+// Whether nothing comes after a block with this mark, where so many of the transfers have ended.
+fn ends_stream(mark: Mark, done: usize, transfers: usize) -> bool
+    ensures { result ≡ (nat_le transfers done || is_cut mark) }
+{
+    match mark {
+        Mark::Cut => true,
+        Mark::More | Mark::End => transfers <= done,
+    }
+}
+
+impl ShardActor {
+    ghost use Rattle.search_session.specs.Shards.{ShardOn, ShardMoved, ShardStepped};
+
+    /// Takes one turn. Before the data of each transfer it reads a header and clears it; else it reads a block of data,
+    /// feeds it to the engine of its transfer, which ends after the last block, and clears it. A read that finds
+    /// nothing lets other threads run.
+    pub fn turn(&mut self, hdu: &Hdu)
+        requires on { ShardOn hdu.now self.old }
+        requires running { self.old.ended ≡ false }
+        ensures on { ShardOn hdu.now self.new }
+        ensures moved { ShardMoved 1 self.old self.new }
+    {
+        self.turns = self.turns.saturating_add(1);
+        if self.pass.cleared_headers() == u64::from(self.done) {
+            self.take_header(hdu);
+        } else {
+            self.take_block(hdu);
+        }
+    }
+
+    // Passes the header of a transfer.
+    fn take_header(&mut self, hdu: &Hdu)
+        requires on { ShardOn hdu.now self.old }
+        requires running { self.old.ended ≡ false }
+        ensures on { ShardOn hdu.now self.new }
+        ensures stepped { ShardStepped self.old self.new }
+    {
+        let HduEnded::Here(reader) = &mut self.pass else {
+            unreachable!()
+        };
+        pass_header(hdu, reader, self.space.as_mut_slice());
+    }
+
+    // Feeds the next block of data to the engine of its transfer.
+    fn take_block(&mut self, hdu: &Hdu)
+        requires on { ShardOn hdu.now self.old }
+        requires running { self.old.ended ≡ false }
+        ensures on { ShardOn hdu.now self.new }
+        ensures stepped { ShardStepped self.old self.new }
+    {
+        ends_are_counted();
+        entries_are_of_transfers();
+        let HduEnded::Here(reader) = &mut self.pass else {
+            unreachable!()
+        };
+        let Some(taken) = read_block(hdu, reader, self.space.as_mut_slice()) else {
+            return
+        };
+        let is_last = ends_transfer(taken.mark);
+        let bytes = &self.space.as_slice()[..taken.used as usize];
+        feed_engine(
+            self.part.engines.as_mut_slice(),
+            self.done as usize,
+            bytes,
+            is_last,
+        );
+        hdu.clear(reader);
+        self.done += ended_with(taken.mark);
+        self.ended = ends_stream(taken.mark, self.done as usize, self.part.engines.len());
+    }
+
+    // The same shard; once it ended, the writer of the rings no longer waits for it.
+    pub(crate) fn retired(self, hdu: &Hdu) -> ShardActor
+        requires { ShardOn hdu.now self }
+        ensures on { ShardOn hdu.now result }
+        ensures moved { ShardMoved 0 self result }
+    {
+        if !self.ended {
+            return self;
+        }
+        let ShardActor {
+            part,
+            pass,
+            space,
+            turns,
+            done,
+            ended,
+        } = self;
+        ShardActor {
+            part,
+            pass: retire(hdu, pass),
+            space,
+            turns,
+            done,
+            ended,
+        }
+    }
+}
