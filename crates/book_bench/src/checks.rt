@@ -1,14 +1,18 @@
 // Whether books can be merged, judged candidate by candidate.
-ghost use Rattle.std.specs.Prelude.{◌≡◌, ◌<◌, IsTrue, Contains};
+ghost use Rattle.std.specs.Prelude.{◌≡◌, ◌<◌, IsTrue, Contains, map};
 ghost use Rattle.candidate_book.specs.Conditions.{IsSearched, CanBeMerged};
 ghost use Rattle.search_model.specs.Order.{Precedes};
 ghost use Rattle.std.specs.Option.{ForSome};
 ghost use Rattle.search_model.specs.Search.{box_widths};
+ghost use Rattle.transfer_text.specs.Books.{CanBeWritten};
 ghost use Rattle.book_bench.specs.Parts.{IsPart, Continues};
 
+use arrayvec::ArrayVec;
 use candidate_book::{Book, Candidate};
+use obs_plan::Observation;
 // A law: it does nothing when it runs, and the proofs use what it ensures.
 use search_model::order_is_strict;
+use transfer_text::MOST_SHARDS;
 
 const WIDTHS: [u32; 6] = [1, 2, 4, 8, 16, 32];
 
@@ -80,6 +84,29 @@ pub fn can_be_merged(books: &[Option<Book>]) -> bool
             return false;
         };
         if !is_part(n, k as u32, book.kept()) {
+            return false;
+        }
+    }
+    true
+}
+
+/// Whether each transfer has an observation, a number of spectra, and books that can be merged.
+pub fn can_be_written(
+    observations: &[Option<Observation>],
+    books: &[ArrayVec<Option<Book>, MOST_SHARDS>],
+    spectra: &[u64],
+) -> bool
+    ensures { IsTrue result → CanBeWritten observations.now
+        (map (λ shards. shards.items) books.now) spectra.now }
+{
+    if observations.len() != books.len() || spectra.len() != books.len() {
+        return false;
+    }
+    for k in 0..books.len() {
+        if observations[k].is_none() {
+            return false;
+        }
+        if !can_be_merged(books[k].as_slice()) {
             return false;
         }
     }

@@ -1,11 +1,13 @@
 // The merged text: what stands in it, in which order, and what a sink has of it that fails.
-use crate::checks::can_be_merged;
+use crate::checks::{can_be_merged, can_be_written};
 use crate::made::{book_of, observation, seven_books};
+use arrayvec::ArrayVec;
 use candidate_book::{Book, Candidate, SinkStop, Totals, write_merged};
 use obs_plan::Observation;
 use psr_base::{MemSink, Memory};
 use std::alloc::Global;
 use std::test::Fail;
+use transfer_text::{MOST_SHARDS, write_texts};
 
 fn pulse(end: u64, delay: u32, width: u32, sum: u32) -> Candidate {
     Candidate::Pulse {
@@ -164,5 +166,48 @@ fn a_sink_that_fails_has_a_front(rt: HostRuntime) -> Result<(), Fail> {
 fn a_stop_says_that_the_sink_failed(rt: HostRuntime) -> Result<(), Fail> {
     let text = format!(in rt.alloc(); "{}", SinkStop::Fault)?;
     assert_eq!(rt; text.as_str(), "the sink failed");
+    Ok(())
+}
+
+// The books of two transfers: of even and odd delays, and of nothing.
+fn two_transfers(alloc: Global) -> Result<[ArrayVec<Option<Book>, MOST_SHARDS>; 2], Memory> {
+    let mut first = ArrayVec::new();
+    first.push(Some(book_of(alloc, 4, &even())?));
+    first.push(Some(book_of(alloc, 4, &odd())?));
+    let mut second = ArrayVec::new();
+    second.push(Some(book_of(alloc, 4, &[])?));
+    Ok([first, second])
+}
+
+// Writes the texts of transfers that can be written.
+fn write_transfers(
+    observations: &[Option<Observation>],
+    books: &[ArrayVec<Option<Book>, MOST_SHARDS>],
+    spectra: &[u64],
+    sink: &mut MemSink,
+) -> Result<bool, Fail> {
+    if books.len() > 8 || !can_be_written(observations, books, spectra) {
+        return Err("books that can be written".into());
+    }
+    Ok(write_texts(observations, books, spectra, sink).is_ok())
+}
+
+#[test]
+fn transfers_are_numbered_where_there_are_more_than_one(rt: HostRuntime) -> Result<(), Fail> {
+    let observations = [observation(rt.alloc()), observation(rt.alloc())];
+    let books = two_transfers(rt.alloc())?;
+    let lines = text_of(rt.alloc(), &LINES)?;
+    let mut sink = MemSink::open(rt.alloc(), 1000, &[])?;
+    assert!(rt; write_transfers(&observations, &books, &[10, 1], &mut sink)?);
+    let mut text = Vec::from_slice(rt.alloc(), b"OBS 0\n".as_slice())?;
+    text.extend_from_slice(lines.as_slice())?;
+    text.extend_from_slice(b"OBS 1\nEND 0 0 1\n".as_slice())?;
+    assert_eq!(rt; sink.body(), text.as_slice());
+    let mut alone = MemSink::open(rt.alloc(), 1000, &[])?;
+    assert!(rt; write_transfers(&observations[..1], &books[..1], &[10], &mut alone)?);
+    assert_eq!(rt; alone.body(), lines.as_slice());
+    let mut narrow = MemSink::open(rt.alloc(), 200, &[])?;
+    assert!(rt; !write_transfers(&observations, &books, &[10, 1], &mut narrow)?);
+    assert!(rt; text.as_slice().starts_with(narrow.body()));
     Ok(())
 }
