@@ -1,0 +1,9 @@
+//! Tests of recorders, by loops on one thread.
+#![tactic(auto)]
+
+#[cfg(test)]
+mod fitting;
+#[cfg(test)]
+mod recording;
+#[cfg(test)]
+mod tests;
