@@ -1,26 +1,24 @@
 -- What is known once all actors have ended: two lists are compared once.
-use Rattle.std.proofs.Common.{◌≡◌, ◌≢◌, ℕ, ◌+◌, ◌<◌, ◌≤◌, Bool, true, false, List, [], ◌++◌, length, Option, Some, None, slice_get, slice_index_or, refl, sym, ap, ◌∙◌, subst, arith}
+use Rattle.std.proofs.Common.{◌≡◌, ℕ, ◌<◌, Bool, true, List, [], ◌++◌, length, Option, Some, None, slice_get, refl, sym, ap, ◌∙◌, subst, arith}
 use Rattle.std.specs.Prelude.{All, IfSome, IsSome, nat_lt}
 use Rattle.std.proofs.lemmas.List.{append-nil}
 use Rattle.std.proofs.lemmas.List.Elements.{All-weaker}
 use Rattle.std.proofs.lemmas.Bool.Decides.{nat_tests}
 use Rattle.std.proofs.lemmas.Option.{slice_get_within, get_or_from_slice_get}
-use Rattle.arrayvec.specs.ArrayVec.{ArrayVec}
 use Rattle.dada_model.specs.Observation.{Observation}
 use Rattle.search_model.specs.declared.search.Search.{Search}
 use Rattle.search_model.specs.Candidates.{shard_part}
-use Rattle.search_model.specs.Observed.{filterbank_of, candidates_of}
+use Rattle.search_model.specs.Observed.{candidates_of}
 use Rattle.candidate_book.specs.Book.{BookContents, book_of}
 use Rattle.psr_base.specs.Count.{Rose}
 use Rattle.psr_base.specs.Told.{Told}
 use Rattle.ring_blocks.specs.declared.Entry.{Entry}
-use Rattle.ring_words.specs.Ring.{Begins}
 use Rattle.ring_ends.specs.Ended.{sealed_at_end, cleared_at_end}
 use Rattle.dada_hdu.specs.declared.hdu.Hdu.{Hdu}
 use Rattle.stream_model.specs.Blocks.{ended_transfers, transfer_bytes, is_over}
 use Rattle.search_engine.specs.Engine.{EngineState, SameShard, StandsForData, HasSearched}
 use Rattle.disk_feeder.specs.declared.answers.FeedEnd.{FeedEnd}
-use Rattle.disk_feeder.specs.declared.answers.FeedEnd.TheVariants.{Whole, ReadFault}
+use Rattle.disk_feeder.specs.declared.answers.FeedEnd.TheVariants.{Whole}
 use Rattle.disk_feeder.specs.declared.feeder.Feeder.{Feeder}
 use Rattle.disk_feeder.specs.Plan.{Plan}
 use Rattle.disk_feeder.specs.Feeder.{plan_at, block_size, has_end, stream_at, FeederFaultless, FeederSince}
@@ -33,12 +31,12 @@ use Rattle.search_session.specs.declared.shard.ShardActor.{ShardActor}
 use Rattle.search_session.specs.declared.hand.Hand.{Hand}
 use Rattle.search_session.specs.declared.ended.SessionEnd.{SessionEnd}
 use Rattle.search_session.specs.Lanes.{HasEngine, Stands}
-use Rattle.search_session.specs.Shards.{StandsAt, EngineFollows, EnginesFollow, shard_cleared, shard_number, ShardOn}
+use Rattle.search_session.specs.Shards.{StandsAt, EnginesFollow, shard_cleared, shard_number, ShardOn}
 use Rattle.search_session.specs.Feeds.{FeedOn, FeedMoved}
 use Rattle.search_session.specs.Hands.{HandOn, HandEnded}
 use Rattle.search_session.specs.Stages.{IsOfLane, AreOfLanes, IsIn}
 use Rattle.search_session.specs.Books.{HasLane, HasBook}
-use Rattle.search_session.specs.Sessions.{FeedAnswers, ShardAnswers, IsSearched, IsEndOf, data_through}
+use Rattle.search_session.specs.Sessions.{FeedAnswers, IsSearched, IsEndOf, data_through}
 use Rattle.search_session.proofs.Engines.{nothing}
 use Rattle.search_session.proofs.Turning.{none_ended, not_below_zero}
 

@@ -1,5 +1,5 @@
 -- The engines of a shard and the blocks that it cleared.
-use Rattle.std.proofs.Common.{◌≡◌, ◌≢◌, ℕ, zero, suc, ◌+◌, ◌-◌, ◌*◌, ◌<◌, ◌≤◌, Bool, true, false, List, [], ◌∷◌, ◌++◌, length, length-append, Option, Some, slice_get, refl, sym, ap, ◌∙◌, subst, arith}
+use Rattle.std.proofs.Common.{◌≡◌, ◌≢◌, ℕ, zero, suc, ◌+◌, ◌-◌, ◌*◌, ◌<◌, ◌≤◌, Bool, true, false, List, [], ◌∷◌, ◌++◌, length, length-append, Option, refl, sym, ap, ◌∙◌, subst, arith}
 use Rattle.std.specs.Prelude.{if◌then◌else◌, nat_lt}
 use Rattle.std.proofs.lemmas.List.{append-nil}
 use Rattle.std.proofs.lemmas.Bool.Decides.{nat_tests}
@@ -9,7 +9,7 @@ use Rattle.dada_model.specs.Observation.{Observation}
 use Rattle.ring_blocks.specs.declared.Entry.{Entry}
 use Rattle.stream_model.specs.Blocks.{is_end, ended_transfers, transfer_bytes}
 use Rattle.stream_model.specs.BlockLaws.{EndsAreCounted, EntriesAreOfTransfers}
-use Rattle.search_engine.specs.Engine.{EngineState, SameShard, StandsForData}
+use Rattle.search_engine.specs.Engine.{EngineState, StandsForData}
 use Rattle.search_session.specs.Lanes.{HasEngine, Stands, IsFed, IsFedAt}
 use Rattle.search_session.specs.Shards.{StandsAt, IsEngineAt, AreEnginesAt, EngineFollows, EnginesFollow}
 

@@ -1,12 +1,12 @@
 -- Turns of a feeder that follow one another.
-use Rattle.std.proofs.Common.{◌≡◌, ℕ, zero, suc, ◌+◌, ◌<◌, ◌≤◌, ◌^◌, min, [], Option, Some, None, slice_index_or, refl, sym, ap, ◌∙◌, subst, arith, rules}
+use Rattle.std.proofs.Common.{◌≡◌, ℕ, zero, suc, ◌+◌, ◌<◌, ◌^◌, min, [], Option, Some, None, slice_index_or, refl, sym, ◌∙◌, subst, arith, rules}
 use Rattle.std.specs.Prelude.{IsSome}
 use Rattle.psr_base.specs.Told.{Told}
 use Rattle.ring_core.specs.Machine.{greatest}
 use Rattle.dada_hdu.specs.declared.passes.HduWriter.{HduWriter}
 use Rattle.disk_feeder.specs.declared.answers.FeedEnd.{FeedEnd}
 use Rattle.disk_feeder.specs.declared.answers.FeedTurn.{FeedTurn}
-use Rattle.disk_feeder.specs.Feeder.{names_at, plan_at, block_size, has_end, FeederFaultless}
+use Rattle.disk_feeder.specs.Feeder.{names_at, plan_at, block_size, has_end}
 use Rattle.disk_feeder.specs.Turns.{TurnAnswers}
 use Rattle.disk_feeder.specs.Filling.{HoldsAll}
 use Rattle.disk_feeder.specs.Plan.{Plan}

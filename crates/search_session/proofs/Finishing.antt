@@ -1,5 +1,5 @@
 -- The passes of shards that ended are all readers of the rings.
-use Rattle.std.proofs.Common.{◌≡◌, ℕ, ◌<◌, true, List, length, map, Option, Some, slice_get, option_map, refl, sym, ap, ◌∙◌, subst, arith}
+use Rattle.std.proofs.Common.{◌≡◌, ℕ, List, Option, Some, slice_get, option_map, sym, ap, ◌∙◌, subst, arith}
 use Rattle.std.proofs.lemmas.List.{length-map}
 use Rattle.std.proofs.lemmas.Option.{slice_get-map, slice_get_within}
 use Rattle.ring_words.specs.declared.views.ReaderView.{ReaderView}
@@ -11,14 +11,12 @@ use Rattle.ring_ends.specs.Counted.{cleared_of}
 use Rattle.ring_ends.specs.Passes.{ended_knows}
 use Rattle.ring_ends.specs.Ended.{sealed_at_end, reader_at_end, cleared_at_end}
 use Rattle.dada_hdu.specs.declared.hdu.Hdu.{Hdu}
-use Rattle.dada_hdu.specs.declared.ended.HduEnded.{HduEnded}
-use Rattle.dada_hdu.specs.Passes.{data_ring, data_end, data_shape}
+use Rattle.dada_hdu.specs.Passes.{data_ring, data_end}
 use Rattle.dada_hdu.specs.Ended.{GivesBoth, AreBothInOrder, RingFinished}
-use Rattle.search_session.specs.declared.lane.Lane.{Lane}
 use Rattle.search_session.specs.declared.shard.ShardActor.{ShardActor}
 use Rattle.search_session.specs.Shards.{shard_cleared}
 use Rattle.search_session.specs.Books.{HasLane, HaveEngines, passes_of, lanes_of}
-use Rattle.search_session.specs.Ends.{IsDone, AreDone}
+use Rattle.search_session.specs.Ends.{AreDone}
 
 gives_pass : (shards : List (Option ShardActor)) (s : ℕ) (x : ShardActor) → slice_get shards s ≡ Some (Some x) →
     GivesBoth (passes_of shards) s x.pass

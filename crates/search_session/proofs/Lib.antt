@@ -3,6 +3,7 @@ mod Rows
 mod Turning
 mod Moves
 mod Feeding
+mod Recording
 mod Handling
 mod Working
 mod Gathered

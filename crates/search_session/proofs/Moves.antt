@@ -1,5 +1,5 @@
 -- Turns that follow one another, of shards and of slots.
-use Rattle.std.proofs.Common.{◌≡◌, ℕ, ◌+◌, ◌<◌, ◌≤◌, ◌^◌, min, Bool, true, false, List, [], ◌++◌, length, Option, Some, None, slice_index_or, refl, sym, ap, ◌∙◌, append_assoc, arith}
+use Rattle.std.proofs.Common.{◌≡◌, ℕ, ◌+◌, ◌<◌, ◌^◌, min, Bool, true, false, List, [], ◌++◌, Option, Some, None, slice_index_or, refl, sym, ap, ◌∙◌, append_assoc, arith}
 use Rattle.std.proofs.lemmas.List.{append-nil}
 use Rattle.ring_core.specs.Machine.{greatest}
 use Rattle.ring_blocks.specs.declared.Entry.{Entry}
@@ -7,7 +7,7 @@ use Rattle.ring_words.specs.Ring.{Begins}
 use Rattle.dada_hdu.specs.Passes.{tries_of}
 use Rattle.search_session.specs.declared.shard.ShardActor.{ShardActor}
 use Rattle.search_session.specs.Shards.{shard_cleared, ShardMoved, ShardStepped}
-use Rattle.search_session.specs.Hands.{SlotMoved, EachMoved, FirstMoved}
+use Rattle.search_session.specs.Hands.{SlotMoved, EachMoved}
 use Rattle.search_session.proofs.Engines.{follow_still, follow_more}
 
 -- ---- shards

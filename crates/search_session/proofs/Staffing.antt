@@ -1,7 +1,6 @@
 -- The actors of a session come to their hands.
-use Rattle.std.proofs.Common.{◌≡◌, ◌≢◌, ℕ, ◌+◌, ◌%◌, ◌<◌, ◌≤◌, List, [], ◌∷◌, ◌++◌, length, length-append, Option, Some, None, slice_get, drop, slice_set, slice_index_or, refl, sym, ap, ◌∙◌, subst, arith}
+use Rattle.std.proofs.Common.{◌≡◌, ℕ, ◌+◌, ◌%◌, ◌<◌, ◌≤◌, List, [], ◌∷◌, length, length-append, Option, Some, None, slice_get, drop, slice_index_or, refl, sym, ap, ◌∙◌, subst, arith}
 use Rattle.std.specs.Prelude.{All, IfSome, IsSomeAnd}
-use Rattle.std.proofs.lemmas.List.{length-set}
 use Rattle.std.proofs.lemmas.List.Elements.{All-set, All-push, All-weaker}
 use Rattle.std.proofs.lemmas.Option.{slice_get_within, slice_get-get_or, get_or_from_slice_get}
 use mathlib.Core.Logic.{dite}
@@ -12,8 +11,8 @@ use Rattle.search_session.specs.declared.lane.Lane.{Lane}
 use Rattle.search_session.specs.declared.feed.FeedActor.{FeedActor}
 use Rattle.search_session.specs.declared.shard.ShardActor.{ShardActor}
 use Rattle.search_session.specs.declared.hand.Hand.{Hand}
-use Rattle.search_session.specs.Shards.{shard_cleared, shard_number, ShardOn, EnginesFollow}
-use Rattle.search_session.specs.Feeds.{FeedOn, FeedMoved}
+use Rattle.search_session.specs.Shards.{shard_cleared, ShardOn, EnginesFollow}
+use Rattle.search_session.specs.Feeds.{FeedOn}
 use Rattle.search_session.specs.Hands.{HandOn}
 use Rattle.search_session.specs.Stages.{IsEmptyHand, IsShardOf, IsOfLane, AreOfLanes, HasShard, HasFeeder, TakesShard, TakesFeeder, AreStaffed}
 use Rattle.search_session.proofs.Engines.{follow_still}

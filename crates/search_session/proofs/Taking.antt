@@ -1,5 +1,5 @@
 -- Books are taken, engine by engine.
-use Rattle.std.proofs.Common.{◌≡◌, ◌≢◌, ℕ, ◌+◌, ◌<◌, ◌≤◌, List, [], ◌∷◌, ◌++◌, length, length-append, get_or, drop, remove, Option, Some, None, slice_get, slice_set, slice_index_or, refl, sym, ap, ◌∙◌, subst, arith}
+use Rattle.std.proofs.Common.{◌≡◌, ℕ, ◌+◌, ◌<◌, List, [], ◌∷◌, ◌++◌, length, length-append, get_or, drop, remove, Option, Some, None, slice_get, slice_set, refl, sym, ap, ◌∙◌, subst, arith}
 use Rattle.std.specs.Prelude.{OnSome}
 use Rattle.std.proofs.lemmas.List.{length-set, drop_more}
 use Rattle.std.proofs.lemmas.Option.{slice_get_within, slice_get-get_or, get_or_from_slice_get, slice_get_read}
@@ -9,8 +9,7 @@ use Rattle.arrayvec.specs.ArrayVec.{ArrayVec}
 use Rattle.candidate_book.specs.Book.{BookContents}
 use Rattle.search_engine.specs.Engine.{EngineState}
 use Rattle.search_session.specs.declared.lane.Lane.{Lane}
-use Rattle.search_session.specs.Lanes.{HasEngine}
-use Rattle.search_session.specs.Books.{HasLane, HaveEngines, HasBook, book_at, GivesFirst, FirstsGiven, HasBooks, BooksTaken}
+use Rattle.search_session.specs.Books.{HasLane, HaveEngines, book_at, GivesFirst, FirstsGiven, HasBooks, BooksTaken}
 use Rattle.search_session.proofs.Rows.{get_set_same, get_set_other, longer, at_end}
 
 -- the first element is taken

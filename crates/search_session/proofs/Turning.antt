@@ -1,18 +1,15 @@
 -- One read of a shard.
-use Rattle.std.proofs.Common.{◌≡◌, ℕ, ◌+◌, ◌*◌, ◌<◌, ◌≤◌, ◌^◌, min, Bool, true, false, ◌||◌, List, [], ◌∷◌, ◌++◌, length, take, length-append, vec_len, Option, Some, refl, sym, ap, ◌∙◌, subst, arith}
+use Rattle.std.proofs.Common.{◌≡◌, ℕ, ◌+◌, ◌*◌, ◌<◌, ◌≤◌, ◌^◌, Bool, true, false, ◌||◌, List, [], ◌∷◌, ◌++◌, length, vec_len, Option, Some, refl, sym, ap, ◌∙◌, subst, arith}
 use Rattle.std.specs.Prelude.{if◌then◌else◌, nat_le, nat_lt}
 use Rattle.std.proofs.lemmas.Bool.Decides.{nat_tests}
 use Rattle.std.proofs.lemmas.List.{append-nil}
 use Rattle.std.proofs.Math.Nat.{mul-le-mul_right}
-use Rattle.ring_core.specs.Machine.{greatest}
 use Rattle.ring_blocks.specs.declared.Entry.{Entry}
 use Rattle.ring_blocks.specs.declared.Mark.{Mark}
-use Rattle.ring_words.specs.Ring.{Begins}
 use Rattle.ring_words.specs.declared.views.ReaderView.{ReaderView}
 use Rattle.ring_words.specs.Views.{after_clear, got_list}
 use Rattle.ring_ends.specs.declared.passes.ReaderPass.{ReaderPass}
 use Rattle.ring_ends.specs.Passes.{reader_knows, ended_knows}
-use Rattle.ring_ends.specs.declared.answers.Taken.{Taken}
 use Rattle.dada_hdu.specs.declared.hdu.Hdu.{Hdu}
 use Rattle.dada_hdu.specs.declared.passes.HduReader.{HduReader}
 use Rattle.dada_hdu.specs.declared.ended.HduEnded.{HduEnded}
@@ -26,7 +23,7 @@ use Rattle.search_session.specs.declared.lane.Lane.{Lane}
 use Rattle.search_session.specs.declared.shard.ShardActor.{ShardActor}
 use Rattle.search_session.specs.Lanes.{HasEngine, IsFedAt}
 use Rattle.search_session.specs.Stages.{IsUnfed}
-use Rattle.search_session.specs.Shards.{IsEngineAt, AreEnginesAt, EnginesFollow, HasTried, HasBlock, blocks_cleared, reader_tries, shard_cleared, shard_number, HasSameReads, ShardOn, ShardStepped, ShardMoved}
+use Rattle.search_session.specs.Shards.{AreEnginesAt, EnginesFollow, HasTried, blocks_cleared, reader_tries, shard_cleared, shard_number, HasSameReads, ShardOn, ShardStepped, ShardMoved}
 use Rattle.search_session.proofs.Engines.{nothing, ended_more, not_below_itself, engines_at, engines_follow, follow_still}
 
 -- ---- ends

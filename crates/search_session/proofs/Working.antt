@@ -1,13 +1,13 @@
 -- Who works in which hand, through rounds.
 use Rattle.std.proofs.Common.{◌≡◌, ℕ, ◌+◌, ◌%◌, ◌<◌, List, [], length, Option, Some, None, slice_get, slice_index_or, refl, sym, ap, ◌∙◌, subst, arith}
-use Rattle.std.specs.Prelude.{All, IfSome}
+use Rattle.std.specs.Prelude.{IfSome}
 use Rattle.std.proofs.lemmas.Option.{slice_get_within, slice_get-get_or, get_or_from_slice_get}
 use Rattle.psr_base.specs.Told.{Told}
 use Rattle.search_session.specs.declared.lane.Lane.{Lane}
 use Rattle.search_session.specs.declared.feed.FeedActor.{FeedActor}
 use Rattle.search_session.specs.declared.shard.ShardActor.{ShardActor}
 use Rattle.search_session.specs.declared.hand.Hand.{Hand}
-use Rattle.search_session.specs.Shards.{shard_cleared, shard_number, EnginesFollow, ShardMoved}
+use Rattle.search_session.specs.Shards.{shard_cleared, ShardMoved}
 use Rattle.search_session.specs.Feeds.{FeedMoved}
 use Rattle.search_session.specs.Hands.{SlotMoved, EachMoved, HandMoved}
 use Rattle.search_session.specs.Stages.{HasFeeder, HasShard, IsOfLane, AreOfLanes}

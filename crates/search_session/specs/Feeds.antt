@@ -1,6 +1,6 @@
 -- What a feeder of a session has sealed, and what its turns did.
 -- Source: this project's choice.
-use Rattle.std.specs.Prelude.{◌≡◌, ℕ, zero, suc, ◌+◌, ◌<◌, ◌≤◌, ◌^◌, min, List, Option, Some, None, IsSome}
+use Rattle.std.specs.Prelude.{◌≡◌, ℕ, zero, suc, ◌+◌, ◌<◌, ◌≤◌, ◌^◌, min, Option, None, IsSome}
 use Rattle.psr_base.specs.Told.{Told}
 use Rattle.ring_core.specs.Machine.{greatest}
 use Rattle.dada_hdu.specs.declared.hdu.Hdu.{Hdu}

@@ -1,6 +1,6 @@
 -- The hands of a session, and what their turns did.
 -- Source: this project's choice.
-use Rattle.std.specs.Prelude.{◌≡◌, ℕ, ◌+◌, ◌<◌, ◌≤◌, ⊤, true, All, IfSome, IsSome, List, length, slice_index_or, Option, Some, None}
+use Rattle.std.specs.Prelude.{◌≡◌, ℕ, ◌<◌, ◌≤◌, ⊤, true, All, IfSome, IsSome, List, length, slice_index_or, Option, Some, None}
 use Rattle.psr_base.specs.Told.{Told}
 use Rattle.dada_hdu.specs.declared.hdu.Hdu.{Hdu}
 use Rattle.search_session.specs.declared.shard.ShardActor.{ShardActor}

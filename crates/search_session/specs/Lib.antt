@@ -1,6 +1,7 @@
 pub mod Lanes
 pub mod Shards
 pub mod Feeds
+pub mod Records
 pub mod Hands
 pub mod Gathering
 pub mod Stages

@@ -1,6 +1,6 @@
 -- What a shard has read, and what its turns did.
 -- Source: this project's choice.
-use Rattle.std.specs.Prelude.{◌≡◌, ℕ, ◌+◌, ◌*◌, ◌<◌, ◌≤◌, ◌^◌, min, Bool, true, false, nat_lt, List, [], ◌++◌, length, take, vec_len, Option, Some}
+use Rattle.std.specs.Prelude.{◌≡◌, ℕ, ◌+◌, ◌*◌, ◌<◌, ◌≤◌, ◌^◌, min, true, false, nat_lt, List, length, take, vec_len, Option, Some}
 use Rattle.dada_model.specs.Observation.{Observation}
 use Rattle.ring_core.specs.Machine.{greatest}
 use Rattle.ring_blocks.specs.declared.Entry.{Entry}
@@ -11,7 +11,7 @@ use Rattle.dada_hdu.specs.declared.hdu.Hdu.{Hdu}
 use Rattle.dada_hdu.specs.declared.passes.HduReader.{HduReader}
 use Rattle.dada_hdu.specs.declared.ended.HduEnded.{HduEnded}
 use Rattle.dada_hdu.specs.declared.ended.HduEnded.TheVariants.{Here}
-use Rattle.dada_hdu.specs.Passes.{data_shape, header_end, data_end, number_of, tries_of, ReadsBoth, EndedFromBoth}
+use Rattle.dada_hdu.specs.Passes.{data_shape, header_end, data_end, number_of, tries_of, EndedFromBoth}
 use Rattle.stream_model.specs.Blocks.{ended_transfers, is_over, transfer_bytes}
 use Rattle.search_engine.specs.Engine.{EngineState, SameShard, most_fed}
 use Rattle.search_session.specs.declared.shard.ShardActor.{ShardActor}

@@ -18,7 +18,7 @@ use Rattle.search_session.specs.Lanes.{HasEngine}
 use Rattle.search_session.specs.Shards.{blocks_cleared, shard_cleared, shard_number, EnginesFollow}
 use Rattle.search_session.specs.Feeds.{FeedMoved}
 use Rattle.search_session.specs.Hands.{HandOn}
-use Rattle.search_session.specs.Gathering.{HasNumber, GivesShard}
+use Rattle.search_session.specs.Gathering.{GivesShard}
 
 -- ---- before the first turn
 

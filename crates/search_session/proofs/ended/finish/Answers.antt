@@ -1,9 +1,9 @@
-use Rattle.std.proofs.Common.{◌≡◌, List, Option, sym, subst, ap, ◌∙◌}
+use Rattle.std.proofs.Common.{List, Option, sym, subst, ◌∙◌}
 use Rattle.dada_hdu.specs.declared.ended.HduEnded.{HduEnded}
 use Rattle.dada_hdu.specs.Passes.{data_ring, data_end}
 use Rattle.dada_hdu.specs.Ended.{AllReadersOfBoth, RingFinished}
 use Rattle.search_session.specs.declared.lane.Lane.{Lane}
-use Rattle.search_session.specs.Books.{HaveEngines, HasBooks, HasLane, passes_of, lanes_of}
+use Rattle.search_session.specs.Books.{HaveEngines, HasBooks, HasLane, passes_of}
 use Rattle.search_session.proofs.Finishing.{passes_in_order, lanes_have, cleared_is, cleared_begins, gives_lane}
 use Rattle.search_session.proofs.ended.finish.Goals as goal
 

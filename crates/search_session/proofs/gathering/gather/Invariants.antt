@@ -1,4 +1,4 @@
-use Rattle.std.proofs.Common.{◌≡◌, ℕ, ◌<◌, ◌≤◌, length}
+use Rattle.std.proofs.Common.{ℕ, ◌<◌, ◌≤◌, length}
 use Rattle.search_session.specs.declared.shard.ShardActor.{ShardActor}
 use Rattle.search_session.specs.Stages.{HasShard, IsIn, AreGathered}
 use Rattle.search_session.proofs.gathering.gather.Given as goal

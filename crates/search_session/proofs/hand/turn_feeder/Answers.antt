@@ -1,6 +1,5 @@
-use Rattle.std.proofs.Common.{◌≡◌, Option, Some, sym, subst, rules}
+use Rattle.std.proofs.Common.{Some, sym, subst, rules}
 use Rattle.std.specs.Prelude.{IfSome, IsSome}
-use Rattle.search_session.specs.declared.feed.FeedActor.{FeedActor}
 use Rattle.search_session.specs.Feeds.{FeedOn, FeedMoved}
 use Rattle.search_session.specs.Hands.{SlotMoved}
 use Rattle.search_session.proofs.Feeding.{feed_still}

@@ -1,4 +1,4 @@
-use Rattle.std.proofs.Common.{◌≡◌, true, Option, Some, sym, subst}
+use Rattle.std.proofs.Common.{Option, Some, sym, subst}
 use Rattle.std.specs.Prelude.{IfSome}
 use Rattle.search_session.specs.declared.shard.ShardActor.{ShardActor}
 use Rattle.search_session.specs.Shards.{ShardOn, ShardMoved}

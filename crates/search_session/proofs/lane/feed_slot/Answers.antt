@@ -1,4 +1,4 @@
-use Rattle.std.proofs.Common.{◌≡◌, ℕ, ◌+◌, Bool, true, false, List, ◌++◌, length, Option, Some, refl, sym, subst, ◌∙◌}
+use Rattle.std.proofs.Common.{◌≡◌, ℕ, ◌+◌, Bool, true, false, List, ◌++◌, length, refl, sym, subst, ◌∙◌}
 use Rattle.dada_model.specs.Observation.{Observation}
 use Rattle.search_engine.specs.Engine.{EngineState, SameShard, StandsForData, HasSearched}
 use Rattle.search_session.specs.Lanes.{Stands, IsFed}

@@ -1,5 +1,4 @@
-use Rattle.std.proofs.Common.{ℕ, ◌+◌}
-use Rattle.search_session.specs.Hands.{HandMoved, EachMoved}
+use Rattle.std.proofs.Common.{◌+◌}
 use Rattle.search_session.proofs.Handling.{hands_none, hands_more}
 use Rattle.search_session.proofs.session.run_rounds.Goals as goal
 

@@ -1,10 +1,9 @@
-use Rattle.std.proofs.Common.{◌≡◌, ℕ, ◌<◌, ◌≤◌, List, length, refl, sym, ap, ◌∙◌, subst, arith}
-use Rattle.std.specs.Prelude.{All}
+use Rattle.std.proofs.Common.{◌≡◌, ℕ, ◌<◌, List, length, refl, sym, ap, ◌∙◌, subst}
 use Rattle.dada_hdu.specs.declared.hdu.Hdu.{Hdu}
 use Rattle.dada_hdu.specs.Passes.{data_shape}
 use Rattle.search_session.specs.declared.hand.Hand.{Hand}
 use Rattle.search_session.specs.Shards.{shard_number}
-use Rattle.search_session.specs.Hands.{HandOn, HandMoved, EachMoved}
+use Rattle.search_session.specs.Hands.{HandMoved, EachMoved}
 use Rattle.search_session.specs.Stages.{feeder_of, transfers_of}
 use Rattle.search_session.proofs.Rows.{all_written}
 use Rattle.search_session.proofs.Closing.{AllEnded, all_ended, engines_of, feed_is, shards_are}

@@ -1,6 +1,6 @@
-use Rattle.std.proofs.Common.{◌≡◌, ℕ, ◌+◌, ◌<◌, Option, Some, length, drop, slice_get, refl, sym, ap, ◌∙◌, subst, arith}
+use Rattle.std.proofs.Common.{◌≡◌, ◌<◌, Some, length, refl, ap, ◌∙◌, subst, arith}
 use Rattle.search_session.specs.declared.lane.Lane.{Lane}
-use Rattle.search_session.specs.Stages.{IsUnread, IsUnfed, HasRoomFor}
+use Rattle.search_session.specs.Stages.{IsUnread, IsUnfed}
 use Rattle.dada_hdu.specs.declared.passes.HduReader.{HduReader}
 use Rattle.search_session.proofs.Rows.{left_over}
 use Rattle.search_session.proofs.Staffing.{taken_is, none_taken, taken_holds, taken_there, staffed_none, staffed_more}

@@ -1,4 +1,4 @@
-use Rattle.std.proofs.Common.{◌≡◌, arith}
+use Rattle.std.proofs.Common.{arith}
 use Rattle.search_session.proofs.Feeding.{feed_turned}
 use Rattle.search_session.proofs.feed.FeedActor.turn.Goals as goal
 

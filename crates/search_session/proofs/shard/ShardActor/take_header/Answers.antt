@@ -1,4 +1,4 @@
-use Rattle.std.proofs.Common.{◌≡◌, refl}
+use Rattle.std.proofs.Common.{refl}
 use Rattle.search_session.proofs.Turning.{on_still, stepped_still}
 use Rattle.search_session.proofs.shard.ShardActor.take_header.Goals as goal
 

@@ -1,0 +1,299 @@
+-- Turns of a recorder that follow one another.
+use Rattle.std.proofs.Common.{◌≡◌, ◌≢◌, ℕ, ◌+◌, ◌<◌, ◌≤◌, ◌^◌, min, Bool, true, false, List, [], ◌∷◌, ◌++◌, Option, Some, None, refl, sym, ap, ◌∙◌, subst, append_assoc, arith, rules}
+use Rattle.std.specs.Prelude.{IsSome}
+use Rattle.std.proofs.lemmas.List.{append-nil}
+use Rattle.psr_base.specs.Count.{Rose}
+use Rattle.psr_base.specs.Made.{FilesSeen}
+use Rattle.ring_core.specs.Machine.{greatest}
+use Rattle.ring_blocks.specs.declared.Entry.{Entry}
+use Rattle.ring_words.specs.Ring.{Begins}
+use Rattle.ring_words.specs.declared.views.ReaderView.{ReaderView}
+use Rattle.ring_ends.specs.declared.passes.ReaderPass.{ReaderPass}
+use Rattle.ring_ends.specs.declared.answers.ReadStop.{ReadStop}
+use Rattle.ring_ends.specs.declared.answers.ReadStop.TheVariants.{Empty, Busy}
+use Rattle.ring_ends.specs.Answers.{IsReadStop}
+use Rattle.ring_ends.specs.Passes.{reader_knows, ended_knows}
+use Rattle.dada_hdu.specs.declared.hdu.Hdu.{Hdu}
+use Rattle.dada_hdu.specs.declared.passes.HduReader.{HduReader}
+use Rattle.dada_hdu.specs.declared.ended.HduEnded.{HduEnded}
+use Rattle.dada_hdu.specs.declared.ended.HduEnded.TheVariants.{Here}
+use Rattle.dada_hdu.specs.Passes.{header_end, data_end, number_of, tries_of, ReadsBoth, EndedFromBoth}
+use Rattle.dada_recorder.specs.declared.answers.RecordEnd.{RecordEnd}
+use Rattle.dada_recorder.specs.declared.answers.RecordEnd.TheVariants.{FileFault}
+use Rattle.dada_recorder.specs.declared.answers.RecordTurn.{RecordTurn}
+use Rattle.dada_recorder.specs.declared.answers.RecordTurn.TheVariants.{Moved, Waiting, Ended}
+use Rattle.dada_recorder.specs.Making.{Outset, IsOpenAs}
+use Rattle.dada_recorder.specs.Recorder.{plan_of, block_size, has_end, has_open_file, RecorderStands, FilesAreOf}
+use Rattle.dada_recorder.specs.Turns.{cleared_headers, cleared_blocks, ClearsNext, ReadsOne, RecordAnswers}
+use Rattle.search_session.specs.declared.record.RecordActor.{RecordActor}
+use Rattle.search_session.specs.Shards.{HasSameReads}
+use Rattle.search_session.specs.Records.{recorded_headers, recorded_blocks, RecordOn, RecordMoved}
+
+begins_itself : (xs : List Entry) → Begins xs xs
+begins_itself xs = ([], sym (append-nil xs))
+
+begins_same : (xs ys : List Entry) → ys ≡ xs → Begins xs ys
+begins_same xs ys same = ([], same ∙ sym (append-nil xs))
+
+begins_more : (xs ys zs : List Entry) → Begins xs ys → Begins ys zs → Begins xs zs
+begins_more xs ys zs a b =
+    (a.0 ++ b.0, b.1 ∙ (ap (λ (l : List Entry). l ++ b.0) a.1 ∙ append_assoc xs a.0 b.0))
+
+-- ---- one read
+
+-- of one ring
+record ReadOnce (old new : ReaderPass) : Type 0 where
+  pub number : (reader_knows new).number ≡ (reader_knows old).number
+  pub tries : (reader_knows new).tries ≡ (reader_knows old).tries + 1
+  pub grown : Begins (reader_knows old).cleared (reader_knows new).cleared
+
+clears : (old new : ReaderPass) → ClearsNext old new → ReadOnce old new
+clears old new c = record {
+  number = ap (λ (v : ReaderView). v.number) c.view;
+  tries = ap (λ (v : ReaderView). v.tries) c.view;
+  grown = (c.block ∷ [], ap (λ (v : ReaderView). v.cleared) c.view);
+}
+
+waits : (old new : ReaderPass) (stop : ReadStop) → IsReadStop (reader_knows old) stop (reader_knows new) →
+    ReadOnce old new
+waits old new (Empty block seen) s = record {
+  number = ap (λ (v : ReaderView). v.number) s.rest;
+  tries = ap (λ (v : ReaderView). v.tries) s.rest;
+  grown = begins_same (reader_knows old).cleared (reader_knows new).cleared (ap (λ (v : ReaderView). v.cleared) s.rest);
+}
+waits old new (Busy block reader) s = record {
+  number = ap (λ (v : ReaderView). v.number) s.rest;
+  tries = ap (λ (v : ReaderView). v.tries) s.rest;
+  grown = begins_same (reader_knows old).cleared (reader_knows new).cleared (ap (λ (v : ReaderView). v.cleared) s.rest);
+}
+
+-- of one of the two
+pub record HasReadOnce (old new : HduReader) : Type 0 where
+  pub number : number_of (Here new) ≡ number_of (Here old)
+  pub tries : tries_of (Here new) ≡ tries_of (Here old) + 1
+  pub headers : Begins (cleared_headers old) (cleared_headers new)
+  pub blocks : Begins (cleared_blocks old) (cleared_blocks new)
+
+of_header : (old new : HduReader) → ReadOnce old.header new.header → new.blocks ≡ old.blocks → HasReadOnce old new
+of_header old new once same =
+    let more = once.tries in
+    let still = ap (λ (p : ReaderPass). (reader_knows p).tries) same in
+    record {
+      number = ap (λ (p : ReaderPass). (reader_knows p).number) same;
+      tries = omega arith;
+      headers = once.grown;
+      blocks = begins_same (cleared_blocks old) (cleared_blocks new) (ap (λ (p : ReaderPass). (reader_knows p).cleared) same);
+    }
+
+of_blocks : (old new : HduReader) → ReadOnce old.blocks new.blocks → new.header ≡ old.header → HasReadOnce old new
+of_blocks old new once same =
+    let more = once.tries in
+    let still = ap (λ (p : ReaderPass). (reader_knows p).tries) same in
+    record {
+      number = once.number;
+      tries = omega arith;
+      headers = begins_same (cleared_headers old) (cleared_headers new) (ap (λ (p : ReaderPass). (reader_knows p).cleared) same);
+      blocks = once.grown;
+    }
+
+by_ring : (does : ReaderPass → ReaderPass → Type 0) → ((p q : ReaderPass) → does p q → ReadOnce p q) → (b : Bool)
+    (old new : HduReader) → ReadsOne b does old new → HasReadOnce old new
+by_ring does one false old new r = of_header old new (one old.header new.header r.0) r.1
+by_ring does one true old new r = of_blocks old new (one old.blocks new.blocks r.0) r.1
+
+pub read_once : (b : Bool) (old new : HduReader) (end : Option RecordEnd) (answer : RecordTurn) →
+    RecordAnswers b old new end answer → HasReadOnce old new
+read_once b old new end Moved a = by_ring ClearsNext clears b old new a.1
+read_once b old new end (Waiting stop) a =
+    by_ring (λ p q. IsReadStop (reader_knows p) stop (reader_knows q)) (λ p q is. waits p q stop is) b old new a.1
+read_once b old new end (Ended is) a = by_ring ClearsNext clears b old new a.1
+
+-- ---- turns
+
+some_not_none : (end : Option RecordEnd) → IsSome end → end ≡ None → ⊥
+some_not_none None some none = cc
+some_not_none (Some e) some none = cc
+
+none_is_no_fault : (end : Option RecordEnd) → end ≡ None → end ≢ Some FileFault
+none_is_no_fault end none is = absurd cc
+
+module _ {F : Type 0} (is_open : F → Type 0) (hdu : Hdu) (x y : RecordActor F) (reader : HduReader)
+    (now : y.pass ≡ Here reader) where
+  -- a recorder that reads stands on
+  pub record_on : RecordOn is_open hdu x → ReadsBoth hdu reader → block_size y.part ≡ block_size x.part →
+      (has_end y.part ≡ None → IsOpenAs (has_open_file y.part) (is_open y.part.files.now)) →
+      RecorderStands y.part (cleared_headers reader) (cleared_blocks reader) → y.end ≡ has_end y.part →
+      y.turns < 2 ^ 64 → RecordOn is_open hdu y
+  record_on on reads block file stands end small = record {
+    reads = subst (λ (p : HduEnded). EndedFromBoth hdu p) (sym now) reads;
+    here = λ running. (reader, now);
+    size = on.size ∙ sym block;
+    file = λ running. file (sym end ∙ running);
+    stands = subst (λ (p : HduEnded). RecorderStands y.part (ended_knows (header_end p)).cleared
+        (ended_knows (data_end p)).cleared) (sym now) stands;
+    end = end;
+    count = small;
+  }
+
+-- what it stood for before
+pub stood : {F : Type 0} (x : RecordActor F) (reader : HduReader) → x.pass ≡ Here reader →
+    RecorderStands x.part (recorded_headers x) (recorded_blocks x) →
+    RecorderStands x.part (cleared_headers reader) (cleared_blocks reader)
+stood x reader was stands =
+    subst (λ (p : HduEnded). RecorderStands x.part (ended_knows (header_end p)).cleared
+    (ended_knows (data_end p)).cleared) was stands
+
+module _ {F : Type 0} (seen : F → FilesSeen) where
+  -- a turn and its read
+  pub record_turned : (x y : RecordActor F) (reader reader' : HduReader) (b : Bool) (end : Option RecordEnd)
+      (answer : RecordTurn) → x.pass ≡ Here reader → y.pass ≡ Here reader' → x.end ≡ None → y.end ≡ end →
+      RecordAnswers b reader reader' end answer → y.part.files.ghost_name ≡ x.part.files.ghost_name →
+      plan_of y.part ≡ plan_of x.part → block_size y.part ≡ block_size x.part →
+      ((outset : Outset) →
+      FilesAreOf x.part outset (cleared_headers reader) (cleared_blocks reader) (seen x.part.files.now) →
+      FilesAreOf y.part outset (cleared_headers reader') (cleared_blocks reader') (seen y.part.files.now)) →
+      (end ≡ Some FileFault → Rose (seen x.part.files.now).faults (seen y.part.files.now).faults) →
+      (end ≢ Some FileFault → (seen y.part.files.now).faults ≡ (seen x.part.files.now).faults) →
+      (seen x.part.files.now).faults ≤ (seen y.part.files.now).faults →
+      y.turns ≡ min greatest (x.turns + 1) → RecordMoved seen 1 x y
+  record_turned x y reader reader' b end answer was now running is answers same plan block made failed quiet count turns
+      =
+      let once = read_once b reader reader' end answer answers in
+      let tries : tries_of y.pass ≡ tries_of x.pass + 1 =
+      ap tries_of now ∙ (once.tries ∙ ap (λ (n : ℕ). n + 1) (sym (ap tries_of was))) in
+      let of_headers = λ (p : HduEnded). (ended_knows (header_end p)).cleared in
+      let of_blocks = λ (p : HduEnded). (ended_knows (data_end p)).cleared in
+      record {
+        files = record {
+          same_reference = same;
+          made = λ outset are.
+              subst (λ (p : HduEnded). FilesAreOf y.part outset (of_headers p) (of_blocks p) (seen y.part.files.now))
+              (sym now)
+              (made outset
+              (subst (λ (p : HduEnded). FilesAreOf x.part outset (of_headers p) (of_blocks p) (seen x.part.files.now))
+              was are));
+          count = count;
+          since = λ k before.
+              let still = before.quiet (none_is_no_fault x.end running) in
+              record {
+                count = omega arith;
+                failed = λ fault.
+                    subst (λ (n : ℕ). Rose n (seen y.part.files.now).faults) still (failed (sym is ∙ fault));
+                quiet = λ fine. quiet (λ fault. fine (is ∙ fault)) ∙ still;
+              };
+        };
+        plan = plan;
+        size = block;
+        number = ap number_of now ∙ (once.number ∙ sym (ap number_of was));
+        made = 1;
+        most = omega arith;
+        all = λ on. refl;
+        none = λ ended. absurd (some_not_none x.end ended running);
+        stays = λ ended. absurd (some_not_none x.end ended running);
+        turns = turns;
+        tries = tries;
+        headers = subst (λ (p : HduEnded). Begins (of_headers p) (recorded_headers y)) (sym was)
+            (subst (λ (p : HduEnded). Begins (cleared_headers reader) (of_headers p)) (sym now) once.headers);
+        blocks = subst (λ (p : HduEnded). Begins (of_blocks p) (recorded_blocks y)) (sym was)
+            (subst (λ (p : HduEnded). Begins (cleared_blocks reader) (of_blocks p)) (sym now) once.blocks);
+      }
+
+  -- no turn was made: the same blocks are cleared, and all else stays
+  pub record_stands : (n : ℕ) (x y : RecordActor F) → x.turns < 2 ^ 64 → (y.end ≡ None → 0 ≡ n) → y.part ≡ x.part →
+      y.end ≡ x.end → y.turns ≡ x.turns → HasSameReads x.pass y.pass → RecordMoved seen n x y
+  record_stands n x y small all part end turns same =
+      let more : y.turns ≡ min greatest (x.turns + 0) = omega arith in
+      let tries = same.tries in
+      let faults : (seen y.part.files.now).faults ≡ (seen x.part.files.now).faults =
+      ap (λ p. (seen p.files.now).faults) part in
+      record {
+        files = record {
+          same_reference = ap (λ p. p.files.ghost_name) part;
+          made = λ outset are.
+              subst (λ p. FilesAreOf p outset (recorded_headers y) (recorded_blocks y) (seen p.files.now)) (sym part)
+              (subst (λ (bs : List Entry). FilesAreOf x.part outset (recorded_headers y) bs (seen x.part.files.now))
+              (sym same.blocks)
+              (subst (λ (hs : List Entry). FilesAreOf x.part outset hs (recorded_blocks x) (seen x.part.files.now))
+              (sym same.headers) are));
+          count = omega arith;
+          since = λ k was.
+              let least = was.count in
+              record {
+                count = omega arith;
+                failed = λ fault. subst (λ (f : ℕ). Rose k f) (sym faults) (was.failed (sym end ∙ fault));
+                quiet = λ fine. faults ∙ was.quiet (λ fault. fine (end ∙ fault));
+              };
+        };
+        plan = ap (λ p. plan_of p) part;
+        size = ap (λ p. block_size p) part;
+        number = same.number;
+        made = 0;
+        most = omega arith;
+        all = all;
+        none = λ ended. refl;
+        stays = λ ended. end;
+        turns = more;
+        tries = omega arith;
+        headers = begins_same (recorded_headers x) (recorded_headers y) same.headers;
+        blocks = begins_same (recorded_blocks x) (recorded_blocks y) same.blocks;
+      }
+
+  reads_itself : (pass : HduEnded) → HasSameReads pass pass
+  reads_itself pass = record { number = refl; tries = refl; headers = refl; blocks = refl }
+
+  pub record_none : (x : RecordActor F) → x.turns < 2 ^ 64 → RecordMoved seen 0 x x
+  record_none x small = record_stands 0 x x small (λ running. refl) refl refl refl (reads_itself x.pass)
+
+  pub record_still : (n : ℕ) (x : RecordActor F) → x.turns < 2 ^ 64 → IsSome x.end → RecordMoved seen n x x
+  record_still n x small ended =
+      record_stands n x x small (λ running. absurd (some_not_none x.end ended running)) refl refl refl
+      (reads_itself x.pass)
+
+  pub record_more : (n m : ℕ) (x y z : RecordActor F) → RecordMoved seen n x y → RecordMoved seen m y z →
+      RecordMoved seen (n + m) x z
+  record_more n m x y z a b =
+      let made_a = a.most in
+      let made_b = b.most in
+      let turns_a = a.turns in
+      let turns_b = b.turns in
+      let tries_a = a.tries in
+      let tries_b = b.tries in
+      let first = a.files.count in
+      let second = b.files.count in
+      record {
+        files = record {
+          same_reference = b.files.same_reference ∙ a.files.same_reference;
+          made = λ outset are. b.files.made outset (a.files.made outset are);
+          count = omega arith;
+          since = λ k was. b.files.since k (a.files.since k was);
+        };
+        plan = b.plan ∙ a.plan;
+        size = b.size ∙ a.size;
+        number = b.number ∙ a.number;
+        made = a.made + b.made;
+        most = omega arith;
+        all = λ on. all_made y.end refl on;
+        none = λ ended.
+            let none_a = a.none ended in
+            let none_b = b.none (stays_some ended) in
+            omega arith;
+        stays = λ ended. b.stays (stays_some ended) ∙ a.stays ended;
+        turns = omega arith;
+        tries = omega arith;
+        headers = begins_more (recorded_headers x) (recorded_headers y) (recorded_headers z) a.headers b.headers;
+        blocks = begins_more (recorded_blocks x) (recorded_blocks y) (recorded_blocks z) a.blocks b.blocks;
+      }
+    where
+      stays_some : IsSome x.end → IsSome y.end
+      stays_some ended = subst (λ (e : Option RecordEnd). IsSome e) (sym (a.stays ended)) ended
+
+      all_made : (e : Option RecordEnd) → y.end ≡ e → z.end ≡ None → a.made + b.made ≡ n + m
+      all_made None is on = let all_a = a.all is in let all_b = b.all on in omega arith
+      all_made (Some e) is on = absurd (some_not_none z.end
+          (subst (λ (o : Option RecordEnd). IsSome o) (sym (b.stays (some_of is) ∙ is)) (some_is e)) on)
+        where
+          some_is : (e : RecordEnd) → IsSome (Some e)
+          some_is e = search rules
+
+          some_of : y.end ≡ Some e → IsSome y.end
+          some_of same = subst (λ (o : Option RecordEnd). IsSome o) (sym same) (some_is e)
