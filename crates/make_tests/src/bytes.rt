@@ -2,7 +2,19 @@
 use dada_header::Header;
 use obs_plan::Observation;
 use psr_make::{MakeSpec, make_bytes};
+use std::alloc::Global;
 use std::test::Fail;
+
+/// The bytes of an observation whose fields lie in their ranges.
+pub(crate) fn bytes_of(alloc: Global, spec: &MakeSpec) -> Result<Vec<u8>, Fail> {
+    if !spec.in_range() {
+        return Err("a field out of its range".into());
+    }
+    match make_bytes(alloc, spec) {
+        Ok(bytes) => Ok(bytes),
+        Err(_) => Err("no memory".into()),
+    }
+}
 
 const PLAIN: MakeSpec = MakeSpec {
     number: 0,
@@ -87,12 +99,9 @@ fn bytes_are_those_of_another_program(rt: HostRuntime) -> Result<(), Fail> {
         ),
     ];
     for (spec, count, sum) in cases {
-        assert!(rt; spec.in_range(), "{spec:?}");
-        if spec.in_range() {
-            let bytes = make_bytes(rt.alloc(), &spec)?;
-            assert_eq!(rt; bytes.len(), count, "{spec:?}");
-            assert_eq!(rt; checksum(bytes.as_slice()), sum, "{spec:?}");
-        }
+        let bytes = bytes_of(rt.alloc(), &spec)?;
+        assert_eq!(rt; bytes.len(), count, "{spec:?}");
+        assert_eq!(rt; checksum(bytes.as_slice()), sum, "{spec:?}");
     }
     Ok(())
 }
@@ -160,32 +169,49 @@ fn each_field_has_its_range(rt: HostRuntime) -> Result<(), Fail> {
     Ok(())
 }
 
+// The header of an observation's bytes.
+fn header_of(alloc: Global, spec: &MakeSpec) -> Result<Header, Fail> {
+    let bytes = bytes_of(alloc, spec)?;
+    match Header::read(alloc, bytes.as_slice()) {
+        Ok(header) => Ok(header),
+        Err(_) => Err("a header".into()),
+    }
+}
+
+// The channels of a spectrum, and the bits and polarisations of a sample.
+fn shape_of(observation: &Observation) -> (u32, u32, u32) {
+    (
+        observation.channels(),
+        observation.nbit(),
+        observation.npol(),
+    )
+}
+
+// The time from one spectrum to the next, the bytes before the file's, and whether the band falls.
+fn place_of(observation: &Observation) -> (u64, u64, bool) {
+    (
+        observation.tsamp_ns(),
+        observation.obs_offset(),
+        observation.falling(),
+    )
+}
+
 #[test]
 fn the_header_tells_the_observation(rt: HostRuntime) -> Result<(), Fail> {
-    let cases = [
-        shaped(2, 1, 0, 1, 0),
-        MakeSpec {
-            nbit: 16,
-            npol: 2,
-            ..shaped(4096, 1, 0, 1, 0)
-        },
-    ];
-    for spec in cases {
-        assert!(rt; spec.in_range(), "{spec:?}");
-        if spec.in_range() {
-            let bytes = make_bytes(rt.alloc(), &spec)?;
-            let header = Header::read(rt.alloc(), bytes.as_slice())?;
-            let observation = Observation::of(rt.alloc(), &header)?;
-            assert_eq!(rt; header.size(), 4096);
-            assert_eq!(rt; observation.channels(), spec.channels);
-            assert_eq!(rt; observation.nbit(), spec.nbit);
-            assert_eq!(rt; observation.npol(), spec.npol);
-            assert_eq!(rt; observation.tsamp_ns(), 64000);
-            assert_eq!(rt; observation.obs_offset(), 0);
-            assert_eq!(rt; observation.edges().first(), Some(&1582000));
-            assert_eq!(rt; observation.edges().last(), Some(&1182000));
-            assert!(rt; observation.falling());
-        }
+    let small = shaped(2, 1, 0, 1, 0);
+    let large = MakeSpec {
+        nbit: 16,
+        npol: 2,
+        ..shaped(4096, 1, 0, 1, 0)
+    };
+    for (spec, shape) in [(small, (2, 8, 1)), (large, (4096, 16, 2))] {
+        let header = header_of(rt.alloc(), &spec)?;
+        assert_eq!(rt; header.size(), 4096, "{spec:?}");
+        let observation = Observation::of(rt.alloc(), &header)?;
+        assert_eq!(rt; shape_of(&observation), shape);
+        assert_eq!(rt; place_of(&observation), (64000, 0, true), "{spec:?}");
+        assert_eq!(rt; observation.edges().first(), Some(&1582000), "{spec:?}");
+        assert_eq!(rt; observation.edges().last(), Some(&1182000), "{spec:?}");
     }
     Ok(())
 }

@@ -1,6 +1,7 @@
 // Whole runs, over files in memory and for real.
+use crate::bytes::bytes_of;
 use psr_base::{Files, MemFiles, MemSink, Memory, RealFiles};
-use psr_make::{MakeSpec, make_bytes, run_make};
+use psr_make::{MakeSpec, run_make};
 use std::alloc::Global;
 use std::fs;
 use std::test::Fail;
@@ -108,23 +109,20 @@ fn a_fault_leaves_a_front_of_the_file(rt: HostRuntime) -> Result<(), Fail> {
         (9, 4135, 11, 4096),
         (9, 4095, 11, 0),
     ];
-    assert!(rt; SMALL_SPEC.in_range());
-    if SMALL_SPEC.in_range() {
-        let whole = make_bytes(rt.alloc(), &SMALL_SPEC)?;
-        for (call, room, status, count) in cases {
-            let mut files = MemFiles::open(rt.alloc(), 1, room, &[call])?;
-            let ended = run(rt.alloc(), SMALL, &mut files)?;
-            assert_eq!(rt; ended.status, status, "{call} {room}");
-            assert_eq!(rt; ended.notes.is_empty(), status == 0, "{call} {room}");
-            assert_eq!(rt; files.count() == 0, call == 0, "{call} {room}");
-            if files.count() > 0 {
-                assert_eq!(rt; files.name(0), "made", "{call} {room}");
-                assert_eq!(rt; files.body(0).len(), count, "{call} {room}");
-                assert!(rt;
-                    whole.as_slice().starts_with(files.body(0)),
-                    "{call} {room}"
-                );
-            }
+    let whole = bytes_of(rt.alloc(), &SMALL_SPEC)?;
+    for (call, room, status, count) in cases {
+        let mut files = MemFiles::open(rt.alloc(), 1, room, &[call])?;
+        let ended = run(rt.alloc(), SMALL, &mut files)?;
+        assert_eq!(rt; ended.status, status, "{call} {room}");
+        assert_eq!(rt; ended.notes.is_empty(), status == 0, "{call} {room}");
+        assert_eq!(rt; files.count() == 0, call == 0, "{call} {room}");
+        if files.count() > 0 {
+            assert_eq!(rt; files.name(0), "made", "{call} {room}");
+            assert_eq!(rt; files.body(0).len(), count, "{call} {room}");
+            assert!(rt;
+                whole.as_slice().starts_with(files.body(0)),
+                "{call} {room}"
+            );
         }
     }
     Ok(())
@@ -133,24 +131,26 @@ fn a_fault_leaves_a_front_of_the_file(rt: HostRuntime) -> Result<(), Fail> {
 #[test]
 fn a_real_file_is_made_new_or_stays(rt: HostRuntime) -> Result<(), Fail> {
     const OLD: &str = "make_test_old";
+    const NEW: &str = "make_test_new";
     fs::write(&rt, OLD, b"kept".as_slice())?;
-    let mut files = RealFiles::new(&rt);
-    let ended = run(rt.alloc(), "psr_make --spectra 0 make_test_old", &mut files)?;
-    assert_eq!(rt; ended.status, 11);
-    assert_eq!(rt; ended.notes.as_slice(), b"record fault\n".as_slice());
-    assert_eq!(rt; fs::read(&rt, OLD)?.as_slice(), b"kept".as_slice());
-    fs::remove_file(&rt, OLD)?;
-    let mut files = RealFiles::new(&rt);
-    let ended = run(
-        rt.alloc(),
-        "psr_make --nchan 2 --spectra 20 --delay 3 --period 5 make_test_old",
-        &mut files,
-    )?;
-    assert_eq!(rt; ended.status, 0);
-    if SMALL_SPEC.in_range() {
-        let whole = make_bytes(rt.alloc(), &SMALL_SPEC)?;
-        assert_eq!(rt; fs::read(&rt, OLD)?.as_slice(), whole.as_slice());
+    let cases = [
+        ("psr_make --spectra 0 make_test_old", 11, "record fault\n"),
+        (
+            "psr_make --nchan 2 --spectra 20 --delay 3 --period 5 make_test_new",
+            0,
+            "",
+        ),
+    ];
+    for (line, status, notes) in cases {
+        let mut files = RealFiles::new(&rt);
+        let ended = run(rt.alloc(), line, &mut files)?;
+        assert_eq!(rt; ended.status, status, "{line}");
+        assert_eq!(rt; ended.notes.as_slice(), notes.as_bytes(), "{line}");
     }
-    fs::remove_file(&rt, OLD)?;
+    let whole = bytes_of(rt.alloc(), &SMALL_SPEC)?;
+    for (name, held) in [(OLD, b"kept".as_slice()), (NEW, whole.as_slice())] {
+        assert_eq!(rt; fs::read(&rt, name)?.as_slice(), held, "{name}");
+        fs::remove_file(&rt, name)?;
+    }
     Ok(())
 }
