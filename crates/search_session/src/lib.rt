@@ -1,5 +1,5 @@
-//! The session of a search: a feeder, the shards of a search and a recorder take turns over two rings, in hands that run
-//! beside each other.
+//! The session of a search: a feeder and the shards of a search take turns over two rings, in hands that run beside each
+//! other. The turn of a recorder stands beside it.
 //!
 //! A round of turns waits for nobody; rounds follow one another until all have ended. No call takes memory.
 #![tactic(auto)]
