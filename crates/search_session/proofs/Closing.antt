@@ -3,6 +3,7 @@ use Rattle.std.proofs.Common.{◌≡◌, ℕ, ◌<◌, List, length, Option, Som
 use Rattle.std.specs.Prelude.{All}
 use Rattle.std.proofs.lemmas.Option.{slice_get_within}
 use Rattle.psr_base.specs.Told.{Told}
+use Rattle.psr_base.specs.Made.{FilesSeen}
 use Rattle.dada_hdu.specs.declared.hdu.Hdu.{Hdu}
 use Rattle.disk_feeder.specs.Feeding.{IsEnding}
 use Rattle.disk_feeder.specs.Laws.{FeedersEnd}
@@ -22,30 +23,31 @@ use Rattle.search_session.specs.Sessions.{FeedAnswers, ShardAnswers, IsEndOf}
 use Rattle.search_session.proofs.Working.{feeder_stays, shard_stays, lanes_stay}
 use Rattle.search_session.proofs.Ending.{on_in, ended_in, of_lane_in, feeder_on, feed_answers, is_ending, cleared_at, searched}
 
-module _ {I : Type 0} (told : I → Told) (is_open is_calm : I → Type 0) (faults : I → ℕ) where
+module _ {I F : Type 0} (told : I → Told) (is_open is_calm : I → Type 0) (faults : I → ℕ) (files_open : F → Type 0)
+    (seen : F → FilesSeen) where
   -- the hands once all actors have ended
-  pub record AllEnded (hdu : Hdu) (start : FeedActor I) (lanes : List (Option Lane)) (hands : List (Hand I)) :
+  pub record AllEnded (hdu : Hdu) (start : FeedActor I) (lanes : List (Option Lane)) (hands : List (Hand I F)) :
       Type 0 where
-    pub on : All (HandOn told is_open hdu) hands
+    pub on : All (HandOn told is_open files_open hdu) hands
     pub ended : All HandEnded hands
     pub feeder : HasFeeder told is_calm faults start hands
     pub shards : (s : ℕ) → s < length lanes → HasShard hands s
     pub of_lanes : AreOfLanes lanes hands
 
-  pub all_ended : (hdu : Hdu) (start : FeedActor I) (lanes : List (Option Lane)) (old new : List (Hand I)) (n : ℕ) →
-      EachMoved (HandMoved told is_calm faults n) old new → HasFeeder told is_calm faults start old →
+  pub all_ended : (hdu : Hdu) (start : FeedActor I) (lanes : List (Option Lane)) (old new : List (Hand I F)) (n : ℕ) →
+      EachMoved (HandMoved told is_calm faults seen n) old new → HasFeeder told is_calm faults start old →
       ((s : ℕ) → s < length lanes → HasShard old s) → AreOfLanes lanes old →
-      All (HandOn told is_open hdu) new → All HandEnded new → AllEnded hdu start lanes new
+      All (HandOn told is_open files_open hdu) new → All HandEnded new → AllEnded hdu start lanes new
   all_ended hdu start lanes old new n moved feeder shards of on ended = record {
     on = on;
     ended = ended;
-    feeder = feeder_stays told is_calm faults n old new moved start feeder;
-    shards = λ s near. shard_stays told is_calm faults n old new moved s (shards s near);
-    of_lanes = lanes_stay told is_calm faults n old new moved lanes of;
+    feeder = feeder_stays told is_calm faults seen n old new moved start feeder;
+    shards = λ s near. shard_stays told is_calm faults seen n old new moved s (shards s near);
+    of_lanes = lanes_stay told is_calm faults seen n old new moved lanes of;
   }
 
   -- a session that ended
-  module _ (hdu : Hdu) (start : FeedActor I) (lanes : List (Option Lane)) (hands : List (Hand I))
+  module _ (hdu : Hdu) (start : FeedActor I) (lanes : List (Option Lane)) (hands : List (Hand I F))
       (transfers : ℕ) (unfed : (s : ℕ) → s < length lanes →
       (lane : Lane) × (slice_get lanes s ≡ Some (Some lane)) × IsUnfed transfers lane)
       (all : AllEnded hdu start lanes hands) where
@@ -56,11 +58,11 @@ module _ {I : Type 0} (told : I → Told) (is_open is_calm : I → Type 0) (faul
         let h = unfed (shard_number x) near in
         (of_lane_in lanes hands x all.of_lanes is h.0 h.1).count ∙ h.2.count
 
-    module _ (end : SessionEnd I) (feed : all.feeder.feeder.end ≡ Some end.feed)
+    module _ (end : SessionEnd I F) (feed : all.feeder.feeder.end ≡ Some end.feed)
         (inputs : end.inputs.now ≡ all.feeder.feeder.part.inputs.now)
         (sealed : sealed_at_end end.blocks ≡ sealed_blocks all.feeder.feeder.pass) where
       feeder_is_on : FeedOn told is_open hdu all.feeder.feeder
-      feeder_is_on = feeder_on told is_open hdu hands all.on all.feeder.hand all.feeder.feeder all.feeder.there
+      feeder_is_on = feeder_on told is_open files_open hdu hands all.on all.feeder.hand all.feeder.feeder all.feeder.there
           all.feeder.works
 
       pub feed_is : end.inputs.ghost_name ≡ all.feeder.feeder.part.inputs.ghost_name → has_end start.part ≡ None →
@@ -75,14 +77,14 @@ module _ {I : Type 0} (told : I → Told) (is_open is_calm : I → Type 0) (faul
         cleared = λ s near.
             let e = ends s near in
             let h = unfed s near in
-            cleared_at hdu transfers lanes end ending s e.0 e.2 e.3 (on_in told is_open hdu hands all.on e.0 e.1)
+            cleared_at hdu transfers lanes end ending s e.0 e.2 e.3 (on_in told is_open files_open hdu hands all.on e.0 e.1)
             (ended_in hands e.0 all.ended e.1) (of_lane_in lanes hands e.0 all.of_lanes e.1) h.0 h.1 h.2.count;
         searched = λ bytes whole transfer s lane e o at has stands.
             let near = slice_get_within lanes s (Some lane) at in
             let x = ends s near in
             let h = unfed s near in
             let same : h.0 ≡ lane = inside h.0 lane (sym h.1 ∙ at) in
-            searched hdu transfers lanes end ending s x.0 x.2 x.3 (on_in told is_open hdu hands all.on x.0 x.1)
+            searched hdu transfers lanes end ending s x.0 x.2 x.3 (on_in told is_open files_open hdu hands all.on x.0 x.1)
             (ended_in hands x.0 all.ended x.1) (of_lane_in lanes hands x.0 all.of_lanes x.1) lane at
             (ap (λ (l : Lane). length l.engines.items) (sym same) ∙ h.2.count) bytes whole transfer e o has stands;
       }

@@ -49,37 +49,37 @@ if_some : {A : Type 0} (P : A → Type 0) (slot : Option A) (x : A) → slot ≡
 if_some P None x is holds = absurd cc
 if_some P (Some y) x is holds = let same : y ≡ x = cc in subst P same holds
 
-module _ {I : Type 0} where
-  all_slots : (P : ShardActor → Type 0) (hands : List (Hand I)) (x : ShardActor) →
+module _ {I F : Type 0} where
+  all_slots : (P : ShardActor → Type 0) (hands : List (Hand I F)) (x : ShardActor) →
       All (λ h. All (λ slot. IfSome slot P) h.shards.items) hands → IsIn hands x → P x
   all_slots P hands x all is =
       all_at (λ slot. IfSome slot P) is.hand.shards.items is.place (Some x) is.works
-      (all_at (λ (h : Hand I). All (λ slot. IfSome slot P) h.shards.items) hands is.hand_place is.hand is.there all)
+      (all_at (λ (h : Hand I F). All (λ slot. IfSome slot P) h.shards.items) hands is.hand_place is.hand is.there all)
 
-  pub ended_in : (hands : List (Hand I)) (x : ShardActor) → All HandEnded hands → IsIn hands x → x.ended ≡ true
+  pub ended_in : (hands : List (Hand I F)) (x : ShardActor) → All HandEnded hands → IsIn hands x → x.ended ≡ true
   ended_in hands x ended is = all_slots (λ y. y.ended ≡ true) hands x
       (All-weaker HandEnded (λ h. All (λ slot. IfSome slot (λ y. y.ended ≡ true)) h.shards.items) (λ h e. e.shards)
       hands ended) is
 
-  pub of_lane_in : (lanes : List (Option Lane)) (hands : List (Hand I)) (x : ShardActor) → AreOfLanes lanes hands →
+  pub of_lane_in : (lanes : List (Option Lane)) (hands : List (Hand I F)) (x : ShardActor) → AreOfLanes lanes hands →
       IsIn hands x → IsOfLane lanes x
   of_lane_in lanes hands x of is = all_slots (IsOfLane lanes) hands x of is
 
-  pub feeder_ended : (hands : List (Hand I)) (h : Hand I) (f : FeedActor I) → All HandEnded hands →
+  pub feeder_ended : (hands : List (Hand I F)) (h : Hand I F) (f : FeedActor I) → All HandEnded hands →
       slice_get hands 0 ≡ Some h → h.feeder ≡ Some f → IsSome f.end
   feeder_ended hands h f ended at works =
       if_some (λ (x : FeedActor I). IsSome x.end) h.feeder f works (all_at HandEnded hands 0 h at ended).feeder
 
-module _ {I : Type 0} (told : I → Told) (is_open : I → Type 0) (hdu : Hdu) (hands : List (Hand I))
-    (on : All (HandOn told is_open hdu) hands) where
+module _ {I F : Type 0} (told : I → Told) (is_open : I → Type 0) (files_open : F → Type 0) (hdu : Hdu)
+    (hands : List (Hand I F)) (on : All (HandOn told is_open files_open hdu) hands) where
   pub on_in : (x : ShardActor) → IsIn hands x → ShardOn hdu x
-  on_in x is = all_slots (ShardOn hdu) hands x (All-weaker (HandOn told is_open hdu)
+  on_in x is = all_slots (ShardOn hdu) hands x (All-weaker (HandOn told is_open files_open hdu)
       (λ h. All (λ slot. IfSome slot (ShardOn hdu)) h.shards.items) (λ h o. o.shards) hands on) is
 
-  pub feeder_on : (h : Hand I) (f : FeedActor I) → slice_get hands 0 ≡ Some h → h.feeder ≡ Some f →
+  pub feeder_on : (h : Hand I F) (f : FeedActor I) → slice_get hands 0 ≡ Some h → h.feeder ≡ Some f →
       FeedOn told is_open hdu f
   feeder_on h f at works = if_some (FeedOn told is_open hdu) h.feeder f works
-      (all_at (HandOn told is_open hdu) hands 0 h at on).feeder
+      (all_at (HandOn told is_open files_open hdu) hands 0 h at on).feeder
 
 -- ---- the feeder's end
 
@@ -93,9 +93,9 @@ since_now f k running faultless = record {
   end_quiet = λ stop end other. refl;
 }
 
-module _ {I : Type 0} (told : I → Told) (is_open is_calm : I → Type 0) (faults : I → ℕ) (hdu : Hdu)
+module _ {I F : Type 0} (told : I → Told) (is_open is_calm : I → Type 0) (faults : I → ℕ) (hdu : Hdu)
     (start f : FeedActor I) (n : ℕ) (moved : FeedMoved told is_calm faults n start f) (on : FeedOn told is_open hdu f)
-    (end : SessionEnd I) (feed : f.end ≡ Some end.feed) (inputs : end.inputs.now ≡ f.part.inputs.now)
+    (end : SessionEnd I F) (feed : f.end ≡ Some end.feed) (inputs : end.inputs.now ≡ f.part.inputs.now)
     (sealed : sealed_at_end end.blocks ≡ sealed_blocks f.pass) where
   part_end : has_end f.part ≡ Some end.feed
   part_end = sym on.end ∙ feed
@@ -164,7 +164,7 @@ book_is o bytes e f same searched = searched.book
     ∙ ap (λ (k : ℕ). book_of e.search.max_candidates (shard_part e.search k (candidates_of o e.search bytes)))
     same.shard)
 
-module _ {I : Type 0} (hdu : Hdu) (transfers : ℕ) (lanes : List (Option Lane)) (end : SessionEnd I)
+module _ {I F : Type 0} (hdu : Hdu) (transfers : ℕ) (lanes : List (Option Lane)) (end : SessionEnd I F)
     (ending : IsEnding transfers (sealed_at_end end.blocks) end.feed) (s : ℕ) (x : ShardActor)
     (number : shard_number x ≡ s) (is_end : IsEndOf end s x) (on : ShardOn hdu x) (ended : x.ended ≡ true)
     (of : IsOfLane lanes x) (lane : Lane) (at : HasLane lanes s lane)

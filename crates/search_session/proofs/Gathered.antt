@@ -40,45 +40,45 @@ slot_stays old new n k x y gives at other =
         sym (ap shard_number (first (sym gives.there
         ∙ (ap (λ (j : ℕ). slice_get old j) (sym same) ∙ at)))) ∙ gives.is
 
-module _ {I : Type 0} where
+module _ {I F : Type 0} where
   -- a list of hands of which one was written: what is at a place
-  set_at : (old new : List (Hand I)) (place k : ℕ) (after h : Hand I) → new ≡ slice_set old place after →
+  set_at : (old new : List (Hand I F)) (place k : ℕ) (after h : Hand I F) → new ≡ slice_set old place after →
       place < length old → slice_get new k ≡ Some h →
       ((k ≡ place) × (h ≡ after)) ⊎ ((k ≢ place) × (slice_get old k ≡ Some h))
   set_at old new place k after h is near at = dite (ℕ_discrete k place)
       (λ same. inl (
         same,
-        first (sym at ∙ (ap (λ (l : List (Hand I)). slice_get l k) is
+        first (sym at ∙ (ap (λ (l : List (Hand I F)). slice_get l k) is
             ∙ (ap (λ (j : ℕ). slice_get (slice_set old place after) j) same ∙ get_set_same old place after near))),
       ))
       (λ other. inr (
         other,
         sym (get_set_other old place k after other)
-            ∙ (ap (λ (l : List (Hand I)). slice_get l k) (sym is) ∙ at),
+            ∙ (ap (λ (l : List (Hand I F)). slice_get l k) (sym is) ∙ at),
       ))
     where
       first : Some h ≡ Some after → h ≡ after
       first e = cc
 
   -- what is at a place was there, or is what was written
-  pub put_at : (old new : List (Hand I)) (place k : ℕ) (after h : Hand I) → new ≡ slice_set old place after →
+  pub put_at : (old new : List (Hand I F)) (place k : ℕ) (after h : Hand I F) → new ≡ slice_set old place after →
       slice_get old k ≡ Some h → k ≢ place → slice_get new k ≡ Some h
   put_at old new place k after h is at other =
-      ap (λ (l : List (Hand I)). slice_get l k) is ∙ (get_set_other old place k after other ∙ at)
+      ap (λ (l : List (Hand I F)). slice_get l k) is ∙ (get_set_other old place k after other ∙ at)
 
-  pub put_here : (old new : List (Hand I)) (place k : ℕ) (after : Hand I) → new ≡ slice_set old place after →
+  pub put_here : (old new : List (Hand I F)) (place k : ℕ) (after : Hand I F) → new ≡ slice_set old place after →
       place < length old → k ≡ place → slice_get new k ≡ Some after
   put_here old new place k after is near same =
-      ap (λ (l : List (Hand I)). slice_get l k) is
+      ap (λ (l : List (Hand I F)). slice_get l k) is
       ∙ (ap (λ (j : ℕ). slice_get (slice_set old place after) j) same ∙ get_set_same old place after near)
 
-  pub count_same : (old new : List (Hand I)) (place : ℕ) (after : Hand I) → new ≡ slice_set old place after →
+  pub count_same : (old new : List (Hand I F)) (place : ℕ) (after : Hand I F) → new ≡ slice_set old place after →
       length new ≡ length old
-  count_same old new place after is = ap (λ (l : List (Hand I)). length l) is ∙ length-set old place after
+  count_same old new place after is = ap (λ (l : List (Hand I F)). length l) is ∙ length-set old place after
 
   -- ---- the hands
 
-  module _ (old new : List (Hand I)) (place number : ℕ) (x : ShardActor) (leaves : LeavesHand old place number x new)
+  module _ (old new : List (Hand I F)) (place number : ℕ) (x : ShardActor) (leaves : LeavesHand old place number x new)
     where
       near : place < length old
       near = slice_get_within old place leaves.before leaves.there
@@ -100,7 +100,7 @@ module _ {I : Type 0} where
           there = leaves.there;
           place = is.place;
           works = slot_was leaves.before.shards.items leaves.after.shards.items number is.place x y leaves.gives
-              (subst (λ (g : Hand I). slice_get g.shards.items is.place ≡ Some (Some y)) h.1 is.works);
+              (subst (λ (g : Hand I F). slice_get g.shards.items is.place ≡ Some (Some y)) h.1 is.works);
         }
         | inr h ↦ record {
           hand_place = is.hand_place;
@@ -116,7 +116,7 @@ module _ {I : Type 0} where
           let count = count_same old new place leaves.after leaves.hands in
           dite (ℕ_discrete ((s + 1) % length old) place) (here count) (elsewhere count)
         where
-          at_new : length new ≡ length old → (h : Hand I) → slice_get new ((s + 1) % length old) ≡ Some h →
+          at_new : length new ≡ length old → (h : Hand I F) → slice_get new ((s + 1) % length old) ≡ Some h →
               slice_get new ((s + 1) % length new) ≡ Some h
           at_new count h at = subst (λ (n : ℕ). slice_get new ((s + 1) % n) ≡ Some h) (sym count) at
 
@@ -131,7 +131,7 @@ module _ {I : Type 0} where
             number = has.number;
           }
 
-          first : (g h : Hand I) → Some g ≡ Some h → g ≡ h
+          first : (g h : Hand I F) → Some g ≡ Some h → g ≡ h
           first g h e = cc
 
           here : length new ≡ length old → (s + 1) % length old ≡ place → HasShard new s
@@ -145,14 +145,14 @@ module _ {I : Type 0} where
                 shard = has.shard;
                 place = has.place;
                 works = slot_stays leaves.before.shards.items leaves.after.shards.items number has.place x has.shard
-                    leaves.gives (subst (λ (g : Hand I). slice_get g.shards.items has.place ≡ Some (Some has.shard))
+                    leaves.gives (subst (λ (g : Hand I F). slice_get g.shards.items has.place ≡ Some (Some has.shard))
                     before_is has.works) (λ same'. other (sym has.number ∙ same'));
                 number = has.number;
               }
 
   -- ---- the feeder leaves
 
-  module _ (old new : List (Hand I)) (feeder : FeedActor I) (gives : GivesFeeder old feeder new) where
+  module _ (old new : List (Hand I F)) (feeder : FeedActor I) (gives : GivesFeeder old feeder new) where
     near_first : 0 < length old
     near_first = slice_get_within old 0 gives.before gives.there
 
@@ -164,7 +164,7 @@ module _ {I : Type 0} where
         there = gives.there;
         place = is.place;
         works = subst (λ shards. slice_get shards.items is.place ≡ Some (Some y)) gives.shards
-            (subst (λ (g : Hand I). slice_get g.shards.items is.place ≡ Some (Some y)) h.1 is.works);
+            (subst (λ (g : Hand I F). slice_get g.shards.items is.place ≡ Some (Some y)) h.1 is.works);
       }
       | inr h ↦ record {
         hand_place = is.hand_place;
@@ -180,7 +180,7 @@ module _ {I : Type 0} where
         let count = count_same old new 0 gives.after gives.hands in
         dite (ℕ_discrete ((s + 1) % length old) 0) (here count) (elsewhere count)
       where
-        at_new : length new ≡ length old → (h : Hand I) → slice_get new ((s + 1) % length old) ≡ Some h →
+        at_new : length new ≡ length old → (h : Hand I F) → slice_get new ((s + 1) % length old) ≡ Some h →
             slice_get new ((s + 1) % length new) ≡ Some h
         at_new count h at = subst (λ (n : ℕ). slice_get new ((s + 1) % n) ≡ Some h) (sym count) at
 
@@ -195,7 +195,7 @@ module _ {I : Type 0} where
           number = has.number;
         }
 
-        first : (g h : Hand I) → Some g ≡ Some h → g ≡ h
+        first : (g h : Hand I F) → Some g ≡ Some h → g ≡ h
         first g h e = cc
 
         here : length new ≡ length old → (s + 1) % length old ≡ 0 → HasShard new s
@@ -209,14 +209,14 @@ module _ {I : Type 0} where
               shard = has.shard;
               place = has.place;
               works = subst (λ shards. slice_get shards.items has.place ≡ Some (Some has.shard)) (sym gives.shards)
-                  (subst (λ (g : Hand I). slice_get g.shards.items has.place ≡ Some (Some has.shard)) before_is
+                  (subst (λ (g : Hand I F). slice_get g.shards.items has.place ≡ Some (Some has.shard)) before_is
                   has.works);
               number = has.number;
             }
 
   -- ---- one more is gathered
 
-  pub gathered_more : (hands : List (Hand I)) (n : ℕ) (shards : List (Option ShardActor)) (x : ShardActor) →
+  pub gathered_more : (hands : List (Hand I F)) (n : ℕ) (shards : List (Option ShardActor)) (x : ShardActor) →
       AreGathered hands n shards → shard_number x ≡ n → IsIn hands x →
       AreGathered hands (n + 1) (shards ++ Some x ∷ [])
   gathered_more hands n shards x so_far number is = record {

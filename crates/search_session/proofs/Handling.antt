@@ -6,15 +6,19 @@ use Rattle.std.proofs.lemmas.List.Elements.{at_read}
 use mathlib.Core.Logic.{dite}
 use native.Mathlib.Decide.{ℕ_discrete}
 use Rattle.psr_base.specs.Told.{Told}
+use Rattle.psr_base.specs.Made.{FilesSeen}
 use Rattle.dada_hdu.specs.declared.hdu.Hdu.{Hdu}
 use Rattle.search_session.specs.declared.feed.FeedActor.{FeedActor}
 use Rattle.search_session.specs.declared.shard.ShardActor.{ShardActor}
+use Rattle.search_session.specs.declared.record.RecordActor.{RecordActor}
 use Rattle.search_session.specs.declared.hand.Hand.{Hand}
 use Rattle.search_session.specs.Shards.{ShardOn, ShardMoved}
 use Rattle.search_session.specs.Feeds.{FeedOn, FeedMoved}
+use Rattle.search_session.specs.Records.{RecordOn, RecordMoved}
 use Rattle.search_session.specs.Hands.{SlotMoved, EachMoved, FirstMoved, ShardsOn, ShardsMoved, HandOn, HandMoved}
 use Rattle.search_session.proofs.Moves.{shard_none, shard_more, slot_more, each_more}
 use Rattle.search_session.proofs.Feeding.{feed_none, feed_more}
+use Rattle.search_session.proofs.Recording.{record_none, record_more}
 
 -- ---- the elements of a list move one after another
 
@@ -75,29 +79,42 @@ module _ {I : Type 0} (told : I → Told) (is_open is_calm : I → Type 0) (faul
   feeder_none hdu None on = tt
   feeder_none hdu (Some f) on = feed_none told is_calm faults f on.count
 
-  pub hand_none : (hdu : Hdu) (h : Hand I) → HandOn told is_open hdu h → HandMoved told is_calm faults 0 h h
+module _ {F : Type 0} (files_open : F → Type 0) (seen : F → FilesSeen) where
+  pub recorder_none : (hdu : Hdu) (slot : Option (RecordActor F)) → IfSome slot (RecordOn files_open hdu) →
+      SlotMoved (RecordMoved seen 0) slot slot
+  recorder_none hdu None on = tt
+  recorder_none hdu (Some x) on = record_none seen x on.count
+
+module _ {I F : Type 0} (told : I → Told) (is_open is_calm : I → Type 0) (faults : I → ℕ) (files_open : F → Type 0)
+    (seen : F → FilesSeen) where
+  pub hand_none : (hdu : Hdu) (h : Hand I F) → HandOn told is_open files_open hdu h →
+      HandMoved told is_calm faults seen 0 h h
   hand_none hdu h on = record {
-    feeder = feeder_none hdu h.feeder on.feeder;
+    feeder = feeder_none told is_open is_calm faults hdu h.feeder on.feeder;
     shards = shards_none hdu h.shards.items on.shards;
+    recorder = recorder_none files_open seen hdu h.recorder on.recorder;
   }
 
-  pub hand_more : (n m : ℕ) (f g h : Hand I) → HandMoved told is_calm faults n f g →
-      HandMoved told is_calm faults m g h → HandMoved told is_calm faults (n + m) f h
+  pub hand_more : (n m : ℕ) (f g h : Hand I F) → HandMoved told is_calm faults seen n f g →
+      HandMoved told is_calm faults seen m g h → HandMoved told is_calm faults seen (n + m) f h
   hand_more n m f g h first second = record {
     feeder = slot_more (FeedMoved told is_calm faults n) (FeedMoved told is_calm faults m)
         (FeedMoved told is_calm faults (n + m)) (feed_more told is_calm faults n m) f.feeder g.feeder h.feeder
         first.feeder second.feeder;
     shards = shards_more n m f.shards.items g.shards.items h.shards.items first.shards second.shards;
+    recorder = slot_more (RecordMoved seen n) (RecordMoved seen m) (RecordMoved seen (n + m)) (record_more seen n m)
+        f.recorder g.recorder h.recorder first.recorder second.recorder;
   }
 
-  pub hands_none : (hdu : Hdu) (hands : List (Hand I)) → All (HandOn told is_open hdu) hands →
-      EachMoved (HandMoved told is_calm faults 0) hands hands
+  pub hands_none : (hdu : Hdu) (hands : List (Hand I F)) → All (HandOn told is_open files_open hdu) hands →
+      EachMoved (HandMoved told is_calm faults seen 0) hands hands
   hands_none hdu hands on = record {
     count = refl;
     each = λ k d near. hand_none hdu (slice_index_or hands k d) (on k d near);
   }
 
-  pub hands_more : (n m : ℕ) (xs ys zs : List (Hand I)) → EachMoved (HandMoved told is_calm faults n) xs ys →
-      EachMoved (HandMoved told is_calm faults m) ys zs → EachMoved (HandMoved told is_calm faults (n + m)) xs zs
-  hands_more n m = each_more (HandMoved told is_calm faults n) (HandMoved told is_calm faults m)
-      (HandMoved told is_calm faults (n + m)) (hand_more n m)
+  pub hands_more : (n m : ℕ) (xs ys zs : List (Hand I F)) → EachMoved (HandMoved told is_calm faults seen n) xs ys →
+      EachMoved (HandMoved told is_calm faults seen m) ys zs →
+      EachMoved (HandMoved told is_calm faults seen (n + m)) xs zs
+  hands_more n m = each_more (HandMoved told is_calm faults seen n) (HandMoved told is_calm faults seen m)
+      (HandMoved told is_calm faults seen (n + m)) (hand_more n m)

@@ -1,22 +1,27 @@
 -- The actors of a session come to their hands.
-use Rattle.std.proofs.Common.{◌≡◌, ℕ, ◌+◌, ◌%◌, ◌<◌, ◌≤◌, List, [], ◌∷◌, length, length-append, Option, Some, None, slice_get, drop, slice_index_or, refl, sym, ap, ◌∙◌, subst, arith}
+use Rattle.std.proofs.Common.{◌≡◌, ℕ, ◌+◌, ◌%◌, ◌<◌, ◌≤◌, List, [], ◌∷◌, length, length-append, Option, Some, None, slice_get, slice_set, drop, slice_index_or, refl, sym, ap, ◌∙◌, subst, arith}
 use Rattle.std.specs.Prelude.{All, IfSome, IsSomeAnd}
 use Rattle.std.proofs.lemmas.List.Elements.{All-set, All-push, All-weaker}
 use Rattle.std.proofs.lemmas.Option.{slice_get_within, slice_get-get_or, get_or_from_slice_get}
 use mathlib.Core.Logic.{dite}
 use native.Mathlib.Decide.{ℕ_discrete}
 use Rattle.psr_base.specs.Told.{Told}
+use Rattle.psr_base.specs.Made.{FilesSeen}
 use Rattle.dada_hdu.specs.declared.hdu.Hdu.{Hdu}
+use Rattle.dada_recorder.specs.declared.recorder.Recorder.{Recorder}
 use Rattle.search_session.specs.declared.lane.Lane.{Lane}
 use Rattle.search_session.specs.declared.feed.FeedActor.{FeedActor}
 use Rattle.search_session.specs.declared.shard.ShardActor.{ShardActor}
+use Rattle.search_session.specs.declared.record.RecordActor.{RecordActor}
 use Rattle.search_session.specs.declared.hand.Hand.{Hand}
 use Rattle.search_session.specs.Shards.{shard_cleared, ShardOn, EnginesFollow}
 use Rattle.search_session.specs.Feeds.{FeedOn}
+use Rattle.search_session.specs.Records.{RecordOn}
 use Rattle.search_session.specs.Hands.{HandOn}
-use Rattle.search_session.specs.Stages.{IsEmptyHand, IsShardOf, IsOfLane, AreOfLanes, HasShard, HasFeeder, TakesShard, TakesFeeder, AreStaffed}
+use Rattle.search_session.specs.Stages.{IsEmptyHand, IsShardOf, IsRecorderOf, IsOfLane, AreOfLanes, HasShard, HasFeeder, HasRecorder, RecorderWorks, TakesShard, TakesFeeder, TakesRecorder, RecorderPlaced, AreStaffed}
 use Rattle.search_session.proofs.Engines.{follow_still}
 use Rattle.search_session.proofs.Feeding.{feed_none}
+use Rattle.search_session.proofs.Recording.{record_none}
 use Rattle.search_session.proofs.Rows.{removed, longer, at_end}
 use Rattle.search_session.proofs.Gathered.{put_at, put_here, count_same}
 
@@ -55,26 +60,97 @@ module _ {X : Type 0} (P : X → Type 0) (all left : List (Option X)) (s : ℕ) 
   pub taken_there : r ≡ None → ⊥
   taken_there none = some_there P r r_holds none
 
+-- ---- one hand changes, and what it holds of one kind stays
+
+module _ {I F : Type 0} (old new : List (Hand I F)) (place : ℕ) where
+  pub all_kept : (after : Hand I F) → new ≡ slice_set old place after → (P : Hand I F → Type 0) → All P old →
+      P after → All P new
+  all_kept after is P was now = subst (λ (l : List (Hand I F)). All P l) (sym is) (All-set P old place after now was)
+
+  module _ (before after : Hand I F) (there : slice_get old place ≡ Some before) (is : new ≡ slice_set old place after)
+    where
+      -- a hand at a place, where it may be the one that changed
+      at_place : (P : Hand I F → Type 0) → (P before → P after) → (k : ℕ) (h : Hand I F) → slice_get old k ≡ Some h →
+          P h → (g : Hand I F) × (slice_get new k ≡ Some g) × P g
+      at_place P keep k h at holds = dite (ℕ_discrete k place)
+          (λ same. (
+            after,
+            put_here old new place k after is (slice_get_within old place before there) same,
+            keep (subst P (first h before (sym at ∙ (ap (λ (j : ℕ). slice_get old j) same ∙ there))) holds),
+          ))
+          (λ other. (h, put_at old new place k after h is at other, holds))
+        where
+          first : (g h : Hand I F) → Some g ≡ Some h → g ≡ h
+          first g h e = cc
+
+      count_kept : length new ≡ length old
+      count_kept = count_same old new place after is
+
+      pub shard_kept : after.shards ≡ before.shards → (s : ℕ) → HasShard old s → HasShard new s
+      shard_kept same s has =
+          let works = λ (h : Hand I F). slice_get h.shards.items has.place ≡ Some (Some has.shard) in
+          let g = at_place works (λ here. subst (λ shards. slice_get shards.items has.place ≡ Some (Some has.shard))
+          (sym same) here) ((s + 1) % length old) has.hand has.there has.works in
+          record {
+            hand = g.0;
+            there = subst (λ (k : ℕ). slice_get new ((s + 1) % k) ≡ Some g.0) (sym count_kept) g.1;
+            shard = has.shard;
+            place = has.place;
+            works = g.2;
+            number = has.number;
+          }
+
+      pub lanes_kept : after.shards ≡ before.shards → (lanes : List (Option Lane)) → AreOfLanes lanes old →
+          AreOfLanes lanes new
+      lanes_kept same lanes of =
+          all_kept after is (λ h. All (λ slot. IfSome slot (IsOfLane lanes)) h.shards.items) of
+          (subst (λ shards. All (λ slot. IfSome slot (IsOfLane lanes)) shards.items) (sym same)
+          (all_at (λ (h : Hand I F). All (λ slot. IfSome slot (IsOfLane lanes)) h.shards.items) old place before there
+          of))
+
+      recorder_kept : after.recorder ≡ before.recorder → (seen : F → FilesSeen) (start : RecordActor F) →
+          HasRecorder seen start old → HasRecorder seen start new
+      recorder_kept same seen start has =
+          let g = at_place (λ (h : Hand I F). h.recorder ≡ Some has.recorder) (λ here. same ∙ here) (8 % length old)
+          has.hand has.there has.works in
+          record {
+            turns = has.turns;
+            hand = g.0;
+            there = subst (λ (k : ℕ). slice_get new (8 % k) ≡ Some g.0) (sym count_kept) g.1;
+            recorder = has.recorder;
+            works = g.2;
+            moved = has.moved;
+          }
+
+      pub works_kept : after.recorder ≡ before.recorder → (seen : F → FilesSeen) (recorder : Option (Recorder F))
+          (number : ℕ) → RecorderWorks seen recorder number old → RecorderWorks seen recorder number new
+      works_kept same seen None number none = all_kept after is (λ h. h.recorder ≡ None) none
+          (same ∙ all_at (λ (h : Hand I F). h.recorder ≡ None) old place before there none)
+      works_kept same seen (Some part) number works = (works.0, works.1, recorder_kept same seen works.0 works.2)
+
 -- ---- empty hands
 
-module _ {I : Type 0} (told : I → Told) (is_open : I → Type 0) (hdu : Hdu) (lanes : List (Option Lane)) where
-  none_if : (slot : Option (FeedActor I)) → slot ≡ None → IfSome slot (FeedOn told is_open hdu)
-  none_if None is = tt
-  none_if (Some f) is = absurd cc
+none_if : {A : Type 0} (P : A → Type 0) (slot : Option A) → slot ≡ None → IfSome slot P
+none_if P None is = tt
+none_if P (Some x) is = absurd cc
 
-  none_all : {A : Type 0} (P : A → Type 0) (xs : List A) → xs ≡ [] → All P xs
-  none_all P xs is = λ k d near. let none : length xs ≡ 0 = ap length is in absurd (omega arith)
+none_all : {A : Type 0} (P : A → Type 0) (xs : List A) → xs ≡ [] → All P xs
+none_all P xs is = λ k d near. let none : length xs ≡ 0 = ap length is in absurd (omega arith)
 
-  empty_on : (h : Hand I) → IsEmptyHand h → HandOn told is_open hdu h
+module _ {I F : Type 0} (told : I → Told) (is_open : I → Type 0) (files_open : F → Type 0) (hdu : Hdu)
+    (lanes : List (Option Lane)) where
+  empty_on : (h : Hand I F) → IsEmptyHand h → HandOn told is_open files_open hdu h
   empty_on h empty = record {
-    feeder = none_if h.feeder empty.feeder;
+    feeder = none_if (FeedOn told is_open hdu) h.feeder empty.feeder;
     shards = none_all (λ slot. IfSome slot (ShardOn hdu)) h.shards.items empty.shards;
+    recorder = none_if (RecordOn files_open hdu) h.recorder empty.recorder;
   }
 
-  pub staffed_none : (hands : List (Hand I)) → All IsEmptyHand hands →
-      AreStaffed told is_open hdu lanes 0 (length hands) hands
+  pub staffed_none : (hands : List (Hand I F)) → All IsEmptyHand hands →
+      AreStaffed told is_open files_open hdu lanes 0 (length hands) hands
   staffed_none hands empty = record {
-    on = All-weaker IsEmptyHand (HandOn told is_open hdu) empty_on hands empty;
+    on = All-weaker IsEmptyHand (HandOn told is_open files_open hdu) empty_on hands empty;
+    no_recorder = All-weaker IsEmptyHand (λ h. h.recorder ≡ None) (λ h e. e.recorder) hands empty;
     few = All-weaker IsEmptyHand (λ h. length h.shards.items ≤ 0) (λ h e. let none : length h.shards.items ≡ 0 =
         ap length e.shards in omega arith) hands empty;
     count_is = refl;
@@ -96,8 +172,8 @@ module _ {I : Type 0} (told : I → Told) (is_open : I → Type 0) (hdu : Hdu) (
       inside : (a b : Lane) → Some (Some a) ≡ Some (Some b) → a ≡ b
       inside a b e = cc
 
-  module _ (old new : List (Hand I)) (n count : ℕ) (x : ShardActor) (lane : Lane)
-      (staffed : AreStaffed told is_open hdu lanes n count old) (takes : TakesShard old ((n + 1) % length old) x new)
+  module _ (old new : List (Hand I F)) (n count : ℕ) (x : ShardActor) (lane : Lane)
+      (staffed : AreStaffed told is_open files_open hdu lanes n count old) (takes : TakesShard old ((n + 1) % length old) x new)
       (at : slice_get lanes n ≡ Some (Some lane)) (fresh : IsShardOf lane n x) (on : ShardOn hdu x) where
     near : (n + 1) % length old < length old
     near = slice_get_within old ((n + 1) % length old) takes.before takes.there
@@ -105,25 +181,31 @@ module _ {I : Type 0} (told : I → Told) (is_open : I → Type 0) (hdu : Hdu) (
     same_count : length new ≡ length old
     same_count = count_same old new ((n + 1) % length old) takes.after takes.hands
 
-    all_new : (P : Hand I → Type 0) → All P old → P takes.after → All P new
-    all_new P was now = subst (λ (l : List (Hand I)). All P l) (sym takes.hands)
+    all_new : (P : Hand I F → Type 0) → All P old → P takes.after → All P new
+    all_new P was now = subst (λ (l : List (Hand I F)). All P l) (sym takes.hands)
         (All-set P old ((n + 1) % length old) takes.after now was)
 
-    before_on : HandOn told is_open hdu takes.before
-    before_on = all_at (HandOn told is_open hdu) old ((n + 1) % length old) takes.before takes.there staffed.on
+    before_on : HandOn told is_open files_open hdu takes.before
+    before_on = all_at (HandOn told is_open files_open hdu) old ((n + 1) % length old) takes.before takes.there staffed.on
 
-    after_on : HandOn told is_open hdu takes.after
+    after_on : HandOn told is_open files_open hdu takes.after
     after_on = record {
       feeder = subst (λ (slot : Option (FeedActor I)). IfSome slot (FeedOn told is_open hdu)) (sym takes.feeder)
           before_on.feeder;
       shards = subst (λ (l : List (Option ShardActor)). All (λ slot. IfSome slot (ShardOn hdu)) l) (sym takes.shards)
           (All-push (λ slot. IfSome slot (ShardOn hdu)) takes.before.shards.items (Some x) before_on.shards on);
+      recorder = subst (λ (slot : Option (RecordActor F)). IfSome slot (RecordOn files_open hdu)) (sym takes.recorder)
+          before_on.recorder;
     }
+
+    after_none : takes.after.recorder ≡ None
+    after_none = takes.recorder ∙ all_at (λ (h : Hand I F). h.recorder ≡ None) old ((n + 1) % length old) takes.before
+        takes.there staffed.no_recorder
 
     after_few : length takes.after.shards.items ≤ n + 1
     after_few =
         let before : length takes.before.shards.items ≤ n =
-        all_at (λ (h : Hand I). length h.shards.items ≤ n) old ((n + 1) % length old) takes.before takes.there
+        all_at (λ (h : Hand I F). length h.shards.items ≤ n) old ((n + 1) % length old) takes.before takes.there
         staffed.few in
         let long = ap length takes.shards ∙ length-append takes.before.shards.items (Some x ∷ []) in
         omega arith
@@ -131,7 +213,7 @@ module _ {I : Type 0} (told : I → Told) (is_open : I → Type 0) (hdu : Hdu) (
     after_of : All (λ slot. IfSome slot (IsOfLane lanes)) takes.after.shards.items
     after_of = subst (λ (l : List (Option ShardActor)). All (λ slot. IfSome slot (IsOfLane lanes)) l) (sym takes.shards)
         (All-push (λ slot. IfSome slot (IsOfLane lanes)) takes.before.shards.items (Some x)
-        (all_at (λ (h : Hand I). All (λ slot. IfSome slot (IsOfLane lanes)) h.shards.items) old ((n + 1) % length old)
+        (all_at (λ (h : Hand I F). All (λ slot. IfSome slot (IsOfLane lanes)) h.shards.items) old ((n + 1) % length old)
         takes.before takes.there staffed.of_lanes) (some_lane x n lane at fresh))
 
     here : HasShard new n
@@ -159,7 +241,7 @@ module _ {I : Type 0} (told : I → Told) (is_open : I → Type 0) (hdu : Hdu) (
           place = has.place;
           works = ap (λ (l : List (Option ShardActor)). slice_get l has.place) takes.shards
               ∙ longer takes.before.shards.items (Some x ∷ []) has.place (Some has.shard)
-              (subst (λ (h : Hand I). slice_get h.shards.items has.place ≡ Some (Some has.shard)) before_is has.works);
+              (subst (λ (h : Hand I F). slice_get h.shards.items has.place ≡ Some (Some has.shard)) before_is has.works);
           number = has.number;
         })
         (λ other. record {
@@ -172,18 +254,19 @@ module _ {I : Type 0} (told : I → Told) (is_open : I → Type 0) (hdu : Hdu) (
           number = has.number;
         })
       where
-        first : (g h : Hand I) → Some g ≡ Some h → g ≡ h
+        first : (g h : Hand I F) → Some g ≡ Some h → g ≡ h
         first g h e = cc
 
-        at_new : (h : Hand I) → slice_get new ((s + 1) % length old) ≡ Some h →
+        at_new : (h : Hand I F) → slice_get new ((s + 1) % length old) ≡ Some h →
             slice_get new ((s + 1) % length new) ≡ Some h
         at_new h there = subst (λ (k : ℕ). slice_get new ((s + 1) % k) ≡ Some h) (sym same_count) there
 
-    pub staffed_more : AreStaffed told is_open hdu lanes (n + 1) count new
+    pub staffed_more : AreStaffed told is_open files_open hdu lanes (n + 1) count new
     staffed_more = record {
-      on = all_new (HandOn told is_open hdu) staffed.on after_on;
+      on = all_new (HandOn told is_open files_open hdu) staffed.on after_on;
       few = all_new (λ h. length h.shards.items ≤ n + 1) (All-weaker (λ h. length h.shards.items ≤ n)
           (λ h. length h.shards.items ≤ n + 1) (λ h few. omega arith) old staffed.few) after_few;
+      no_recorder = all_new (λ h. h.recorder ≡ None) staffed.no_recorder after_none;
       count_is = same_count ∙ staffed.count_is;
       placed = λ s before. dite (ℕ_discrete s n)
           (λ same. subst (λ (k : ℕ). HasShard new k) (sym same) here)
@@ -191,33 +274,90 @@ module _ {I : Type 0} (told : I → Told) (is_open : I → Type 0) (hdu : Hdu) (
       of_lanes = all_new (λ h. All (λ slot. IfSome slot (IsOfLane lanes)) h.shards.items) staffed.of_lanes after_of;
     }
 
+  -- ---- the recorder comes
+
+  -- the shards and the recorder work in these hands
+  pub record AreReady (seen : F → FilesSeen) (recorder : Option (Recorder F)) (n count : ℕ)
+      (hands : List (Hand I F)) : Type 0 where
+    pub on : All (HandOn told is_open files_open hdu) hands
+    pub count_is : length hands ≡ count
+    pub placed : (s : ℕ) → s < n → HasShard hands s
+    pub of_lanes : AreOfLanes lanes hands
+    pub works : RecorderWorks seen recorder n hands
+
+  module _ (seen : F → FilesSeen) (old new : List (Hand I F)) (n count : ℕ)
+      (staffed : AreStaffed told is_open files_open hdu lanes n count old) where
+    with_one : (part : Recorder F) (x : RecordActor F) → RecordOn files_open hdu x → IsRecorderOf part n x →
+        TakesRecorder old (8 % length old) x new → AreReady seen (Some part) n count new
+    with_one part x on fresh takes =
+        let before_on = all_at (HandOn told is_open files_open hdu) old (8 % length old) takes.before takes.there
+        staffed.on in
+        let same_count = count_same old new (8 % length old) takes.after takes.hands in
+        record {
+          on = all_kept old new (8 % length old) takes.after takes.hands (HandOn told is_open files_open hdu) staffed.on
+              (record {
+                feeder = subst (λ (slot : Option (FeedActor I)). IfSome slot (FeedOn told is_open hdu))
+                    (sym takes.feeder) before_on.feeder;
+                shards = subst (λ shards. All (λ slot. IfSome slot (ShardOn hdu)) shards.items) (sym takes.shards)
+                    before_on.shards;
+                recorder = subst (λ (slot : Option (RecordActor F)). IfSome slot (RecordOn files_open hdu))
+                    (sym takes.works) on;
+              });
+          count_is = same_count ∙ staffed.count_is;
+          placed = λ s near. shard_kept old new (8 % length old) takes.before takes.after takes.there takes.hands
+              takes.shards s (staffed.placed s near);
+          of_lanes = lanes_kept old new (8 % length old) takes.before takes.after takes.there takes.hands takes.shards
+              lanes staffed.of_lanes;
+          works = (
+            x,
+            fresh,
+            record {
+              turns = 0;
+              hand = takes.after;
+              there = subst (λ (k : ℕ). slice_get new (8 % k) ≡ Some takes.after) (sym same_count)
+                  (put_here old new (8 % length old) (8 % length old) takes.after takes.hands
+                  (slice_get_within old (8 % length old) takes.before takes.there) refl);
+              recorder = x;
+              works = takes.works;
+              moved = record_none seen x on.count;
+            },
+          );
+        }
+
+    pub ready : (recorder : Option (Recorder F)) → RecorderPlaced files_open hdu recorder n old new →
+        AreReady seen recorder n count new
+    ready None same = subst (λ (l : List (Hand I F)). AreReady seen None n count l) (sym same) (record {
+      on = staffed.on;
+      count_is = staffed.count_is;
+      placed = staffed.placed;
+      of_lanes = staffed.of_lanes;
+      works = staffed.no_recorder;
+    })
+    ready (Some part) placed = with_one part placed.0 placed.1 placed.2 placed.3
+
   -- ---- the feeder comes
 
-  module _ (is_calm : I → Type 0) (faults : I → ℕ) (old new : List (Hand I)) (n count : ℕ) (f : FeedActor I)
-      (staffed : AreStaffed told is_open hdu lanes n count old) (takes : TakesFeeder old f new)
+  module _ (is_calm : I → Type 0) (faults : I → ℕ) (seen : F → FilesSeen) (recorder : Option (Recorder F))
+      (old new : List (Hand I F)) (n count : ℕ) (f : FeedActor I)
+      (all : AreReady seen recorder n count old) (takes : TakesFeeder old f new)
       (on : FeedOn told is_open hdu f) where
     near_first : 0 < length old
     near_first = slice_get_within old 0 takes.before takes.there
 
-    count_first : length new ≡ length old
-    count_first = count_same old new 0 takes.after takes.hands
+    before_all : HandOn told is_open files_open hdu takes.before
+    before_all = all_at (HandOn told is_open files_open hdu) old 0 takes.before takes.there all.on
 
-    all_first : (P : Hand I → Type 0) → All P old → P takes.after → All P new
-    all_first P was now = subst (λ (l : List (Hand I)). All P l) (sym takes.hands)
-        (All-set P old 0 takes.after now was)
-
-    first_on : HandOn told is_open hdu takes.after
-    first_on = record {
+    pub fed_on : All (HandOn told is_open files_open hdu) new
+    fed_on = all_kept old new 0 takes.after takes.hands (HandOn told is_open files_open hdu) all.on (record {
       feeder = subst (λ (slot : Option (FeedActor I)). IfSome slot (FeedOn told is_open hdu)) (sym takes.works) on;
       shards = subst (λ shards. All (λ slot. IfSome slot (ShardOn hdu)) shards.items) (sym takes.shards)
-          (all_at (HandOn told is_open hdu) old 0 takes.before takes.there staffed.on).shards;
-    }
-
-    pub fed_on : All (HandOn told is_open hdu) new
-    fed_on = all_first (HandOn told is_open hdu) staffed.on first_on
+          before_all.shards;
+      recorder = subst (λ (slot : Option (RecordActor F)). IfSome slot (RecordOn files_open hdu)) (sym takes.recorder)
+          before_all.recorder;
+    })
 
     pub fed_some : 0 < length new
-    fed_some = let some = near_first in let count = count_first in omega arith
+    fed_some = let some = near_first in let count = count_same old new 0 takes.after takes.hands in omega arith
 
     pub fed_feeder : HasFeeder told is_calm faults f new
     fed_feeder = record {
@@ -230,43 +370,12 @@ module _ {I : Type 0} (told : I → Told) (is_open : I → Type 0) (hdu : Hdu) (
     }
 
     pub fed_of : AreOfLanes lanes new
-    fed_of = all_first (λ h. All (λ slot. IfSome slot (IsOfLane lanes)) h.shards.items) staffed.of_lanes
-        (subst (λ shards. All (λ slot. IfSome slot (IsOfLane lanes)) shards.items) (sym takes.shards)
-        (all_at (λ (h : Hand I). All (λ slot. IfSome slot (IsOfLane lanes)) h.shards.items) old 0 takes.before
-        takes.there staffed.of_lanes))
+    fed_of = lanes_kept old new 0 takes.before takes.after takes.there takes.hands takes.shards lanes all.of_lanes
 
     pub fed_shards : (s : ℕ) → s < n → HasShard new s
-    fed_shards s before = moved_to (staffed.placed s before)
-      where
-        first : (g h : Hand I) → Some g ≡ Some h → g ≡ h
-        first g h e = cc
+    fed_shards s near =
+        shard_kept old new 0 takes.before takes.after takes.there takes.hands takes.shards s (all.placed s near)
 
-        at_new : (h : Hand I) → slice_get new ((s + 1) % length old) ≡ Some h →
-            slice_get new ((s + 1) % length new) ≡ Some h
-        at_new h there = subst (λ (k : ℕ). slice_get new ((s + 1) % k) ≡ Some h) (sym count_first) there
-
-        moved_to : HasShard old s → HasShard new s
-        moved_to has = dite (ℕ_discrete ((s + 1) % length old) 0)
-            (λ same.
-            let before_is : has.hand ≡ takes.before = first has.hand takes.before (sym has.there
-            ∙ (ap (λ (k : ℕ). slice_get old k) same ∙ takes.there)) in
-            record {
-              hand = takes.after;
-              there = at_new takes.after (put_here old new 0 ((s + 1) % length old) takes.after takes.hands near_first
-                  same);
-              shard = has.shard;
-              place = has.place;
-              works = subst (λ shards. slice_get shards.items has.place ≡ Some (Some has.shard)) (sym takes.shards)
-                  (subst (λ (h : Hand I). slice_get h.shards.items has.place ≡ Some (Some has.shard)) before_is
-                  has.works);
-              number = has.number;
-            })
-            (λ other. record {
-              hand = has.hand;
-              there = at_new has.hand (put_at old new 0 ((s + 1) % length old) takes.after has.hand takes.hands
-                  has.there other);
-              shard = has.shard;
-              place = has.place;
-              works = has.works;
-              number = has.number;
-            })
+    pub fed_recorder : RecorderWorks seen recorder n new
+    fed_recorder = works_kept old new 0 takes.before takes.after takes.there takes.hands takes.recorder seen recorder n
+        all.works

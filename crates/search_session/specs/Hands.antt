@@ -2,11 +2,13 @@
 -- Source: this project's choice.
 use Rattle.std.specs.Prelude.{◌≡◌, ℕ, ◌<◌, ◌≤◌, ⊤, true, All, IfSome, IsSome, List, length, slice_index_or, Option, Some, None}
 use Rattle.psr_base.specs.Told.{Told}
+use Rattle.psr_base.specs.Made.{FilesSeen}
 use Rattle.dada_hdu.specs.declared.hdu.Hdu.{Hdu}
 use Rattle.search_session.specs.declared.shard.ShardActor.{ShardActor}
 use Rattle.search_session.specs.declared.hand.Hand.{Hand}
 use Rattle.search_session.specs.Shards.{ShardOn, ShardMoved}
 use Rattle.search_session.specs.Feeds.{FeedOn, FeedMoved}
+use Rattle.search_session.specs.Records.{RecordOn, RecordMoved}
 
 -- ---- slots
 
@@ -41,20 +43,23 @@ ShardsMoved n old new = EachMoved (SlotMoved (ShardMoved n)) old new
 abbrev pub ShardsEnded : List (Option ShardActor) → Type 0
 ShardsEnded slots = All (λ slot. IfSome slot (λ x. x.ended ≡ true)) slots
 
--- each actor of a hand is one of these rings
-pub record HandOn {I : Type 0} (told : I → Told) (is_open : I → Type 0) (hdu : Hdu) (h : Hand I) :
-    Type 0 where
+-- Each actor of a hand is one of these rings. In these and the following: what inputs tell, whether a name is open,
+-- whether they are calm, and how many calls have failed; whether a file is open, and what files show.
+pub record HandOn {I F : Type 0} (told : I → Told) (is_open : I → Type 0)
+    (files_open : F → Type 0) (hdu : Hdu) (h : Hand I F) : Type 0 where
   pub feeder : IfSome h.feeder (FeedOn told is_open hdu)
   pub shards : ShardsOn hdu h.shards.items
+  pub recorder : IfSome h.recorder (RecordOn files_open hdu)
 
 -- each actor of a hand made n turns, or fewer where it ended
-pub record HandMoved {I : Type 0} (told : I → Told) (is_calm : I → Type 0) (faults : I → ℕ)
-    (n : ℕ) (old new : Hand I) :
-    Type 0 where
+pub record HandMoved {I F : Type 0} (told : I → Told) (is_calm : I → Type 0) (faults : I → ℕ)
+    (seen : F → FilesSeen) (n : ℕ) (old new : Hand I F) : Type 0 where
   pub feeder : SlotMoved (FeedMoved told is_calm faults n) old.feeder new.feeder
   pub shards : ShardsMoved n old.shards.items new.shards.items
+  pub recorder : SlotMoved (RecordMoved seen n) old.recorder new.recorder
 
 -- each actor of a hand ended
-pub record HandEnded {I : Type 0} (h : Hand I) : Type 0 where
+pub record HandEnded {I F : Type 0} (h : Hand I F) : Type 0 where
   pub feeder : IfSome h.feeder (λ f. IsSome f.end)
   pub shards : ShardsEnded h.shards.items
+  pub recorder : IfSome h.recorder (λ x. IsSome x.end)

@@ -26,9 +26,8 @@ use Rattle.search_session.specs.Books.{HasLane, HasBook}
 
 -- What the feeder came to: the end of the walk of its files with the walk's stream sealed, or the inputs' fault, which
 -- comes only where their count rose.
-pub record FeedAnswers {I : Type 0} (told : I → Told) (is_calm : I → Type 0) (faults : I → ℕ)
-    (feeder : Feeder I)
-    (end : SessionEnd I) : Type 0 where
+pub record FeedAnswers {I F : Type 0} (told : I → Told) (is_calm : I → Type 0) (faults : I → ℕ)
+    (feeder : Feeder I) (end : SessionEnd I F) : Type 0 where
   pub same_reference : end.inputs.ghost_name ≡ feeder.inputs.ghost_name
   pub names : (told end.inputs.now).bytes_under ≡ (told feeder.inputs.now).bytes_under
   pub count : faults feeder.inputs.now ≤ faults end.inputs.now
@@ -43,14 +42,13 @@ pub record FeedAnswers {I : Type 0} (told : I → Told) (is_calm : I → Type 0)
       end.feed
 
 -- the data of a transfer that went through the data ring
-abbrev pub data_through : {I : Type 0} → SessionEnd I → ℕ → List ℕ
+abbrev pub data_through : {I F : Type 0} → SessionEnd I F → ℕ → List ℕ
 data_through end transfer = transfer_bytes transfer (sealed_at_end end.blocks)
 
 -- What is found for shard s of a transfer, where its engine e was opened for this observation: the book of the shard's
 -- part of the candidates of all data. The first shard tells how many spectra they have.
-pub record IsSearched {I : Type 0} (end : SessionEnd I) (transfer s : ℕ) (o : Observation)
-    (e : EngineState) :
-    Type 0 where
+pub record IsSearched {I F : Type 0} (end : SessionEnd I F) (transfer s : ℕ) (o : Observation)
+    (e : EngineState) : Type 0 where
   pub book : HasBook end.books.items transfer s (book_of e.search.max_candidates
       (shard_part e.search e.shard (candidates_of o e.search (data_through end transfer))))
   pub spectra : s ≡ 0 →
@@ -59,7 +57,7 @@ pub record IsSearched {I : Type 0} (end : SessionEnd I) (transfer s : ℕ) (o : 
 
 -- What the shards of these lanes came to: each cleared all blocks that were sealed; and where these are all data, each
 -- engine that was fed nothing has searched those of its transfer.
-pub record ShardAnswers {I : Type 0} (lanes : List (Option Lane)) (end : SessionEnd I) :
+pub record ShardAnswers {I F : Type 0} (lanes : List (Option Lane)) (end : SessionEnd I F) :
     Type 0 where
   pub cleared : (s : ℕ) → s < length lanes → cleared_at_end end.blocks s ≡ sealed_at_end end.blocks
   pub searched : (bytes : ℕ) → end.feed ≡ Whole bytes → (transfer s : ℕ) (lane : Lane)
@@ -71,7 +69,7 @@ pub record ShardAnswers {I : Type 0} (lanes : List (Option Lane)) (end : Session
 -- ---- once the hands are empty
 
 -- what is known of a shard that stood in a hand
-pub record IsEndOf {I : Type 0} (end : SessionEnd I) (s : ℕ) (x : ShardActor) : Type 0 where
+pub record IsEndOf {I F : Type 0} (end : SessionEnd I F) (s : ℕ) (x : ShardActor) : Type 0 where
   pub cleared : cleared_at_end end.blocks s ≡ shard_cleared x
   pub begins : Begins (shard_cleared x) (sealed_at_end end.blocks)
   pub books : (k : ℕ) (e : EngineState) → HasEngine x.part.engines.items k e →

@@ -55,6 +55,9 @@ pub record EnginesFollow (before after : List Entry) (old new : List (Option Eng
 abbrev pub reader_tries : HduReader → ℕ
 reader_tries reader = tries_of (Here reader)
 
+abbrev pub headers_cleared : HduReader → List Entry
+headers_cleared reader = (reader_knows reader.header).cleared
+
 abbrev pub blocks_cleared : HduReader → List Entry
 blocks_cleared reader = (reader_knows reader.blocks).cleared
 

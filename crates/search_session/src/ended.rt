@@ -17,19 +17,23 @@ use crate::shard::ShardActor;
 use arrayvec::ArrayVec;
 use candidate_book::Book;
 use dada_hdu::{Hdu, HduFinished, order_is_enough};
+use dada_recorder::RecordEnd;
 use disk_feeder::FeedEnd;
-use psr_base::Inputs;
+use psr_base::{Files, Inputs};
 use ring_ends::Finished;
 
 /// How a session ended: the feeder's end; the books by transfer and then by shard, each `Some`; how many spectra each
-/// transfer has, where there is a shard; what went through the data ring. The inputs come back.
+/// transfer has, where there is a shard; the recorder's end, where there is one; what went through the data ring. The
+/// inputs and the recorder's files come back.
 #[derive(Drop)]
-pub struct SessionEnd<'a, I> {
+pub struct SessionEnd<'a, I, F> {
     pub feed: FeedEnd,
     pub books: ArrayVec<ArrayVec<Option<Book>, 7>, 8>,
     pub spectra: ArrayVec<u64, 8>,
+    pub recorded: Option<RecordEnd>,
     pub blocks: Finished,
     pub inputs: &'a mut I,
+    pub files: Option<&'a mut F>,
 }
 
 /// How a run of a program ended: its status, and what went through its data ring, where there was one.
@@ -40,11 +44,11 @@ pub struct Ran {
 }
 
 // Ends the rings, and takes the books out of the engines.
-pub(crate) fn finish<'a, I: Inputs>(
+pub(crate) fn finish<'a, I: Inputs, F: Files>(
     hdu: Hdu,
     feeder: FeedActor<'a, I>,
     shards: ArrayVec<Option<ShardActor>, 7>,
-) -> SessionEnd<'a, I>
+) -> SessionEnd<'a, I, F>
     requires writer { WritesBoth hdu feeder.pass }
     requires ended { IsSome feeder.end }
     requires shards { (transfers : ℕ) × AreDone hdu transfers shards.items }
@@ -76,7 +80,9 @@ pub(crate) fn finish<'a, I: Inputs>(
         feed,
         books,
         spectra,
+        recorded: None,
         blocks,
         inputs: part.close(),
+        files: None,
     }
 }

@@ -1,6 +1,6 @@
 //! What is told of each turn.
 
-/// Is called at the start of each turn of an actor: 0 is the feeder, 1 to 7 are the shards in order, and 8 is kept for a
+/// Is called at the start of each turn of an actor: 0 is the feeder, 1 to 7 are the shards in order, and 8 is the
 /// recorder. `turn` counts the turns of that actor, from 0 on.
 pub trait Gate {
     fn pass(&self, actor: u32, turn: u64);

@@ -48,7 +48,7 @@ fn take_shard(slots: &mut [Option<ShardActor>], number: u32) -> ShardActor
 }
 
 // Takes the feeder out of its hand.
-pub(crate) fn take_feeder<'a, I>(hands: &mut [Hand<'a, I>]) -> FeedActor<'a, I>
+pub(crate) fn take_feeder<'a, I, F>(hands: &mut [Hand<'a, I, F>]) -> FeedActor<'a, I>
     requires { (h : _) × (f : _) × (slice_get hands.old 0 ≡ Some h) × (h.feeder ≡ Some f) }
     ensures { GivesFeeder hands.old result hands.new }
 {
@@ -59,7 +59,7 @@ pub(crate) fn take_feeder<'a, I>(hands: &mut [Hand<'a, I>]) -> FeedActor<'a, I>
 }
 
 // Takes the shard with this number out of the hand at a place.
-fn take_from<I>(hands: &mut [Hand<'_, I>], place: usize, number: u32) -> ShardActor
+fn take_from<I, F>(hands: &mut [Hand<'_, I, F>], place: usize, number: u32) -> ShardActor
     requires { (h : _) × (slice_get hands.old place ≡ Some h) × HasNumber h.shards.items number }
     ensures { LeavesHand hands.old place number result hands.new }
 {
@@ -67,7 +67,10 @@ fn take_from<I>(hands: &mut [Hand<'_, I>], place: usize, number: u32) -> ShardAc
 }
 
 // Takes so many shards out of their hands, in order.
-pub(crate) fn gather<I>(hands: &mut [Hand<'_, I>], count: usize) -> ArrayVec<Option<ShardActor>, 7>
+pub(crate) fn gather<I, F>(
+    hands: &mut [Hand<'_, I, F>],
+    count: usize,
+) -> ArrayVec<Option<ShardActor>, 7>
     requires some { 0 < length hands.old }
     requires few { count ≤ 7 }
     requires shards { (s : ℕ) → s < count → HasShard hands.old s }

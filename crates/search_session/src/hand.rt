@@ -2,23 +2,29 @@
 ghost use Rattle.std.specs.Prelude.{◌≡◌, true, None, [], IfSome, IsSome};
 ghost use Rattle.search_session.specs.Feeds.{FeedOn, FeedMoved};
 ghost use Rattle.search_session.specs.Shards.{ShardOn, ShardMoved};
+ghost use Rattle.search_session.specs.Records.{RecordOn, RecordMoved};
 
 use crate::feed::FeedActor;
 use crate::gate::Gate;
+use crate::record::RecordActor;
 use crate::shard::ShardActor;
 use arrayvec::ArrayVec;
 use dada_hdu::Hdu;
-use psr_base::Inputs;
+use psr_base::{Files, Inputs};
 use std::mem;
 
 /// The number by which a gate knows the feeder; shard s is actor s + 1.
 const FEEDER: u32 = 0;
 
+/// The number by which a gate knows the recorder.
+const RECORDER: u32 = 8;
+
 /// The actors that one thread drives. Each shard is `Some`.
 #[derive(Drop)]
-pub struct Hand<'a, I> {
+pub struct Hand<'a, I, F> {
     pub feeder: Option<FeedActor<'a, I>>,
     pub shards: ArrayVec<Option<ShardActor>, 7>,
+    pub recorder: Option<RecordActor<'a, F>>,
 }
 
 // A turn of the feeder of a slot, unless it ended.
@@ -58,6 +64,32 @@ fn turn_shards<G: Gate>(slots: &mut [Option<ShardActor>], hdu: &Hdu, gate: &G)
     for place in 0..slots.len() {
         turn_shard(&mut slots[place], hdu, gate);
     }
+}
+
+// A turn of the recorder of a slot, unless it ended.
+fn turn_recorder<F: Files, G: Gate>(slot: &mut Option<RecordActor<'_, F>>, hdu: &Hdu, gate: &G)
+    requires { IfSome slot.old (RecordOn F.is_open hdu.now) }
+    ensures on { IfSome slot.new (RecordOn F.is_open hdu.now) }
+    ensures moved { SlotMoved (RecordMoved F.seen 1) slot.old slot.new }
+{
+    let Some(recorder) = slot else { return };
+    if recorder.end.is_some() {
+        return;
+    }
+    gate.pass(RECORDER, recorder.turns);
+    recorder.turn(hdu);
+}
+
+// Retires the recorder of a slot, where it ended.
+fn retire_recorder<F: Files>(slot: &mut Option<RecordActor<'_, F>>, hdu: &Hdu)
+    requires { IfSome slot.old (RecordOn F.is_open hdu.now) }
+    ensures on { IfSome slot.new (RecordOn F.is_open hdu.now) }
+    ensures moved { SlotMoved (RecordMoved F.seen 0) slot.old slot.new }
+{
+    let Some(recorder) = mem::replace(slot, None) else {
+        return;
+    };
+    let _none = mem::replace(slot, Some(recorder.retired(hdu)));
 }
 
 // Retires the shard of a slot, where it ended.
@@ -107,48 +139,52 @@ fn shards_ended(slots: &[Option<ShardActor>]) -> bool
 
 ghost use Rattle.search_session.specs.Hands.{SlotMoved, ShardsOn, ShardsMoved, ShardsEnded};
 
-impl<'a, I: Inputs> Hand<'a, I> {
+impl<'a, I: Inputs, F: Files> Hand<'a, I, F> {
     ghost use Rattle.search_session.specs.Hands.{HandOn, HandMoved, HandEnded};
 
     /// No actor.
-    pub fn empty() -> Hand<'a, I>
+    pub fn empty() -> Hand<'a, I, F>
         ensures feeder { result.feeder ≡ None }
         ensures shards { result.shards.items ≡ [] }
+        ensures recorder { result.recorder ≡ None }
     {
         Hand {
             feeder: None,
             shards: ArrayVec::new(),
+            recorder: None,
         }
     }
 
     // A turn of each actor that has not ended.
     fn turn<G: Gate>(&mut self, hdu: &Hdu, gate: &G)
-        requires { HandOn I.told I.is_open hdu.now self.old }
-        ensures on { HandOn I.told I.is_open hdu.now self.new }
-        ensures moved { HandMoved I.told I.is_calm I.faults 1 self.old self.new }
+        requires { HandOn I.told I.is_open F.is_open hdu.now self.old }
+        ensures on { HandOn I.told I.is_open F.is_open hdu.now self.new }
+        ensures moved { HandMoved I.told I.is_calm I.faults F.seen 1 self.old self.new }
     {
         turn_feeder(&mut self.feeder, hdu, gate);
         turn_shards(self.shards.as_mut_slice(), hdu, gate);
+        turn_recorder(&mut self.recorder, hdu, gate);
     }
 
     // So many turns of each actor, fewer of one that ends.
     pub(crate) fn drive<G: Gate>(&mut self, hdu: &Hdu, turns: u32, gate: &G)
-        requires { HandOn I.told I.is_open hdu.now self.old }
-        ensures on { HandOn I.told I.is_open hdu.now self.new }
-        ensures moved { HandMoved I.told I.is_calm I.faults turns self.old self.new }
+        requires { HandOn I.told I.is_open F.is_open hdu.now self.old }
+        ensures on { HandOn I.told I.is_open F.is_open hdu.now self.new }
+        ensures moved { HandMoved I.told I.is_calm I.faults F.seen turns self.old self.new }
     {
         for _turn in 0..turns {
             self.turn(hdu, gate);
         }
     }
 
-    // Retires each shard that ended.
+    // Retires each shard that ended, and the recorder where it ended.
     pub(crate) fn retire(&mut self, hdu: &Hdu)
-        requires { HandOn I.told I.is_open hdu.now self.old }
-        ensures on { HandOn I.told I.is_open hdu.now self.new }
-        ensures moved { HandMoved I.told I.is_calm I.faults 0 self.old self.new }
+        requires { HandOn I.told I.is_open F.is_open hdu.now self.old }
+        ensures on { HandOn I.told I.is_open F.is_open hdu.now self.new }
+        ensures moved { HandMoved I.told I.is_calm I.faults F.seen 0 self.old self.new }
     {
         retire_shards(self.shards.as_mut_slice(), hdu);
+        retire_recorder(&mut self.recorder, hdu);
     }
 
     // Whether the feeder ended, if there is one.
@@ -161,11 +197,24 @@ impl<'a, I: Inputs> Hand<'a, I> {
         }
     }
 
+    // Whether the recorder ended, if there is one.
+    fn recorder_ended(&self) -> bool
+        ensures { result ≡ true → IfSome self.now.recorder (λ x. IsSome x.end) }
+    {
+        match &self.recorder {
+            Some(recorder) => recorder.end.is_some(),
+            None => true,
+        }
+    }
+
     // Whether all actors ended.
     pub(crate) fn has_ended(&self) -> bool
         ensures { result ≡ true → HandEnded self.now }
     {
         if !self.feeder_ended() {
+            return false;
+        }
+        if !self.recorder_ended() {
             return false;
         }
         shards_ended(self.shards.as_slice())

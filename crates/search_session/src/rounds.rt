@@ -5,40 +5,41 @@ ghost use Rattle.search_session.specs.Hands.{HandOn, HandMoved, HandEnded, EachM
 use crate::gate::Gate;
 use crate::hand::Hand;
 use dada_hdu::Hdu;
-use psr_base::Inputs;
+use psr_base::{Files, Inputs};
 use std::thread::{Threads, for_each_mut};
 
 /// Drives each hand in a thread of its own: each of its actors takes so many turns, fewer only where it ends. No turn
 /// waits.
-pub fn round<'a, I: Inputs + Send, G: Gate + Sync, R: Threads + Sync>(
+pub fn round<'a, I: Inputs + Send, F: Files + Send, G: Gate + Sync, R: Threads + Sync>(
     rt: &R,
-    hands: &mut [Hand<'a, I>],
+    hands: &mut [Hand<'a, I, F>],
     hdu: &Hdu,
     turns: u32,
     gate: &G,
 )
-    requires { All (HandOn I.told I.is_open hdu.now) hands.old }
-    ensures on { All (HandOn I.told I.is_open hdu.now) hands.new }
-    ensures moved { EachMoved (HandMoved I.told I.is_calm I.faults turns) hands.old hands.new }
+    requires { All (HandOn I.told I.is_open F.is_open hdu.now) hands.old }
+    ensures on { All (HandOn I.told I.is_open F.is_open hdu.now) hands.new }
+    ensures moved { EachMoved (HandMoved I.told I.is_calm I.faults F.seen turns)
+        hands.old hands.new }
 {
     let threads = hands.len().max(1);
     for_each_mut(
         rt,
         hands,
         threads,
-        &|_place: usize, hand: &mut Hand<'_, I>|
-            requires { HandOn I.told I.is_open hdu.now hand.old }
-            ensures { HandOn I.told I.is_open hdu.entry.now hand.new
-                × HandMoved I.told I.is_calm I.faults turns hand.old hand.new }
+        &|_place: usize, hand: &mut Hand<'_, I, F>|
+            requires { HandOn I.told I.is_open F.is_open hdu.now hand.old }
+            ensures { HandOn I.told I.is_open F.is_open hdu.entry.now hand.new
+                × HandMoved I.told I.is_calm I.faults F.seen turns hand.old hand.new }
         { hand.drive(hdu, turns, gate) },
     );
 }
 
-/// Retires each shard that ended.
-pub(crate) fn retire_ended<I: Inputs>(hands: &mut [Hand<'_, I>], hdu: &Hdu)
-    requires { All (HandOn I.told I.is_open hdu.now) hands.old }
-    ensures on { All (HandOn I.told I.is_open hdu.now) hands.new }
-    ensures moved { EachMoved (HandMoved I.told I.is_calm I.faults 0) hands.old hands.new }
+/// Retires each shard that ended, and the recorder where it ended.
+pub(crate) fn retire_ended<I: Inputs, F: Files>(hands: &mut [Hand<'_, I, F>], hdu: &Hdu)
+    requires { All (HandOn I.told I.is_open F.is_open hdu.now) hands.old }
+    ensures on { All (HandOn I.told I.is_open F.is_open hdu.now) hands.new }
+    ensures moved { EachMoved (HandMoved I.told I.is_calm I.faults F.seen 0) hands.old hands.new }
 {
     for place in 0..hands.len() {
         hands[place].retire(hdu);
@@ -46,7 +47,7 @@ pub(crate) fn retire_ended<I: Inputs>(hands: &mut [Hand<'_, I>], hdu: &Hdu)
 }
 
 /// Whether all actors ended.
-pub(crate) fn all_ended<I: Inputs>(hands: &[Hand<'_, I>]) -> bool
+pub(crate) fn all_ended<I: Inputs, F: Files>(hands: &[Hand<'_, I, F>]) -> bool
     ensures { result ≡ true → All HandEnded hands.now }
 {
     for place in 0..hands.len() {

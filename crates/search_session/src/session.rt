@@ -20,24 +20,24 @@ use crate::rounds::{all_ended, retire_ended, round};
 use crate::staff::staff;
 use crate::stage::Stage;
 use dada_hdu::Hdu;
-use psr_base::Inputs;
+use psr_base::{Files, Inputs};
 use std::sync::Wait;
 use std::thread::Threads;
 // Laws: they do nothing when they run, and the proofs use what they ensure.
 use disk_feeder::feeders_end;
 
 // Rounds of so many turns, until all actors have ended. A shard that ended is retired between rounds.
-fn run_rounds<I: Inputs + Send, G: Gate + Sync, R: Threads + Wait + Sync>(
+fn run_rounds<I: Inputs + Send, F: Files + Send, G: Gate + Sync, R: Threads + Wait + Sync>(
     rt: &R,
-    hands: &mut [Hand<'_, I>],
+    hands: &mut [Hand<'_, I, F>],
     hdu: &Hdu,
     turns: u32,
     gate: &G,
 )
-    requires { All (HandOn I.told I.is_open hdu.now) hands.old }
-    ensures on { All (HandOn I.told I.is_open hdu.now) hands.new }
+    requires { All (HandOn I.told I.is_open F.is_open hdu.now) hands.old }
+    ensures on { All (HandOn I.told I.is_open F.is_open hdu.now) hands.new }
     ensures ended { All HandEnded hands.new }
-    ensures moved { (n : ℕ) × EachMoved (HandMoved I.told I.is_calm I.faults n)
+    ensures moved { (n : ℕ) × EachMoved (HandMoved I.told I.is_calm I.faults F.seen n)
         hands.old hands.new }
 {
     for _round in rt.forever() {
@@ -51,21 +51,21 @@ fn run_rounds<I: Inputs + Send, G: Gate + Sync, R: Threads + Wait + Sync>(
 }
 
 // Ends a session whose actors have all ended.
-fn end_session<'a, I: Inputs>(
+fn end_session<'a, I: Inputs, F: Files>(
     hdu: Hdu,
-    hands: &mut [Hand<'a, I>],
+    hands: &mut [Hand<'a, I, F>],
     shards: usize,
-) -> SessionEnd<'a, I>
-    requires on { All (HandOn I.told I.is_open hdu) hands.old }
+) -> SessionEnd<'a, I, F>
+    requires on { All (HandOn I.told I.is_open F.is_open hdu) hands.old }
     requires ended { All HandEnded hands.old }
-    requires feeder { (h : Working I) × (f : Feeding I) × (slice_get hands.old 0 ≡ Some h)
+    requires feeder { (h : Working I F) × (f : Feeding I) × (slice_get hands.old 0 ≡ Some h)
         × (h.feeder ≡ Some f) }
     requires few { shards ≤ 7 }
     requires shards { (s : ℕ) → s < shards → HasShard hands.old s }
     requires all { shards ≡ (data_shape hdu).readers }
     requires engines { (transfers : ℕ) × ((x : Shard) → IsIn hands.old x
         → shard_number x < shards → length x.part.engines.items ≡ transfers) }
-    ensures feeder { (h : Working I) (f : Feeding I) → slice_get hands.old 0 ≡ Some h
+    ensures feeder { (h : Working I F) (f : Feeding I) → slice_get hands.old 0 ≡ Some h
         → h.feeder ≡ Some f → (f.end ≡ Some result.feed)
         × (result.inputs.now ≡ f.part.inputs.now)
         × (result.inputs.ghost_name ≡ f.part.inputs.ghost_name)
@@ -80,13 +80,13 @@ fn end_session<'a, I: Inputs>(
 
 /// Drives a stage to its end: rounds of so many turns follow one another until all have ended. A shard that ended is
 /// retired between rounds.
-pub fn run_session<'a, I: Inputs + Send, G: Gate + Sync, R: Threads + Wait + Sync>(
+pub fn run_session<'a, I: Inputs + Send, F: Files + Send, G: Gate + Sync, R: Threads + Wait + Sync>(
     rt: &R,
-    stage: Stage<'a, I>,
+    stage: Stage<'a, I, F>,
     turns: u32,
     gate: &G,
-) -> SessionEnd<'a, I>
-    requires stage { StageOn I.told I.is_open stage }
+) -> SessionEnd<'a, I, F>
+    requires stage { StageOn I.told I.is_open F.is_open stage }
     requires faultless { FeederFaultless stage.feeder }
     ensures feed { FeedAnswers I.told I.is_calm I.faults stage.entry.feeder result }
     ensures shards { ShardAnswers stage.entry.lanes.items result }

@@ -1,19 +1,22 @@
 //! The actors of a session come to their hands.
-ghost use Rattle.std.specs.Prelude.{◌≡◌, ℕ, ◌+◌, ◌*◌, ◌%◌, ◌<◌, ◌≤◌, All, IsSomeAnd, length, vec_len};
+ghost use Rattle.std.specs.Prelude.{◌≡◌, ℕ, ◌+◌, ◌*◌, ◌%◌, ◌<◌, ◌≤◌, All, IfSome, IsSomeAnd, length, drop, vec_len};
 ghost use Rattle.dada_hdu.specs.Passes.{data_shape};
 ghost use Rattle.search_engine.specs.Engine.{most_fed};
 ghost use Rattle.search_session.specs.Shards.{ShardOn};
 ghost use Rattle.search_session.specs.Hands.{HandOn};
-ghost use Rattle.search_session.specs.Stages.{IsUnread, IsUnfed, HasRoomFor, IsEmptyHand, IsShardOf, TakesShard, TakesFeeder, PartsOn, AreStaffed, StageOn, HasFeeder, HasShard, AreOfLanes, feeder_of};
+ghost use Rattle.search_session.specs.Records.{RecordOn};
+ghost use Rattle.search_session.specs.Stages.{IsUnread, IsUnfed, HasRoomFor, IsEmptyHand, IsFreshRecorder, IsShardOf, IsRecorderOf, IsFirstReader, TakesShard, TakesFeeder, TakesRecorder, PartsOn, AreStaffed, StageOn, HasFeeder, HasShard, RecorderPlaced, RecorderWorks, AreOfLanes, feeder_of};
 
 use crate::feed::FeedActor;
 use crate::hand::Hand;
 use crate::lane::Lane;
+use crate::record::RecordActor;
 use crate::shard::ShardActor;
 use crate::stage::Stage;
 use arrayvec::ArrayVec;
 use dada_hdu::{Hdu, HduEnded, HduReader};
-use psr_base::Inputs;
+use dada_recorder::Recorder;
+use psr_base::{Files, Inputs};
 use std::mem;
 
 // The shard of a lane before its first turn.
@@ -35,8 +38,28 @@ fn shard_of(hdu: &Hdu, lane: Lane, reader: HduReader, space: Vec<u8>, number: u3
     }
 }
 
+// The recorder before its first turn.
+fn recorder_of<'a, F: Files>(
+    hdu: &Hdu,
+    part: Recorder<'a, F>,
+    reader: HduReader,
+    number: u32,
+) -> RecordActor<'a, F>
+    requires part { IsFreshRecorder F.is_open hdu.now part }
+    requires reader { IsUnread hdu.now number reader }
+    ensures on { RecordOn F.is_open hdu.now result }
+    ensures new { IsRecorderOf part.entry number result }
+{
+    RecordActor {
+        part,
+        pass: HduEnded::Here(reader),
+        turns: 0,
+        end: None,
+    }
+}
+
 // The feeder comes to its hand, the first.
-fn place_feeder<'a, I>(hands: &mut [Hand<'a, I>], feeder: FeedActor<'a, I>)
+fn place_feeder<'a, I, F>(hands: &mut [Hand<'a, I, F>], feeder: FeedActor<'a, I>)
     requires { 0 < length hands.old }
     ensures { TakesFeeder hands.old feeder.entry hands.new }
 {
@@ -44,7 +67,7 @@ fn place_feeder<'a, I>(hands: &mut [Hand<'a, I>], feeder: FeedActor<'a, I>)
 }
 
 // A shard comes to its hand.
-fn place_shard<I>(hands: &mut [Hand<'_, I>], actor: usize, shard: ShardActor)
+fn place_shard<I, F>(hands: &mut [Hand<'_, I, F>], actor: usize, shard: ShardActor)
     requires some { 0 < length hands.old }
     requires room { All (λ h. length h.shards.items < 7) hands.old }
     ensures { TakesShard hands.old (actor % length hands.old) shard hands.new }
@@ -53,24 +76,54 @@ fn place_shard<I>(hands: &mut [Hand<'_, I>], actor: usize, shard: ShardActor)
     hands[place].shards.push(Some(shard));
 }
 
-// The shards come to their hands, in order.
-fn place_shards<I: Inputs>(
+// The recorder comes to its hand.
+fn place_recorder<'a, I, F>(hands: &mut [Hand<'a, I, F>], recorder: RecordActor<'a, F>)
+    requires { 0 < length hands.old }
+    ensures { TakesRecorder hands.old (8 % length hands.old) recorder.entry hands.new }
+{
+    let place = 8 % hands.len();
+    let _none = mem::replace(&mut hands[place].recorder, Some(recorder));
+}
+
+// The recorder, where there is one, comes to its hand with the first of these readers.
+fn place_any_recorder<'a, I, F: Files>(
     hdu: &Hdu,
-    hands: &mut [Hand<'_, I>],
-    mut lanes: ArrayVec<Option<Lane>, 7>,
+    hands: &mut [Hand<'a, I, F>],
+    recorder: Option<Recorder<'a, F>>,
     mut readers: ArrayVec<Option<HduReader>, 8>,
+    number: u32,
+)
+    requires recorder { IfSome recorder (IsFreshRecorder F.is_open hdu.now) }
+    requires reader { IfSome recorder (λ _. IsFirstReader hdu.now number readers.items) }
+    requires some { 0 < length hands.old }
+    ensures { RecorderPlaced F.is_open hdu.now recorder.entry number hands.old hands.new }
+{
+    let Some(part) = recorder else { return };
+    let Some(reader) = readers.remove(0) else {
+        unreachable!()
+    };
+    place_recorder(hands, recorder_of(hdu, part, reader, number));
+}
+
+// The shards come to their hands, in order. The readers that are left are those of no shard.
+fn place_shards<I: Inputs, F: Files>(
+    hdu: &Hdu,
+    hands: &mut [Hand<'_, I, F>],
+    mut lanes: ArrayVec<Option<Lane>, 7>,
+    readers: &mut ArrayVec<Option<HduReader>, 8>,
     mut spaces: ArrayVec<Option<Vec<u8>>, 7>,
 )
     requires few { (data_shape hdu.now).max_blocks * (data_shape hdu.now).size ≤ most_fed }
-    requires parts { (transfers : _) × PartsOn hdu.now transfers lanes.items readers.items }
-    requires count { length readers.items ≡ length lanes.items }
+    requires parts { (transfers : _) × PartsOn hdu.now transfers lanes.items readers.old.items }
+    requires count { length lanes.items ≤ length readers.old.items }
     requires spaces_count { length spaces.items ≡ length lanes.items }
     requires spaces { All (λ slot. IsSomeAnd slot (λ space. HasRoomFor hdu.now (vec_len space)))
         spaces.items }
     requires some { 0 < length hands.old }
     requires empty { All IsEmptyHand hands.old }
-    ensures { AreStaffed I.told I.is_open hdu.now lanes.items (length lanes.items)
-        (length hands.old) hands.new }
+    ensures staffed { AreStaffed I.told I.is_open F.is_open hdu.now lanes.items
+        (length lanes.items) (length hands.old) hands.new }
+    ensures readers { readers.new.items ≡ drop (length lanes.items) readers.old.items }
 {
     for s in 0..lanes.len() {
         let Some(lane) = lanes.remove(0) else {
@@ -87,25 +140,30 @@ fn place_shards<I: Inputs>(
 }
 
 /// All actors come to their hands.
-pub(crate) fn staff<'a, I: Inputs>(stage: Stage<'a, I>) -> (Hdu, Vec<Hand<'a, I>>)
-    requires { StageOn I.told I.is_open stage }
+pub(crate) fn staff<'a, I: Inputs, F: Files>(stage: Stage<'a, I, F>) -> (Hdu, Vec<Hand<'a, I, F>>)
+    requires { StageOn I.told I.is_open F.is_open stage }
     ensures hdu { result.0 ≡ stage.entry.hdu }
-    ensures on { All (HandOn I.told I.is_open result.0) result.1.items }
+    ensures on { All (HandOn I.told I.is_open F.is_open result.0) result.1.items }
     ensures some { 0 < length result.1.items }
     ensures feeder { HasFeeder I.told I.is_calm I.faults (feeder_of stage.entry) result.1.items }
     ensures shards { (s : ℕ) → s < length stage.entry.lanes.items → HasShard result.1.items s }
     ensures lanes { AreOfLanes stage.entry.lanes.items result.1.items }
+    ensures recorder { RecorderWorks F.seen stage.entry.recorder
+        (length stage.entry.lanes.items) result.1.items }
 {
     let Stage {
         feeder,
         lanes,
+        recorder,
         hdu,
         writer,
-        readers,
+        mut readers,
         spaces,
         mut hands,
     } = stage;
-    place_shards(&hdu, hands.as_mut_slice(), lanes, readers, spaces);
+    let number = lanes.len() as u32;
+    place_shards(&hdu, hands.as_mut_slice(), lanes, &mut readers, spaces);
+    place_any_recorder(&hdu, hands.as_mut_slice(), recorder, readers, number);
     place_feeder(
         hands.as_mut_slice(),
         FeedActor {

@@ -28,4 +28,5 @@ returns g c =
       hands = refl;
       gives = subst (λ (l : List (Option ShardActor)). GivesShard items c.args.number x l)
           (sym (all_written (length items) items new count)) gave;
+      recorder = refl;
     }

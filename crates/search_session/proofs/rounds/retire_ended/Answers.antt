@@ -7,7 +7,7 @@ use Rattle.search_session.proofs.rounds.retire_ended.Goals as goal
 pub loop-place-init : goal.loop-place-init
 loop-place-init g c = record {
   on = c.requires;
-  moved = first_none (HandMoved g.I.Inputs.told g.I.Inputs.is_calm g.I.Inputs.faults 0) c.args.hands.now;
+  moved = first_none (HandMoved g.I.Inputs.told g.I.Inputs.is_calm g.I.Inputs.faults g.F.Files.seen 0) c.args.hands.now;
 }
 
 pub retire-requires : goal.retire-requires
@@ -18,9 +18,9 @@ retire-requires g c =
 pub loop-place-preserved : goal.loop-place-preserved
 loop-place-preserved g c =
     let near : c.loop-place.place < length c.loop-place.hands = omega arith in
-    let R = HandMoved g.I.Inputs.told g.I.Inputs.is_calm g.I.Inputs.faults 0 in
+    let R = HandMoved g.I.Inputs.told g.I.Inputs.is_calm g.I.Inputs.faults g.F.Files.seen 0 in
     record {
-      on = All-set (HandOn g.I.Inputs.told g.I.Inputs.is_open c.args.hdu.now) c.loop-place.hands c.loop-place.place
+      on = All-set (HandOn g.I.Inputs.told g.I.Inputs.is_open g.F.Files.is_open c.args.hdu.now) c.loop-place.hands c.loop-place.place
           c.retire.new.self c.retire.ensures.on c.loop-place.invariant.on;
       moved = first_more R c.args.hands.now c.loop-place.hands c.loop-place.place c.index-hands-place.result
           c.retire.new.self near c.loop-place.invariant.moved c.index-hands-place.is
@@ -32,6 +32,6 @@ returns g c =
     let all : length c.loop-place.hands ≤ c.loop-place.place = omega arith in
     record {
       on = c.loop-place.invariant.on;
-      moved = first_all (HandMoved g.I.Inputs.told g.I.Inputs.is_calm g.I.Inputs.faults 0) c.args.hands.now
+      moved = first_all (HandMoved g.I.Inputs.told g.I.Inputs.is_calm g.I.Inputs.faults g.F.Files.seen 0) c.args.hands.now
           c.loop-place.hands c.loop-place.place all c.loop-place.invariant.moved;
     }

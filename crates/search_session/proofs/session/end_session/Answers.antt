@@ -25,6 +25,7 @@ pub finish-requires : goal.finish-requires
 finish-requires g c =
     let told = g.I.Inputs.told in
     let is_open = g.I.Inputs.is_open in
+    let files_open = g.F.Files.is_open in
     let old = c.args.hands.now in
     let new = c.take_feeder-feeder.new.hands in
     let f = c.take_feeder-feeder.result in
@@ -32,7 +33,7 @@ finish-requires g c =
     let gathered = c.gather-shards.ensures in
     let few = gathered.count in
     record {
-      writer = (feeder_on told is_open c.args.hdu old c.requires.on gives.before f gives.there gives.works).writes;
+      writer = (feeder_on told is_open files_open c.args.hdu old c.requires.on gives.before f gives.there gives.works).writes;
       ended = feeder_ended old gives.before f c.requires.ended gives.there gives.works;
       shards = (
         c.requires.engines.0,
@@ -47,7 +48,7 @@ finish-requires g c =
                 h.1,
                 record {
                   number = h.2;
-                  on = on_in told is_open c.args.hdu old c.requires.on h.0 is;
+                  on = on_in told is_open files_open c.args.hdu old c.requires.on h.0 is;
                   ended = ended_in old h.0 c.requires.ended is;
                   count = c.requires.engines.1 h.0 is (omega arith);
                 },
@@ -67,7 +68,7 @@ returns g c =
     let shards = c.gather-shards.result.items in
     record {
       feeder = λ h other at works.
-          let same : f ≡ other = one_feeder g.row.I.Denot old gives.before h f other gives.there gives.works at works in (
+          let same : f ≡ other = one_feeder g.row.I.Denot g.row.F.Denot old gives.before h f other gives.there gives.works at works in (
             ap (λ (x : FeedActor g.row.I.Denot). x.end) (sym same) ∙ end.feed,
             end.inputs ∙ ap (λ (x : FeedActor g.row.I.Denot). x.part.inputs.now) same,
             end.same_reference ∙ ap (λ (x : FeedActor g.row.I.Denot). x.part.inputs.ghost_name) same,
@@ -88,14 +89,14 @@ returns g c =
           );
     }
   where
-    one_feeder : (I : Type 0) (hands : List (Hand I)) (a b : Hand I) (x y : FeedActor I) → slice_get hands 0 ≡ Some a →
+    one_feeder : (I F : Type 0) (hands : List (Hand I F)) (a b : Hand I F) (x y : FeedActor I) → slice_get hands 0 ≡ Some a →
         a.feeder ≡ Some x → slice_get hands 0 ≡ Some b → b.feeder ≡ Some y → x ≡ y
-    one_feeder I hands a b x y at_a is_x at_b is_y =
-        let same : a ≡ b = hand_is I a b (sym at_a ∙ at_b) in
-        inside I x y (sym is_x ∙ (ap (λ (h : Hand I). h.feeder) same ∙ is_y))
+    one_feeder I F hands a b x y at_a is_x at_b is_y =
+        let same : a ≡ b = hand_is I F a b (sym at_a ∙ at_b) in
+        inside I x y (sym is_x ∙ (ap (λ (h : Hand I F). h.feeder) same ∙ is_y))
       where
-        hand_is : (I : Type 0) (a b : Hand I) → Some a ≡ Some b → a ≡ b
-        hand_is I a b e = cc
+        hand_is : (I F : Type 0) (a b : Hand I F) → Some a ≡ Some b → a ≡ b
+        hand_is I F a b e = cc
 
         inside : (I : Type 0) (x y : FeedActor I) → Some x ≡ Some y → x ≡ y
         inside I x y e = cc

@@ -7,7 +7,7 @@ loop-round-init g c = record {
   on = c.requires;
   moved = (
     0,
-    hands_none g.I.Inputs.told g.I.Inputs.is_open g.I.Inputs.is_calm g.I.Inputs.faults c.args.hdu.now
+    hands_none g.I.Inputs.told g.I.Inputs.is_open g.I.Inputs.is_calm g.I.Inputs.faults g.F.Files.is_open g.F.Files.seen c.args.hdu.now
         c.args.hands.now c.requires,
   );
 }
@@ -18,14 +18,16 @@ loop-round-preserved g c =
     let is_open = g.I.Inputs.is_open in
     let is_calm = g.I.Inputs.is_calm in
     let faults = g.I.Inputs.faults in
+    let files_open = g.F.Files.is_open in
+    let seen = g.F.Files.seen in
     let before = c.loop-round.invariant.moved in
-    let first = hands_more told is_open is_calm faults before.0 c.args.turns c.args.hands.now c.loop-round.hands
+    let first = hands_more told is_open is_calm faults files_open seen before.0 c.args.turns c.args.hands.now c.loop-round.hands
     c.round.new.hands before.1 c.round.ensures.moved in
     record {
       on = c.retire_ended.ensures.on;
       moved = (
         before.0 + c.args.turns + 0,
-        hands_more told is_open is_calm faults (before.0 + c.args.turns) 0
+        hands_more told is_open is_calm faults files_open seen (before.0 + c.args.turns) 0
             c.args.hands.now c.round.new.hands c.retire_ended.new.hands first c.retire_ended.ensures.moved,
       );
     }
@@ -36,15 +38,17 @@ returns-then-all_ended g c =
     let is_open = g.I.Inputs.is_open in
     let is_calm = g.I.Inputs.is_calm in
     let faults = g.I.Inputs.faults in
+    let files_open = g.F.Files.is_open in
+    let seen = g.F.Files.seen in
     let before = c.loop-round.invariant.moved in
-    let first = hands_more told is_open is_calm faults before.0 c.args.turns c.args.hands.now c.loop-round.hands
+    let first = hands_more told is_open is_calm faults files_open seen before.0 c.args.turns c.args.hands.now c.loop-round.hands
     c.round.new.hands before.1 c.round.ensures.moved in
     record {
       on = c.retire_ended.ensures.on;
       ended = c.all_ended.ensures c.if-all_ended.true;
       moved = (
         before.0 + c.args.turns + 0,
-        hands_more told is_open is_calm faults (before.0 + c.args.turns) 0
+        hands_more told is_open is_calm faults files_open seen (before.0 + c.args.turns) 0
             c.args.hands.now c.round.new.hands c.retire_ended.new.hands first c.retire_ended.ensures.moved,
       );
     }

@@ -11,11 +11,13 @@ use Rattle.search_session.proofs.session.run_session.Goals as goal
 
 pub end_session-requires : goal.end_session-requires
 end_session-requires g c =
-    let H : Type 0 = Hand g.row.I.Denot in
+    let H : Type 0 = Hand g.row.I.Denot g.row.F.Denot in
     let told = g.I.Inputs.told in
     let is_open = g.I.Inputs.is_open in
     let is_calm = g.I.Inputs.is_calm in
     let faults = g.I.Inputs.faults in
+    let files_open = g.F.Files.is_open in
+    let seen = g.F.Files.seen in
     let stage = c.args.stage in
     let lanes = stage.lanes.items in
     let start = feeder_of stage in
@@ -24,17 +26,17 @@ end_session-requires g c =
     let two : List H = c.run_rounds.new.hands in
     let rounds = c.run_rounds.ensures in
     let n = rounds.moved.0 in
-    let moved : EachMoved (HandMoved told is_calm faults n) hands.items two =
-    subst (λ (l : List H). EachMoved (HandMoved told is_calm faults n) l two) c.as_mut_slice.ensures.value
+    let moved : EachMoved (HandMoved told is_calm faults seen n) hands.items two =
+    subst (λ (l : List H). EachMoved (HandMoved told is_calm faults seen n) l two) c.as_mut_slice.ensures.value
     rounds.moved.1 in
     let count : length two ≡ hands.len = rounds.moved.1.count ∙ c.as_mut_slice.ensures.len in
     let mid : c.as_mut_slice-2.result.now ≡ two =
     c.as_mut_slice-2.ensures.value ∙ all_written hands.len hands.items two count in
-    let ended : AllEnded told is_open is_calm faults hdu start lanes two =
-    all_ended told is_open is_calm faults hdu start lanes hands.items two n moved c.staff-hdu.ensures.feeder
+    let ended : AllEnded told is_open is_calm faults files_open seen hdu start lanes two =
+    all_ended told is_open is_calm faults files_open seen hdu start lanes hands.items two n moved c.staff-hdu.ensures.feeder
     c.staff-hdu.ensures.shards c.staff-hdu.ensures.lanes rounds.on rounds.ended in
-    let all : AllEnded told is_open is_calm faults hdu start lanes c.as_mut_slice-2.result.now =
-    subst (λ (l : List H). AllEnded told is_open is_calm faults hdu start lanes l) (sym mid) ended in
+    let all : AllEnded told is_open is_calm faults files_open seen hdu start lanes c.as_mut_slice-2.result.now =
+    subst (λ (l : List H). AllEnded told is_open is_calm faults files_open seen hdu start lanes l) (sym mid) ended in
     let value = c.len-shards.ensures.value in
     record {
       on = all.on;
@@ -46,18 +48,20 @@ end_session-requires g c =
           ∙ ap (λ (h : Hdu). (data_shape h).readers) (sym c.staff-hdu.ensures.hdu)));
       engines = (
         transfers_of stage,
-        λ x is near. engines_of told is_open is_calm faults hdu start lanes c.as_mut_slice-2.result.now
+        λ x is near. engines_of told is_open is_calm faults files_open seen hdu start lanes c.as_mut_slice-2.result.now
             (transfers_of stage) c.requires.stage.lanes all x is (subst (λ (k : ℕ). shard_number x < k) value near),
       );
     }
 
 pub returns : goal.returns
 returns g c =
-    let H : Type 0 = Hand g.row.I.Denot in
+    let H : Type 0 = Hand g.row.I.Denot g.row.F.Denot in
     let told = g.I.Inputs.told in
     let is_open = g.I.Inputs.is_open in
     let is_calm = g.I.Inputs.is_calm in
     let faults = g.I.Inputs.faults in
+    let files_open = g.F.Files.is_open in
+    let seen = g.F.Files.seen in
     let stage = c.args.stage in
     let lanes = stage.lanes.items in
     let start = feeder_of stage in
@@ -66,25 +70,25 @@ returns g c =
     let two : List H = c.run_rounds.new.hands in
     let rounds = c.run_rounds.ensures in
     let n = rounds.moved.0 in
-    let moved : EachMoved (HandMoved told is_calm faults n) hands.items two =
-    subst (λ (l : List H). EachMoved (HandMoved told is_calm faults n) l two) c.as_mut_slice.ensures.value
+    let moved : EachMoved (HandMoved told is_calm faults seen n) hands.items two =
+    subst (λ (l : List H). EachMoved (HandMoved told is_calm faults seen n) l two) c.as_mut_slice.ensures.value
     rounds.moved.1 in
     let count : length two ≡ hands.len = rounds.moved.1.count ∙ c.as_mut_slice.ensures.len in
     let mid : c.as_mut_slice-2.result.now ≡ two =
     c.as_mut_slice-2.ensures.value ∙ all_written hands.len hands.items two count in
-    let ended : AllEnded told is_open is_calm faults hdu start lanes two =
-    all_ended told is_open is_calm faults hdu start lanes hands.items two n moved c.staff-hdu.ensures.feeder
+    let ended : AllEnded told is_open is_calm faults files_open seen hdu start lanes two =
+    all_ended told is_open is_calm faults files_open seen hdu start lanes hands.items two n moved c.staff-hdu.ensures.feeder
     c.staff-hdu.ensures.shards c.staff-hdu.ensures.lanes rounds.on rounds.ended in
-    let all : AllEnded told is_open is_calm faults hdu start lanes c.as_mut_slice-2.result.now =
-    subst (λ (l : List H). AllEnded told is_open is_calm faults hdu start lanes l) (sym mid) ended in
+    let all : AllEnded told is_open is_calm faults files_open seen hdu start lanes c.as_mut_slice-2.result.now =
+    subst (λ (l : List H). AllEnded told is_open is_calm faults files_open seen hdu start lanes l) (sym mid) ended in
     let value = c.len-shards.ensures.value in
     let end = c.end_session.result in
     let e = c.end_session.ensures in
     let f = e.feeder all.feeder.hand all.feeder.feeder all.feeder.there all.feeder.works in
     record {
-      feed = feed_is told is_open is_calm faults hdu start lanes c.as_mut_slice-2.result.now (transfers_of stage)
+      feed = feed_is told is_open is_calm faults files_open seen hdu start lanes c.as_mut_slice-2.result.now (transfers_of stage)
           c.requires.stage.lanes all end f.0 f.1 f.3 f.2 c.requires.stage.running c.requires.faultless;
-      shards = shards_are told is_open is_calm faults hdu start lanes c.as_mut_slice-2.result.now (transfers_of stage)
+      shards = shards_are told is_open is_calm faults files_open seen hdu start lanes c.as_mut_slice-2.result.now (transfers_of stage)
           c.requires.stage.lanes all end f.0 f.1 f.3 c.feeders_end.ensures refl
           (λ s near. e.shards s (subst (λ (k : ℕ). s < k) (sym value) near));
     }

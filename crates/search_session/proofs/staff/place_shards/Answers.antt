@@ -11,7 +11,7 @@ loop-s-init g c = record {
   lanes = refl;
   readers = refl;
   spaces = refl;
-  staffed = staffed_none g.I.Inputs.told g.I.Inputs.is_open c.args.hdu.now c.args.lanes.items c.args.hands.now
+  staffed = staffed_none g.I.Inputs.told g.I.Inputs.is_open g.F.Files.is_open c.args.hdu.now c.args.lanes.items c.args.hands.now
       c.requires.empty;
 }
 
@@ -19,9 +19,9 @@ pub unreachable-requires-in_default-remove : goal.unreachable-requires-in_defaul
 unreachable-requires-in_default-remove g c =
     let s = c.loop-s.s in
     let count = c.requires.count in
-    let near : s < length c.args.readers.items = omega arith in
+    let near : s < length c.args.readers.now.items = omega arith in
     let h = c.requires.parts.1.unread s near in
-    none_taken c.args.readers.items c.loop-s.readers.items s c.remove-in-loop-s.result h.0 h.1
+    none_taken c.args.readers.now.items c.loop-s.readers.items s c.remove-in-loop-s.result h.0 h.1
     c.loop-s.invariant.readers c.remove-in-loop-s.ensures.value c.in_default-remove.is
 
 pub unreachable-requires-in_default-remove-2 : goal.unreachable-requires-in_default-remove-2
@@ -36,10 +36,10 @@ pub shard_of-requires-clause-reader : goal.shard_of-requires-clause-reader
 shard_of-requires-clause-reader g c =
     let s = c.loop-s.s in
     let count = c.requires.count in
-    let near : s < length c.args.readers.items = omega arith in
+    let near : s < length c.args.readers.now.items = omega arith in
     let h = c.requires.parts.1.unread s near in
     subst (λ (r : HduReader). IsUnread c.args.hdu.now s r)
-    (taken_is c.args.readers.items c.loop-s.readers.items s c.remove-in-loop-s.result h.0 c.in-Some-remove.reader h.1
+    (taken_is c.args.readers.now.items c.loop-s.readers.items s c.remove-in-loop-s.result h.0 c.in-Some-remove.reader h.1
     c.loop-s.invariant.readers c.remove-in-loop-s.ensures.value c.in-Some-remove.is) h.2
 
 pub shard_of-requires-clause-lane : goal.shard_of-requires-clause-lane
@@ -70,7 +70,7 @@ loop-s-preserved g c =
     let count = c.requires.count in
     let spaces_count = c.requires.spaces_count in
     let near : s < length c.args.lanes.items = omega arith in
-    let near_reader : s < length c.args.readers.items = omega arith in
+    let near_reader : s < length c.args.readers.now.items = omega arith in
     let near_space : s < length c.args.spaces.items = omega arith in
     let h = c.requires.parts.1.unfed s near in
     let lane : h.0 ≡ c.in-Some.lane =
@@ -79,11 +79,11 @@ loop-s-preserved g c =
     record {
       lanes = left_over c.args.lanes.items c.loop-s.lanes.items c.remove.new.self.items s c.remove.result near inv.lanes
           c.remove.ensures.items;
-      readers = left_over c.args.readers.items c.loop-s.readers.items c.remove-in-loop-s.new.self.items s
+      readers = left_over c.args.readers.now.items c.loop-s.readers.items c.remove-in-loop-s.new.self.items s
           c.remove-in-loop-s.result near_reader inv.readers c.remove-in-loop-s.ensures.items;
       spaces = left_over c.args.spaces.items c.loop-s.spaces.items c.remove-in-loop-s-2.new.self.items s
           c.remove-in-loop-s-2.result near_space inv.spaces c.remove-in-loop-s-2.ensures.items;
-      staffed = staffed_more g.I.Inputs.told g.I.Inputs.is_open c.args.hdu.now c.args.lanes.items c.loop-s.hands
+      staffed = staffed_more g.I.Inputs.told g.I.Inputs.is_open g.F.Files.is_open c.args.hdu.now c.args.lanes.items c.loop-s.hands
           c.place_shard.new.hands s (length c.args.hands.now) c.shard_of.result c.in-Some.lane inv.staffed
           c.place_shard.ensures (h.1 ∙ ap (λ (l : Lane). Some (Some l)) lane) c.shard_of.ensures.new
           c.shard_of.ensures.on;

@@ -17,4 +17,5 @@ returns-clause-moved g c =
           c.args.self.now.feeder c.requires.feeder;
       shards = subst (λ (l : List (Option ShardActor)). ShardsMoved 0 items l)
           (sym (all_written (length items) items new moved.count)) moved;
+      recorder = c.retire_recorder.ensures.moved;
     }
