@@ -150,14 +150,15 @@ pub whole_sealed : NoStopIsWhole → (plan : Plan) (told : Told) (after : Place)
     LastSealed plan told after size blocks → length plan.starts ≡ after.transfer →
     length plan.headers ≡ length plan.starts →
     begin_at plan.starts (length plan.names) after.transfer ≤ after.file →
-    headers ≡ header_entries (take after.transfer plan.headers) →
+    headers ≡ header_entries (take after.transfer plan.headers) → after.total ≤ plan.max_bytes →
     IsEnded plan told size headers blocks (Whole after.total)
-whole_sealed whole plan told after size headers blocks f all headed from sealed =
+whole_sealed whole plan told after size headers blocks f all headed from sealed within =
     let has = f.has in
     let total = has.total in
     record {
       before = f.before;
       current = [];
+      few = omega arith;
       sealed = (
         f.stream,
         has.transfers ∙ sym all,
@@ -246,6 +247,7 @@ cut_sealed plan told at block held end headers blocks blocks' f within there hea
     record {
       before = f.before;
       current = f.current;
+      few = omega arith;
       sealed = sealed_early plan size f.before f.current headers blocks' end f.next.3 stream (omega arith)
           (heads ∙ ap (λ (n : ℕ). header_entries (take (n + 1) plan.headers)) (sym transfers));
       known = λ files are.

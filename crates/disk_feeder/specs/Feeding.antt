@@ -98,11 +98,13 @@ pub record IsEnding (transfers : ℕ) (blocks : List Entry) (end : FeedEnd) : Ty
   pub count : (bytes : ℕ) → end ≡ Whole bytes → length (joined_bytes blocks) ≡ bytes
   pub cut : ((bytes : ℕ) → end ≢ Whole bytes) → has_cut blocks ≡ true
 
--- Once it ended, they are the stream of the data that were read; and where the files are told, the walk's.
+-- Once it ended, they are the stream of the data that were read, which lie within the limit; and where the files are
+-- told, the walk's.
 pub record IsEnded (plan : Plan) (told : Told) (size : ℕ) (headers blocks : List Entry)
     (end : FeedEnd) : Type 0 where
   pub before : List (List ℕ)
   pub current : List ℕ
+  pub few : length (joined_data before) + length current ≤ plan.max_bytes
   pub sealed : SealedAs plan size before current headers blocks end
   pub known : (files : List (List ℕ)) → AreTold told plan.names files →
       EndIs (stream_of plan files) size blocks end

@@ -60,7 +60,7 @@ go_on whole mid new told headers blocks (Ended end) a source block held due goes
     (subst Q (sym source)
     (subst P (sym goes.1)
     (whole_sealed whole plan told mid.source.place (length mid.block.items) headers blocks a.sealed goes.0
-    mid.source.headed (plan_place mid.source).from a.headers_are))))
+    mid.source.headed (plan_place mid.source).from a.headers_are (plan_place mid.source).total))))
 
 pub returns-in-Ok-clause-feeds : goal.returns-in-Ok-clause-feeds
 returns-in-Ok-clause-feeds c = λ told was.
