@@ -10,7 +10,7 @@ use Rattle.stream_model.specs.BlockLaws.{EndsAreCounted, EntriesAreOfTransfers}
 use Rattle.stream_model.specs.Recorded.{recorded_file}
 use Rattle.dada_recorder.specs.Making.{Outset, HasMade, IsFileFront}
 use Rattle.dada_recorder.specs.Blocks.{RecordPlan, PlanInRange, files_of_blocks}
-use Rattle.dada_recorder.specs.Recording.{GoesOn, IsWhole, IsGivenUp, IsBrokenOff, HasAll}
+use Rattle.dada_recorder.specs.Recording.{GoesOn, IsWhole, IsGivenUp, IsBrokenOff}
 use Rattle.dada_recorder.specs.declared.transfers.Transfers.{Transfers}
 use Rattle.dada_recorder.specs.TransferFiles.{recording_in, first_files}
 use Rattle.dada_recorder.specs.Transfers.{plan_in, files_of_first, IsRunning, HasAppended}
@@ -43,33 +43,37 @@ next_is_empty law counts blocks bytes =
 plan_stays : (t t' : Transfers) (P : RecordPlan → Type 0) → plan_in t' ≡ plan_in t → P (plan_in t) → P (plan_in t')
 plan_stays t t' P same has = subst P (sym same) has
 
-pub last_is_whole : EndsAreCounted → (t t' : Transfers) (headers blocks : List Entry) (bytes : List ℕ) →
-    HasAppended t headers blocks (entry End bytes) → plan_in t' ≡ plan_in t →
-    t.ended + 1 ≡ length t.offsets.now → IsWhole (plan_in t') headers (blocks ++ entry End bytes ∷ [])
-last_is_whole counts t t' headers blocks bytes has same all =
+pub last_is_whole : EntriesAreOfTransfers → EndsAreCounted → (t t' : Transfers) (headers blocks : List Entry)
+    (bytes : List ℕ) → HasAppended t headers blocks (entry End bytes) → plan_in t' ≡ plan_in t →
+    t'.finished ≡ t.finished + (t.files.place.number + 1) → t.ended + 1 ≡ length t.offsets.now →
+    IsWhole (plan_in t') headers (blocks ++ entry End bytes ∷ []) t'.finished
+last_is_whole law counts t t' headers blocks bytes has same finished all =
     let ends = last_ends counts blocks bytes in
     let ended = has.ended in
     let begun = has.goes_on.begun in
-    plan_stays t t' (λ p. IsWhole p headers (blocks ++ entry End bytes ∷ [])) same (record {
+    plan_stays t t' (λ p. IsWhole p headers (blocks ++ entry End bytes ∷ []) t'.finished) same (record {
       in_limits = in_limits_with t headers blocks (entry End bytes) has;
       all = omega (arith, ends, ended, all);
       uncut = cut_more counts blocks (entry End bytes) has.goes_on.uncut;
       begun = omega (arith, begun, ended, all);
+      count = finished ∙ count_all law t headers blocks (entry End bytes) has;
     })
 
-pub cut_is_given_up : EndsAreCounted → (t t' : Transfers) (headers blocks : List Entry) (bytes : List ℕ) →
-    HasAppended t headers blocks (entry Cut bytes) → plan_in t' ≡ plan_in t →
-    IsGivenUp (plan_in t') headers (blocks ++ entry Cut bytes ∷ [])
-cut_is_given_up counts t t' headers blocks bytes has same =
+pub cut_is_given_up : EntriesAreOfTransfers → EndsAreCounted → (t t' : Transfers) (headers blocks : List Entry)
+    (bytes : List ℕ) → HasAppended t headers blocks (entry Cut bytes) → plan_in t' ≡ plan_in t →
+    t'.finished ≡ t.finished + (t.files.place.number + 1) →
+    IsGivenUp (plan_in t') headers (blocks ++ entry Cut bytes ∷ []) t'.finished
+cut_is_given_up law counts t t' headers blocks bytes has same finished =
     let ends : ended_transfers (blocks ++ entry Cut bytes ∷ []) ≡ ended_transfers blocks =
     ended_more counts blocks (entry Cut bytes) ∙ omega arith in
     let begun = has.goes_on.begun in
     let more = has.goes_on.more in
-    plan_stays t t' (λ p. IsGivenUp p headers (blocks ++ entry Cut bytes ∷ [])) same (record {
+    plan_stays t t' (λ p. IsGivenUp p headers (blocks ++ entry Cut bytes ∷ []) t'.finished) same (record {
       in_limits = in_limits_with t headers blocks (entry Cut bytes) has;
       more = omega (arith, ends, more);
       cut = cut_more counts blocks (entry Cut bytes) has.goes_on.uncut;
       begun = omega (arith, ends, begun);
+      count = finished ∙ count_all law t headers blocks (entry Cut bytes) has;
     })
 
 pub end_breaks_off : EndsAreCounted → (t t' : Transfers) (headers blocks : List Entry) (block : Entry) →
@@ -164,17 +168,6 @@ all_made law t t' headers blocks block outset seen has same made =
     let Made : List NamedBytes → Type 0 = λ fs. HasMade outset false fs seen in
     subst Made (sym (ap (λ (p : RecordPlan). files_of_blocks p headers (blocks ++ block ∷ [])) same
     ∙ split_last law t headers blocks block has)) made
-
-pub has_all : EntriesAreOfTransfers → (t t' : Transfers) (headers blocks : List Entry) (block : Entry)
-    (outset : Outset) (seen : FilesSeen) → HasAppended t headers blocks block → plan_in t' ≡ plan_in t →
-    t'.finished ≡ t.finished + (t.files.place.number + 1) →
-    HasMade outset false (before_last t headers blocks block ++ last_file t blocks block ∷ []) seen →
-    HasAll (plan_in t') outset headers (blocks ++ block ∷ []) t'.finished seen
-has_all law t t' headers blocks block outset seen has same finished made = record {
-  made = all_made law t t' headers blocks block outset seen has same made;
-  count = finished ∙ count_all law t headers blocks block has
-      ∙ ap (λ (p : RecordPlan). length (files_of_blocks p headers (blocks ++ block ∷ []))) (sym same);
-}
 
 -- a front of them is one of the files with the last one
 pub front_of_all : EntriesAreOfTransfers → (t t' : Transfers) (headers blocks : List Entry) (block : Entry)

@@ -12,7 +12,8 @@ use Rattle.dada_recorder.specs.declared.transfers.Transfers.{Transfers}
 use Rattle.dada_recorder.specs.Making.{Outset, HasMade, BeginsAt, left_after, total_bytes}
 use Rattle.dada_recorder.specs.Blocks.{RecordPlan, PlanInRange, files_of_blocks}
 use Rattle.dada_recorder.specs.Recording.{GoesOn, FilesAre}
-use Rattle.dada_recorder.specs.Transfers.{plan_in, files_of_first, IsRunning}
+use Rattle.dada_recorder.specs.declared.track.Track.{Track}
+use Rattle.dada_recorder.specs.Transfers.{plan_in, files_of_first, IsRunning, StandsAt}
 
 no_block : (plan : RecordPlan) → PlanInRange plan → GoesOn plan false [] []
 unfolding joined_bytes ended_transfers has_cut transfer_bytes
@@ -77,3 +78,9 @@ begins_made plan outset is_open end seen begins closed running =
           (sym (append-nil outset.files));
       left = begins.left ∙ nothing_taken outset.left;
     })))
+
+pub stands_fresh : (track : Track) → track.end ≡ None → IsRunning track.transfers [] [] →
+    StandsAt track.transfers [] [] track.end
+stands_fresh track running nothing =
+    let At : Option RecordEnd → Type 0 = λ end. StandsAt track.transfers [] [] end in
+    subst At (sym running) nothing

@@ -14,11 +14,11 @@ use Rattle.dada_recorder.specs.declared.answers.RecordEnd.{RecordEnd}
 use Rattle.dada_recorder.specs.declared.answers.RecordEnd.TheVariants.{Whole, Cut, FileFault, BadHeader, TooLong}
 use Rattle.dada_recorder.specs.declared.answers.RecordFault.{RecordFault}
 use Rattle.dada_recorder.specs.declared.answers.RecordFault.TheVariants.{NotHeader, NoUtc, BadUtc, Overfull, TooManyFiles}
-use Rattle.dada_recorder.specs.Making.{Outset}
+use Rattle.dada_recorder.specs.Making.{Outset, HasMade}
 use Rattle.dada_recorder.specs.Changes.{recording}
 use Rattle.dada_recorder.specs.Blocks.{RecordPlan, files_of_blocks, RefusesHeader, RefusesBlock, AcceptsBlock}
-use Rattle.dada_recorder.specs.Recording.{EndIs, HasAll, FilesAre, IsWhole, IsGivenUp}
-use Rattle.dada_recorder.specs.RecordingLaws.{AreComplete, Cleared, BeginsComplete, AreAllCleared, EndsComplete, HasFilesOfAll, RecordingsEnd}
+use Rattle.dada_recorder.specs.Recording.{EndIs, FilesAre, IsWhole, IsGivenUp}
+use Rattle.dada_recorder.specs.RecordingLaws.{AreComplete, Cleared, BeginsComplete, AreAllCleared, AreAllRecorded, EndsComplete, HasFilesOfAll, RecordingsEnd}
 use Rattle.dada_recorder.proofs.FollowingBlocks.{blocks_follow}
 
 -- ---- all blocks
@@ -103,35 +103,57 @@ never_long law front all limit is few many =
 
 -- ---- ends
 
-whole_end : (plan : RecordPlan) (c : Cleared) → BeginsComplete plan c → IsWhole plan c.headers c.blocks →
-    AreAllCleared c × (has_cut c.all_blocks ≡ false)
-whole_end plan c begins is =
-    let same = over plan c.all_headers c.all_blocks c.blocks begins.complete begins.blocks
-    (over_by_ends (length plan.offsets) c.blocks (omega (arith, is.all))) in (
-      record {
-        headers = as_many c.headers c.all_headers begins.headers (omega (arith, begins.complete.few, is.begun));
-        blocks = same;
-      },
-      ap has_cut (sym same) ∙ is.uncut,
-    )
+-- all blocks have as many files as those that were cleared
+count_of_all : (plan : RecordPlan) (c : Cleared) (files : ℕ) → AreAllCleared c →
+    files ≡ length (files_of_blocks plan c.headers c.blocks) →
+    files ≡ length (files_of_blocks plan c.all_headers c.all_blocks)
+count_of_all plan c files all count =
+    count ∙ ap (λ (hs : List Entry). length (files_of_blocks plan hs c.blocks)) all.headers
+    ∙ ap (λ (bs : List Entry). length (files_of_blocks plan c.all_headers bs)) all.blocks
 
-cut_end : (plan : RecordPlan) (c : Cleared) → BeginsComplete plan c → IsGivenUp plan c.headers c.blocks →
-    AreAllCleared c × (has_cut c.all_blocks ≡ true)
-cut_end plan c begins is =
+whole_clears : (plan : RecordPlan) (c : Cleared) (files : ℕ) → BeginsComplete plan c →
+    IsWhole plan c.headers c.blocks files → AreAllCleared c
+whole_clears plan c files begins is = record {
+  headers = as_many c.headers c.all_headers begins.headers (omega (arith, begins.complete.few, is.begun));
+  blocks = over plan c.all_headers c.all_blocks c.blocks begins.complete begins.blocks
+      (over_by_ends (length plan.offsets) c.blocks (omega (arith, is.all)));
+}
+
+whole_end : (plan : RecordPlan) (c : Cleared) (files : ℕ) → BeginsComplete plan c →
+    IsWhole plan c.headers c.blocks files → AreAllRecorded plan c false files
+whole_end plan c files begins is =
+    let all = whole_clears plan c files begins is in
+    record {
+      cleared = all;
+      given_up = ap has_cut (sym all.blocks) ∙ is.uncut;
+      count = count_of_all plan c files all is.count;
+    }
+
+cut_clears : (plan : RecordPlan) (c : Cleared) (files : ℕ) → BeginsComplete plan c →
+    IsGivenUp plan c.headers c.blocks files → AreAllCleared c
+cut_clears plan c files begins is =
     let same = over plan c.all_headers c.all_blocks c.blocks begins.complete begins.blocks
     (over_by_cut (length plan.offsets) c.blocks is.cut) in
-    let ended : ended_transfers c.blocks ≡ ended_transfers c.all_blocks = ap ended_transfers same in (
-      record {
-        headers = as_many c.headers c.all_headers begins.headers (omega (arith, begins.complete.begun, is.begun, ended));
-        blocks = same;
-      },
-      ap has_cut (sym same) ∙ is.cut,
-    )
+    let ended : ended_transfers c.blocks ≡ ended_transfers c.all_blocks = ap ended_transfers same in
+    record {
+      headers = as_many c.headers c.all_headers begins.headers (omega (arith, begins.complete.begun, is.begun, ended));
+      blocks = same;
+    }
+
+cut_end : (plan : RecordPlan) (c : Cleared) (files : ℕ) → BeginsComplete plan c →
+    IsGivenUp plan c.headers c.blocks files → AreAllRecorded plan c true files
+cut_end plan c files begins is =
+    let all = cut_clears plan c files begins is in
+    record {
+      cleared = all;
+      given_up = ap has_cut (sym all.blocks) ∙ is.cut;
+      count = count_of_all plan c files all is.count;
+    }
 
 end_is : BytesAreJoined → (plan : RecordPlan) (c : Cleared) (has_header : Bool) (end : RecordEnd) → BeginsComplete plan c →
-    EndIs plan has_header c.headers c.blocks (Some end) → EndsComplete c end
-end_is law plan c has_header (Whole files) begins is = whole_end plan c begins is
-end_is law plan c has_header (Cut files) begins is = cut_end plan c begins is
+    EndIs plan has_header c.headers c.blocks (Some end) → EndsComplete plan c end
+end_is law plan c has_header (Whole files) begins is = whole_end plan c files begins is
+end_is law plan c has_header (Cut files) begins is = cut_end plan c files begins is
 end_is law plan c has_header FileFault begins is = tt
 end_is law plan c has_header (BadHeader fault) begins is =
     never_fault plan (length is.before) is.last.bytes fault
@@ -143,11 +165,12 @@ end_is law plan c has_header (TooLong limit) begins is =
 
 -- ---- files
 
-all_files : (plan : RecordPlan) (outset : Outset) (c : Cleared) (files : ℕ) (seen : FilesSeen) → AreAllCleared c →
-    HasAll plan outset c.headers c.blocks files seen → HasAll plan outset c.all_headers c.all_blocks files seen
-all_files plan outset c files seen all has =
-    let Headers : List Entry → Type 0 = λ hs. HasAll plan outset hs c.all_blocks files seen in
-    let Blocks : List Entry → Type 0 = λ bs. HasAll plan outset c.headers bs files seen in
+all_files : (plan : RecordPlan) (outset : Outset) (c : Cleared) (seen : FilesSeen) → AreAllCleared c →
+    HasMade outset false (files_of_blocks plan c.headers c.blocks) seen →
+    HasMade outset false (files_of_blocks plan c.all_headers c.all_blocks) seen
+all_files plan outset c seen all has =
+    let Headers : List Entry → Type 0 = λ hs. HasMade outset false (files_of_blocks plan hs c.all_blocks) seen in
+    let Blocks : List Entry → Type 0 = λ bs. HasMade outset false (files_of_blocks plan c.headers bs) seen in
     subst Headers all.headers (subst Blocks all.blocks has)
 
 files_are : BytesAreJoined → EntriesAreOfTransfers → (plan : RecordPlan) (c : Cleared) (has_header is_open : Bool)
@@ -155,9 +178,9 @@ files_are : BytesAreJoined → EntriesAreOfTransfers → (plan : RecordPlan) (c 
     EndIs plan has_header c.headers c.blocks (Some end) →
     FilesAre plan outset is_open c.headers c.blocks (Some end) seen → HasFilesOfAll plan outset c end seen
 files_are law entries plan c has_header is_open (Whole files) outset seen some begins is has =
-    all_files plan outset c files seen (whole_end plan c begins is).0 has
+    all_files plan outset c seen (whole_clears plan c files begins is) has
 files_are law entries plan c has_header is_open (Cut files) outset seen some begins is has =
-    all_files plan outset c files seen (cut_end plan c begins is).0 has
+    all_files plan outset c seen (cut_clears plan c files begins is) has
 files_are law entries plan c has_header is_open FileFault outset seen some begins is has =
     has (files_of_blocks plan c.all_headers c.all_blocks)
     (blocks_follow entries plan c.headers c.all_headers c.blocks c.all_blocks (omega (arith, some)) begins.headers

@@ -1,5 +1,5 @@
 -- Worked values of files that are made one after another, computed.
-use Rattle.std.specs.Prelude.{◌≡◌, List, [], ◌∷◌, true, false, Some, None, codes, refl}
+use Rattle.std.specs.Prelude.{◌≡◌, [], ◌∷◌, true, false, Some, None, codes, refl}
 use Rattle.std.proofs.Common.{inl, inr, arith}
 use Rattle.psr_base.specs.Made.{NamedBytes}
 use Rattle.dada_recorder.specs.declared.transfer_files.FilePlace.{FilePlace}

@@ -1,14 +1,15 @@
 -- What contracts see of a recorder.
 -- Source: this project's profile.
-use Rattle.std.specs.Prelude.{ℕ, Bool, Option, List}
+use Rattle.std.specs.Prelude.{◌≡◌, ℕ, Bool, false, Option, None, List, []}
 use Rattle.psr_base.specs.Made.{FilesSeen}
 use Rattle.ring_blocks.specs.declared.Entry.{Entry}
 use Rattle.dada_recorder.specs.declared.answers.RecordEnd.{RecordEnd}
 use Rattle.dada_recorder.specs.declared.recorder.Recorder.{Recorder}
+use Rattle.dada_recorder.specs.declared.space.RecorderSpace.{RecorderSpace}
 use Rattle.dada_recorder.specs.Blocks.{RecordPlan}
-use Rattle.dada_recorder.specs.Making.{Outset}
+use Rattle.dada_recorder.specs.Making.{Outset, BeginsAt}
 use Rattle.dada_recorder.specs.Recording.{FilesAre}
-use Rattle.dada_recorder.specs.Transfers.{plan_in, StandsAt}
+use Rattle.dada_recorder.specs.Transfers.{plan_in, IsRunning, StandsAt}
 
 -- what it records of: the offsets of its transfers, and its limits
 abbrev pub plan_of : {F : Type 0} → Recorder F → RecordPlan
@@ -39,3 +40,23 @@ abbrev pub FilesAreOf : {F : Type 0} → Recorder F → Outset → List Entry �
     FilesSeen → Type 0
 FilesAreOf r outset headers blocks seen =
     FilesAre (plan_of r) outset (has_open_file r) headers blocks (has_end r) seen
+
+-- ---- before the first turn
+
+-- the space of a recorder with this plan, for blocks of this size
+pub record IsSpaceFor (space : RecorderSpace) (plan : RecordPlan) (block : ℕ) : Type 0 where
+  pub plan_is : plan_in space.track.transfers ≡ plan
+  pub block_is : space.track.block ≡ block
+  pub closed : space.track.transfers.files.place.is_open ≡ false
+  pub running : space.track.end ≡ None
+  pub nothing : IsRunning space.track.transfers [] []
+
+-- a recorder with this plan, for blocks of this size, which read nothing and made nothing
+pub record IsFreshFor {F : Type 0} (r : Recorder F) (plan : RecordPlan) (block : ℕ) : Type 0 where
+  pub plan_is : plan_of r ≡ plan
+  pub block_is : block_size r ≡ block
+  pub closed : has_open_file r ≡ false
+  pub running : has_end r ≡ None
+  pub stands : RecorderStands r [] []
+  pub made : (outset : Outset) (seen : FilesSeen) → BeginsAt outset seen →
+      FilesAreOf r outset [] [] seen

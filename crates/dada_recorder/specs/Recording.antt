@@ -27,19 +27,21 @@ pub record GoesOn (plan : RecordPlan) (has_header : Bool) (headers blocks : List
   pub begun : length headers ≡ ended_transfers blocks + (if has_header then 1 else 0)
   pub between : has_header ≡ false → transfer_bytes (ended_transfers blocks) blocks ≡ []
 
--- all transfers have ended
-pub record IsWhole (plan : RecordPlan) (headers blocks : List Entry) : Type 0 where
+-- all transfers have ended, with so many files
+pub record IsWhole (plan : RecordPlan) (headers blocks : List Entry) (files : ℕ) : Type 0 where
   pub in_limits : AreInLimits plan headers blocks
   pub all : ended_transfers blocks ≡ length plan.offsets
   pub uncut : has_cut blocks ≡ false
   pub begun : length headers ≡ length plan.offsets
+  pub count : files ≡ length (files_of_blocks plan headers blocks)
 
--- the last entry is a Cut
-pub record IsGivenUp (plan : RecordPlan) (headers blocks : List Entry) : Type 0 where
+-- the last entry is a Cut, after so many files
+pub record IsGivenUp (plan : RecordPlan) (headers blocks : List Entry) (files : ℕ) : Type 0 where
   pub in_limits : AreInLimits plan headers blocks
   pub more : ended_transfers blocks < length plan.offsets
   pub cut : has_cut blocks ≡ true
   pub begun : length headers ≡ ended_transfers blocks + 1
+  pub count : files ≡ length (files_of_blocks plan headers blocks)
 
 -- the last header block is refused
 pub record IsRefusedAt (plan : RecordPlan) (headers blocks : List Entry) (why : RecordFault) :
@@ -69,8 +71,8 @@ pub record IsBrokenOff (plan : RecordPlan) (headers blocks : List Entry) : Type 
 -- may come at any block.
 abbrev pub EndIs : RecordPlan → Bool → List Entry → List Entry → Option RecordEnd → Type 0
 EndIs plan has_header headers blocks None = GoesOn plan has_header headers blocks
-EndIs plan has_header headers blocks (Some (Whole files)) = IsWhole plan headers blocks
-EndIs plan has_header headers blocks (Some (Cut files)) = IsGivenUp plan headers blocks
+EndIs plan has_header headers blocks (Some (Whole files)) = IsWhole plan headers blocks files
+EndIs plan has_header headers blocks (Some (Cut files)) = IsGivenUp plan headers blocks files
 EndIs plan has_header headers blocks (Some FileFault) = IsBrokenOff plan headers blocks
 EndIs plan has_header headers blocks (Some (BadHeader fault)) =
     IsRefusedAt plan headers blocks fault
@@ -78,13 +80,7 @@ EndIs plan has_header headers blocks (Some (TooLong limit)) = IsTooLong plan hea
 
 -- ---- the files that were made
 
--- all files of the blocks are there, and all of them are finished
-pub record HasAll (plan : RecordPlan) (outset : Outset) (headers blocks : List Entry) (files : ℕ)
-    (seen : FilesSeen) : Type 0 where
-  pub made : HasMade outset false (files_of_blocks plan headers blocks) seen
-  pub count : files ≡ length (files_of_blocks plan headers blocks)
-
--- those without the last block are
+-- the files of the blocks without the last one are there
 pub record LacksHeader (plan : RecordPlan) (outset : Outset) (headers blocks : List Entry)
     (seen : FilesSeen) : Type 0 where
   pub before : List Entry
@@ -99,7 +95,8 @@ pub record LacksBlock (plan : RecordPlan) (outset : Outset) (is_open : Bool)
   pub blocks_are : blocks ≡ before ++ last ∷ []
   pub made : HasMade outset is_open (files_of_blocks plan headers before) seen
 
--- What the files tell since the outset: the files of the blocks. At a fault it is a front of any
+-- What the files tell since the outset: the files of the blocks, all of them finished at the end of
+-- the stream. At a fault it is a front of any
 -- files that begin with those; a header block that is refused, and a data block that passes the
 -- limit, left nothing.
 abbrev pub FilesAre : RecordPlan → Outset → Bool → List Entry → List Entry → Option RecordEnd →
@@ -107,9 +104,9 @@ abbrev pub FilesAre : RecordPlan → Outset → Bool → List Entry → List Ent
 FilesAre plan outset is_open headers blocks None seen =
     HasMade outset is_open (files_of_blocks plan headers blocks) seen
 FilesAre plan outset is_open headers blocks (Some (Whole files)) seen =
-    HasAll plan outset headers blocks files seen
+    HasMade outset false (files_of_blocks plan headers blocks) seen
 FilesAre plan outset is_open headers blocks (Some (Cut files)) seen =
-    HasAll plan outset headers blocks files seen
+    HasMade outset false (files_of_blocks plan headers blocks) seen
 FilesAre plan outset is_open headers blocks (Some FileFault) seen =
     (all : List NamedBytes) → IsFileFront (files_of_blocks plan headers blocks) all →
     BreaksOff outset all seen

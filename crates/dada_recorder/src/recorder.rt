@@ -3,11 +3,12 @@ ghost use Rattle.std.specs.Prelude.{◌≡◌, ◌≢◌, ℕ, ◌^◌, ◌≤�
 ghost use Rattle.psr_base.specs.Count.{Rose};
 ghost use Rattle.dada_hdu.specs.Passes.{ReadsBoth, data_shape};
 ghost use Rattle.dada_recorder.specs.declared.answers.RecordEnd.TheVariants.{FileFault};
-ghost use Rattle.dada_recorder.specs.Blocks.{PlanInRange, record_plan};
-ghost use Rattle.dada_recorder.specs.Making.{Outset, BeginsAt, IsOpenAs};
+ghost use Rattle.dada_recorder.specs.Blocks.{RecordPlan, PlanInRange, record_plan};
+ghost use Rattle.dada_recorder.specs.Making.{Outset, IsOpenAs};
 ghost use Rattle.dada_recorder.specs.Turns.{RecordAnswers, cleared_headers, cleared_blocks};
 
 use crate::answers::RecordTurn;
+use crate::space::RecorderSpace;
 use crate::track::Track;
 use dada_hdu::{Hdu, HduReader};
 use psr_base::{Files, Memory};
@@ -23,10 +24,9 @@ pub struct Recorder<'a, F> {
 }
 
 impl<'a, F: Files> Recorder<'a, F> {
-    ghost use Rattle.dada_recorder.specs.Recorder.{plan_of, block_size, has_end, has_header, has_open_file, RecorderStands, FilesAreOf};
+    ghost use Rattle.dada_recorder.specs.Recorder.{plan_of, block_size, has_end, has_header, has_open_file, RecorderStands, FilesAreOf, IsSpaceFor, IsFreshFor};
 
-    /// Takes all space. `first_offsets` has the OBS_OFFSET of each transfer's first data byte, `block` is the size of the
-    /// data ring's blocks, a file has at most `file_size` data bytes, and all transfers together `max_bytes`.
+    /// Takes all space, as `RecorderSpace::take` does.
     pub fn open(
         alloc: Global,
         files: &'a mut F,
@@ -40,17 +40,23 @@ impl<'a, F: Files> Recorder<'a, F> {
         requires closed { ¬ F.is_open files.old }
         ensures files { IfOk result (λ r. r.files.now ≡ files.old) }
         ensures same_reference { IfOk result (λ r. r.files.ghost_name ≡ files.entry.ghost_name) }
-        ensures plan { IfOk result (λ r.
-            plan_of r ≡ record_plan first_offsets.now file_size max_bytes) }
-        ensures block { IfOk result (λ r. block_size r ≡ block) }
-        ensures closed { IfOk result (λ r. has_open_file r ≡ false) }
-        ensures running { IfOk result (λ r. has_end r ≡ None) }
-        ensures stands { IfOk result (λ r. RecorderStands r [] []) }
-        ensures made { IfOk result (λ r. (outset : Outset) → BeginsAt outset (F.seen files.old)
-            → FilesAreOf r outset [] [] (F.seen files.old)) }
+        ensures fresh { IfOk result (λ r.
+            IsFreshFor r (record_plan first_offsets.now file_size max_bytes) block) }
     {
-        let track = Track::open(alloc, first_offsets, block, file_size, max_bytes)?;
-        Ok(Recorder { files, track })
+        let space = RecorderSpace::take(alloc, first_offsets, block, file_size, max_bytes)?;
+        Ok(Recorder::over(files, space))
+    }
+
+    /// Borrows files for a recorder whose space was taken.
+    pub fn over(files: &'a mut F, space: RecorderSpace<'a>) -> Recorder<'a, F>
+        requires closed { ¬ F.is_open files.old }
+        ensures files { result.files.now ≡ files.old }
+        ensures same_reference { result.files.ghost_name ≡ files.entry.ghost_name }
+        ensures fresh { (plan : RecordPlan) (block : ℕ) → IsSpaceFor space.entry plan block
+            → IsFreshFor result plan block }
+    {
+        let RecorderSpace { track } = space;
+        Recorder { files, track }
     }
 
     /// Reads one block: a header block where a transfer is next, and else a data block. It goes into files and is

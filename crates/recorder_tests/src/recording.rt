@@ -35,20 +35,20 @@ pub(crate) fn header_of(alloc: Global, lines: &str) -> Result<Header, Fail> {
     }
 }
 
-// Writes the full blocks of data, and says where the rest begins.
-fn write_full(hdu: &Hdu, pass: &mut HduWriter, data: &[u8], size: usize) -> usize
+// Writes the full blocks of a transfer's bytes, and says where the rest begins.
+fn write_full(hdu: &Hdu, pass: &mut HduWriter, bytes: &[u8], size: usize) -> usize
     requires writes { WritesBoth hdu.now pass.old }
     requires size { (data_shape hdu.now).size ≡ size }
     requires some { 1 ≤ size }
     ensures writes { WritesBoth hdu.now pass.new }
-    ensures within { result ≤ length data.now }
+    ensures within { result ≤ length bytes.now }
 {
     let mut at = 0;
-    for _block in 0..data.len() {
-        if data.len() - at < size {
+    for _block in 0..bytes.len() {
+        if bytes.len() - at < size {
             return at;
         }
-        let _written = hdu.write(pass, &data[at..at + size], Mark::More);
+        let _written = hdu.write(pass, &bytes[at..at + size], Mark::More);
         at += size;
     }
     at
@@ -77,7 +77,7 @@ fn write_transfer(
     hdu: &Hdu,
     pass: &mut HduWriter,
     header: &Header,
-    data: &[u8],
+    bytes: &[u8],
     size: usize,
     last: Mark,
 )
@@ -87,8 +87,8 @@ fn write_transfer(
     ensures writes { WritesBoth hdu.now pass.new }
 {
     let _written = hdu.write_header(pass, header);
-    let at = write_full(hdu, pass, data, size);
-    write_last(hdu, pass, &data[at..], size, last);
+    let at = write_full(hdu, pass, bytes, size);
+    write_last(hdu, pass, &bytes[at..], size, last);
 }
 
 // Writes all transfers.
@@ -105,14 +105,14 @@ fn write_all(
     requires some { 1 ≤ size }
 {
     for k in 0..transfers.len() {
-        let (lines, data) = transfers[k];
+        let (lines, bytes) = transfers[k];
         let header = header_of(alloc, lines)?;
         let mark = if k + 1 < transfers.len() {
             Mark::End
         } else {
             last
         };
-        write_transfer(hdu, pass, &header, data, size, mark);
+        write_transfer(hdu, pass, &header, bytes, size, mark);
     }
     Ok(())
 }

@@ -1,7 +1,4 @@
-use Rattle.dada_recorder.proofs.Opening.{begins_made}
 use Rattle.dada_recorder.proofs.recorder.Recorder.open.Goals as goal
 
-pub returns-clause-made : goal.returns-clause-made
-returns-clause-made g c = λ outset begins.
-    begins_made _ outset _ _ (g.F.Files.seen c.args.files.now) begins c.in_ok-track.ensures.closed
-    c.in_ok-track.ensures.end
+pub returns-clause-fresh : goal.returns-clause-fresh
+returns-clause-fresh g c = c.over.ensures.fresh _ _ c.in_ok-space.ensures

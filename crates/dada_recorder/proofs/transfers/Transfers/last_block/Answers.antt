@@ -4,7 +4,7 @@ use Rattle.dada_hdu.specs.Answers.{entry}
 use Rattle.dada_recorder.specs.Making.{HasMade}
 use Rattle.dada_recorder.specs.Blocks.{files_of_blocks}
 use Rattle.dada_recorder.specs.Transfers.{plan_in}
-use Rattle.dada_recorder.proofs.Ending.{last_is_whole, next_runs, closed_made, before_last, last_file, all_made, has_all, front_of_all, of_offsets}
+use Rattle.dada_recorder.proofs.Ending.{last_is_whole, next_runs, closed_made, before_last, last_file, all_made, front_of_all, of_offsets}
 use Rattle.dada_recorder.proofs.transfers.Transfers.last_block.Goals as goal
 
 pub returns-in-Err-clause-made : goal.returns-in-Err-clause-made
@@ -22,16 +22,16 @@ returns-then-self-clause-stands g c = λ headers blocks bytes has.
     let offsets = of_offsets t c.end_transfer.new.self c.in-Ok.ensures.plan in
     let ended = c.in-Ok.ensures.ended in
     let all = c.if-self.true in
-    last_is_whole c.ends_are_counted.ensures t c.end_transfer.new.self headers blocks bytes has c.in-Ok.ensures.plan
-    (omega (arith, offsets, ended, all))
+    last_is_whole c.entries_are_of_transfers.ensures c.ends_are_counted.ensures t c.end_transfer.new.self headers blocks
+    bytes has c.in-Ok.ensures.plan c.in-Ok.ensures.finished (omega (arith, offsets, ended, all))
 
 pub returns-then-self-clause-made : goal.returns-then-self-clause-made
 returns-then-self-clause-made g c = λ headers blocks bytes has outset made.
     let t = c.args.self.now in
     let law = c.entries_are_of_transfers.ensures in
     let block = entry End bytes in
-    has_all law t c.end_transfer.new.self headers blocks block outset (g.F.Files.seen c.end_transfer.new.files) has c.in-Ok.ensures.plan
-    c.in-Ok.ensures.finished
+    all_made law t c.end_transfer.new.self headers blocks block outset (g.F.Files.seen c.end_transfer.new.files) has
+    c.in-Ok.ensures.plan
     ((c.in-Ok.ensures.made (before_last t headers blocks block) (last_file t blocks block)).all outset
     (closed_made law t headers blocks block outset (g.F.Files.seen c.args.files.now) has made))
 
