@@ -8,11 +8,12 @@ use Rattle.dada_hdu.specs.declared.hdu.Hdu.{Hdu}
 use Rattle.disk_feeder.specs.declared.answers.FeedEnd.{FeedEnd}
 use Rattle.disk_feeder.specs.declared.answers.FeedFault.{FeedFault}
 use Rattle.disk_feeder.specs.declared.feeder.Feeder.{Feeder}
+use Rattle.disk_feeder.specs.declared.feeder.FeederSpace.{FeederSpace}
 use Rattle.disk_feeder.specs.declared.stream.Stream.{Stream}
 use Rattle.disk_feeder.specs.Plan.{Plan}
 use Rattle.disk_feeder.specs.Sources.{plan_of}
 use Rattle.disk_feeder.specs.Filling.{IsSince}
-use Rattle.disk_feeder.specs.Beginning.{IsFreshStream, IsBegunStream, RefusesSome, IsAcceptedIn}
+use Rattle.disk_feeder.specs.Beginning.{IsFreshStream, IsBegunStream, LastLeft, RefusesSome, IsAcceptedIn}
 use Rattle.disk_feeder.specs.Feeding.{FitsRings, IsFaultless, IsFeeding, IsBeginning}
 
 -- the stream of a feeder
@@ -58,6 +59,15 @@ pub record SamePlan {I : Type 0} (old new : Feeder I) : Type 0 where
   pub size : block_size new ≡ block_size old
   pub headers : length (header_at new) ≡ length (header_at old)
 
+-- the space of a feeder that is to read these files, in blocks of this size
+pub record IsSpaceFor (space : FeederSpace) (names : List (List ℕ)) (starts : List ℕ)
+    (size max_bytes : ℕ) : Type 0 where
+  pub files : (plan_of space.stream.source).names ≡ names
+  pub transfers : (plan_of space.stream.source).starts ≡ starts
+  pub limit : (plan_of space.stream.source).max_bytes ≡ max_bytes
+  pub block : length space.stream.block.items ≡ size
+  pub fresh : IsFreshStream space.stream
+
 -- nothing was read
 abbrev pub IsFresh : {I : Type 0} → Feeder I → Type 0
 IsFresh f = IsFreshStream f.stream
@@ -69,6 +79,10 @@ HasOpenFile f = f.stream.source.place.is_open ≡ true
 -- the first headers were read, and those of files that are told are those of the files
 abbrev pub IsBegun : {I : Type 0} → Told → Feeder I → Type 0
 IsBegun told f = IsBegunStream told f.stream
+
+-- what is left to read are the data of the first file of the last transfer
+abbrev pub FirstsLeft : {I : Type 0} → Told → Feeder I → Told → Type 0
+FirstsLeft told f told' = LastLeft told f.stream.source (length (plan_at f).starts) told'
 
 -- why a first header is refused: the inputs failed, or it is the first in the order of the transfers that is refused
 abbrev pub RefusesAt : {I : Type 0} → Told → Feeder I → FeedFault → Type 0

@@ -20,10 +20,41 @@ use std::alloc::Global;
 // Laws: they do nothing when they run, and the proofs use what they ensure.
 use stream_model::{data_grow, data_none, first_files_continue};
 
+/// The space of a feeder: for the first header of each transfer, and for a block. All memory that a feeder needs is in it.
+#[derive(Drop)]
+pub struct FeederSpace<'a> {
+    stream: Stream<'a>,
+}
+
+impl<'a> FeederSpace<'a> {
+    ghost use Rattle.disk_feeder.specs.Feeder.{IsSpaceFor};
+
+    /// Takes all space, for blocks of so many bytes. Transfer k begins with file `starts[k]`; all files may have at most
+    /// `max_bytes` data bytes together.
+    pub fn take(
+        alloc: Global,
+        names: &'a [String],
+        starts: &'a [u32],
+        block: u32,
+        max_bytes: u64,
+    ) -> Result<FeederSpace<'a>, Memory>
+        requires files { length names.now ≤ 65535 }
+        requires transfers { length starts.now ≤ 8 }
+        requires begin { AreStarts starts.now (length names.now) }
+        requires block { (1 ≤ block) × (block ≤ 2 ^ 24) }
+        requires limit { max_bytes ≤ 2 ^ 48 }
+        ensures { IfOk result (λ space.
+            IsSpaceFor space (map string_bytes names.now) starts.now block max_bytes) }
+    {
+        let stream = Stream::open(alloc, names, starts, block as usize, max_bytes)?;
+        Ok(FeederSpace { stream })
+    }
+}
+
 /// Reads the files of one or more transfers from borrowed inputs, and seals their headers and their data.
 ///
-/// It is opened, begun, and given the observation of each transfer's first header; then it takes turns until it ended.
-/// No call after `open` takes memory.
+/// It is opened over its space, begun, and given the observation of each transfer's first header; then it takes turns
+/// until it ended. None of these takes memory.
 #[derive(Drop)]
 pub struct Feeder<'a, I> {
     inputs: &'a mut I,
@@ -31,32 +62,19 @@ pub struct Feeder<'a, I> {
 }
 
 impl<'a, I: Inputs> Feeder<'a, I> {
-    ghost use Rattle.disk_feeder.specs.Feeder.{HasPlan, SamePlan, IsFresh, IsBegun, HasOpenFile, has_end, FeederFits, FeederFeeds, FeederSince, FeederFaultless, header_at, AcceptsAt, AllAccepted, names_at, plan_at, FeederBegins, RefusesAt};
+    ghost use Rattle.disk_feeder.specs.Feeder.{HasPlan, SamePlan, IsSpaceFor, IsFresh, IsBegun, FirstsLeft, HasOpenFile, has_end, FeederFits, FeederFeeds, FeederSince, FeederFaultless, header_at, AcceptsAt, AllAccepted, names_at, plan_at, FeederBegins, RefusesAt};
     ghost use Rattle.disk_feeder.specs.Feeding.{header_entries, HeadersKeepUp};
 
-    /// Takes all space: for the first header of each transfer and for a block of so many bytes. Transfer k begins with
-    /// file `starts[k]`; all files may have at most `max_bytes` data bytes together.
-    pub fn open(
-        alloc: Global,
-        inputs: &'a mut I,
-        names: &'a [String],
-        starts: &'a [u32],
-        block: u32,
-        max_bytes: u64,
-    ) -> Result<Feeder<'a, I>, Memory>
-        requires files { length names.now ≤ 65535 }
-        requires transfers { length starts.now ≤ 8 }
-        requires begin { AreStarts starts.now (length names.now) }
-        requires block { (1 ≤ block) × (block ≤ 2 ^ 24) }
-        requires limit { max_bytes ≤ 2 ^ 48 }
-        ensures inputs { IfOk result (λ f. f.inputs.now ≡ inputs.old) }
-        ensures same_reference { IfOk result (λ f. f.inputs.ghost_name ≡ inputs.entry.ghost_name) }
-        ensures plan { IfOk result (λ f.
-            HasPlan f (map string_bytes names.now) starts.now block max_bytes) }
-        ensures fresh { IfOk result IsFresh }
+    /// The feeder of a space, over borrowed inputs. Nothing is read.
+    pub fn over(inputs: &'a mut I, space: FeederSpace<'a>) -> Feeder<'a, I>
+        ensures inputs { result.inputs.now ≡ inputs.old }
+        ensures same_reference { result.inputs.ghost_name ≡ inputs.entry.ghost_name }
+        ensures opened { (names : List (List ℕ)) (starts : List ℕ) (size max_bytes : ℕ)
+            → IsSpaceFor space.entry names starts size max_bytes
+            → HasPlan result names starts size max_bytes × IsFresh result }
     {
-        let stream = Stream::open(alloc, names, starts, block as usize, max_bytes)?;
-        Ok(Feeder { inputs, stream })
+        let FeederSpace { stream } = space;
+        Feeder { inputs, stream }
     }
 
     /// Opens the first file of each transfer in order and reads its header.
@@ -66,6 +84,8 @@ impl<'a, I: Inputs> Feeder<'a, I> {
         ensures plan { SamePlan self.old self.new }
         ensures begun { OnOk result (IsBegun (I.told self.new.inputs.now) self.new) }
         ensures open { OnOk result (HasOpenFile self.new → I.is_open self.new.inputs.now) }
+        ensures left { OnOk result (FirstsLeft (I.told self.old.inputs.now) self.old
+            (I.told self.new.inputs.now)) }
         ensures refused { IfErr result (RefusesAt (I.told self.old.inputs.now) self.old) }
         ensures quiet { result ≢ Err FeedFault.ReadFault
             → I.faults self.new.inputs.now ≡ I.faults self.old.inputs.now }

@@ -84,7 +84,7 @@ pub(crate) struct Stream<'a> {
 
 impl<'a> Stream<'a> {
     ghost use Rattle.stream_model.specs.WalkLaws.{AreStarts};
-    ghost use Rattle.disk_feeder.specs.Beginning.{IsFreshStream, IsBegunStream, RefusesSome, KeepsFiles, AcceptsIn};
+    ghost use Rattle.disk_feeder.specs.Beginning.{IsFreshStream, IsBegunStream, LastLeft, RefusesSome, KeepsFiles, AcceptsIn};
     ghost use Rattle.disk_feeder.specs.Streams.{work_left, KeepsStream, Fills, IsSourceOver};
     ghost use Rattle.disk_feeder.specs.Feeding.{KeepsPlan, Feeds, AfterSeal, GoesOn, IsFeeding, FitsRings, IsFaultless};
 
@@ -124,6 +124,8 @@ impl<'a> Stream<'a> {
         requires { IsFreshStream self.old }
         ensures plan { KeepsFiles self.old self.new }
         ensures begun { OnOk result (IsBegunStream (I.told inputs.new) self.new) }
+        ensures left { OnOk result (LastLeft (I.told inputs.old) self.old.source
+            (length self.old.source.starts.now) (I.told inputs.new)) }
         ensures refused { IfErr result (RefusesSome (I.told inputs.old) self.old.source) }
         ensures is_open { OnOk result
             (self.new.source.place.is_open ≡ true → I.is_open inputs.new) }

@@ -9,7 +9,7 @@ ghost use Rattle.disk_feeder.specs.Turns.{sealed_headers, sealed_blocks};
 
 use crate::files::put_files;
 use dada_hdu::{Hdu, HduReader, HduWriter, Mark, RingShape, Taken};
-use disk_feeder::{FeedEnd, FeedFault, FeedTurn, Feeder};
+use disk_feeder::{FeedEnd, FeedFault, FeedTurn, Feeder, FeederSpace};
 use obs_plan::Observation;
 use psr_base::{Failed, Inputs, MemInputs};
 use std::alloc::Global;
@@ -346,14 +346,8 @@ fn feed_from<I: Inputs>(alloc: Global, inputs: &mut I, case: Case<'_>) -> Result
     };
     let mut space = vec![in alloc; 0u8; 65537]?;
     let mut fed = Fed::new(alloc);
-    let mut feeder = Feeder::open(
-        alloc,
-        inputs,
-        case.names,
-        case.starts,
-        case.size,
-        case.max_bytes,
-    )?;
+    let room = FeederSpace::take(alloc, case.names, case.starts, case.size, case.max_bytes)?;
+    let mut feeder = Feeder::over(inputs, room);
     match feeder.begin() {
         Ok(()) => {}
         Err(fault) => {
