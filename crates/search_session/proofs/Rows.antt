@@ -32,6 +32,10 @@ module _ {A : Type 0} where
   removed l items n a r at is first = first ∙ (ap (λ (m : List A). get_or m 0 r)
       (is ∙ drop_more l n r (slice_get_within l n a at)) ∙ get_or_from_slice_get l n a r at)
 
+  pub first_left : (l : List A) (n : ℕ) (a : A) → slice_get l n ≡ Some a → slice_get (drop n l) 0 ≡ Some a
+  first_left l n a at = ap (λ (m : List A). slice_get m 0) (drop_more l n a (slice_get_within l n a at))
+      ∙ ap (λ (x : A). Some x) (get_or_from_slice_get l n a a at)
+
   pub left_over : (l items items' : List A) (n : ℕ) (r : A) → n < length l → items ≡ drop n l →
       items' ≡ remove items 0 → items' ≡ drop (n + 1) l
   left_over l items items' n r near is gone = gone ∙ ap (λ (m : List A). remove m 0) (is ∙ drop_more l n r near)

@@ -8,6 +8,7 @@ use native.Mathlib.Decide.{ℕ_discrete}
 use Rattle.psr_base.specs.Told.{Told}
 use Rattle.psr_base.specs.Made.{FilesSeen}
 use Rattle.dada_hdu.specs.declared.hdu.Hdu.{Hdu}
+use Rattle.dada_hdu.specs.declared.passes.HduReader.{HduReader}
 use Rattle.dada_recorder.specs.declared.recorder.Recorder.{Recorder}
 use Rattle.search_session.specs.declared.lane.Lane.{Lane}
 use Rattle.search_session.specs.declared.feed.FeedActor.{FeedActor}
@@ -18,11 +19,11 @@ use Rattle.search_session.specs.Shards.{shard_cleared, ShardOn, EnginesFollow}
 use Rattle.search_session.specs.Feeds.{FeedOn}
 use Rattle.search_session.specs.Records.{RecordOn}
 use Rattle.search_session.specs.Hands.{HandOn}
-use Rattle.search_session.specs.Stages.{IsEmptyHand, IsShardOf, IsRecorderOf, IsOfLane, AreOfLanes, HasShard, HasFeeder, HasRecorder, RecorderWorks, TakesShard, TakesFeeder, TakesRecorder, RecorderPlaced, AreStaffed}
+use Rattle.search_session.specs.Stages.{IsUnread, IsFirstReader, recorder_count, IsEmptyHand, IsShardOf, IsRecorderOf, IsOfLane, AreOfLanes, HasShard, HasFeeder, HasRecorder, RecorderWorks, TakesShard, TakesFeeder, TakesRecorder, RecorderPlaced, AreStaffed}
 use Rattle.search_session.proofs.Engines.{follow_still}
 use Rattle.search_session.proofs.Feeding.{feed_none}
 use Rattle.search_session.proofs.Recording.{record_none}
-use Rattle.search_session.proofs.Rows.{removed, longer, at_end}
+use Rattle.search_session.proofs.Rows.{removed, first_left, longer, at_end}
 use Rattle.search_session.proofs.Gathered.{put_at, put_here, count_same}
 
 all_at : {A : Type 0} (P : A → Type 0) (xs : List A) (k : ℕ) (x : A) → slice_get xs k ≡ Some x → All P xs → P x
@@ -59,6 +60,18 @@ module _ {X : Type 0} (P : X → Type 0) (all left : List (Option X)) (s : ℕ) 
 
   pub taken_there : r ≡ None → ⊥
   taken_there none = some_there P r r_holds none
+
+-- ---- the reader that is left
+
+pub first_reader : {F : Type 0} (hdu : Hdu) (readers left : List (Option HduReader)) (n : ℕ)
+    (recorder : Option (Recorder F)) → left ≡ drop n readers → length readers ≡ n + recorder_count recorder →
+    ((s : ℕ) → s < length readers →
+    (reader : HduReader) × (slice_get readers s ≡ Some (Some reader)) × IsUnread hdu s reader) →
+    IfSome recorder (λ r. IsFirstReader hdu n left)
+first_reader hdu readers left n None is count unread = tt
+first_reader hdu readers left n (Some r) is count unread =
+    let h = unread n (omega arith) in
+    (h.0, ap (λ (l : List (Option HduReader)). slice_get l 0) is ∙ first_left readers n (Some h.0) h.1, h.2)
 
 -- ---- one hand changes, and what it holds of one kind stays
 

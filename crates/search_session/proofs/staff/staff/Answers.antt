@@ -1,62 +1,76 @@
-use Rattle.std.proofs.Common.{◌≡◌, ◌<◌, List, ◌++◌, length, take, drop, refl, sym, ap, ◌∙◌, subst, arith}
+use Rattle.std.proofs.Common.{◌≡◌, ℕ, ◌+◌, ◌<◌, ◌≤◌, List, ◌++◌, length, take, drop, refl, sym, ap, ◌∙◌, subst, arith}
 use Rattle.std.specs.Prelude.{All}
 use Rattle.search_session.specs.declared.hand.Hand.{Hand}
 use Rattle.search_session.specs.Feeds.{FeedOn}
 use Rattle.search_session.specs.Hands.{HandOn}
-use Rattle.search_session.specs.Stages.{IsEmptyHand, TakesFeeder, HasFeeder, HasShard, AreOfLanes, feeder_of, transfers_of}
+use Rattle.search_session.specs.Stages.{IsEmptyHand, TakesFeeder, HasFeeder, HasShard, AreOfLanes, AreStaffed, RecorderPlaced, RecorderWorks, recorder_count, feeder_of, transfers_of}
 use Rattle.search_session.proofs.Rows.{all_written}
 use Rattle.search_session.proofs.Gathered.{count_same}
-use Rattle.search_session.proofs.Staffing.{fed_on, fed_some, fed_feeder, fed_of, fed_shards}
+use Rattle.search_session.proofs.Staffing.{AreReady, first_reader, ready, fed_on, fed_some, fed_feeder, fed_of, fed_shards, fed_recorder}
 use Rattle.search_session.proofs.staff.staff.Goals as goal
 
 pub place_shards-requires : goal.place_shards-requires
 place_shards-requires g c =
     let s = c.requires in
+    let count = s.readers_count in
     record {
       few = s.few;
       parts = (
         transfers_of c.args.stage,
         record { some = s.transfers; unread = s.readers; unfed = s.lanes },
       );
-      count = s.readers_count;
+      count = omega arith;
       spaces_count = s.spaces_count;
       spaces = s.spaces;
       some = subst (λ l. 0 < length l) (sym c.as_mut_slice.ensures.value) s.some_hand;
       empty = subst (λ l. All IsEmptyHand l) (sym c.as_mut_slice.ensures.value) s.empty;
     }
 
-pub place_feeder-requires : goal.place_feeder-requires
-place_feeder-requires g c =
-    let hands = c.args.stage.hands in
-    let new = c.place_shards.new.hands in
-    let some = c.requires.some_hand in
-    let first = c.as_mut_slice.ensures.value in
-    let count : length new ≡ hands.len = c.place_shards.ensures.count_is ∙ c.as_mut_slice.ensures.len in
-    let same = ap (λ (l : List (Hand g.row.I.Denot)). length l) first in
-    let mid = ap (λ (l : List (Hand g.row.I.Denot)). length l)
-    (c.as_mut_slice-2.ensures.value ∙ all_written hands.len hands.items new count) in
-    let many = c.place_shards.ensures.count_is in
-    omega arith
+pub place_any_recorder-requires-clause-reader : goal.place_any_recorder-requires-clause-reader
+place_any_recorder-requires-clause-reader g c =
+    let s = c.requires in
+    let stage = c.args.stage in
+    first_reader stage.hdu stage.readers.items c.place_shards.new.readers.items c.len-number.result stage.recorder
+    (c.place_shards.ensures.readers
+    ∙ ap (λ (k : ℕ). drop k stage.readers.items) (sym c.len-number.ensures.value)) (s.readers_count
+    ∙ ap (λ (k : ℕ). k + recorder_count stage.recorder) (sym c.len-number.ensures.value)) s.readers
 
 pub returns : goal.returns
 returns g c =
-    let H : Type 0 = Hand g.row.I.Denot in
+    let H : Type 0 = Hand g.row.I.Denot g.row.F.Denot in
     let told = g.I.Inputs.told in
     let is_open = g.I.Inputs.is_open in
     let is_calm = g.I.Inputs.is_calm in
     let faults = g.I.Inputs.faults in
+    let files_open = g.F.Files.is_open in
+    let seen = g.F.Files.seen in
     let stage = c.args.stage in
+    let hdu = stage.hdu in
     let hands = stage.hands in
     let lanes = stage.lanes.items in
+    let n = length lanes in
     let f = feeder_of stage in
     let one : List H = c.place_shards.new.hands in
-    let two : List H = c.place_feeder.new.hands in
-    let staffed = c.place_shards.ensures in
-    let count : length one ≡ hands.len = staffed.count_is ∙ c.as_mut_slice.ensures.len in
+    let two : List H = c.place_any_recorder.new.hands in
+    let three : List H = c.place_feeder.new.hands in
+    let first = length c.as_mut_slice.result.now in
+    let staffed : AreStaffed told is_open files_open hdu lanes n first one = c.place_shards.ensures.staffed in
+    let count_one : length one ≡ hands.len = staffed.count_is ∙ c.as_mut_slice.ensures.len in
     let mid : c.as_mut_slice-2.result.now ≡ one =
-    c.as_mut_slice-2.ensures.value ∙ all_written hands.len hands.items one count in
-    let takes : TakesFeeder one f two = subst (λ (l : List H). TakesFeeder l f two) mid c.place_feeder.ensures in
-    let on : FeedOn told is_open stage.hdu f = record {
+    c.as_mut_slice-2.ensures.value ∙ all_written hands.len hands.items one count_one in
+    let placed : RecorderPlaced files_open hdu stage.recorder n one two =
+    subst (λ (l : List H). RecorderPlaced files_open hdu stage.recorder n l two) mid
+    (subst (λ (k : ℕ). RecorderPlaced files_open hdu stage.recorder k c.as_mut_slice-2.result.now two)
+    c.len-number.ensures.value c.place_any_recorder.ensures) in
+    let all : AreReady told is_open files_open hdu lanes seen stage.recorder n first two =
+    ready told is_open files_open hdu lanes seen one two n first staffed stage.recorder placed in
+    let count_two : length two ≡ hands.len = all.count_is ∙ c.as_mut_slice.ensures.len in
+    let before = take hands.len (one ++ drop (length one) hands.items) in
+    let mid_two : c.as_mut_slice-3.result.now ≡ two =
+    c.as_mut_slice-3.ensures.value ∙ all_written hands.len before two count_two in
+    let takes : TakesFeeder two f three =
+    subst (λ (l : List H). TakesFeeder l f three) mid_two c.place_feeder.ensures in
+    let on : FeedOn told is_open hdu f = record {
       writes = c.requires.writes;
       fits = c.requires.fits;
       file = c.requires.file;
@@ -64,19 +78,25 @@ returns g c =
       end = sym c.requires.running;
       count = omega arith;
     } in
-    let all : length two ≡ hands.len = count_same one two 0 takes.after takes.hands ∙ count in
-    let written = all_written hands.len (take hands.len (one ++ drop (length one) hands.items)) two all in
-    let n = length c.as_mut_slice.result.now in
+    let count_three : length three ≡ hands.len = count_same two three 0 takes.after takes.hands ∙ count_two in
+    let written =
+    all_written hands.len (take hands.len (two ++ drop (length two) before)) three count_three in
     record {
       hdu = refl;
-      on = subst (λ (l : List H). All (HandOn told is_open stage.hdu) l) (sym written)
-          (fed_on told is_open stage.hdu lanes is_calm faults one two (length lanes) n f staffed takes on);
+      on = subst (λ (l : List H). All (HandOn told is_open files_open hdu) l) (sym written)
+          (fed_on told is_open files_open hdu lanes is_calm faults seen stage.recorder two three n first f all takes on);
       some = subst (λ (l : List H). 0 < length l) (sym written)
-          (fed_some told is_open stage.hdu lanes is_calm faults one two (length lanes) n f staffed takes on);
+          (fed_some told is_open files_open hdu lanes is_calm faults seen stage.recorder two three n first f all takes
+          on);
       feeder = subst (λ (l : List H). HasFeeder told is_calm faults f l) (sym written)
-          (fed_feeder told is_open stage.hdu lanes is_calm faults one two (length lanes) n f staffed takes on);
+          (fed_feeder told is_open files_open hdu lanes is_calm faults seen stage.recorder two three n first f all takes
+          on);
       shards = λ s near. subst (λ (l : List H). HasShard l s) (sym written)
-          (fed_shards told is_open stage.hdu lanes is_calm faults one two (length lanes) n f staffed takes on s near);
+          (fed_shards told is_open files_open hdu lanes is_calm faults seen stage.recorder two three n first f all takes
+          on s near);
       lanes = subst (λ (l : List H). AreOfLanes lanes l) (sym written)
-          (fed_of told is_open stage.hdu lanes is_calm faults one two (length lanes) n f staffed takes on);
+          (fed_of told is_open files_open hdu lanes is_calm faults seen stage.recorder two three n first f all takes on);
+      recorder = subst (λ (l : List H). RecorderWorks seen stage.recorder n l) (sym written)
+          (fed_recorder told is_open files_open hdu lanes is_calm faults seen stage.recorder two three n first f all
+          takes on);
     }
