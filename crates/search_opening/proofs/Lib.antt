@@ -1,2 +1,2 @@
 pub mod Observed
-pub mod Unfed
+pub mod Lanes

@@ -1,19 +1,34 @@
--- The engines of a shard, one for each transfer.
+-- The engines of all shards, one for each transfer.
 -- Source: this project's choice.
-use Rattle.std.specs.Prelude.{◌≡◌, ℕ, List, [], length, slice_get, Option, Some}
+use Rattle.std.specs.Prelude.{◌≡◌, ℕ, ◌<◌, List, [], length, slice_get, Option, Some}
 use Rattle.dada_model.specs.Observation.{Observation}
 use Rattle.search_model.specs.declared.search.Search.{Search}
 use Rattle.search_engine.specs.Engine.{EngineState, IsOpenedEngine, StandsForData}
+use Rattle.search_session.specs.declared.lane.Lane.{Lane}
+use Rattle.search_session.specs.Lanes.{HasEngine}
+use Rattle.search_session.specs.Books.{HasLane}
 
--- the engine of a transfer searches the shard of its observation, and was fed nothing
-pub record IsUnfed (s : Search) (shard : ℕ) (o : Observation) (e : EngineState) : Type 0 where
+-- the engine searches the shard of an observation, and was fed nothing
+pub record IsEngineFor (s : Search) (shard : ℕ) (o : Observation) (e : EngineState) : Type 0 where
   pub opened : IsOpenedEngine e s shard
   pub stands : StandsForData o [] e
 
 -- and so does that of each transfer
-pub record AreUnfed
+pub record AreEnginesFor
     (s : Search) (shard : ℕ) (observations : List (Option Observation))
     (engines : List (Option EngineState)) : Type 0 where
   pub count : length engines ≡ length observations
   pub each : (k : ℕ) (o : Observation) → slice_get observations k ≡ Some (Some o) →
-      (e : EngineState) × (slice_get engines k ≡ Some (Some e)) × IsUnfed s shard o e
+      (e : EngineState) × HasEngine engines k e × IsEngineFor s shard o e
+
+-- the lanes of the first shards have these engines
+pub record AreLanesTo
+    (s : Search) (observations : List (Option Observation)) (shards : ℕ)
+    (lanes : List (Option Lane)) : Type 0 where
+  pub count : length lanes ≡ shards
+  pub each : (shard : ℕ) → shard < shards →
+      (lane : Lane) × HasLane lanes shard lane × AreEnginesFor s shard observations lane.engines.items
+
+-- those of all shards
+abbrev pub AreOpenedLanes : Search → List (Option Observation) → List (Option Lane) → Type 0
+AreOpenedLanes s observations lanes = AreLanesTo s observations s.shards lanes

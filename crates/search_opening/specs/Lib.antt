@@ -1,5 +1,9 @@
 pub mod First
+pub mod Stops
+pub mod Inputs
 pub mod Plans
-pub mod Rings
-pub mod Engines
 pub mod Recordings
+pub mod Offsets
+pub mod Engines
+pub mod Rings
+pub mod Space

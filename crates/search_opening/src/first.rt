@@ -1,29 +1,33 @@
-// The observations of the first headers of all transfers.
-ghost use Rattle.std.specs.Prelude.{◌≡◌, ◌≤◌, IfOk, IfErr, length};
-ghost use Rattle.disk_feeder.specs.Feeder.{header_at};
-ghost use Rattle.search_opening.specs.First.{AreObserved, RefusesHeader};
+// The first headers of all transfers, and their observations.
+ghost use Rattle.std.specs.Prelude.{◌≡◌, ◌≢◌, ◌≤◌, Err, IfOk, IfErr, OnOk, length};
+ghost use Rattle.stream_model.specs.WalkLaws.{AreStarts};
+ghost use Rattle.disk_feeder.specs.Feeder.{IsFresh, IsBegun, SamePlan, HasOpenFile, header_at, names_at, plan_at};
+ghost use Rattle.disk_feeder.specs.Filling.{HoldsAll};
+ghost use Rattle.search_opening.specs.First.{OfFiles, AreFirsts, LeavesData, AreObserved, RefusesHeader};
+ghost use Rattle.search_opening.specs.Inputs.{HasReadFrom};
+ghost use Rattle.search_opening.specs.Stops.{StopsFirsts};
 
+use crate::stop::OpeningStop;
 use arrayvec::ArrayVec;
 use disk_feeder::Feeder;
 use obs_plan::{ObsFault, Observation};
 use psr_base::Inputs;
 use std::alloc::Global;
-use thiserror::Error;
+// Laws: they do nothing when they run, and the proofs use what they ensure.
+use dada_model::accepted_by_rows;
 
 /// How many transfers there are at most.
 pub const MOST_TRANSFERS: usize = 8;
 
-/// The first header of a transfer has no observation.
-#[derive(Clone, Copy, Debug, PartialEq, Eq, Error)]
-#[error("first header of transfer {transfer}: {cause}")]
-pub struct RefusedHeader {
-    /// Transfers count from 0.
-    pub transfer: u32,
-    pub cause: ObsFault,
+// The first header of a transfer has no observation. Transfers count from 0.
+#[derive(Clone, Copy)]
+pub(crate) struct RefusedHeader {
+    transfer: usize,
+    cause: ObsFault,
 }
 
-/// The observations of the first headers of all transfers, in order, or the first that is refused.
-pub fn observe_all<'a, I: Inputs>(
+// The observations of the first headers of all transfers, in order, or the first that is refused.
+fn observe_all<'a, I: Inputs>(
     alloc: Global,
     feeder: &Feeder<'a, I>,
     transfers: usize,
@@ -38,13 +42,53 @@ pub fn observe_all<'a, I: Inputs>(
     for transfer in 0..transfers {
         match Observation::of(alloc, feeder.header(transfer)) {
             Ok(observation) => observations.push(Some(observation)),
-            Err(cause) => {
-                return Err(RefusedHeader {
-                    transfer: transfer as u32,
-                    cause,
-                });
-            }
+            Err(cause) => return Err(RefusedHeader { transfer, cause }),
         }
     }
     Ok(observations)
+}
+
+/// Opens the first file of each transfer in order and reads its header, and then judges what they say, in order: the
+/// observations of all transfers, or why the first headers are not accepted. Transfer k begins with file `starts[k]`.
+pub fn begin_feed<'a, I: Inputs>(
+    alloc: Global,
+    feeder: &mut Feeder<'a, I>,
+    starts: &[u32],
+) -> Result<ArrayVec<Option<Observation>, MOST_TRANSFERS>, OpeningStop>
+    requires fresh { IsFresh feeder.old }
+    requires plan { (plan_at feeder.old).starts ≡ starts.now }
+    requires begin { AreStarts starts.now (length (names_at feeder.old)) }
+    requires few { length starts.now ≤ 8 }
+    requires headed { length (header_at feeder.old) ≡ length starts.now }
+    ensures same_reference { feeder.new.inputs.ghost_name ≡ feeder.old.inputs.ghost_name }
+    ensures plan { SamePlan feeder.old feeder.new }
+    ensures inputs { HasReadFrom I.told I.is_calm I.faults (result ≡ Err OpeningStop.ReadFault)
+        feeder.old.inputs.now feeder.new.inputs.now }
+    ensures serves { I.is_calm feeder.old.inputs.now
+        → HoldsAll (I.told feeder.old.inputs.now) (names_at feeder.old)
+        → result ≢ Err OpeningStop.ReadFault }
+    ensures begun { OnOk result (IsBegun (I.told feeder.new.inputs.now) feeder.new) }
+    ensures open { OnOk result
+        (HasOpenFile feeder.new → I.is_open feeder.new.inputs.now) }
+    ensures observed { IfOk result (λ observations.
+        AreObserved (header_at feeder.new) observations.items) }
+    ensures firsts { IfOk result (λ observations.
+        OfFiles (I.told feeder.new.inputs.now) (plan_at feeder.new)
+        (λ w. AreFirsts w observations.items)) }
+    ensures left { OnOk result (OfFiles (I.told feeder.old.inputs.now) (plan_at feeder.old)
+        (LeavesData (I.told feeder.new.inputs.now))) }
+    ensures stopped { IfErr result (λ stop.
+        OfFiles (I.told feeder.old.inputs.now) (plan_at feeder.old) (λ w. StopsFirsts w stop)) }
+    ensures unread { result ≡ Err OpeningStop.Memory
+        → OfFiles (I.told feeder.old.inputs.now) (plan_at feeder.old)
+        (LeavesData (I.told feeder.new.inputs.now)) }
+{
+    accepted_by_rows();
+    match feeder.begin() {
+        Ok(()) => match observe_all(alloc, feeder, starts.len()) {
+            Ok(observations) => Ok(observations),
+            Err(refused) => Err(OpeningStop::of_fields(starts[refused.transfer], refused.cause)),
+        },
+        Err(fault) => Err(OpeningStop::of_fault(fault)),
+    }
 }

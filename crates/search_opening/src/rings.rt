@@ -31,7 +31,7 @@ pub fn run_shape(buffers: u32, size: u32, readers: u32, max_bytes: u64, transfer
 }
 
 /// Opens the rings of a run and seals the first header. No reader has read.
-pub fn open_rings(
+pub(crate) fn open_rings(
     alloc: Global,
     shape: RingShape,
     header: &Header,

@@ -6,21 +6,21 @@ use Rattle.std.proofs.lemmas.Option.{slice_get_within, get_or_from_slice_get, sl
 use Rattle.dada_model.specs.Observation.{Observation}
 use Rattle.search_model.specs.declared.search.Search.{Search}
 use Rattle.search_engine.specs.Engine.{EngineState}
-use Rattle.search_opening.specs.Engines.{IsUnfed, AreUnfed}
+use Rattle.search_opening.specs.Engines.{IsEngineFor, AreEnginesFor}
 
-pub none_unfed : (s : Search) (shard : ℕ) (engines : List (Option EngineState)) → engines ≡ [] → AreUnfed s shard [] engines
-none_unfed s shard engines none = record {
+pub no_engines : (s : Search) (shard : ℕ) (engines : List (Option EngineState)) → engines ≡ [] → AreEnginesFor s shard [] engines
+no_engines s shard engines none = record {
   count = ap length none;
   each = λ k o there. absurd (let within = slice_get_within [] k (Some o) there in omega (arith, within));
 }
 
 -- one more
-pub one_unfed : (s : Search) (shard : ℕ) (observations : List (Option Observation)) (k : ℕ) (at : Option Observation)
+pub one_engine_more : (s : Search) (shard : ℕ) (observations : List (Option Observation)) (k : ℕ) (at : Option Observation)
     (engines more : List (Option EngineState)) (e : EngineState) →
-    AreUnfed s shard (take k observations) engines → k < length observations → at ≡ get_or observations k at →
-    ((o : Observation) → at ≡ Some o → IsUnfed s shard o e) → more ≡ engines ++ Some e ∷ [] →
-    AreUnfed s shard (take (k + 1) observations) more
-one_unfed s shard observations k at engines more e before within read opened grown =
+    AreEnginesFor s shard (take k observations) engines → k < length observations → at ≡ get_or observations k at →
+    ((o : Observation) → at ≡ Some o → IsEngineFor s shard o e) → more ≡ engines ++ Some e ∷ [] →
+    AreEnginesFor s shard (take (k + 1) observations) more
+one_engine_more s shard observations k at engines more e before within read opened grown =
     let cut = length-take-le k observations (omega (arith, within)) in
     let longer = length-take-le (k + 1) observations (omega (arith, within)) in
     let joined = length-append engines (Some e ∷ []) in

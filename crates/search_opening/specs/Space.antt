@@ -1,0 +1,70 @@
+-- The space of a stage, and what makes it one.
+-- Source: this project's choice.
+use Rattle.std.specs.Prelude.{◌≡◌, ℕ, ◌+◌, ◌*◌, ◌/◌, ◌<◌, ◌≤◌, false, All, IfSome, IsSomeAnd, List, [], length, vec_len, take, slice_get, Option, Some, None}
+use Rattle.arrayvec.specs.ArrayVec.{ArrayVec}
+use Rattle.psr_base.specs.Told.{Told}
+use Rattle.dada_model.specs.Fields.{HeaderText}
+use Rattle.ring_words.specs.declared.shape.RingShape.{RingShape}
+use Rattle.dada_hdu.specs.Passes.{data_shape}
+use Rattle.search_engine.specs.Engine.{most_fed}
+use Rattle.disk_feeder.specs.declared.feeder.Feeder.{Feeder}
+use Rattle.disk_feeder.specs.Feeder.{HasOpenFile, has_end, header_at, plan_at, block_size, FeederFeeds}
+use Rattle.disk_feeder.specs.Feeding.{header_entries}
+use Rattle.dada_recorder.specs.declared.recorder.Recorder.{Recorder}
+use Rattle.search_session.specs.declared.lane.Lane.{Lane}
+use Rattle.search_session.specs.Books.{HasLane}
+use Rattle.search_session.specs.Stages.{IsUnfed, IsEmptyHand, IsFreshRecorder, recorder_count}
+use Rattle.search_opening.specs.declared.space.StageSpace.{StageSpace}
+use Rattle.search_opening.specs.Rings.{AreOpened}
+
+-- so many bytes serve a header, and a block of this size
+pub record HasRoom (size bytes : ℕ) : Type 0 where
+  pub header : 65537 ≤ bytes
+  pub block : size ≤ bytes
+
+-- the lanes of a space
+abbrev pub lanes_in : {I F : Type 0} → StageSpace I F → ArrayVec (Option Lane)
+lanes_in space = space.lanes
+
+-- The space of a stage of these lanes: rings of this shape, of which the header is sealed, and the empty hands.
+pub record IsSpaceOf {I F : Type 0} (lanes : ArrayVec (Option Lane)) (shape : RingShape)
+    (header : HeaderText) (space : StageSpace I F) : Type 0 where
+  pub rings : AreOpened shape header space.hdu space.writer space.readers.items
+  pub lanes_are : space.lanes ≡ lanes
+  pub spaces_count : length space.spaces.items ≡ length lanes.items
+  pub spaces : All
+      (λ slot. IsSomeAnd slot (λ bytes. HasRoom shape.size (vec_len bytes))) space.spaces.items
+  pub some_hand : 0 < length space.hands.items
+  pub empty : All IsEmptyHand space.hands.items
+
+-- ---- what comes to it
+
+-- The feeder has accepted all first headers, of which this is the first, and seals blocks of the rings' size, no more of
+-- them than the rings may carry.
+pub record FeedsRings {I : Type 0} (told : I → Told) (is_open : I → Type 0) (shape : RingShape)
+    (header : HeaderText) (feeder : Feeder I) : Type 0 where
+  pub first : slice_get (header_at feeder) 0 ≡ Some header
+  pub feeds : FeederFeeds (told feeder.inputs.now) feeder
+      (header_entries (take 1 (header_at feeder))) []
+  pub running : has_end feeder ≡ None
+  pub file : HasOpenFile feeder → is_open feeder.inputs.now
+  pub size : shape.size ≡ block_size feeder
+  pub blocks : (plan_at feeder).max_bytes / block_size feeder + length (plan_at feeder).starts + 1
+      ≤ shape.max_blocks
+
+-- The space, the feeder and the recorder of one session: each lane has an engine for each transfer, which was fed
+-- nothing, and readers are as many as lanes and recorders.
+pub record AreStaged {I F : Type 0} (told : I → Told) (is_open : I → Type 0)
+    (files_open : F → Type 0) (space : StageSpace I F) (feeder : Feeder I)
+    (recorder : Option (Recorder F)) : Type 0 where
+  pub lanes : ArrayVec (Option Lane)
+  pub shape : RingShape
+  pub header : HeaderText
+  pub space_is : IsSpaceOf lanes shape header space
+  pub feeds : FeedsRings told is_open shape header feeder
+  pub transfers : 0 < length (plan_at feeder).starts
+  pub engines : (s : ℕ) → s < length lanes.items →
+      (lane : Lane) × HasLane lanes.items s lane × IsUnfed (length (plan_at feeder).starts) lane
+  pub readers : shape.readers ≡ length lanes.items + recorder_count recorder
+  pub recorder_is : IfSome recorder (IsFreshRecorder files_open space.hdu)
+  pub few : shape.max_blocks * shape.size ≤ most_fed

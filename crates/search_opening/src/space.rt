@@ -1,0 +1,129 @@
+// The space of a stage, and the stage that is made of it.
+ghost use Rattle.std.specs.Prelude.{◌≡◌, ◌≤◌, ◌<◌, All, IfOk, IsSomeAnd, length, vec_len};
+ghost use Rattle.ring_words.specs.Shape.{IsRing};
+ghost use Rattle.search_session.specs.Stages.{StageOn, IsEmptyHand};
+ghost use Rattle.search_opening.specs.Space.{HasRoom};
+
+use crate::rings::open_rings;
+use arrayvec::ArrayVec;
+use dada_hdu::{Hdu, HduReader, HduWriter};
+use dada_header::Header;
+use dada_recorder::Recorder;
+use disk_feeder::Feeder;
+use psr_base::{Files, Inputs, Memory};
+use ring_words::RingShape;
+use search_session::{Hand, Lane, Stage};
+use std::alloc::Global;
+
+/// The least space of a shard, in bytes: one byte more than the longest header.
+const LEAST_SPACE: usize = 65537;
+
+// Space for a header, and for a block of so many bytes.
+fn open_space(alloc: Global, size: u32) -> Result<Vec<u8>, Memory>
+    ensures { IfOk result (λ space. HasRoom size (vec_len space)) }
+{
+    Ok(vec![in alloc; 0u8; LEAST_SPACE.max(size as usize)]?)
+}
+
+// So many such spaces.
+fn open_spaces(
+    alloc: Global,
+    count: usize,
+    size: u32,
+) -> Result<ArrayVec<Option<Vec<u8>>, 7>, Memory>
+    requires { count ≤ 7 }
+    ensures count { IfOk result (λ spaces. length spaces.items ≡ count) }
+    ensures room { IfOk result (λ spaces.
+        All (λ slot. IsSomeAnd slot (λ space. HasRoom size (vec_len space))) spaces.items) }
+{
+    let mut spaces = ArrayVec::new();
+    for _space in 0..count {
+        spaces.push(Some(open_space(alloc, size)?));
+    }
+    Ok(spaces)
+}
+
+// So many empty hands.
+fn open_hands<'a, I: Inputs, F: Files>(
+    alloc: Global,
+    count: u32,
+) -> Result<Vec<Hand<'a, I, F>>, Memory>
+    ensures count { IfOk result (λ hands. length hands.items ≡ count) }
+    ensures empty { IfOk result (λ hands. All IsEmptyHand hands.items) }
+{
+    let mut hands = Vec::new(alloc);
+    for _hand in 0..count {
+        hands.push(Hand::empty())?;
+    }
+    Ok(hands)
+}
+
+/// The space of a stage: the rings, of which the first header is sealed, the lanes, a space for each, and the hands. All
+/// memory of a session is in it but that of its feeder and of its recorder.
+#[derive(Drop)]
+pub struct StageSpace<'a, I, F> {
+    hdu: Hdu,
+    writer: HduWriter,
+    readers: ArrayVec<Option<HduReader>, 8>,
+    lanes: ArrayVec<Option<Lane>, 7>,
+    spaces: ArrayVec<Option<Vec<u8>>, 7>,
+    hands: Vec<Hand<'a, I, F>>,
+}
+
+impl<'a, I: Inputs, F: Files> StageSpace<'a, I, F> {
+    ghost use Rattle.search_opening.specs.Space.{IsSpaceOf, lanes_in, AreStaged};
+
+    /// Takes all space: for rings of this shape, of which the header is sealed, for these lanes, which may be none, and
+    /// for so many hands.
+    pub fn take(
+        alloc: Global,
+        lanes: ArrayVec<Option<Lane>, 7>,
+        shape: RingShape,
+        header: &Header,
+        hands: u32,
+    ) -> Result<StageSpace<'a, I, F>, Memory>
+        requires ring { IsRing shape }
+        requires hands { 1 ≤ hands }
+        ensures { IfOk result (λ space. IsSpaceOf lanes shape header.now space) }
+    {
+        let spaces = open_spaces(alloc, lanes.len(), shape.size)?;
+        let hands = open_hands(alloc, hands)?;
+        let (hdu, writer, readers) = open_rings(alloc, shape, header)?;
+        Ok(StageSpace {
+            hdu,
+            writer,
+            readers,
+            lanes,
+            spaces,
+            hands,
+        })
+    }
+
+    /// The stage of a session with this feeder, and this recorder, where there is one.
+    pub fn stage(self, feeder: Feeder<'a, I>, recorder: Option<Recorder<'a, F>>) -> Stage<'a, I, F>
+        requires { AreStaged I.told I.is_open F.is_open self feeder recorder }
+        ensures on { StageOn I.told I.is_open F.is_open result }
+        ensures feeder { result.feeder ≡ feeder.entry }
+        ensures recorder { result.recorder ≡ recorder.entry }
+        ensures lanes { result.lanes ≡ lanes_in self.entry }
+    {
+        let StageSpace {
+            hdu,
+            writer,
+            readers,
+            lanes,
+            spaces,
+            hands,
+        } = self;
+        Stage {
+            feeder,
+            lanes,
+            recorder,
+            hdu,
+            writer,
+            readers,
+            spaces,
+            hands,
+        }
+    }
+}
