@@ -1,5 +1,5 @@
 -- What is known once all actors have ended: two lists are compared once.
-use Rattle.std.proofs.Common.{◌≡◌, ℕ, ◌<◌, Bool, true, List, [], ◌++◌, length, Option, Some, None, slice_get, refl, sym, ap, ◌∙◌, subst, arith}
+use Rattle.std.proofs.Common.{◌≡◌, ℕ, ◌%◌, ◌<◌, Bool, true, List, [], ◌++◌, length, Option, Some, None, slice_get, refl, sym, ap, ◌∙◌, subst, arith}
 use Rattle.std.specs.Prelude.{All, IfSome, IsSome, nat_lt}
 use Rattle.std.proofs.lemmas.List.{append-nil}
 use Rattle.std.proofs.lemmas.List.Elements.{All-weaker}
@@ -28,12 +28,15 @@ use Rattle.disk_feeder.specs.Laws.{FeedersEnd}
 use Rattle.search_session.specs.declared.lane.Lane.{Lane}
 use Rattle.search_session.specs.declared.feed.FeedActor.{FeedActor}
 use Rattle.search_session.specs.declared.shard.ShardActor.{ShardActor}
+use Rattle.search_session.specs.declared.record.RecordActor.{RecordActor}
 use Rattle.search_session.specs.declared.hand.Hand.{Hand}
 use Rattle.search_session.specs.declared.ended.SessionEnd.{SessionEnd}
 use Rattle.search_session.specs.Lanes.{HasEngine, Stands}
 use Rattle.search_session.specs.Shards.{StandsAt, EnginesFollow, shard_cleared, shard_number, ShardOn}
 use Rattle.search_session.specs.Feeds.{FeedOn, FeedMoved}
+use Rattle.search_session.specs.Records.{RecordOn}
 use Rattle.search_session.specs.Hands.{HandOn, HandEnded}
+use Rattle.search_session.specs.Gathering.{recorder_of, recorder_in}
 use Rattle.search_session.specs.Stages.{IsOfLane, AreOfLanes, IsIn}
 use Rattle.search_session.specs.Books.{HasLane, HasBook}
 use Rattle.search_session.specs.Sessions.{FeedAnswers, IsSearched, IsEndOf, data_through}
@@ -45,7 +48,7 @@ use Rattle.search_session.proofs.Turning.{none_ended, not_below_zero}
 all_at : {A : Type 0} (P : A → Type 0) (xs : List A) (k : ℕ) (x : A) → slice_get xs k ≡ Some x → All P xs → P x
 all_at P xs k x at all = subst P (get_or_from_slice_get xs k x x at) (all k x (slice_get_within xs k x at))
 
-if_some : {A : Type 0} (P : A → Type 0) (slot : Option A) (x : A) → slot ≡ Some x → IfSome slot P → P x
+pub if_some : {A : Type 0} (P : A → Type 0) (slot : Option A) (x : A) → slot ≡ Some x → IfSome slot P → P x
 if_some P None x is holds = absurd cc
 if_some P (Some y) x is holds = let same : y ≡ x = cc in subst P same holds
 
@@ -80,6 +83,18 @@ module _ {I F : Type 0} (told : I → Told) (is_open : I → Type 0) (files_open
       FeedOn told is_open hdu f
   feeder_on h f at works = if_some (FeedOn told is_open hdu) h.feeder f works
       (all_at (HandOn told is_open files_open hdu) hands 0 h at on).feeder
+
+  -- the recorder of the hand in which it works
+  hand_of : (slot : Option (Hand I F)) (x : RecordActor F) → recorder_of slot ≡ Some x →
+      (h : Hand I F) × (slot ≡ Some h) × (h.recorder ≡ Some x)
+  hand_of None x is = absurd cc
+  hand_of (Some h) x is = (h, refl, is)
+
+  pub recorder_on : (x : RecordActor F) → recorder_in hands ≡ Some x → RecordOn files_open hdu x
+  recorder_on x is =
+      let h = hand_of (slice_get hands (8 % length hands)) x is in
+      if_some (RecordOn files_open hdu) h.0.recorder x h.2
+      (all_at (HandOn told is_open files_open hdu) hands (8 % length hands) h.0 h.1 on).recorder
 
 -- ---- the feeder's end
 

@@ -4,12 +4,11 @@ use Rattle.std.proofs.lemmas.List.{length-set}
 use Rattle.std.proofs.lemmas.Option.{slice_get_within}
 use mathlib.Core.Logic.{dite}
 use native.Mathlib.Decide.{ℕ_discrete}
-use Rattle.search_session.specs.declared.feed.FeedActor.{FeedActor}
 use Rattle.search_session.specs.declared.shard.ShardActor.{ShardActor}
 use Rattle.search_session.specs.declared.hand.Hand.{Hand}
 use Rattle.search_session.specs.Shards.{shard_number}
-use Rattle.search_session.specs.Gathering.{GivesShard}
-use Rattle.search_session.specs.Stages.{HasShard, IsIn, LeavesHand, GivesFeeder, AreGathered}
+use Rattle.search_session.specs.Gathering.{GivesShard, recorder_of, recorder_in}
+use Rattle.search_session.specs.Stages.{HasShard, IsIn, LeavesHand, AreGathered}
 use Rattle.search_session.proofs.Rows.{get_set_same, get_set_other, longer, at_end}
 
 -- ---- a slot is left
@@ -150,69 +149,90 @@ module _ {I F : Type 0} where
                 number = has.number;
               }
 
-  -- ---- the feeder leaves
+  -- ---- another actor leaves the hand at a place, whose shards stay
 
-  module _ (old new : List (Hand I F)) (feeder : FeedActor I) (gives : GivesFeeder old feeder new) where
-    near_first : 0 < length old
-    near_first = slice_get_within old 0 gives.before gives.there
+  module _ (old new : List (Hand I F)) (place : ℕ) (before after : Hand I F) (there : slice_get old place ≡ Some before)
+      (hands : new ≡ slice_set old place after) where
+    near_place : place < length old
+    near_place = slice_get_within old place before there
 
-    pub still_in : (y : ShardActor) → IsIn new y → IsIn old y
-    still_in y is = elim (set_at old new 0 is.hand_place gives.after is.hand gives.hands near_first is.there) [
-      | inl h ↦ record {
-        hand_place = 0;
-        hand = gives.before;
-        there = gives.there;
-        place = is.place;
-        works = subst (λ shards. slice_get shards.items is.place ≡ Some (Some y)) gives.shards
-            (subst (λ (g : Hand I F). slice_get g.shards.items is.place ≡ Some (Some y)) h.1 is.works);
-      }
-      | inr h ↦ record {
-        hand_place = is.hand_place;
-        hand = is.hand;
-        there = h.1;
-        place = is.place;
-        works = is.works;
-      }
-    ]
-
-    pub still_work : (s : ℕ) → HasShard old s → HasShard new s
-    still_work s has =
-        let count = count_same old new 0 gives.after gives.hands in
-        dite (ℕ_discrete ((s + 1) % length old) 0) (here count) (elsewhere count)
-      where
-        at_new : length new ≡ length old → (h : Hand I F) → slice_get new ((s + 1) % length old) ≡ Some h →
-            slice_get new ((s + 1) % length new) ≡ Some h
-        at_new count h at = subst (λ (n : ℕ). slice_get new ((s + 1) % n) ≡ Some h) (sym count) at
-
-        elsewhere : length new ≡ length old → (s + 1) % length old ≢ 0 → HasShard new s
-        elsewhere count apart = record {
-          hand = has.hand;
-          there = at_new count has.hand (put_at old new 0 ((s + 1) % length old) gives.after has.hand gives.hands
-              has.there apart);
-          shard = has.shard;
-          place = has.place;
-          works = has.works;
-          number = has.number;
+    module _ (shards : after.shards ≡ before.shards) where
+      pub still_in : (y : ShardActor) → IsIn new y → IsIn old y
+      still_in y is = elim (set_at old new place is.hand_place after is.hand hands near_place is.there) [
+        | inl h ↦ record {
+          hand_place = place;
+          hand = before;
+          there = there;
+          place = is.place;
+          works = subst (λ slots. slice_get slots.items is.place ≡ Some (Some y)) shards
+              (subst (λ (g : Hand I F). slice_get g.shards.items is.place ≡ Some (Some y)) h.1 is.works);
         }
+        | inr h ↦ record {
+          hand_place = is.hand_place;
+          hand = is.hand;
+          there = h.1;
+          place = is.place;
+          works = is.works;
+        }
+      ]
 
-        first : (g h : Hand I F) → Some g ≡ Some h → g ≡ h
-        first g h e = cc
+      pub still_work : (s : ℕ) → HasShard old s → HasShard new s
+      still_work s has =
+          let count = count_same old new place after hands in
+          dite (ℕ_discrete ((s + 1) % length old) place) (here count) (elsewhere count)
+        where
+          at_new : length new ≡ length old → (h : Hand I F) → slice_get new ((s + 1) % length old) ≡ Some h →
+              slice_get new ((s + 1) % length new) ≡ Some h
+          at_new count h at = subst (λ (n : ℕ). slice_get new ((s + 1) % n) ≡ Some h) (sym count) at
 
-        here : length new ≡ length old → (s + 1) % length old ≡ 0 → HasShard new s
-        here count same =
-            let before_is : has.hand ≡ gives.before =
-            first has.hand gives.before (sym has.there ∙ (ap (λ (k : ℕ). slice_get old k) same ∙ gives.there)) in
-            record {
-              hand = gives.after;
-              there = at_new count gives.after (put_here old new 0 ((s + 1) % length old) gives.after gives.hands
-                  near_first same);
-              shard = has.shard;
-              place = has.place;
-              works = subst (λ shards. slice_get shards.items has.place ≡ Some (Some has.shard)) (sym gives.shards)
-                  (subst (λ (g : Hand I F). slice_get g.shards.items has.place ≡ Some (Some has.shard)) before_is
-                  has.works);
-              number = has.number;
-            }
+          elsewhere : length new ≡ length old → (s + 1) % length old ≢ place → HasShard new s
+          elsewhere count apart = record {
+            hand = has.hand;
+            there = at_new count has.hand (put_at old new place ((s + 1) % length old) after has.hand hands has.there
+                apart);
+            shard = has.shard;
+            place = has.place;
+            works = has.works;
+            number = has.number;
+          }
+
+          first : (g h : Hand I F) → Some g ≡ Some h → g ≡ h
+          first g h e = cc
+
+          here : length new ≡ length old → (s + 1) % length old ≡ place → HasShard new s
+          here count same =
+              let before_is : has.hand ≡ before =
+              first has.hand before (sym has.there ∙ (ap (λ (k : ℕ). slice_get old k) same ∙ there)) in
+              record {
+                hand = after;
+                there = at_new count after (put_here old new place ((s + 1) % length old) after hands near_place same);
+                shard = has.shard;
+                place = has.place;
+                works = subst (λ slots. slice_get slots.items has.place ≡ Some (Some has.shard)) (sym shards)
+                    (subst (λ (g : Hand I F). slice_get g.shards.items has.place ≡ Some (Some has.shard)) before_is
+                    has.works);
+                number = has.number;
+              }
+
+    -- the recorder works on, where that hand's recorder stays
+    pub still_recorder : after.recorder ≡ before.recorder → recorder_in new ≡ recorder_in old
+    still_recorder same =
+        ap (λ (n : ℕ). recorder_of (slice_get new (8 % n))) (count_same old new place after hands)
+        ∙ dite (ℕ_discrete (8 % length old) place) here elsewhere
+      where
+        here : 8 % length old ≡ place →
+            recorder_of (slice_get new (8 % length old)) ≡ recorder_of (slice_get old (8 % length old))
+        here at = ap (λ (h : Option (Hand I F)). recorder_of h)
+            (put_here old new place (8 % length old) after hands near_place at)
+            ∙ same
+            ∙ ap (λ (h : Option (Hand I F)). recorder_of h)
+            (sym (ap (λ (k : ℕ). slice_get old k) at ∙ there))
+
+        elsewhere : 8 % length old ≢ place →
+            recorder_of (slice_get new (8 % length old)) ≡ recorder_of (slice_get old (8 % length old))
+        elsewhere apart = ap (λ (h : Option (Hand I F)). recorder_of h)
+            (ap (λ (l : List (Hand I F)). slice_get l (8 % length old)) hands
+            ∙ get_set_other old place (8 % length old) after apart)
 
   -- ---- one more is gathered
 

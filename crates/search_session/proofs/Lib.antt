@@ -11,5 +11,8 @@ mod Staffing
 mod Parting
 mod Taking
 mod Finishing
+mod Sealed
+mod RecordEnds
 mod Ending
+mod Leaving
 mod Closing

@@ -1,7 +1,8 @@
 -- Books are taken, engine by engine.
-use Rattle.std.proofs.Common.{◌≡◌, ℕ, ◌+◌, ◌<◌, List, [], ◌∷◌, ◌++◌, length, length-append, get_or, drop, remove, Option, Some, None, slice_get, slice_set, refl, sym, ap, ◌∙◌, subst, arith}
+use Rattle.std.proofs.Common.{◌≡◌, ℕ, zero, suc, ◌+◌, ◌<◌, List, [], ◌∷◌, ◌++◌, length, length-append, get_or, drop, remove, Option, Some, None, slice_get, slice_set, refl, sym, ap, ◌∙◌, subst, arith}
 use Rattle.std.specs.Prelude.{OnSome}
 use Rattle.std.proofs.lemmas.List.{length-set, drop_more}
+use Rattle.std.proofs.lemmas.List.Elements.{All-nil, All-push}
 use Rattle.std.proofs.lemmas.Option.{slice_get_within, slice_get-get_or, get_or_from_slice_get, slice_get_read}
 use mathlib.Core.Logic.{dite}
 use native.Mathlib.Decide.{ℕ_discrete}
@@ -9,7 +10,7 @@ use Rattle.arrayvec.specs.ArrayVec.{ArrayVec}
 use Rattle.candidate_book.specs.Book.{BookContents}
 use Rattle.search_engine.specs.Engine.{EngineState}
 use Rattle.search_session.specs.declared.lane.Lane.{Lane}
-use Rattle.search_session.specs.Books.{HasLane, HaveEngines, book_at, GivesFirst, FirstsGiven, HasBooks, BooksTaken}
+use Rattle.search_session.specs.Books.{HasLane, HaveEngines, transfers_searched, book_at, GivesFirst, FirstsGiven, HasBooks, AreBooks, BooksTaken}
 use Rattle.search_session.proofs.Rows.{get_set_same, get_set_other, longer, at_end}
 
 -- the first element is taken
@@ -73,6 +74,7 @@ pub nothing_taken : (lanes : List (Option Lane)) → BooksTaken 0 lanes [] lanes
 nothing_taken lanes = record {
   count = refl;
   books_count = refl;
+  shards = All-nil (λ row. length row.items ≡ length lanes);
   taken = λ transfer s lane e before at has. absurd (omega arith);
   rest = λ s lane at. (lane, at, refl);
 }
@@ -84,6 +86,7 @@ pub taken_more : (all left new : List (Option Lane)) (n transfers : ℕ) (books 
 taken_more all left new n transfers books row have near so_far firsts = record {
   count = firsts.count ∙ so_far.count;
   books_count = length-append books (row ∷ []) ∙ ap (λ (k : ℕ). k + 1) so_far.books_count;
+  shards = All-push (λ r. length r.items ≡ length all) books row so_far.shards (firsts.books_count ∙ so_far.count);
   taken = λ transfer s lane e before at has. dite (ℕ_discrete transfer n)
       (λ same.
       let gave = gives s lane (Some e) at (ap (λ (k : ℕ). slice_get lane.engines.items k) (sym same) ∙ has) in
@@ -121,18 +124,27 @@ taken_more all left new n transfers books row have near so_far firsts = record {
         let place = slice_get_within left s (Some was.0) was.1 in
         firsts.given s was.0 slot (drop (n + 1) lane.engines.items) place was.1 (was.2 ∙ head)
 
+-- how many engines there are in each of some lanes
+pub some_searched : (shards transfers : ℕ) → 0 < shards → transfers_searched shards transfers ≡ transfers
+some_searched zero transfers some = absurd (omega arith)
+some_searched (suc shards) transfers some = refl
+
 pub all_taken : (lanes left : List (Option Lane)) (n transfers : ℕ) (books : List (ArrayVec (Option BookContents))) →
-    HaveEngines transfers lanes → (0 < length lanes → n ≡ transfers) → BooksTaken n lanes books left →
-    HasBooks lanes books
-all_taken lanes left n transfers books have all taken transfer s lane e at has =
-    let here = slice_get_within lanes s (Some lane) at in
-    let h = have s here in
-    let same : h.0 ≡ lane = inside h.0 lane (sym h.1 ∙ at) in
-    let many : length lane.engines.items ≡ transfers =
-    subst (λ (l : Lane). length l.engines.items ≡ transfers) same h.2 in
-    let within = slice_get_within lane.engines.items transfer (Some e) has in
-    let n_is : n ≡ transfers = all (omega arith) in
-    taken.taken transfer s lane e (omega arith) at has
+    HaveEngines transfers lanes → n ≡ transfers_searched (length lanes) transfers → BooksTaken n lanes books left →
+    AreBooks transfers lanes books
+all_taken lanes left n transfers books have all taken = record {
+  count = taken.books_count ∙ all;
+  shards = taken.shards;
+  each = λ transfer s lane e at has.
+      let here = slice_get_within lanes s (Some lane) at in
+      let h = have s here in
+      let same : h.0 ≡ lane = inside h.0 lane (sym h.1 ∙ at) in
+      let many : length lane.engines.items ≡ transfers =
+      subst (λ (l : Lane). length l.engines.items ≡ transfers) same h.2 in
+      let within = slice_get_within lane.engines.items transfer (Some e) has in
+      let n_is : n ≡ transfers = all ∙ some_searched (length lanes) transfers (omega arith) in
+      taken.taken transfer s lane e (omega arith) at has;
+}
   where
     inside : (a b : Lane) → Some (Some a) ≡ Some (Some b) → a ≡ b
     inside a b e = cc

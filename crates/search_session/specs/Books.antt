@@ -1,6 +1,6 @@
 -- The books of the engines of all shards.
 -- Source: this project's choice.
-use Rattle.std.specs.Prelude.{◌≡◌, ℕ, ◌<◌, ◌≤◌, List, ◌∷◌, length, map, drop, slice_get, Option, Some, option_map}
+use Rattle.std.specs.Prelude.{◌≡◌, ℕ, zero, suc, ◌<◌, ◌≤◌, All, List, ◌∷◌, length, map, drop, slice_get, Option, Some, option_map}
 use Rattle.arrayvec.specs.ArrayVec.{ArrayVec}
 use Rattle.candidate_book.specs.Book.{BookContents}
 use Rattle.search_engine.specs.Engine.{EngineState}
@@ -23,6 +23,11 @@ HasLane lanes s lane = slice_get lanes s ≡ Some (Some lane)
 abbrev pub HaveEngines : ℕ → List (Option Lane) → Type 0
 HaveEngines transfers lanes = (s : ℕ) → s < length lanes →
     (lane : Lane) × HasLane lanes s lane × (length lane.engines.items ≡ transfers)
+
+-- how many transfers so many shards search: none where there is no shard
+abbrev pub transfers_searched : ℕ → ℕ → ℕ
+transfers_searched zero transfers = 0
+transfers_searched (suc shards) transfers = transfers
 
 -- the book of a transfer and a shard
 abbrev pub HasBook : List (ArrayVec (Option BookContents)) → ℕ → ℕ → BookContents → Type 0
@@ -57,12 +62,27 @@ abbrev pub HasBooks : List (Option Lane) → List (ArrayVec (Option BookContents
 HasBooks lanes books = (transfer s : ℕ) (lane : Lane) (e : EngineState) → HasLane lanes s lane →
     HasEngine lane.engines.items transfer e → HasBook books transfer s e.book
 
+-- the books of all engines of these lanes, as many as lanes in each row
+pub record AreBooks (transfers : ℕ) (lanes : List (Option Lane))
+    (books : List (ArrayVec (Option BookContents))) : Type 0 where
+  pub count : length books ≡ transfers_searched (length lanes) transfers
+  pub shards : All (λ row. length row.items ≡ length lanes) books
+  pub each : HasBooks lanes books
+
+-- the books of so many shards and transfers, and the numbers of spectra
+pub record AreCounted (shards transfers : ℕ) (books : List (ArrayVec (Option BookContents)))
+    (spectra : List ℕ) : Type 0 where
+  pub books_count : length books ≡ transfers_searched shards transfers
+  pub shards_count : All (λ row. length row.items ≡ shards) books
+  pub spectra_count : length spectra ≡ transfers_searched shards transfers
+
 -- the books of the first n transfers, and the lanes without their engines
 pub record BooksTaken (n : ℕ) (all : List (Option Lane))
     (books : List (ArrayVec (Option BookContents)))
     (left : List (Option Lane)) : Type 0 where
   pub count : length left ≡ length all
   pub books_count : length books ≡ n
+  pub shards : All (λ row. length row.items ≡ length all) books
   pub taken : (transfer s : ℕ) (lane : Lane) (e : EngineState) → transfer < n → HasLane all s lane →
       HasEngine lane.engines.items transfer e → HasBook books transfer s e.book
   pub rest : (s : ℕ) (lane : Lane) → HasLane all s lane →

@@ -1,10 +1,25 @@
--- What is known of shards that ended.
+-- What is known of shards and a recorder that ended.
 -- Source: this project's choice.
-use Rattle.std.specs.Prelude.{◌≡◌, ℕ, ◌<◌, true, List, length, slice_get, Option, Some}
+use Rattle.std.specs.Prelude.{◌≡◌, ℕ, ◌<◌, true, List, [], ◌∷◌, ◌++◌, length, slice_get, Option, Some, None, option_map, IfSome}
 use Rattle.dada_hdu.specs.declared.hdu.Hdu.{Hdu}
-use Rattle.dada_hdu.specs.Passes.{data_shape}
+use Rattle.dada_hdu.specs.declared.ended.HduEnded.{HduEnded}
+use Rattle.dada_hdu.specs.Passes.{data_shape, number_of, EndedFromBoth}
 use Rattle.search_session.specs.declared.shard.ShardActor.{ShardActor}
+use Rattle.search_session.specs.declared.record.RecordActor.{RecordActor}
+use Rattle.search_session.specs.declared.hand.Hand.{Hand}
 use Rattle.search_session.specs.Shards.{ShardOn, shard_number}
+use Rattle.search_session.specs.Stages.{IsIn}
+use Rattle.search_session.specs.Books.{passes_of}
+
+-- the pass of a slot, where there is one
+abbrev pub listed : Option HduEnded → List (Option HduEnded)
+listed None = []
+listed (Some pass) = Some pass ∷ []
+
+-- the passes of shards, and that of a recorder after them
+abbrev pub passes_with : {F : Type 0} → List (Option ShardActor) → Option (RecordActor F) →
+    List (Option HduEnded)
+passes_with shards recorder = passes_of shards ++ listed (option_map (λ x. x.pass) recorder)
 
 -- a shard that ended
 pub record IsDone (hdu : Hdu) (transfers s : ℕ) (x : ShardActor) : Type 0 where
@@ -13,8 +28,20 @@ pub record IsDone (hdu : Hdu) (transfers s : ℕ) (x : ShardActor) : Type 0 wher
   pub ended : x.ended ≡ true
   pub count : length x.part.engines.items ≡ transfers
 
--- all readers of the rings are shards that ended, in order
-pub record AreDone (hdu : Hdu) (transfers : ℕ) (shards : List (Option ShardActor)) : Type 0 where
-  pub all : length shards ≡ (data_shape hdu).readers
+-- a recorder that reads by a reader with this number
+pub record ReadsLast {F : Type 0} (hdu : Hdu) (reader : ℕ) (x : RecordActor F) : Type 0 where
+  pub number : number_of x.pass ≡ reader
+  pub reads : EndedFromBoth hdu x.pass
+
+-- all readers of the rings are shards that ended, in order, and after them a recorder, where there is one
+pub record AreDone {F : Type 0} (hdu : Hdu) (transfers : ℕ) (shards : List (Option ShardActor))
+    (recorder : Option (RecordActor F)) : Type 0 where
+  pub all : length (passes_with shards recorder) ≡ (data_shape hdu).readers
   pub each : (s : ℕ) → s < length shards →
       (x : ShardActor) × (slice_get shards s ≡ Some (Some x)) × IsDone hdu transfers s x
+  pub last : IfSome recorder (ReadsLast hdu (length shards))
+
+-- in these hands, each shard with a number below this has so many engines
+abbrev pub HaveEnginesIn : {I F : Type 0} → List (Hand I F) → ℕ → ℕ → Type 0
+HaveEnginesIn hands shards transfers = (x : ShardActor) → IsIn hands x → shard_number x < shards →
+    length x.part.engines.items ≡ transfers

@@ -1,7 +1,9 @@
--- Shards that leave their hands.
+-- Shards and a recorder that leave their hands.
 -- Source: this project's choice.
-use Rattle.std.specs.Prelude.{◌≡◌, ℕ, ◌==◌, Bool, false, List, slice_get, slice_set, Option, Some, None}
+use Rattle.std.specs.Prelude.{◌≡◌, ℕ, ◌%◌, ◌==◌, Bool, false, List, length, slice_get, slice_set, Option, Some, None}
 use Rattle.search_session.specs.declared.shard.ShardActor.{ShardActor}
+use Rattle.search_session.specs.declared.record.RecordActor.{RecordActor}
+use Rattle.search_session.specs.declared.hand.Hand.{Hand}
 use Rattle.search_session.specs.Shards.{shard_number}
 
 -- whether the shard of a slot has this number
@@ -23,3 +25,23 @@ pub record GivesShard (old : List (Option ShardActor)) (number : ℕ) (shard : S
   pub there : slice_get old place ≡ Some (Some shard)
   pub is : shard_number shard ≡ number
   pub slots : new ≡ slice_set old place None
+
+-- the recorder of a hand, where there is one
+abbrev pub recorder_of : {I F : Type 0} → Option (Hand I F) → Option (RecordActor F)
+recorder_of None = None
+recorder_of (Some hand) = hand.recorder
+
+-- and of the hand in which the recorder works
+abbrev pub recorder_in : {I F : Type 0} → List (Hand I F) → Option (RecordActor F)
+recorder_in hands = recorder_of (slice_get hands (8 % length hands))
+
+-- that hand gave it
+pub record GivesRecorder {I F : Type 0} (old : List (Hand I F)) (recorder : Option (RecordActor F))
+    (new : List (Hand I F)) : Type 0 where
+  pub before : Hand I F
+  pub there : slice_get old (8 % length old) ≡ Some before
+  pub works : before.recorder ≡ recorder
+  pub after : Hand I F
+  pub hands : new ≡ slice_set old (8 % length old) after
+  pub feeder : after.feeder ≡ before.feeder
+  pub shards : after.shards ≡ before.shards

@@ -7,4 +7,5 @@ pub mod Gathering
 pub mod Stages
 pub mod Books
 pub mod Ends
+pub mod Recorded
 pub mod Sessions

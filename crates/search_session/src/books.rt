@@ -3,7 +3,7 @@ ghost use Rattle.std.specs.Prelude.{◌≡◌, ℕ, ◌<◌, ◌≤◌, ◌∷�
 ghost use Rattle.search_engine.specs.Engine.{EngineState};
 ghost use Rattle.search_session.specs.declared.lane.Lane.{Lane as Engines};
 ghost use Rattle.search_session.specs.Lanes.{HasEngine};
-ghost use Rattle.search_session.specs.Books.{HasLane, HaveEngines, book_at, GivesFirst, FirstsGiven, HasBooks, passes_of, lanes_of};
+ghost use Rattle.search_session.specs.Books.{HasLane, HaveEngines, book_at, GivesFirst, FirstsGiven, AreBooks, transfers_searched, passes_of, lanes_of};
 
 use crate::lane::Lane;
 use crate::shard::ShardActor;
@@ -55,7 +55,9 @@ fn spectra_at(slot: &Option<Engine>) -> u64
 
 // How many spectra each engine of the first lane searched.
 pub(crate) fn spectra_of(lanes: &[Option<Lane>]) -> ArrayVec<u64, 8>
-    ensures { (k : ℕ) (lane : Engines) (e : EngineState) → HasLane lanes.now 0 lane
+    ensures count { (transfers : ℕ) → HaveEngines transfers lanes.now
+        → length result.items ≡ transfers_searched (length lanes.now) transfers }
+    ensures each { (k : ℕ) (lane : Engines) (e : EngineState) → HasLane lanes.now 0 lane
         → HasEngine lane.engines.items k e → slice_get result.items k ≡ Some e.sums.carry.fed }
 {
     let mut spectra = ArrayVec::new();
@@ -109,11 +111,11 @@ fn take_firsts(lanes: &mut [Option<Lane>]) -> ArrayVec<Option<Book>, 7>
     row
 }
 
-// How many engines each lane has, where there are lanes.
+// How many transfers the lanes search.
 fn transfers_of(lanes: &[Option<Lane>]) -> usize
     ensures most { result ≤ 8 }
-    ensures all { (transfers : ℕ) → 0 < length lanes.now → HaveEngines transfers lanes.now
-        → result ≡ transfers }
+    ensures all { (transfers : ℕ) → HaveEngines transfers lanes.now
+        → result ≡ transfers_searched (length lanes.now) transfers }
 {
     match lanes.first() {
         Some(Some(lane)) => lane.engines.len(),
@@ -126,7 +128,8 @@ pub(crate) fn books_of(
     mut lanes: ArrayVec<Option<Lane>, 7>,
 ) -> ArrayVec<ArrayVec<Option<Book>, 7>, 8>
     requires { (transfers : ℕ) × HaveEngines transfers lanes.items }
-    ensures { HasBooks lanes.items result.items }
+    ensures { (transfers : ℕ) → HaveEngines transfers lanes.items
+        → AreBooks transfers lanes.items result.items }
 {
     let mut books = ArrayVec::new();
     for _transfer in 0..transfers_of(lanes.as_slice()) {

@@ -1,22 +1,27 @@
 //! The end of a session.
-ghost use Rattle.std.specs.Prelude.{◌≡◌, ℕ, IsSome, Some, slice_get};
+ghost use Rattle.std.specs.Prelude.{◌≡◌, ◌++◌, ◌<◌, ℕ, IsSome, Some, None, length, option_map, slice_get};
+ghost use Rattle.std.specs.Borrow.{MutBor};
 ghost use Rattle.ring_ends.specs.Ended.{sealed_at_end, cleared_at_end};
 ghost use Rattle.ring_words.specs.Ring.{Begins};
 ghost use Rattle.dada_hdu.specs.Passes.{WritesBoth};
-ghost use Rattle.disk_feeder.specs.Turns.{sealed_blocks};
+ghost use Rattle.disk_feeder.specs.Turns.{sealed_headers, sealed_blocks};
 ghost use Rattle.search_engine.specs.Engine.{EngineState};
 ghost use Rattle.search_session.specs.declared.shard.ShardActor.{ShardActor as Shard};
+ghost use Rattle.search_session.specs.declared.record.RecordActor.{RecordActor as Recording};
 ghost use Rattle.search_session.specs.Lanes.{HasEngine};
 ghost use Rattle.search_session.specs.Shards.{shard_cleared};
-ghost use Rattle.search_session.specs.Books.{HasBooks, lanes_of};
-ghost use Rattle.search_session.specs.Ends.{AreDone};
+ghost use Rattle.search_session.specs.Books.{HasBooks, AreCounted, lanes_of};
+ghost use Rattle.search_session.specs.Ends.{AreDone, listed};
+ghost use Rattle.search_session.specs.Recorded.{HasNoRecording};
+ghost use Rattle.search_session.specs.Sessions.{IsEndOfRecorder};
 
 use crate::books::{books_of, part_shards, spectra_of};
 use crate::feed::FeedActor;
+use crate::record::RecordActor;
 use crate::shard::ShardActor;
 use arrayvec::ArrayVec;
 use candidate_book::Book;
-use dada_hdu::{Hdu, HduFinished, order_is_enough};
+use dada_hdu::{Hdu, HduEnded, HduFinished, order_is_enough};
 use dada_recorder::RecordEnd;
 use disk_feeder::FeedEnd;
 use psr_base::{Files, Inputs};
@@ -43,15 +48,67 @@ pub struct Ran {
     pub blocks: Option<Finished>,
 }
 
-// Ends the rings, and takes the books out of the engines.
+// The parts of a recorder that ended, where there is one.
+struct RecorderParts<'a, F> {
+    pass: Option<HduEnded>,
+    end: Option<RecordEnd>,
+    files: Option<&'a mut F>,
+}
+
+// Takes a recorder apart: its files come back.
+fn part_recorder<'a, F: Files>(recorder: Option<RecordActor<'a, F>>) -> RecorderParts<'a, F>
+    ensures pass { result.pass ≡ option_map (λ x. x.pass) recorder.entry }
+    ensures none { recorder.entry ≡ None → (result.end ≡ None) × (result.files ≡ None) }
+    ensures some { (x : Recording F) → recorder.entry ≡ Some x → (result.end ≡ x.end)
+        × ((files : MutBor F) × (result.files ≡ Some files)
+        × (files.now ≡ x.part.files.now) × (files.ghost_name ≡ x.part.files.ghost_name)) }
+{
+    match recorder {
+        Some(actor) => {
+            let RecordActor {
+                part,
+                pass,
+                turns: _,
+                end,
+            } = actor;
+            RecorderParts {
+                pass: Some(pass),
+                end,
+                files: Some(part.close()),
+            }
+        }
+        None => RecorderParts {
+            pass: None,
+            end: None,
+            files: None,
+        },
+    }
+}
+
+// The passes, and one more after them, where there is one.
+fn with_pass(
+    mut passes: ArrayVec<Option<HduEnded>, 8>,
+    last: Option<HduEnded>,
+) -> ArrayVec<Option<HduEnded>, 8>
+    requires { length passes.items < 8 }
+    ensures { result.items ≡ passes.items ++ listed last }
+{
+    if let Some(pass) = last {
+        passes.push(Some(pass));
+    }
+    passes
+}
+
+// Ends the rings, takes the books out of the engines, and gives back the inputs and the files.
 pub(crate) fn finish<'a, I: Inputs, F: Files>(
     hdu: Hdu,
     feeder: FeedActor<'a, I>,
     shards: ArrayVec<Option<ShardActor>, 7>,
+    recorder: Option<RecordActor<'a, F>>,
 ) -> SessionEnd<'a, I, F>
     requires writer { WritesBoth hdu feeder.pass }
     requires ended { IsSome feeder.end }
-    requires shards { (transfers : ℕ) × AreDone hdu transfers shards.items }
+    requires done { (transfers : ℕ) × AreDone hdu transfers shards.items recorder }
     ensures inputs { result.inputs.now ≡ feeder.entry.part.inputs.now }
     ensures same_reference { result.inputs.ghost_name ≡ feeder.entry.part.inputs.ghost_name }
     ensures feed { feeder.entry.end ≡ Some result.feed }
@@ -59,10 +116,15 @@ pub(crate) fn finish<'a, I: Inputs, F: Files>(
     ensures cleared { (s : ℕ) (x : Shard) → slice_get shards.items s ≡ Some (Some x)
         → (cleared_at_end result.blocks s ≡ shard_cleared x)
         × Begins (shard_cleared x) (sealed_at_end result.blocks) }
+    ensures counted { (transfers : ℕ) → AreDone hdu transfers shards.items recorder.entry
+        → AreCounted (length shards.items) transfers result.books.items result.spectra.items }
     ensures books { HasBooks (lanes_of shards.items) result.books.items }
     ensures spectra { (k : ℕ) (x : Shard) (e : EngineState)
         → slice_get shards.items 0 ≡ Some (Some x) → HasEngine x.part.engines.items k e
         → slice_get result.spectra.items k ≡ Some e.sums.carry.fed }
+    ensures recorder { (x : Recording F) → recorder.entry ≡ Some x
+        → IsEndOfRecorder result (length shards.items) (sealed_headers feeder.entry.pass) x }
+    ensures no_recorder { recorder.entry ≡ None → HasNoRecording result }
 {
     order_is_enough();
     let FeedActor {
@@ -72,17 +134,22 @@ pub(crate) fn finish<'a, I: Inputs, F: Files>(
         end,
     } = feeder;
     let Some(feed) = end else { unreachable!() };
+    let RecorderParts {
+        pass: last,
+        end: recorded,
+        files,
+    } = part_recorder(recorder);
     let (passes, lanes) = part_shards(shards);
-    let HduFinished { header: _, blocks } = hdu.finish(pass, passes);
+    let HduFinished { header: _, blocks } = hdu.finish(pass, with_pass(passes, last));
     let spectra = spectra_of(lanes.as_slice());
     let books = books_of(lanes);
     SessionEnd {
         feed,
         books,
         spectra,
-        recorded: None,
+        recorded,
         blocks,
         inputs: part.close(),
-        files: None,
+        files,
     }
 }

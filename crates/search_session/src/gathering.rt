@@ -1,11 +1,12 @@
 //! The actors of a session leave their hands.
 ghost use Rattle.std.specs.Prelude.{◌≡◌, ℕ, ◌<◌, ◌≤◌, Some, length, slice_get};
 ghost use Rattle.search_session.specs.Shards.{shard_number};
-ghost use Rattle.search_session.specs.Gathering.{is_numbered, HasNumber, GivesShard};
+ghost use Rattle.search_session.specs.Gathering.{is_numbered, HasNumber, GivesShard, GivesRecorder, recorder_in};
 ghost use Rattle.search_session.specs.Stages.{HasShard, LeavesHand, GivesFeeder, AreGathered};
 
 use crate::feed::FeedActor;
 use crate::hand::Hand;
+use crate::record::RecordActor;
 use crate::shard::ShardActor;
 use arrayvec::ArrayVec;
 use std::mem;
@@ -56,6 +57,18 @@ pub(crate) fn take_feeder<'a, I, F>(hands: &mut [Hand<'a, I, F>]) -> FeedActor<'
         unreachable!()
     };
     feeder
+}
+
+// Takes the recorder out of its hand, where there is one.
+pub(crate) fn take_recorder<'a, I, F>(
+    hands: &mut [Hand<'a, I, F>],
+) -> Option<RecordActor<'a, F>>
+    requires { 0 < length hands.old }
+    ensures gives { GivesRecorder hands.old result hands.new }
+    ensures is { result ≡ recorder_in hands.old }
+{
+    let place = 8 % hands.len();
+    mem::replace(&mut hands[place].recorder, None)
 }
 
 // Takes the shard with this number out of the hand at a place.

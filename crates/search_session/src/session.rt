@@ -1,20 +1,25 @@
 //! A session: rounds until all have ended.
-ghost use Rattle.std.specs.Prelude.{◌≡◌, ℕ, ◌<◌, ◌≤◌, All, Some, length, slice_get};
-ghost use Rattle.dada_hdu.specs.Passes.{data_shape};
+ghost use Rattle.std.specs.Prelude.{◌≡◌, ℕ, ◌+◌, ◌<◌, ◌≤◌, All, IfSome, Some, None, length, option_map, slice_get};
+ghost use Rattle.dada_hdu.specs.Passes.{data_shape, number_of};
 ghost use Rattle.ring_ends.specs.Ended.{sealed_at_end};
 ghost use Rattle.disk_feeder.specs.Feeder.{FeederFaultless};
-ghost use Rattle.disk_feeder.specs.Turns.{sealed_blocks};
+ghost use Rattle.disk_feeder.specs.Turns.{sealed_headers, sealed_blocks};
 ghost use Rattle.search_session.specs.declared.hand.Hand.{Hand as Working};
 ghost use Rattle.search_session.specs.declared.feed.FeedActor.{FeedActor as Feeding};
 ghost use Rattle.search_session.specs.declared.shard.ShardActor.{ShardActor as Shard};
+ghost use Rattle.search_session.specs.declared.record.RecordActor.{RecordActor as Recording};
 ghost use Rattle.search_session.specs.Hands.{HandOn, HandMoved, HandEnded, EachMoved};
 ghost use Rattle.search_session.specs.Shards.{shard_number};
-ghost use Rattle.search_session.specs.Stages.{StageOn, HasShard, IsIn};
-ghost use Rattle.search_session.specs.Sessions.{FeedAnswers, ShardAnswers, IsEndOf};
+ghost use Rattle.search_session.specs.Gathering.{recorder_in};
+ghost use Rattle.search_session.specs.Stages.{StageOn, HasShard, IsIn, transfers_of};
+ghost use Rattle.search_session.specs.Books.{AreCounted};
+ghost use Rattle.search_session.specs.Ends.{listed, HaveEnginesIn};
+ghost use Rattle.search_session.specs.Recorded.{HasNoRecording, RecordedAnswers};
+ghost use Rattle.search_session.specs.Sessions.{FeedAnswers, ShardAnswers, IsEndOf, IsEndOfRecorder};
 
 use crate::ended::{SessionEnd, finish};
 use crate::gate::Gate;
-use crate::gathering::{gather, take_feeder};
+use crate::gathering::{gather, take_feeder, take_recorder};
 use crate::hand::Hand;
 use crate::rounds::{all_ended, retire_ended, round};
 use crate::staff::staff;
@@ -24,9 +29,11 @@ use psr_base::{Files, Inputs};
 use std::sync::Wait;
 use std::thread::Threads;
 // Laws: they do nothing when they run, and the proofs use what they ensure.
-use disk_feeder::feeders_end;
+use dada_recorder::recordings_end;
+use disk_feeder::{feeders_end, headers_are_first};
+use stream_model::{bytes_are_joined, ends_are_counted, streams_have_transfers};
 
-// Rounds of so many turns, until all actors have ended. A shard that ended is retired between rounds.
+// Rounds of so many turns, until all actors have ended. A shard or recorder that ended is retired between rounds.
 fn run_rounds<I: Inputs + Send, F: Files + Send, G: Gate + Sync, R: Threads + Wait + Sync>(
     rt: &R,
     hands: &mut [Hand<'_, I, F>],
@@ -62,24 +69,32 @@ fn end_session<'a, I: Inputs, F: Files>(
         × (h.feeder ≡ Some f) }
     requires few { shards ≤ 7 }
     requires shards { (s : ℕ) → s < shards → HasShard hands.old s }
-    requires all { shards ≡ (data_shape hdu).readers }
-    requires engines { (transfers : ℕ) × ((x : Shard) → IsIn hands.old x
-        → shard_number x < shards → length x.part.engines.items ≡ transfers) }
+    requires readers { shards + length (listed (option_map (λ x. x.pass) (recorder_in hands.old)))
+        ≡ (data_shape hdu).readers }
+    requires last { IfSome (recorder_in hands.old) (λ x. number_of x.pass ≡ shards) }
+    requires engines { (transfers : ℕ) × HaveEnginesIn hands.old shards transfers }
     ensures feeder { (h : Working I F) (f : Feeding I) → slice_get hands.old 0 ≡ Some h
         → h.feeder ≡ Some f → (f.end ≡ Some result.feed)
         × (result.inputs.now ≡ f.part.inputs.now)
         × (result.inputs.ghost_name ≡ f.part.inputs.ghost_name)
         × (sealed_at_end result.blocks ≡ sealed_blocks f.pass) }
+    ensures counted { (transfers : ℕ) → HaveEnginesIn hands.old shards transfers
+        → AreCounted shards transfers result.books.items result.spectra.items }
     ensures shards { (s : ℕ) → s < shards → (x : Shard) × IsIn hands.old x
         × (shard_number x ≡ s) × IsEndOf result s x }
+    ensures recorder { (h : Working I F) (f : Feeding I) (x : Recording F)
+        → slice_get hands.old 0 ≡ Some h → h.feeder ≡ Some f → recorder_in hands.old ≡ Some x
+        → IsEndOfRecorder result shards (sealed_headers f.pass) x }
+    ensures no_recorder { recorder_in hands.old ≡ None → HasNoRecording result }
 {
     let feeder = take_feeder(hands);
+    let recorder = take_recorder(hands);
     let shards = gather(hands, shards);
-    finish(hdu, feeder, shards)
+    finish(hdu, feeder, shards, recorder)
 }
 
-/// Drives a stage to its end: rounds of so many turns follow one another until all have ended. A shard that ended is
-/// retired between rounds.
+/// Drives a stage to its end: rounds of so many turns follow one another until all have ended. A shard or recorder that
+/// ended is retired between rounds.
 pub fn run_session<'a, I: Inputs + Send, F: Files + Send, G: Gate + Sync, R: Threads + Wait + Sync>(
     rt: &R,
     stage: Stage<'a, I, F>,
@@ -89,9 +104,16 @@ pub fn run_session<'a, I: Inputs + Send, F: Files + Send, G: Gate + Sync, R: Thr
     requires stage { StageOn I.told I.is_open F.is_open stage }
     requires faultless { FeederFaultless stage.feeder }
     ensures feed { FeedAnswers I.told I.is_calm I.faults stage.entry.feeder result }
-    ensures shards { ShardAnswers stage.entry.lanes.items result }
+    ensures shards { ShardAnswers (transfers_of stage.entry) stage.entry.lanes.items result }
+    ensures recorded { RecordedAnswers F.seen stage.entry.feeder stage.entry.recorder
+        (length stage.entry.lanes.items) result }
 {
     feeders_end::<I>();
+    headers_are_first::<I>();
+    recordings_end();
+    bytes_are_joined();
+    ends_are_counted();
+    streams_have_transfers();
     let shards = stage.lanes.len();
     let (hdu, mut hands) = staff(stage);
     run_rounds(rt, hands.as_mut_slice(), &hdu, turns, gate);

@@ -1,10 +1,10 @@
-use Rattle.std.proofs.Common.{◌≡◌, ◌+◌, ◌<◌, List, ◌++◌, Option, length, take, drop, sym, subst, arith}
+use Rattle.std.proofs.Common.{◌≡◌, ◌+◌, ◌<◌, List, ◌++◌, Option, length, take, drop, sym, ◌∙◌, subst, arith}
 use Rattle.arrayvec.specs.ArrayVec.{ArrayVec}
 use Rattle.candidate_book.specs.Book.{BookContents}
 use Rattle.search_session.specs.declared.lane.Lane.{Lane}
-use Rattle.search_session.specs.Books.{HaveEngines, FirstsGiven, BooksTaken}
+use Rattle.search_session.specs.Books.{HaveEngines, transfers_searched, FirstsGiven, BooksTaken}
 use Rattle.search_session.proofs.Rows.{all_written}
-use Rattle.search_session.proofs.Taking.{nothing_taken, taken_more, all_taken}
+use Rattle.search_session.proofs.Taking.{nothing_taken, taken_more, some_searched, all_taken}
 use Rattle.search_session.proofs.books.books_of.Goals as goal
 
 pub loop-transfer-init : goal.loop-transfer-init
@@ -24,10 +24,12 @@ loop-transfer-preserved c =
     let firsts : FirstsGiven (length left) left row.items new =
     subst (λ (l : List (Option Lane)). FirstsGiven (length l) l row.items new) c.as_mut_slice.ensures.value
     c.take_firsts.ensures in
+    let searched : c.transfers_of-transfer-end.result ≡ transfers_searched (length all) transfers =
+    subst (λ (l : List (Option Lane)). c.transfers_of-transfer-end.result ≡ transfers_searched (length l) transfers)
+    (sym shown) (c.transfers_of-transfer-end.ensures.all transfers
+    (subst (λ (l : List (Option Lane)). HaveEngines transfers l) shown c.requires.1)) in
     let near : 0 < length all → n < transfers = λ some.
-    let count = c.transfers_of-transfer-end.ensures.all transfers
-    (subst (λ (l : List (Option Lane)). 0 < length l) shown some)
-    (subst (λ (l : List (Option Lane)). HaveEngines transfers l) shown c.requires.1) in omega arith in
+    let many = searched ∙ some_searched (length all) transfers some in omega arith in
     subst (λ (l : List (ArrayVec (Option BookContents))). BooksTaken (n + 1) all l
     (take (length left) (new ++ drop (length new) left))) (sym c.push.ensures.items)
     (taken_more all left (take (length left) (new ++ drop (length new) left)) n transfers c.loop-transfer.books.items row
@@ -36,14 +38,15 @@ loop-transfer-preserved c =
     (sym (all_written (length left) left new firsts.count)) firsts))
 
 pub returns : goal.returns
-returns c =
+returns c = λ transfers have.
     let n = c.loop-transfer._transfer in
     let all = c.args.lanes.items in
-    let transfers = c.requires.0 in
     let shown : all ≡ c.as_slice.result.now = sym c.as_slice.ensures.value in
-    let count : 0 < length all → n ≡ transfers = λ some.
-    let is = c.transfers_of-transfer-end.ensures.all transfers
-    (subst (λ (l : List (Option Lane)). 0 < length l) shown some)
-    (subst (λ (l : List (Option Lane)). HaveEngines transfers l) shown c.requires.1) in omega arith in
-    all_taken all c.loop-transfer.lanes.items n transfers c.loop-transfer.books.items c.requires.1 count
+    let searched : c.transfers_of-transfer-end.result ≡ transfers_searched (length all) transfers =
+    subst (λ (l : List (Option Lane)). c.transfers_of-transfer-end.result ≡ transfers_searched (length l) transfers)
+    (sym shown) (c.transfers_of-transfer-end.ensures.all transfers
+    (subst (λ (l : List (Option Lane)). HaveEngines transfers l) shown have)) in
+    let most = c.loop-transfer.invariant.books_count in
+    let done : n ≡ c.transfers_of-transfer-end.result = omega arith in
+    all_taken all c.loop-transfer.lanes.items n transfers c.loop-transfer.books.items have (done ∙ searched)
     c.loop-transfer.invariant

@@ -1,46 +1,134 @@
-use Rattle.std.proofs.Common.{List, Option, sym, subst, ◌∙◌}
+use Rattle.std.proofs.Common.{◌≡◌, ℕ, List, ◌++◌, Option, length, sym, ap, ◌∙◌, subst}
+use Rattle.std.proofs.lemmas.List.{length-map}
+use Rattle.std.specs.Prelude.{All, option_map}
+use Rattle.ring_ends.specs.Ended.{sealed_at_end}
+use Rattle.ring_blocks.specs.declared.Entry.{Entry}
+use Rattle.ring_words.specs.Ring.{Begins}
 use Rattle.dada_hdu.specs.declared.ended.HduEnded.{HduEnded}
-use Rattle.dada_hdu.specs.Passes.{data_ring, data_end}
+use Rattle.dada_hdu.specs.Passes.{header_ring, data_ring, header_end, data_end}
 use Rattle.dada_hdu.specs.Ended.{AllReadersOfBoth, RingFinished}
+use Rattle.search_session.specs.declared.shard.ShardActor.{ShardActor}
+use Rattle.search_session.specs.declared.record.RecordActor.{RecordActor}
 use Rattle.search_session.specs.declared.lane.Lane.{Lane}
-use Rattle.search_session.specs.Books.{HaveEngines, HasBooks, HasLane, passes_of}
-use Rattle.search_session.proofs.Finishing.{passes_in_order, lanes_have, cleared_is, cleared_begins, gives_lane}
+use Rattle.search_session.specs.Records.{recorded_headers}
+use Rattle.search_session.specs.Books.{HaveEngines, AreBooks, HasBooks, HasLane, transfers_searched, passes_of, lanes_of}
+use Rattle.search_session.specs.Ends.{listed, passes_with}
+use Rattle.search_session.proofs.Finishing.{passes_in_order, lanes_have, cleared_is, cleared_begins, gives_lane, last_cleared, last_begins, last_headers}
 use Rattle.search_session.proofs.ended.finish.Goals as goal
+
+-- what is given to the end of the rings are the passes of the shards, and the recorder's after them
+all_passes : {F : Type 0} (shards : List (Option ShardActor)) (recorder : Option (RecordActor F))
+    (passes given : List (Option HduEnded)) (last : Option HduEnded) → given ≡ passes ++ listed last →
+    passes ≡ passes_of shards → last ≡ option_map (λ (x : RecordActor F). x.pass) recorder →
+    given ≡ passes_with shards recorder
+all_passes shards recorder passes given last is first one =
+    is ∙ ap (λ (l : List (Option HduEnded)). l ++ listed last) first
+    ∙ ap (λ (p : Option HduEnded). passes_of shards ++ listed p) one
 
 pub finish-blocks-requires-clause-readers : goal.finish-blocks-requires-clause-readers
 finish-blocks-requires-clause-readers g c =
-    let done = c.requires.shards in
-    subst (λ (l : List (Option HduEnded)). AllReadersOfBoth c.args.hdu l) (sym c.part_shards-passes.ensures.passes)
-    (c.order_is_enough.ensures c.args.hdu (passes_of c.args.shards.items)
-    (passes_in_order c.args.hdu done.0 c.args.shards.items done.1))
+    let shards = c.args.shards.items in
+    let recorder = c.args.recorder in
+    let done = c.requires.done in
+    subst (λ (l : List (Option HduEnded)). AllReadersOfBoth c.args.hdu l)
+    (sym (all_passes shards recorder c.part_shards-passes.result.0.items c.with_pass.result.items
+    c.part_recorder-last.result.pass c.with_pass.ensures c.part_shards-passes.ensures.passes
+    c.part_recorder-last.ensures.pass))
+    (c.order_is_enough.ensures c.args.hdu (passes_with shards recorder)
+    (passes_in_order c.args.hdu done.0 shards recorder done.1))
 
 pub books_of-books-requires : goal.books_of-books-requires
 books_of-books-requires g c =
-    let done = c.requires.shards in (
+    let done = c.requires.done in (
       done.0,
       subst (λ (l : List (Option Lane)). HaveEngines done.0 l) (sym c.part_shards-passes.ensures.lanes)
-          (lanes_have c.args.hdu done.0 c.args.shards.items done.1),
+          (lanes_have c.args.hdu done.0 c.args.shards.items c.args.recorder done.1),
     )
 
 pub returns-clause-cleared : goal.returns-clause-cleared
 returns-clause-cleared g c = λ s x at.
     let hdu = c.args.hdu in
     let shards = c.args.shards.items in
-    let done = c.requires.shards in
+    let recorder = c.args.recorder in
+    let done = c.requires.done in
     let blocks = c.finish-blocks.result.blocks in
     let writer = c.args.feeder.pass.blocks in
-    let end : RingFinished (data_ring hdu) writer data_end (passes_of shards) blocks =
+    let end : RingFinished (data_ring hdu) writer data_end (passes_with shards recorder) blocks =
     subst (λ (l : List (Option HduEnded)). RingFinished (data_ring hdu) writer data_end l blocks)
-    c.part_shards-passes.ensures.passes c.finish-blocks.ensures.blocks in (
-      cleared_is hdu done.0 shards done.1 writer blocks end s x at,
-      cleared_begins hdu done.0 shards done.1 writer blocks end s x at,
+    (all_passes shards recorder c.part_shards-passes.result.0.items c.with_pass.result.items
+    c.part_recorder-last.result.pass c.with_pass.ensures c.part_shards-passes.ensures.passes
+    c.part_recorder-last.ensures.pass) c.finish-blocks.ensures.blocks in (
+      cleared_is hdu done.0 shards recorder done.1 writer blocks end s x at,
+      cleared_begins hdu done.0 shards recorder done.1 writer blocks end s x at,
     )
 
+pub returns-clause-counted : goal.returns-clause-counted
+returns-clause-counted g c = λ transfers done.
+    let shards = c.args.shards.items in
+    let long : length (lanes_of shards) ≡ length shards = length-map shards
+    (option_map (λ (y : ShardActor). y.part)) in
+    let have : HaveEngines transfers (lanes_of shards) =
+    lanes_have c.args.hdu transfers shards c.args.recorder done in
+    let books : AreBooks transfers (lanes_of shards) c.books_of-books.result.items =
+    subst (λ (l : List (Option Lane)). AreBooks transfers l c.books_of-books.result.items)
+    c.part_shards-passes.ensures.lanes (c.books_of-books.ensures transfers
+    (subst (λ (l : List (Option Lane)). HaveEngines transfers l) (sym c.part_shards-passes.ensures.lanes) have)) in
+    let shown : c.as_slice.result.now ≡ lanes_of shards = c.as_slice.ensures.value ∙ c.part_shards-passes.ensures.lanes in
+    let spectra : length c.spectra_of-spectra.result.items ≡ transfers_searched (length (lanes_of shards)) transfers =
+    subst (λ (l : List (Option Lane)). length c.spectra_of-spectra.result.items ≡ transfers_searched (length l) transfers)
+    shown (c.spectra_of-spectra.ensures.count transfers
+    (subst (λ (l : List (Option Lane)). HaveEngines transfers l) (sym shown) have)) in
+    record {
+      books_count = books.count ∙ ap (λ (n : ℕ). transfers_searched n transfers) long;
+      shards_count = subst (λ (n : ℕ). All (λ row. length row.items ≡ n) c.books_of-books.result.items) long
+          books.shards;
+      spectra_count = spectra ∙ ap (λ (n : ℕ). transfers_searched n transfers) long;
+    }
+
 pub returns-clause-books : goal.returns-clause-books
-returns-clause-books g c = subst (λ (l : List (Option Lane)). HasBooks l c.books_of-books.result.items)
-    c.part_shards-passes.ensures.lanes c.books_of-books.ensures
+returns-clause-books g c =
+    let done = c.requires.done in
+    let lanes = c.part_shards-passes.ensures.lanes in
+    subst (λ (l : List (Option Lane)). HasBooks l c.books_of-books.result.items) lanes
+    (c.books_of-books.ensures done.0 (subst (λ (l : List (Option Lane)). HaveEngines done.0 l) (sym lanes)
+    (lanes_have c.args.hdu done.0 c.args.shards.items c.args.recorder done.1))).each
 
 pub returns-clause-spectra : goal.returns-clause-spectra
-returns-clause-spectra g c = λ k x e at has. c.spectra_of-spectra.ensures k x.part e
+returns-clause-spectra g c = λ k x e at has. c.spectra_of-spectra.ensures.each k x.part e
     (subst (λ (l : List (Option Lane)). HasLane l 0 x.part)
     (sym (c.as_slice.ensures.value ∙ c.part_shards-passes.ensures.lanes)) (gives_lane c.args.shards.items 0 x at)) has
+
+pub returns-clause-recorder : goal.returns-clause-recorder
+returns-clause-recorder g c = λ x is.
+    let hdu = c.args.hdu in
+    let shards = c.args.shards.items in
+    let recorder = c.args.recorder in
+    let done = c.requires.done in
+    let header = c.finish-blocks.result.header in
+    let blocks = c.finish-blocks.result.blocks in
+    let header_writer = c.args.feeder.pass.header in
+    let writer = c.args.feeder.pass.blocks in
+    let passes = all_passes shards recorder c.part_shards-passes.result.0.items c.with_pass.result.items
+    c.part_recorder-last.result.pass c.with_pass.ensures c.part_shards-passes.ensures.passes
+    c.part_recorder-last.ensures.pass in
+    let end : RingFinished (data_ring hdu) writer data_end (passes_with shards recorder) blocks =
+    subst (λ (l : List (Option HduEnded)). RingFinished (data_ring hdu) writer data_end l blocks)
+    passes c.finish-blocks.ensures.blocks in
+    let header_finished : RingFinished (header_ring hdu) header_writer header_end (passes_with shards recorder) header =
+    subst (λ (l : List (Option HduEnded)). RingFinished (header_ring hdu) header_writer header_end l header)
+    passes c.finish-blocks.ensures.header in
+    let readers = c.order_is_enough.ensures hdu (passes_with shards recorder)
+    (passes_in_order hdu done.0 shards recorder done.1) in
+    let parts = c.part_recorder-last.ensures.some x is in
+    record {
+      recorded = parts.0;
+      files = parts.1.0;
+      given = parts.1.1;
+      now = parts.1.2;
+      same_reference = parts.1.3;
+      cleared = last_cleared hdu done.0 shards recorder done.1 writer blocks end x is;
+      begins = last_begins hdu done.0 shards recorder done.1 writer blocks end x is;
+      headers_begin = subst (λ (l : List Entry). Begins (recorded_headers x) l) header_finished.sealed
+          (last_headers hdu done.0 shards recorder done.1 writer blocks end x is header_writer header header_finished
+          readers);
+    }

@@ -1,24 +1,40 @@
-use Rattle.std.proofs.Common.{◌≡◌, ℕ, ◌<◌, List, Some, length, slice_get, sym, ap, ◌∙◌, subst, arith}
+use Rattle.std.proofs.Common.{◌≡◌, ℕ, ◌<◌, List, Option, Some, length, slice_get, sym, ap, ◌∙◌, subst, arith}
 use Rattle.std.proofs.lemmas.Option.{slice_get_within}
-use Rattle.disk_feeder.specs.Turns.{sealed_blocks}
+use Rattle.ring_blocks.specs.declared.Entry.{Entry}
+use Rattle.disk_feeder.specs.Turns.{sealed_headers, sealed_blocks}
 use Rattle.search_session.specs.declared.feed.FeedActor.{FeedActor}
+use Rattle.search_session.specs.declared.record.RecordActor.{RecordActor}
 use Rattle.search_session.specs.declared.hand.Hand.{Hand}
-use Rattle.search_session.proofs.Gathered.{count_same, still_in, still_work}
+use Rattle.search_session.specs.Books.{AreCounted}
+use Rattle.search_session.specs.Sessions.{IsEndOfRecorder}
+use Rattle.search_session.proofs.Gathered.{count_same}
 use Rattle.search_session.proofs.Finishing.{gives_lane}
-use Rattle.search_session.proofs.Ending.{on_in, ended_in, feeder_on, feeder_ended}
+use Rattle.search_session.proofs.Ending.{feeder_on, feeder_ended}
+use Rattle.search_session.proofs.Leaving.{in_old, work_still, some_new, is_recorder, are_done}
 use Rattle.search_session.proofs.session.end_session.Goals as goal
+
+pub take_recorder-recorder-requires : goal.take_recorder-recorder-requires
+take_recorder-recorder-requires g c =
+    let old = c.args.hands.now in
+    let mid = c.take_feeder-feeder.new.hands in
+    let first = c.take_feeder-feeder.ensures in
+    let near = slice_get_within old 0 first.before first.there in
+    let count : length mid ≡ length old = count_same old mid 0 first.after first.hands in
+    omega arith
 
 pub gather-shards-requires : goal.gather-shards-requires
 gather-shards-requires g c =
     let old = c.args.hands.now in
-    let new = c.take_feeder-feeder.new.hands in
-    let gives = c.take_feeder-feeder.ensures in
-    let near = slice_get_within old 0 gives.before gives.there in
-    let count : length new ≡ length old = count_same old new 0 gives.after gives.hands in
+    let mid = c.take_feeder-feeder.new.hands in
+    let new = c.take_recorder-recorder.new.hands in
+    let f = c.take_feeder-feeder.result in
+    let r = c.take_recorder-recorder.result in
+    let first = c.take_feeder-feeder.ensures in
+    let second = c.take_recorder-recorder.ensures.gives in
     record {
-      some = omega arith;
+      some = some_new old mid new f r first second;
       few = c.requires.few;
-      shards = λ s below. still_work old new c.take_feeder-feeder.result gives s (c.requires.shards s below);
+      shards = λ s below. work_still old mid new f r first second s (c.requires.shards s below);
     }
 
 pub finish-requires : goal.finish-requires
@@ -26,67 +42,79 @@ finish-requires g c =
     let told = g.I.Inputs.told in
     let is_open = g.I.Inputs.is_open in
     let files_open = g.F.Files.is_open in
+    let hdu = c.args.hdu in
     let old = c.args.hands.now in
-    let new = c.take_feeder-feeder.new.hands in
+    let mid = c.take_feeder-feeder.new.hands in
+    let new = c.take_recorder-recorder.new.hands in
     let f = c.take_feeder-feeder.result in
-    let gives = c.take_feeder-feeder.ensures in
-    let gathered = c.gather-shards.ensures in
-    let few = gathered.count in
+    let r = c.take_recorder-recorder.result in
+    let first = c.take_feeder-feeder.ensures in
+    let second = c.take_recorder-recorder.ensures.gives in
+    let q = c.requires in
     record {
-      writer = (feeder_on told is_open files_open c.args.hdu old c.requires.on gives.before f gives.there gives.works).writes;
-      ended = feeder_ended old gives.before f c.requires.ended gives.there gives.works;
-      shards = (
-        c.requires.engines.0,
-        record {
-          all = gathered.count ∙ c.requires.all;
-          each = λ s near.
-              let below : s < c.args.shards = omega arith in
-              let h = gathered.each s below in
-              let is = still_in old new f gives h.0 h.3 in
-              let number = h.2 in (
-                h.0,
-                h.1,
-                record {
-                  number = h.2;
-                  on = on_in told is_open files_open c.args.hdu old c.requires.on h.0 is;
-                  ended = ended_in old h.0 c.requires.ended is;
-                  count = c.requires.engines.1 h.0 is (omega arith);
-                },
-              );
-        },
+      writer = (feeder_on told is_open files_open hdu old q.on first.before f first.there first.works).writes;
+      ended = feeder_ended old first.before f q.ended first.there first.works;
+      done = (
+        q.engines.0,
+        are_done old mid new f r first second told is_open files_open hdu q.on q.ended
+            c.take_recorder-recorder.ensures.is c.gather-shards.result.items c.args.shards c.gather-shards.ensures
+            q.readers q.last q.engines.0 q.engines.1,
       );
     }
 
 pub returns : goal.returns
 returns g c =
+    let I : Type 0 = g.row.I.Denot in
+    let F : Type 0 = g.row.F.Denot in
+    let told = g.I.Inputs.told in
+    let is_open = g.I.Inputs.is_open in
+    let files_open = g.F.Files.is_open in
+    let hdu = c.args.hdu in
     let old = c.args.hands.now in
-    let new = c.take_feeder-feeder.new.hands in
+    let mid = c.take_feeder-feeder.new.hands in
+    let new = c.take_recorder-recorder.new.hands in
     let f = c.take_feeder-feeder.result in
-    let gives = c.take_feeder-feeder.ensures in
+    let r = c.take_recorder-recorder.result in
+    let first = c.take_feeder-feeder.ensures in
+    let second = c.take_recorder-recorder.ensures.gives in
+    let q = c.requires in
     let gathered = c.gather-shards.ensures in
     let end = c.finish.ensures in
     let shards = c.gather-shards.result.items in
+    let r_is = is_recorder old mid new f r first second c.take_recorder-recorder.ensures.is in
     record {
       feeder = λ h other at works.
-          let same : f ≡ other = one_feeder g.row.I.Denot g.row.F.Denot old gives.before h f other gives.there gives.works at works in (
-            ap (λ (x : FeedActor g.row.I.Denot). x.end) (sym same) ∙ end.feed,
-            end.inputs ∙ ap (λ (x : FeedActor g.row.I.Denot). x.part.inputs.now) same,
-            end.same_reference ∙ ap (λ (x : FeedActor g.row.I.Denot). x.part.inputs.ghost_name) same,
-            end.sealed ∙ ap (λ (x : FeedActor g.row.I.Denot). sealed_blocks x.pass) same,
+          let same : f ≡ other = one_feeder I F old first.before h f other first.there first.works at works in (
+            ap (λ (x : FeedActor I). x.end) (sym same) ∙ end.feed,
+            end.inputs ∙ ap (λ (x : FeedActor I). x.part.inputs.now) same,
+            end.same_reference ∙ ap (λ (x : FeedActor I). x.part.inputs.ghost_name) same,
+            end.sealed ∙ ap (λ (x : FeedActor I). sealed_blocks x.pass) same,
           );
+      counted = λ transfers engines.
+          subst (λ (n : ℕ). AreCounted n transfers c.finish.result.books.items c.finish.result.spectra.items)
+          gathered.count
+          (end.counted transfers (are_done old mid new f r first second told is_open files_open hdu q.on q.ended
+          c.take_recorder-recorder.ensures.is shards c.args.shards gathered q.readers q.last transfers engines));
       shards = λ s below.
           let h = gathered.each s below in (
             h.0,
-            still_in old new f gives h.0 h.3,
+            in_old old mid new f r first second h.0 h.3,
             h.2,
             record {
               cleared = (end.cleared s h.0 h.1).0;
               begins = (end.cleared s h.0 h.1).1;
               books = λ k e has. end.books k s h.0.part e (gives_lane shards s h.0 h.1) has;
-              spectra = λ first k e has. end.spectra k h.0 e
-                  (subst (λ (j : ℕ). slice_get shards j ≡ Some (Some h.0)) first h.1) has;
+              spectra = λ is_first k e has. end.spectra k h.0 e
+                  (subst (λ (j : ℕ). slice_get shards j ≡ Some (Some h.0)) is_first h.1) has;
             },
           );
+      recorder = λ h other x at works is.
+          let same : f ≡ other = one_feeder I F old first.before h f other first.there first.works at works in
+          subst (λ (l : List Entry). IsEndOfRecorder c.finish.result c.args.shards l x)
+          (ap (λ (y : FeedActor I). sealed_headers y.pass) same)
+          (subst (λ (n : ℕ). IsEndOfRecorder c.finish.result n (sealed_headers f.pass) x) gathered.count
+          (end.recorder x (r_is ∙ is)));
+      no_recorder = λ is. end.no_recorder (r_is ∙ is);
     }
   where
     one_feeder : (I F : Type 0) (hands : List (Hand I F)) (a b : Hand I F) (x y : FeedActor I) → slice_get hands 0 ≡ Some a →
