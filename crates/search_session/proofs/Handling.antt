@@ -54,6 +54,26 @@ module _ {A : Type 0} (R : A → A → Type 0) where
         each = λ k d near. first.moved k d (omega arith) near;
       }
 
+-- the first n of them are so
+abbrev pub FirstAre : {A : Type 0} → (A → Type 0) → ℕ → List A → Type 0
+FirstAre P n xs = (k : ℕ) (d : _) → k < n → k < length xs → P (slice_index_or xs k d)
+
+module _ {A : Type 0} (P : A → Type 0) where
+  pub are_none : (xs : List A) → FirstAre P 0 xs
+  are_none xs = λ k d before near. absurd (omega arith)
+
+  pub are_more : (xs : List A) (n : ℕ) (new : A) → n < length xs → FirstAre P n xs → P new →
+      FirstAre P (n + 1) (slice_set xs n new)
+  are_more xs n new near first is = λ k d before within.
+      let count = length-set xs n new in
+      dite (ℕ_discrete k n)
+      (λ same. subst (λ (j : ℕ). P (slice_index_or (slice_set xs n new) j d)) (sym same)
+      (subst P (sym (get_or-set_same xs n new d near)) is))
+      (λ other. subst P (sym (get_or-set_other xs n k new d other)) (first k d (omega arith) (omega arith)))
+
+  pub are_all : (xs : List A) (n : ℕ) → length xs ≤ n → FirstAre P n xs → All P xs
+  are_all xs n all first = λ k d near. first k d (omega arith) near
+
 -- ---- shards
 
 slot_none : (hdu : Hdu) (slot : Option ShardActor) → IfSome slot (ShardOn hdu) → SlotMoved (ShardMoved 0) slot slot

@@ -1,5 +1,6 @@
 mod Engines
 mod Rows
+mod ManyReads
 mod Turning
 mod Moves
 mod Feeding

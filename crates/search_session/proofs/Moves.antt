@@ -1,23 +1,15 @@
 -- Turns that follow one another, of shards and of slots.
-use Rattle.std.proofs.Common.{◌≡◌, ℕ, ◌+◌, ◌<◌, ◌^◌, min, Bool, true, false, List, [], ◌++◌, Option, Some, None, slice_index_or, refl, sym, ap, ◌∙◌, append_assoc, arith}
-use Rattle.std.proofs.lemmas.List.{append-nil}
+use Rattle.std.proofs.Common.{◌≡◌, ℕ, ◌+◌, ◌<◌, ◌^◌, min, Bool, true, false, List, Option, Some, None, slice_index_or, refl, ◌∙◌, arith}
 use Rattle.ring_core.specs.Machine.{greatest}
-use Rattle.ring_blocks.specs.declared.Entry.{Entry}
-use Rattle.ring_words.specs.Ring.{Begins}
 use Rattle.dada_hdu.specs.Passes.{tries_of}
 use Rattle.search_session.specs.declared.shard.ShardActor.{ShardActor}
-use Rattle.search_session.specs.Shards.{shard_cleared, ShardMoved, ShardStepped}
+use Rattle.search_session.specs.Reads.{header_is_next, HasRead}
+use Rattle.search_session.specs.Shards.{shard_cleared, EnginesFollow, ShardMoved}
 use Rattle.search_session.specs.Hands.{SlotMoved, EachMoved}
+use Rattle.search_session.proofs.ManyReads.{begins_itself, begins_more, rested_itself, no_reads, one_read, reads_more, read_number, read_tries, read_blocks}
 use Rattle.search_session.proofs.Engines.{follow_still, follow_more}
 
 -- ---- shards
-
-begins_itself : (xs : List Entry) → Begins xs xs
-begins_itself xs = ([], sym (append-nil xs))
-
-begins_more : (xs ys zs : List Entry) → Begins xs ys → Begins ys zs → Begins xs zs
-begins_more xs ys zs a b =
-    (a.0 ++ b.0, b.1 ∙ (ap (λ (l : List Entry). l ++ b.0) a.1 ∙ append_assoc xs a.0 b.0))
 
 -- no turn was made
 stands : (n : ℕ) (x : ShardActor) → x.turns < 2 ^ 64 → (x.ended ≡ false → 0 ≡ n) → ShardMoved n x x
@@ -32,6 +24,7 @@ stands n x small all =
       none = λ ended. refl;
       stays = λ ended. ended;
       turns = turns;
+      reads = no_reads x.pass x.pass (rested_itself x.pass);
       tries = tries;
       grown = begins_itself (shard_cleared x);
       engines = follow_still (shard_cleared x) (shard_cleared x) x.part.engines.items refl;
@@ -47,19 +40,21 @@ shard_still n x small ended = stands n x small (λ running. absurd (apart (x.end
     apart b t f = cc
 
 -- a turn and its read
-pub shard_turned : (x y : ShardActor) → x.ended ≡ false → ShardStepped x y → (turns : ℕ) →
-    turns ≡ min greatest (x.turns + 1) → y.turns ≡ turns → ShardMoved 1 x y
-shard_turned x y running step turns is same = record {
-  number = step.number;
+pub shard_turned : (x y : ShardActor) → x.ended ≡ false → HasRead x.pass y.pass → EnginesFollow (shard_cleared x)
+    (shard_cleared y) x.part.engines.items y.part.engines.items → y.turns ≡ min greatest (x.turns + 1) →
+    ShardMoved 1 x y
+shard_turned x y running read engines turns = record {
+  number = read_number (header_is_next x.pass) x.pass y.pass read;
   made = 1;
   most = omega arith;
   all = λ on. refl;
   none = λ ended. absurd (apart (x.ended) ended running);
   stays = λ ended. absurd (apart (x.ended) ended running);
-  turns = same ∙ is;
-  tries = step.tries;
-  grown = step.grown;
-  engines = step.engines;
+  turns = turns;
+  reads = one_read x.pass y.pass read;
+  tries = read_tries (header_is_next x.pass) x.pass y.pass read;
+  grown = read_blocks (header_is_next x.pass) x.pass y.pass read;
+  engines = engines;
 }
   where
     apart : (b : Bool) → b ≡ true → b ≡ false → ⊥
@@ -81,6 +76,7 @@ shard_more n m x y z a b =
       none = λ ended. let none_a = a.none ended in let none_b = b.none (a.stays ended) in omega arith;
       stays = λ ended. b.stays (a.stays ended);
       turns = omega arith;
+      reads = reads_more a.made b.made x.pass y.pass z.pass a.reads b.reads;
       tries = omega arith;
       grown = begins_more (shard_cleared x) (shard_cleared y) (shard_cleared z) a.grown b.grown;
       engines = follow_more (shard_cleared x) (shard_cleared y) (shard_cleared z) x.part.engines.items

@@ -1,6 +1,7 @@
 -- Turns of a recorder that follow one another.
-use Rattle.std.proofs.Common.{◌≡◌, ◌≢◌, ℕ, ◌+◌, ◌<◌, ◌≤◌, ◌^◌, min, Bool, true, false, List, [], ◌∷◌, ◌++◌, Option, Some, None, refl, sym, ap, ◌∙◌, subst, append_assoc, arith, rules}
-use Rattle.std.specs.Prelude.{IsSome}
+use Rattle.std.proofs.Common.{◌≡◌, ◌≢◌, ℕ, ◌+◌, ◌<◌, ◌≤◌, ◌^◌, min, Bool, true, false, List, length, Option, Some, None, refl, sym, ap, ◌∙◌, subst, append_assoc, arith, rules}
+use Rattle.std.specs.Prelude.{IsSome, ◌==◌, if◌then◌else◌}
+use Rattle.std.proofs.lemmas.Bool.Decides.{nat_tests}
 use Rattle.std.proofs.lemmas.List.{append-nil}
 use Rattle.psr_base.specs.Count.{Rose}
 use Rattle.psr_base.specs.Made.{FilesSeen}
@@ -17,96 +18,81 @@ use Rattle.dada_hdu.specs.declared.hdu.Hdu.{Hdu}
 use Rattle.dada_hdu.specs.declared.passes.HduReader.{HduReader}
 use Rattle.dada_hdu.specs.declared.ended.HduEnded.{HduEnded}
 use Rattle.dada_hdu.specs.declared.ended.HduEnded.TheVariants.{Here}
+use Rattle.stream_model.specs.Blocks.{ended_transfers}
 use Rattle.dada_hdu.specs.Passes.{header_end, data_end, number_of, tries_of, ReadsBoth, EndedFromBoth}
 use Rattle.dada_recorder.specs.declared.answers.RecordEnd.{RecordEnd}
 use Rattle.dada_recorder.specs.declared.answers.RecordEnd.TheVariants.{FileFault}
 use Rattle.dada_recorder.specs.declared.answers.RecordTurn.{RecordTurn}
 use Rattle.dada_recorder.specs.declared.answers.RecordTurn.TheVariants.{Moved, Waiting, Ended}
 use Rattle.dada_recorder.specs.Making.{Outset, IsOpenAs}
-use Rattle.dada_recorder.specs.Recorder.{plan_of, block_size, has_end, has_open_file, RecorderStands, FilesAreOf}
+use Rattle.dada_recorder.specs.declared.transfers.Transfers.{Transfers}
+use Rattle.dada_recorder.specs.Recording.{GoesOn}
+use Rattle.dada_recorder.specs.Transfers.{plan_in, StandsAt}
+use Rattle.dada_recorder.specs.Recorder.{plan_of, block_size, has_end, has_header, has_open_file, RecorderStands, FilesAreOf}
 use Rattle.dada_recorder.specs.Turns.{cleared_headers, cleared_blocks, ClearsNext, ReadsOne, RecordAnswers}
 use Rattle.search_session.specs.declared.record.RecordActor.{RecordActor}
-use Rattle.search_session.specs.Shards.{HasSameReads}
+use Rattle.search_session.specs.Reads.{TriesNext, header_is_next, ReadsRing, HasRead, HasRested}
+use Rattle.search_session.specs.Shards.{IsHereOrRetired}
 use Rattle.search_session.specs.Records.{recorded_headers, recorded_blocks, RecordOn, RecordMoved}
-
-begins_itself : (xs : List Entry) → Begins xs xs
-begins_itself xs = ([], sym (append-nil xs))
-
-begins_same : (xs ys : List Entry) → ys ≡ xs → Begins xs ys
-begins_same xs ys same = ([], same ∙ sym (append-nil xs))
-
-begins_more : (xs ys zs : List Entry) → Begins xs ys → Begins ys zs → Begins xs zs
-begins_more xs ys zs a b =
-    (a.0 ++ b.0, b.1 ∙ (ap (λ (l : List Entry). l ++ b.0) a.1 ∙ append_assoc xs a.0 b.0))
+use Rattle.search_session.proofs.ManyReads.{begins_same, begins_more, pass_rests, rested_itself, rested_tries, no_reads, one_read, reads_more, read_number, read_tries, read_headers, read_blocks}
 
 -- ---- one read
 
 -- of one ring
-record ReadOnce (old new : ReaderPass) : Type 0 where
-  pub number : (reader_knows new).number ≡ (reader_knows old).number
-  pub tries : (reader_knows new).tries ≡ (reader_knows old).tries + 1
-  pub grown : Begins (reader_knows old).cleared (reader_knows new).cleared
-
-clears : (old new : ReaderPass) → ClearsNext old new → ReadOnce old new
+clears : (old new : ReaderPass) → ClearsNext old new → TriesNext (reader_knows old) (reader_knows new)
 clears old new c = record {
   number = ap (λ (v : ReaderView). v.number) c.view;
   tries = ap (λ (v : ReaderView). v.tries) c.view;
-  grown = (c.block ∷ [], ap (λ (v : ReaderView). v.cleared) c.view);
+  found = Some c.block;
+  cleared = ap (λ (v : ReaderView). v.cleared) c.view;
 }
 
 waits : (old new : ReaderPass) (stop : ReadStop) → IsReadStop (reader_knows old) stop (reader_knows new) →
-    ReadOnce old new
+    TriesNext (reader_knows old) (reader_knows new)
 waits old new (Empty block seen) s = record {
   number = ap (λ (v : ReaderView). v.number) s.rest;
   tries = ap (λ (v : ReaderView). v.tries) s.rest;
-  grown = begins_same (reader_knows old).cleared (reader_knows new).cleared (ap (λ (v : ReaderView). v.cleared) s.rest);
+  found = None;
+  cleared = ap (λ (v : ReaderView). v.cleared) s.rest ∙ sym (append-nil (reader_knows old).cleared);
 }
 waits old new (Busy block reader) s = record {
   number = ap (λ (v : ReaderView). v.number) s.rest;
   tries = ap (λ (v : ReaderView). v.tries) s.rest;
-  grown = begins_same (reader_knows old).cleared (reader_knows new).cleared (ap (λ (v : ReaderView). v.cleared) s.rest);
+  found = None;
+  cleared = ap (λ (v : ReaderView). v.cleared) s.rest ∙ sym (append-nil (reader_knows old).cleared);
 }
 
 -- of one of the two
-pub record HasReadOnce (old new : HduReader) : Type 0 where
-  pub number : number_of (Here new) ≡ number_of (Here old)
-  pub tries : tries_of (Here new) ≡ tries_of (Here old) + 1
-  pub headers : Begins (cleared_headers old) (cleared_headers new)
-  pub blocks : Begins (cleared_blocks old) (cleared_blocks new)
+abbrev opposite : Bool → Bool
+opposite true = false
+opposite false = true
 
-of_header : (old new : HduReader) → ReadOnce old.header new.header → new.blocks ≡ old.blocks → HasReadOnce old new
-of_header old new once same =
-    let more = once.tries in
-    let still = ap (λ (p : ReaderPass). (reader_knows p).tries) same in
-    record {
-      number = ap (λ (p : ReaderPass). (reader_knows p).number) same;
-      tries = omega arith;
-      headers = once.grown;
-      blocks = begins_same (cleared_blocks old) (cleared_blocks new) (ap (λ (p : ReaderPass). (reader_knows p).cleared) same);
-    }
+by_ring : (does : ReaderPass → ReaderPass → Type 0) →
+    ((p q : ReaderPass) → does p q → TriesNext (reader_knows p) (reader_knows q)) → (b : Bool)
+    (old new : HduReader) → ReadsOne b does old new → ReadsRing (opposite b) (Here old) (Here new)
+by_ring does one false old new r = (one old.header new.header r.0, pass_rests old.blocks new.blocks r.1)
+by_ring does one true old new r = (pass_rests old.header new.header r.1, one old.blocks new.blocks r.0)
 
-of_blocks : (old new : HduReader) → ReadOnce old.blocks new.blocks → new.header ≡ old.header → HasReadOnce old new
-of_blocks old new once same =
-    let more = once.tries in
-    let still = ap (λ (p : ReaderPass). (reader_knows p).tries) same in
-    record {
-      number = once.number;
-      tries = omega arith;
-      headers = begins_same (cleared_headers old) (cleared_headers new) (ap (λ (p : ReaderPass). (reader_knows p).cleared) same);
-      blocks = once.grown;
-    }
-
-by_ring : (does : ReaderPass → ReaderPass → Type 0) → ((p q : ReaderPass) → does p q → ReadOnce p q) → (b : Bool)
-    (old new : HduReader) → ReadsOne b does old new → HasReadOnce old new
-by_ring does one false old new r = of_header old new (one old.header new.header r.0) r.1
-by_ring does one true old new r = of_blocks old new (one old.blocks new.blocks r.0) r.1
-
-pub read_once : (b : Bool) (old new : HduReader) (end : Option RecordEnd) (answer : RecordTurn) →
-    RecordAnswers b old new end answer → HasReadOnce old new
+read_once : (b : Bool) (old new : HduReader) (end : Option RecordEnd) (answer : RecordTurn) →
+    RecordAnswers b old new end answer → ReadsRing (opposite b) (Here old) (Here new)
 read_once b old new end Moved a = by_ring ClearsNext clears b old new a.1
 read_once b old new end (Waiting stop) a =
     by_ring (λ p q. IsReadStop (reader_knows p) stop (reader_knows q)) (λ p q is. waits p q stop is) b old new a.1
 read_once b old new end (Ended is) a = by_ring ClearsNext clears b old new a.1
+
+-- a header is next where that of the transfer wasn't cleared
+next_is : (b : Bool) (headers ended : ℕ) → headers ≡ ended + (if b then 1 else 0) → (headers == ended) ≡ opposite b
+next_is true headers ended is = grind (arith, nat_tests)
+next_is false headers ended is = grind (arith, nat_tests)
+
+has_read : (b : Bool) (old new : HduReader) (end : Option RecordEnd) (answer : RecordTurn) →
+    RecordAnswers b old new end answer →
+    length (cleared_headers old) ≡ ended_transfers (cleared_blocks old) + (if b then 1 else 0) →
+    HasRead (Here old) (Here new)
+has_read b old new end answer answers begun =
+    subst (λ (next : Bool). ReadsRing next (Here old) (Here new))
+    (sym (next_is b (length (cleared_headers old)) (ended_transfers (cleared_blocks old)) begun))
+    (read_once b old new end answer answers)
 
 -- ---- turns
 
@@ -127,6 +113,7 @@ module _ {F : Type 0} (is_open : F → Type 0) (hdu : Hdu) (x y : RecordActor F)
   record_on on reads block file stands end small = record {
     reads = subst (λ (p : HduEnded). EndedFromBoth hdu p) (sym now) reads;
     here = λ running. (reader, now);
+    stays = subst (λ (p : HduEnded). IsHereOrRetired p) (sym now) tt;
     size = on.size ∙ sym block;
     file = λ running. file (sym end ∙ running);
     stands = subst (λ (p : HduEnded). RecorderStands y.part (ended_knows (header_end p)).cleared
@@ -143,11 +130,24 @@ stood x reader was stands =
     subst (λ (p : HduEnded). RecorderStands x.part (ended_knows (header_end p)).cleared
     (ended_knows (data_end p)).cleared) was stands
 
+-- as many headers as transfers ended, and one more where that of the next was cleared
+pub has_begun : {F : Type 0} (x : RecordActor F) (reader : HduReader) → x.pass ≡ Here reader →
+    has_end x.part ≡ None → RecorderStands x.part (recorded_headers x) (recorded_blocks x) →
+    length (cleared_headers reader) ≡ ended_transfers (cleared_blocks reader) + (if has_header x.part then 1 else 0)
+has_begun x reader was running stands = (goes_on _ _ _ (has_end x.part) running (stood x reader was stands)).begun
+  where
+    goes_on : (t : Transfers) (headers blocks : List Entry) (end : Option RecordEnd) → end ≡ None →
+        StandsAt t headers blocks end → GoesOn (plan_in t) t.has_header headers blocks
+    goes_on t headers blocks None is stands = stands.goes_on
+    goes_on t headers blocks (Some e) is stands = absurd cc
+
 module _ {F : Type 0} (seen : F → FilesSeen) where
   -- a turn and its read
   pub record_turned : (x y : RecordActor F) (reader reader' : HduReader) (b : Bool) (end : Option RecordEnd)
       (answer : RecordTurn) → x.pass ≡ Here reader → y.pass ≡ Here reader' → x.end ≡ None → y.end ≡ end →
-      RecordAnswers b reader reader' end answer → y.part.files.ghost_name ≡ x.part.files.ghost_name →
+      RecordAnswers b reader reader' end answer →
+      length (cleared_headers reader) ≡ ended_transfers (cleared_blocks reader) + (if b then 1 else 0) →
+      y.part.files.ghost_name ≡ x.part.files.ghost_name →
       plan_of y.part ≡ plan_of x.part → block_size y.part ≡ block_size x.part →
       ((outset : Outset) →
       FilesAreOf x.part outset (cleared_headers reader) (cleared_blocks reader) (seen x.part.files.now) →
@@ -156,11 +156,12 @@ module _ {F : Type 0} (seen : F → FilesSeen) where
       (end ≢ Some FileFault → (seen y.part.files.now).faults ≡ (seen x.part.files.now).faults) →
       (seen x.part.files.now).faults ≤ (seen y.part.files.now).faults →
       y.turns ≡ min greatest (x.turns + 1) → RecordMoved seen 1 x y
-  record_turned x y reader reader' b end answer was now running is answers same plan block made failed quiet count turns
-      =
-      let once = read_once b reader reader' end answer answers in
-      let tries : tries_of y.pass ≡ tries_of x.pass + 1 =
-      ap tries_of now ∙ (once.tries ∙ ap (λ (n : ℕ). n + 1) (sym (ap tries_of was))) in
+  record_turned x y reader reader' b end answer was now running is answers begun same plan block made failed quiet
+      count turns =
+      let read : HasRead x.pass y.pass = subst (λ (p : HduEnded). HasRead p y.pass) (sym was)
+      (subst (λ (p : HduEnded). HasRead (Here reader) p) (sym now)
+      (has_read b reader reader' end answer answers begun)) in
+      let next = header_is_next x.pass in
       let of_headers = λ (p : HduEnded). (ended_knows (header_end p)).cleared in
       let of_blocks = λ (p : HduEnded). (ended_knows (data_end p)).cleared in
       record {
@@ -184,26 +185,25 @@ module _ {F : Type 0} (seen : F → FilesSeen) where
         };
         plan = plan;
         size = block;
-        number = ap number_of now ∙ (once.number ∙ sym (ap number_of was));
+        number = read_number next x.pass y.pass read;
         made = 1;
         most = omega arith;
         all = λ on. refl;
         none = λ ended. absurd (some_not_none x.end ended running);
         stays = λ ended. absurd (some_not_none x.end ended running);
         turns = turns;
-        tries = tries;
-        headers = subst (λ (p : HduEnded). Begins (of_headers p) (recorded_headers y)) (sym was)
-            (subst (λ (p : HduEnded). Begins (cleared_headers reader) (of_headers p)) (sym now) once.headers);
-        blocks = subst (λ (p : HduEnded). Begins (of_blocks p) (recorded_blocks y)) (sym was)
-            (subst (λ (p : HduEnded). Begins (cleared_blocks reader) (of_blocks p)) (sym now) once.blocks);
+        reads = one_read x.pass y.pass read;
+        tries = read_tries next x.pass y.pass read;
+        headers = read_headers next x.pass y.pass read;
+        blocks = read_blocks next x.pass y.pass read;
       }
 
   -- no turn was made: the same blocks are cleared, and all else stays
   pub record_stands : (n : ℕ) (x y : RecordActor F) → x.turns < 2 ^ 64 → (y.end ≡ None → 0 ≡ n) → y.part ≡ x.part →
-      y.end ≡ x.end → y.turns ≡ x.turns → HasSameReads x.pass y.pass → RecordMoved seen n x y
+      y.end ≡ x.end → y.turns ≡ x.turns → HasRested x.pass y.pass → RecordMoved seen n x y
   record_stands n x y small all part end turns same =
       let more : y.turns ≡ min greatest (x.turns + 0) = omega arith in
-      let tries = same.tries in
+      let tries = rested_tries x.pass y.pass same in
       let faults : (seen y.part.files.now).faults ≡ (seen x.part.files.now).faults =
       ap (λ p. (seen p.files.now).faults) part in
       record {
@@ -212,9 +212,9 @@ module _ {F : Type 0} (seen : F → FilesSeen) where
           made = λ outset are.
               subst (λ p. FilesAreOf p outset (recorded_headers y) (recorded_blocks y) (seen p.files.now)) (sym part)
               (subst (λ (bs : List Entry). FilesAreOf x.part outset (recorded_headers y) bs (seen x.part.files.now))
-              (sym same.blocks)
+              (sym same.blocks.cleared)
               (subst (λ (hs : List Entry). FilesAreOf x.part outset hs (recorded_blocks x) (seen x.part.files.now))
-              (sym same.headers) are));
+              (sym same.header.cleared) are));
           count = omega arith;
           since = λ k was.
               let least = was.count in
@@ -226,28 +226,26 @@ module _ {F : Type 0} (seen : F → FilesSeen) where
         };
         plan = ap (λ p. plan_of p) part;
         size = ap (λ p. block_size p) part;
-        number = same.number;
+        number = same.blocks.number;
         made = 0;
         most = omega arith;
         all = all;
         none = λ ended. refl;
         stays = λ ended. end;
         turns = more;
+        reads = no_reads x.pass y.pass same;
         tries = omega arith;
-        headers = begins_same (recorded_headers x) (recorded_headers y) same.headers;
-        blocks = begins_same (recorded_blocks x) (recorded_blocks y) same.blocks;
+        headers = begins_same (recorded_headers x) (recorded_headers y) same.header.cleared;
+        blocks = begins_same (recorded_blocks x) (recorded_blocks y) same.blocks.cleared;
       }
 
-  reads_itself : (pass : HduEnded) → HasSameReads pass pass
-  reads_itself pass = record { number = refl; tries = refl; headers = refl; blocks = refl }
-
   pub record_none : (x : RecordActor F) → x.turns < 2 ^ 64 → RecordMoved seen 0 x x
-  record_none x small = record_stands 0 x x small (λ running. refl) refl refl refl (reads_itself x.pass)
+  record_none x small = record_stands 0 x x small (λ running. refl) refl refl refl (rested_itself x.pass)
 
   pub record_still : (n : ℕ) (x : RecordActor F) → x.turns < 2 ^ 64 → IsSome x.end → RecordMoved seen n x x
   record_still n x small ended =
       record_stands n x x small (λ running. absurd (some_not_none x.end ended running)) refl refl refl
-      (reads_itself x.pass)
+      (rested_itself x.pass)
 
   pub record_more : (n m : ℕ) (x y z : RecordActor F) → RecordMoved seen n x y → RecordMoved seen m y z →
       RecordMoved seen (n + m) x z
@@ -279,6 +277,7 @@ module _ {F : Type 0} (seen : F → FilesSeen) where
             omega arith;
         stays = λ ended. b.stays (stays_some ended) ∙ a.stays ended;
         turns = omega arith;
+        reads = reads_more a.made b.made x.pass y.pass z.pass a.reads b.reads;
         tries = omega arith;
         headers = begins_more (recorded_headers x) (recorded_headers y) (recorded_headers z) a.headers b.headers;
         blocks = begins_more (recorded_blocks x) (recorded_blocks y) (recorded_blocks z) a.blocks b.blocks;

@@ -1,5 +1,5 @@
 -- One read of a shard.
-use Rattle.std.proofs.Common.{◌≡◌, ℕ, ◌+◌, ◌*◌, ◌<◌, ◌≤◌, ◌^◌, Bool, true, false, ◌||◌, List, [], ◌∷◌, ◌++◌, length, vec_len, Option, Some, refl, sym, ap, ◌∙◌, subst, arith}
+use Rattle.std.proofs.Common.{◌≡◌, ℕ, ◌+◌, ◌*◌, ◌<◌, ◌≤◌, ◌^◌, Bool, true, false, ◌||◌, List, [], ◌∷◌, ◌++◌, length, vec_len, Option, Some, None, refl, sym, ap, ◌∙◌, subst, arith}
 use Rattle.std.specs.Prelude.{if◌then◌else◌, nat_le, nat_lt}
 use Rattle.std.proofs.lemmas.Bool.Decides.{nat_tests}
 use Rattle.std.proofs.lemmas.List.{append-nil}
@@ -13,9 +13,9 @@ use Rattle.ring_ends.specs.Passes.{reader_knows, ended_knows}
 use Rattle.dada_hdu.specs.declared.hdu.Hdu.{Hdu}
 use Rattle.dada_hdu.specs.declared.passes.HduReader.{HduReader}
 use Rattle.dada_hdu.specs.declared.ended.HduEnded.{HduEnded}
-use Rattle.dada_hdu.specs.declared.ended.HduEnded.TheVariants.{Here}
+use Rattle.dada_hdu.specs.declared.ended.HduEnded.TheVariants.{Here, Away, Retired}
 use Rattle.dada_hdu.specs.Answers.{ClearAnswers}
-use Rattle.dada_hdu.specs.Passes.{data_shape, data_end, number_of, tries_of, ReadsBoth, EndedFromBoth}
+use Rattle.dada_hdu.specs.Passes.{data_shape, data_end, ReadsBoth, EndedFromBoth}
 use Rattle.stream_model.specs.Blocks.{is_end, is_cut, ended_transfers, has_cut, is_over, transfer_bytes}
 use Rattle.stream_model.specs.BlockLaws.{EndsAreCounted, EntriesAreOfTransfers}
 use Rattle.search_engine.specs.Engine.{EngineState, most_fed}
@@ -23,7 +23,9 @@ use Rattle.search_session.specs.declared.lane.Lane.{Lane}
 use Rattle.search_session.specs.declared.shard.ShardActor.{ShardActor}
 use Rattle.search_session.specs.Lanes.{HasEngine, IsFedAt}
 use Rattle.search_session.specs.Stages.{IsUnfed}
-use Rattle.search_session.specs.Shards.{AreEnginesAt, EnginesFollow, HasTried, blocks_cleared, reader_tries, shard_cleared, shard_number, HasSameReads, ShardOn, ShardStepped, ShardMoved}
+use Rattle.search_session.specs.Reads.{TriesNext, header_is_next, ReadsRing, HasRead, HasRested}
+use Rattle.search_session.specs.Shards.{AreEnginesAt, EnginesFollow, HasTried, blocks_cleared, shard_cleared, IsHereOrRetired, IsRetired, ShardOn, ShardStepped, ShardMoved}
+use Rattle.search_session.proofs.ManyReads.{pass_rests, rested_tries, no_reads}
 use Rattle.search_session.proofs.Engines.{nothing, ended_more, not_below_itself, engines_at, engines_follow, follow_still}
 
 -- ---- ends
@@ -69,49 +71,50 @@ module _ (hdu : Hdu) (x y : ShardActor) (reader reader' : HduReader) (was : x.pa
   cleared_now : shard_cleared y ≡ blocks_cleared reader'
   cleared_now = ap (λ (p : HduEnded). (ended_knows (data_end p)).cleared) now
 
-  number_same : number_of (Here reader') ≡ number_of (Here reader) → shard_number y ≡ shard_number x
-  number_same same = ap number_of now ∙ (same ∙ sym (ap number_of was))
-
-  tries_more : reader_tries reader' ≡ reader_tries reader + 1 → tries_of y.pass ≡ tries_of x.pass + 1
-  tries_more more = ap tries_of now ∙ (more ∙ ap (λ (n : ℕ). n + 1) (sym (ap tries_of was)))
+  -- the read, as one of the shard's pass
+  pass_read : (next : Bool) → header_is_next x.pass ≡ next → ReadsRing next (Here reader) (Here reader') →
+      HasRead x.pass y.pass
+  pass_read next is read = subst (λ (b : Bool). ReadsRing b x.pass y.pass) (sym is)
+      (subst (λ (p : HduEnded). ReadsRing next p y.pass) (sym was)
+      (subst (λ (p : HduEnded). ReadsRing next (Here reader) p) (sym now) read))
 
   -- ---- nothing was fed
 
-  cleared_same : HasTried reader reader' → shard_cleared y ≡ shard_cleared x
-  cleared_same tried = cleared_now ∙ (tried.cleared ∙ sym cleared_was)
+  cleared_same : blocks_cleared reader' ≡ blocks_cleared reader → shard_cleared y ≡ shard_cleared x
+  cleared_same same = cleared_now ∙ (same ∙ sym cleared_was)
 
-  pub on_still : ReadsBoth hdu reader' → HasTried reader reader' → y.part ≡ x.part →
+  pub on_still : ReadsBoth hdu reader' → blocks_cleared reader' ≡ blocks_cleared reader → y.part ≡ x.part →
       vec_len y.space ≡ vec_len x.space → y.turns ≡ x.turns → y.done ≡ x.done → y.ended ≡ x.ended → ShardOn hdu x →
       ShardOn hdu y
-  on_still reads tried part space turns done ended on =
+  on_still reads same part space turns done ended on =
       let header_room = on.header_room in
       let block_room = on.block_room in
       let count = on.count in
       record {
         reads = subst (λ (p : HduEnded). EndedFromBoth hdu p) (sym now) reads;
         here = λ running. (reader', now);
+        stays = subst (λ (p : HduEnded). IsHereOrRetired p) (sym now) tt;
         header_room = omega arith;
         block_room = omega arith;
         few = on.few;
-        done = done ∙ (on.done ∙ ap ended_transfers (sym (cleared_same tried)));
+        done = done ∙ (on.done ∙ ap ended_transfers (sym (cleared_same same)));
         over = ended ∙ (on.over
-            ∙ (ap (λ (l : List Entry). is_over (length x.part.engines.items) l) (sym (cleared_same tried))
+            ∙ (ap (λ (l : List Entry). is_over (length x.part.engines.items) l) (sym (cleared_same same))
             ∙ ap (λ (lane : Lane). is_over (length lane.engines.items) (shard_cleared y)) (sym part)));
         engines = subst (λ (lane : Lane). AreEnginesAt (data_shape hdu).size (shard_cleared y) lane.engines.items)
             (sym part) (subst (λ (l : List Entry). AreEnginesAt (data_shape hdu).size l x.part.engines.items)
-            (sym (cleared_same tried)) on.engines);
+            (sym (cleared_same same)) on.engines);
         count = omega arith;
       }
 
-  pub stepped_still : HasTried reader reader' → y.part ≡ x.part → y.turns ≡ x.turns → ShardStepped x y
-  stepped_still tried part turns = record {
-    number = number_same tried.number;
+  pub stepped_still : (next : Bool) → header_is_next x.pass ≡ next → ReadsRing next (Here reader) (Here reader') →
+      blocks_cleared reader' ≡ blocks_cleared reader → y.part ≡ x.part → y.turns ≡ x.turns → ShardStepped x y
+  stepped_still next is read same part turns = record {
     turns = turns;
-    tries = tries_more tried.tries;
-    grown = ([], cleared_same tried ∙ sym (append-nil (shard_cleared x)));
+    read = pass_read next is read;
     engines = subst (λ (lane : Lane). EnginesFollow (shard_cleared x) (shard_cleared y) x.part.engines.items
         lane.engines.items) (sym part) (follow_still (shard_cleared x) (shard_cleared y) x.part.engines.items
-        (cleared_same tried));
+        (cleared_same same));
   }
 
   -- ---- a block was fed
@@ -142,6 +145,7 @@ module _ (hdu : Hdu) (x y : ShardActor) (reader reader' : HduReader) (was : x.pa
           record {
             reads = subst (λ (p : HduEnded). EndedFromBoth hdu p) (sym now) reads;
             here = λ running. (reader', now);
+            stays = subst (λ (p : HduEnded). IsHereOrRetired p) (sym now) tt;
             header_room = omega arith;
             block_room = omega arith;
             few = on.few;
@@ -154,13 +158,11 @@ module _ (hdu : Hdu) (x y : ShardActor) (reader reader' : HduReader) (was : x.pa
             count = omega arith;
           }
 
-      pub stepped_fed : number_of (Here reader') ≡ number_of (Here reader) →
-          reader_tries reader' ≡ reader_tries reader + 1 → y.turns ≡ x.turns → ShardStepped x y
-      stepped_fed number tries turns = record {
-        number = number_same number;
+      pub stepped_fed : (next : Bool) → header_is_next x.pass ≡ next → ReadsRing next (Here reader) (Here reader') →
+          y.turns ≡ x.turns → ShardStepped x y
+      stepped_fed next is read turns = record {
         turns = turns;
-        tries = tries_more tries;
-        grown = (e ∷ [], cleared_more);
+        read = pass_read next is read;
         engines = subst (λ (l : List Entry). EnginesFollow (shard_cleared x) l x.part.engines.items
             y.part.engines.items) (sym cleared_more) (engines_follow counted of (data_shape hdu).size (shard_cleared x) e
             fits x.part.engines.items y.part.engines.items fed_at);
@@ -170,7 +172,8 @@ module _ (hdu : Hdu) (x y : ShardActor) (reader reader' : HduReader) (was : x.pa
 
 -- the reader before it was read
 pub within_was : (x : ShardActor) (reader reader' : HduReader) (m : ℕ) → x.pass ≡ Here reader →
-    HasTried reader reader' → length (blocks_cleared reader') < m → length (shard_cleared x) < m
+    HasTried (reader_knows reader.blocks) (reader_knows reader'.blocks) → length (blocks_cleared reader') < m →
+    length (shard_cleared x) < m
 within_was x reader reader' m was tried within =
     subst (λ (l : List Entry). length l < m)
     (tried.cleared ∙ sym (ap (λ (p : HduEnded). (ended_knows (data_end p)).cleared) was)) within
@@ -179,22 +182,49 @@ one_cleared : (r r' : ReaderView) (e : Entry) → r' ≡ after_clear r → r.got
 one_cleared r r' e is got = ap (λ (v : ReaderView). v.cleared) is
     ∙ ap (λ (g : Option Entry). r.cleared ++ got_list g) got
 
--- the reader that cleared it
-pub record HasCleared (old new : HduReader) (e : Entry) : Type 0 where
-  pub number : number_of (Here new) ≡ number_of (Here old)
-  pub tries : reader_tries new ≡ reader_tries old + 1
-  pub more : blocks_cleared new ≡ blocks_cleared old ++ e ∷ []
+-- a read of the data ring that found nothing
+pub found_none : (old new : HduReader) → HasTried (reader_knows old.blocks) (reader_knows new.blocks) →
+    new.header ≡ old.header → ReadsRing false (Here old) (Here new)
+found_none old new tried header = (
+  pass_rests old.header new.header header,
+  record {
+    number = tried.number;
+    tries = tried.tries;
+    found = None;
+    cleared = tried.cleared ∙ sym (append-nil (blocks_cleared old));
+  },
+)
 
-pub has_cleared : (old mid new : HduReader) (e : Entry) (n : ℕ) → HasTried old mid →
+-- a read of the header ring
+pub read_header : (old new : HduReader) → TriesNext (reader_knows old.header) (reader_knows new.header) →
+    new.blocks ≡ old.blocks → ReadsRing true (Here old) (Here new)
+read_header old new tried blocks = (tried, pass_rests old.blocks new.blocks blocks)
+
+-- the reader that cleared the block
+pub record HasCleared (old new : HduReader) (e : Entry) : Type 0 where
+  pub more : blocks_cleared new ≡ blocks_cleared old ++ e ∷ []
+  pub read : ReadsRing false (Here old) (Here new)
+
+pub has_cleared : (old mid new : HduReader) (e : Entry) (n : ℕ) →
+    HasTried (reader_knows old.blocks) (reader_knows mid.blocks) → mid.header ≡ old.header →
     (reader_knows mid.blocks).got ≡ Some e → ClearAnswers mid.blocks n new.blocks → new.header ≡ mid.header →
     HasCleared old new e
-has_cleared old mid new e n tried got cleared header = record {
-  number = ap (λ (v : ReaderView). v.number) cleared.cleared ∙ tried.number;
-  tries = ap (λ (p : ReaderPass). (reader_knows p).tries + (reader_knows new.blocks).tries) header
-      ∙ (ap (λ (v : ReaderView). (reader_knows mid.header).tries + v.tries) cleared.cleared ∙ tried.tries);
-  more = one_cleared (reader_knows mid.blocks) (reader_knows new.blocks) e cleared.cleared got
-      ∙ ap (λ (l : List Entry). l ++ e ∷ []) tried.cleared;
-}
+has_cleared old mid new e n tried header got cleared still =
+    let more : blocks_cleared new ≡ blocks_cleared old ++ e ∷ [] =
+    one_cleared (reader_knows mid.blocks) (reader_knows new.blocks) e cleared.cleared got
+    ∙ ap (λ (l : List Entry). l ++ e ∷ []) tried.cleared in
+    record {
+      more = more;
+      read = (
+        pass_rests old.header new.header (still ∙ header),
+        record {
+          number = ap (λ (v : ReaderView). v.number) cleared.cleared ∙ tried.number;
+          tries = ap (λ (v : ReaderView). v.tries) cleared.cleared ∙ tried.tries;
+          found = Some e;
+          cleared = more;
+        },
+      );
+    }
 
 -- the same lists of engines, bytes and mark
 pub fed_as : (old old' new new' : List (Option EngineState)) (k : ℕ) (bytes bytes' : List ℕ) (b b' : Bool) →
@@ -281,20 +311,26 @@ unread_done xs none = sym none_ended ∙ ap ended_transfers (sym none)
 
 -- ---- a shard that retired
 
-module _ (hdu : Hdu) (x y : ShardActor) (same : HasSameReads x.pass y.pass) (part : y.part ≡ x.part)
+retired_stays : (pass : HduEnded) → IsRetired pass → IsHereOrRetired pass
+retired_stays (Here reader) retired = tt
+retired_stays (Away reader) retired = absurd retired
+retired_stays (Retired reader) retired = tt
+
+module _ (hdu : Hdu) (x y : ShardActor) (same : HasRested x.pass y.pass) (part : y.part ≡ x.part)
     (turns : y.turns ≡ x.turns) where
   cleared_still : shard_cleared y ≡ shard_cleared x
-  cleared_still = same.blocks
+  cleared_still = same.blocks.cleared
 
-  pub on_retired : EndedFromBoth hdu y.pass → vec_len y.space ≡ vec_len x.space → y.done ≡ x.done →
+  pub on_retired : EndedFromBoth hdu y.pass → IsRetired y.pass → vec_len y.space ≡ vec_len x.space → y.done ≡ x.done →
       y.ended ≡ x.ended → x.ended ≡ true → ShardOn hdu x → ShardOn hdu y
-  on_retired reads space done ended over on =
+  on_retired reads retired space done ended over on =
       let header_room = on.header_room in
       let block_room = on.block_room in
       let count = on.count in
       record {
         reads = reads;
         here = λ running. absurd (apart y.ended (ended ∙ over) running);
+        stays = retired_stays y.pass retired;
         header_room = omega arith;
         block_room = omega arith;
         few = on.few;
@@ -313,15 +349,16 @@ module _ (hdu : Hdu) (x y : ShardActor) (same : HasSameReads x.pass y.pass) (par
 
   pub moved_retired : x.turns < 2 ^ 64 → y.ended ≡ x.ended → x.ended ≡ true → ShardMoved 0 x y
   moved_retired small ended over =
-      let tries = same.tries in
+      let tries = rested_tries x.pass y.pass same in
       record {
-        number = same.number;
+        number = same.blocks.number;
         made = 0;
         most = omega arith;
         all = λ running. refl;
         none = λ was. refl;
         stays = λ was. ended ∙ was;
         turns = omega arith;
+        reads = no_reads x.pass y.pass same;
         tries = omega arith;
         grown = ([], cleared_still ∙ sym (append-nil (shard_cleared x)));
         engines = subst (λ (lane : Lane). EnginesFollow (shard_cleared x) (shard_cleared y) x.part.engines.items

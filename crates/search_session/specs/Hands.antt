@@ -6,7 +6,7 @@ use Rattle.psr_base.specs.Made.{FilesSeen}
 use Rattle.dada_hdu.specs.declared.hdu.Hdu.{Hdu}
 use Rattle.search_session.specs.declared.shard.ShardActor.{ShardActor}
 use Rattle.search_session.specs.declared.hand.Hand.{Hand}
-use Rattle.search_session.specs.Shards.{ShardOn, ShardMoved}
+use Rattle.search_session.specs.Shards.{IsRetired, ShardOn, ShardMoved}
 use Rattle.search_session.specs.Feeds.{FeedOn, FeedMoved}
 use Rattle.search_session.specs.Records.{RecordOn, RecordMoved}
 
@@ -40,6 +40,10 @@ ShardsOn hdu slots = All (λ slot. IfSome slot (ShardOn hdu)) slots
 abbrev pub ShardsMoved : ℕ → List (Option ShardActor) → List (Option ShardActor) → Type 0
 ShardsMoved n old new = EachMoved (SlotMoved (ShardMoved n)) old new
 
+-- those that ended have retired
+abbrev pub ShardsRetired : List (Option ShardActor) → Type 0
+ShardsRetired slots = All (λ slot. IfSome slot (λ x. x.ended ≡ true → IsRetired x.pass)) slots
+
 abbrev pub ShardsEnded : List (Option ShardActor) → Type 0
 ShardsEnded slots = All (λ slot. IfSome slot (λ x. x.ended ≡ true)) slots
 
@@ -57,6 +61,11 @@ pub record HandMoved {I F : Type 0} (told : I → Told) (is_calm : I → Type 0)
   pub feeder : SlotMoved (FeedMoved told is_calm faults n) old.feeder new.feeder
   pub shards : ShardsMoved n old.shards.items new.shards.items
   pub recorder : SlotMoved (RecordMoved seen n) old.recorder new.recorder
+
+-- the writer of the rings no longer waits for those of a hand that ended
+pub record HandRetired {I F : Type 0} (h : Hand I F) : Type 0 where
+  pub shards : ShardsRetired h.shards.items
+  pub recorder : IfSome h.recorder (λ x. IsSome x.end → IsRetired x.pass)
 
 -- each actor of a hand ended
 pub record HandEnded {I F : Type 0} (h : Hand I F) : Type 0 where

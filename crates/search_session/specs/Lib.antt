@@ -1,4 +1,5 @@
 pub mod Lanes
+pub mod Reads
 pub mod Shards
 pub mod Feeds
 pub mod Records

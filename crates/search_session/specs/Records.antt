@@ -14,7 +14,8 @@ use Rattle.dada_recorder.specs.declared.answers.RecordEnd.TheVariants.{FileFault
 use Rattle.dada_recorder.specs.Making.{Outset, IsOpenAs}
 use Rattle.dada_recorder.specs.Recorder.{plan_of, block_size, has_end, has_open_file, RecorderStands, FilesAreOf}
 use Rattle.search_session.specs.declared.record.RecordActor.{RecordActor}
-use Rattle.search_session.specs.Shards.{IsHere}
+use Rattle.search_session.specs.Reads.{Reads}
+use Rattle.search_session.specs.Shards.{IsHere, IsHereOrRetired}
 
 -- the blocks that it cleared of the header ring and of the data ring
 abbrev pub recorded_headers : {F : Type 0} → RecordActor F → List Entry
@@ -29,6 +30,7 @@ pub record RecordOn {F : Type 0} (is_open : F → Type 0) (hdu : Hdu) (x : Recor
     Type 0 where
   pub reads : EndedFromBoth hdu x.pass
   pub here : x.end ≡ None → IsHere x.pass
+  pub stays : IsHereOrRetired x.pass
   pub size : (data_shape hdu).size ≡ block_size x.part
   pub file : x.end ≡ None → IsOpenAs (has_open_file x.part) (is_open x.part.files.now)
   pub stands : RecorderStands x.part (recorded_headers x) (recorded_blocks x)
@@ -64,6 +66,7 @@ pub record RecordMoved {F : Type 0} (seen : F → FilesSeen) (n : ℕ) (x y : Re
   pub none : IsSome x.end → made ≡ 0
   pub stays : IsSome x.end → y.end ≡ x.end
   pub turns : y.turns ≡ min greatest (x.turns + made)
+  pub reads : Reads made x.pass y.pass
   pub tries : tries_of y.pass ≡ tries_of x.pass + made
   pub headers : Begins (recorded_headers x) (recorded_headers y)
   pub blocks : Begins (recorded_blocks x) (recorded_blocks y)

@@ -1,21 +1,23 @@
 -- What a shard has read, and what its turns did.
 -- Source: this project's choice.
-use Rattle.std.specs.Prelude.{◌≡◌, ℕ, ◌+◌, ◌*◌, ◌<◌, ◌≤◌, ◌^◌, min, true, false, nat_lt, List, length, take, vec_len, Option, Some}
+use Rattle.std.specs.Prelude.{◌≡◌, ℕ, ◌+◌, ◌*◌, ◌<◌, ◌≤◌, ◌^◌, min, ⊤, true, false, nat_lt, List, length, take, vec_len, Option, Some}
 use Rattle.dada_model.specs.Observation.{Observation}
 use Rattle.ring_core.specs.Machine.{greatest}
 use Rattle.ring_blocks.specs.declared.Entry.{Entry}
 use Rattle.ring_words.specs.Ring.{Begins}
+use Rattle.ring_words.specs.declared.views.ReaderView.{ReaderView}
 use Rattle.ring_ends.specs.Passes.{reader_knows, ended_knows, is_read}
 use Rattle.ring_ends.specs.declared.answers.Taken.{Taken}
 use Rattle.dada_hdu.specs.declared.hdu.Hdu.{Hdu}
 use Rattle.dada_hdu.specs.declared.passes.HduReader.{HduReader}
 use Rattle.dada_hdu.specs.declared.ended.HduEnded.{HduEnded}
-use Rattle.dada_hdu.specs.declared.ended.HduEnded.TheVariants.{Here}
-use Rattle.dada_hdu.specs.Passes.{data_shape, header_end, data_end, number_of, tries_of, EndedFromBoth}
+use Rattle.dada_hdu.specs.declared.ended.HduEnded.TheVariants.{Here, Away, Retired}
+use Rattle.dada_hdu.specs.Passes.{data_shape, data_end, number_of, tries_of, EndedFromBoth}
 use Rattle.stream_model.specs.Blocks.{ended_transfers, is_over, transfer_bytes}
 use Rattle.search_engine.specs.Engine.{EngineState, SameShard, most_fed}
 use Rattle.search_session.specs.declared.shard.ShardActor.{ShardActor}
 use Rattle.search_session.specs.Lanes.{HasEngine, Stands}
+use Rattle.search_session.specs.Reads.{HasRead, Reads}
 
 -- ---- engines and the blocks that were cleared
 
@@ -51,21 +53,18 @@ pub record EnginesFollow (before after : List Entry) (old new : List (Option Eng
 
 -- ---- a read
 
--- a reader's tries, of either ring
-abbrev pub reader_tries : HduReader → ℕ
-reader_tries reader = tries_of (Here reader)
-
+-- the blocks that it cleared of each ring
 abbrev pub headers_cleared : HduReader → List Entry
 headers_cleared reader = (reader_knows reader.header).cleared
 
 abbrev pub blocks_cleared : HduReader → List Entry
 blocks_cleared reader = (reader_knows reader.blocks).cleared
 
--- one read was made of one of the rings; which blocks of data are cleared stays
-pub record HasTried (old new : HduReader) : Type 0 where
-  pub number : number_of (Here new) ≡ number_of (Here old)
-  pub tries : reader_tries new ≡ reader_tries old + 1
-  pub cleared : blocks_cleared new ≡ blocks_cleared old
+-- it tried once more to take a block of a ring, and has cleared as many as before
+pub record HasTried (old new : ReaderView) : Type 0 where
+  pub number : new.number ≡ old.number
+  pub tries : new.tries ≡ old.tries + 1
+  pub cleared : new.cleared ≡ old.cleared
 
 -- a block of data was read to the front of the space
 pub record HasBlock (size max_blocks : ℕ) (reader : HduReader) (space : List ℕ) (taken : Taken)
@@ -80,13 +79,6 @@ pub record HasBlock (size max_blocks : ℕ) (reader : HduReader) (space : List �
   pub bytes : take taken.used space ≡ block.bytes
   pub within : length (blocks_cleared reader) < max_blocks
 
--- a reader that retired: what it read stays
-pub record HasSameReads (old new : HduEnded) : Type 0 where
-  pub number : number_of new ≡ number_of old
-  pub tries : tries_of new ≡ tries_of old
-  pub headers : (ended_knows (header_end new)).cleared ≡ (ended_knows (header_end old)).cleared
-  pub blocks : (ended_knows (data_end new)).cleared ≡ (ended_knows (data_end old)).cleared
-
 -- ---- a shard
 
 -- the blocks of data that it cleared
@@ -100,10 +92,23 @@ shard_number x = number_of x.pass
 abbrev pub IsHere : HduEnded → Type 0
 IsHere pass = (reader : HduReader) × (pass ≡ Here reader)
 
+-- it retired: the writer of the rings no longer waits for it
+abbrev pub IsRetired : HduEnded → Type 0
+IsRetired (Here reader) = ⊥
+IsRetired (Away reader) = ⊥
+IsRetired (Retired reader) = ⊤
+
+-- it reads or it retired
+abbrev pub IsHereOrRetired : HduEnded → Type 0
+IsHereOrRetired (Here reader) = ⊤
+IsHereOrRetired (Away reader) = ⊥
+IsHereOrRetired (Retired reader) = ⊤
+
 -- A shard of these rings: its engines were fed exactly the blocks that it cleared, and it ended where they did.
 pub record ShardOn (hdu : Hdu) (x : ShardActor) : Type 0 where
   pub reads : EndedFromBoth hdu x.pass
   pub here : x.ended ≡ false → IsHere x.pass
+  pub stays : IsHereOrRetired x.pass
   pub header_room : 65537 ≤ vec_len x.space
   pub block_room : (data_shape hdu).size ≤ vec_len x.space
   pub few : (data_shape hdu).max_blocks * (data_shape hdu).size ≤ most_fed
@@ -114,10 +119,8 @@ pub record ShardOn (hdu : Hdu) (x : ShardActor) : Type 0 where
 
 -- one read of a shard: what it got was fed
 pub record ShardStepped (x y : ShardActor) : Type 0 where
-  pub number : shard_number y ≡ shard_number x
   pub turns : y.turns ≡ x.turns
-  pub tries : tries_of y.pass ≡ tries_of x.pass + 1
-  pub grown : Begins (shard_cleared x) (shard_cleared y)
+  pub read : HasRead x.pass y.pass
   pub engines : EnginesFollow (shard_cleared x)
       (shard_cleared y) x.part.engines.items y.part.engines.items
 
@@ -130,6 +133,7 @@ pub record ShardMoved (n : ℕ) (x y : ShardActor) : Type 0 where
   pub none : x.ended ≡ true → made ≡ 0
   pub stays : x.ended ≡ true → y.ended ≡ true
   pub turns : y.turns ≡ min greatest (x.turns + made)
+  pub reads : Reads made x.pass y.pass
   pub tries : tries_of y.pass ≡ tries_of x.pass + made
   pub grown : Begins (shard_cleared x) (shard_cleared y)
   pub engines : EnginesFollow (shard_cleared x)

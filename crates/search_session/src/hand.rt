@@ -1,7 +1,7 @@
 //! A hand: actors that take turns one after another, in a thread of their own.
 ghost use Rattle.std.specs.Prelude.{◌≡◌, true, None, [], IfSome, IsSome};
 ghost use Rattle.search_session.specs.Feeds.{FeedOn, FeedMoved};
-ghost use Rattle.search_session.specs.Shards.{ShardOn, ShardMoved};
+ghost use Rattle.search_session.specs.Shards.{IsRetired, ShardOn, ShardMoved};
 ghost use Rattle.search_session.specs.Records.{RecordOn, RecordMoved};
 
 use crate::feed::FeedActor;
@@ -85,6 +85,7 @@ fn retire_recorder<F: Files>(slot: &mut Option<RecordActor<'_, F>>, hdu: &Hdu)
     requires { IfSome slot.old (RecordOn F.is_open hdu.now) }
     ensures on { IfSome slot.new (RecordOn F.is_open hdu.now) }
     ensures moved { SlotMoved (RecordMoved F.seen 0) slot.old slot.new }
+    ensures retired { IfSome slot.new (λ x. IsSome x.end → IsRetired x.pass) }
 {
     let Some(recorder) = mem::replace(slot, None) else {
         return;
@@ -97,6 +98,7 @@ fn retire_shard(slot: &mut Option<ShardActor>, hdu: &Hdu)
     requires { IfSome slot.old (ShardOn hdu.now) }
     ensures on { IfSome slot.new (ShardOn hdu.now) }
     ensures moved { SlotMoved (ShardMoved 0) slot.old slot.new }
+    ensures retired { IfSome slot.new (λ x. x.ended ≡ true → IsRetired x.pass) }
 {
     let Some(shard) = mem::replace(slot, None) else {
         return;
@@ -109,6 +111,7 @@ fn retire_shards(slots: &mut [Option<ShardActor>], hdu: &Hdu)
     requires { ShardsOn hdu.now slots.old }
     ensures on { ShardsOn hdu.now slots.new }
     ensures moved { ShardsMoved 0 slots.old slots.new }
+    ensures retired { ShardsRetired slots.new }
 {
     for place in 0..slots.len() {
         retire_shard(&mut slots[place], hdu);
@@ -137,10 +140,10 @@ fn shards_ended(slots: &[Option<ShardActor>]) -> bool
     true
 }
 
-ghost use Rattle.search_session.specs.Hands.{SlotMoved, ShardsOn, ShardsMoved, ShardsEnded};
+ghost use Rattle.search_session.specs.Hands.{SlotMoved, ShardsOn, ShardsMoved, ShardsRetired, ShardsEnded};
 
 impl<'a, I: Inputs, F: Files> Hand<'a, I, F> {
-    ghost use Rattle.search_session.specs.Hands.{HandOn, HandMoved, HandEnded};
+    ghost use Rattle.search_session.specs.Hands.{HandOn, HandMoved, HandRetired, HandEnded};
 
     /// No actor.
     pub fn empty() -> Hand<'a, I, F>
@@ -182,6 +185,7 @@ impl<'a, I: Inputs, F: Files> Hand<'a, I, F> {
         requires { HandOn I.told I.is_open F.is_open hdu.now self.old }
         ensures on { HandOn I.told I.is_open F.is_open hdu.now self.new }
         ensures moved { HandMoved I.told I.is_calm I.faults F.seen 0 self.old self.new }
+        ensures retired { HandRetired self.new }
     {
         retire_shards(self.shards.as_mut_slice(), hdu);
         retire_recorder(&mut self.recorder, hdu);

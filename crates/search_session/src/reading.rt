@@ -1,7 +1,9 @@
 //! Reads of the two rings.
 ghost use Rattle.std.specs.Prelude.{◌≡◌, ◌≤◌, length, IfSome};
+ghost use Rattle.ring_ends.specs.Passes.{reader_knows};
 ghost use Rattle.dada_hdu.specs.Passes.{data_shape, ReadsBoth, EndedFromBoth};
-ghost use Rattle.search_session.specs.Shards.{HasTried, HasBlock, HasSameReads};
+ghost use Rattle.search_session.specs.Reads.{TriesNext, HasRested};
+ghost use Rattle.search_session.specs.Shards.{HasTried, HasBlock, IsHereOrRetired, IsRetired};
 ghost use Rattle.ring_blocks.specs.declared.Entry.{Entry};
 
 use dada_hdu::{Hdu, HduEnded, HduReader, Taken};
@@ -12,7 +14,8 @@ pub(crate) fn pass_header(hdu: &Hdu, reader: &mut HduReader, space: &mut [u8])
     requires reads { ReadsBoth hdu.now reader.old }
     requires room { 65537 ≤ length space.old }
     ensures reads { ReadsBoth hdu.now reader.new }
-    ensures tried { HasTried reader.old reader.new }
+    ensures header { TriesNext (reader_knows reader.old.header) (reader_knows reader.new.header) }
+    ensures blocks { reader.new.blocks ≡ reader.old.blocks }
     ensures room { length space.new ≡ length space.old }
 {
     match hdu.read_header(reader, space) {
@@ -28,7 +31,8 @@ pub(crate) fn read_block(hdu: &Hdu, reader: &mut HduReader, space: &mut [u8]) ->
     requires reads { ReadsBoth hdu.now reader.old }
     requires room { (data_shape hdu.now).size ≤ length space.old }
     ensures reads { ReadsBoth hdu.now reader.new }
-    ensures tried { HasTried reader.old reader.new }
+    ensures tried { HasTried (reader_knows reader.old.blocks) (reader_knows reader.new.blocks) }
+    ensures header { reader.new.header ≡ reader.old.header }
     ensures room { length space.new ≡ length space.old }
     ensures block { IfSome result (λ taken. (block : Entry)
         × HasBlock (data_shape hdu.now).size (data_shape hdu.now).max_blocks reader.new
@@ -45,13 +49,15 @@ pub(crate) fn read_block(hdu: &Hdu, reader: &mut HduReader, space: &mut [u8]) ->
 
 // The writer no longer waits for the reader.
 pub(crate) fn retire(hdu: &Hdu, pass: HduEnded) -> HduEnded
-    requires { EndedFromBoth hdu.now pass }
+    requires reads { EndedFromBoth hdu.now pass }
+    requires stays { IsHereOrRetired pass }
     ensures reads { EndedFromBoth hdu.now result }
-    ensures same { HasSameReads pass result }
+    ensures rested { HasRested pass result }
+    ensures retired { IsRetired result }
 {
     match pass {
         HduEnded::Here(reader) => HduEnded::Retired(hdu.retire(reader)),
-        HduEnded::Away(reader) => HduEnded::Away(reader),
+        HduEnded::Away(_reader) => unreachable!(),
         HduEnded::Retired(reader) => HduEnded::Retired(reader),
     }
 }

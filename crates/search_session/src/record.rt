@@ -1,5 +1,5 @@
 //! A recorder that takes turns.
-ghost use Rattle.std.specs.Prelude.{◌≡◌, None};
+ghost use Rattle.std.specs.Prelude.{◌≡◌, None, IsSome};
 
 use crate::reading::retire;
 use dada_hdu::{Hdu, HduEnded};
@@ -17,6 +17,7 @@ pub struct RecordActor<'a, F> {
 }
 
 impl<'a, F: Files> RecordActor<'a, F> {
+    ghost use Rattle.search_session.specs.Shards.{IsRetired};
     ghost use Rattle.search_session.specs.Records.{RecordOn, RecordMoved};
 
     /// Takes one turn: it records one block and clears it, or finds none and lets other threads run.
@@ -42,6 +43,7 @@ impl<'a, F: Files> RecordActor<'a, F> {
         requires { RecordOn F.is_open hdu.now self }
         ensures on { RecordOn F.is_open hdu.now result }
         ensures moved { RecordMoved F.seen 0 self.entry result }
+        ensures retired { IsSome result.end → IsRetired result.pass }
     {
         if self.end.is_none() {
             return self;

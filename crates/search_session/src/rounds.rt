@@ -1,6 +1,6 @@
 //! A round: hands that run beside each other.
 ghost use Rattle.std.specs.Prelude.{◌≡◌, true, All};
-ghost use Rattle.search_session.specs.Hands.{HandOn, HandMoved, HandEnded, EachMoved};
+ghost use Rattle.search_session.specs.Hands.{HandOn, HandMoved, HandRetired, HandEnded, EachMoved};
 
 use crate::gate::Gate;
 use crate::hand::Hand;
@@ -40,6 +40,7 @@ pub(crate) fn retire_ended<I: Inputs, F: Files>(hands: &mut [Hand<'_, I, F>], hd
     requires { All (HandOn I.told I.is_open F.is_open hdu.now) hands.old }
     ensures on { All (HandOn I.told I.is_open F.is_open hdu.now) hands.new }
     ensures moved { EachMoved (HandMoved I.told I.is_calm I.faults F.seen 0) hands.old hands.new }
+    ensures retired { All HandRetired hands.new }
 {
     for place in 0..hands.len() {
         hands[place].retire(hdu);

@@ -51,7 +51,8 @@ fn ends_stream(mark: Mark, done: usize, transfers: usize) -> bool
 }
 
 impl ShardActor {
-    ghost use Rattle.search_session.specs.Shards.{ShardOn, ShardMoved, ShardStepped};
+    ghost use Rattle.search_session.specs.Reads.{header_is_next};
+    ghost use Rattle.search_session.specs.Shards.{IsRetired, ShardOn, ShardMoved, ShardStepped};
 
     /// Takes one turn. Before the data of each transfer it reads a header and clears it; else it reads a block of data,
     /// feeds it to the engine of its transfer, which ends after the last block, and clears it. A read that finds
@@ -74,6 +75,7 @@ impl ShardActor {
     fn take_header(&mut self, hdu: &Hdu)
         requires on { ShardOn hdu.now self.old }
         requires running { self.old.ended ≡ false }
+        requires next { header_is_next self.old.pass ≡ true }
         ensures on { ShardOn hdu.now self.new }
         ensures stepped { ShardStepped self.old self.new }
     {
@@ -87,6 +89,7 @@ impl ShardActor {
     fn take_block(&mut self, hdu: &Hdu)
         requires on { ShardOn hdu.now self.old }
         requires running { self.old.ended ≡ false }
+        requires next { header_is_next self.old.pass ≡ false }
         ensures on { ShardOn hdu.now self.new }
         ensures stepped { ShardStepped self.old self.new }
     {
@@ -116,6 +119,7 @@ impl ShardActor {
         requires { ShardOn hdu.now self }
         ensures on { ShardOn hdu.now result }
         ensures moved { ShardMoved 0 self result }
+        ensures retired { result.ended ≡ true → IsRetired result.pass }
     {
         if !self.ended {
             return self;

@@ -1,16 +1,20 @@
-use Rattle.std.proofs.Common.{◌<◌, ◌≤◌, Option, length, sym, subst, arith}
+use Rattle.std.proofs.Common.{◌≡◌, ◌<◌, ◌≤◌, true, Option, length, sym, subst, arith}
 use Rattle.std.specs.Prelude.{IfSome}
 use Rattle.std.proofs.lemmas.List.Elements.{All-set}
 use Rattle.search_session.specs.declared.shard.ShardActor.{ShardActor}
-use Rattle.search_session.specs.Shards.{ShardOn, ShardMoved}
+use Rattle.search_session.specs.Shards.{IsRetired, ShardOn, ShardMoved}
 use Rattle.search_session.specs.Hands.{SlotMoved}
-use Rattle.search_session.proofs.Handling.{first_none, first_more, first_all}
+use Rattle.search_session.proofs.Handling.{first_none, first_more, first_all, are_none, are_more, are_all}
 use Rattle.search_session.proofs.hand.retire_shards.Goals as goal
+
+abbrev Retires : Option ShardActor → Type 0
+Retires slot = IfSome slot (λ x. x.ended ≡ true → IsRetired x.pass)
 
 pub loop-place-init : goal.loop-place-init
 loop-place-init c = record {
   on = c.requires;
   moved = first_none (SlotMoved (ShardMoved 0)) c.args.slots.now;
+  retired = are_none Retires c.args.slots.now;
 }
 
 pub retire_shard-requires : goal.retire_shard-requires
@@ -28,6 +32,8 @@ loop-place-preserved c =
           c.index-slots-place.result c.retire_shard.new.slot near c.loop-place.invariant.moved c.index-slots-place.is
           (subst (λ (slot : Option ShardActor). SlotMoved (ShardMoved 0) slot c.retire_shard.new.slot)
           (sym c.index-slots-place.is) c.retire_shard.ensures.moved);
+      retired = are_more Retires c.loop-place.slots c.loop-place.place c.retire_shard.new.slot near
+          c.loop-place.invariant.retired c.retire_shard.ensures.retired;
     }
 
 pub returns : goal.returns
@@ -37,4 +43,5 @@ returns c =
       on = c.loop-place.invariant.on;
       moved = first_all (SlotMoved (ShardMoved 0)) c.args.slots.now c.loop-place.slots c.loop-place.place all
           c.loop-place.invariant.moved;
+      retired = are_all Retires c.loop-place.slots c.loop-place.place all c.loop-place.invariant.retired;
     }

@@ -13,6 +13,7 @@ returns-clause-on g c =
     record {
       reads = reader.reads;
       here = λ running. (c.args.reader, refl);
+      stays = tt;
       size = fresh.size;
       file = λ running. subst (λ (b : Bool). IsOpenAs b (g.F.Files.is_open part.files.now)) (sym fresh.no_file)
           fresh.closed;

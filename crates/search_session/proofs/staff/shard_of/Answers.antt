@@ -12,6 +12,7 @@ returns-clause-on c =
     record {
       reads = reader.reads;
       here = λ running. (c.args.reader, refl);
+      stays = tt;
       header_room = c.requires.space.header;
       block_room = c.requires.space.block;
       few = c.requires.few;

@@ -1,5 +1,5 @@
 use Rattle.std.proofs.Common.{refl, sym, ◌∙◌, arith}
-use Rattle.search_session.proofs.Recording.{record_on, record_turned, stood}
+use Rattle.search_session.proofs.Recording.{record_on, record_turned, has_begun, stood}
 use Rattle.dada_recorder.specs.Recorder.{has_end, has_header}
 use Rattle.search_session.proofs.record.RecordActor.turn.Goals as goal
 
@@ -27,7 +27,8 @@ pub returns-in-Moved-clause-moved : goal.returns-in-Moved-clause-moved
 returns-in-Moved-clause-moved g c =
     record_turned g.F.Files.seen c.args.self.now _ c.in-Here.reader c.turn.new.pass (has_header c.args.self.now.part)
     (has_end c.turn.new.self) c.turn.result c.in-Here.is refl c.requires.running
-    (c.requires.running ∙ sym c.in-Moved.ensures.answer.0) c.turn.ensures.answer c.turn.ensures.same_reference
+    (c.requires.running ∙ sym c.in-Moved.ensures.answer.0) c.turn.ensures.answer
+    (has_begun c.args.self.now c.in-Here.reader c.in-Here.is (sym c.requires.on.end ∙ c.requires.running) c.requires.on.stands) c.turn.ensures.same_reference
     c.turn.ensures.plan c.turn.ensures.block c.turn.ensures.made c.turn.ensures.failed c.turn.ensures.quiet
     c.turn.ensures.count (omega arith)
 
@@ -35,7 +36,8 @@ pub returns-in-Waiting-clause-moved : goal.returns-in-Waiting-clause-moved
 returns-in-Waiting-clause-moved g c =
     record_turned g.F.Files.seen c.args.self.now _ c.in-Here.reader c.turn.new.pass (has_header c.args.self.now.part)
     (has_end c.turn.new.self) c.turn.result c.in-Here.is refl c.requires.running
-    (c.requires.running ∙ sym c.in-Waiting.ensures.answer.0) c.turn.ensures.answer c.turn.ensures.same_reference
+    (c.requires.running ∙ sym c.in-Waiting.ensures.answer.0) c.turn.ensures.answer
+    (has_begun c.args.self.now c.in-Here.reader c.in-Here.is (sym c.requires.on.end ∙ c.requires.running) c.requires.on.stands) c.turn.ensures.same_reference
     c.turn.ensures.plan c.turn.ensures.block c.turn.ensures.made c.turn.ensures.failed c.turn.ensures.quiet
     c.turn.ensures.count (omega arith)
 
@@ -43,6 +45,7 @@ pub returns-in-Ended-clause-moved : goal.returns-in-Ended-clause-moved
 returns-in-Ended-clause-moved g c =
     record_turned g.F.Files.seen c.args.self.now _ c.in-Here.reader c.turn.new.pass (has_header c.args.self.now.part)
     (has_end c.turn.new.self) c.turn.result c.in-Here.is refl c.requires.running
-    (sym c.in-Ended.ensures.answer.0) c.turn.ensures.answer c.turn.ensures.same_reference c.turn.ensures.plan
+    (sym c.in-Ended.ensures.answer.0) c.turn.ensures.answer
+    (has_begun c.args.self.now c.in-Here.reader c.in-Here.is (sym c.requires.on.end ∙ c.requires.running) c.requires.on.stands) c.turn.ensures.same_reference c.turn.ensures.plan
     c.turn.ensures.block c.turn.ensures.made c.turn.ensures.failed c.turn.ensures.quiet c.turn.ensures.count
     (omega arith)

@@ -10,7 +10,9 @@ pub returns : goal.returns
 returns c =
     let over : c.args.self.ended ≡ true = search rules in
     record {
-      on = on_retired c.args.hdu.now c.args.self _ c.retire.ensures.same refl refl c.retire.ensures.reads refl refl refl
+      on = on_retired c.args.hdu.now c.args.self _ c.retire.ensures.rested refl refl c.retire.ensures.reads
+          c.retire.ensures.retired refl refl refl
           over c.requires;
-      moved = moved_retired c.args.hdu.now c.args.self _ c.retire.ensures.same refl refl c.requires.count refl over;
+      moved = moved_retired c.args.hdu.now c.args.self _ c.retire.ensures.rested refl refl c.requires.count refl over;
+      retired = λ ended. c.retire.ensures.retired;
     }

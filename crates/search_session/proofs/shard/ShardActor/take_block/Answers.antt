@@ -1,4 +1,4 @@
-use Rattle.std.proofs.Common.{◌≡◌, ℕ, ◌+◌, ◌≤◌, List, ◌++◌, Option, length, take, drop, refl, sym, ap, ◌∙◌, subst, arith}
+use Rattle.std.proofs.Common.{◌≡◌, ℕ, false, ◌+◌, ◌≤◌, List, ◌++◌, Option, length, take, drop, refl, sym, ap, ◌∙◌, subst, arith}
 use Rattle.std.specs.Prelude.{if◌then◌else◌}
 use Rattle.std.proofs.lemmas.List.{length-take}
 use Rattle.ring_blocks.specs.declared.Entry.{Entry}
@@ -8,17 +8,19 @@ use Rattle.stream_model.specs.Blocks.{is_end}
 use Rattle.search_engine.specs.Engine.{EngineState}
 use Rattle.search_session.specs.Lanes.{HasEngine, IsFedAt}
 use Rattle.search_session.proofs.Rows.{all_written}
-use Rattle.search_session.proofs.Turning.{on_still, stepped_still, within_was, takes_block, has_cleared, HasCleared, fed_as, ended_as, on_fed, stepped_fed}
+use Rattle.search_session.proofs.Turning.{on_still, stepped_still, within_was, takes_block, has_cleared, HasCleared, fed_as, ended_as, on_fed, stepped_fed, found_none}
 use Rattle.search_session.proofs.shard.ShardActor.take_block.Goals as goal
 
 pub returns-in_default-read_block-clause-on : goal.returns-in_default-read_block-clause-on
 returns-in_default-read_block-clause-on c = on_still c.args.hdu.now c.args.self.now _ c.in-Here.reader
     c.read_block.new.reader c.in-Here.is refl c.in_default-read_block.ensures.reads
-    c.in_default-read_block.ensures.tried refl refl refl refl refl c.requires.on
+    c.in_default-read_block.ensures.tried.cleared refl refl refl refl refl c.requires.on
 
 pub returns-in_default-read_block-clause-stepped : goal.returns-in_default-read_block-clause-stepped
 returns-in_default-read_block-clause-stepped c = stepped_still c.args.hdu.now c.args.self.now _ c.in-Here.reader
-    c.read_block.new.reader c.in-Here.is refl c.in_default-read_block.ensures.tried refl refl
+    c.read_block.new.reader c.in-Here.is refl false c.requires.next
+    (found_none c.in-Here.reader c.read_block.new.reader c.in_default-read_block.ensures.tried
+    c.in_default-read_block.ensures.header) c.in_default-read_block.ensures.tried.cleared refl refl
 
 pub feed_engine-requires : goal.feed_engine-requires
 feed_engine-requires c =
@@ -50,7 +52,8 @@ returns c =
     let new = c.feed_engine.new.engines in
     let space = c.read_block.new.space in
     let cleared : HasCleared c.in-Here.reader c.clear.new.pass block =
-    has_cleared c.in-Here.reader c.read_block.new.reader c.clear.new.pass block c.clear.result tried b.1.got
+    has_cleared c.in-Here.reader c.read_block.new.reader c.clear.new.pass block c.clear.result tried
+    c.in-Some.ensures.header b.1.got
     c.clear.ensures.blocks c.clear.ensures.header in
     let all : take used c.as_slice.result.now ≡ block.bytes =
     ap (λ (l : List ℕ). take used l) (c.as_slice.ensures.value
@@ -75,6 +78,6 @@ returns c =
           (length (take (length old) (new ++ drop (length new) old))) (x.done + c.ended_with.result) c.in-Some.taken.mark
           block.mark c.ends_stream-self.ensures c.len.ensures.value b.1.mark);
       stepped = stepped_fed hdu x _ c.in-Here.reader c.clear.new.pass c.in-Here.is refl c.ends_are_counted.ensures
-          c.entries_are_of_transfers.ensures block cleared.more fits c.requires.on fed cleared.number cleared.tries
-          refl;
+          c.entries_are_of_transfers.ensures block cleared.more fits c.requires.on fed false c.requires.next
+          cleared.read refl;
     }

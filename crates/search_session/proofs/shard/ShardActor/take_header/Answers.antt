@@ -1,11 +1,20 @@
-use Rattle.std.proofs.Common.{refl}
-use Rattle.search_session.proofs.Turning.{on_still, stepped_still}
+use Rattle.std.proofs.Common.{true, refl, ap}
+use Rattle.ring_ends.specs.declared.passes.ReaderPass.{ReaderPass}
+use Rattle.ring_ends.specs.Passes.{reader_knows}
+use Rattle.search_session.proofs.Turning.{on_still, stepped_still, read_header}
 use Rattle.search_session.proofs.shard.ShardActor.take_header.Goals as goal
 
-pub returns-clause-on : goal.returns-clause-on
-returns-clause-on c = on_still c.args.hdu.now c.args.self.now _ c.in-Here.reader c.pass_header.new.reader c.in-Here.is
-    refl c.pass_header.ensures.reads c.pass_header.ensures.tried refl refl refl refl refl c.requires.on
-
-pub returns-clause-stepped : goal.returns-clause-stepped
-returns-clause-stepped c = stepped_still c.args.hdu.now c.args.self.now _ c.in-Here.reader c.pass_header.new.reader
-    c.in-Here.is refl c.pass_header.ensures.tried refl refl
+pub returns : goal.returns
+returns c =
+    let hdu = c.args.hdu.now in
+    let x = c.args.self.now in
+    let old = c.in-Here.reader in
+    let new = c.pass_header.new.reader in
+    let blocks = c.pass_header.ensures.blocks in
+    let same = ap (λ (p : ReaderPass). (reader_knows p).cleared) blocks in
+    record {
+      on = on_still hdu x _ old new c.in-Here.is refl c.pass_header.ensures.reads same refl refl refl refl refl
+          c.requires.on;
+      stepped = stepped_still hdu x _ old new c.in-Here.is refl true c.requires.next
+          (read_header old new c.pass_header.ensures.header blocks) same refl refl;
+    }
