@@ -1,2 +1,5 @@
 pub mod Texts
 pub mod Conversions
+pub mod Firsts
+pub mod Runs
+pub mod Outcomes

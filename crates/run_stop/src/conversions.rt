@@ -1,5 +1,5 @@
 // The stops of faults.
-ghost use Rattle.std.specs.Prelude.{◌≡◌};
+ghost use Rattle.std.specs.Prelude.{◌≡◌, ℕ};
 
 use crate::causes::{PlanCause, RecordingCause};
 use crate::stop::Stop;
@@ -12,8 +12,11 @@ use search_words::WordFault;
 
 impl Stop {
     ghost use Rattle.stream_model.specs.Recorded.{RecordRefusal};
+    ghost use Rattle.stream_model.specs.Walk.{WalkStop};
+    ghost use Rattle.disk_feeder.specs.Ends.{end_of};
     ghost use Rattle.dada_recorder.specs.Changes.{IsRefusal};
     ghost use Rattle.run_stop.specs.Conversions.{stop_of_words, stop_of_header, stop_of_fields, stop_of_begin, stop_of_plan, IsRecordingStop, stop_of_feed};
+    ghost use Rattle.run_stop.specs.Runs.{stop_of_walk};
 
     /// The stop of words that say no settings.
     pub fn of_words(fault: WordFault) -> Stop
@@ -107,7 +110,9 @@ impl Stop {
 
     /// The stop of a stream of files that was given up, or none where all data were sealed.
     pub fn of_feed(end: FeedEnd) -> Option<Stop>
-        ensures { result ≡ stop_of_feed end }
+        ensures is { result ≡ stop_of_feed end }
+        ensures walked { (bytes limit : ℕ) (stop : WalkStop) → end ≡ end_of bytes limit stop
+            → result ≡ stop_of_walk limit stop }
     {
         match end {
             FeedEnd::Whole { .. } => None,

@@ -1,0 +1,157 @@
+-- What the exit status of a run says, of a program that records or searches files; both programs say it by these names.
+-- Source: this project's choice.
+use Rattle.std.specs.Prelude.{◌≡◌, ◌≢◌, ℕ, ◌+◌, ◌<◌, ◌≤◌, ◌⊎◌, true, false, min, List, [], ◌∷◌, length, map, Option, Some, None, IsSome, Contains}
+use Rattle.std.specs.List.{range_with_len}
+use Rattle.psr_base.specs.Count.{Rose}
+use Rattle.psr_base.specs.Told.{Told, InputsSeen}
+use Rattle.psr_base.specs.Made.{NamedBytes, FilesSeen}
+use Rattle.psr_base.specs.Written.{SinkSeen, Noted}
+use Rattle.ring_blocks.specs.declared.Entry.{Entry}
+use Rattle.ring_ends.specs.declared.finished.Finished.{Finished}
+use Rattle.ring_ends.specs.Ended.{sealed_at_end, cleared_at_end}
+use Rattle.search_words.specs.Settings.{SettingsSeen}
+use Rattle.stream_model.specs.Blocks.{ended_transfers, transfer_bytes}
+use Rattle.stream_model.specs.Walk.{FileStream, transfer_data, walk_stream}
+use Rattle.stream_model.specs.RecordedLaws.{RecordedTransfer, recorded_of_transfers}
+use Rattle.dada_recorder.specs.Making.{Outset, BeginsAt, HasMade, BreaksOff}
+use Rattle.disk_feeder.specs.Feeding.{IsBroken}
+use Rattle.disk_feeder.specs.Filling.{HoldsAll}
+use Rattle.disk_feeder.specs.declared.answers.HeaderCause.{HeaderCause}
+use Rattle.run_stop.specs.Firsts.{LeavesData}
+use Rattle.run_stop.specs.declared.causes.PlanCause.{PlanCause}
+use Rattle.run_stop.specs.declared.causes.RecordingCause.{RecordingCause}
+use Rattle.run_stop.specs.declared.stop.Stop.{Stop}
+use Rattle.run_stop.specs.declared.stop.Stop.TheVariants.{Header, Gap, TooLong}
+use Rattle.run_stop.specs.Texts.{status_of, note_of}
+use Rattle.run_stop.specs.Runs.{Task, Searching, Says, ForFiles, first_recording, CanBegin, RefusesFirst, RefusesSearch, RefusesToRecord, StopsWalk, IsStopOf, IsStopOfWords}
+
+-- ---- the words
+
+-- 2 exactly where the words say no settings; 5 may come before they are read
+pub record JudgesWords (task : Task) (words : List (List ℕ)) (status : ℕ) : Type 0 where
+  pub refused : status ≡ 2 → (s : SettingsSeen) → ¬ Says task words s
+  pub said : status ≢ 2 → status ≢ 5 → (s : SettingsSeen) × Says task words s
+
+-- ---- the inputs
+
+-- 6 only where the inputs failed, which calm ones that hold all files don't
+pub record ReadsInputs
+    (task : Task) (words : List (List ℕ)) (inputs : InputsSeen) (is_calm : Type 0)
+    (status : ℕ) : Type 0 where
+  pub failed : status ≡ 6 → Rose inputs.faults_before inputs.faults_after
+  pub quiet : status ≢ 6 → inputs.faults_after ≡ inputs.faults_before
+  pub count : inputs.faults_before ≤ inputs.faults_after
+  pub serves : is_calm → (s : SettingsSeen) → Says task words s →
+      HoldsAll inputs.told s.names → status ≢ 6
+
+-- no file was opened, or the first of each transfer alone, of which no byte past the header was read
+abbrev pub ReadsNoData : Task → List (List ℕ) → Told → Told → Type 0
+ReadsNoData task words before after = (after ≡ before)
+    ⊎ ForFiles task words before (λ s w. LeavesData after w)
+
+-- ---- the files that are read
+
+-- 3 exactly where a header is refused, of the first ones before data are read or where the walk stops at it; 4 where a
+-- search or a recording is; 7 where the walk stops at a gap, and 8 where there are too many data
+pub record StopsAtFiles
+    (task : Task) (words : List (List ℕ)) (told : Told) (blocks : Option Finished)
+    (status : ℕ) : Type 0 where
+  pub first_header : status ≡ 3 → blocks ≡ None → ForFiles task words told (λ s w.
+      (file : ℕ) × (cause : HeaderCause) × RefusesFirst w file cause)
+  pub later_header : status ≡ 3 → IsSome blocks → ForFiles task words told (λ s w.
+      (file : ℕ) × (cause : HeaderCause) × StopsWalk task s w (Header file cause))
+  pub plan : status ≡ 4 → ForFiles task words told (λ s w.
+      ((cause : PlanCause) × (task ≡ Searching) × RefusesSearch s.search w cause)
+      ⊎ ((cause : RecordingCause) × RefusesToRecord task s w cause))
+  pub gap : status ≡ 7 → ForFiles task words told (λ s w.
+      (file : ℕ) × (expected : ℕ) × (found : ℕ) × StopsWalk task s w (Gap file expected found))
+  pub too_long : status ≡ 8 → ForFiles task words told (λ s w.
+      StopsWalk task s w (TooLong s.max_bytes))
+
+-- ---- the data ring
+
+-- What went through the data ring, which is there from the session on: the stream of the walk, whole or abandoned; at a
+-- fault of the inputs an abandoned stream of what was read.
+pub record SealsStream
+    (task : Task) (words : List (List ℕ)) (told : Told) (blocks : Option Finished)
+    (status : ℕ) : Type 0 where
+  pub none : Contains (2 ∷ 4 ∷ 5 ∷ []) status → blocks ≡ None
+  pub some : Contains (0 ∷ 7 ∷ 8 ∷ 9 ∷ 10 ∷ 11 ∷ []) status → IsSome blocks
+  pub sealed : (b : Finished) → blocks ≡ Some b → status ≢ 6 → ForFiles task words told (λ s w.
+      CanBegin task s w × (sealed_at_end b ≡ walk_stream s.size w))
+  pub broken : (b : Finished) → blocks ≡ Some b → status ≡ 6 → ForFiles task words told (λ s w.
+      CanBegin task s w × IsBroken w s.size (sealed_at_end b))
+
+-- the readers from this number on, so many, cleared all that was sealed
+abbrev pub AllCleared : Finished → ℕ → ℕ → Type 0
+AllCleared b from count = (k : ℕ) → k < count → cleared_at_end b (from + k) ≡ sealed_at_end b
+
+-- ---- the files that are made
+
+-- the first transfers, so many, as they are recorded with these data
+abbrev pub recorded_transfers : FileStream → ℕ → ℕ → (ℕ → List ℕ) → List RecordedTransfer
+recorded_transfers w file_size count bytes_of =
+    map (λ k. record { recording = first_recording w file_size k; bytes = bytes_of k })
+    (range_with_len 0 count)
+
+-- the files of all data
+abbrev pub files_of_data : FileStream → ℕ → List NamedBytes
+files_of_data w file_size =
+    recorded_of_transfers (recorded_transfers w file_size (length w.starts) (transfer_data w))
+
+-- the files of data blocks: of the transfers that ended in them, and of the next one
+abbrev pub files_of_stream : FileStream → ℕ → List Entry → List NamedBytes
+files_of_stream w file_size blocks = recorded_of_transfers
+    (recorded_transfers w file_size (min (ended_transfers blocks + 1) (length w.starts))
+    (λ k. transfer_bytes k blocks))
+
+-- files were made, all of them finished, and no call failed
+pub record MadeAll (files : List NamedBytes) (before after : FilesSeen) : Type 0 where
+  pub made : (outset : Outset) → BeginsAt outset before → HasMade outset false files after
+  pub faults : after.faults ≡ before.faults
+
+-- A call failed before all of them were made: a front of them was. What is told to be left was not enough for them.
+pub record MadeFront (files : List NamedBytes) (before after : FilesSeen) : Type 0 where
+  pub made : (outset : Outset) → BeginsAt outset before → BreaksOff outset files after
+  pub rose : Rose before.faults after.faults
+  pub count : before.faults ≤ after.faults
+
+-- A run that records: at 0 the files of all data are made, and at 11, which comes only where a call failed, a front of
+-- those. Where the walk stops, and where the output has no text, they are those of the stream that went through, or a
+-- front of them. Before the session, and where nothing is recorded, the files stand.
+pub record RecordsFiles
+    (task : Task) (words : List (List ℕ)) (told : Told) (blocks : Option Finished)
+    (before after : FilesSeen) (status : ℕ) : Type 0 where
+  pub before_session : blocks ≡ None → after ≡ before
+  pub unrecorded : (s : SettingsSeen) → Says task words s → s.recording ≡ false →
+      (after ≡ before) × (status ≢ 11)
+  pub all : status ≡ 0 → ForFiles task words told (λ s w.
+      s.recording ≡ true → MadeAll (files_of_data w s.file_size) before after)
+  pub front : status ≡ 11 → ForFiles task words told (λ s w.
+      MadeFront (files_of_data w s.file_size) before after)
+  pub stream : (b : Finished) → blocks ≡ Some b → ForFiles task words told (λ s w.
+      s.recording ≡ true → let files = files_of_stream w s.file_size (sealed_at_end b) in
+      MadeAll files before after ⊎ MadeFront files before after)
+  pub failed : status ≡ 11 → Rose before.faults after.faults
+  pub quiet : status ≡ 0 → after.faults ≡ before.faults
+  pub count : before.faults ≤ after.faults
+
+-- ---- the notes
+
+-- the notes took the line of a stop with the status, or its front at a fault of theirs; what it says of the words and
+-- of the files is so
+pub record NotesStop
+    (task : Task) (words : List (List ℕ)) (told : Told) (before after : SinkSeen)
+    (status : ℕ) : Type 0 where
+  pub stop : Stop
+  pub answered : status ≡ status_of stop
+  pub words_cause : IsStopOfWords task words stop
+  pub cause : ForFiles task words told (λ s w. IsStopOf task s w stop)
+  pub line : Noted (note_of stop) before after
+
+-- nothing at 0, and one line at each other status
+pub record TellsNotes
+    (task : Task) (words : List (List ℕ)) (told : Told) (before after : SinkSeen)
+    (status : ℕ) : Type 0 where
+  pub silent : status ≡ 0 → after ≡ before
+  pub noted : status ≢ 0 → NotesStop task words told before after status

@@ -1,0 +1,176 @@
+-- What a run of a program is over: the settings that its words say, and the files that they name, as a walk sees them.
+-- Source: PSRDADA manual (a transfer is what one header describes); what is refused is this project's choice.
+use Rattle.std.specs.Prelude.{◌≡◌, ℕ, ◌^◌, ◌-◌, ◌<◌, ◌⊎◌, min, true, List, length, map, Option, Some, None}
+use Rattle.std.specs.List.{range_with_len}
+use Rattle.dada_model.specs.Fields.{header_of}
+use Rattle.dada_model.specs.Observation.{Observation}
+use Rattle.psr_base.specs.Told.{Told}
+use Rattle.search_model.specs.declared.search.Search.{Search}
+use Rattle.search_model.specs.Plan as plan
+use Rattle.search_model.specs.Plan.{PlanRefusal, plan_refusal}
+use Rattle.search_words.specs.declared.fault.WordFault.{WordFault}
+use Rattle.search_words.specs.declared.fault.WordFault.TheVariants.{Refused, OutOfRange}
+use Rattle.search_words.specs.Settings.{SettingsSeen, SaySearch, SayRecord, ExplainsSearch, ExplainsRecord}
+use Rattle.stream_model.specs.Walk as walk
+use Rattle.stream_model.specs.Walk.{FileStream, WalkStop, observation_at, transfer_data, walk_stop}
+use Rattle.stream_model.specs.WalkLaws.{AreWalked}
+use Rattle.stream_model.specs.Recorded as recorded
+use Rattle.stream_model.specs.Recorded.{Recording, RecordRefusal, record_refusal}
+use Rattle.transfer_text.specs.Searched.{ObservedTransfer, candidate_total}
+use Rattle.dada_recorder.specs.Blocks.{header_or_none}
+use Rattle.dada_recorder.specs.Changes.{recording}
+use Rattle.disk_feeder.specs.Ends.{fault_of}
+use Rattle.disk_feeder.specs.Plan.{AreTold}
+use Rattle.disk_feeder.specs.declared.answers.HeaderCause.{HeaderCause}
+use Rattle.disk_feeder.specs.declared.answers.HeaderCause.TheVariants.{Text, Fields}
+use Rattle.run_stop.specs.Firsts.{first_file}
+use Rattle.run_stop.specs.Firsts.{RefusesText, RefusesFields}
+use Rattle.run_stop.specs.declared.causes.PlanCause.{PlanCause}
+use Rattle.run_stop.specs.declared.causes.PlanCause.TheVariants.{SumBound, FoldTooLarge, TooManyFolds, TooManyShards}
+use Rattle.run_stop.specs.declared.causes.RecordingCause.{RecordingCause}
+use Rattle.run_stop.specs.declared.causes.RecordingCause.TheVariants.{NoUtc, BadUtc, Overfull, TooManyFiles}
+use Rattle.run_stop.specs.declared.stop.Stop.{Stop}
+use Rattle.run_stop.specs.declared.stop.Stop.TheVariants.{Words, Value, Header, Plan, Recording as Unrecorded, Gap, TooLong, TooMany}
+
+-- ---- what it is over
+
+-- what a run is asked to do: to search files, or to record them alone
+pub data Task : Type 0 where
+  Searching : Task
+  RecordingAlone : Task
+
+-- its words say the settings
+abbrev pub Says : Task → List (List ℕ) → SettingsSeen → Type 0
+Says Searching words s = SaySearch words s
+Says RecordingAlone words s = SayRecord words s
+
+-- what a fault says of its words
+abbrev pub Explains : Task → List (List ℕ) → WordFault → Type 0
+Explains Searching words fault = ExplainsSearch words fault
+Explains RecordingAlone words fault = ExplainsRecord words fault
+
+-- the files of settings as a walk sees them
+abbrev pub stream_for : SettingsSeen → List (List ℕ) → FileStream
+stream_for s files = record { files = files; starts = s.starts; max_bytes = s.max_bytes }
+
+-- P holds of the settings that the words say, and of the files that they name, where the bytes of all are told
+abbrev pub ForFiles : Task → List (List ℕ) → Told → (SettingsSeen → FileStream → Type 0) → Type 0
+ForFiles task words told P = (s : SettingsSeen) (files : List (List ℕ)) →
+    Says task words s → AreTold told s.names files → P s (stream_for s files)
+
+-- the observation of a transfer's first header
+abbrev pub first_observation : FileStream → ℕ → Observation
+first_observation w transfer = observation_at (first_file w transfer)
+
+-- a transfer as it is recorded: under its first header, from that header's OBS_OFFSET on
+abbrev pub first_recording : FileStream → ℕ → ℕ → Recording
+first_recording w file_size transfer =
+    recording (header_or_none (header_of (first_file w transfer)))
+    (first_observation w transfer).obs_offset file_size
+
+-- the transfers as they are searched: the observation of each, and all of its data
+abbrev pub observed_transfers : FileStream → List ObservedTransfer
+observed_transfers w =
+    map (λ k. record { observation = first_observation w k; bytes = transfer_data w k })
+    (range_with_len 0 (length w.starts))
+
+-- ---- what is judged before data are read: all headers, then all searches, then all recordings
+
+-- the first transfers, so many, can be searched
+abbrev pub CanSearchFirst : Search → FileStream → ℕ → Type 0
+CanSearchFirst search w count = (k : ℕ) → k < count →
+    plan_refusal (first_observation w k) search ≡ None
+
+-- and recorded in files of this size
+abbrev pub CanRecordFirst : ℕ → FileStream → ℕ → Type 0
+CanRecordFirst file_size w count = (k : ℕ) → k < count →
+    record_refusal (first_recording w file_size k) w.max_bytes ≡ None
+
+-- nothing stands against a run before its data are read: the first header of each transfer is accepted
+pub record CanBegin (task : Task) (s : SettingsSeen) (w : FileStream) : Type 0 where
+  pub accepted : AreWalked w
+  pub searched : task ≡ Searching → CanSearchFirst s.search w (length w.starts)
+  pub recorded : s.recording ≡ true → CanRecordFirst s.file_size w (length w.starts)
+
+-- the cause is the first for which the search of an observation is refused
+abbrev pub IsPlanCause : Option PlanRefusal → PlanCause → Type 0
+IsPlanCause first (SumBound max_sample cells factor) =
+    first ≡ Some (plan.SumBound max_sample cells factor)
+IsPlanCause first (FoldTooLarge longest halvings) =
+    first ≡ Some (plan.FoldTooLarge longest halvings)
+IsPlanCause first (TooManyFolds count) = first ≡ Some (plan.TooManyFolds count)
+IsPlanCause first (TooManyShards shards delays) = first ≡ Some (plan.TooManyShards shards delays)
+
+-- it is the first for which a recording is; a length is told up to the greatest number there is
+abbrev pub IsRecordingCause : Option RecordRefusal → RecordingCause → Type 0
+IsRecordingCause first NoUtc = first ≡ Some recorded.NoTime
+IsRecordingCause first BadUtc = first ≡ Some recorded.BadTime
+IsRecordingCause first (Overfull need size) =
+    (len : ℕ) × (first ≡ Some (recorded.NoRoom len size)) × (need ≡ min len (2 ^ 64 - 1))
+IsRecordingCause first TooManyFiles = first ≡ Some recorded.TooManyFiles
+
+-- the header of this file is the first refused one among those of the transfers' first files
+abbrev pub RefusesFirst : FileStream → ℕ → HeaderCause → Type 0
+RefusesFirst w file (Text fault) = RefusesText w file fault
+RefusesFirst w file (Fields fault) = RefusesFields w file fault
+
+-- the search of some transfer is refused, and those before it fit
+pub record RefusesSearch (search : Search) (w : FileStream) (cause : PlanCause) : Type 0 where
+  pub accepted : AreWalked w
+  pub transfer : ℕ
+  pub there : transfer < length w.starts
+  pub refused : IsPlanCause (plan_refusal (first_observation w transfer) search) cause
+  pub earlier : CanSearchFirst search w transfer
+
+-- the recording of some transfer is, and all searches fit
+pub record RefusesToRecord
+    (task : Task) (s : SettingsSeen) (w : FileStream) (cause : RecordingCause)
+    : Type 0 where
+  pub accepted : AreWalked w
+  pub searched : task ≡ Searching → CanSearchFirst s.search w (length w.starts)
+  pub records : s.recording ≡ true
+  pub transfer : ℕ
+  pub there : transfer < length w.starts
+  pub refused : IsRecordingCause
+      (record_refusal (first_recording w s.file_size transfer) w.max_bytes) cause
+  pub earlier : CanRecordFirst s.file_size w transfer
+
+-- ---- what stops a run at its files
+
+-- the stop at a stop of the walk, with the limit of the data bytes
+abbrev pub stop_of_walk : ℕ → WalkStop → Option Stop
+stop_of_walk max_bytes walk.Whole = None
+stop_of_walk max_bytes (walk.BadText file refusal) = Some (Header file (Text (fault_of refusal)))
+stop_of_walk max_bytes (walk.BadFields file fault) = Some (Header file (Fields fault))
+stop_of_walk max_bytes (walk.Gap file expected found) = Some (Gap file expected found)
+stop_of_walk max_bytes (walk.TooLong file) = Some (TooLong max_bytes)
+
+-- a run begins, and this is where the walk of its files stops
+pub record StopsWalk (task : Task) (s : SettingsSeen) (w : FileStream) (stop : Stop) :
+    Type 0 where
+  pub begins : CanBegin task s w
+  pub stops : stop_of_walk w.max_bytes (walk_stop w) ≡ Some stop
+
+-- all data are read and searched, and P holds of how many candidates they have
+pub record HasCandidates (s : SettingsSeen) (w : FileStream) (P : ℕ → Type 0) : Type 0 where
+  pub begins : CanBegin Searching s w
+  pub whole : walk_stop w ≡ walk.Whole
+  pub total : P (candidate_total s.search (observed_transfers w))
+
+-- what a stop says of the files
+abbrev pub IsStopOf : Task → SettingsSeen → FileStream → Stop → Type 0
+IsStopOf task s w (Header file cause) =
+    RefusesFirst w file cause ⊎ StopsWalk task s w (Header file cause)
+IsStopOf task s w (Plan cause) = (task ≡ Searching) × RefusesSearch s.search w cause
+IsStopOf task s w (Unrecorded cause) = RefusesToRecord task s w cause
+IsStopOf task s w (Gap file expected found) = StopsWalk task s w (Gap file expected found)
+IsStopOf task s w (TooLong limit) = StopsWalk task s w (TooLong limit)
+IsStopOf task s w (TooMany count limit) = HasCandidates s w (λ total.
+    (total ≡ count) × (limit ≡ s.search.max_candidates) × (limit < count))
+IsStopOf task s w _ = Unit {0}
+
+-- what it says of the words
+abbrev pub IsStopOfWords : Task → List (List ℕ) → Stop → Type 0
+IsStopOfWords task words Words = Explains task words Refused
+IsStopOfWords task words (Value opt) = Explains task words (OutOfRange opt)
+IsStopOfWords task words _ = Unit {0}
