@@ -26,13 +26,14 @@ begins_more xs ys zs a b =
 -- ---- no read
 
 rests_itself : (v : ReaderView) → Rests v v
-rests_itself v = record { number = refl; tries = refl; cleared = refl }
+rests_itself v = record { number = refl; tries = refl; cleared = refl; holds_none = λ none. none }
 
 pub pass_rests : (old new : ReaderPass) → new ≡ old → Rests (reader_knows old) (reader_knows new)
 pass_rests old new same = record {
   number = ap (λ (p : ReaderPass). (reader_knows p).number) same;
   tries = ap (λ (p : ReaderPass). (reader_knows p).tries) same;
   cleared = ap (λ (p : ReaderPass). (reader_knows p).cleared) same;
+  holds_none = λ none. ap (λ (p : ReaderPass). (reader_knows p).got) same ∙ none;
 }
 
 rests_more : (u v w : ReaderView) → Rests u v → Rests v w → Rests u w
@@ -40,6 +41,7 @@ rests_more u v w a b = record {
   number = b.number ∙ a.number;
   tries = b.tries ∙ a.tries;
   cleared = b.cleared ∙ a.cleared;
+  holds_none = λ none. b.holds_none (a.holds_none none);
 }
 
 tries_rests : (u v w : ReaderView) → TriesNext u v → Rests v w → TriesNext u w
@@ -48,6 +50,7 @@ tries_rests u v w a b = record {
   tries = b.tries ∙ a.tries;
   found = a.found;
   cleared = b.cleared ∙ a.cleared;
+  holds_none = λ none. b.holds_none (a.holds_none none);
 }
 
 pub rested_itself : (p : HduEnded) → HasRested p p

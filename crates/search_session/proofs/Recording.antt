@@ -1,5 +1,5 @@
 -- Turns of a recorder that follow one another.
-use Rattle.std.proofs.Common.{◌≡◌, ◌≢◌, ℕ, ◌+◌, ◌<◌, ◌≤◌, ◌^◌, min, Bool, true, false, List, length, Option, Some, None, refl, sym, ap, ◌∙◌, subst, append_assoc, arith, rules}
+use Rattle.std.proofs.Common.{◌≡◌, ◌≢◌, ℕ, ◌+◌, ◌<◌, ◌≤◌, ◌^◌, min, Bool, true, false, List, length, Option, Some, None, refl, sym, ap, ◌∙◌, subst, arith, rules}
 use Rattle.std.specs.Prelude.{IsSome, ◌==◌, if◌then◌else◌}
 use Rattle.std.proofs.lemmas.Bool.Decides.{nat_tests}
 use Rattle.std.proofs.lemmas.List.{append-nil}
@@ -7,7 +7,6 @@ use Rattle.psr_base.specs.Count.{Rose}
 use Rattle.psr_base.specs.Made.{FilesSeen}
 use Rattle.ring_core.specs.Machine.{greatest}
 use Rattle.ring_blocks.specs.declared.Entry.{Entry}
-use Rattle.ring_words.specs.Ring.{Begins}
 use Rattle.ring_words.specs.declared.views.ReaderView.{ReaderView}
 use Rattle.ring_ends.specs.declared.passes.ReaderPass.{ReaderPass}
 use Rattle.ring_ends.specs.declared.answers.ReadStop.{ReadStop}
@@ -19,7 +18,7 @@ use Rattle.dada_hdu.specs.declared.passes.HduReader.{HduReader}
 use Rattle.dada_hdu.specs.declared.ended.HduEnded.{HduEnded}
 use Rattle.dada_hdu.specs.declared.ended.HduEnded.TheVariants.{Here}
 use Rattle.stream_model.specs.Blocks.{ended_transfers}
-use Rattle.dada_hdu.specs.Passes.{header_end, data_end, number_of, tries_of, ReadsBoth, EndedFromBoth}
+use Rattle.dada_hdu.specs.Passes.{header_end, data_end, ReadsBoth, EndedFromBoth}
 use Rattle.dada_recorder.specs.declared.answers.RecordEnd.{RecordEnd}
 use Rattle.dada_recorder.specs.declared.answers.RecordEnd.TheVariants.{FileFault}
 use Rattle.dada_recorder.specs.declared.answers.RecordTurn.{RecordTurn}
@@ -45,6 +44,7 @@ clears old new c = record {
   tries = ap (λ (v : ReaderView). v.tries) c.view;
   found = Some c.block;
   cleared = ap (λ (v : ReaderView). v.cleared) c.view;
+  holds_none = λ none. ap (λ (v : ReaderView). v.got) c.view;
 }
 
 waits : (old new : ReaderPass) (stop : ReadStop) → IsReadStop (reader_knows old) stop (reader_knows new) →
@@ -54,12 +54,14 @@ waits old new (Empty block seen) s = record {
   tries = ap (λ (v : ReaderView). v.tries) s.rest;
   found = None;
   cleared = ap (λ (v : ReaderView). v.cleared) s.rest ∙ sym (append-nil (reader_knows old).cleared);
+  holds_none = λ none. ap (λ (v : ReaderView). v.got) s.rest ∙ none;
 }
 waits old new (Busy block reader) s = record {
   number = ap (λ (v : ReaderView). v.number) s.rest;
   tries = ap (λ (v : ReaderView). v.tries) s.rest;
   found = None;
   cleared = ap (λ (v : ReaderView). v.cleared) s.rest ∙ sym (append-nil (reader_knows old).cleared);
+  holds_none = λ none. ap (λ (v : ReaderView). v.got) s.rest ∙ none;
 }
 
 -- of one of the two

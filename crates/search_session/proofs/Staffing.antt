@@ -186,8 +186,8 @@ module _ {I F : Type 0} (told : I → Told) (is_open : I → Type 0) (files_open
       inside a b e = cc
 
   module _ (old new : List (Hand I F)) (n count : ℕ) (x : ShardActor) (lane : Lane)
-      (staffed : AreStaffed told is_open files_open hdu lanes n count old) (takes : TakesShard old ((n + 1) % length old) x new)
-      (at : slice_get lanes n ≡ Some (Some lane)) (fresh : IsShardOf lane n x) (on : ShardOn hdu x) where
+      (staffed : AreStaffed told is_open files_open hdu lanes n count old)
+      (takes : TakesShard old ((n + 1) % length old) x new) (at : slice_get lanes n ≡ Some (Some lane)) (fresh : IsShardOf lane n x) (on : ShardOn hdu x) where
     near : (n + 1) % length old < length old
     near = slice_get_within old ((n + 1) % length old) takes.before takes.there
 
@@ -199,7 +199,8 @@ module _ {I F : Type 0} (told : I → Told) (is_open : I → Type 0) (files_open
         (All-set P old ((n + 1) % length old) takes.after now was)
 
     before_on : HandOn told is_open files_open hdu takes.before
-    before_on = all_at (HandOn told is_open files_open hdu) old ((n + 1) % length old) takes.before takes.there staffed.on
+    before_on = all_at (HandOn told is_open files_open hdu) old ((n + 1) % length old) takes.before takes.there
+        staffed.on
 
     after_on : HandOn told is_open files_open hdu takes.after
     after_on = record {

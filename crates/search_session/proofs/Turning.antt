@@ -8,7 +8,6 @@ use Rattle.ring_blocks.specs.declared.Entry.{Entry}
 use Rattle.ring_blocks.specs.declared.Mark.{Mark}
 use Rattle.ring_words.specs.declared.views.ReaderView.{ReaderView}
 use Rattle.ring_words.specs.Views.{after_clear, got_list}
-use Rattle.ring_ends.specs.declared.passes.ReaderPass.{ReaderPass}
 use Rattle.ring_ends.specs.Passes.{reader_knows, ended_knows}
 use Rattle.dada_hdu.specs.declared.hdu.Hdu.{Hdu}
 use Rattle.dada_hdu.specs.declared.passes.HduReader.{HduReader}
@@ -184,14 +183,16 @@ one_cleared r r' e is got = ap (λ (v : ReaderView). v.cleared) is
 
 -- a read of the data ring that found nothing
 pub found_none : (old new : HduReader) → HasTried (reader_knows old.blocks) (reader_knows new.blocks) →
-    new.header ≡ old.header → ReadsRing false (Here old) (Here new)
-found_none old new tried header = (
+    (reader_knows new.blocks).got ≡ (reader_knows old.blocks).got → new.header ≡ old.header →
+    ReadsRing false (Here old) (Here new)
+found_none old new tried got header = (
   pass_rests old.header new.header header,
   record {
     number = tried.number;
     tries = tried.tries;
     found = None;
     cleared = tried.cleared ∙ sym (append-nil (blocks_cleared old));
+    holds_none = λ none. got ∙ none;
   },
 )
 
@@ -222,6 +223,7 @@ has_cleared old mid new e n tried header got cleared still =
           tries = ap (λ (v : ReaderView). v.tries) cleared.cleared ∙ tried.tries;
           found = Some e;
           cleared = more;
+          holds_none = λ none. ap (λ (v : ReaderView). v.got) cleared.cleared;
         },
       );
     }

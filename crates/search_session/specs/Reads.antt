@@ -1,6 +1,6 @@
 -- What one read of a reader of both rings does: which ring it reads, and that the block which it finds is cleared.
 -- Source: this project's choice.
-use Rattle.std.specs.Prelude.{◌≡◌, ℕ, zero, suc, ◌+◌, ◌==◌, Bool, true, false, List, ◌++◌, length, Option}
+use Rattle.std.specs.Prelude.{◌≡◌, ℕ, zero, suc, ◌+◌, ◌==◌, Bool, true, false, ◌++◌, length, Option, None}
 use Rattle.ring_blocks.specs.declared.Entry.{Entry}
 use Rattle.ring_words.specs.declared.views.ReaderView.{ReaderView}
 use Rattle.ring_words.specs.Views.{got_list}
@@ -11,18 +11,20 @@ use Rattle.stream_model.specs.Blocks.{ended_transfers}
 
 -- ---- one ring
 
--- it tried once more to take a block, and cleared what it found
+-- it tried once more to take a block, and cleared what it found: it holds none that it did not hold before
 pub record TriesNext (old new : ReaderView) : Type 0 where
   pub number : new.number ≡ old.number
   pub tries : new.tries ≡ old.tries + 1
   pub found : Option Entry
   pub cleared : new.cleared ≡ old.cleared ++ got_list found
+  pub holds_none : old.got ≡ None → new.got ≡ None
 
 -- it did not try
 pub record Rests (old new : ReaderView) : Type 0 where
   pub number : new.number ≡ old.number
   pub tries : new.tries ≡ old.tries
   pub cleared : new.cleared ≡ old.cleared
+  pub holds_none : old.got ≡ None → new.got ≡ None
 
 -- ---- both rings
 

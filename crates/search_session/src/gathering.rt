@@ -60,9 +60,7 @@ pub(crate) fn take_feeder<'a, I, F>(hands: &mut [Hand<'a, I, F>]) -> FeedActor<'
 }
 
 // Takes the recorder out of its hand, where there is one.
-pub(crate) fn take_recorder<'a, I, F>(
-    hands: &mut [Hand<'a, I, F>],
-) -> Option<RecordActor<'a, F>>
+pub(crate) fn take_recorder<'a, I, F>(hands: &mut [Hand<'a, I, F>]) -> Option<RecordActor<'a, F>>
     requires { 0 < length hands.old }
     ensures gives { GivesRecorder hands.old result hands.new }
     ensures is { result ≡ recorder_in hands.old }

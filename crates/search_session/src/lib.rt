@@ -1,8 +1,9 @@
 //! A session: a feeder, the shards of a search and a recorder take turns over two rings, in hands that run beside each
 //! other. There may be no shard, or no recorder.
 //!
-//! Actor 0 is the feeder, 1 to 7 are the shards in order, and 8 is the recorder; actor a works in hand a modulo the number
-//! of hands. A round of turns waits for nobody; rounds follow one another until all have ended. No call takes memory.
+//! Actor 0 is the feeder, 1 to 7 are the shards in order, and 8 is the recorder; actor a works in hand a modulo the
+//! number of hands. A round of turns waits for nobody; rounds follow one another until all have ended. No call takes
+//! memory.
 #![tactic(auto)]
 
 mod books;

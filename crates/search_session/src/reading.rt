@@ -1,5 +1,5 @@
 //! Reads of the two rings.
-ghost use Rattle.std.specs.Prelude.{◌≡◌, ◌≤◌, length, IfSome};
+ghost use Rattle.std.specs.Prelude.{◌≡◌, ◌≤◌, length, None, IfSome};
 ghost use Rattle.ring_ends.specs.Passes.{reader_knows};
 ghost use Rattle.dada_hdu.specs.Passes.{data_shape, ReadsBoth, EndedFromBoth};
 ghost use Rattle.search_session.specs.Reads.{TriesNext, HasRested};
@@ -34,6 +34,8 @@ pub(crate) fn read_block(hdu: &Hdu, reader: &mut HduReader, space: &mut [u8]) ->
     ensures tried { HasTried (reader_knows reader.old.blocks) (reader_knows reader.new.blocks) }
     ensures header { reader.new.header ≡ reader.old.header }
     ensures room { length space.new ≡ length space.old }
+    ensures none { result ≡ None
+        → (reader_knows reader.new.blocks).got ≡ (reader_knows reader.old.blocks).got }
     ensures block { IfSome result (λ taken. (block : Entry)
         × HasBlock (data_shape hdu.now).size (data_shape hdu.now).max_blocks reader.new
         space.new taken block) }

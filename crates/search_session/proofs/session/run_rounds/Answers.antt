@@ -7,8 +7,8 @@ loop-round-init g c = record {
   on = c.requires;
   moved = (
     0,
-    hands_none g.I.Inputs.told g.I.Inputs.is_open g.I.Inputs.is_calm g.I.Inputs.faults g.F.Files.is_open g.F.Files.seen c.args.hdu.now
-        c.args.hands.now c.requires,
+    hands_none g.I.Inputs.told g.I.Inputs.is_open g.I.Inputs.is_calm g.I.Inputs.faults g.F.Files.is_open g.F.Files.seen
+        c.args.hdu.now c.args.hands.now c.requires,
   );
 }
 
@@ -21,8 +21,8 @@ loop-round-preserved g c =
     let files_open = g.F.Files.is_open in
     let seen = g.F.Files.seen in
     let before = c.loop-round.invariant.moved in
-    let first = hands_more told is_open is_calm faults files_open seen before.0 c.args.turns c.args.hands.now c.loop-round.hands
-    c.round.new.hands before.1 c.round.ensures.moved in
+    let first = hands_more told is_open is_calm faults files_open seen before.0 c.args.turns c.args.hands.now
+    c.loop-round.hands c.round.new.hands before.1 c.round.ensures.moved in
     record {
       on = c.retire_ended.ensures.on;
       moved = (
@@ -41,8 +41,8 @@ returns-then-all_ended g c =
     let files_open = g.F.Files.is_open in
     let seen = g.F.Files.seen in
     let before = c.loop-round.invariant.moved in
-    let first = hands_more told is_open is_calm faults files_open seen before.0 c.args.turns c.args.hands.now c.loop-round.hands
-    c.round.new.hands before.1 c.round.ensures.moved in
+    let first = hands_more told is_open is_calm faults files_open seen before.0 c.args.turns c.args.hands.now
+    c.loop-round.hands c.round.new.hands before.1 c.round.ensures.moved in
     record {
       on = c.retire_ended.ensures.on;
       ended = c.all_ended.ensures c.if-all_ended.true;

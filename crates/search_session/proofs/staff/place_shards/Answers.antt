@@ -11,8 +11,8 @@ loop-s-init g c = record {
   lanes = refl;
   readers = refl;
   spaces = refl;
-  staffed = staffed_none g.I.Inputs.told g.I.Inputs.is_open g.F.Files.is_open c.args.hdu.now c.args.lanes.items c.args.hands.now
-      c.requires.empty;
+  staffed = staffed_none g.I.Inputs.told g.I.Inputs.is_open g.F.Files.is_open c.args.hdu.now c.args.lanes.items
+      c.args.hands.now c.requires.empty;
 }
 
 pub unreachable-requires-in_default-remove : goal.unreachable-requires-in_default-remove
@@ -83,8 +83,8 @@ loop-s-preserved g c =
           c.remove-in-loop-s.result near_reader inv.readers c.remove-in-loop-s.ensures.items;
       spaces = left_over c.args.spaces.items c.loop-s.spaces.items c.remove-in-loop-s-2.new.self.items s
           c.remove-in-loop-s-2.result near_space inv.spaces c.remove-in-loop-s-2.ensures.items;
-      staffed = staffed_more g.I.Inputs.told g.I.Inputs.is_open g.F.Files.is_open c.args.hdu.now c.args.lanes.items c.loop-s.hands
-          c.place_shard.new.hands s (length c.args.hands.now) c.shard_of.result c.in-Some.lane inv.staffed
+      staffed = staffed_more g.I.Inputs.told g.I.Inputs.is_open g.F.Files.is_open c.args.hdu.now
+          c.args.lanes.items c.loop-s.hands c.place_shard.new.hands s (length c.args.hands.now) c.shard_of.result c.in-Some.lane inv.staffed
           c.place_shard.ensures (h.1 ∙ ap (λ (l : Lane). Some (Some l)) lane) c.shard_of.ensures.new
           c.shard_of.ensures.on;
     }

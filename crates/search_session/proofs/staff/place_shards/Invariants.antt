@@ -7,5 +7,6 @@ invariant-loop-s g l = record {
   lanes : l.lanes.items ≡ drop l.s l.fn.lanes.items;
   readers : l.readers.items ≡ drop l.s l.fn.readers.items;
   spaces : l.spaces.items ≡ drop l.s l.fn.spaces.items;
-  staffed : AreStaffed g.I.Inputs.told g.I.Inputs.is_open g.F.Files.is_open l.hdu l.fn.lanes.items l.s (length l.fn.hands) l.hands;
+  staffed : AreStaffed g.I.Inputs.told g.I.Inputs.is_open g.F.Files.is_open l.hdu l.fn.lanes.items l.s
+      (length l.fn.hands) l.hands;
 }

@@ -7,4 +7,5 @@ returns-then-is_none-clause-moved g c = record_none g.F.Files.seen c.args.self c
 
 pub returns-clause-moved : goal.returns-clause-moved
 returns-clause-moved g c =
-    record_stands g.F.Files.seen 0 c.args.self _ c.requires.count (λ running. refl) refl refl refl c.retire.ensures.rested
+    record_stands g.F.Files.seen 0 c.args.self _ c.requires.count (λ running. refl) refl refl refl
+    c.retire.ensures.rested

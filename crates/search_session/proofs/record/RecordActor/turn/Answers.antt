@@ -28,7 +28,8 @@ returns-in-Moved-clause-moved g c =
     record_turned g.F.Files.seen c.args.self.now _ c.in-Here.reader c.turn.new.pass (has_header c.args.self.now.part)
     (has_end c.turn.new.self) c.turn.result c.in-Here.is refl c.requires.running
     (c.requires.running ∙ sym c.in-Moved.ensures.answer.0) c.turn.ensures.answer
-    (has_begun c.args.self.now c.in-Here.reader c.in-Here.is (sym c.requires.on.end ∙ c.requires.running) c.requires.on.stands) c.turn.ensures.same_reference
+    (has_begun c.args.self.now c.in-Here.reader c.in-Here.is (sym c.requires.on.end ∙ c.requires.running)
+    c.requires.on.stands) c.turn.ensures.same_reference
     c.turn.ensures.plan c.turn.ensures.block c.turn.ensures.made c.turn.ensures.failed c.turn.ensures.quiet
     c.turn.ensures.count (omega arith)
 
@@ -37,7 +38,8 @@ returns-in-Waiting-clause-moved g c =
     record_turned g.F.Files.seen c.args.self.now _ c.in-Here.reader c.turn.new.pass (has_header c.args.self.now.part)
     (has_end c.turn.new.self) c.turn.result c.in-Here.is refl c.requires.running
     (c.requires.running ∙ sym c.in-Waiting.ensures.answer.0) c.turn.ensures.answer
-    (has_begun c.args.self.now c.in-Here.reader c.in-Here.is (sym c.requires.on.end ∙ c.requires.running) c.requires.on.stands) c.turn.ensures.same_reference
+    (has_begun c.args.self.now c.in-Here.reader c.in-Here.is (sym c.requires.on.end ∙ c.requires.running)
+    c.requires.on.stands) c.turn.ensures.same_reference
     c.turn.ensures.plan c.turn.ensures.block c.turn.ensures.made c.turn.ensures.failed c.turn.ensures.quiet
     c.turn.ensures.count (omega arith)
 
@@ -46,6 +48,7 @@ returns-in-Ended-clause-moved g c =
     record_turned g.F.Files.seen c.args.self.now _ c.in-Here.reader c.turn.new.pass (has_header c.args.self.now.part)
     (has_end c.turn.new.self) c.turn.result c.in-Here.is refl c.requires.running
     (sym c.in-Ended.ensures.answer.0) c.turn.ensures.answer
-    (has_begun c.args.self.now c.in-Here.reader c.in-Here.is (sym c.requires.on.end ∙ c.requires.running) c.requires.on.stands) c.turn.ensures.same_reference c.turn.ensures.plan
+    (has_begun c.args.self.now c.in-Here.reader c.in-Here.is (sym c.requires.on.end ∙ c.requires.running)
+    c.requires.on.stands) c.turn.ensures.same_reference c.turn.ensures.plan
     c.turn.ensures.block c.turn.ensures.made c.turn.ensures.failed c.turn.ensures.quiet c.turn.ensures.count
     (omega arith)
