@@ -3,3 +3,4 @@ pub mod Conversions
 pub mod Firsts
 pub mod Runs
 pub mod Outcomes
+pub mod Laws

@@ -3,8 +3,10 @@
 
 mod causes;
 mod conversions;
+mod laws;
 mod line;
 mod stop;
 
 pub use causes::{PlanCause, RecordingCause};
+pub use laws::{runs_record_blocks, whole_runs_record_data};
 pub use stop::Stop;
