@@ -1,5 +1,5 @@
 -- One read of a shard.
-use Rattle.std.proofs.Common.{◌≡◌, ℕ, ◌+◌, ◌*◌, ◌<◌, ◌≤◌, ◌^◌, Bool, true, false, ◌||◌, List, [], ◌∷◌, ◌++◌, length, vec_len, Option, Some, None, refl, sym, ap, ◌∙◌, subst, arith}
+use Rattle.std.proofs.Common.{◌≡◌, ℕ, ◌+◌, ◌*◌, ◌<◌, ◌≤◌, ◌^◌, Bool, true, false, ◌||◌, List, [], ◌∷◌, ◌++◌, length, length-append, vec_len, Option, Some, None, refl, sym, ap, ◌∙◌, subst, arith}
 use Rattle.std.specs.Prelude.{if◌then◌else◌, nat_le, nat_lt}
 use Rattle.std.proofs.lemmas.Bool.Decides.{nat_tests}
 use Rattle.std.proofs.lemmas.List.{append-nil}
@@ -107,10 +107,12 @@ module _ (hdu : Hdu) (x y : ShardActor) (reader reader' : HduReader) (was : x.pa
       }
 
   pub stepped_still : (next : Bool) → header_is_next x.pass ≡ next → ReadsRing next (Here reader) (Here reader') →
-      blocks_cleared reader' ≡ blocks_cleared reader → y.part ≡ x.part → y.turns ≡ x.turns → ShardStepped x y
-  stepped_still next is read same part turns = record {
+      blocks_cleared reader' ≡ blocks_cleared reader → y.part ≡ x.part → y.done ≡ x.done → y.ended ≡ x.ended →
+      y.turns ≡ x.turns → ShardStepped x y
+  stepped_still next is read same part done ended turns = record {
     turns = turns;
     read = pass_read next is read;
+    idle = λ none. record { part = part; done = done; ended = ended };
     engines = subst (λ (lane : Lane). EnginesFollow (shard_cleared x) (shard_cleared y) x.part.engines.items
         lane.engines.items) (sym part) (follow_still (shard_cleared x) (shard_cleared y) x.part.engines.items
         (cleared_same same));
@@ -162,6 +164,10 @@ module _ (hdu : Hdu) (x y : ShardActor) (reader reader' : HduReader) (was : x.pa
       stepped_fed next is read turns = record {
         turns = turns;
         read = pass_read next is read;
+        idle = λ none.
+            let more = ap length cleared_more ∙ length-append (shard_cleared x) (e ∷ []) in
+            let same = ap length none in
+            absurd (omega arith);
         engines = subst (λ (l : List Entry). EnginesFollow (shard_cleared x) l x.part.engines.items
             y.part.engines.items) (sym cleared_more) (engines_follow counted of (data_shape hdu).size (shard_cleared x) e
             fits x.part.engines.items y.part.engines.items fed_at);

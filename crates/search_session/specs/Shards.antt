@@ -117,10 +117,17 @@ pub record ShardOn (hdu : Hdu) (x : ShardActor) : Type 0 where
   pub engines : AreEnginesAt (data_shape hdu).size (shard_cleared x) x.part.engines.items
   pub count : x.turns < 2 ^ 64
 
--- one read of a shard: what it got was fed
+-- its engines stand as they stood
+pub record KeepsEngines (x y : ShardActor) : Type 0 where
+  pub part : y.part ≡ x.part
+  pub done : y.done ≡ x.done
+  pub ended : y.ended ≡ x.ended
+
+-- one read of a shard: what it got was fed, and else its engines stand
 pub record ShardStepped (x y : ShardActor) : Type 0 where
   pub turns : y.turns ≡ x.turns
   pub read : HasRead x.pass y.pass
+  pub idle : shard_cleared y ≡ shard_cleared x → KeepsEngines x y
   pub engines : EnginesFollow (shard_cleared x)
       (shard_cleared y) x.part.engines.items y.part.engines.items
 

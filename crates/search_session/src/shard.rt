@@ -52,7 +52,7 @@ fn ends_stream(mark: Mark, done: usize, transfers: usize) -> bool
 
 impl ShardActor {
     ghost use Rattle.search_session.specs.Reads.{header_is_next};
-    ghost use Rattle.search_session.specs.Shards.{IsRetired, ShardOn, ShardMoved, ShardStepped};
+    ghost use Rattle.search_session.specs.Shards.{shard_cleared, IsRetired, KeepsEngines, ShardOn, ShardMoved, ShardStepped};
 
     /// Takes one turn. Before the data of each transfer it reads a header and clears it; else it reads a block of data,
     /// feeds it to the engine of its transfer, which ends after the last block, and clears it. A read that finds
@@ -62,6 +62,8 @@ impl ShardActor {
         requires running { self.old.ended ≡ false }
         ensures on { ShardOn hdu.now self.new }
         ensures moved { ShardMoved 1 self.old self.new }
+        ensures idle { shard_cleared self.new ≡ shard_cleared self.old
+            → KeepsEngines self.old self.new }
     {
         self.turns = self.turns.saturating_add(1);
         if self.pass.cleared_headers() == u64::from(self.done) {

@@ -21,6 +21,7 @@ returns-in_default-read_block-clause-stepped c = stepped_still c.args.hdu.now c.
     c.read_block.new.reader c.in-Here.is refl false c.requires.next
     (found_none c.in-Here.reader c.read_block.new.reader c.in_default-read_block.ensures.tried
     (c.in_default-read_block.ensures.none refl) c.in_default-read_block.ensures.header) c.in_default-read_block.ensures.tried.cleared refl refl
+    refl refl
 
 pub feed_engine-requires : goal.feed_engine-requires
 feed_engine-requires c =

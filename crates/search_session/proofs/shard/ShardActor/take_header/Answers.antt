@@ -16,5 +16,5 @@ returns c =
       on = on_still hdu x _ old new c.in-Here.is refl c.pass_header.ensures.reads same refl refl refl refl refl
           c.requires.on;
       stepped = stepped_still hdu x _ old new c.in-Here.is refl true c.requires.next
-          (read_header old new c.pass_header.ensures.header blocks) same refl refl;
+          (read_header old new c.pass_header.ensures.header blocks) same refl refl refl refl;
     }
