@@ -1,11 +1,10 @@
 -- The space of a stage, and what makes it one.
 -- Source: this project's choice.
-use Rattle.std.specs.Prelude.{◌≡◌, ℕ, ◌+◌, ◌*◌, ◌/◌, ◌<◌, ◌≤◌, false, All, IfSome, IsSomeAnd, List, [], length, vec_len, take, slice_get, Option, Some, None}
+use Rattle.std.specs.Prelude.{◌≡◌, ℕ, ◌+◌, ◌*◌, ◌/◌, ◌<◌, ◌≤◌, All, IfSome, IsSomeAnd, [], length, vec_len, take, slice_get, Option, Some, None}
 use Rattle.arrayvec.specs.ArrayVec.{ArrayVec}
 use Rattle.psr_base.specs.Told.{Told}
 use Rattle.dada_model.specs.Fields.{HeaderText}
 use Rattle.ring_words.specs.declared.shape.RingShape.{RingShape}
-use Rattle.dada_hdu.specs.Passes.{data_shape}
 use Rattle.search_engine.specs.Engine.{most_fed}
 use Rattle.disk_feeder.specs.declared.feeder.Feeder.{Feeder}
 use Rattle.disk_feeder.specs.Feeder.{HasOpenFile, has_end, header_at, plan_at, block_size, FeederFeeds}

@@ -1,7 +1,7 @@
 -- Why the first headers of all transfers are not accepted: the first refusal of the headers' texts in order, and then
 -- of what they say in order.
 -- Source: PSRDADA manual (headers at the front of files); what is refused is this project's choice.
-use Rattle.std.specs.Prelude.{◌≡◌, ℕ, ◌<◌, ⊤, List, length, Ok}
+use Rattle.std.specs.Prelude.{◌≡◌, ℕ, ◌<◌, ⊤, length, Ok}
 use Rattle.dada_model.specs.Fields.{HeaderText, header_of, fields_of}
 use Rattle.dada_header.specs.declared.faults.HeaderFault.{HeaderFault}
 use Rattle.dada_header.specs.Faults.{IsHeaderRefusal}

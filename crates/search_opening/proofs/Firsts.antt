@@ -1,0 +1,171 @@
+-- The first headers that a feeder read, and those of the files.
+use Rattle.std.proofs.Common.{◌≡◌, ◌≢◌, ℕ, ◌+◌, ◌-◌, ◌<◌, inl, inr, List, [], length, get_or, slice_get, Option, Some, None, Ok, sym, ap, subst, ◌∙◌, arith}
+use Rattle.std.specs.Prelude.{slice_index_or}
+use Rattle.std.proofs.lemmas.Option.{slice_get-get_or}
+use Rattle.psr_base.specs.Told.{Told, OfFile, left_to_read}
+use Rattle.dada_model.specs.Fields.{HeaderText, header_of, fields_of}
+use Rattle.dada_model.specs.Observation.{Observation, observation_of, observation_in}
+use Rattle.dada_model.specs.Laws.{AcceptedByRows}
+use Rattle.obs_plan.specs.declared.fault.ObsFault.{ObsFault}
+use Rattle.obs_plan.specs.declared.fault.ObsFault.TheVariants.{Memory}
+use Rattle.obs_plan.specs.Faults.{IsRefusedFirst, ExplainsObservation}
+use Rattle.stream_model.specs.Walk.{FileStream, begin_of, data_of, fields_past, observation_at}
+use Rattle.stream_model.specs.WalkLaws.{AreStarts}
+use Rattle.disk_feeder.specs.declared.answers.FeedFault.{FeedFault}
+use Rattle.disk_feeder.specs.declared.answers.FeedFault.TheVariants as feed
+use Rattle.disk_feeder.specs.declared.answers.HeaderCause.TheVariants.{Fields}
+use Rattle.disk_feeder.specs.Plan.{Plan, stream_of, AreTold, begin_at}
+use Rattle.disk_feeder.specs.Sources.{RefusesFirst}
+use Rattle.search_opening.specs.declared.stop.OpeningStop.{OpeningStop}
+use Rattle.search_opening.specs.declared.stop.OpeningStop.TheVariants as stop
+use Rattle.search_opening.specs.First.{first_file, HasHeader, AreFirsts, AreObserved, LeavesData}
+use Rattle.search_opening.specs.Stops.{StopsFirsts, stop_of_fault}
+use Rattle.search_opening.proofs.Observed.{as_many, some_at, accepted_at}
+
+-- ---- files that are told
+
+-- the same files are told where the bytes under names stay
+pub still_told : (told told' : Told) (names names' files : List (List ℕ)) → told'.bytes_under ≡ told.bytes_under →
+    names' ≡ names → AreTold told names files → AreTold told' names' files
+still_told told told' names names' files bytes same are =
+    subst (λ ns. AreTold told' ns files) (sym same) (record {
+      count = are.count;
+      each = λ k within. ap (λ under. under (slice_index_or names k [])) bytes ∙ are.each k within;
+    })
+
+abbrev stream : List (List ℕ) → List ℕ → ℕ → FileStream
+stream files starts most = record { files = files; starts = starts; max_bytes = most }
+
+pub same_stream : (p q : Plan) (files : List (List ℕ)) → p.starts ≡ q.starts → p.max_bytes ≡ q.max_bytes →
+    stream_of p files ≡ stream_of q files
+same_stream p q files starts most =
+    ap (λ x. stream files x p.max_bytes) starts ∙ ap (stream files q.starts) most
+
+-- the first file of each transfer, of so many files, is told
+module _ (plan : Plan) (count : ℕ) (told : Told) (files : List (List ℕ)) (count_is : length plan.names ≡ count)
+    (starts : AreStarts plan.starts count) (are : AreTold told plan.names files) where
+  same_begin : (k : ℕ) → begin_at plan.starts count k ≡ begin_of (stream_of plan files) k
+  same_begin k = ap (λ n. slice_index_or plan.starts k n) (sym (are.count ∙ count_is))
+
+  first_told : (k : ℕ) → k < length plan.starts →
+      told.bytes_under (slice_index_or plan.names (begin_at plan.starts count k) [])
+      ≡ Some (first_file (stream_of plan files) k)
+  first_told k there =
+      let within = starts.within k there in
+      are.each (begin_at plan.starts count k) (omega (arith, within, count_is))
+      ∙ ap (λ i. Some (slice_index_or files i [])) (same_begin k)
+
+  -- why the first file of a transfer has no header
+  pub stops_text : (fault : FeedFault) (transfer : ℕ) → transfer < length plan.starts →
+      OfFile told (slice_index_or plan.names (begin_at plan.starts count transfer) [])
+      (λ file. RefusesFirst file (begin_at plan.starts count transfer) fault) →
+      ((k : ℕ) → k < transfer →
+      OfFile told (slice_index_or plan.names (begin_at plan.starts count k) []) HasHeader) →
+      StopsFirsts (stream_of plan files) (stop_of_fault fault)
+  stops_text feed.ReadFault transfer there refuses earlier = tt
+  stops_text (feed.BadHeader file cause) transfer there refuses earlier =
+      let w = stream_of plan files in
+      let r = refuses (first_file w transfer) (first_told transfer there) in
+      record {
+        transfer = transfer;
+        there = there;
+        is = r.0 ∙ same_begin transfer;
+        cause = r.1;
+        earlier = λ k before.
+            earlier k before (first_file w k) (first_told k (omega (arith, before, there)));
+      }
+
+  -- what is left of the first file of the last transfer
+  pub leaves_data : (told' : Told) →
+      ((k : ℕ) → k + 1 ≡ length plan.starts →
+      OfFile told (slice_index_or plan.names (begin_at plan.starts count k) [])
+      (λ file. left_to_read told' ≡ Some (data_of file))) →
+      LeavesData told' (stream_of plan files)
+  leaves_data told' left =
+      let some = starts.some in
+      let last = length plan.starts - 1 in
+      left last (omega (arith, some)) (first_file (stream_of plan files) last) (first_told last (omega (arith, some)))
+
+-- ---- what the headers say
+
+-- an accepted file says the observation of its header
+said_by : AcceptedByRows → (file : List ℕ) (header : HeaderText) (o : Observation) → header_of file ≡ Ok header →
+    observation_of (fields_of header.text) ≡ Ok o → observation_at file ≡ o
+unfolding observation_at
+said_by rows file header o has accepted =
+    let is : o ≡ observation_in (fields_of header.text) = ((rows (fields_of header.text) o).0 accepted).0 in
+    ap (λ r. observation_in (fields_past r)) has ∙ sym is
+
+module _ (w : FileStream) (headers : List HeaderText) (many : length headers ≡ length w.starts)
+    (have : (k : ℕ) (header : HeaderText) → slice_get headers k ≡ Some header →
+    header_of (first_file w k) ≡ Ok header) where
+  -- a header for each transfer
+  header_there : (k : ℕ) → k < length w.starts → (header : HeaderText) × (slice_get headers k ≡ Some header)
+  header_there k within =
+      let none : HeaderText = record { size = 0; text = [] } in
+      (get_or headers k none, slice_get-get_or headers k none (omega (arith, within, many)))
+
+  pub texts_of : (k : ℕ) → k < length w.starts → HasHeader (first_file w k)
+  texts_of k within =
+      let at = header_there k within in
+      (at.0, have k at.0 at.1)
+
+  -- their observations
+  pub are_firsts : AcceptedByRows → AreStarts w.starts (length w.files) → (observations : List (Option Observation)) →
+      AreObserved headers observations → AreFirsts w observations
+  are_firsts rows starts observations observed =
+      let all = as_many headers observations observed in
+      record {
+        walked = record {
+          starts = starts;
+          accepted = λ k within.
+              let at = header_there k within in
+              let o = some_at headers observations observed k (omega (arith, within, all, many)) in
+              record {
+                header = at.0;
+                observation = o.0;
+                is_header = have k at.0 at.1;
+                is_observation = accepted_at headers observations observed k o.0 at.0 o.1 at.1;
+              };
+        };
+        count = omega (arith, all, many);
+        each = λ k within.
+            let at = header_there k within in
+            let o = some_at headers observations observed k (omega (arith, within, all, many)) in
+            let said = said_by rows (first_file w k) at.0 o.0 (have k at.0 at.1)
+            (accepted_at headers observations observed k o.0 at.0 o.1 at.1) in
+            slice_get-get_or observations k None (omega (arith, within, all, many))
+            ∙ ap (λ (x : Option Observation). Some x) (o.1 ∙ ap (λ (x : Observation). Some x) (sym said));
+      }
+
+  -- why what the header of a transfer says is refused
+  pub stops_fields : (transfer file : ℕ) (cause : ObsFault) (header : HeaderText) (s : OpeningStop) →
+      transfer < length w.starts → file ≡ begin_of w transfer → slice_get headers transfer ≡ Some header →
+      ExplainsObservation (fields_of header.text) cause →
+      ((k : ℕ) (other : HeaderText) → k < transfer → slice_get headers k ≡ Some other →
+      (o : Observation) × (observation_of (fields_of other.text) ≡ Ok o)) →
+      (cause ≡ Memory → s ≡ stop.Memory) → (cause ≢ Memory → s ≡ stop.BadHeader file (Fields cause)) →
+      StopsFirsts w s
+  stops_fields transfer file cause header s there is at why earlier memory other = elim why [
+    | inl want ↦ subst (StopsFirsts w) (sym (memory want)) tt
+    | inr refused ↦
+        let differs : cause ≢ Memory = λ same. subst (IsRefusedFirst (fields_of header.text)) same refused in
+        subst (StopsFirsts w) (sym (other differs)) (record {
+          texts = texts_of;
+          transfer = transfer;
+          there = there;
+          is = is;
+          header = header;
+          has = have transfer header at;
+          cause = refused;
+          earlier = λ k before.
+              let here = header_there k (omega (arith, before, there)) in
+              let o = earlier k here.0 before here.1 in
+              record {
+                header = here.0;
+                observation = o.0;
+                is_header = have k here.0 here.1;
+                is_observation = o.1;
+              };
+        })
+  ]

@@ -1,0 +1,75 @@
+use Rattle.std.proofs.Common.{◌≡◌, ℕ, List, ◌<◌, length, sym, ap, subst, ◌∙◌, arith}
+use Rattle.std.specs.Prelude.{string_bytes, slice_index_or}
+use Rattle.std.proofs.lemmas.List.{length-map, get_or_default}
+use Rattle.std.proofs.lemmas.Option.{slice_get_within}
+use Rattle.stream_model.specs.WalkLaws.{AreStarts}
+use Rattle.disk_feeder.specs.Feeder.{plan_at}
+use Rattle.disk_feeder.specs.Plan.{Plan, stream_of, HasHeaders}
+use Rattle.search_opening.specs.Stops.{StopsFirsts}
+use Rattle.search_opening.proofs.Firsts.{still_told, same_stream, leaves_data, stops_text, stops_fields, are_firsts}
+use Rattle.search_opening.proofs.first.begin_feed.Goals as goal
+
+-- as many names as files, where transfers begin
+starts_are : (plan : Plan) (starts : List ℕ) (count : ℕ) → plan.starts ≡ starts → length plan.names ≡ count →
+    AreStarts starts (length plan.names) → AreStarts plan.starts count
+starts_are plan starts count same many are =
+    subst (AreStarts plan.starts) many (subst (λ s. AreStarts s (length plan.names)) (sym same) are)
+
+pub returns-in-Ok-observe_all-clause-firsts : goal.returns-in-Ok-observe_all-clause-firsts
+returns-in-Ok-observe_all-clause-firsts g c = λ files are.
+    let new = plan_at c.begin.new.self in
+    let kept = c.begin.ensures.plan in
+    let starts = starts_are new c.args.starts.now (length files) (kept.starts ∙ c.requires.plan) (sym are.count)
+    (subst (λ names. AreStarts c.args.starts.now (length names)) (sym kept.names) c.requires.begin) in
+    are_firsts (stream_of new files) new.headers
+    (kept.headers ∙ c.requires.headed ∙ ap length (sym (kept.starts ∙ c.requires.plan)))
+    (c.in-Ok.ensures.begun.headers files are) c.accepted_by_rows.ensures starts
+    c.in-Ok-observe_all.observations.items c.in-Ok-observe_all.ensures.observed
+
+pub returns-in-Ok-observe_all-clause-left : goal.returns-in-Ok-observe_all-clause-left
+returns-in-Ok-observe_all-clause-left g c = λ files are.
+    let old = plan_at c.args.feeder.now in
+    let names = c.args.feeder.now.stream.source.names.now in
+    let many = length-map names string_bytes in
+    leaves_data old (length names) (g.I.Inputs.told c.args.feeder.now.inputs.now) files many
+    (starts_are old c.args.starts.now (length names) c.requires.plan many c.requires.begin) are
+    (g.I.Inputs.told c.begin.new.self.inputs.now) c.in-Ok.ensures.left
+
+pub returns-in-Err-observe_all-clause-stopped : goal.returns-in-Err-observe_all-clause-stopped
+returns-in-Err-observe_all-clause-stopped g c = λ files are.
+    let old = plan_at c.args.feeder.now in
+    let new = plan_at c.begin.new.self in
+    let kept = c.begin.ensures.plan in
+    let are_now = still_told (g.I.Inputs.told c.args.feeder.now.inputs.now)
+    (g.I.Inputs.told c.begin.new.self.inputs.now) old.names new.names files c.begin.ensures.names kept.names are in
+    let same = same_stream new old files kept.starts kept.limit in
+    let have = subst (HasHeaders new) same (c.in-Ok.ensures.begun.headers files are_now) in
+    let many = kept.headers ∙ c.requires.headed ∙ ap length (sym c.requires.plan) in
+    let r = c.in-Err-observe_all.ensures.refused in
+    let within = slice_get_within new.headers c.in-Err-observe_all.refused.transfer r.header r.there in
+    let there : c.in-Err-observe_all.refused.transfer < length old.starts = omega (arith, within, many) in
+    stops_fields (stream_of old files) new.headers many have c.in-Err-observe_all.refused.transfer _
+    c.in-Err-observe_all.refused.cause r.header c.of_fields.result there
+    (ap (λ s. slice_index_or s c.in-Err-observe_all.refused.transfer 0) (sym c.requires.plan)
+    ∙ get_or_default old.starts c.in-Err-observe_all.refused.transfer 0 (length files) there)
+    r.there r.cause r.earlier c.of_fields.ensures.memory c.of_fields.ensures.other
+
+pub returns-in-Err-observe_all-clause-unread : goal.returns-in-Err-observe_all-clause-unread
+returns-in-Err-observe_all-clause-unread g c = λ want files are.
+    let old = plan_at c.args.feeder.now in
+    let names = c.args.feeder.now.stream.source.names.now in
+    let many = length-map names string_bytes in
+    leaves_data old (length names) (g.I.Inputs.told c.args.feeder.now.inputs.now) files many
+    (starts_are old c.args.starts.now (length names) c.requires.plan many c.requires.begin) are
+    (g.I.Inputs.told c.begin.new.self.inputs.now) c.in-Ok.ensures.left
+
+pub returns-in-Err-clause-stopped : goal.returns-in-Err-clause-stopped
+returns-in-Err-clause-stopped g c = λ files are.
+    let old = plan_at c.args.feeder.now in
+    let names = c.args.feeder.now.stream.source.names.now in
+    let many = length-map names string_bytes in
+    let r = c.in-Err.ensures.refused in
+    subst (λ s. StopsFirsts (stream_of old files) s) (sym c.of_fault.ensures)
+    (stops_text old (length names) (g.I.Inputs.told c.args.feeder.now.inputs.now) files many
+    (starts_are old c.args.starts.now (length names) c.requires.plan many c.requires.begin) are c.in-Err.fault r.transfer
+    r.there r.refuses r.earlier)

@@ -1,0 +1,54 @@
+use Rattle.std.proofs.Common.{◌≡◌, ℕ, ◌+◌, ◌*◌, ◌/◌, ◌<◌, ◌≤◌, length, take, get_or, sym, ap, subst, ◌∙◌}
+use Rattle.std.specs.Prelude.{vec_len}
+use Rattle.ring_words.specs.declared.shape.RingShape.{RingShape}
+use Rattle.dada_hdu.specs.Passes.{data_shape}
+use Rattle.search_engine.specs.Engine.{most_fed}
+use Rattle.disk_feeder.specs.Feeder.{header_at, plan_at, block_size, FeederFeeds}
+use Rattle.disk_feeder.specs.Turns.{sealed_blocks}
+use Rattle.disk_feeder.specs.Feeding.{header_entries}
+use Rattle.search_session.specs.declared.lane.Lane.{Lane}
+use Rattle.search_session.specs.Books.{HasLane}
+use Rattle.search_session.specs.Stages.{IsUnfed, HasRoomFor, recorder_count}
+use Rattle.search_opening.specs.Space.{HasRoom}
+use Rattle.search_opening.proofs.Staging.{first_entry, is_unread, has_room_for, some_weaker}
+use Rattle.search_opening.proofs.space.StageSpace.stage.Goals as goal
+
+pub returns-clause-on : goal.returns-clause-on
+returns-clause-on g c =
+    let feeder = c.args.feeder in
+    let told = g.I.Inputs.told feeder.inputs.now in
+    let writer = c.args.self.writer in
+    let is = c.requires.space_is in
+    let feeds = c.requires.feeds in
+    let shape : data_shape c.args.self.hdu ≡ c.requires.shape = is.rings.shape_is in
+    let headers = is.rings.sealed ∙ sym (first_entry (header_at feeder) c.requires.header feeds.first) in
+    record {
+      writes = is.rings.writes;
+      fits = record {
+        size = ap (λ (s : RingShape). s.size) shape ∙ feeds.size;
+        blocks = subst (λ (s : RingShape). (plan_at feeder).max_bytes / block_size feeder
+            + length (plan_at feeder).starts + 1 ≤ s.max_blocks) (sym shape) feeds.blocks;
+      };
+      file = feeds.file;
+      running = feeds.running;
+      feeding = subst (λ hs. FeederFeeds told feeder hs (sealed_blocks writer)) (sym headers)
+          (subst (λ bs. FeederFeeds told feeder (header_entries (take 1 (header_at feeder))) bs) (sym is.rings.no_data) feeds.feeds);
+      transfers = c.requires.transfers;
+      all_readers = is.rings.count ∙ ap (λ (s : RingShape). s.readers) (sym shape);
+      readers_count = is.rings.count ∙ c.requires.readers
+          ∙ ap (λ lanes. length lanes.items + recorder_count c.args.recorder) (sym is.lanes_are);
+      readers = λ s within.
+          let found = is.rings.fresh s within in
+          (found.0, found.1, is_unread c.args.self.hdu s found.0 found.2);
+      lanes = subst (λ lanes. (s : ℕ) → s < length lanes.items →
+          (lane : Lane) × HasLane lanes.items s lane × IsUnfed (length (plan_at feeder).starts) lane) (sym is.lanes_are) c.requires.engines;
+      spaces_count = is.spaces_count ∙ ap (λ lanes. length lanes.items) (sym is.lanes_are);
+      spaces = λ k d within. some_weaker (λ space. HasRoom c.requires.shape.size (vec_len space))
+          (λ space. HasRoomFor c.args.self.hdu (vec_len space))
+          (λ space room. has_room_for c.args.self.hdu c.requires.shape (vec_len space) shape room)
+          (get_or c.args.self.spaces.items k d) (is.spaces k d within);
+      recorder = c.requires.recorder_is;
+      few = subst (λ (s : RingShape). s.max_blocks * s.size ≤ most_fed) (sym shape) c.requires.few;
+      some_hand = is.some_hand;
+      empty = is.empty;
+    }
