@@ -45,7 +45,7 @@ use Rattle.search_session.proofs.Turning.{none_ended, not_below_zero}
 
 -- ---- what holds of all is true of one
 
-all_at : {A : Type 0} (P : A → Type 0) (xs : List A) (k : ℕ) (x : A) → slice_get xs k ≡ Some x → All P xs → P x
+pub all_at : {A : Type 0} (P : A → Type 0) (xs : List A) (k : ℕ) (x : A) → slice_get xs k ≡ Some x → All P xs → P x
 all_at P xs k x at all = subst P (get_or_from_slice_get xs k x x at) (all k x (slice_get_within xs k x at))
 
 pub if_some : {A : Type 0} (P : A → Type 0) (slot : Option A) (x : A) → slot ≡ Some x → IfSome slot P → P x
@@ -73,6 +73,19 @@ module _ {I F : Type 0} where
   feeder_ended hands h f ended at works =
       if_some (λ (x : FeedActor I). IsSome x.end) h.feeder f works (all_at HandEnded hands 0 h at ended).feeder
 
+  -- the recorder of the hand in which it works
+  hand_of : (slot : Option (Hand I F)) (x : RecordActor F) → recorder_of slot ≡ Some x →
+      (h : Hand I F) × (slot ≡ Some h) × (h.recorder ≡ Some x)
+  hand_of None x is = absurd cc
+  hand_of (Some h) x is = (h, refl, is)
+
+  pub recorder_ended : (hands : List (Hand I F)) (x : RecordActor F) → All HandEnded hands →
+      recorder_in hands ≡ Some x → IsSome x.end
+  recorder_ended hands x ended is =
+      let h = hand_of (slice_get hands (8 % length hands)) x is in
+      if_some (λ (y : RecordActor F). IsSome y.end) h.0.recorder x h.2
+      (all_at HandEnded hands (8 % length hands) h.0 h.1 ended).recorder
+
 module _ {I F : Type 0} (told : I → Told) (is_open : I → Type 0) (files_open : F → Type 0) (hdu : Hdu)
     (hands : List (Hand I F)) (on : All (HandOn told is_open files_open hdu) hands) where
   pub on_in : (x : ShardActor) → IsIn hands x → ShardOn hdu x
@@ -84,81 +97,11 @@ module _ {I F : Type 0} (told : I → Told) (is_open : I → Type 0) (files_open
   feeder_on h f at works = if_some (FeedOn told is_open hdu) h.feeder f works
       (all_at (HandOn told is_open files_open hdu) hands 0 h at on).feeder
 
-  -- the recorder of the hand in which it works
-  hand_of : (slot : Option (Hand I F)) (x : RecordActor F) → recorder_of slot ≡ Some x →
-      (h : Hand I F) × (slot ≡ Some h) × (h.recorder ≡ Some x)
-  hand_of None x is = absurd cc
-  hand_of (Some h) x is = (h, refl, is)
-
   pub recorder_on : (x : RecordActor F) → recorder_in hands ≡ Some x → RecordOn files_open hdu x
   recorder_on x is =
       let h = hand_of (slice_get hands (8 % length hands)) x is in
       if_some (RecordOn files_open hdu) h.0.recorder x h.2
       (all_at (HandOn told is_open files_open hdu) hands (8 % length hands) h.0 h.1 on).recorder
-
--- ---- the feeder's end
-
--- a feeder that runs and met no fault has met none since now
-since_now : {I : Type 0} (f : Feeder I) (k : ℕ) → has_end f ≡ None → FeederFaultless f → FeederSince k k f
-since_now f k running faultless = record {
-  count = omega arith;
-  due_failed = λ due. absurd (faultless.0 due);
-  end_failed = λ end. absurd (faultless.1 end);
-  due_quiet = λ end due. refl;
-  end_quiet = λ stop end other. refl;
-}
-
-module _ {I F : Type 0} (told : I → Told) (is_open is_calm : I → Type 0) (faults : I → ℕ) (hdu : Hdu)
-    (start f : FeedActor I) (n : ℕ) (moved : FeedMoved told is_calm faults n start f) (on : FeedOn told is_open hdu f)
-    (end : SessionEnd I F) (feed : f.end ≡ Some end.feed) (inputs : end.inputs.now ≡ f.part.inputs.now)
-    (sealed : sealed_at_end end.blocks ≡ sealed_blocks f.pass) where
-  part_end : has_end f.part ≡ Some end.feed
-  part_end = sym on.end ∙ feed
-
-  part_ended : IsEnded (plan_at f.part) (told f.part.inputs.now) (block_size f.part) (sealed_headers f.pass)
-      (sealed_blocks f.pass) end.feed
-  part_ended = subst (λ (e : Option FeedEnd). FeedsTo (stream_at f.part) (told f.part.inputs.now)
-      (sealed_headers f.pass) (sealed_blocks f.pass) e) part_end on.feeding
-
-  all_sealed : IsEnded (plan_at start.part) (told end.inputs.now) (block_size start.part) (sealed_headers f.pass)
-      (sealed_at_end end.blocks) end.feed
-  all_sealed =
-      subst (λ (p : Plan). IsEnded p (told end.inputs.now) (block_size start.part) (sealed_headers f.pass)
-      (sealed_at_end end.blocks) end.feed) moved.plan
-      (subst (λ (i : I). IsEnded (plan_at f.part) (told i) (block_size start.part) (sealed_headers f.pass)
-      (sealed_at_end end.blocks) end.feed) (sym inputs)
-      (subst (λ (z : ℕ). IsEnded (plan_at f.part) (told f.part.inputs.now) z (sealed_headers f.pass)
-      (sealed_at_end end.blocks) end.feed) moved.size
-      (subst (λ (l : List Entry). IsEnded (plan_at f.part) (told f.part.inputs.now) (block_size f.part)
-      (sealed_headers f.pass) l end.feed) (sym sealed) part_ended)))
-
-  pub feed_answers : end.inputs.ghost_name ≡ f.part.inputs.ghost_name → has_end start.part ≡ None →
-      FeederFaultless start.part → FeedAnswers told is_calm faults start.part end
-  feed_answers name running faultless =
-      let k = faults start.part.inputs.now in
-      let since = moved.inputs.since k (since_now start.part k running faultless) in
-      let same : faults end.inputs.now ≡ faults f.part.inputs.now = ap faults inputs in
-      let count = moved.inputs.count in
-      record {
-        same_reference = name ∙ moved.inputs.same_reference;
-        names = ap (λ (i : I). (told i).bytes_under) inputs ∙ moved.inputs.names;
-        count = omega arith;
-        calm = λ was. subst is_calm (sym inputs) (moved.inputs.calm was);
-        failed = λ is. subst (λ (m : ℕ). Rose k m) (sym same) (since.end_failed (part_end ∙ ap (λ (e : FeedEnd). Some e)
-            is));
-        quiet = λ other. same ∙ since.end_quiet end.feed part_end other;
-        serves = λ calm holds is. (moved.inputs.serves calm holds faultless).1
-            (part_end ∙ ap (λ (e : FeedEnd). Some e) is);
-        headers = sealed_headers f.pass;
-        sealed = all_sealed;
-      }
-
-  pub is_ending : FeedersEnd I → IsEnding (length (plan_at start.part).starts) (sealed_at_end end.blocks) end.feed
-  is_ending law =
-      subst (λ (p : Plan). IsEnding (length p.starts) (sealed_at_end end.blocks) end.feed) moved.plan
-      (subst (λ (l : List Entry). IsEnding (length (plan_at f.part).starts) l end.feed) (sym sealed)
-      (law f.part (told f.part.inputs.now) (sealed_headers f.pass) (sealed_blocks f.pass) end.feed on.feeding
-      part_end))
 
 -- ---- the shards' ends
 

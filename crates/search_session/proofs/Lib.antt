@@ -14,6 +14,9 @@ mod Taking
 mod Finishing
 mod Sealed
 mod RecordEnds
+mod Recordings
 mod Ending
 mod Leaving
+mod Holding
+mod FeedEnds
 mod Closing

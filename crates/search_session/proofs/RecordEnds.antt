@@ -1,6 +1,5 @@
 -- What a recorder comes to that cleared the blocks of a session from the beginning.
-use Rattle.std.proofs.Common.{◌≡◌, ◌≢◌, ℕ, ◌+◌, ◌≤◌, ⊤, Bool, true, false, List, [], ◌++◌, length, take, get_or, Option, Some, None, slice_get, refl, sym, ap, ◌∙◌, subst, arith}
-use Rattle.std.specs.List.{map}
+use Rattle.std.proofs.Common.{◌≡◌, ◌≢◌, ℕ, ◌+◌, ◌≤◌, Bool, true, false, List, [], ◌++◌, length, take, get_or, Option, Some, None, slice_get, refl, sym, ap, ◌∙◌, subst, arith}
 use Rattle.std.proofs.lemmas.List.{append-nil, get_or-map, get_or-take, length-map, length-take}
 use Rattle.std.proofs.lemmas.Option.{slice_get_within, slice_get-get_or, get_or_from_slice_get}
 use mathlib.Core.List.{IsPrefix}
@@ -69,38 +68,26 @@ complete plan feeds can headers blocks end up ending few =
 
 -- ---- the end
 
-prefix_of : (xs ys : List Entry) → Begins xs ys → IsPrefix xs ys
+pub prefix_of : (xs ys : List Entry) → Begins xs ys → IsPrefix xs ys
 prefix_of xs ys begins = (begins.0, sym begins.1)
+
+both : (b : Bool) → b ≡ false → b ≡ true → ⊥
+both b f t = cc
 
 whole_end : (n : ℕ) (blocks : List Entry) (end : FeedEnd) → IsEnding n blocks end → has_cut blocks ≡ false →
     (bytes : ℕ) × (end ≡ feed.Whole bytes)
 whole_end n blocks (feed.Whole bytes) ending uncut = (bytes, refl)
 whole_end n blocks feed.ReadFault ending uncut = absurd (both (has_cut blocks) uncut (ending.cut (λ bytes e. absurd cc)))
-  where
-    both : (b : Bool) → b ≡ false → b ≡ true → ⊥
-    both b f t = cc
 whole_end n blocks (feed.BadHeader file cause) ending uncut =
     absurd (both (has_cut blocks) uncut (ending.cut (λ bytes e. absurd cc)))
-  where
-    both : (b : Bool) → b ≡ false → b ≡ true → ⊥
-    both b f t = cc
 whole_end n blocks (feed.Gap file expected found) ending uncut =
     absurd (both (has_cut blocks) uncut (ending.cut (λ bytes e. absurd cc)))
-  where
-    both : (b : Bool) → b ≡ false → b ≡ true → ⊥
-    both b f t = cc
 whole_end n blocks (feed.TooLong limit) ending uncut =
     absurd (both (has_cut blocks) uncut (ending.cut (λ bytes e. absurd cc)))
-  where
-    both : (b : Bool) → b ≡ false → b ≡ true → ⊥
-    both b f t = cc
 
 cut_end : (n : ℕ) (blocks : List Entry) (end : FeedEnd) → IsEnding n blocks end → has_cut blocks ≡ true →
     (bytes : ℕ) → end ≢ feed.Whole bytes
 cut_end n blocks end ending cut bytes whole = both (has_cut blocks) (ending.uncut bytes whole) cut
-  where
-    both : (b : Bool) → b ≡ false → b ≡ true → ⊥
-    both b f t = cc
 
 module _ (plan : RecordPlan) (c : Cleared) (n : ℕ) (fed : FeedEnd) (ending : IsEnding n c.all_blocks fed) where
   abbrev all_files : List NamedBytes

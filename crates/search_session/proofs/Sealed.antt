@@ -1,6 +1,7 @@
 -- What was sealed of both rings by a feeder that ended.
-use Rattle.std.proofs.Common.{◌≡◌, ℕ, ◌+◌, ◌*◌, ◌<◌, ◌≤◌, List, ◌++◌, length, length-append, take, get_or, Some, slice_get, refl, sym, ap, ◌∙◌, arith}
-use Rattle.std.specs.List.{sum_by, sum, range_with_len, map}
+use Rattle.std.proofs.Common.{◌≡◌, ℕ, ◌+◌, ◌*◌, ◌<◌, ◌≤◌, List, [], ◌++◌, length, length-append, take, get_or, Some, slice_get, refl, sym, ap, ◌∙◌, arith}
+use Rattle.std.specs.Prelude.{map}
+use Rattle.std.specs.List.{sum_by, sum, range_with_len}
 use Rattle.std.proofs.lemmas.List.{take_all, length-take, length-take-le, length-map, same_lists}
 use Rattle.std.proofs.lemmas.List.Concat.{length-flat_map}
 use Rattle.std.proofs.lemmas.List.FromFn.{get_or-map-range_with_len, length-map-range_with_len}
@@ -86,22 +87,22 @@ sealed_few joined plan size before current sealed blocks (TooLong limit) s few =
 
 -- ---- the data of whole transfers
 
-module _ (have : StreamsHaveTransfers) (size : ℕ) (data : List (List ℕ)) (blocks : List Entry)
-    (is : blocks ≡ whole_stream size data) where
-  pub data_at : (k : ℕ) (bytes : List ℕ) → slice_get data k ≡ Some bytes → transfer_bytes k blocks ≡ bytes
-  data_at k bytes at = ap (λ (l : List Entry). transfer_bytes k l) is ∙ have.whole size data k bytes at
+module _ (have : StreamsHaveTransfers) (size : ℕ) (parts : List (List ℕ)) (blocks : List Entry)
+    (is : blocks ≡ whole_stream size parts) where
+  pub data_at : (k : ℕ) (bytes : List ℕ) → slice_get parts k ≡ Some bytes → transfer_bytes k blocks ≡ bytes
+  data_at k bytes at = ap (λ (l : List Entry). transfer_bytes k l) is ∙ have.whole size parts k bytes at
 
-  all_data : (n : ℕ) → length data ≡ n → map (λ k. transfer_bytes k blocks) (range_with_len 0 n) ≡ data
+  all_data : (n : ℕ) → length parts ≡ n → map (λ k. transfer_bytes k blocks) (range_with_len 0 n) ≡ parts
   all_data n long =
       let f : ℕ → List ℕ = λ k. transfer_bytes k blocks in
       let count = length-map-range_with_len f 0 n in
-      same_lists (map f (range_with_len 0 n)) data (count ∙ sym long) (λ k d near.
-      let less : k < length data = omega arith in
-      get_or-map-range_with_len f 0 n k k d (omega arith) refl
-      ∙ data_at k (get_or data k d) (slice_get-get_or data k d less))
+      same_lists (map f (range_with_len 0 n)) parts (count ∙ sym long) (λ k d near.
+      let less : k < length parts = omega arith in
+      get_or-map-range_with_len f 0 n k k d (omega arith) (omega arith)
+      ∙ data_at k (get_or parts k d) (slice_get-get_or parts k d less))
 
-  pub parts_are : (n : ℕ) → length data ≡ n →
-      sum_by (λ k. length (transfer_bytes k blocks)) (range_with_len 0 n) ≡ length (joined_data data)
+  pub parts_are : (n : ℕ) → length parts ≡ n →
+      sum_by (λ k. length (transfer_bytes k blocks)) (range_with_len 0 n) ≡ length (joined_data parts)
   unfolding joined_data
   parts_are n long =
       let f : ℕ → List ℕ = λ k. transfer_bytes k blocks in
@@ -110,7 +111,7 @@ module _ (have : StreamsHaveTransfers) (size : ℕ) (data : List (List ℕ)) (bl
       ∙ ap sum (sym (map-map len f (range_with_len 0 n)))
       ∙ sum-map len (map f (range_with_len 0 n))
       ∙ ap (sum_by len) (all_data n long)
-      ∙ sym (length-flat_map (λ (l : List ℕ). l) data)
+      ∙ sym (length-flat_map (λ (l : List ℕ). l) parts)
 
 -- ---- the data of a whole walk
 
@@ -127,7 +128,7 @@ walk_at s k near =
     let n = length s.starts in
     let count = length-map-range_with_len (transfer_data s) 0 n in
     slice_get-get_or (map (transfer_data s) (range_with_len 0 n)) k [] (omega arith)
-    ∙ ap (λ (l : List ℕ). Some l) (get_or-map-range_with_len (transfer_data s) 0 n k k [] near refl)
+    ∙ ap (λ (l : List ℕ). Some l) (get_or-map-range_with_len (transfer_data s) 0 n k k [] near (omega arith))
 
 pub walked_data : StreamsHaveTransfers → (s : FileStream) (size : ℕ) (blocks : List Entry) (bytes k : ℕ) →
     IsWalkEnd s size blocks (Whole bytes) → k < length s.starts → transfer_bytes k blocks ≡ transfer_data s k

@@ -74,25 +74,25 @@ pub record IsSearched {I F : Type 0} (end : SessionEnd I F) (transfer s : ℕ) (
       ((filterbank_of o (data_through end transfer)).spectra)
 
 -- Engine k of lane s searches shard s of the observation of transfer k, and was fed nothing.
-pub record AreLanesFor (search : Search) (o : ℕ → Observation) (transfers : ℕ)
+pub record AreLanesFor (settings : Search) (o : ℕ → Observation) (transfers : ℕ)
     (lanes : List (Option Lane)) : Type 0 where
   pub some : 0 < length lanes
-  pub shards : length lanes ≡ search.shards
+  pub shards : length lanes ≡ settings.shards
   pub each : (s k : ℕ) → s < length lanes → k < transfers →
       (lane : Lane) × HasLane lanes s lane
-      × ((e : EngineState) × HasEngine lane.engines.items k e × IsOpenedEngine e search s
+      × ((e : EngineState) × HasEngine lane.engines.items k e × IsOpenedEngine e settings s
       × StandsForData (o k) [] e)
 
 -- the books of the shards, which hold the parts of a candidate list
 abbrev pub shard_books : Search → List Candidate → List (Option BookContents)
-shard_books search list =
-    map (λ part. Some (book_of search.max_candidates part)) (shard_parts search list)
+shard_books settings list =
+    map (λ part. Some (book_of settings.max_candidates part)) (shard_parts settings list)
 
 -- The books hold the parts of the candidate lists of these data, transfer by transfer, and their spectra are counted.
-pub record HoldFound {I F : Type 0} (search : Search) (o : ℕ → Observation) (found : ℕ → List ℕ)
+pub record HoldFound {I F : Type 0} (settings : Search) (o : ℕ → Observation) (found : ℕ → List ℕ)
     (transfers : ℕ) (end : SessionEnd I F) : Type 0 where
   pub added : map (λ row. row.items) end.books.items
-      ≡ map (λ k. shard_books search (candidates_of (o k) search (found k)))
+      ≡ map (λ k. shard_books settings (candidates_of (o k) settings (found k)))
       (range_with_len 0 transfers)
   pub counted : end.spectra.items
       ≡ map (λ k. (filterbank_of (o k) (found k)).spectra) (range_with_len 0 transfers)
@@ -111,10 +111,10 @@ pub record ShardAnswers {I F : Type 0} (transfers : ℕ) (lanes : List (Option L
       (o : Observation) → HasLane lanes s lane → HasEngine lane.engines.items transfer e →
       StandsForData o [] e →
       IsSearched end transfer s o e
-  pub held : (search : Search) (o : ℕ → Observation) (found : ℕ → List ℕ) (bytes : ℕ) →
-      end.feed ≡ Whole bytes → AreLanesFor search o transfers lanes →
+  pub held : (settings : Search) (o : ℕ → Observation) (found : ℕ → List ℕ) (bytes : ℕ) →
+      end.feed ≡ Whole bytes → AreLanesFor settings o transfers lanes →
       ((k : ℕ) → k < transfers → data_through end k ≡ found k) →
-      HoldFound search o found transfers end
+      HoldFound settings o found transfers end
 
 -- ---- once the hands are empty
 

@@ -1,12 +1,17 @@
-use Rattle.std.proofs.Common.{◌≡◌, ℕ, ◌<◌, List, length, refl, sym, ap, ◌∙◌, subst}
+use Rattle.std.proofs.Common.{◌≡◌, ℕ, ◌<◌, List, length, refl, sym, ap, ◌∙◌, subst, arith}
+use Rattle.std.specs.Prelude.{IfSome}
 use Rattle.dada_hdu.specs.declared.hdu.Hdu.{Hdu}
 use Rattle.dada_hdu.specs.Passes.{data_shape}
+use Rattle.disk_feeder.specs.Turns.{sealed_headers}
 use Rattle.search_session.specs.declared.hand.Hand.{Hand}
-use Rattle.search_session.specs.Shards.{shard_number}
 use Rattle.search_session.specs.Hands.{HandMoved, EachMoved}
-use Rattle.search_session.specs.Stages.{feeder_of, transfers_of}
+use Rattle.search_session.specs.Stages.{IsFreshRecorder, RecorderWorks, feeder_of, transfers_of}
+use Rattle.search_session.specs.Books.{AreCounted}
+use Rattle.search_session.specs.Ends.{HaveEnginesIn}
+use Rattle.search_session.specs.Sessions.{IsEndOfRecorder}
 use Rattle.search_session.proofs.Rows.{all_written}
-use Rattle.search_session.proofs.Closing.{AllEnded, all_ended, engines_of, feed_is, shards_are}
+use Rattle.search_session.proofs.FeedEnds.{SessionLaws}
+use Rattle.search_session.proofs.Closing.{AllEnded, all_ended, engines_of, works_count, works_last, feed_is, shards_are, recorded_are}
 use Rattle.search_session.proofs.session.run_session.Goals as goal
 
 pub end_session-requires : goal.end_session-requires
@@ -20,6 +25,7 @@ end_session-requires g c =
     let seen = g.F.Files.seen in
     let stage = c.args.stage in
     let lanes = stage.lanes.items in
+    let recorder = stage.recorder in
     let start = feeder_of stage in
     let hdu : Hdu = c.staff-hdu.result.0 in
     let hands = c.staff-hdu.result.1 in
@@ -32,24 +38,33 @@ end_session-requires g c =
     let count : length two ≡ hands.len = rounds.moved.1.count ∙ c.as_mut_slice.ensures.len in
     let mid : c.as_mut_slice-2.result.now ≡ two =
     c.as_mut_slice-2.ensures.value ∙ all_written hands.len hands.items two count in
-    let ended : AllEnded told is_open is_calm faults files_open seen hdu start lanes two =
-    all_ended told is_open is_calm faults files_open seen hdu start lanes hands.items two n moved c.staff-hdu.ensures.feeder
-    c.staff-hdu.ensures.shards c.staff-hdu.ensures.lanes rounds.on rounds.ended in
-    let all : AllEnded told is_open is_calm faults files_open seen hdu start lanes c.as_mut_slice-2.result.now =
-    subst (λ (l : List H). AllEnded told is_open is_calm faults files_open seen hdu start lanes l) (sym mid) ended in
+    let ended : AllEnded told is_open is_calm faults files_open seen hdu start lanes recorder two =
+    all_ended told is_open is_calm faults files_open seen hdu start lanes recorder hands.items two n moved
+    c.staff-hdu.ensures.feeder c.staff-hdu.ensures.shards c.staff-hdu.ensures.lanes c.staff-hdu.ensures.recorder rounds.on
+    rounds.ended in
+    let all : AllEnded told is_open is_calm faults files_open seen hdu start lanes recorder c.as_mut_slice-2.result.now =
+    subst (λ (l : List H). AllEnded told is_open is_calm faults files_open seen hdu start lanes recorder l) (sym mid) ended in
+    let now = c.as_mut_slice-2.result.now in
     let value = c.len-shards.ensures.value in
+    let works : RecorderWorks seen recorder c.len-shards.result now =
+    subst (λ (k : ℕ). RecorderWorks seen recorder k now) (sym value) all.recorder_works in
+    let listed_is = works_count seen c.len-shards.result now recorder works in
+    let readers = c.requires.stage.readers_count in
+    let all_readers : length stage.readers.items ≡ (data_shape hdu).readers =
+    c.requires.stage.all_readers ∙ ap (λ (h : Hdu). (data_shape h).readers) (sym c.staff-hdu.ensures.hdu) in
     record {
       on = all.on;
       ended = all.ended;
       feeder = (all.feeder.hand, all.feeder.feeder, all.feeder.there, all.feeder.works);
       few = c.len-shards.ensures.fits;
       shards = λ s near. all.shards s (subst (λ (k : ℕ). s < k) value near);
-      all = value ∙ (sym c.requires.stage.readers_count ∙ (c.requires.stage.all_readers
-          ∙ ap (λ (h : Hdu). (data_shape h).readers) (sym c.staff-hdu.ensures.hdu)));
+      readers = omega arith;
+      last = works_last seen c.len-shards.result now recorder works;
       engines = (
         transfers_of stage,
-        λ x is near. engines_of told is_open is_calm faults files_open seen hdu start lanes c.as_mut_slice-2.result.now
-            (transfers_of stage) c.requires.stage.lanes all x is (subst (λ (k : ℕ). shard_number x < k) value near),
+        subst (λ (k : ℕ). HaveEnginesIn now k (transfers_of stage)) (sym value)
+            (engines_of told is_open is_calm faults files_open seen hdu start lanes recorder now (transfers_of stage)
+            c.requires.stage.lanes all),
       );
     }
 
@@ -64,6 +79,7 @@ returns g c =
     let seen = g.F.Files.seen in
     let stage = c.args.stage in
     let lanes = stage.lanes.items in
+    let recorder = stage.recorder in
     let start = feeder_of stage in
     let hdu : Hdu = c.staff-hdu.result.0 in
     let hands = c.staff-hdu.result.1 in
@@ -76,19 +92,40 @@ returns g c =
     let count : length two ≡ hands.len = rounds.moved.1.count ∙ c.as_mut_slice.ensures.len in
     let mid : c.as_mut_slice-2.result.now ≡ two =
     c.as_mut_slice-2.ensures.value ∙ all_written hands.len hands.items two count in
-    let ended : AllEnded told is_open is_calm faults files_open seen hdu start lanes two =
-    all_ended told is_open is_calm faults files_open seen hdu start lanes hands.items two n moved c.staff-hdu.ensures.feeder
-    c.staff-hdu.ensures.shards c.staff-hdu.ensures.lanes rounds.on rounds.ended in
-    let all : AllEnded told is_open is_calm faults files_open seen hdu start lanes c.as_mut_slice-2.result.now =
-    subst (λ (l : List H). AllEnded told is_open is_calm faults files_open seen hdu start lanes l) (sym mid) ended in
+    let ended : AllEnded told is_open is_calm faults files_open seen hdu start lanes recorder two =
+    all_ended told is_open is_calm faults files_open seen hdu start lanes recorder hands.items two n moved
+    c.staff-hdu.ensures.feeder c.staff-hdu.ensures.shards c.staff-hdu.ensures.lanes c.staff-hdu.ensures.recorder rounds.on
+    rounds.ended in
+    let all : AllEnded told is_open is_calm faults files_open seen hdu start lanes recorder c.as_mut_slice-2.result.now =
+    subst (λ (l : List H). AllEnded told is_open is_calm faults files_open seen hdu start lanes recorder l) (sym mid) ended in
+    let now = c.as_mut_slice-2.result.now in
     let value = c.len-shards.ensures.value in
+    let laws : SessionLaws g.row.I.Denot = record {
+      end = c.feeders_end.ensures;
+      first = c.headers_are_first.ensures;
+      recordings = c.recordings_end.ensures;
+      joined = c.bytes_are_joined.ensures;
+      counted = c.ends_are_counted.ensures;
+      transfers = c.streams_have_transfers.ensures;
+    } in
     let end = c.end_session.result in
     let e = c.end_session.ensures in
     let f = e.feeder all.feeder.hand all.feeder.feeder all.feeder.there all.feeder.works in
     record {
-      feed = feed_is told is_open is_calm faults files_open seen hdu start lanes c.as_mut_slice-2.result.now (transfers_of stage)
-          c.requires.stage.lanes all end f.0 f.1 f.3 f.2 c.requires.stage.running c.requires.faultless;
-      shards = shards_are told is_open is_calm faults files_open seen hdu start lanes c.as_mut_slice-2.result.now (transfers_of stage)
-          c.requires.stage.lanes all end f.0 f.1 f.3 c.feeders_end.ensures refl
+      feed = feed_is told is_open is_calm faults files_open seen hdu start lanes recorder now (transfers_of stage)
+          c.requires.stage.lanes all laws end f.0 f.1 f.3 f.2 c.requires.stage.running c.requires.faultless;
+      shards = shards_are told is_open is_calm faults files_open seen hdu start lanes recorder now (transfers_of stage)
+          c.requires.stage.lanes all laws end f.0 f.1 f.3 refl
+          (subst (λ (k : ℕ). AreCounted k (transfers_of stage) end.books.items end.spectra.items) value
+          (e.counted (transfers_of stage) (subst (λ (k : ℕ). HaveEnginesIn now k (transfers_of stage)) (sym value)
+          (engines_of told is_open is_calm faults files_open seen hdu start lanes recorder now (transfers_of stage)
+          c.requires.stage.lanes all))))
           (λ s near. e.shards s (subst (λ (k : ℕ). s < k) (sym value) near));
+      recorded = recorded_are told is_open is_calm faults files_open seen hdu start lanes recorder now
+          (transfers_of stage) c.requires.stage.lanes all laws end f.0 f.1 f.3
+          (subst (λ (h : Hdu). IfSome recorder (IsFreshRecorder files_open h)) (sym c.staff-hdu.ensures.hdu)
+          c.requires.stage.recorder)
+          (λ x is. subst (λ (k : ℕ). IsEndOfRecorder end k (sealed_headers all.feeder.feeder.pass) x) value
+          (e.recorder all.feeder.hand all.feeder.feeder x all.feeder.there all.feeder.works is))
+          e.no_recorder;
     }

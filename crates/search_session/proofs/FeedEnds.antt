@@ -1,0 +1,124 @@
+-- The feeder's end.
+use Rattle.std.proofs.Common.{◌≡◌, ℕ, ◌≤◌, List, length, Option, Some, None, refl, sym, ap, ◌∙◌, subst, arith}
+use Rattle.psr_base.specs.Count.{Rose}
+use Rattle.psr_base.specs.Told.{Told}
+use Rattle.ring_blocks.specs.declared.Entry.{Entry}
+use Rattle.ring_ends.specs.Ended.{sealed_at_end}
+use Rattle.dada_hdu.specs.declared.hdu.Hdu.{Hdu}
+use Rattle.stream_model.specs.Blocks.{joined_bytes}
+use Rattle.stream_model.specs.BlockLaws.{BytesAreJoined, EndsAreCounted, StreamsHaveTransfers}
+use Rattle.disk_feeder.specs.declared.answers.FeedEnd.{FeedEnd}
+use Rattle.disk_feeder.specs.declared.answers.FeedEnd.TheVariants.{Whole}
+use Rattle.disk_feeder.specs.declared.feeder.Feeder.{Feeder}
+use Rattle.disk_feeder.specs.Plan.{Plan, stream_of}
+use Rattle.disk_feeder.specs.Feeder.{plan_at, header_at, block_size, has_end, stream_at, FeederFaultless, FeederSince}
+use Rattle.disk_feeder.specs.Feeding.{HeadersKeepUp, IsEnding, IsEnded, FeedsTo, SealedAs, EndIs}
+use Rattle.disk_feeder.specs.Turns.{sealed_headers, sealed_blocks}
+use Rattle.disk_feeder.specs.Laws.{FeedersEnd, HeadersAreFirst}
+use Rattle.dada_recorder.specs.RecordingLaws.{RecordingsEnd}
+use Rattle.search_session.specs.declared.feed.FeedActor.{FeedActor}
+use Rattle.search_session.specs.declared.ended.SessionEnd.{SessionEnd}
+use Rattle.search_session.specs.Feeds.{FeedOn, FeedMoved}
+use Rattle.search_session.specs.Recorded.{headers_through}
+use Rattle.search_session.specs.Sessions.{FeedAnswers}
+use Rattle.search_session.proofs.Sealed.{headers_are, sealed_few, parts_are, walked_data}
+
+-- the laws that a session's end stands on
+pub record SessionLaws (I : Type 0) : Type 0 where
+  pub end : FeedersEnd I
+  pub first : HeadersAreFirst I
+  pub recordings : RecordingsEnd
+  pub joined : BytesAreJoined
+  pub counted : EndsAreCounted
+  pub transfers : StreamsHaveTransfers
+
+-- a feeder that runs and met no fault has met none since now
+since_now : {I : Type 0} (f : Feeder I) (k : ℕ) → has_end f ≡ None → FeederFaultless f → FeederSince k k f
+since_now f k running faultless = record {
+  count = omega arith;
+  due_failed = λ due. absurd (faultless.0 due);
+  end_failed = λ end. absurd (faultless.1 end);
+  due_quiet = λ end due. refl;
+  end_quiet = λ stop end other. refl;
+}
+
+module _ {I F : Type 0} (laws : SessionLaws I) (told : I → Told) (is_open is_calm : I → Type 0) (faults : I → ℕ)
+    (hdu : Hdu) (start f : FeedActor I) (n : ℕ) (moved : FeedMoved told is_calm faults n start f) (on : FeedOn told is_open hdu f)
+    (end : SessionEnd I F) (feed : f.end ≡ Some end.feed) (inputs : end.inputs.now ≡ f.part.inputs.now)
+    (sealed : sealed_at_end end.blocks ≡ sealed_blocks f.pass) where
+  part_end : has_end f.part ≡ Some end.feed
+  part_end = sym on.end ∙ feed
+
+  part_ended : IsEnded (plan_at f.part) (told f.part.inputs.now) (block_size f.part) (sealed_headers f.pass)
+      (sealed_blocks f.pass) end.feed
+  part_ended = subst (λ (e : Option FeedEnd). FeedsTo (stream_at f.part) (told f.part.inputs.now)
+      (sealed_headers f.pass) (sealed_blocks f.pass) e) part_end on.feeding
+
+  all_sealed : IsEnded (plan_at start.part) (told end.inputs.now) (block_size start.part) (sealed_headers f.pass)
+      (sealed_at_end end.blocks) end.feed
+  all_sealed =
+      subst (λ (p : Plan). IsEnded p (told end.inputs.now) (block_size start.part) (sealed_headers f.pass)
+      (sealed_at_end end.blocks) end.feed) moved.plan
+      (subst (λ (i : I). IsEnded (plan_at f.part) (told i) (block_size start.part) (sealed_headers f.pass)
+      (sealed_at_end end.blocks) end.feed) (sym inputs)
+      (subst (λ (z : ℕ). IsEnded (plan_at f.part) (told f.part.inputs.now) z (sealed_headers f.pass)
+      (sealed_at_end end.blocks) end.feed) moved.size
+      (subst (λ (l : List Entry). IsEnded (plan_at f.part) (told f.part.inputs.now) (block_size f.part)
+      (sealed_headers f.pass) l end.feed) (sym sealed) part_ended)))
+
+  pub keep_up : HeadersKeepUp (header_at start.part) (sealed_headers f.pass) (sealed_at_end end.blocks)
+  keep_up =
+      subst (λ (p : Plan). HeadersKeepUp p.headers (sealed_headers f.pass) (sealed_at_end end.blocks)) moved.plan
+      (subst (λ (l : List Entry). HeadersKeepUp (header_at f.part) (sealed_headers f.pass) l) (sym sealed)
+      (laws.first f.part (told f.part.inputs.now) (sealed_headers f.pass) (sealed_blocks f.pass) on.feeding))
+
+  pub headers_sealed : sealed_headers f.pass ≡ headers_through start.part end
+  headers_sealed = headers_are laws.counted (plan_at start.part) (block_size start.part) all_sealed.before
+      all_sealed.current (sealed_headers f.pass) (sealed_at_end end.blocks) end.feed all_sealed.sealed keep_up
+
+  pub all_few : length (joined_bytes (sealed_at_end end.blocks)) ≤ (plan_at start.part).max_bytes
+  all_few = sealed_few laws.joined (plan_at start.part) (block_size start.part) all_sealed.before
+      all_sealed.current (sealed_headers f.pass) (sealed_at_end end.blocks) end.feed all_sealed.sealed all_sealed.few
+
+  whole_sealed : (bytes : ℕ) → end.feed ≡ Whole bytes → SealedAs (plan_at start.part) (block_size start.part)
+      all_sealed.before all_sealed.current (sealed_headers f.pass) (sealed_at_end end.blocks) (Whole bytes)
+  whole_sealed bytes whole = subst (λ (e : FeedEnd). SealedAs (plan_at start.part) (block_size start.part)
+      all_sealed.before all_sealed.current (sealed_headers f.pass) (sealed_at_end end.blocks) e) whole all_sealed.sealed
+
+  pub feed_answers : end.inputs.ghost_name ≡ f.part.inputs.ghost_name → has_end start.part ≡ None →
+      FeederFaultless start.part → FeedAnswers told is_calm faults start.part end
+  feed_answers name running faultless =
+      let k = faults start.part.inputs.now in
+      let since = moved.inputs.since k (since_now start.part k running faultless) in
+      let same : faults end.inputs.now ≡ faults f.part.inputs.now = ap faults inputs in
+      let count = moved.inputs.count in
+      record {
+        same_reference = name ∙ moved.inputs.same_reference;
+        names = ap (λ (i : I). (told i).bytes_under) inputs ∙ moved.inputs.names;
+        count = omega arith;
+        calm = λ was. subst is_calm (sym inputs) (moved.inputs.calm was);
+        failed = λ is. subst (λ (m : ℕ). Rose k m) (sym same) (since.end_failed (part_end ∙ ap (λ (e : FeedEnd). Some e)
+            is));
+        quiet = λ other. same ∙ since.end_quiet end.feed part_end other;
+        serves = λ calm holds is. (moved.inputs.serves calm holds faultless).1
+            (part_end ∙ ap (λ (e : FeedEnd). Some e) is);
+        sealed = subst (λ (l : List Entry). IsEnded (plan_at start.part) (told end.inputs.now) (block_size start.part) l
+            (sealed_at_end end.blocks) end.feed) headers_sealed all_sealed;
+        few = all_few;
+        parts = λ bytes whole.
+            let s = whole_sealed bytes whole in
+            parts_are laws.transfers (block_size start.part) all_sealed.before (sealed_at_end end.blocks) s.0
+            (length (plan_at start.part).starts) s.1 ∙ sym s.3;
+        walked = λ bytes whole files are k near.
+            walked_data laws.transfers (stream_of (plan_at start.part) files) (block_size start.part)
+            (sealed_at_end end.blocks) bytes k
+            (subst (λ (e : FeedEnd). EndIs (stream_of (plan_at start.part) files) (block_size start.part)
+            (sealed_at_end end.blocks) e) whole (all_sealed.known files are)) near;
+      }
+
+  pub is_ending : IsEnding (length (plan_at start.part).starts) (sealed_at_end end.blocks) end.feed
+  is_ending =
+      subst (λ (p : Plan). IsEnding (length p.starts) (sealed_at_end end.blocks) end.feed) moved.plan
+      (subst (λ (l : List Entry). IsEnding (length (plan_at f.part).starts) l end.feed) (sym sealed)
+      (laws.end f.part (told f.part.inputs.now) (sealed_headers f.pass) (sealed_blocks f.pass) end.feed on.feeding
+      part_end))

@@ -1,0 +1,122 @@
+-- The books of a session hold what is found, as lists.
+use Rattle.std.proofs.Common.{◌≡◌, ℕ, ◌<◌, List, [], length, get_or, Option, Some, slice_get, option_map, refl, sym, ap, ◌∙◌, subst, arith}
+use Rattle.std.specs.Prelude.{All, map}
+use Rattle.std.specs.List.{range_with_len}
+use Rattle.std.proofs.lemmas.List.{length-map, same_lists}
+use Rattle.std.proofs.lemmas.List.FromFn.{get_or-map-range_with_len, length-map-range_with_len}
+use Rattle.std.proofs.lemmas.Option.{slice_get-map, slice_get_within, get_or_from_slice_get}
+use Rattle.std.proofs.lemmas.Simd.{map-map}
+use Rattle.arrayvec.specs.ArrayVec.{ArrayVec}
+use Rattle.dada_model.specs.Observation.{Observation}
+use Rattle.search_model.specs.declared.candidate.Candidate.{Candidate}
+use Rattle.search_model.specs.declared.search.Search.{Search}
+use Rattle.search_model.specs.Candidates.{shard_part}
+use Rattle.search_model.specs.CandidateLaws.{shard_parts}
+use Rattle.search_model.specs.Observed.{filterbank_of, candidates_of}
+use Rattle.candidate_book.specs.Book.{BookContents, book_of}
+use Rattle.search_engine.specs.Engine.{EngineState, StandsForData}
+use Rattle.search_session.specs.declared.lane.Lane.{Lane}
+use Rattle.search_session.specs.declared.ended.SessionEnd.{SessionEnd}
+use Rattle.search_session.specs.Lanes.{HasEngine}
+use Rattle.search_session.specs.Books.{HasLane, HasBook, AreCounted}
+use Rattle.search_session.specs.Sessions.{data_through, IsSearched, AreLanesFor, shard_books, HoldFound}
+use Rattle.search_session.proofs.Ending.{all_at}
+use Rattle.search_session.proofs.Taking.{some_searched}
+
+-- the book of a shard's part of a list
+abbrev part_book : Search → List Candidate → ℕ → Option BookContents
+part_book settings list s = Some (book_of settings.max_candidates (shard_part settings s list))
+
+book_count : (settings : Search) (list : List Candidate) → length (shard_books settings list) ≡ settings.shards
+book_count settings list =
+    length-map (shard_parts settings list) (λ part. Some (book_of settings.max_candidates part))
+    ∙ length-map-range_with_len (λ s. shard_part settings s list) 0 settings.shards
+
+book_there : (settings : Search) (list : List Candidate) (s : ℕ) (d : Option BookContents) → s < settings.shards →
+    get_or (shard_books settings list) s d ≡ part_book settings list s
+book_there settings list s d near =
+    ap (λ (l : List (Option BookContents)). get_or l s d)
+    (map-map (λ part. Some (book_of settings.max_candidates part)) (λ k. shard_part settings k list)
+    (range_with_len 0 settings.shards))
+    ∙ get_or-map-range_with_len (part_book settings list) 0 settings.shards s s d near (omega arith)
+
+module _ {I F : Type 0} (transfers : ℕ) (lanes : List (Option Lane)) (end : SessionEnd I F)
+    (counted : AreCounted (length lanes) transfers end.books.items end.spectra.items)
+    (searched : (transfer s : ℕ) (lane : Lane) (e : EngineState) (o : Observation) → HasLane lanes s lane →
+    HasEngine lane.engines.items transfer e → StandsForData o [] e → IsSearched end transfer s o e) (settings : Search)
+    (o : ℕ → Observation) (found : ℕ → List ℕ) (opened : AreLanesFor settings o transfers lanes)
+    (same : (k : ℕ) → k < transfers → data_through end k ≡ found k) where
+  abbrev list_at : ℕ → List Candidate
+  list_at k = candidates_of (o k) settings (found k)
+
+  -- what is known of the engine of a place
+  at_place : (s k : ℕ) → s < length lanes → k < transfers →
+      HasBook end.books.items k s (book_of settings.max_candidates (shard_part settings s (list_at k)))
+  at_place s k near below =
+      let h = opened.each s k near below in
+      let lane = h.0 in
+      let e = h.2.0 in
+      let is = (searched k s lane e (o k) h.1 h.2.1 h.2.3).book in
+      subst (λ (bytes : List ℕ). HasBook end.books.items k s (book_of settings.max_candidates
+      (shard_part settings s (candidates_of (o k) settings bytes)))) (same k below)
+      (subst (λ (n : ℕ). HasBook end.books.items k s (book_of settings.max_candidates
+      (shard_part settings n (candidates_of (o k) settings (data_through end k))))) h.2.2.shard_is
+      (subst (λ (q : Search). HasBook end.books.items k s (book_of q.max_candidates
+      (shard_part q e.shard (candidates_of (o k) q (data_through end k))))) h.2.2.search_is is))
+
+  -- a row has the books of all shards
+  row_is : (k : ℕ) → k < transfers → (row : ArrayVec (Option BookContents)) → slice_get end.books.items k ≡ Some row →
+      row.items ≡ shard_books settings (list_at k)
+  row_is k below row at =
+      let long = book_count settings (list_at k) in
+      let shards = opened.shards in
+      let count : length row.items ≡ length lanes =
+      all_at (λ (r : ArrayVec (Option BookContents)). length r.items ≡ length lanes) end.books.items k row at
+      counted.shards_count in
+      same_lists row.items (shard_books settings (list_at k)) (omega arith) (λ s d near.
+      let h = at_place s k (omega arith) below in
+      let this : h.0 ≡ row = inside h.0 row (sym h.1 ∙ at) in
+      get_or_from_slice_get row.items s (part_book settings (list_at k) s) d
+      (ap (λ (r : ArrayVec (Option BookContents)). slice_get r.items s) (sym this) ∙ h.2)
+      ∙ sym (book_there settings (list_at k) s d (omega arith)))
+    where
+      inside : (a b : ArrayVec (Option BookContents)) → Some a ≡ Some b → a ≡ b
+      inside a b e = cc
+
+  abbrev items_of : ArrayVec (Option BookContents) → List (Option BookContents)
+  items_of row = row.items
+
+  many_books : length end.books.items ≡ transfers
+  many_books = counted.books_count ∙ some_searched (length lanes) transfers opened.some
+
+  rows_are : map items_of end.books.items ≡ map (λ k. shard_books settings (list_at k)) (range_with_len 0 transfers)
+  rows_are =
+      let books = end.books.items in
+      let rows = map items_of books in
+      let all : ℕ → List (Option BookContents) = λ k. shard_books settings (list_at k) in
+      let many = many_books in
+      let long = length-map books items_of in
+      let ranged = length-map-range_with_len all 0 transfers in
+      same_lists rows (map all (range_with_len 0 transfers)) (omega arith) (λ k d near.
+      let below : k < transfers = omega arith in
+      let h = at_place 0 k opened.some below in
+      get_or_from_slice_get rows k (items_of h.0) d (slice_get-map items_of books k ∙ ap (option_map items_of) h.1)
+      ∙ row_is k below h.0 h.1
+      ∙ sym (get_or-map-range_with_len all 0 transfers k k d below (omega arith)))
+
+  spectra_are : end.spectra.items ≡ map (λ k. (filterbank_of (o k) (found k)).spectra) (range_with_len 0 transfers)
+  spectra_are =
+      let spectra = end.spectra.items in
+      let all : ℕ → ℕ = λ k. (filterbank_of (o k) (found k)).spectra in
+      let many = counted.spectra_count ∙ some_searched (length lanes) transfers opened.some in
+      let ranged = length-map-range_with_len all 0 transfers in
+      same_lists spectra (map all (range_with_len 0 transfers)) (omega arith) (λ k d near.
+      let below : k < transfers = omega arith in
+      let h = opened.each 0 k opened.some below in
+      let is = (searched k 0 h.0 h.2.0 (o k) h.1 h.2.1 h.2.3).spectra refl in
+      get_or_from_slice_get spectra k (all k) d
+      (is ∙ ap (λ (bytes : List ℕ). Some (filterbank_of (o k) bytes).spectra) (same k below))
+      ∙ sym (get_or-map-range_with_len all 0 transfers k k d below (omega arith)))
+
+  pub held_found : HoldFound settings o found transfers end
+  held_found = record { added = rows_are; counted = spectra_are }
