@@ -4,3 +4,4 @@ pub mod Firsts
 pub mod Runs
 pub mod Outcomes
 pub mod Laws
+pub mod Ends

@@ -75,8 +75,8 @@ pub record StopsAtFiles
 pub record SealsStream
     (task : Task) (words : List (List ℕ)) (told : Told) (blocks : Option Finished)
     (status : ℕ) : Type 0 where
-  pub none : Contains (2 ∷ 4 ∷ 5 ∷ []) status → blocks ≡ None
-  pub some : Contains (0 ∷ 7 ∷ 8 ∷ 9 ∷ 10 ∷ 11 ∷ []) status → IsSome blocks
+  pub none : blocks ≡ None → Contains (2 ∷ 3 ∷ 4 ∷ 5 ∷ 6 ∷ []) status
+  pub some : IsSome blocks → Contains (0 ∷ 3 ∷ 6 ∷ 7 ∷ 8 ∷ 9 ∷ 10 ∷ 11 ∷ []) status
   pub sealed : (b : Finished) → blocks ≡ Some b → status ≢ 6 → ForFiles task words told (λ s w.
       CanBegin task s w × (sealed_at_end b ≡ walk_stream s.size w))
   pub broken : (b : Finished) → blocks ≡ Some b → status ≡ 6 → ForFiles task words told (λ s w.

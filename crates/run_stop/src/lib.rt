@@ -3,10 +3,12 @@
 
 mod causes;
 mod conversions;
+mod ends;
 mod laws;
 mod line;
 mod stop;
 
 pub use causes::{PlanCause, RecordingCause};
+pub use ends::{end_after_whole, end_at_stop, end_before_session};
 pub use laws::{runs_record_blocks, whole_runs_record_data};
 pub use stop::Stop;

@@ -1,0 +1,108 @@
+-- How a run of either program ends, before its session or after it, and what its exit status then says.
+-- Source: this project's choice.
+use Rattle.std.specs.Prelude.{◌≡◌, ◌≢◌, ℕ, ◌≤◌, ◌<◌, ⊤, true, false, List, [], ◌∷◌, Option, Some, None, Contains}
+use Rattle.psr_base.specs.Count.{Rose}
+use Rattle.psr_base.specs.Told.{Told}
+use Rattle.psr_base.specs.Made.{FilesSeen}
+use Rattle.ring_ends.specs.declared.finished.Finished.{Finished}
+use Rattle.ring_ends.specs.Ended.{sealed_at_end}
+use Rattle.search_words.specs.Settings.{SettingsSeen}
+use Rattle.stream_model.specs.Walk as walk
+use Rattle.stream_model.specs.Walk.{FileStream, walk_stop}
+use Rattle.disk_feeder.specs.declared.answers.FeedEnd.{FeedEnd}
+use Rattle.disk_feeder.specs.Feeding.{EndIs}
+use Rattle.dada_recorder.specs.declared.answers.RecordEnd.{RecordEnd}
+use Rattle.dada_recorder.specs.declared.answers.RecordEnd.TheVariants as recorder
+use Rattle.run_stop.specs.declared.stop.Stop.{Stop}
+use Rattle.run_stop.specs.declared.stop.Stop.TheVariants.{Words, Value, Header, Plan, Recording, Memory, ReadFault, Gap, TooLong, TooMany, SinkFault, FileFault}
+use Rattle.run_stop.specs.Texts.{status_of}
+use Rattle.run_stop.specs.Conversions.{stop_of_feed}
+use Rattle.run_stop.specs.Runs.{Task, Searching, Says, ForFiles, CanBegin, RefusesFirst, RefusesSearch, RefusesToRecord, IsStopOf}
+use Rattle.run_stop.specs.Outcomes.{StopsAtFiles, SealsStream, RecordsFiles, MadeAll, MadeFront, files_of_stream}
+
+-- ---- before the session
+
+-- what a stop that comes before the session says of the files; others don't come there
+abbrev pub SaysBefore : Task → SettingsSeen → FileStream → Stop → Type 0
+SaysBefore task s w Words = ⊤
+SaysBefore task s w (Value opt) = ⊤
+SaysBefore task s w (Header file cause) = RefusesFirst w file cause
+SaysBefore task s w (Plan cause) = (task ≡ Searching) × RefusesSearch s.search w cause
+SaysBefore task s w (Recording cause) = RefusesToRecord task s w cause
+SaysBefore task s w Memory = ⊤
+SaysBefore task s w ReadFault = ⊤
+SaysBefore task s w _ = ⊥
+
+abbrev pub ComesBefore : Stop → Type 0
+ComesBefore (Gap file expected found) = ⊥
+ComesBefore (TooLong limit) = ⊥
+ComesBefore (TooMany count limit) = ⊥
+ComesBefore SinkFault = ⊥
+ComesBefore FileFault = ⊥
+ComesBefore _ = ⊤
+
+pub record StopsBefore (task : Task) (words : List (List ℕ)) (told : Told) (stop : Stop) :
+    Type 0 where
+  pub kind : ComesBefore stop
+  pub says : ForFiles task words told (λ s w. SaysBefore task s w stop)
+
+-- what the exit status then says
+pub record EndsAt
+    (task : Task) (words : List (List ℕ)) (told : Told) (blocks : Option Finished)
+    (before after : FilesSeen) (status : ℕ) : Type 0 where
+  pub stopped : StopsAtFiles task words told blocks status
+  pub sealed : SealsStream task words told blocks status
+  pub recorded : RecordsFiles task words told blocks before after status
+
+abbrev pub EndBeforeSession : Type 0
+EndBeforeSession = (task : Task) (words : List (List ℕ)) (told : Told) (stop : Stop) →
+    StopsBefore task words told stop →
+    ((seen : FilesSeen) → EndsAt task words told None seen seen (status_of stop))
+    × ForFiles task words told (λ s w. IsStopOf task s w stop)
+
+-- ---- after it
+
+-- a session went through: nothing stood against it, and its feeder ended so
+pub record IsFed
+    (task : Task) (words : List (List ℕ)) (told : Told) (blocks : Finished) (feed : FeedEnd)
+    : Type 0 where
+  pub size : (s : SettingsSeen) → Says task words s → 0 < s.size
+  pub begun : ForFiles task words told (λ s w. CanBegin task s w)
+  pub walked : ForFiles task words told (λ s w. EndIs w s.size (sealed_at_end blocks) feed)
+
+-- and recorded what went through, or a front of it where a call failed; or was to record nothing
+pub record IsRecorded
+    (task : Task) (words : List (List ℕ)) (told : Told) (blocks : Finished)
+    (answer : Option RecordEnd) (before after : FilesSeen) : Type 0 where
+  pub unrecorded : (s : SettingsSeen) → Says task words s → s.recording ≡ false →
+      (after ≡ before) × (answer ≢ Some recorder.FileFault)
+  pub all : answer ≢ Some recorder.FileFault → ForFiles task words told (λ s w. s.recording ≡ true →
+      MadeAll (files_of_stream w s.file_size (sealed_at_end blocks)) before after)
+  pub front : answer ≡ Some recorder.FileFault → ForFiles task words told (λ s w. s.recording ≡ true →
+      MadeFront (files_of_stream w s.file_size (sealed_at_end blocks)) before after)
+  pub rose : answer ≡ Some recorder.FileFault → Rose before.faults after.faults
+  pub quiet : answer ≢ Some recorder.FileFault → after.faults ≡ before.faults
+  pub count : before.faults ≤ after.faults
+
+-- the feeder was stopped
+abbrev pub EndAtStop : Type 0
+EndAtStop = (task : Task) (words : List (List ℕ)) (told : Told) (blocks : Finished)
+    (feed : FeedEnd) (answer : Option RecordEnd) (before after : FilesSeen) (stop : Stop) →
+    IsFed task words told blocks feed → IsRecorded task words told blocks answer before after →
+    stop_of_feed feed ≡ Some stop →
+    EndsAt task words told (Some blocks) before after (status_of stop)
+    × ForFiles task words told (λ s w. IsStopOf task s w stop)
+
+-- all data were sealed: the text and the files are there, or what was missing first
+pub record IsLate (answer : Option RecordEnd) (status : ℕ) : Type 0 where
+  pub known : Contains (0 ∷ 9 ∷ 10 ∷ 11 ∷ []) status
+  pub all : status ≡ 0 → answer ≢ Some recorder.FileFault
+  pub failed : status ≡ 11 → answer ≡ Some recorder.FileFault
+
+abbrev pub EndAfterWhole : Type 0
+EndAfterWhole = (task : Task) (words : List (List ℕ)) (told : Told) (blocks : Finished)
+    (feed : FeedEnd) (answer : Option RecordEnd) (before after : FilesSeen) (status : ℕ) →
+    IsFed task words told blocks feed → IsRecorded task words told blocks answer before after →
+    stop_of_feed feed ≡ None → IsLate answer status →
+    EndsAt task words told (Some blocks) before after status
+    × ForFiles task words told (λ s w. CanBegin task s w × (walk_stop w ≡ walk.Whole))
