@@ -8,7 +8,7 @@ ghost use Rattle.search_session.specs.declared.hand.Hand.{Hand as Working};
 ghost use Rattle.search_session.specs.declared.feed.FeedActor.{FeedActor as Feeding};
 ghost use Rattle.search_session.specs.declared.shard.ShardActor.{ShardActor as Shard};
 ghost use Rattle.search_session.specs.declared.record.RecordActor.{RecordActor as Recording};
-ghost use Rattle.search_session.specs.Hands.{HandOn, HandMoved, HandEnded, EachMoved};
+ghost use Rattle.search_session.specs.Hands.{HandOn, HandMoved, HandRetired, HandEnded, EachMoved};
 ghost use Rattle.search_session.specs.Shards.{shard_number};
 ghost use Rattle.search_session.specs.Gathering.{recorder_in};
 ghost use Rattle.search_session.specs.Stages.{StageOn, HasShard, IsIn, transfers_of};
@@ -44,6 +44,7 @@ fn run_rounds<I: Inputs + Send, F: Files + Send, G: Gate + Sync, R: Threads + Wa
     requires { All (HandOn I.told I.is_open F.is_open hdu.now) hands.old }
     ensures on { All (HandOn I.told I.is_open F.is_open hdu.now) hands.new }
     ensures ended { All HandEnded hands.new }
+    ensures retired { All HandRetired hands.new }
     ensures moved { (n : ℕ) × EachMoved (HandMoved I.told I.is_calm I.faults F.seen n)
         hands.old hands.new }
 {

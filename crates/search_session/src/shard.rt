@@ -1,5 +1,5 @@
 //! A shard: the engines of a part of the search, and the reader that feeds them.
-ghost use Rattle.std.specs.Prelude.{◌≡◌, ◌+◌, ◌≤◌, false, true, length, if◌then◌else◌, nat_le, ◌||◌};
+ghost use Rattle.std.specs.Prelude.{◌≡◌, false, true, if◌then◌else◌, nat_le, ◌||◌};
 ghost use Rattle.stream_model.specs.Blocks.{is_end, is_cut};
 
 use crate::lane::{Lane, feed_engine};

@@ -46,6 +46,7 @@ returns-then-all_ended g c =
     record {
       on = c.retire_ended.ensures.on;
       ended = c.all_ended.ensures c.if-all_ended.true;
+      retired = c.retire_ended.ensures.retired;
       moved = (
         before.0 + c.args.turns + 0,
         hands_more told is_open is_calm faults files_open seen (before.0 + c.args.turns) 0
