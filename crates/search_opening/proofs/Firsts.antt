@@ -1,25 +1,27 @@
 -- The first headers that a feeder read, and those of the files.
-use Rattle.std.proofs.Common.{◌≡◌, ◌≢◌, ℕ, ◌+◌, ◌-◌, ◌<◌, inl, inr, List, [], length, get_or, slice_get, Option, Some, None, Ok, sym, ap, subst, ◌∙◌, arith}
+use Rattle.std.proofs.Common.{◌≡◌, ℕ, ◌+◌, ◌-◌, ◌<◌, inl, inr, List, [], length, get_or, slice_get, Option, Some, None, Ok, sym, ap, subst, ◌∙◌, arith}
 use Rattle.std.specs.Prelude.{slice_index_or}
 use Rattle.std.proofs.lemmas.Option.{slice_get-get_or}
 use Rattle.psr_base.specs.Told.{Told, OfFile, left_to_read}
 use Rattle.dada_model.specs.Fields.{HeaderText, header_of, fields_of}
 use Rattle.dada_model.specs.Observation.{Observation, observation_of, observation_in}
 use Rattle.dada_model.specs.Laws.{AcceptedByRows}
+use Rattle.dada_header.specs.declared.faults.HeaderFault.{HeaderFault}
+use Rattle.dada_header.specs.declared.faults.HeaderFault.TheVariants as header
+use Rattle.dada_header.specs.Faults.{IsHeaderRefusal}
 use Rattle.obs_plan.specs.declared.fault.ObsFault.{ObsFault}
-use Rattle.obs_plan.specs.declared.fault.ObsFault.TheVariants.{Memory}
-use Rattle.obs_plan.specs.Faults.{IsRefusedFirst, ExplainsObservation}
+use Rattle.obs_plan.specs.declared.fault.ObsFault.TheVariants as obs
+use Rattle.obs_plan.specs.Faults.{ExplainsObservation}
 use Rattle.stream_model.specs.Walk.{FileStream, begin_of, data_of, fields_past, observation_at}
 use Rattle.stream_model.specs.WalkLaws.{AreStarts}
 use Rattle.disk_feeder.specs.declared.answers.FeedFault.{FeedFault}
 use Rattle.disk_feeder.specs.declared.answers.FeedFault.TheVariants as feed
-use Rattle.disk_feeder.specs.declared.answers.HeaderCause.TheVariants.{Fields}
 use Rattle.disk_feeder.specs.Plan.{Plan, stream_of, AreTold, begin_at}
 use Rattle.disk_feeder.specs.Sources.{RefusesFirst}
-use Rattle.search_opening.specs.declared.stop.OpeningStop.{OpeningStop}
-use Rattle.search_opening.specs.declared.stop.OpeningStop.TheVariants as stop
-use Rattle.search_opening.specs.First.{first_file, HasHeader, AreFirsts, AreObserved, LeavesData}
-use Rattle.search_opening.specs.Stops.{StopsFirsts, stop_of_fault}
+use Rattle.run_stop.specs.declared.stop.Stop.{Stop}
+use Rattle.run_stop.specs.Conversions.{stop_of_begin, stop_of_fields}
+use Rattle.run_stop.specs.Firsts.{first_file, HasHeader, LeavesData, RefusesText, RefusesFields}
+use Rattle.search_opening.specs.First.{StopsFirsts, AreFirsts, AreObserved}
 use Rattle.search_opening.proofs.Observed.{as_many, some_at, accepted_at}
 
 -- ---- files that are told
@@ -56,14 +58,13 @@ module _ (plan : Plan) (count : ℕ) (told : Told) (files : List (List ℕ)) (co
       ∙ ap (λ i. Some (slice_index_or files i [])) (same_begin k)
 
   -- why the first file of a transfer has no header
-  pub stops_text : (fault : FeedFault) (transfer : ℕ) → transfer < length plan.starts →
+  refused_text : (file : ℕ) (cause : HeaderFault) (transfer : ℕ) → transfer < length plan.starts →
       OfFile told (slice_index_or plan.names (begin_at plan.starts count transfer) [])
-      (λ file. RefusesFirst file (begin_at plan.starts count transfer) fault) →
+      (λ bytes. (file ≡ begin_at plan.starts count transfer) × IsHeaderRefusal bytes cause) →
       ((k : ℕ) → k < transfer →
       OfFile told (slice_index_or plan.names (begin_at plan.starts count k) []) HasHeader) →
-      StopsFirsts (stream_of plan files) (stop_of_fault fault)
-  stops_text feed.ReadFault transfer there refuses earlier = tt
-  stops_text (feed.BadHeader file cause) transfer there refuses earlier =
+      RefusesText (stream_of plan files) file cause
+  refused_text file cause transfer there refuses earlier =
       let w = stream_of plan files in
       let r = refuses (first_file w transfer) (first_told transfer there) in
       record {
@@ -74,6 +75,21 @@ module _ (plan : Plan) (count : ℕ) (told : Told) (files : List (List ℕ)) (co
         earlier = λ k before.
             earlier k before (first_file w k) (first_told k (omega (arith, before, there)));
       }
+
+  pub stops_text : (fault : FeedFault) (transfer : ℕ) → transfer < length plan.starts →
+      OfFile told (slice_index_or plan.names (begin_at plan.starts count transfer) [])
+      (λ file. RefusesFirst file (begin_at plan.starts count transfer) fault) →
+      ((k : ℕ) → k < transfer →
+      OfFile told (slice_index_or plan.names (begin_at plan.starts count k) []) HasHeader) →
+      StopsFirsts (stream_of plan files) (stop_of_begin fault)
+  stops_text feed.ReadFault transfer there refuses earlier = tt
+  stops_text (feed.BadHeader file (header.Short had)) transfer there refuses earlier =
+      refused_text file (header.Short had) transfer there refuses earlier
+  stops_text (feed.BadHeader file (header.NotText place)) transfer there refuses earlier =
+      refused_text file (header.NotText place) transfer there refuses earlier
+  stops_text (feed.BadHeader file header.BadSize) transfer there refuses earlier =
+      refused_text file header.BadSize transfer there refuses earlier
+  stops_text (feed.BadHeader file header.Memory) transfer there refuses earlier = tt
 
   -- what is left of the first file of the last transfer
   pub leaves_data : (told' : Told) →
@@ -95,6 +111,16 @@ unfolding observation_at
 said_by rows file header o has accepted =
     let is : o ≡ observation_in (fields_of header.text) = ((rows (fields_of header.text) o).0 accepted).0 in
     ap (λ r. observation_in (fields_past r)) has ∙ sym is
+
+stops_cause : (w : FileStream) (file : ℕ) (cause : ObsFault) → RefusesFields w file cause →
+    StopsFirsts w (stop_of_fields file cause)
+stops_cause w file (obs.Missing key) refuses = refuses
+stops_cause w file (obs.BadNumber key) refuses = refuses
+stops_cause w file (obs.OutOfProfile key) refuses = refuses
+stops_cause w file (obs.OutOfRange key) refuses = refuses
+stops_cause w file (obs.TooNarrow bw nchan) refuses = refuses
+stops_cause w file (obs.Differs key) refuses = refuses
+stops_cause w file obs.Memory refuses = tt
 
 module _ (w : FileStream) (headers : List HeaderText) (many : length headers ≡ length w.starts)
     (have : (k : ℕ) (header : HeaderText) → slice_get headers k ≡ Some header →
@@ -139,18 +165,16 @@ module _ (w : FileStream) (headers : List HeaderText) (many : length headers ≡
       }
 
   -- why what the header of a transfer says is refused
-  pub stops_fields : (transfer file : ℕ) (cause : ObsFault) (header : HeaderText) (s : OpeningStop) →
+  pub stops_fields : (transfer file : ℕ) (cause : ObsFault) (header : HeaderText) (s : Stop) →
       transfer < length w.starts → file ≡ begin_of w transfer → slice_get headers transfer ≡ Some header →
       ExplainsObservation (fields_of header.text) cause →
       ((k : ℕ) (other : HeaderText) → k < transfer → slice_get headers k ≡ Some other →
       (o : Observation) × (observation_of (fields_of other.text) ≡ Ok o)) →
-      (cause ≡ Memory → s ≡ stop.Memory) → (cause ≢ Memory → s ≡ stop.BadHeader file (Fields cause)) →
-      StopsFirsts w s
-  stops_fields transfer file cause header s there is at why earlier memory other = elim why [
-    | inl want ↦ subst (StopsFirsts w) (sym (memory want)) tt
-    | inr refused ↦
-        let differs : cause ≢ Memory = λ same. subst (IsRefusedFirst (fields_of header.text)) same refused in
-        subst (StopsFirsts w) (sym (other differs)) (record {
+      s ≡ stop_of_fields file cause → StopsFirsts w s
+  stops_fields transfer file cause header s there is at why earlier stop_is =
+      subst (StopsFirsts w) (sym stop_is) (elim why [
+        | inl want ↦ subst (λ c. StopsFirsts w (stop_of_fields file c)) (sym want) tt
+        | inr refused ↦ stops_cause w file cause (record {
           texts = texts_of;
           transfer = transfer;
           there = there;
@@ -168,4 +192,4 @@ module _ (w : FileStream) (headers : List HeaderText) (many : length headers ≡
                 is_observation = o.1;
               };
         })
-  ]
+      ])

@@ -1,29 +1,25 @@
 -- The first headers of all transfers, in order: their observations, or the first header that is refused.
 -- Source: PSRDADA manual (a transfer is what one header describes); what is refused is this project's choice.
-use Rattle.std.specs.Prelude.{◌≡◌, ◌<◌, ℕ, ◌-◌, List, length, map, Option, Some, Ok, slice_get}
-use Rattle.psr_base.specs.Told.{Told, left_to_read}
-use Rattle.dada_model.specs.Fields.{HeaderText, fields_of, header_of}
+use Rattle.std.specs.Prelude.{◌≡◌, ◌<◌, ℕ, ⊤, List, length, map, Option, Some, Ok, slice_get}
+use Rattle.psr_base.specs.Told.{Told}
+use Rattle.dada_model.specs.Fields.{HeaderText, fields_of}
 use Rattle.dada_model.specs.Observation.{Observation, observation_of}
 use Rattle.obs_plan.specs.Faults.{ExplainsObservation}
-use Rattle.stream_model.specs.Walk.{FileStream, file_at, begin_of, data_of, observation_at}
+use Rattle.stream_model.specs.Walk.{FileStream, observation_at}
 use Rattle.stream_model.specs.WalkLaws.{AreWalked}
 use Rattle.disk_feeder.specs.Plan.{Plan, stream_of, AreTold}
+use Rattle.run_stop.specs.declared.stop.Stop.{Stop}
+use Rattle.run_stop.specs.declared.stop.Stop.TheVariants.{Header, Memory, ReadFault}
+use Rattle.run_stop.specs.Firsts.{first_file}
+use Rattle.run_stop.specs.Runs.{RefusesFirst}
 use Rattle.search_opening.specs.declared.first.RefusedHeader.{RefusedHeader}
 
 -- ---- the files
-
--- the first file of a transfer
-abbrev pub first_file : FileStream → ℕ → List ℕ
-first_file w transfer = file_at w (begin_of w transfer)
 
 -- P holds of the files as a walk sees them, where the bytes of all are told
 abbrev pub OfFiles : Told → Plan → (FileStream → Type 0) → Type 0
 OfFiles told plan P = (files : List (List ℕ)) → AreTold told plan.names files →
     P (stream_of plan files)
-
--- the file has a header
-abbrev pub HasHeader : List ℕ → Type 0
-HasHeader file = (header : HeaderText) × (header_of file ≡ Ok header)
 
 -- all first headers are accepted, and these are their observations
 pub record AreFirsts (w : FileStream) (observations : List (Option Observation)) : Type 0 where
@@ -32,9 +28,12 @@ pub record AreFirsts (w : FileStream) (observations : List (Option Observation))
   pub each : (k : ℕ) → k < length w.starts →
       slice_get observations k ≡ Some (Some (observation_at (first_file w k)))
 
--- what is left to read are the data of the last transfer's first file: no byte past a first header was read
-abbrev pub LeavesData : Told → FileStream → Type 0
-LeavesData told w = left_to_read told ≡ Some (data_of (first_file w (length w.starts - 1)))
+-- what a stop says of the first files: the header of one of them is the first that is refused
+abbrev pub StopsFirsts : FileStream → Stop → Type 0
+StopsFirsts w (Header file cause) = RefusesFirst w file cause
+StopsFirsts w Memory = ⊤
+StopsFirsts w ReadFault = ⊤
+StopsFirsts w _ = ⊥
 
 -- ---- the headers that were read
 

@@ -2,6 +2,7 @@
 -- Source: this project's choice.
 use Rattle.std.specs.Prelude.{◌≡◌, ◌<◌, ℕ, List, Option, Some, None, slice_get}
 use Rattle.dada_model.specs.Fields.{HeaderText}
+use Rattle.dada_model.specs.ChangeLaws.{IsReadBack}
 use Rattle.dada_model.specs.Observation.{Observation}
 use Rattle.stream_model.specs.Recorded.{record_refusal}
 use Rattle.dada_recorder.specs.Changes.{recording, RefusesRecording}
@@ -18,6 +19,11 @@ RecordingsFit file_size max_bytes headers observations count =
     (k : ℕ) (header : HeaderText) (o : Observation) → k < count →
     slice_get headers k ≡ Some header → slice_get observations k ≡ Some (Some o) →
     RecordingFits file_size max_bytes header o
+
+-- each header is read back from its bytes
+abbrev pub AreReadBack : List HeaderText → Type 0
+AreReadBack headers =
+    (k : ℕ) (header : HeaderText) → slice_get headers k ≡ Some header → IsReadBack header
 
 -- the recording of some transfer is refused, and those before it fit
 pub record RefusesTransfer

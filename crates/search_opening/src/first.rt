@@ -3,15 +3,15 @@ ghost use Rattle.std.specs.Prelude.{◌≡◌, ◌≢◌, ◌≤◌, Err, IfOk, 
 ghost use Rattle.stream_model.specs.WalkLaws.{AreStarts};
 ghost use Rattle.disk_feeder.specs.Feeder.{IsFresh, IsBegun, SamePlan, HasOpenFile, header_at, names_at, plan_at};
 ghost use Rattle.disk_feeder.specs.Filling.{HoldsAll};
-ghost use Rattle.search_opening.specs.First.{OfFiles, AreFirsts, LeavesData, AreObserved, RefusesHeader};
+ghost use Rattle.run_stop.specs.Firsts.{LeavesData};
+ghost use Rattle.search_opening.specs.First.{OfFiles, AreFirsts, StopsFirsts, AreObserved, RefusesHeader};
 ghost use Rattle.search_opening.specs.Inputs.{HasReadFrom};
-ghost use Rattle.search_opening.specs.Stops.{StopsFirsts};
 
-use crate::stop::OpeningStop;
 use arrayvec::ArrayVec;
 use disk_feeder::Feeder;
 use obs_plan::{ObsFault, Observation};
 use psr_base::Inputs;
+use run_stop::Stop;
 use std::alloc::Global;
 // Laws: they do nothing when they run, and the proofs use what they ensure.
 use dada_model::accepted_by_rows;
@@ -54,7 +54,7 @@ pub fn begin_feed<'a, I: Inputs>(
     alloc: Global,
     feeder: &mut Feeder<'a, I>,
     starts: &[u32],
-) -> Result<ArrayVec<Option<Observation>, MOST_TRANSFERS>, OpeningStop>
+) -> Result<ArrayVec<Option<Observation>, MOST_TRANSFERS>, Stop>
     requires fresh { IsFresh feeder.old }
     requires plan { (plan_at feeder.old).starts ≡ starts.now }
     requires begin { AreStarts starts.now (length (names_at feeder.old)) }
@@ -62,11 +62,11 @@ pub fn begin_feed<'a, I: Inputs>(
     requires headed { length (header_at feeder.old) ≡ length starts.now }
     ensures same_reference { feeder.new.inputs.ghost_name ≡ feeder.old.inputs.ghost_name }
     ensures plan { SamePlan feeder.old feeder.new }
-    ensures inputs { HasReadFrom I.told I.is_calm I.faults (result ≡ Err OpeningStop.ReadFault)
+    ensures inputs { HasReadFrom I.told I.is_calm I.faults (result ≡ Err Stop.ReadFault)
         feeder.old.inputs.now feeder.new.inputs.now }
     ensures serves { I.is_calm feeder.old.inputs.now
         → HoldsAll (I.told feeder.old.inputs.now) (names_at feeder.old)
-        → result ≢ Err OpeningStop.ReadFault }
+        → result ≢ Err Stop.ReadFault }
     ensures begun { OnOk result (IsBegun (I.told feeder.new.inputs.now) feeder.new) }
     ensures open { OnOk result
         (HasOpenFile feeder.new → I.is_open feeder.new.inputs.now) }
@@ -79,7 +79,7 @@ pub fn begin_feed<'a, I: Inputs>(
         (LeavesData (I.told feeder.new.inputs.now))) }
     ensures stopped { IfErr result (λ stop.
         OfFiles (I.told feeder.old.inputs.now) (plan_at feeder.old) (λ w. StopsFirsts w stop)) }
-    ensures unread { result ≡ Err OpeningStop.Memory
+    ensures unread { result ≡ Err Stop.Memory
         → OfFiles (I.told feeder.old.inputs.now) (plan_at feeder.old)
         (LeavesData (I.told feeder.new.inputs.now)) }
 {
@@ -87,8 +87,8 @@ pub fn begin_feed<'a, I: Inputs>(
     match feeder.begin() {
         Ok(()) => match observe_all(alloc, feeder, starts.len()) {
             Ok(observations) => Ok(observations),
-            Err(refused) => Err(OpeningStop::of_fields(starts[refused.transfer], refused.cause)),
+            Err(refused) => Err(Stop::of_observation(starts[refused.transfer], refused.cause)),
         },
-        Err(fault) => Err(OpeningStop::of_fault(fault)),
+        Err(fault) => Err(Stop::of_begin(fault)),
     }
 }

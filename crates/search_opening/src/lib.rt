@@ -10,7 +10,6 @@ mod plans;
 mod recordings;
 mod rings;
 mod space;
-mod stop;
 
 pub use accept::accept_all;
 pub use engines::open_lanes;
@@ -20,4 +19,3 @@ pub use plans::check_plans;
 pub use recordings::fit_all;
 pub use rings::run_shape;
 pub use space::StageSpace;
-pub use stop::OpeningStop;

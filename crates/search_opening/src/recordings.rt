@@ -1,10 +1,11 @@
 // Whether the data of all transfers can be recorded.
 ghost use Rattle.std.specs.Prelude.{◌≡◌, ◌^◌, ◌≤◌, ◌⊎◌, Some, IsSome, IfErr, OnOk, length};
+ghost use Rattle.dada_model.specs.ChangeLaws.{IsReadBack};
 ghost use Rattle.dada_model.specs.Observation.{Observation as Described};
 ghost use Rattle.disk_feeder.specs.Feeder.{header_at};
 ghost use Rattle.dada_recorder.specs.Changes.{recording, RefusesRecording};
 ghost use Rattle.search_opening.specs.First.{AreObserved};
-ghost use Rattle.search_opening.specs.Recordings.{RecordingFits, RecordingsFit, RefusesTransfer};
+ghost use Rattle.search_opening.specs.Recordings.{RecordingFits, RecordingsFit, AreReadBack, RefusesTransfer};
 
 use dada_header::Header;
 use dada_recorder::{RecordFault, fits};
@@ -27,11 +28,14 @@ fn fits_one(
         → OnOk result (RecordingFits file_size max_bytes header.now o) }
     ensures refused { (o : Described) → observation.now ≡ Some o
         → IfErr result (RefusesRecording (recording header.now o.obs_offset file_size) max_bytes) }
+    ensures read_back { IsReadBack header.now }
 {
     let Some(observation) = observation else {
         unreachable!()
     };
     observation.lies_in_range();
+    // They are read back as this header.
+    let _bytes = header.bytes();
     space.copy_from(header);
     fits(space, observation.obs_offset(), file_size, max_bytes)
 }
@@ -50,6 +54,7 @@ pub fn fit_all<'a, I: Inputs>(
     requires limit { max_bytes ≤ 2 ^ 48 }
     ensures fit { OnOk result (RecordingsFit file_size max_bytes (header_at feeder.now)
         observations.now (length observations.now)) }
+    ensures read_back { OnOk result (AreReadBack (header_at feeder.now)) }
     ensures refused { IfErr result (RefusesTransfer file_size max_bytes (header_at feeder.now)
         observations.now) }
 {

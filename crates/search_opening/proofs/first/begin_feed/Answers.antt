@@ -5,7 +5,7 @@ use Rattle.std.proofs.lemmas.Option.{slice_get_within}
 use Rattle.stream_model.specs.WalkLaws.{AreStarts}
 use Rattle.disk_feeder.specs.Feeder.{plan_at}
 use Rattle.disk_feeder.specs.Plan.{Plan, stream_of, HasHeaders}
-use Rattle.search_opening.specs.Stops.{StopsFirsts}
+use Rattle.search_opening.specs.First.{StopsFirsts}
 use Rattle.search_opening.proofs.Firsts.{still_told, same_stream, leaves_data, stops_text, stops_fields, are_firsts}
 use Rattle.search_opening.proofs.first.begin_feed.Goals as goal
 
@@ -49,10 +49,10 @@ returns-in-Err-observe_all-clause-stopped g c = λ files are.
     let within = slice_get_within new.headers c.in-Err-observe_all.refused.transfer r.header r.there in
     let there : c.in-Err-observe_all.refused.transfer < length old.starts = omega (arith, within, many) in
     stops_fields (stream_of old files) new.headers many have c.in-Err-observe_all.refused.transfer _
-    c.in-Err-observe_all.refused.cause r.header c.of_fields.result there
+    c.in-Err-observe_all.refused.cause r.header c.of_observation.result there
     (ap (λ s. slice_index_or s c.in-Err-observe_all.refused.transfer 0) (sym c.requires.plan)
     ∙ get_or_default old.starts c.in-Err-observe_all.refused.transfer 0 (length files) there)
-    r.there r.cause r.earlier c.of_fields.ensures.memory c.of_fields.ensures.other
+    r.there r.cause r.earlier c.of_observation.ensures
 
 pub returns-in-Err-observe_all-clause-unread : goal.returns-in-Err-observe_all-clause-unread
 returns-in-Err-observe_all-clause-unread g c = λ want files are.
@@ -69,7 +69,7 @@ returns-in-Err-clause-stopped g c = λ files are.
     let names = c.args.feeder.now.stream.source.names.now in
     let many = length-map names string_bytes in
     let r = c.in-Err.ensures.refused in
-    subst (λ s. StopsFirsts (stream_of old files) s) (sym c.of_fault.ensures)
+    subst (λ s. StopsFirsts (stream_of old files) s) (sym c.of_begin.ensures)
     (stops_text old (length names) (g.I.Inputs.told c.args.feeder.now.inputs.now) files many
     (starts_are old c.args.starts.now (length names) c.requires.plan many c.requires.begin) are c.in-Err.fault r.transfer
     r.there r.refuses r.earlier)

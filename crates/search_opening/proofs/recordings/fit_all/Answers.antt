@@ -1,9 +1,11 @@
-use Rattle.std.proofs.Common.{None, Some, ap, sym, subst, ◌∙◌, rules}
+use Rattle.std.proofs.Common.{◌≡◌, inl, inr, None, Some, slice_get, ap, sym, subst, ◌∙◌, arith, rules}
 use Rattle.std.specs.Prelude.{IsSome}
+use Rattle.std.proofs.lemmas.Bool.{cases_lt}
 use Rattle.std.proofs.lemmas.List.{get_or_read}
-use Rattle.std.proofs.lemmas.Option.{slice_get-get_or}
+use Rattle.std.proofs.lemmas.Option.{same_Some, slice_get-get_or, slice_get_within}
+use Rattle.dada_model.specs.ChangeLaws.{IsReadBack}
 use Rattle.disk_feeder.specs.Feeder.{header_at}
-use Rattle.search_opening.proofs.Observed.{some_at, one_recorded}
+use Rattle.search_opening.proofs.Observed.{as_many, some_at, one_recorded}
 use Rattle.search_opening.proofs.recordings.fit_all.Goals as goal
 
 pub fits_one-requires-clause-there : goal.fits_one-requires-clause-there
@@ -39,4 +41,18 @@ loop-k-preserved g c =
     record {
       fit = one_recorded c.args.file_size c.args.max_bytes (header_at c.args.feeder.now) observations c.loop-k.k
           c.header-header.result.now o.0 c.loop-k.invariant.fit c.header-header.ensures o.1 (c.in-Ok.ensures.fits o.0 (read ∙ o.1));
+      read_back = λ j other within at. elim (cases_lt j c.loop-k.k) [
+        | inl below ↦ c.loop-k.invariant.read_back j other below at
+        | inr above ↦
+            let same : j ≡ c.loop-k.k = omega (arith, within, above) in
+            subst IsReadBack (same_Some c.header-header.result.now other
+            (sym c.header-header.ensures ∙ subst (λ i. slice_get (header_at c.args.feeder.now) i ≡ Some other) same at))
+            c.fits_one.ensures.read_back
+      ];
     }
+
+pub returns-clause-read_back : goal.returns-clause-read_back
+returns-clause-read_back g c = λ k header there.
+    let within = slice_get_within (header_at c.args.feeder.now) k header there in
+    let many = as_many (header_at c.args.feeder.now) c.args.observations.now c.requires.observed in
+    c.loop-k.invariant.read_back k header (omega (arith, within, many, c.loop-k-test.false)) there

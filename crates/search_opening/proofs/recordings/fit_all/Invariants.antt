@@ -1,3 +1,6 @@
+use Rattle.std.proofs.Common.{ℕ, ◌≡◌, ◌<◌, Some, slice_get}
+use Rattle.dada_model.specs.Fields.{HeaderText}
+use Rattle.dada_model.specs.ChangeLaws.{IsReadBack}
 use Rattle.disk_feeder.specs.Feeder.{header_at}
 use Rattle.search_opening.specs.Recordings.{RecordingsFit}
 use Rattle.search_opening.proofs.recordings.fit_all.Given as goal
@@ -6,4 +9,6 @@ use Rattle.search_opening.proofs.recordings.fit_all.Given as goal
 abbrev pub invariant-loop-k : goal.invariant-loop-k
 invariant-loop-k g l = record {
   fit : RecordingsFit l.file_size l.max_bytes (header_at l.feeder) l.observations l.k;
+  read_back : (j : ℕ) (header : HeaderText) → j < l.k → slice_get (header_at l.feeder) j ≡ Some header →
+      IsReadBack header;
 }
