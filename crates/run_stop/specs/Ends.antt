@@ -1,6 +1,6 @@
 -- How a run of either program ends, before its session or after it, and what its exit status then says.
 -- Source: this project's choice.
-use Rattle.std.specs.Prelude.{◌≡◌, ◌≢◌, ℕ, ◌≤◌, ◌<◌, ⊤, true, false, List, [], ◌∷◌, Option, Some, None, Contains}
+use Rattle.std.specs.Prelude.{◌≡◌, ◌≢◌, ℕ, ◌≤◌, ⊤, true, false, List, [], ◌∷◌, Option, Some, None, Contains}
 use Rattle.psr_base.specs.Count.{Rose}
 use Rattle.psr_base.specs.Told.{Told}
 use Rattle.psr_base.specs.Made.{FilesSeen}
@@ -16,16 +16,52 @@ use Rattle.dada_recorder.specs.declared.answers.RecordEnd.TheVariants as recorde
 use Rattle.run_stop.specs.declared.stop.Stop.{Stop}
 use Rattle.run_stop.specs.declared.stop.Stop.TheVariants.{Words, Value, Header, Plan, Recording, Memory, ReadFault, Gap, TooLong, TooMany, SinkFault, FileFault}
 use Rattle.run_stop.specs.Texts.{status_of}
-use Rattle.run_stop.specs.Conversions.{stop_of_feed}
-use Rattle.run_stop.specs.Runs.{Task, Searching, Says, ForFiles, CanBegin, RefusesFirst, RefusesSearch, RefusesToRecord, IsStopOf}
-use Rattle.run_stop.specs.Outcomes.{StopsAtFiles, SealsStream, RecordsFiles, MadeAll, MadeFront, files_of_stream}
+use Rattle.search_words.specs.declared.fault.WordFault.{WordFault}
+use Rattle.run_stop.specs.Conversions.{stop_of_words, stop_of_feed}
+use Rattle.run_stop.specs.Runs.{Task, Searching, Says, ForFiles, CanBegin, RefusesFirst, RefusesSearch, RefusesToRecord, IsStopOf, IsStopOfWords, Explains}
+use Rattle.run_stop.specs.Outcomes.{JudgesWords, StopsAtFiles, SealsStream, RecordsFiles, MadeAll, MadeFront, files_of_stream}
+
+-- the status of a run that came to a stop, or to none
+abbrev pub end_status : Option Stop → ℕ
+end_status None = 0
+end_status (Some stop) = status_of stop
+
+-- what a stop, where there is one, says of the words and of the files
+abbrev pub IsSaid : Task → List (List ℕ) → Told → Option Stop → Type 0
+IsSaid task words told None = ⊤
+IsSaid task words told (Some stop) = IsStopOfWords task words stop
+    × ForFiles task words told (λ s w. IsStopOf task s w stop)
+
+-- what the exit status says of the files and of the data ring
+pub record EndsAt
+    (task : Task) (words : List (List ℕ)) (told : Told) (blocks : Option Finished)
+    (before after : FilesSeen) (status : ℕ) : Type 0 where
+  pub stopped : StopsAtFiles task words told blocks status
+  pub sealed : SealsStream task words told blocks status
+  pub recorded : RecordsFiles task words told blocks before after status
+
+-- ---- at the words
+
+-- what a fault of the words leaves: they say no settings, and no file was opened
+pub record EndsAtWords (task : Task) (words : List (List ℕ)) (told : Told) (stop : Stop) :
+    Type 0 where
+  pub judged : JudgesWords task words (status_of stop)
+  pub ends : (seen : FilesSeen) → EndsAt task words told None seen seen (status_of stop)
+  pub said : IsSaid task words told (Some stop)
+
+abbrev pub EndAtWords : Type 0
+EndAtWords = (task : Task) (words : List (List ℕ)) (told : Told) (fault : WordFault) →
+    Explains task words fault → EndsAtWords task words told (stop_of_words fault)
+
+-- words say one settings at most
+abbrev pub WordsSayOnce : Type 0
+WordsSayOnce = (task : Task) (words : List (List ℕ)) (s t : SettingsSeen) →
+    Says task words s → Says task words t → s ≡ t
 
 -- ---- before the session
 
--- what a stop that comes before the session says of the files; others don't come there
+-- what a stop between the words and the session says of the files; others don't come there
 abbrev pub SaysBefore : Task → SettingsSeen → FileStream → Stop → Type 0
-SaysBefore task s w Words = ⊤
-SaysBefore task s w (Value opt) = ⊤
 SaysBefore task s w (Header file cause) = RefusesFirst w file cause
 SaysBefore task s w (Plan cause) = (task ≡ Searching) × RefusesSearch s.search w cause
 SaysBefore task s w (Recording cause) = RefusesToRecord task s w cause
@@ -34,6 +70,8 @@ SaysBefore task s w ReadFault = ⊤
 SaysBefore task s w _ = ⊥
 
 abbrev pub ComesBefore : Stop → Type 0
+ComesBefore Words = ⊥
+ComesBefore (Value opt) = ⊥
 ComesBefore (Gap file expected found) = ⊥
 ComesBefore (TooLong limit) = ⊥
 ComesBefore (TooMany count limit) = ⊥
@@ -45,14 +83,6 @@ pub record StopsBefore (task : Task) (words : List (List ℕ)) (told : Told) (st
     Type 0 where
   pub kind : ComesBefore stop
   pub says : ForFiles task words told (λ s w. SaysBefore task s w stop)
-
--- what the exit status then says
-pub record EndsAt
-    (task : Task) (words : List (List ℕ)) (told : Told) (blocks : Option Finished)
-    (before after : FilesSeen) (status : ℕ) : Type 0 where
-  pub stopped : StopsAtFiles task words told blocks status
-  pub sealed : SealsStream task words told blocks status
-  pub recorded : RecordsFiles task words told blocks before after status
 
 abbrev pub EndBeforeSession : Type 0
 EndBeforeSession = (task : Task) (words : List (List ℕ)) (told : Told) (stop : Stop) →
@@ -66,7 +96,6 @@ EndBeforeSession = (task : Task) (words : List (List ℕ)) (told : Told) (stop :
 pub record IsFed
     (task : Task) (words : List (List ℕ)) (told : Told) (blocks : Finished) (feed : FeedEnd)
     : Type 0 where
-  pub size : (s : SettingsSeen) → Says task words s → 0 < s.size
   pub begun : ForFiles task words told (λ s w. CanBegin task s w)
   pub walked : ForFiles task words told (λ s w. EndIs w s.size (sealed_at_end blocks) feed)
 
@@ -78,7 +107,8 @@ pub record IsRecorded
       (after ≡ before) × (answer ≢ Some recorder.FileFault)
   pub all : answer ≢ Some recorder.FileFault → ForFiles task words told (λ s w. s.recording ≡ true →
       MadeAll (files_of_stream w s.file_size (sealed_at_end blocks)) before after)
-  pub front : answer ≡ Some recorder.FileFault → ForFiles task words told (λ s w. s.recording ≡ true →
+  pub front : answer ≡ Some recorder.FileFault →
+      ForFiles task words told (λ s w. s.recording ≡ true →
       MadeFront (files_of_stream w s.file_size (sealed_at_end blocks)) before after)
   pub rose : answer ≡ Some recorder.FileFault → Rose before.faults after.faults
   pub quiet : answer ≢ Some recorder.FileFault → after.faults ≡ before.faults
