@@ -57,6 +57,7 @@ impl ShardActor {
     /// Takes one turn. Before the data of each transfer it reads a header and clears it; else it reads a block of data,
     /// feeds it to the engine of its transfer, which ends after the last block, and clears it. A read that finds
     /// nothing lets other threads run.
+    #[tactic(auto, using(crate::proofs::Moves::shard_turned))]
     pub fn turn(&mut self, hdu: &Hdu)
         requires on { ShardOn hdu.now self.old }
         requires running { self.old.ended ≡ false }
