@@ -4,3 +4,4 @@ pub mod Built
 pub mod Lanes
 pub mod Starting
 pub mod Staging
+pub mod Stopping

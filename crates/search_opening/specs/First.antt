@@ -2,7 +2,7 @@
 -- Source: PSRDADA manual (a transfer is what one header describes); what is refused is this project's choice.
 use Rattle.std.specs.Prelude.{◌≡◌, ◌<◌, ℕ, ⊤, List, length, map, Option, Some, Ok, slice_get}
 use Rattle.psr_base.specs.Told.{Told}
-use Rattle.dada_model.specs.Fields.{HeaderText, fields_of}
+use Rattle.dada_model.specs.Fields.{HeaderText, fields_of, header_of}
 use Rattle.dada_model.specs.Observation.{Observation, observation_of}
 use Rattle.obs_plan.specs.Faults.{ExplainsObservation}
 use Rattle.stream_model.specs.Walk.{FileStream, observation_at}
@@ -27,6 +27,11 @@ pub record AreFirsts (w : FileStream) (observations : List (Option Observation))
   pub count : length observations ≡ length w.starts
   pub each : (k : ℕ) → k < length w.starts →
       slice_get observations k ≡ Some (Some (observation_at (first_file w k)))
+
+-- these are the first headers
+abbrev pub AreHeadersOf : FileStream → List HeaderText → Type 0
+AreHeadersOf w headers = (k : ℕ) (header : HeaderText) → slice_get headers k ≡ Some header →
+    header_of (first_file w k) ≡ Ok header
 
 -- what a stop says of the first files: the header of one of them is the first that is refused
 abbrev pub StopsFirsts : FileStream → Stop → Type 0

@@ -6,6 +6,11 @@ use Rattle.search_model.specs.declared.search.Search.{Search}
 use Rattle.search_model.specs.Plan.{plan_refusal}
 use Rattle.search_engine.specs.Plan.{IsRefusedFirst}
 use Rattle.search_engine.specs.declared.fault.PlanFault.{PlanFault}
+use Rattle.stream_model.specs.Walk.{FileStream}
+use Rattle.run_stop.specs.declared.causes.PlanCause.{PlanCause}
+use Rattle.run_stop.specs.declared.stop.Stop.{Stop}
+use Rattle.run_stop.specs.declared.stop.Stop.TheVariants.{Plan}
+use Rattle.run_stop.specs.Runs.{RefusesSearch}
 
 -- the search of each observation fits
 abbrev pub PlansFit : Search → List (Option Observation) → Type 0
@@ -20,3 +25,13 @@ pub record RefusesPlan (s : Search) (observations : List (Option Observation)) (
   pub cause : IsRefusedFirst (plan_refusal observation s) fault
   pub earlier : (k : ℕ) (o : Observation) → k < transfer →
       slice_get observations k ≡ Some (Some o) → plan_refusal o s ≡ None
+
+-- ---- the stop of a run
+
+-- it says that a search is refused
+abbrev pub IsOfPlan : Stop → Type 0
+IsOfPlan stop = (cause : PlanCause) × (stop ≡ Plan cause)
+
+-- and that of which transfer of a walk, with its cause
+abbrev pub StopsSearch : Search → FileStream → Stop → Type 0
+StopsSearch s w stop = (cause : PlanCause) × (stop ≡ Plan cause) × RefusesSearch s w cause

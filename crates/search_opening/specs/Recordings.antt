@@ -1,12 +1,17 @@
 -- The recordings of all transfers, in order: they fit, or the first that does not.
 -- Source: this project's choice.
-use Rattle.std.specs.Prelude.{◌≡◌, ◌<◌, ℕ, List, Option, Some, None, slice_get}
+use Rattle.std.specs.Prelude.{◌≡◌, ◌<◌, ℕ, List, length, Option, Some, None, slice_get}
 use Rattle.dada_model.specs.Fields.{HeaderText}
 use Rattle.dada_model.specs.ChangeLaws.{IsReadBack}
 use Rattle.dada_model.specs.Observation.{Observation}
 use Rattle.stream_model.specs.Recorded.{record_refusal}
 use Rattle.dada_recorder.specs.Changes.{recording, RefusesRecording}
 use Rattle.dada_recorder.specs.declared.answers.RecordFault.{RecordFault}
+use Rattle.stream_model.specs.Walk.{FileStream}
+use Rattle.run_stop.specs.declared.causes.RecordingCause.{RecordingCause}
+use Rattle.run_stop.specs.declared.stop.Stop.{Stop}
+use Rattle.run_stop.specs.declared.stop.Stop.TheVariants.{Recording}
+use Rattle.run_stop.specs.Runs.{first_recording, CanRecordFirst, IsRecordingCause}
 
 -- under the header, from the observation's OBS_OFFSET on, so many data bytes can be recorded in files of this size
 abbrev pub RecordingFits : ℕ → ℕ → HeaderText → Observation → Type 0
@@ -36,3 +41,23 @@ pub record RefusesTransfer
   pub said : slice_get observations transfer ≡ Some (Some observation)
   pub cause : RefusesRecording (recording header observation.obs_offset file_size) max_bytes fault
   pub earlier : RecordingsFit file_size max_bytes headers observations transfer
+
+-- ---- the stop of a run
+
+-- it says that a recording is refused
+abbrev pub IsOfRecording : Stop → Type 0
+IsOfRecording stop = (cause : RecordingCause) × (stop ≡ Recording cause)
+
+-- the recording of some transfer of a walk is, and those before it fit
+pub record RefusesFirstRecording (file_size : ℕ) (w : FileStream) (cause : RecordingCause) :
+    Type 0 where
+  pub transfer : ℕ
+  pub there : transfer < length w.starts
+  pub refused : IsRecordingCause
+      (record_refusal (first_recording w file_size transfer) w.max_bytes) cause
+  pub earlier : CanRecordFirst file_size w transfer
+
+-- and so the stop says, with its cause
+abbrev pub StopsRecording : ℕ → FileStream → Stop → Type 0
+StopsRecording file_size w stop =
+    (cause : RecordingCause) × (stop ≡ Recording cause) × RefusesFirstRecording file_size w cause

@@ -4,7 +4,7 @@ ghost use Rattle.stream_model.specs.WalkLaws.{AreStarts};
 ghost use Rattle.disk_feeder.specs.Feeder.{IsFresh, IsBegun, SamePlan, HasOpenFile, header_at, names_at, plan_at};
 ghost use Rattle.disk_feeder.specs.Filling.{HoldsAll};
 ghost use Rattle.run_stop.specs.Firsts.{LeavesData};
-ghost use Rattle.search_opening.specs.First.{OfFiles, AreFirsts, StopsFirsts, AreObserved, RefusesHeader};
+ghost use Rattle.search_opening.specs.First.{OfFiles, AreFirsts, AreHeadersOf, StopsFirsts, AreObserved, RefusesHeader};
 ghost use Rattle.search_opening.specs.Inputs.{HasReadFrom};
 
 use arrayvec::ArrayVec;
@@ -72,6 +72,8 @@ pub fn begin_feed<'a, I: Inputs>(
         (HasOpenFile feeder.new → I.is_open feeder.new.inputs.now) }
     ensures observed { IfOk result (λ observations.
         AreObserved (header_at feeder.new) observations.items) }
+    ensures headers { OnOk result (OfFiles (I.told feeder.new.inputs.now) (plan_at feeder.new)
+        (λ w. AreHeadersOf w (header_at feeder.new))) }
     ensures firsts { IfOk result (λ observations.
         OfFiles (I.told feeder.new.inputs.now) (plan_at feeder.new)
         (λ w. AreFirsts w observations.items)) }

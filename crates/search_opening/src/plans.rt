@@ -1,12 +1,16 @@
 // The plans of a search of all transfers.
-ghost use Rattle.std.specs.Prelude.{◌≡◌, ℕ, Some, None, IfSome, IfErr, OnOk};
+ghost use Rattle.std.specs.Prelude.{◌≡◌, ℕ, Some, None, IfSome, IfErr, OnOk, length};
 ghost use Rattle.dada_model.specs.Observation.{Observation as Described};
 ghost use Rattle.search_model.specs.Search.{SettingsInRange};
 ghost use Rattle.search_model.specs.Plan.{plan_refusal};
 ghost use Rattle.search_engine.specs.Plan.{IsRefusedFirst};
-ghost use Rattle.search_opening.specs.Plans.{PlansFit, RefusesPlan};
+ghost use Rattle.stream_model.specs.Walk.{FileStream};
+ghost use Rattle.run_stop.specs.Runs.{CanSearchFirst};
+ghost use Rattle.search_opening.specs.First.{AreFirsts};
+ghost use Rattle.search_opening.specs.Plans.{PlansFit, RefusesPlan, IsOfPlan, StopsSearch};
 
 use obs_plan::Observation;
+use run_stop::Stop;
 use search_engine::{PlanFault, check_plan};
 use search_model::Search;
 
@@ -23,8 +27,8 @@ fn check_at(observation: &Option<Observation>, search: &Search) -> Result<(), Pl
     }
 }
 
-/// Whether the search of each observation fits, in order, or the first that does not. It is never `Memory`.
-pub fn check_plans(observations: &[Option<Observation>], search: &Search) -> Result<(), PlanFault>
+// Whether the search of each observation fits, in order, or the first that does not.
+fn judge_plans(observations: &[Option<Observation>], search: &Search) -> Result<(), PlanFault>
     requires { SettingsInRange search.now }
     ensures fit { OnOk result (PlansFit search.now observations.now) }
     ensures refused { IfErr result (RefusesPlan search.now observations.now) }
@@ -33,4 +37,20 @@ pub fn check_plans(observations: &[Option<Observation>], search: &Search) -> Res
         check_at(&observations[k], search)?;
     }
     Ok(())
+}
+
+/// Whether the search of each observation fits, in order, or why the first that does not is refused.
+pub fn check_plans(observations: &[Option<Observation>], search: &Search) -> Result<(), Stop>
+    requires { SettingsInRange search.now }
+    ensures fit { OnOk result (PlansFit search.now observations.now) }
+    ensures searched { OnOk result ((w : FileStream) → AreFirsts w observations.now
+        → CanSearchFirst search.now w (length w.starts)) }
+    ensures kind { IfErr result IsOfPlan }
+    ensures refused { IfErr result (λ stop. (w : FileStream) → AreFirsts w observations.now
+        → StopsSearch search.now w stop) }
+{
+    match judge_plans(observations, search) {
+        Ok(()) => Ok(()),
+        Err(fault) => Err(Stop::of_plan(fault)),
+    }
 }

@@ -4,14 +4,17 @@ ghost use Rattle.dada_model.specs.ChangeLaws.{IsReadBack};
 ghost use Rattle.dada_model.specs.Observation.{Observation as Described};
 ghost use Rattle.disk_feeder.specs.Feeder.{header_at};
 ghost use Rattle.dada_recorder.specs.Changes.{recording, RefusesRecording};
-ghost use Rattle.search_opening.specs.First.{AreObserved};
-ghost use Rattle.search_opening.specs.Recordings.{RecordingFits, RecordingsFit, AreReadBack, RefusesTransfer};
+ghost use Rattle.stream_model.specs.Walk.{FileStream};
+ghost use Rattle.run_stop.specs.Runs.{CanRecordFirst};
+ghost use Rattle.search_opening.specs.First.{AreObserved, AreFirsts, AreHeadersOf};
+ghost use Rattle.search_opening.specs.Recordings.{RecordingFits, RecordingsFit, AreReadBack, RefusesTransfer, IsOfRecording, StopsRecording};
 
 use dada_header::Header;
 use dada_recorder::{RecordFault, fits};
 use disk_feeder::Feeder;
 use obs_plan::Observation;
 use psr_base::Inputs;
+use run_stop::Stop;
 
 // Whether the data of a transfer can be recorded under its header, from the observation's OBS_OFFSET on.
 fn fits_one(
@@ -40,9 +43,8 @@ fn fits_one(
     fits(space, observation.obs_offset(), file_size, max_bytes)
 }
 
-/// Whether the data of each transfer, at most `max_bytes` of them, can be recorded in files of `file_size` data bytes, in
-/// order, or why the first that can't is refused. The headers are judged in `space`.
-pub fn fit_all<'a, I: Inputs>(
+// Whether the data of each transfer can, in order, or why the first that can't is refused.
+fn judge_recordings<'a, I: Inputs>(
     feeder: &Feeder<'a, I>,
     observations: &[Option<Observation>],
     space: &mut Header,
@@ -66,4 +68,33 @@ pub fn fit_all<'a, I: Inputs>(
         }
     }
     Ok(())
+}
+
+/// Whether the data of each transfer, at most `max_bytes` of them, can be recorded in files of `file_size` data bytes, in
+/// order, or why the first that can't is refused. The headers are judged in `space`.
+pub fn fit_all<'a, I: Inputs>(
+    feeder: &Feeder<'a, I>,
+    observations: &[Option<Observation>],
+    space: &mut Header,
+    file_size: u64,
+    max_bytes: u64,
+) -> Result<(), Stop>
+    requires observed { AreObserved (header_at feeder.now) observations.now }
+    requires file_size { (1 ≤ file_size) × (file_size ≤ 2 ^ 40) }
+    requires limit { max_bytes ≤ 2 ^ 48 }
+    ensures fit { OnOk result (RecordingsFit file_size max_bytes (header_at feeder.now)
+        observations.now (length observations.now)) }
+    ensures read_back { OnOk result (AreReadBack (header_at feeder.now)) }
+    ensures recorded { OnOk result ((w : FileStream) → AreFirsts w observations.now
+        → AreHeadersOf w (header_at feeder.now) → w.max_bytes ≡ max_bytes
+        → CanRecordFirst file_size w (length w.starts)) }
+    ensures kind { IfErr result IsOfRecording }
+    ensures refused { IfErr result (λ stop. (w : FileStream) → AreFirsts w observations.now
+        → AreHeadersOf w (header_at feeder.now) → w.max_bytes ≡ max_bytes
+        → StopsRecording file_size w stop) }
+{
+    match judge_recordings(feeder, observations, space, file_size, max_bytes) {
+        Ok(()) => Ok(()),
+        Err(fault) => Err(Stop::of_recording(fault)),
+    }
 }

@@ -1,12 +1,8 @@
-use Rattle.search_opening.proofs.Observed.{one_fits, all_fit}
+use Rattle.std.proofs.Common.{sym, subst}
+use Rattle.search_opening.specs.Plans.{StopsSearch}
+use Rattle.search_opening.proofs.Stopping.{stops_search}
 use Rattle.search_opening.proofs.plans.check_plans.Goals as goal
 
-pub loop-k-preserved : goal.loop-k-preserved
-loop-k-preserved c = record {
-  fit = one_fits c.args.search.now c.args.observations.now c.loop-k.k c.index-observations-k.result
-      c.loop-k.invariant.fit c.index-observations-k.is c.in_ok-check_at.ensures.fits;
-}
-
-pub returns-clause-fit : goal.returns-clause-fit
-returns-clause-fit c = all_fit c.args.search.now c.args.observations.now c.loop-k.k c.loop-k-test.false
-    c.loop-k.invariant.fit
+pub returns-in-Err-clause-refused : goal.returns-in-Err-clause-refused
+returns-in-Err-clause-refused c = λ w firsts. subst (StopsSearch c.args.search.now w) (sym c.of_plan.ensures)
+    (stops_search w c.args.observations.now firsts c.args.search.now c.in-Err.fault c.in-Err.ensures.refused)

@@ -1,58 +1,24 @@
-use Rattle.std.proofs.Common.{◌≡◌, inl, inr, None, Some, slice_get, ap, sym, subst, ◌∙◌, arith, rules}
-use Rattle.std.specs.Prelude.{IsSome}
-use Rattle.std.proofs.lemmas.Bool.{cases_lt}
-use Rattle.std.proofs.lemmas.List.{get_or_read}
-use Rattle.std.proofs.lemmas.Option.{same_Some, slice_get-get_or, slice_get_within}
-use Rattle.dada_model.specs.ChangeLaws.{IsReadBack}
+use Rattle.std.proofs.Common.{length, sym, subst, arith}
 use Rattle.disk_feeder.specs.Feeder.{header_at}
-use Rattle.search_opening.proofs.Observed.{as_many, some_at, one_recorded}
+use Rattle.search_opening.specs.Recordings.{RecordingsFit, RefusesTransfer}
+use Rattle.search_opening.proofs.Observed.{as_many}
+use Rattle.search_opening.proofs.Stopping.{can_record, stops_recording}
 use Rattle.search_opening.proofs.recordings.fit_all.Goals as goal
 
-pub fits_one-requires-clause-there : goal.fits_one-requires-clause-there
-fits_one-requires-clause-there g c =
+pub returns-in-Ok-clause-recorded : goal.returns-in-Ok-clause-recorded
+returns-in-Ok-clause-recorded g c = λ w firsts are most.
+    let headers = header_at c.args.feeder.now in
     let observations = c.args.observations.now in
-    let o = some_at (header_at c.args.feeder.now) observations c.requires.observed c.loop-k.k c.loop-k-test.true in
-    let read = get_or_read observations c.loop-k.k c.index-observations-k.result c.loop-k-test.true
-    c.index-observations-k.is None in
-    subst IsSome (sym (read ∙ o.1)) (search rules)
+    can_record w observations headers firsts are (as_many headers observations c.requires.observed) c.args.file_size
+    (length w.starts) (omega arith)
+    (subst (λ m. RecordingsFit c.args.file_size m headers observations (length w.starts)) (sym most)
+    (subst (RecordingsFit c.args.file_size c.args.max_bytes headers observations) firsts.count c.in-Ok.ensures.fit))
 
 pub returns-in-Err-clause-refused : goal.returns-in-Err-clause-refused
-returns-in-Err-clause-refused g c =
+returns-in-Err-clause-refused g c = λ w firsts are most.
+    let headers = header_at c.args.feeder.now in
     let observations = c.args.observations.now in
-    let o = some_at (header_at c.args.feeder.now) observations c.requires.observed c.loop-k.k c.loop-k-test.true in
-    let read = get_or_read observations c.loop-k.k c.index-observations-k.result c.loop-k-test.true
-    c.index-observations-k.is None in
-    record {
-      transfer = c.loop-k.k;
-      header = c.header-header.result.now;
-      observation = o.0;
-      there = c.header-header.ensures;
-      said = slice_get-get_or observations c.loop-k.k None c.loop-k-test.true ∙ ap Some o.1;
-      cause = c.in-Err.ensures.refused o.0 (read ∙ o.1);
-      earlier = c.loop-k.invariant.fit;
-    }
-
-pub loop-k-preserved : goal.loop-k-preserved
-loop-k-preserved g c =
-    let observations = c.args.observations.now in
-    let o = some_at (header_at c.args.feeder.now) observations c.requires.observed c.loop-k.k c.loop-k-test.true in
-    let read = get_or_read observations c.loop-k.k c.index-observations-k.result c.loop-k-test.true
-    c.index-observations-k.is None in
-    record {
-      fit = one_recorded c.args.file_size c.args.max_bytes (header_at c.args.feeder.now) observations c.loop-k.k
-          c.header-header.result.now o.0 c.loop-k.invariant.fit c.header-header.ensures o.1 (c.in-Ok.ensures.fits o.0 (read ∙ o.1));
-      read_back = λ j other within at. elim (cases_lt j c.loop-k.k) [
-        | inl below ↦ c.loop-k.invariant.read_back j other below at
-        | inr above ↦
-            let same : j ≡ c.loop-k.k = omega (arith, within, above) in
-            subst IsReadBack (same_Some c.header-header.result.now other
-            (sym c.header-header.ensures ∙ subst (λ i. slice_get (header_at c.args.feeder.now) i ≡ Some other) same at))
-            c.fits_one.ensures.read_back
-      ];
-    }
-
-pub returns-clause-read_back : goal.returns-clause-read_back
-returns-clause-read_back g c = λ k header there.
-    let within = slice_get_within (header_at c.args.feeder.now) k header there in
-    let many = as_many (header_at c.args.feeder.now) c.args.observations.now c.requires.observed in
-    c.loop-k.invariant.read_back k header (omega (arith, within, many, c.loop-k-test.false)) there
+    stops_recording w observations headers firsts are (as_many headers observations c.requires.observed)
+    c.args.file_size c.in-Err.fault c.of_recording.result c.of_recording.ensures
+    (subst (λ m. RefusesTransfer c.args.file_size m headers observations c.in-Err.fault) (sym most)
+    c.in-Err.ensures.refused)

@@ -3,7 +3,7 @@ use Rattle.dada_model.specs.Fields.{HeaderText}
 use Rattle.dada_model.specs.ChangeLaws.{IsReadBack}
 use Rattle.disk_feeder.specs.Feeder.{header_at}
 use Rattle.search_opening.specs.Recordings.{RecordingsFit}
-use Rattle.search_opening.proofs.recordings.fit_all.Given as goal
+use Rattle.search_opening.proofs.recordings.judge_recordings.Given as goal
 
 -- the recordings of the transfers before fit
 abbrev pub invariant-loop-k : goal.invariant-loop-k
