@@ -1,10 +1,9 @@
 -- A session from its staffing to its end.
-use Rattle.std.proofs.Common.{◌≡◌, ℕ, ◌+◌, ◌%◌, ◌<◌, List, [], length, Option, Some, None, slice_get, option_map, refl, sym, ap, ◌∙◌, subst, arith}
-use Rattle.std.specs.Prelude.{All, IfSome, IsSome}
+use Rattle.std.proofs.Common.{◌≡◌, ℕ, ◌%◌, ◌<◌, List, [], ◌++◌, length, take, drop, Option, Some, None, slice_get, option_map, refl, sym, ap, ◌∙◌, subst, arith}
+use Rattle.std.specs.Prelude.{All, IfSome}
 use Rattle.std.proofs.lemmas.Option.{slice_get_within}
 use Rattle.psr_base.specs.Told.{Told}
 use Rattle.psr_base.specs.Made.{FilesSeen}
-use Rattle.ring_blocks.specs.declared.Entry.{Entry}
 use Rattle.dada_hdu.specs.declared.hdu.Hdu.{Hdu}
 use Rattle.dada_hdu.specs.Passes.{number_of}
 use Rattle.dada_model.specs.Observation.{Observation}
@@ -32,8 +31,9 @@ use Rattle.search_session.specs.Books.{HasLane, HasBook, AreCounted}
 use Rattle.search_session.specs.Ends.{listed, HaveEnginesIn}
 use Rattle.search_session.specs.Recorded.{HasNoRecording, RecordedAnswers}
 use Rattle.search_session.specs.Sessions.{FeedAnswers, IsSearched, ShardAnswers, IsEndOf, IsEndOfRecorder}
+use Rattle.search_session.proofs.Rows.{all_written}
 use Rattle.search_session.proofs.Working.{feeder_stays, shard_stays, lanes_stay, recorder_stays}
-use Rattle.search_session.proofs.Ending.{all_at, if_some, on_in, ended_in, of_lane_in, feeder_on, recorder_on, recorder_ended, cleared_at, searched}
+use Rattle.search_session.proofs.Ending.{all_at, on_in, ended_in, of_lane_in, feeder_on, recorder_on, recorder_ended, cleared_at, searched}
 use Rattle.search_session.proofs.FeedEnds.{SessionLaws, feed_answers, is_ending, keep_up, headers_sealed, all_few}
 use Rattle.search_session.proofs.Recordings.{some_end, recorded_by}
 use Rattle.search_session.proofs.Holding.{held_found}
@@ -80,7 +80,7 @@ module _ {I F : Type 0} (told : I → Told) (is_open is_calm : I → Type 0) (fa
     pub of_lanes : AreOfLanes lanes hands
     pub recorder_works : RecorderWorks seen recorder (length lanes) hands
 
-  pub all_ended : (hdu : Hdu) (start : FeedActor I) (lanes : List (Option Lane)) (recorder : Option (Recorder F))
+  all_ended : (hdu : Hdu) (start : FeedActor I) (lanes : List (Option Lane)) (recorder : Option (Recorder F))
       (old new : List (Hand I F)) (n : ℕ) →
       EachMoved (HandMoved told is_calm faults seen n) old new → HasFeeder told is_calm faults start old →
       ((s : ℕ) → s < length lanes → HasShard old s) → AreOfLanes lanes old →
@@ -94,6 +94,22 @@ module _ {I F : Type 0} (told : I → Told) (is_open is_calm : I → Type 0) (fa
     of_lanes = lanes_stay told is_calm faults seen n old new moved lanes of;
     recorder_works = recorder_stays told is_calm faults seen n old new moved recorder (length lanes) works;
   }
+
+  -- the same, where the hands are seen through the slices of their Vec
+  pub hands_ended : (hdu : Hdu) (start : FeedActor I) (lanes : List (Option Lane)) (recorder : Option (Recorder F))
+      (items first two last : List (Hand I F)) (len n : ℕ) → first ≡ items → length first ≡ len →
+      last ≡ take len (two ++ drop (length two) items) →
+      EachMoved (HandMoved told is_calm faults seen n) first two → HasFeeder told is_calm faults start items →
+      ((s : ℕ) → s < length lanes → HasShard items s) → AreOfLanes lanes items →
+      RecorderWorks seen recorder (length lanes) items →
+      All (HandOn told is_open files_open hdu) two → All HandEnded two → AllEnded hdu start lanes recorder last
+  hands_ended hdu start lanes recorder items first two last len n shown long written moved feeder shards of works on ended
+      =
+      subst (λ (l : List (Hand I F)). AllEnded hdu start lanes recorder l)
+      (sym (written ∙ all_written len items two (moved.count ∙ long)))
+      (all_ended hdu start lanes recorder items two n
+      (subst (λ (l : List (Hand I F)). EachMoved (HandMoved told is_calm faults seen n) l two) shown moved) feeder shards
+      of works on ended)
 
   -- a session that ended
   module _ (hdu : Hdu) (start : FeedActor I) (lanes : List (Option Lane)) (recorder : Option (Recorder F))

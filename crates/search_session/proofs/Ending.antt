@@ -10,21 +10,14 @@ use Rattle.search_model.specs.declared.search.Search.{Search}
 use Rattle.search_model.specs.Candidates.{shard_part}
 use Rattle.search_model.specs.Observed.{candidates_of}
 use Rattle.candidate_book.specs.Book.{BookContents, book_of}
-use Rattle.psr_base.specs.Count.{Rose}
 use Rattle.psr_base.specs.Told.{Told}
 use Rattle.ring_blocks.specs.declared.Entry.{Entry}
 use Rattle.ring_ends.specs.Ended.{sealed_at_end, cleared_at_end}
 use Rattle.dada_hdu.specs.declared.hdu.Hdu.{Hdu}
 use Rattle.stream_model.specs.Blocks.{ended_transfers, transfer_bytes, is_over}
 use Rattle.search_engine.specs.Engine.{EngineState, SameShard, StandsForData, HasSearched}
-use Rattle.disk_feeder.specs.declared.answers.FeedEnd.{FeedEnd}
 use Rattle.disk_feeder.specs.declared.answers.FeedEnd.TheVariants.{Whole}
-use Rattle.disk_feeder.specs.declared.feeder.Feeder.{Feeder}
-use Rattle.disk_feeder.specs.Plan.{Plan}
-use Rattle.disk_feeder.specs.Feeder.{plan_at, block_size, has_end, stream_at, FeederFaultless, FeederSince}
-use Rattle.disk_feeder.specs.Feeding.{IsEnding, IsEnded, FeedsTo}
-use Rattle.disk_feeder.specs.Turns.{sealed_headers, sealed_blocks}
-use Rattle.disk_feeder.specs.Laws.{FeedersEnd}
+use Rattle.disk_feeder.specs.Feeding.{IsEnding}
 use Rattle.search_session.specs.declared.lane.Lane.{Lane}
 use Rattle.search_session.specs.declared.feed.FeedActor.{FeedActor}
 use Rattle.search_session.specs.declared.shard.ShardActor.{ShardActor}
@@ -33,13 +26,13 @@ use Rattle.search_session.specs.declared.hand.Hand.{Hand}
 use Rattle.search_session.specs.declared.ended.SessionEnd.{SessionEnd}
 use Rattle.search_session.specs.Lanes.{HasEngine, Stands}
 use Rattle.search_session.specs.Shards.{StandsAt, EnginesFollow, shard_cleared, shard_number, ShardOn}
-use Rattle.search_session.specs.Feeds.{FeedOn, FeedMoved}
+use Rattle.search_session.specs.Feeds.{FeedOn}
 use Rattle.search_session.specs.Records.{RecordOn}
 use Rattle.search_session.specs.Hands.{HandOn, HandEnded}
 use Rattle.search_session.specs.Gathering.{recorder_of, recorder_in}
 use Rattle.search_session.specs.Stages.{IsOfLane, AreOfLanes, IsIn}
 use Rattle.search_session.specs.Books.{HasLane, HasBook}
-use Rattle.search_session.specs.Sessions.{FeedAnswers, IsSearched, IsEndOf, data_through}
+use Rattle.search_session.specs.Sessions.{IsSearched, IsEndOf, data_through}
 use Rattle.search_session.proofs.Engines.{nothing}
 use Rattle.search_session.proofs.Turning.{none_ended, not_below_zero}
 

@@ -1,6 +1,6 @@
 -- The passes of shards that ended, and of a recorder after them, are all readers of the rings.
-use Rattle.std.proofs.Common.{◌≡◌, ℕ, ◌+◌, ◌<◌, List, [], ◌∷◌, ◌++◌, length, length-append, Option, Some, None, slice_get, option_map, refl, sym, ap, ◌∙◌, subst, arith}
-use Rattle.std.specs.Prelude.{IfSome, map}
+use Rattle.std.proofs.Common.{◌≡◌, ℕ, ◌<◌, List, [], ◌∷◌, length, length-append, Option, Some, None, slice_get, option_map, refl, sym, ap, ◌∙◌, subst, arith}
+use Rattle.std.specs.Prelude.{IfSome}
 use Rattle.std.proofs.lemmas.List.{length-map}
 use Rattle.std.proofs.lemmas.Option.{slice_get-map, slice_get_within}
 use mathlib.Core.Logic.{dite}
@@ -17,7 +17,7 @@ use Rattle.ring_ends.specs.Passes.{ring_shape, ended_knows}
 use Rattle.ring_ends.specs.Ended.{sealed_at_end, reader_at_end, cleared_at_end}
 use Rattle.dada_hdu.specs.declared.hdu.Hdu.{Hdu}
 use Rattle.dada_hdu.specs.declared.ended.HduEnded.{HduEnded}
-use Rattle.dada_hdu.specs.Passes.{header_ring, data_ring, data_shape, header_end, data_end, number_of, EndedFromBoth}
+use Rattle.dada_hdu.specs.Passes.{header_ring, data_ring, header_end, data_end, number_of, EndedFromBoth}
 use Rattle.dada_hdu.specs.Ended.{GivesBoth, AreBothInOrder, AllReadersOfBoth, RingFinished}
 use Rattle.search_session.specs.declared.shard.ShardActor.{ShardActor}
 use Rattle.search_session.specs.declared.record.RecordActor.{RecordActor}

@@ -1,25 +1,23 @@
 -- What a recorder comes to that cleared the blocks of a session from the beginning.
-use Rattle.std.proofs.Common.{◌≡◌, ◌≢◌, ℕ, ◌+◌, ◌≤◌, Bool, true, false, List, [], ◌++◌, length, take, get_or, Option, Some, None, slice_get, refl, sym, ap, ◌∙◌, subst, arith}
-use Rattle.std.proofs.lemmas.List.{append-nil, get_or-map, get_or-take, length-map, length-take}
+use Rattle.std.proofs.Common.{◌≡◌, ◌≢◌, ℕ, ◌≤◌, Bool, true, false, List, [], length, take, get_or, Some, slice_get, refl, sym, ap, ◌∙◌, subst, arith}
+use Rattle.std.proofs.lemmas.List.{get_or-map, get_or-take, length-map, length-take}
 use Rattle.std.proofs.lemmas.Option.{slice_get_within, slice_get-get_or, get_or_from_slice_get}
 use mathlib.Core.List.{IsPrefix}
-use Rattle.dada_model.specs.Fields.{HeaderText, header_bytes}
+use Rattle.dada_model.specs.Fields.{HeaderText}
 use Rattle.psr_base.specs.Made.{NamedBytes, FilesSeen}
 use Rattle.ring_blocks.specs.declared.Entry.{Entry}
 use Rattle.ring_words.specs.Ring.{Begins}
 use Rattle.dada_hdu.specs.Answers.{header_entry}
-use Rattle.stream_model.specs.Blocks.{joined_bytes, ended_transfers, has_cut, is_over}
-use Rattle.stream_model.specs.RecordedLaws.{recorded_of_transfers}
+use Rattle.stream_model.specs.Blocks.{joined_bytes, has_cut, is_over}
 use Rattle.disk_feeder.specs.declared.answers.FeedEnd.{FeedEnd}
 use Rattle.disk_feeder.specs.declared.answers.FeedEnd.TheVariants as feed
 use Rattle.disk_feeder.specs.Plan.{Plan}
 use Rattle.disk_feeder.specs.Feeding.{header_entries, HeadersKeepUp, IsEnding}
 use Rattle.dada_recorder.specs.declared.answers.RecordEnd.{RecordEnd}
 use Rattle.dada_recorder.specs.declared.answers.RecordEnd.TheVariants.{Whole, Cut, FileFault, BadHeader, TooLong}
-use Rattle.dada_recorder.specs.Making.{Outset, BeginsAt, HasMade}
+use Rattle.dada_recorder.specs.Making.{Outset}
 use Rattle.dada_recorder.specs.Blocks.{RecordPlan, files_of_blocks, AcceptsBlock, AcceptsAll}
-use Rattle.dada_recorder.specs.Recording.{EndIs, FilesAre}
-use Rattle.dada_recorder.specs.RecordingLaws.{AreComplete, Cleared, BeginsComplete, AreAllRecorded, EndsComplete, HasFilesOfAll, RecordingsEnd}
+use Rattle.dada_recorder.specs.RecordingLaws.{AreComplete, Cleared, EndsComplete, HasFilesOfAll}
 use Rattle.search_session.specs.Recorded.{SealsRecordable, EndsRecording, HasRecorded}
 
 -- ---- what was sealed can be recorded
@@ -77,7 +75,8 @@ both b f t = cc
 whole_end : (n : ℕ) (blocks : List Entry) (end : FeedEnd) → IsEnding n blocks end → has_cut blocks ≡ false →
     (bytes : ℕ) × (end ≡ feed.Whole bytes)
 whole_end n blocks (feed.Whole bytes) ending uncut = (bytes, refl)
-whole_end n blocks feed.ReadFault ending uncut = absurd (both (has_cut blocks) uncut (ending.cut (λ bytes e. absurd cc)))
+whole_end n blocks feed.ReadFault ending uncut =
+    absurd (both (has_cut blocks) uncut (ending.cut (λ bytes e. absurd cc)))
 whole_end n blocks (feed.BadHeader file cause) ending uncut =
     absurd (both (has_cut blocks) uncut (ending.cut (λ bytes e. absurd cc)))
 whole_end n blocks (feed.Gap file expected found) ending uncut =

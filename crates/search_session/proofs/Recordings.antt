@@ -1,11 +1,11 @@
 -- The recorder's end.
-use Rattle.std.proofs.Common.{◌≡◌, ◌≢◌, ℕ, ◌-◌, ◌≤◌, false, List, [], ◌++◌, length, Option, Some, None, refl, sym, ap, ◌∙◌, subst, arith}
+use Rattle.std.proofs.Common.{◌≡◌, ℕ, ◌-◌, ◌≤◌, false, List, [], length, Option, Some, None, refl, sym, ap, ◌∙◌, subst, arith}
 use Rattle.std.specs.Prelude.{IsSome, option_map}
 use Rattle.std.proofs.lemmas.List.{append-nil}
 use Rattle.psr_base.specs.Count.{Rose}
 use Rattle.psr_base.specs.Made.{NamedBytes, FilesLeft, FilesSeen}
 use Rattle.ring_blocks.specs.declared.Entry.{Entry}
-use Rattle.ring_ends.specs.Ended.{sealed_at_end, cleared_at_end}
+use Rattle.ring_ends.specs.Ended.{sealed_at_end}
 use Rattle.dada_hdu.specs.declared.hdu.Hdu.{Hdu}
 use Rattle.stream_model.specs.Blocks.{joined_bytes}
 use Rattle.stream_model.specs.RecordedLaws.{recorded_of_transfers}
@@ -25,7 +25,7 @@ use Rattle.search_session.specs.declared.record.RecordActor.{RecordActor}
 use Rattle.search_session.specs.declared.ended.SessionEnd.{SessionEnd}
 use Rattle.search_session.specs.Records.{recorded_headers, recorded_blocks, RecordOn, RecordSince, RecordMoved}
 use Rattle.search_session.specs.Stages.{IsFreshRecorder, IsRecorderOf}
-use Rattle.search_session.specs.Recorded.{SealsRecordable, EndsRecording, HasRecorded, RecordedBy, headers_through, files_through}
+use Rattle.search_session.specs.Recorded.{SealsRecordable, EndsRecording, HasRecorded, RecordedBy, headers_through}
 use Rattle.search_session.specs.Sessions.{IsEndOfRecorder}
 use Rattle.search_session.proofs.RecordEnds.{complete, prefix_of, ends_recording, has_recorded, all_cleared}
 
@@ -145,7 +145,8 @@ module _ {F : Type 0} (seen : F → FilesSeen) (files_open : F → Type 0) (hdu 
 
       begins_complete : SealsRecordable (plan_of part) (plan_at feeder) → BeginsComplete (plan_of part) all
       begins_complete can = record {
-        complete = complete (plan_of part) (plan_at feeder) can headers (sealed_at_end end.blocks) end.feed up ending few;
+        complete =
+            complete (plan_of part) (plan_at feeder) can headers (sealed_at_end end.blocks) end.feed up ending few;
         headers = prefix_of (recorded_headers x) headers is_end.headers_begin;
         blocks = prefix_of (recorded_blocks x) (sealed_at_end end.blocks) is_end.begins;
       }

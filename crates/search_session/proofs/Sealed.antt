@@ -1,5 +1,5 @@
 -- What was sealed of both rings by a feeder that ended.
-use Rattle.std.proofs.Common.{◌≡◌, ℕ, ◌+◌, ◌*◌, ◌<◌, ◌≤◌, List, [], ◌++◌, length, length-append, take, get_or, Some, slice_get, refl, sym, ap, ◌∙◌, arith}
+use Rattle.std.proofs.Common.{◌≡◌, ℕ, ◌+◌, ◌*◌, ◌<◌, ◌≤◌, List, [], length, length-append, take, get_or, Some, slice_get, refl, sym, ap, ◌∙◌, arith}
 use Rattle.std.specs.Prelude.{map}
 use Rattle.std.specs.List.{sum_by, sum, range_with_len}
 use Rattle.std.proofs.lemmas.List.{take_all, length-take, length-take-le, length-map, same_lists}
@@ -59,8 +59,8 @@ headers_are ends plan size before current sealed blocks (TooLong limit) s up =
 
 -- ---- the limit
 
-cut_few : BytesAreJoined → (size max_bytes limit : ℕ) (before : List (List ℕ)) (current : List ℕ) (blocks : List Entry) →
-    blocks ≡ abandoned_stream size max_bytes before current →
+cut_few : BytesAreJoined → (size max_bytes limit : ℕ) (before : List (List ℕ)) (current : List ℕ)
+    (blocks : List Entry) → blocks ≡ abandoned_stream size max_bytes before current →
     length (joined_data before) + length current ≤ limit → length (joined_bytes blocks) ≤ limit
 cut_few joined size max_bytes limit before current blocks is few =
     let n = blocks_before_stop size max_bytes before current * size in

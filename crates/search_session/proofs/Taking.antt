@@ -10,7 +10,7 @@ use Rattle.arrayvec.specs.ArrayVec.{ArrayVec}
 use Rattle.candidate_book.specs.Book.{BookContents}
 use Rattle.search_engine.specs.Engine.{EngineState}
 use Rattle.search_session.specs.declared.lane.Lane.{Lane}
-use Rattle.search_session.specs.Books.{HasLane, HaveEngines, transfers_searched, book_at, GivesFirst, FirstsGiven, HasBooks, AreBooks, BooksTaken}
+use Rattle.search_session.specs.Books.{HasLane, HaveEngines, transfers_searched, book_at, GivesFirst, FirstsGiven, AreBooks, BooksTaken}
 use Rattle.search_session.proofs.Rows.{get_set_same, get_set_other, longer, at_end}
 
 -- the first element is taken
@@ -18,7 +18,8 @@ pub first_taken : {X : Type 0} (old new : List X) (r : Option X) (x slot : X) (r
     OnSome r (new ≡ remove old 0) → r ≡ Some x → old ≡ slot ∷ rest → (x ≡ slot) × (new ≡ rest)
 first_taken {X} old new r x slot rest value items some is =
     let first : r ≡ Some slot = value ∙ ap (λ (l : List X). slice_get l 0) is in
-    let left : OnSome (Some x) (new ≡ remove old 0) = subst (λ (o : Option X). OnSome o (new ≡ remove old 0)) some items in
+    let left : OnSome (Some x) (new ≡ remove old 0) =
+    subst (λ (o : Option X). OnSome o (new ≡ remove old 0)) some items in
     (inside (sym some ∙ first), left ∙ ap (λ (l : List X). remove l 0) is)
   where
     inside : Some x ≡ Some slot → x ≡ slot
@@ -81,8 +82,8 @@ nothing_taken lanes = record {
 
 -- the books of one transfer more
 pub taken_more : (all left new : List (Option Lane)) (n transfers : ℕ) (books : List (ArrayVec (Option BookContents)))
-    (row : ArrayVec (Option BookContents)) → HaveEngines transfers all → (0 < length all → n < transfers) → BooksTaken n all books left →
-    FirstsGiven (length left) left row.items new → BooksTaken (n + 1) all (books ++ row ∷ []) new
+    (row : ArrayVec (Option BookContents)) → HaveEngines transfers all → (0 < length all → n < transfers) →
+    BooksTaken n all books left → FirstsGiven (length left) left row.items new → BooksTaken (n + 1) all (books ++ row ∷ []) new
 taken_more all left new n transfers books row have near so_far firsts = record {
   count = firsts.count ∙ so_far.count;
   books_count = length-append books (row ∷ []) ∙ ap (λ (k : ℕ). k + 1) so_far.books_count;

@@ -1,7 +1,6 @@
 use Rattle.std.proofs.Common.{◌≡◌, ℕ, List, ◌++◌, Option, length, sym, ap, ◌∙◌, subst}
 use Rattle.std.proofs.lemmas.List.{length-map}
 use Rattle.std.specs.Prelude.{All, option_map}
-use Rattle.ring_ends.specs.Ended.{sealed_at_end}
 use Rattle.ring_blocks.specs.declared.Entry.{Entry}
 use Rattle.ring_words.specs.Ring.{Begins}
 use Rattle.dada_hdu.specs.declared.ended.HduEnded.{HduEnded}
@@ -73,7 +72,8 @@ returns-clause-counted g c = λ transfers done.
     subst (λ (l : List (Option Lane)). AreBooks transfers l c.books_of-books.result.items)
     c.part_shards-passes.ensures.lanes (c.books_of-books.ensures transfers
     (subst (λ (l : List (Option Lane)). HaveEngines transfers l) (sym c.part_shards-passes.ensures.lanes) have)) in
-    let shown : c.as_slice.result.now ≡ lanes_of shards = c.as_slice.ensures.value ∙ c.part_shards-passes.ensures.lanes in
+    let shown : c.as_slice.result.now ≡ lanes_of shards =
+    c.as_slice.ensures.value ∙ c.part_shards-passes.ensures.lanes in
     let spectra : length c.spectra_of-spectra.result.items ≡ transfers_searched (length (lanes_of shards)) transfers =
     subst (λ (l : List (Option Lane)). length c.spectra_of-spectra.result.items ≡ transfers_searched (length l) transfers)
     shown (c.spectra_of-spectra.ensures.count transfers

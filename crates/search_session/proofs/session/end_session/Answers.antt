@@ -1,9 +1,8 @@
-use Rattle.std.proofs.Common.{◌≡◌, ℕ, ◌<◌, List, Option, Some, length, slice_get, sym, ap, ◌∙◌, subst, arith}
+use Rattle.std.proofs.Common.{◌≡◌, ℕ, List, Some, length, slice_get, sym, ap, ◌∙◌, subst, arith}
 use Rattle.std.proofs.lemmas.Option.{slice_get_within}
 use Rattle.ring_blocks.specs.declared.Entry.{Entry}
 use Rattle.disk_feeder.specs.Turns.{sealed_headers, sealed_blocks}
 use Rattle.search_session.specs.declared.feed.FeedActor.{FeedActor}
-use Rattle.search_session.specs.declared.record.RecordActor.{RecordActor}
 use Rattle.search_session.specs.declared.hand.Hand.{Hand}
 use Rattle.search_session.specs.Books.{AreCounted}
 use Rattle.search_session.specs.Sessions.{IsEndOfRecorder}
@@ -117,8 +116,8 @@ returns g c =
       no_recorder = λ is. end.no_recorder (r_is ∙ is);
     }
   where
-    one_feeder : (I F : Type 0) (hands : List (Hand I F)) (a b : Hand I F) (x y : FeedActor I) → slice_get hands 0 ≡ Some a →
-        a.feeder ≡ Some x → slice_get hands 0 ≡ Some b → b.feeder ≡ Some y → x ≡ y
+    one_feeder : (I F : Type 0) (hands : List (Hand I F)) (a b : Hand I F) (x y : FeedActor I) →
+        slice_get hands 0 ≡ Some a → a.feeder ≡ Some x → slice_get hands 0 ≡ Some b → b.feeder ≡ Some y → x ≡ y
     one_feeder I F hands a b x y at_a is_x at_b is_y =
         let same : a ≡ b = hand_is I F a b (sym at_a ∙ at_b) in
         inside I x y (sym is_x ∙ (ap (λ (h : Hand I F). h.feeder) same ∙ is_y))

@@ -1,22 +1,18 @@
-use Rattle.std.proofs.Common.{◌≡◌, ℕ, ◌<◌, List, length, refl, sym, ap, ◌∙◌, subst, arith}
+use Rattle.std.proofs.Common.{◌≡◌, ℕ, ◌<◌, length, refl, sym, ap, ◌∙◌, subst, arith}
 use Rattle.std.specs.Prelude.{IfSome}
 use Rattle.dada_hdu.specs.declared.hdu.Hdu.{Hdu}
 use Rattle.dada_hdu.specs.Passes.{data_shape}
 use Rattle.disk_feeder.specs.Turns.{sealed_headers}
-use Rattle.search_session.specs.declared.hand.Hand.{Hand}
-use Rattle.search_session.specs.Hands.{HandMoved, EachMoved}
 use Rattle.search_session.specs.Stages.{IsFreshRecorder, RecorderWorks, feeder_of, transfers_of}
 use Rattle.search_session.specs.Books.{AreCounted}
 use Rattle.search_session.specs.Ends.{HaveEnginesIn}
 use Rattle.search_session.specs.Sessions.{IsEndOfRecorder}
-use Rattle.search_session.proofs.Rows.{all_written}
 use Rattle.search_session.proofs.FeedEnds.{SessionLaws}
-use Rattle.search_session.proofs.Closing.{AllEnded, all_ended, engines_of, works_count, works_last, feed_is, shards_are, recorded_are}
+use Rattle.search_session.proofs.Closing.{AllEnded, hands_ended, engines_of, works_count, works_last, feed_is, shards_are, recorded_are}
 use Rattle.search_session.proofs.session.run_session.Goals as goal
 
 pub end_session-requires : goal.end_session-requires
 end_session-requires g c =
-    let H : Type 0 = Hand g.row.I.Denot g.row.F.Denot in
     let told = g.I.Inputs.told in
     let is_open = g.I.Inputs.is_open in
     let is_calm = g.I.Inputs.is_calm in
@@ -29,29 +25,22 @@ end_session-requires g c =
     let start = feeder_of stage in
     let hdu : Hdu = c.staff-hdu.result.0 in
     let hands = c.staff-hdu.result.1 in
-    let two : List H = c.run_rounds.new.hands in
-    let rounds = c.run_rounds.ensures in
-    let n = rounds.moved.0 in
-    let moved : EachMoved (HandMoved told is_calm faults seen n) hands.items two =
-    subst (λ (l : List H). EachMoved (HandMoved told is_calm faults seen n) l two) c.as_mut_slice.ensures.value
-    rounds.moved.1 in
-    let count : length two ≡ hands.len = rounds.moved.1.count ∙ c.as_mut_slice.ensures.len in
-    let mid : c.as_mut_slice-2.result.now ≡ two =
-    c.as_mut_slice-2.ensures.value ∙ all_written hands.len hands.items two count in
-    let ended : AllEnded told is_open is_calm faults files_open seen hdu start lanes recorder two =
-    all_ended told is_open is_calm faults files_open seen hdu start lanes recorder hands.items two n moved
-    c.staff-hdu.ensures.feeder c.staff-hdu.ensures.shards c.staff-hdu.ensures.lanes c.staff-hdu.ensures.recorder rounds.on
-    rounds.ended in
-    let all : AllEnded told is_open is_calm faults files_open seen hdu start lanes recorder c.as_mut_slice-2.result.now =
-    subst (λ (l : List H). AllEnded told is_open is_calm faults files_open seen hdu start lanes recorder l) (sym mid) ended in
+    let two = c.run_rounds.new.hands in
     let now = c.as_mut_slice-2.result.now in
+    let staffed = c.staff-hdu.ensures in
+    let rounds = c.run_rounds.ensures in
+    let slice = c.as_mut_slice.ensures in
+    let all : AllEnded told is_open is_calm faults files_open seen hdu start lanes recorder now =
+    hands_ended told is_open is_calm faults files_open seen hdu start lanes recorder hands.items
+    c.as_mut_slice.result.now two now hands.len rounds.moved.0 slice.value slice.len c.as_mut_slice-2.ensures.value
+    rounds.moved.1 staffed.feeder staffed.shards staffed.lanes staffed.recorder rounds.on rounds.ended in
     let value = c.len-shards.ensures.value in
     let works : RecorderWorks seen recorder c.len-shards.result now =
     subst (λ (k : ℕ). RecorderWorks seen recorder k now) (sym value) all.recorder_works in
     let listed_is = works_count seen c.len-shards.result now recorder works in
     let readers = c.requires.stage.readers_count in
     let all_readers : length stage.readers.items ≡ (data_shape hdu).readers =
-    c.requires.stage.all_readers ∙ ap (λ (h : Hdu). (data_shape h).readers) (sym c.staff-hdu.ensures.hdu) in
+    c.requires.stage.all_readers ∙ ap (λ (h : Hdu). (data_shape h).readers) (sym staffed.hdu) in
     record {
       on = all.on;
       ended = all.ended;
@@ -70,7 +59,6 @@ end_session-requires g c =
 
 pub returns : goal.returns
 returns g c =
-    let H : Type 0 = Hand g.row.I.Denot g.row.F.Denot in
     let told = g.I.Inputs.told in
     let is_open = g.I.Inputs.is_open in
     let is_calm = g.I.Inputs.is_calm in
@@ -83,22 +71,15 @@ returns g c =
     let start = feeder_of stage in
     let hdu : Hdu = c.staff-hdu.result.0 in
     let hands = c.staff-hdu.result.1 in
-    let two : List H = c.run_rounds.new.hands in
-    let rounds = c.run_rounds.ensures in
-    let n = rounds.moved.0 in
-    let moved : EachMoved (HandMoved told is_calm faults seen n) hands.items two =
-    subst (λ (l : List H). EachMoved (HandMoved told is_calm faults seen n) l two) c.as_mut_slice.ensures.value
-    rounds.moved.1 in
-    let count : length two ≡ hands.len = rounds.moved.1.count ∙ c.as_mut_slice.ensures.len in
-    let mid : c.as_mut_slice-2.result.now ≡ two =
-    c.as_mut_slice-2.ensures.value ∙ all_written hands.len hands.items two count in
-    let ended : AllEnded told is_open is_calm faults files_open seen hdu start lanes recorder two =
-    all_ended told is_open is_calm faults files_open seen hdu start lanes recorder hands.items two n moved
-    c.staff-hdu.ensures.feeder c.staff-hdu.ensures.shards c.staff-hdu.ensures.lanes c.staff-hdu.ensures.recorder rounds.on
-    rounds.ended in
-    let all : AllEnded told is_open is_calm faults files_open seen hdu start lanes recorder c.as_mut_slice-2.result.now =
-    subst (λ (l : List H). AllEnded told is_open is_calm faults files_open seen hdu start lanes recorder l) (sym mid) ended in
+    let two = c.run_rounds.new.hands in
     let now = c.as_mut_slice-2.result.now in
+    let staffed = c.staff-hdu.ensures in
+    let rounds = c.run_rounds.ensures in
+    let slice = c.as_mut_slice.ensures in
+    let all : AllEnded told is_open is_calm faults files_open seen hdu start lanes recorder now =
+    hands_ended told is_open is_calm faults files_open seen hdu start lanes recorder hands.items
+    c.as_mut_slice.result.now two now hands.len rounds.moved.0 slice.value slice.len c.as_mut_slice-2.ensures.value
+    rounds.moved.1 staffed.feeder staffed.shards staffed.lanes staffed.recorder rounds.on rounds.ended in
     let value = c.len-shards.ensures.value in
     let laws : SessionLaws g.row.I.Denot = record {
       end = c.feeders_end.ensures;
@@ -123,7 +104,7 @@ returns g c =
           (λ s near. e.shards s (subst (λ (k : ℕ). s < k) (sym value) near));
       recorded = recorded_are told is_open is_calm faults files_open seen hdu start lanes recorder now
           (transfers_of stage) c.requires.stage.lanes all laws end f.0 f.1 f.3
-          (subst (λ (h : Hdu). IfSome recorder (IsFreshRecorder files_open h)) (sym c.staff-hdu.ensures.hdu)
+          (subst (λ (h : Hdu). IfSome recorder (IsFreshRecorder files_open h)) (sym staffed.hdu)
           c.requires.stage.recorder)
           (λ x is. subst (λ (k : ℕ). IsEndOfRecorder end k (sealed_headers all.feeder.feeder.pass) x) value
           (e.recorder all.feeder.hand all.feeder.feeder x all.feeder.there all.feeder.works is))
