@@ -112,8 +112,8 @@ module _ (w : FileStream) (observations : List (Option Observation)) (headers : 
       RefusesTransfer file_size w.max_bytes headers observations fault → StopsRecording file_size w s
   stops_recording fault s is refuses =
       let here = first_there w observations firsts refuses.transfer refuses.observation refuses.said in
-      let why = recording_cause fault s
-      (record_refusal (recording refuses.header refuses.observation.obs_offset file_size) w.max_bytes) is refuses.cause in (
+      let recorded = recording refuses.header refuses.observation.obs_offset file_size in
+      let why = recording_cause fault s (record_refusal recorded w.max_bytes) is refuses.cause in (
         why.0,
         why.1,
         record {

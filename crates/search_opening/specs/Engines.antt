@@ -27,7 +27,8 @@ pub record AreLanesTo
     (lanes : List (Option Lane)) : Type 0 where
   pub count : length lanes ≡ shards
   pub each : (shard : ℕ) → shard < shards →
-      (lane : Lane) × HasLane lanes shard lane × AreEnginesFor s shard observations lane.engines.items
+      (lane : Lane) × HasLane lanes shard lane
+      × AreEnginesFor s shard observations lane.engines.items
 
 -- those of all shards
 abbrev pub AreOpenedLanes : Search → List (Option Observation) → List (Option Lane) → Type 0

@@ -38,8 +38,8 @@ pub record IsSpaceOf {I F : Type 0} (lanes : ArrayVec (Option Lane)) (shape : Ri
 
 -- ---- what comes to it
 
--- The feeder has accepted all first headers, of which this is the first, and seals blocks of the rings' size, no more of
--- them than the rings may carry.
+-- The feeder has accepted all first headers, of which this is the first, and seals blocks of the rings' size, no more
+-- of them than the rings may carry.
 pub record FeedsRings {I : Type 0} (told : I → Told) (is_open : I → Type 0) (shape : RingShape)
     (header : HeaderText) (feeder : Feeder I) : Type 0 where
   pub first : slice_get (header_at feeder) 0 ≡ Some header

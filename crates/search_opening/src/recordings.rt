@@ -70,8 +70,8 @@ fn judge_recordings<'a, I: Inputs>(
     Ok(())
 }
 
-/// Whether the data of each transfer, at most `max_bytes` of them, can be recorded in files of `file_size` data bytes, in
-/// order, or why the first that can't is refused. The headers are judged in `space`.
+/// Whether the data of each transfer, at most `max_bytes` of them, can be recorded in files of `file_size` data bytes,
+/// in order, or why the first that can't is refused. The headers are judged in `space`.
 pub fn fit_all<'a, I: Inputs>(
     feeder: &Feeder<'a, I>,
     observations: &[Option<Observation>],

@@ -58,8 +58,8 @@ fn open_hands<'a, I: Inputs, F: Files>(
     Ok(hands)
 }
 
-/// The space of a stage: the rings, of which the first header is sealed, the lanes, a space for each, and the hands. All
-/// memory of a session is in it but that of its feeder and of its recorder.
+/// The space of a stage: the rings, of which the first header is sealed, the lanes, a space for each, and the hands.
+/// All memory of a session is in it but that of its feeder and of its recorder.
 #[derive(Drop)]
 pub struct StageSpace<'a, I, F> {
     hdu: Hdu,

@@ -71,5 +71,5 @@ returns-in-Err-clause-stopped g c = λ files are.
     let r = c.in-Err.ensures.refused in
     subst (λ s. StopsFirsts (stream_of old files) s) (sym c.of_begin.ensures)
     (stops_text old (length names) (g.I.Inputs.told c.args.feeder.now.inputs.now) files many
-    (starts_are old c.args.starts.now (length names) c.requires.plan many c.requires.begin) are c.in-Err.fault r.transfer
-    r.there r.refuses r.earlier)
+    (starts_are old c.args.starts.now (length names) c.requires.plan many c.requires.begin) are c.in-Err.fault
+    r.transfer r.there r.refuses r.earlier)

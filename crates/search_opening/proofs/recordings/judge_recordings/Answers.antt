@@ -40,7 +40,8 @@ loop-k-preserved g c =
     c.index-observations-k.is None in
     record {
       fit = one_recorded c.args.file_size c.args.max_bytes (header_at c.args.feeder.now) observations c.loop-k.k
-          c.header-header.result.now o.0 c.loop-k.invariant.fit c.header-header.ensures o.1 (c.in-Ok.ensures.fits o.0 (read ∙ o.1));
+          c.header-header.result.now o.0 c.loop-k.invariant.fit c.header-header.ensures o.1
+          (c.in-Ok.ensures.fits o.0 (read ∙ o.1));
       read_back = λ j other within at. elim (cases_lt j c.loop-k.k) [
         | inl below ↦ c.loop-k.invariant.read_back j other below at
         | inr above ↦

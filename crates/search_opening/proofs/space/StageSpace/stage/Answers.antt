@@ -32,7 +32,8 @@ returns-clause-on g c =
       file = feeds.file;
       running = feeds.running;
       feeding = subst (λ hs. FeederFeeds told feeder hs (sealed_blocks writer)) (sym headers)
-          (subst (λ bs. FeederFeeds told feeder (header_entries (take 1 (header_at feeder))) bs) (sym is.rings.no_data) feeds.feeds);
+          (subst (λ bs. FeederFeeds told feeder (header_entries (take 1 (header_at feeder))) bs)
+          (sym is.rings.no_data) feeds.feeds);
       transfers = c.requires.transfers;
       all_readers = is.rings.count ∙ ap (λ (s : RingShape). s.readers) (sym shape);
       readers_count = is.rings.count ∙ c.requires.readers
@@ -41,7 +42,8 @@ returns-clause-on g c =
           let found = is.rings.fresh s within in
           (found.0, found.1, is_unread c.args.self.hdu s found.0 found.2);
       lanes = subst (λ lanes. (s : ℕ) → s < length lanes.items →
-          (lane : Lane) × HasLane lanes.items s lane × IsUnfed (length (plan_at feeder).starts) lane) (sym is.lanes_are) c.requires.engines;
+          (lane : Lane) × HasLane lanes.items s lane × IsUnfed (length (plan_at feeder).starts) lane)
+          (sym is.lanes_are) c.requires.engines;
       spaces_count = is.spaces_count ∙ ap (λ lanes. length lanes.items) (sym is.lanes_are);
       spaces = λ k d within. some_weaker (λ space. HasRoom c.requires.shape.size (vec_len space))
           (λ space. HasRoomFor c.args.self.hdu (vec_len space))
