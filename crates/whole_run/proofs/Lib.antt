@@ -1,0 +1,5 @@
+mod Lists
+mod Told
+mod Recorded
+mod Searched
+mod Through

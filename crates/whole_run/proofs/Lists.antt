@@ -1,0 +1,56 @@
+-- Lists over ranges.
+use Rattle.std.proofs.Common.{◌≡◌, ℕ, zero, suc, ◌+◌, ◌<◌, ◌≤◌, All, List, [], ◌∷◌, Some, length, map, refl, sym, ap, ◌∙◌, subst, arith}
+use Rattle.std.specs.Prelude.{slice_get, Option, IfSome}
+use Rattle.std.proofs.lemmas.Option.{slice_get_within}
+use Rattle.std.specs.List.{sum_by, range_with_len}
+use Rattle.std.proofs.lemmas.List.Sums.{sum_by-cons}
+
+pub some_at : {X : Type 0} (xs : List X) (k : ℕ) → k < length xs → (x : X) × (slice_get xs k ≡ Some x)
+some_at [] k below = absurd (omega (arith, below))
+some_at (x ∷ xs) zero below = (x, refl)
+some_at (x ∷ xs) (suc k) below = some_at xs k (omega (arith, below))
+
+pub if_some_at : {X : Type 0} (P : X → Type 0) (xs : List (Option X)) (k : ℕ) (x : X) →
+    slice_get xs k ≡ Some (Some x) → All (λ at. IfSome at P) xs → P x
+if_some_at P [] k x there all = absurd (none_at k (slice_get_within [] k (Some x) there))
+  where
+    none_at : (j : ℕ) → j < 0 → ⊥
+    none_at j below = omega (arith, below)
+if_some_at P (y ∷ xs) zero x there all =
+    let is : y ≡ Some x = cc in
+    subst (λ at. IfSome at P) is all.0
+if_some_at P (y ∷ xs) (suc k) x there all = if_some_at P xs k x there all.1
+
+pub same_over : {X : Type 0} (f g : ℕ → X) (a n : ℕ) → ((j : ℕ) → a ≤ j → j < a + n → f j ≡ g j) →
+    map f (range_with_len a n) ≡ map g (range_with_len a n)
+same_over f g a zero same = refl
+same_over f g a (suc n) same =
+    ap (λ x. x ∷ map f (range_with_len (a + 1) n)) (same a (omega arith) (omega arith))
+    ∙ ap (λ xs. g a ∷ xs)
+    (same_over f g (a + 1) n (λ j from to. same j (omega (arith, from)) (omega (arith, to))))
+
+-- a list by its places
+pub as_map : {X : Type 0} (f : ℕ → X) (a : ℕ) (xs : List X) →
+    ((k : ℕ) (x : X) → slice_get xs k ≡ Some x → f (a + k) ≡ x) → xs ≡ map f (range_with_len a (length xs))
+as_map f a [] at = refl
+as_map f a (x ∷ xs) at =
+    let here : a ≡ a + 0 = omega arith in
+    ap (λ y. y ∷ xs) (sym (ap f here ∙ at 0 x refl))
+    ∙ ap (λ ys. f a ∷ ys) (as_map f (a + 1) xs (λ k y is.
+    let there : a + 1 + k ≡ a + suc k = omega arith in
+    ap f there ∙ at (suc k) y is))
+
+pub sum_over : {X : Type 0} (g : X → ℕ) (f : ℕ → X) (xs : List ℕ) →
+    sum_by g (map f xs) ≡ sum_by (λ k. g (f k)) xs
+sum_over g f [] = refl
+sum_over g f (x ∷ xs) =
+    sum_by-cons g (f x) (map f xs) ∙ ap (λ n. g (f x) + n) (sum_over g f xs)
+    ∙ sym (sum_by-cons (λ k. g (f k)) x xs)
+
+pub all_over : {X : Type 0} (P : X → Type 0) (f : ℕ → X) (a n : ℕ) →
+    ((j : ℕ) → a ≤ j → j < a + n → P (f j)) → All P (map f (range_with_len a n))
+all_over P f a zero each = tt
+all_over P f a (suc n) each = (
+  each a (omega arith) (omega arith),
+  all_over P f (a + 1) n (λ j from to. each j (omega (arith, from)) (omega (arith, to))),
+)

@@ -1,0 +1,104 @@
+-- What a session records, over the files of a run.
+use Rattle.std.proofs.Common.{◌≡◌, ◌≢◌, ℕ, ◌+◌, ◌<◌, ◌≤◌, true, false, List, Option, Some, None, Ok, length, map, refl, sym, ap, ◌∙◌, subst, arith}
+use Rattle.std.specs.Prelude.{slice_get, slice_index_or}
+use Rattle.std.specs.Option.{option_map}
+use Rattle.std.proofs.lemmas.List.{length-map}
+use Rattle.std.proofs.lemmas.Option.{slice_get-map, slice_get_within, get_or_from_slice_get}
+use Rattle.dada_model.specs.Fields.{HeaderText, fields_of}
+use Rattle.dada_model.specs.Observation.{Observation, observation_of}
+use Rattle.psr_base.specs.Told.{Told}
+use Rattle.psr_base.specs.Made.{NamedBytes, FilesSeen}
+use Rattle.search_words.specs.Settings.{SettingsSeen}
+use Rattle.stream_model.specs.Walk.{FileStream}
+use Rattle.stream_model.specs.Recorded.{record_refusal}
+use Rattle.disk_feeder.specs.declared.answers.FeedEnd.{FeedEnd}
+use Rattle.disk_feeder.specs.declared.feeder.Feeder.{Feeder}
+use Rattle.disk_feeder.specs.Feeder.{header_at, plan_at}
+use Rattle.dada_recorder.specs.declared.answers.RecordEnd.{RecordEnd}
+use Rattle.dada_recorder.specs.declared.answers.RecordEnd.TheVariants.{Whole, Cut, FileFault, BadHeader, TooLong}
+use Rattle.dada_recorder.specs.Blocks.{under_header}
+use Rattle.dada_recorder.specs.Changes.{recording}
+use Rattle.dada_recorder.specs.Making.{Outset, HasMade, BreaksOff}
+use Rattle.search_session.specs.Recorded.{SealsRecordable, EndsRecording, HasRecorded}
+use Rattle.search_opening.specs.declared.space.StageSpace.{StageSpace}
+use Rattle.search_opening.specs.First.{AreFirsts, AreHeadersOf, AreObserved}
+use Rattle.run_stop.specs.Laws.{RecordsFirsts}
+use Rattle.run_stop.specs.Runs.{Task, first_observation}
+use Rattle.whole_run.specs.Openings.{IsReady, plan_for}
+use Rattle.whole_run.proofs.Lists.{some_at}
+
+-- ---- observations
+
+-- as many observations as headers, one at each place
+pub as_many : (headers : List HeaderText) (observations : List (Option Observation)) →
+    AreObserved headers observations → length headers ≡ length observations
+as_many headers observations are =
+    sym (length-map headers (λ header. observation_of (fields_of header.text)))
+    ∙ ap length are.accepted ∙ length-map are.said Ok
+    ∙ sym (length-map are.said Some) ∙ ap length (sym are.here)
+
+pub observation_at_place : (headers : List HeaderText) (observations : List (Option Observation)) (k : ℕ) →
+    AreObserved headers observations → k < length observations →
+    (o : Observation) × (slice_get observations k ≡ Some (Some o))
+observation_at_place headers observations k are below =
+    let count = ap length are.here ∙ length-map are.said Some in
+    let there = some_at are.said k (omega (arith, count, below)) in
+    (there.0, ap (λ os. slice_get os k) are.here ∙ slice_get-map Some are.said k ∙ ap (option_map Some) there.1)
+
+-- ---- nothing stands against the recording
+
+pub is_recordable : {I F : Type 0} (told : I → Told) (is_open : I → Type 0) (task : Task) (s : SettingsSeen)
+    (offsets : List ℕ) (feeder : Feeder I) (observations : List (Option Observation)) (stage : StageSpace I F) →
+    IsReady told is_open task s offsets feeder observations stage → s.recording ≡ true →
+    SealsRecordable (plan_for s offsets) (plan_at feeder)
+is_recordable told is_open task s offsets feeder observations stage ready records =
+    let count = as_many (header_at feeder) observations ready.observed in
+    let headers = ready.plan.headers in
+    let starts = ap length ready.plan.transfers in
+    let places = ready.offsets_are.count in
+    record {
+      accepted = λ k header there.
+          let below = slice_get_within (header_at feeder) k header there in
+          let is = observation_at_place (header_at feeder) observations k ready.observed (omega (arith, below, count)) in
+          let offset : slice_index_or offsets k 0 ≡ is.0.obs_offset =
+          get_or_from_slice_get offsets k is.0.obs_offset 0 (ready.offsets_are.each k is.0 is.1) in (
+            ready.fit.read_back records k header there,
+            ap (λ n. record_refusal (recording header n s.file_size) s.max_bytes) offset
+                ∙ ready.fit.can records k header is.0 (omega (arith, below, count)) there is.1,
+          );
+      headers = omega (arith, headers, starts);
+      transfers = omega (arith, places, count, headers, starts);
+      limit = omega (arith, ready.plan.limit);
+    }
+
+-- ---- under which headers
+
+pub records_firsts : {I F : Type 0} (told : I → Told) (is_open : I → Type 0) (task : Task) (s : SettingsSeen)
+    (offsets : List ℕ) (feeder : Feeder I) (observations : List (Option Observation)) (stage : StageSpace I F)
+    (w : FileStream) → IsReady told is_open task s offsets feeder observations stage → s.recording ≡ true →
+    w.starts ≡ s.starts → AreFirsts w observations → AreHeadersOf w (header_at feeder) →
+    RecordsFirsts (plan_for s offsets) w (header_at feeder)
+records_firsts told is_open task s offsets feeder observations stage w ready records starts firsts headers = record {
+  count = ready.plan.headers ∙ ap length (sym starts);
+  read = headers;
+  read_back = ready.fit.read_back records;
+  offsets = λ k below. get_or_from_slice_get offsets k (first_observation w k).obs_offset 0
+      (ready.offsets_are.each k (first_observation w k) (firsts.each k below));
+}
+
+-- ---- what was made
+
+pub made_all : (feed : FeedEnd) (files : List NamedBytes) (outset : Outset) (seen : FilesSeen) (answer : RecordEnd) →
+    EndsRecording feed files answer → HasRecorded outset files seen answer → answer ≢ FileFault →
+    HasMade outset false files seen
+made_all feed files outset seen (Whole count) ends has fine = has
+made_all feed files outset seen (Cut count) ends has fine = has
+made_all feed files outset seen FileFault ends has fine = absurd (fine refl)
+made_all feed files outset seen (BadHeader fault) ends has fine = absurd ends
+made_all feed files outset seen (TooLong limit) ends has fine = absurd ends
+
+pub made_front : (files : List NamedBytes) (outset : Outset) (seen : FilesSeen) (answer : RecordEnd) →
+    HasRecorded outset files seen answer → answer ≡ FileFault → BreaksOff outset files seen
+made_front files outset seen answer has failed =
+    let By : RecordEnd → Type 0 = λ a. HasRecorded outset files seen a in
+    subst By failed has

@@ -1,0 +1,231 @@
+-- What a session left, over the files of a run.
+use Rattle.std.proofs.Common.{◌≡◌, ◌≢◌, ℕ, ◌+◌, ◌^◌, ◌<◌, ◌≤◌, true, false, List, Option, Some, None, length, map, refl, sym, ap, ◌∙◌, subst, arith}
+use Rattle.std.specs.List.{sum_by, range_with_len}
+use Rattle.std.proofs.lemmas.List.{length-map}
+use Rattle.arrayvec.specs.ArrayVec.{ArrayVec}
+use Rattle.psr_base.specs.Count.{Rose}
+use Rattle.candidate_book.specs.Book.{BookContents}
+use Rattle.ring_blocks.specs.declared.Entry.{Entry}
+use Rattle.std.proofs.lemmas.Bool.{true≢false}
+use Rattle.psr_base.specs.Told.{Told}
+use Rattle.psr_base.specs.Made.{NamedBytes, FilesSeen}
+use Rattle.dada_model.specs.Observation.{Observation}
+use Rattle.search_words.specs.Settings.{SettingsSeen}
+use Rattle.ring_ends.specs.Ended.{sealed_at_end, cleared_at_end}
+use Rattle.stream_model.specs.Walk.{FileStream, transfer_data}
+use Rattle.disk_feeder.specs.declared.answers.FeedEnd.{FeedEnd}
+use Rattle.disk_feeder.specs.declared.answers.FeedEnd.TheVariants.{Whole}
+use Rattle.disk_feeder.specs.Plan.{Plan}
+use Rattle.disk_feeder.specs.declared.feeder.Feeder.{Feeder}
+use Rattle.disk_feeder.specs.Feeder.{header_at, plan_at, block_size}
+use Rattle.disk_feeder.specs.Feeding.{EndIs, IsEnded, SealedAs}
+use Rattle.dada_recorder.specs.declared.answers.RecordEnd.{RecordEnd}
+use Rattle.dada_recorder.specs.declared.answers.RecordEnd.TheVariants.{FileFault}
+use Rattle.dada_recorder.specs.declared.recorder.Recorder.{Recorder}
+use Rattle.dada_recorder.specs.Blocks.{RecordPlan, files_of_blocks}
+use Rattle.dada_recorder.specs.Making.{Outset, HasMade, BreaksOff}
+use Rattle.dada_recorder.specs.Recorder.{plan_of}
+use Rattle.search_session.specs.declared.lane.Lane.{Lane}
+use Rattle.search_session.specs.declared.ended.SessionEnd.{SessionEnd}
+use Rattle.search_session.specs.Recorded.{RecordedBy, HasNoRecording, SealsRecordable, files_through, headers_through}
+use Rattle.search_session.specs.Sessions.{FeedAnswers, ShardAnswers, AreLanesFor, HoldFound, data_through}
+use Rattle.transfer_text.specs.Found.{HoldTransfers}
+use Rattle.transfer_text.specs.Laws.{TotalsAreCounted}
+use Rattle.search_opening.specs.Engines.{AreOpenedLanes}
+use Rattle.search_opening.specs.declared.space.StageSpace.{StageSpace}
+use Rattle.run_stop.specs.Laws.{RunsRecordBlocks, RecordsFirsts}
+use Rattle.run_stop.specs.Outcomes.{MadeAll, MadeFront, AllCleared, files_of_stream}
+use Rattle.run_stop.specs.Runs.{Task, Searching, RecordingAlone, stream_for}
+use Rattle.whole_run.specs.declared.found.Found.{Found}
+use Rattle.whole_run.specs.Wholes.{OfRun, ClearsAll, HoldsFound, shards_of}
+use Rattle.whole_run.specs.Openings.{IsReady, RecordsReady, SearchesReady, AreLanesOf, plan_for}
+use Rattle.whole_run.specs.Ends.{IsFoundOf, RecordsRun, GoesThrough}
+use Rattle.whole_run.proofs.Told.{of_plan, FeedsRun}
+use Rattle.whole_run.proofs.Recorded.{as_many, is_recordable, records_firsts, made_all, made_front}
+use Rattle.whole_run.proofs.Lists.{some_at}
+use Rattle.whole_run.proofs.Searched.{said_at, transfers_through, lanes_for, hold_transfers, transfers_are_counted, known_transfers}
+
+-- ---- the walk
+
+pub goes_walked : {I F : Type 0} (told : I → Told) (is_calm : I → Type 0) (faults : I → ℕ) (feeder : Feeder I)
+    (end : SessionEnd I F) (s : SettingsSeen) → FeedsRun feeder s → FeedAnswers told is_calm faults feeder end →
+    OfRun (told feeder.inputs.now) s (λ w. EndIs w s.size (sealed_at_end end.blocks) end.feed)
+goes_walked told is_calm faults feeder end s plan fed =
+    let By : ℕ → Type 0 = λ size. OfRun (told feeder.inputs.now) s
+    (λ w. EndIs w size (sealed_at_end end.blocks) end.feed) in
+    subst By plan.block
+    (of_plan feeder s (told feeder.inputs.now) (told end.inputs.now)
+    (λ w. EndIs w (block_size feeder) (sealed_at_end end.blocks) end.feed) plan fed.names fed.sealed.known)
+
+-- ---- what was cleared
+
+lanes_count : (task : Task) (s : SettingsSeen) (observations : List (Option Observation)) (lanes : List (Option Lane)) →
+    AreLanesOf task s observations lanes → length lanes ≡ shards_of task s
+lanes_count Searching s observations lanes are = are.count
+lanes_count RecordingAlone s observations lanes are = ap length are
+
+-- ---- the files
+
+-- the files of what went through are those of the run
+same_files : {I F : Type 0} → RunsRecordBlocks → (told : I → Told) (is_open : I → Type 0) (task : Task)
+    (s : SettingsSeen) (offsets : List ℕ) (feeder : Feeder I) (observations : List (Option Observation))
+    (stage : StageSpace I F) (r : Recorder F) (end : SessionEnd I F) →
+    IsReady told is_open task s offsets feeder observations stage → s.recording ≡ true →
+    plan_of r ≡ plan_for s offsets →
+    OfRun (told feeder.inputs.now) s (λ w. files_through feeder r end
+    ≡ files_of_stream w s.file_size (sealed_at_end end.blocks))
+same_files law told is_open task s offsets feeder observations stage r end ready records plan files are =
+    let w = stream_for s files in
+    ap (λ (p : RecordPlan). files_of_blocks p (headers_through feeder end) (sealed_at_end end.blocks)) plan
+    ∙ law (plan_for s offsets) w (header_at feeder) (sealed_at_end end.blocks)
+    (records_firsts told is_open task s offsets feeder observations stage w ready records refl (ready.firsts files are)
+    (ready.headers files are))
+
+pub records_run : {I F : Type 0} → RunsRecordBlocks → (told : I → Told) (is_open : I → Type 0) (files_open : F → Type 0)
+    (seen : F → FilesSeen) (task : Task) (s : SettingsSeen) (offsets : List ℕ) (feeder : Feeder I)
+    (observations : List (Option Observation)) (stage : StageSpace I F) (r : Recorder F) (reader : ℕ)
+    (end : SessionEnd I F) (found : Found) (after : FilesSeen) →
+    RecordsReady told is_open files_open task s offsets feeder observations stage r →
+    (by : RecordedBy seen feeder r reader end) → after ≡ seen by.files.now →
+    found.recorded ≡ end.recorded → found.blocks ≡ end.blocks →
+    RecordsRun s (told feeder.inputs.now) (seen r.files.now) after found
+records_run law told is_open files_open seen task s offsets feeder observations stage r reader end found after ready by
+    is answer blocks =
+    let ready' = ready.ready in
+    let plan = ready.fresh.plan_is in
+    let recordable : SealsRecordable (plan_of r) (plan_at feeder) =
+    subst (λ (p : RecordPlan). SealsRecordable p (plan_at feeder)) (sym plan)
+    (is_recordable told is_open task s offsets feeder observations stage ready' ready.records) in
+    let told_answer : found.recorded ≡ Some by.answer = answer ∙ by.is in
+    let same = same_files law told is_open task s offsets feeder observations stage r end ready' ready.records plan in
+    let fails : found.recorded ≡ Some FileFault → by.answer ≡ FileFault =
+    λ failed. same_answer _ _ (sym told_answer ∙ failed) in
+    let fine : found.recorded ≢ Some FileFault → by.answer ≢ FileFault =
+    λ not failed. not (told_answer ∙ ap (λ a. Some a) failed) in
+    record {
+      unrecorded = λ not. absurd (true≢false (sym ready.records ∙ not));
+      all = λ not records files are. record {
+        made = λ outset begins.
+            let blocks_of = λ b. HasMade outset false (files_of_stream (stream_for s files) s.file_size (sealed_at_end b)) after in
+            subst blocks_of (sym blocks)
+            (subst (λ fs. HasMade outset false fs after) (same files are)
+            (subst (λ seen. HasMade outset false (files_through feeder r end) seen) (sym is)
+            (made_all end.feed (files_through feeder r end) outset (seen by.files.now) by.answer (by.ends recordable)
+            (by.made recordable outset begins) (fine not))));
+        faults = ap (λ (v : FilesSeen). v.faults) is ∙ by.quiet (fine not);
+      };
+      front = λ failed records files are. record {
+        made = λ outset begins.
+            subst (λ b. BreaksOff outset (files_of_stream (stream_for s files) s.file_size (sealed_at_end b)) after)
+            (sym blocks)
+            (subst (λ fs. BreaksOff outset fs after) (same files are)
+            (subst (λ seen. BreaksOff outset (files_through feeder r end) seen) (sym is)
+            (made_front (files_through feeder r end) outset (seen by.files.now) by.answer
+            (by.made recordable outset begins) (fails failed))));
+        rose = subst (λ (v : FilesSeen). Rose (seen r.files.now).faults v.faults) (sym is) (by.failed (fails failed));
+        count = subst (λ (v : FilesSeen). (seen r.files.now).faults ≤ v.faults) (sym is) by.count;
+      };
+      rose = λ failed. subst (λ (v : FilesSeen). Rose (seen r.files.now).faults v.faults) (sym is)
+          (by.failed (fails failed));
+      quiet = λ not. ap (λ (v : FilesSeen). v.faults) is ∙ by.quiet (fine not);
+      count = subst (λ (v : FilesSeen). (seen r.files.now).faults ≤ v.faults) (sym is) by.count;
+    }
+  where
+    same_answer : (one other : RecordEnd) → Some one ≡ Some other → one ≡ other
+    same_answer one other is = cc
+
+-- ---- all of it
+
+clears_shards : {I F : Type 0} (task : Task) (s : SettingsSeen) (observations : List (Option Observation))
+    (lanes : List (Option Lane)) (end : SessionEnd I F) → AreLanesOf task s observations lanes →
+    ((k : ℕ) → k < length lanes → cleared_at_end end.blocks k ≡ sealed_at_end end.blocks) → task ≡ Searching →
+    AllCleared end.blocks 0 s.search.shards
+clears_shards task s observations lanes end are cleared searching k below =
+    let count = lanes_count task s observations lanes are ∙ ap (λ t. shards_of t s) searching in
+    let at : 0 + k ≡ k = omega arith in
+    ap (cleared_at_end end.blocks) at ∙ cleared k (omega (arith, below, count))
+
+clears_recorder : {I F : Type 0} (task : Task) (s : SettingsSeen) (observations : List (Option Observation))
+    (lanes : List (Option Lane)) (end : SessionEnd I F) → AreLanesOf task s observations lanes →
+    cleared_at_end end.blocks (length lanes) ≡ sealed_at_end end.blocks → AllCleared end.blocks (shards_of task s) 1
+clears_recorder task s observations lanes end are cleared k below =
+    let count = lanes_count task s observations lanes are in
+    let at : shards_of task s + k ≡ length lanes = omega (arith, below, count) in
+    ap (cleared_at_end end.blocks) at ∙ cleared
+
+-- what a session without a recorder, or with one, came to
+pub clears_found : {I F : Type 0} (task : Task) (s : SettingsSeen) (observations : List (Option Observation))
+    (lanes : List (Option Lane)) (end : SessionEnd I F) (found : Found) → AreLanesOf task s observations lanes →
+    ((k : ℕ) → k < length lanes → cleared_at_end end.blocks k ≡ sealed_at_end end.blocks) →
+    (s.recording ≡ true → found.recorded ≢ Some FileFault →
+    cleared_at_end end.blocks (length lanes) ≡ sealed_at_end end.blocks) → found.blocks ≡ end.blocks →
+    ClearsAll task s found
+clears_found task s observations lanes end found are shards recorder blocks =
+    let Blocks = λ b. AllCleared b 0 s.search.shards in
+    let Last = λ b. AllCleared b (shards_of task s) 1 in
+    record {
+      shards = λ searching. subst Blocks (sym blocks)
+          (clears_shards task s observations lanes end are shards searching);
+      recorder = λ records fine. subst Last (sym blocks)
+          (clears_recorder task s observations lanes end are (recorder records fine));
+    }
+
+few_bytes : (plan : Plan) (told : Told) (size : ℕ) (headers blocks : List Entry) (end : FeedEnd) (bytes limit : ℕ) →
+    IsEnded plan told size headers blocks end → end ≡ Whole bytes → plan.max_bytes ≡ limit → limit ≤ 2 ^ 48 →
+    bytes ≤ 2 ^ 48
+few_bytes plan told size headers blocks end bytes limit is whole same most =
+    let By : FeedEnd → Type 0 = λ e. SealedAs plan size is.before is.current headers blocks e in
+    let sealed = subst By whole is.sealed in
+    let few = is.few in
+    let count = sealed.1.1.1 in
+    omega (arith, few, count, same, most)
+
+pub holds_found : {I F : Type 0} → TotalsAreCounted → (told : I → Told) (is_open is_calm : I → Type 0)
+    (faults : I → ℕ) (task : Task) (s : SettingsSeen) (offsets : List ℕ) (feeder : Feeder I)
+    (observations : ArrayVec (Option Observation)) (stage : StageSpace I F) (lanes : List (Option Lane))
+    (end : SessionEnd I F) (found : Found) →
+    (ready : IsReady told is_open task s offsets feeder observations.items stage) →
+    lanes ≡ ready.stage_is.lanes.items → FeedAnswers told is_calm faults feeder end →
+    ShardAnswers (length (plan_at feeder).starts) lanes end → IsFoundOf observations end found →
+    task ≡ Searching → (bytes : ℕ) → found.feed ≡ Whole bytes → HoldsFound s (told feeder.inputs.now) found
+holds_found law told is_open is_calm faults task s offsets feeder observations stage lanes end found ready same fed
+    shards is searching bytes whole =
+    let said = ready.observed.said in
+    let here = ready.observed.here in
+    let feed_whole : end.feed ≡ Whole bytes = sym is.feed ∙ whole in
+    let many = as_many (header_at feeder) observations.items ready.observed in
+    let count = ap length here ∙ length-map said Some in
+    let starts = ap length ready.plan.transfers in
+    let headers = ready.plan.headers in
+    let some : 0 < length said = omega (arith, many, count, starts, headers, ready.some) in
+    let other = (some_at said 0 some).0 in
+    let opened : AreOpenedLanes s.search observations.items lanes =
+    subst (λ ls. AreOpenedLanes s.search observations.items ls) (sym same)
+    (subst (λ t. AreLanesOf t s observations.items ready.stage_is.lanes.items) searching ready.stage_is.lanes_are) in
+    let n : length (plan_at feeder).starts ≡ length said = omega (arith, many, count, starts, headers) in
+    let held = subst (λ m. HoldFound s.search (said_at said other) (data_through end) m end) n
+    (shards.held s.search (said_at said other) (data_through end) bytes feed_whole
+    (subst (λ m. AreLanesFor s.search (said_at said other) m lanes) (sym n)
+    (lanes_for s observations.items lanes said other opened here ready.range.parts.shards)) (λ k below. refl)) in
+    let total : sum_by (λ k. length (data_through end k)) (range_with_len 0 (length said)) ≤ 2 ^ 48 =
+    subst (λ m. sum_by (λ k. length (data_through end k)) (range_with_len 0 m) ≤ 2 ^ 48) n
+    (subst (λ m. m ≤ 2 ^ 48) (sym (fed.parts bytes feed_whole))
+    (few_bytes (plan_at feeder) (told end.inputs.now) (block_size feeder) _ _ end.feed bytes s.max_bytes fed.sealed
+    feed_whole ready.plan.limit ready.most)) in
+    let transfers = transfers_through end said other (length said) in
+    let Held : ArrayVec (Option Observation) → List (ArrayVec (Option BookContents)) → List ℕ → Type 0 =
+    λ os books spectra. HoldTransfers s.search transfers os.items (map (λ row. row.items) books) spectra in
+    record {
+      transfers = transfers;
+      held = subst (λ os. Held os found.books.items found.spectra.items) (sym is.observations_are)
+          (subst (λ books. Held observations books.items found.spectra.items) (sym is.books)
+          (subst (λ spectra. Held observations end.books.items spectra.items) (sym is.spectra)
+          (hold_transfers end s observations.items said other here held)));
+      total = transfers_are_counted end s observations.items said other law ready.range here
+          (omega (arith, many, count, starts, headers, ready.few)) (ready.fit.fits searching) total;
+      known = λ files are. known_transfers end observations.items said other (stream_for s files) here
+          (ready.firsts files are)
+          (of_plan feeder s (told feeder.inputs.now) (told end.inputs.now)
+          (λ w. (k : ℕ) → k < length w.starts → data_through end k ≡ transfer_data w k) ready.plan fed.names
+          (fed.walked bytes feed_whole) files are);
+    }

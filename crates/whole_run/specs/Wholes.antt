@@ -1,0 +1,54 @@
+-- What a run of either program leaves, from its settings to the end of its session, or where it stops before.
+-- Source: this project's choice.
+use Rattle.std.specs.Prelude.{◌≡◌, ◌≢◌, ℕ, ◌^◌, ◌<◌, Bool, true, false, List, map, Option, Some, Result, Ok, Err}
+use Rattle.psr_base.specs.Told.{Told}
+use Rattle.search_words.specs.Settings.{SettingsSeen}
+use Rattle.stream_model.specs.Walk.{FileStream}
+use Rattle.disk_feeder.specs.declared.answers.FeedEnd.TheVariants as feed
+use Rattle.disk_feeder.specs.Plan.{AreTold}
+use Rattle.dada_recorder.specs.declared.answers.RecordEnd.TheVariants.{FileFault}
+use Rattle.transfer_text.specs.Searched.{ObservedTransfer, candidate_total}
+use Rattle.transfer_text.specs.Found.{HoldTransfers}
+use Rattle.run_stop.specs.declared.stop.Stop.{Stop}
+use Rattle.run_stop.specs.declared.stop.Stop.TheVariants.{ReadFault}
+use Rattle.run_stop.specs.Runs.{Task, Searching, RecordingAlone, Says, stream_for, observed_transfers}
+use Rattle.run_stop.specs.Outcomes.{AllCleared}
+use Rattle.whole_run.specs.declared.found.Found.{Found}
+
+-- whether files are searched, or recorded alone
+abbrev pub task_of : Bool → Task
+task_of true = Searching
+task_of false = RecordingAlone
+
+-- how many shards it has
+abbrev pub shards_of : Task → SettingsSeen → ℕ
+shards_of Searching s = s.search.shards
+shards_of RecordingAlone s = 0
+
+-- P holds of all words that say the settings
+abbrev pub ForWords : Task → SettingsSeen → (List (List ℕ) → Type 0) → Type 0
+ForWords task s P = (words : List (List ℕ)) → Says task words s → P words
+
+-- P holds of the files that the settings name, as a walk sees them, where the bytes of all are told
+abbrev pub OfRun : Told → SettingsSeen → (FileStream → Type 0) → Type 0
+OfRun told s P = (files : List (List ℕ)) → AreTold told s.names files → P (stream_for s files)
+
+-- the inputs failed
+abbrev pub FailsReading : Result Found Stop → Type 0
+FailsReading (Ok found) = found.feed ≡ feed.ReadFault
+FailsReading (Err stop) = stop ≡ ReadFault
+
+-- each shard cleared all that was sealed, and the recorder did where no call on its files failed
+pub record ClearsAll (task : Task) (s : SettingsSeen) (found : Found) : Type 0 where
+  pub shards : task ≡ Searching → AllCleared found.blocks 0 s.search.shards
+  pub recorder : s.recording ≡ true → found.recorded ≢ Some FileFault →
+      AllCleared found.blocks (shards_of task s) 1
+
+-- the books of a search hold the candidates of all data that went through, which are counted in 64
+-- bits; where the files are told these are their data
+pub record HoldsFound (s : SettingsSeen) (told : Told) (found : Found) : Type 0 where
+  pub transfers : List ObservedTransfer
+  pub held : HoldTransfers s.search transfers found.observations.items
+      (map (λ row. row.items) found.books.items) found.spectra.items
+  pub total : candidate_total s.search transfers < 2 ^ 64
+  pub known : OfRun told s (λ w. transfers ≡ observed_transfers w)

@@ -1,0 +1,107 @@
+// What the first headers of all transfers say is judged.
+ghost use Rattle.std.specs.Prelude.{◌≡◌, ◌≤◌, ◌^◌, ◌⊎◌, true, IfErr, OnOk, OnErr, length};
+ghost use Rattle.search_model.specs.Search.{SettingsInRange};
+ghost use Rattle.search_words.specs.Settings.{AllInRange, settings_seen};
+ghost use Rattle.stream_model.specs.Walk.{FileStream};
+ghost use Rattle.disk_feeder.specs.Feeder.{header_at};
+ghost use Rattle.search_opening.specs.First.{AreFirsts, AreHeadersOf, AreObserved};
+ghost use Rattle.search_opening.specs.Plans.{PlansFit, IsOfPlan, StopsSearch};
+ghost use Rattle.search_opening.specs.Recordings.{RecordingsFit, AreReadBack, IsOfRecording, StopsRecording};
+ghost use Rattle.run_stop.specs.declared.stop.Stop.TheVariants.{Memory};
+ghost use Rattle.run_stop.specs.Runs.{CanSearchFirst, CanRecordFirst};
+ghost use Rattle.whole_run.specs.Wholes.{task_of};
+ghost use Rattle.whole_run.specs.Openings.{AreFit, IsRefused};
+
+use dada_header::Header;
+use disk_feeder::Feeder;
+use obs_plan::Observation;
+use psr_base::Inputs;
+use run_stop::Stop;
+use search_opening::{check_plans, fit_all};
+use search_words::Settings;
+use std::alloc::Global;
+
+// Whether all transfers can be searched, where that is asked for.
+fn judge_search(
+    searches: bool,
+    settings: &Settings,
+    observations: &[Option<Observation>],
+) -> Result<(), Stop>
+    requires range { SettingsInRange settings.now.search }
+    ensures fit { OnOk result (searches ≡ true
+        → PlansFit settings.now.search observations.now) }
+    ensures searched { OnOk result (searches ≡ true → (w : FileStream)
+        → AreFirsts w observations.now
+        → CanSearchFirst settings.now.search w (length w.starts)) }
+    ensures kind { IfErr result IsOfPlan }
+    ensures searches { OnErr result (searches ≡ true) }
+    ensures refused { IfErr result (λ stop. (w : FileStream) → AreFirsts w observations.now
+        → StopsSearch settings.now.search w stop) }
+{
+    if !searches {
+        return Ok(());
+    }
+    check_plans(observations, &settings.search)
+}
+
+// Whether all transfers can be recorded, where that is asked for.
+fn judge_recording<'a, I: Inputs>(
+    alloc: Global,
+    settings: &Settings,
+    feeder: &Feeder<'a, I>,
+    observations: &[Option<Observation>],
+) -> Result<(), Stop>
+    requires observed { AreObserved (header_at feeder.now) observations.now }
+    requires file_size { (1 ≤ settings.now.file_size) × (settings.now.file_size ≤ 2 ^ 40) }
+    requires limit { settings.now.max_bytes ≤ 2 ^ 48 }
+    ensures fit { OnOk result (settings.now.recording ≡ true
+        → RecordingsFit settings.now.file_size settings.now.max_bytes (header_at feeder.now)
+        observations.now (length observations.now)) }
+    ensures read_back { OnOk result (settings.now.recording ≡ true
+        → AreReadBack (header_at feeder.now)) }
+    ensures recorded { OnOk result (settings.now.recording ≡ true → (w : FileStream)
+        → AreFirsts w observations.now → AreHeadersOf w (header_at feeder.now)
+        → w.max_bytes ≡ settings.now.max_bytes
+        → CanRecordFirst settings.now.file_size w (length w.starts)) }
+    ensures kind { IfErr result (λ stop. (stop ≡ Memory) ⊎ IsOfRecording stop) }
+    ensures records { OnErr result (settings.now.recording ≡ true) }
+    ensures refused { IfErr result (λ stop. (stop ≡ Memory) ⊎ ((w : FileStream)
+        → AreFirsts w observations.now → AreHeadersOf w (header_at feeder.now)
+        → w.max_bytes ≡ settings.now.max_bytes
+        → StopsRecording settings.now.file_size w stop)) }
+{
+    if !settings.recording {
+        return Ok(());
+    }
+    match Header::blank(alloc) {
+        Ok(mut space) => fit_all(
+            feeder,
+            observations,
+            &mut space,
+            settings.file_size,
+            settings.max_bytes,
+        ),
+        Err(_memory) => Err(Stop::Memory),
+    }
+}
+
+/// Whether all transfers can be searched and recorded, as far as that is asked for, or what is refused first.
+pub(crate) fn judge<'a, I: Inputs>(
+    alloc: Global,
+    searches: bool,
+    settings: &Settings,
+    feeder: &Feeder<'a, I>,
+    observations: &[Option<Observation>],
+) -> Result<(), Stop>
+    requires range { AllInRange (settings_seen settings.now) }
+    requires observed { AreObserved (header_at feeder.now) observations.now }
+    ensures fit { OnOk result (AreFit (task_of searches) (settings_seen settings.now)
+        (header_at feeder.now) observations.now) }
+    ensures refused { IfErr result (IsRefused (task_of searches) (settings_seen settings.now)
+        (header_at feeder.now) observations.now) }
+{
+    match judge_search(searches, settings, observations) {
+        Ok(()) => judge_recording(alloc, settings, feeder, observations),
+        Err(stop) => Err(stop),
+    }
+}

@@ -1,0 +1,113 @@
+// What comes before the session of a run.
+ghost use Rattle.std.specs.Prelude.{◌≡◌, ◌≢◌, false, true, Err, IfOk, IfErr, OnOk};
+ghost use Rattle.search_words.specs.Settings.{AllInRange, settings_seen};
+ghost use Rattle.disk_feeder.specs.Feeder.{HasPlan, IsFresh, IsBegun, HasOpenFile, header_at};
+ghost use Rattle.disk_feeder.specs.Filling.{HoldsAll};
+ghost use Rattle.search_opening.specs.First.{AreFirsts, AreHeadersOf, AreObserved};
+ghost use Rattle.search_opening.specs.Inputs.{HasReadFrom};
+ghost use Rattle.run_stop.specs.Firsts.{LeavesData};
+ghost use Rattle.whole_run.specs.Wholes.{task_of, OfRun};
+ghost use Rattle.whole_run.specs.Openings.{StopsEarly, IsOpened};
+
+use crate::judge::judge;
+use crate::spaces::Spaces;
+use arrayvec::ArrayVec;
+use disk_feeder::Feeder;
+use obs_plan::Observation;
+use psr_base::{Files, Inputs};
+use run_stop::Stop;
+use search_opening::{accept_all, begin_feed, first_offsets};
+use search_words::Settings;
+use std::alloc::Global;
+
+/// A run of which all is opened.
+pub(crate) struct Opened<'a, I, F> {
+    pub(crate) observations: ArrayVec<Option<Observation>, 8>,
+    pub(crate) spaces: Spaces<'a, I, F>,
+}
+
+// Judges what the first headers say, and takes all memory.
+fn open_begun<'a, I: Inputs, F: Files>(
+    alloc: Global,
+    searches: bool,
+    settings: &Settings,
+    feeder: &mut Feeder<'a, I>,
+    observations: ArrayVec<Option<Observation>, 8>,
+    offsets: &'a mut ArrayVec<u64, 8>,
+) -> Result<Opened<'a, I, F>, Stop>
+    requires range { AllInRange (settings_seen settings.now) }
+    requires records { searches ≡ false → settings.now.recording ≡ true }
+    requires plan { HasPlan feeder.old (settings_seen settings.now).names
+        settings.now.starts.items settings.now.size settings.now.max_bytes }
+    requires begun { IsBegun (I.told feeder.old.inputs.now) feeder.old }
+    requires is_open { HasOpenFile feeder.old → I.is_open feeder.old.inputs.now }
+    requires observed { AreObserved (header_at feeder.old) observations.items }
+    requires firsts { OfRun (I.told feeder.old.inputs.now) (settings_seen settings.now)
+        (λ w. AreFirsts w observations.items) }
+    requires headers { OfRun (I.told feeder.old.inputs.now) (settings_seen settings.now)
+        (λ w. AreHeadersOf w (header_at feeder.old)) }
+    ensures same_reference { feeder.new.inputs.ghost_name ≡ feeder.old.inputs.ghost_name }
+    ensures inputs { feeder.new.inputs.now ≡ feeder.old.inputs.now }
+    ensures opened { IfOk result (λ o. IsOpened I.told I.is_open (task_of searches)
+        (settings_seen settings.now) feeder.new o.observations.items o.spaces) }
+    ensures stopped { IfErr result (StopsEarly (task_of searches) (settings_seen settings.now)
+        (I.told feeder.old.inputs.now)) }
+    ensures readable { result ≢ Err Stop.ReadFault }
+{
+    match judge(alloc, searches, settings, feeder, observations.as_slice()) {
+        Ok(()) => {}
+        Err(stop) => return Err(stop),
+    }
+    *offsets = first_offsets(observations.as_slice());
+    match Spaces::take(
+        alloc,
+        searches,
+        settings,
+        feeder.header(0),
+        observations.as_slice(),
+        offsets.as_slice(),
+    ) {
+        Ok(spaces) => {
+            accept_all(feeder, observations.as_slice());
+            Ok(Opened {
+                observations,
+                spaces,
+            })
+        }
+        Err(_memory) => Err(Stop::Memory),
+    }
+}
+
+/// Reads the first headers, judges what they say, and takes all memory. `offsets` will hold where the data of each
+/// transfer begin.
+pub(crate) fn open_run<'a, I: Inputs, F: Files>(
+    alloc: Global,
+    searches: bool,
+    settings: &Settings,
+    feeder: &mut Feeder<'a, I>,
+    offsets: &'a mut ArrayVec<u64, 8>,
+) -> Result<Opened<'a, I, F>, Stop>
+    requires range { AllInRange (settings_seen settings.now) }
+    requires records { searches ≡ false → settings.now.recording ≡ true }
+    requires plan { HasPlan feeder.old (settings_seen settings.now).names
+        settings.now.starts.items settings.now.size settings.now.max_bytes }
+    requires fresh { IsFresh feeder.old }
+    ensures same_reference { feeder.new.inputs.ghost_name ≡ feeder.old.inputs.ghost_name }
+    ensures inputs { HasReadFrom I.told I.is_calm I.faults (result ≡ Err Stop.ReadFault)
+        feeder.old.inputs.now feeder.new.inputs.now }
+    ensures serves { I.is_calm feeder.old.inputs.now
+        → HoldsAll (I.told feeder.old.inputs.now) (settings_seen settings.now).names
+        → result ≢ Err Stop.ReadFault }
+    ensures opened { IfOk result (λ o. IsOpened I.told I.is_open (task_of searches)
+        (settings_seen settings.now) feeder.new o.observations.items o.spaces) }
+    ensures stopped { IfErr result (StopsEarly (task_of searches) (settings_seen settings.now)
+        (I.told feeder.old.inputs.now)) }
+    ensures unread { result ≡ Err Stop.Memory
+        → OfRun (I.told feeder.old.inputs.now) (settings_seen settings.now)
+        (LeavesData (I.told feeder.new.inputs.now)) }
+{
+    match begin_feed(alloc, feeder, settings.starts.as_slice()) {
+        Ok(observations) => { open_begun(alloc, searches, settings, feeder, observations, offsets) }
+        Err(stop) => Err(stop),
+    }
+}

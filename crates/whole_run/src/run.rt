@@ -1,0 +1,145 @@
+// A run from its settings to the end of its session.
+ghost use Rattle.std.specs.Prelude.{◌≡◌, ◌⊎◌, ℕ, true, false, Err, IfOk, IfErr, OnErr};
+ghost use Rattle.search_words.specs.Settings.{AllInRange, settings_seen};
+ghost use Rattle.disk_feeder.specs.declared.answers.FeedEnd.TheVariants.{Whole};
+ghost use Rattle.disk_feeder.specs.Filling.{HoldsAll};
+ghost use Rattle.search_opening.specs.Inputs.{HasReadFrom};
+ghost use Rattle.run_stop.specs.Ends.{StopsBefore, IsFed, IsRecorded};
+ghost use Rattle.run_stop.specs.Firsts.{LeavesData};
+ghost use Rattle.run_stop.specs.Outcomes.{ReadsNoData};
+ghost use Rattle.run_stop.specs.Runs.{Searching};
+ghost use Rattle.whole_run.specs.Ends.{GoesThrough};
+ghost use Rattle.whole_run.specs.Openings.{StopsEarly};
+ghost use Rattle.whole_run.specs.Wholes.{task_of, OfRun, ForWords, FailsReading, ClearsAll, HoldsFound};
+
+use crate::found::Found;
+use crate::lent::{Lent, give_back};
+use crate::open::open_run;
+use crate::session::go_on;
+use arrayvec::ArrayVec;
+use disk_feeder::{Feeder, FeederSpace};
+use psr_base::{Files, Inputs};
+use run_stop::Stop;
+use search_session::Gate;
+use search_words::Settings;
+use std::alloc::Global;
+use std::sync::Wait;
+use std::thread::Threads;
+
+// The same with all that is borrowed within one lifetime. `offsets` will hold where the data of each transfer begin.
+fn within<'a, I: Inputs + Send, F: Files + Send, G: Gate + Sync, R: Threads + Wait + Sync>(
+    rt: &R,
+    alloc: Global,
+    searches: bool,
+    settings: &'a Settings,
+    inputs: &'a mut I,
+    files: &'a mut F,
+    offsets: &'a mut ArrayVec<u64, 8>,
+    gate: &G,
+) -> Lent<'a, I, F, Result<Found, Stop>>
+    requires range { AllInRange (settings_seen settings.now) }
+    requires records { searches ≡ false → settings.now.recording ≡ true }
+    requires closed { ¬ F.is_open files.old }
+    ensures same_inputs { result.inputs.ghost_name ≡ inputs.entry.ghost_name }
+    ensures same_files { result.files.ghost_name ≡ files.entry.ghost_name }
+    ensures inputs { HasReadFrom I.told I.is_calm I.faults (FailsReading result.done) inputs.old
+        result.inputs.now }
+    ensures serves { I.is_calm inputs.old
+        → HoldsAll (I.told inputs.old) (settings_seen settings.now).names
+        → FailsReading result.done → ⊥ }
+    ensures stopped { IfErr result.done (StopsEarly (task_of searches)
+        (settings_seen settings.now) (I.told inputs.old)) }
+    ensures stands { OnErr result.done (result.files.now ≡ files.old) }
+    ensures unread { result.done ≡ Err Stop.Memory
+        → (I.told result.inputs.now ≡ I.told inputs.old)
+        ⊎ OfRun (I.told inputs.old) (settings_seen settings.now)
+        (LeavesData (I.told result.inputs.now)) }
+    ensures went { IfOk result.done (GoesThrough (task_of searches) (settings_seen settings.now)
+        (I.told inputs.old) (F.seen files.old) (F.seen result.files.now)) }
+{
+    let space = match FeederSpace::take(
+        alloc,
+        settings.names.as_slice(),
+        settings.starts.as_slice(),
+        settings.size,
+        settings.max_bytes,
+    ) {
+        Ok(space) => space,
+        Err(_memory) => {
+            return Lent {
+                inputs,
+                files,
+                done: Err(Stop::Memory),
+            };
+        }
+    };
+    let mut feeder = Feeder::over(inputs, space);
+    match open_run(alloc, searches, settings, &mut feeder, offsets) {
+        Ok(opened) => {
+            let Lent {
+                inputs,
+                files,
+                done,
+            } = go_on(rt, settings.turns, opened, feeder, files, gate);
+            Lent {
+                inputs,
+                files,
+                done: Ok(done),
+            }
+        }
+        Err(stop) => Lent {
+            inputs: feeder.close(),
+            files,
+            done: Err(stop),
+        },
+    }
+}
+
+/// Drives a run of either program, from its settings to the end of its session: it searches files, or records them
+/// alone, which the settings then ask for. At `Err` it stopped before its session, and no file was made.
+pub fn drive<I: Inputs + Send, F: Files + Send, G: Gate + Sync, R: Threads + Wait + Sync>(
+    rt: &R,
+    alloc: Global,
+    searches: bool,
+    settings: &Settings,
+    inputs: &mut I,
+    files: &mut F,
+    gate: &G,
+) -> Result<Found, Stop>
+    requires range { AllInRange (settings_seen settings.now) }
+    requires records { searches ≡ false → settings.now.recording ≡ true }
+    requires closed { ¬ F.is_open files.old }
+    ensures inputs { HasReadFrom I.told I.is_calm I.faults (FailsReading result) inputs.old
+        inputs.new }
+    ensures serves { I.is_calm inputs.old
+        → HoldsAll (I.told inputs.old) (settings_seen settings.now).names
+        → FailsReading result → ⊥ }
+    ensures stopped { IfErr result (λ stop. ForWords (task_of searches)
+        (settings_seen settings.now) (λ words.
+        StopsBefore (task_of searches) words (I.told inputs.old) stop)) }
+    ensures stands { OnErr result (files.new ≡ files.old) }
+    ensures unread { result ≡ Err Stop.Memory
+        → ForWords (task_of searches) (settings_seen settings.now) (λ words.
+        ReadsNoData (task_of searches) words (I.told inputs.old) (I.told inputs.new)) }
+    ensures fed { IfOk result (λ found. ForWords (task_of searches) (settings_seen settings.now)
+        (λ words. IsFed (task_of searches) words (I.told inputs.old) found.blocks found.feed)) }
+    ensures recorded { IfOk result (λ found. ForWords (task_of searches)
+        (settings_seen settings.now) (λ words. IsRecorded (task_of searches) words
+        (I.told inputs.old) found.blocks found.recorded (F.seen files.old) (F.seen files.new))) }
+    ensures cleared { IfOk result (ClearsAll (task_of searches) (settings_seen settings.now)) }
+    ensures found { IfOk result (λ found. task_of searches ≡ Searching → (bytes : ℕ)
+        → found.feed ≡ Whole bytes
+        → HoldsFound (settings_seen settings.now) (I.told inputs.old) found) }
+{
+    let mut offsets = ArrayVec::new();
+    give_back(within(
+        rt,
+        alloc,
+        searches,
+        settings,
+        inputs,
+        files,
+        &mut offsets,
+        gate,
+    ))
+}

@@ -1,0 +1,213 @@
+// The session of a run.
+ghost use Rattle.std.specs.Prelude.{◌≡◌, ◌≢◌, ℕ, List, Some};
+ghost use Rattle.std.specs.Borrow.{MutBor};
+ghost use Rattle.search_words.specs.Settings.{SettingsSeen};
+ghost use Rattle.disk_feeder.specs.declared.answers.FeedEnd.TheVariants.{ReadFault};
+ghost use Rattle.disk_feeder.specs.Feeder.{names_at};
+ghost use Rattle.disk_feeder.specs.Filling.{HoldsAll};
+ghost use Rattle.search_opening.specs.Inputs.{HasReadFrom};
+ghost use Rattle.run_stop.specs.Runs.{Task};
+ghost use Rattle.whole_run.specs.Openings.{IsOpened, RecordsReady, SearchesReady};
+ghost use Rattle.whole_run.specs.Ends.{IsFoundOf, GoesThrough};
+
+use crate::found::Found;
+use crate::lent::Lent;
+use crate::open::Opened;
+use crate::spaces::Spaces;
+use arrayvec::ArrayVec;
+use dada_recorder::Recorder;
+use disk_feeder::Feeder;
+use obs_plan::Observation;
+use psr_base::{Files, Inputs};
+use search_opening::StageSpace;
+use search_session::{Gate, SessionEnd, run_session};
+use std::sync::Wait;
+use std::thread::Threads;
+// Laws: they do nothing when they run, and the proofs use what they ensure.
+use run_stop::runs_record_blocks;
+use transfer_text::totals_are_counted;
+
+// What a session with a recorder left.
+fn found_of<'a, I, F>(
+    observations: ArrayVec<Option<Observation>, 8>,
+    end: SessionEnd<'a, I, F>,
+) -> Lent<'a, I, F, Found>
+    requires { (files : MutBor F) × (end.files ≡ Some files) }
+    ensures files { (files : MutBor F) → end.entry.files ≡ Some files
+        → (result.files.now ≡ files.now) × (result.files.ghost_name ≡ files.ghost_name) }
+    ensures inputs { result.inputs.now ≡ end.entry.inputs.now }
+    ensures same_inputs { result.inputs.ghost_name ≡ end.entry.inputs.ghost_name }
+    ensures found { IsFoundOf observations end.entry result.done }
+{
+    let SessionEnd {
+        feed,
+        books,
+        spectra,
+        recorded,
+        blocks,
+        inputs,
+        files,
+    } = end;
+    let Some(files) = files else { unreachable!() };
+    Lent {
+        inputs,
+        files,
+        done: Found {
+            observations,
+            feed,
+            books,
+            spectra,
+            recorded,
+            blocks,
+        },
+    }
+}
+
+// What a session without a recorder left, to which no files were lent.
+fn found_without<'a, I, F>(
+    observations: ArrayVec<Option<Observation>, 8>,
+    end: SessionEnd<'a, I, F>,
+    files: &'a mut F,
+) -> Lent<'a, I, F, Found>
+    ensures files { result.files.now ≡ files.old }
+    ensures same_files { result.files.ghost_name ≡ files.entry.ghost_name }
+    ensures inputs { result.inputs.now ≡ end.entry.inputs.now }
+    ensures same_inputs { result.inputs.ghost_name ≡ end.entry.inputs.ghost_name }
+    ensures found { IsFoundOf observations end.entry result.done }
+{
+    let SessionEnd {
+        feed,
+        books,
+        spectra,
+        recorded,
+        blocks,
+        inputs,
+        files: _,
+    } = end;
+    Lent {
+        inputs,
+        files,
+        done: Found {
+            observations,
+            feed,
+            books,
+            spectra,
+            recorded,
+            blocks,
+        },
+    }
+}
+
+// Drives a session with a recorder.
+fn with_recorder<'a, I: Inputs + Send, F: Files + Send, G: Gate + Sync, R: Threads + Wait + Sync>(
+    rt: &R,
+    turns: u32,
+    observations: ArrayVec<Option<Observation>, 8>,
+    stage: StageSpace<'a, I, F>,
+    feeder: Feeder<'a, I>,
+    recorder: Recorder<'a, F>,
+    gate: &G,
+) -> Lent<'a, I, F, Found>
+    requires ready { (task : Task) × (s : SettingsSeen) × (offsets : List ℕ)
+        × RecordsReady I.told I.is_open F.is_open task s offsets feeder observations.items stage
+        recorder }
+    ensures same_inputs { result.inputs.ghost_name ≡ feeder.entry.inputs.ghost_name }
+    ensures same_files { result.files.ghost_name ≡ recorder.entry.files.ghost_name }
+    ensures inputs { HasReadFrom I.told I.is_calm I.faults (result.done.feed ≡ ReadFault)
+        feeder.entry.inputs.now result.inputs.now }
+    ensures serves { I.is_calm feeder.entry.inputs.now
+        → HoldsAll (I.told feeder.entry.inputs.now) (names_at feeder.entry)
+        → result.done.feed ≢ ReadFault }
+    ensures went { (task : Task) (s : SettingsSeen) (offsets : List ℕ)
+        → RecordsReady I.told I.is_open F.is_open task s offsets feeder.entry observations.items
+        stage.entry recorder.entry
+        → GoesThrough task s (I.told feeder.entry.inputs.now) (F.seen recorder.entry.files.now)
+        (F.seen result.files.now) result.done }
+{
+    runs_record_blocks();
+    totals_are_counted();
+    let stage = stage.stage(feeder, Some(recorder));
+    let end = run_session(rt, stage, turns, gate);
+    found_of(observations, end)
+}
+
+// Drives a session without a recorder, to which no files are lent.
+fn without_recorder<
+    'a,
+    I: Inputs + Send,
+    F: Files + Send,
+    G: Gate + Sync,
+    R: Threads + Wait + Sync,
+>(
+    rt: &R,
+    turns: u32,
+    observations: ArrayVec<Option<Observation>, 8>,
+    stage: StageSpace<'a, I, F>,
+    feeder: Feeder<'a, I>,
+    files: &'a mut F,
+    gate: &G,
+) -> Lent<'a, I, F, Found>
+    requires ready { (task : Task) × (s : SettingsSeen) × (offsets : List ℕ)
+        × SearchesReady I.told I.is_open task s offsets feeder observations.items stage }
+    ensures same_inputs { result.inputs.ghost_name ≡ feeder.entry.inputs.ghost_name }
+    ensures same_files { result.files.ghost_name ≡ files.entry.ghost_name }
+    ensures inputs { HasReadFrom I.told I.is_calm I.faults (result.done.feed ≡ ReadFault)
+        feeder.entry.inputs.now result.inputs.now }
+    ensures serves { I.is_calm feeder.entry.inputs.now
+        → HoldsAll (I.told feeder.entry.inputs.now) (names_at feeder.entry)
+        → result.done.feed ≢ ReadFault }
+    ensures went { (task : Task) (s : SettingsSeen) (offsets : List ℕ)
+        → SearchesReady I.told I.is_open task s offsets feeder.entry observations.items stage.entry
+        → GoesThrough task s (I.told feeder.entry.inputs.now) (F.seen files.old)
+        (F.seen result.files.now) result.done }
+{
+    totals_are_counted();
+    let stage = stage.stage(feeder, None);
+    let end = run_session(rt, stage, turns, gate);
+    found_without(observations, end, files)
+}
+
+/// Drives the session of a run of which all is opened.
+pub(crate) fn go_on<
+    'a,
+    I: Inputs + Send,
+    F: Files + Send,
+    G: Gate + Sync,
+    R: Threads + Wait + Sync,
+>(
+    rt: &R,
+    turns: u32,
+    opened: Opened<'a, I, F>,
+    feeder: Feeder<'a, I>,
+    files: &'a mut F,
+    gate: &G,
+) -> Lent<'a, I, F, Found>
+    requires opened { (task : Task) × (s : SettingsSeen) × IsOpened I.told I.is_open task s feeder
+        opened.observations.items opened.spaces }
+    requires closed { ¬ F.is_open files.old }
+    ensures same_inputs { result.inputs.ghost_name ≡ feeder.entry.inputs.ghost_name }
+    ensures same_files { result.files.ghost_name ≡ files.entry.ghost_name }
+    ensures inputs { HasReadFrom I.told I.is_calm I.faults (result.done.feed ≡ ReadFault)
+        feeder.entry.inputs.now result.inputs.now }
+    ensures serves { I.is_calm feeder.entry.inputs.now
+        → HoldsAll (I.told feeder.entry.inputs.now) (names_at feeder.entry)
+        → result.done.feed ≢ ReadFault }
+    ensures went { (task : Task) (s : SettingsSeen)
+        → IsOpened I.told I.is_open task s feeder.entry opened.entry.observations.items
+        opened.entry.spaces
+        → GoesThrough task s (I.told feeder.entry.inputs.now) (F.seen files.old)
+        (F.seen result.files.now) result.done }
+{
+    let Opened {
+        observations,
+        spaces,
+    } = opened;
+    let Spaces { stage, recorder } = spaces;
+    match recorder {
+        Some(space) => {
+            let recorder = Recorder::over(files, space);
+            with_recorder(rt, turns, observations, stage, feeder, recorder, gate)
+        }
+        None => without_recorder(rt, turns, observations, stage, feeder, files, gate),
+    }
+}

@@ -1,0 +1,135 @@
+// All space of a run.
+ghost use Rattle.std.specs.Prelude.{◌≡◌, ◌+◌, ◌^◌, ◌≤◌, true, false, All, IsSome, IfOk, List, length, Option};
+ghost use Rattle.search_model.specs.Search.{SettingsInRange};
+ghost use Rattle.dada_model.specs.Observation.{Observation as Observed};
+ghost use Rattle.search_words.specs.Settings.{AllInRange, settings_seen};
+ghost use Rattle.dada_recorder.specs.Blocks.{PlanInRange};
+ghost use Rattle.search_opening.specs.Plans.{PlansFit};
+ghost use Rattle.run_stop.specs.Runs.{Task};
+ghost use Rattle.whole_run.specs.Wholes.{task_of};
+ghost use Rattle.whole_run.specs.Openings.{AreLanesOf, IsStageSpace, HasRecorderSpace, recorders, plan_for, shape_for};
+
+use arrayvec::ArrayVec;
+use dada_header::Header;
+use dada_recorder::RecorderSpace;
+use obs_plan::Observation;
+use psr_base::{Files, Inputs, Memory};
+use search_opening::{StageSpace, open_lanes, run_shape};
+use search_session::Lane;
+use search_words::Settings;
+use std::alloc::Global;
+
+// A lane for each shard of a search, or none where files are recorded alone.
+fn take_lanes(
+    alloc: Global,
+    searches: bool,
+    settings: &Settings,
+    observations: &[Option<Observation>],
+) -> Result<ArrayVec<Option<Lane>, 7>, Memory>
+    requires few { length observations.now ≤ 8 }
+    requires there { All IsSome observations.now }
+    requires fit { searches ≡ true → PlansFit settings.now.search observations.now }
+    requires range { SettingsInRange settings.now.search }
+    ensures { IfOk result (λ lanes. AreLanesOf (task_of searches) (settings_seen settings.now)
+        observations.now lanes.items) }
+{
+    if searches {
+        open_lanes(alloc, observations, &settings.search)
+    } else {
+        Ok(ArrayVec::new())
+    }
+}
+
+// The space of a recorder, where the run records.
+fn take_recorder<'a>(
+    alloc: Global,
+    settings: &Settings,
+    offsets: &'a [u64],
+) -> Result<Option<RecorderSpace<'a>>, Memory>
+    requires plan { PlanInRange
+        (plan_for (settings_seen settings.now) offsets.now) }
+    requires block { (1 ≤ settings.now.size) × (settings.now.size ≤ 2 ^ 24) }
+    ensures { IfOk result (HasRecorderSpace settings.now.recording
+        (plan_for (settings_seen settings.now) offsets.now)
+        settings.now.size) }
+{
+    if !settings.recording {
+        return Ok(None);
+    }
+    match RecorderSpace::take(
+        alloc,
+        offsets,
+        settings.size,
+        settings.file_size,
+        settings.max_bytes,
+    ) {
+        Ok(space) => Ok(Some(space)),
+        Err(memory) => Err(memory),
+    }
+}
+
+// How many recorders a run has.
+fn recorder_count(settings: &Settings) -> u32
+    ensures { result ≡ recorders (settings_seen settings.now) }
+{
+    if settings.recording { 1 } else { 0 }
+}
+
+// The rings, the lanes and the hands of a run.
+fn take_stage<'a, I: Inputs, F: Files>(
+    alloc: Global,
+    settings: &Settings,
+    lanes: ArrayVec<Option<Lane>, 7>,
+    header: &Header,
+) -> Result<StageSpace<'a, I, F>, Memory>
+    requires range { AllInRange (settings_seen settings.now) }
+    requires few { length lanes.items ≤ 7 }
+    requires some { 1 ≤ length lanes.items + recorders (settings_seen settings.now) }
+    ensures { (task : Task) (observations : List (Option Observed))
+        → AreLanesOf task (settings_seen settings.now) observations lanes.items
+        → IfOk result (IsStageSpace task (settings_seen settings.now) observations header.now) }
+{
+    let shape = run_shape(
+        settings.buffers,
+        settings.size,
+        lanes.len() as u32 + recorder_count(settings),
+        settings.max_bytes,
+        settings.starts.len() as u32,
+    );
+    StageSpace::take(alloc, lanes, shape, header, settings.hands)
+}
+
+/// All space of a run: of its session, and of its recorder, where it has one.
+pub(crate) struct Spaces<'a, I, F> {
+    pub(crate) stage: StageSpace<'a, I, F>,
+    pub(crate) recorder: Option<RecorderSpace<'a>>,
+}
+
+impl<'a, I: Inputs, F: Files> Spaces<'a, I, F> {
+    ghost use Rattle.whole_run.specs.Openings.{AreSpaces};
+
+    /// Takes all space of a run under this first header. Transfer k begins at `offsets[k]`.
+    pub(crate) fn take(
+        alloc: Global,
+        searches: bool,
+        settings: &Settings,
+        header: &Header,
+        observations: &[Option<Observation>],
+        offsets: &'a [u64],
+    ) -> Result<Spaces<'a, I, F>, Memory>
+        requires range { AllInRange (settings_seen settings.now) }
+        requires few { length observations.now ≤ 8 }
+        requires there { All IsSome observations.now }
+        requires fit { searches ≡ true → PlansFit settings.now.search observations.now }
+        requires records { searches ≡ false → settings.now.recording ≡ true }
+        requires plan { PlanInRange
+            (plan_for (settings_seen settings.now) offsets.now) }
+        ensures { IfOk result (AreSpaces (task_of searches) (settings_seen settings.now)
+            observations.now header.now offsets.now) }
+    {
+        let lanes = take_lanes(alloc, searches, settings, observations)?;
+        let stage = take_stage(alloc, settings, lanes, header)?;
+        let recorder = take_recorder(alloc, settings, offsets)?;
+        Ok(Spaces { stage, recorder })
+    }
+}
