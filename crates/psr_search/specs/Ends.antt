@@ -1,69 +1,62 @@
 -- How a search ends, before the notes.
 -- Source: this project's choice.
-use Rattle.std.specs.Prelude.{◌≡◌, ◌≢◌, ℕ, ◌≤◌, List, Result, Ok, Err}
-use Rattle.psr_base.specs.Count.{Rose}
+use Rattle.std.specs.Prelude.{◌≡◌, ◌≢◌, ◌<◌, ℕ, List, [], ◌∷◌, Option, Some, None, Contains}
 use Rattle.psr_base.specs.Told.{InputsSeen}
+use Rattle.psr_base.specs.Made.{FilesSeen}
 use Rattle.psr_base.specs.Written.{SinkSeen, WroteAll, WroteFront}
-use Rattle.search_words.specs.Settings.{SettingsSeen}
-use Rattle.psr_search.specs.declared.stop.Stop.{Stop}
-use Rattle.psr_search.specs.declared.stop.Stop.TheVariants.{Words, Value, Memory, ReadFault, SinkFault}
-use Rattle.psr_search.specs.Request.{Asks}
-use Rattle.psr_search.specs.Stop.{IsStopOfWords, IsStopOf, IsFileStop}
-use Rattle.psr_search.specs.Outcome.{ForFile, HasText}
+use Rattle.ring_ends.specs.declared.finished.Finished.{Finished}
+use Rattle.search_model.specs.declared.search.Search.{Search}
+use Rattle.transfer_text.specs.Searched.{ObservedTransfer, candidate_total, searched_text}
+use Rattle.transfer_text.specs.Found.{HasFew}
+use Rattle.dada_recorder.specs.declared.answers.RecordEnd.{RecordEnd}
+use Rattle.dada_recorder.specs.declared.answers.RecordEnd.TheVariants as recorder
+use Rattle.run_stop.specs.declared.stop.Stop.{Stop}
+use Rattle.run_stop.specs.declared.stop.Stop.TheVariants.{TooMany, SinkFault, FileFault}
+use Rattle.run_stop.specs.Runs.{Searching, HasCandidates}
+use Rattle.run_stop.specs.Outcomes.{JudgesWords, ReadsInputs}
+use Rattle.run_stop.specs.Ends.{EndsAt, end_status, IsSaid}
+use Rattle.psr_search.specs.Outcome.{ForSearch, WritesText, ClearsBlocks}
 
--- nothing was written, and no input failed
-pub record EndsQuietly (inputs : InputsSeen) (before after : SinkSeen) : Type 0 where
-  pub quiet : inputs.faults_after ≡ inputs.faults_before
-  pub untouched : after ≡ before
+-- ---- the text
 
--- the words don't ask for a search
-pub record EndsAtWords
-    (words : List (List ℕ)) (inputs : InputsSeen) (before after : SinkSeen) (stop : Stop)
-    : Type 0 where
-  pub refused : (s : SettingsSeen) (name : List ℕ) → ¬ Asks words s name
-  pub says : IsStopOfWords words stop
-  pub quietly : EndsQuietly inputs before after
+-- how a search ends whose data were all sealed: its text is written, or its front at a fault, or there are too many
+-- candidates; and the files failed, or did not
+abbrev pub EndsText : Search → List ObservedTransfer → Option RecordEnd → SinkSeen → SinkSeen
+    → Option Stop → Type 0
+EndsText search transfers recorded before after None =
+    HasFew search transfers × WroteAll (searched_text search transfers) before after
+    × (recorded ≢ Some recorder.FileFault)
+EndsText search transfers recorded before after (Some FileFault) =
+    HasFew search transfers × WroteAll (searched_text search transfers) before after
+    × (recorded ≡ Some recorder.FileFault)
+EndsText search transfers recorded before after (Some SinkFault) =
+    HasFew search transfers × WroteFront (searched_text search transfers) before after
+EndsText search transfers recorded before after (Some (TooMany count limit)) =
+    (candidate_total search transfers ≡ count) × (limit ≡ search.max_candidates) × (limit < count)
+    × (after ≡ before)
+EndsText search transfers recorded before after (Some stop) = ⊥
 
--- the search of the file came to a stop
-pub record EndsAtFile
-    (words : List (List ℕ)) (inputs : InputsSeen) (is_calm : Type 0) (before after : SinkSeen)
-    (stop : Stop)
-    : Type 0 where
-  pub settings : SettingsSeen
-  pub name : List ℕ
-  pub asked : Asks words settings name
-  pub kind : IsFileStop stop
-  pub says : ForFile words inputs.told (λ s file. IsStopOf s.search s.max_bytes file stop)
-  pub failed : stop ≡ ReadFault → Rose inputs.faults_before inputs.faults_after
-  pub calm : is_calm → ForFile words inputs.told (λ s file. stop ≢ ReadFault)
-  pub quiet : stop ≢ ReadFault → inputs.faults_after ≡ inputs.faults_before
-  pub count : inputs.faults_before ≤ inputs.faults_after
-  pub untouched : after ≡ before
+-- the feeder was stopped, which stops the search; or all data were sealed
+abbrev pub EndsFed : Option Stop → Search → List ObservedTransfer → Option RecordEnd → SinkSeen
+    → SinkSeen → Option Stop → Type 0
+EndsFed (Some fed) search transfers recorded before after stop =
+    (stop ≡ Some fed) × (after ≡ before)
+EndsFed None search transfers recorded before after stop =
+    EndsText search transfers recorded before after stop
 
--- the text was written, or its front
-pub record EndsWriting
-    (words : List (List ℕ)) (inputs : InputsSeen) (Took : List ℕ → Type 0)
-    : Type 0 where
-  pub settings : SettingsSeen
-  pub name : List ℕ
-  pub asked : Asks words settings name
-  pub quiet : inputs.faults_after ≡ inputs.faults_before
-  pub took : (text : List ℕ) × Took text
-  pub has_text : ForFile words inputs.told (λ s. HasText Took s.search s.max_bytes)
+-- ---- the search
 
-abbrev pub EndsBy : List (List ℕ) → InputsSeen → Type 0 → SinkSeen → SinkSeen → Stop → Type 0
-EndsBy words inputs is_calm before after Words = EndsAtWords words inputs before after Words
-EndsBy words inputs is_calm before after (Value opt) =
-    EndsAtWords words inputs before after (Value opt)
-EndsBy words inputs is_calm before after Memory = EndsQuietly inputs before after
-EndsBy words inputs is_calm before after SinkFault =
-    EndsWriting words inputs (λ text. WroteFront text before after)
-EndsBy words inputs is_calm before after stop =
-    EndsAtFile words inputs is_calm before after stop
-
-abbrev pub Ends : List (List ℕ) → InputsSeen → Type 0 → SinkSeen → SinkSeen
-    → Result (Unit {0}) Stop → Type 0
-Ends words inputs is_calm before after (Ok done) =
-    EndsWriting words inputs (λ text. WroteAll text before after)
-Ends words inputs is_calm before after (Err stop) =
-    EndsBy words inputs is_calm before after stop
+-- all that the outcome says but for the notes
+pub record Ends (words : List (List ℕ)) (inputs : InputsSeen) (is_calm : Type 0)
+    (files_before files_after : FilesSeen) (out_before out_after : SinkSeen)
+    (stop : Option Stop) (blocks : Option Finished) : Type 0 where
+  pub known : Contains
+      (0 ∷ 2 ∷ 3 ∷ 4 ∷ 5 ∷ 6 ∷ 7 ∷ 8 ∷ 9 ∷ 10 ∷ 11 ∷ []) (end_status stop)
+  pub written : WritesText words inputs.told out_before out_after (end_status stop)
+  pub judged : JudgesWords Searching words (end_status stop)
+  pub read : ReadsInputs Searching words inputs is_calm (end_status stop)
+  pub ends : EndsAt Searching words inputs.told blocks files_before files_after (end_status stop)
+  pub too_many : end_status stop ≡ 9 → ForSearch words inputs.told (λ s w.
+      HasCandidates s w (λ total. s.search.max_candidates < total))
+  pub cleared : ClearsBlocks words blocks (end_status stop)
+  pub said : IsSaid Searching words inputs.told stop

@@ -1,7 +1,2 @@
-pub mod Request
-pub mod File
-pub mod Stop
 pub mod Outcome
-pub mod Searching
 pub mod Ends
-pub mod Sample

@@ -1,98 +1,86 @@
--- What a search's exit status says.
+-- What the exit status of a search says.
 -- Source: this project's choice.
-use Rattle.std.specs.Prelude.{◌≡◌, ◌≢◌, ℕ, ◌≤◌, ◌<◌, ◌⊎◌, List, [], ◌∷◌, length, Some, None, Contains}
+use Rattle.std.specs.Prelude.{◌≡◌, ◌≢◌, ℕ, ◌≤◌, ◌<◌, ◌⊎◌, true, List, [], ◌∷◌, Option, Some, Contains}
 use Rattle.psr_base.specs.Count.{Rose}
-use Rattle.psr_base.specs.Told.{Told, OfFile, InputsSeen, left_to_read}
-use Rattle.psr_base.specs.Written.{SinkSeen, WroteAll, WroteFront, Noted}
-use Rattle.dada_model.specs.Fields.{HeaderText}
-use Rattle.dada_model.specs.Observation.{Observation}
-use Rattle.search_model.specs.declared.search.Search.{Search}
-use Rattle.search_model.specs.Plan.{plan_refusal}
-use Rattle.search_model.specs.Observed.{candidates_of, search_text}
-use Rattle.search_words.specs.Settings.{SettingsSeen}
-use Rattle.psr_search.specs.declared.stop.Stop.{Stop}
-use Rattle.psr_search.specs.declared.stop.HeaderCause.{HeaderCause}
-use Rattle.psr_search.specs.declared.stop.PlanCause.{PlanCause}
-use Rattle.psr_search.specs.Request.{Asks}
-use Rattle.psr_search.specs.File.{SaysObservation, Accepted, Planned, IsInHeader, IsCause, IsPlanCause, past_header}
-use Rattle.psr_search.specs.Stop.{status_of, note_of, IsStopOfWords, IsStopOf, HasCandidates}
+use Rattle.psr_base.specs.Told.{Told, InputsSeen}
+use Rattle.psr_base.specs.Made.{FilesSeen}
+use Rattle.psr_base.specs.Written.{SinkSeen, WroteAll, WroteFront}
+use Rattle.ring_ends.specs.declared.finished.Finished.{Finished}
+use Rattle.search_words.specs.Settings.{SettingsSeen, SaySearch}
+use Rattle.stream_model.specs.Walk.{FileStream}
+use Rattle.disk_feeder.specs.Plan.{AreTold}
+use Rattle.transfer_text.specs.Searched.{searched_text}
+use Rattle.search_session.specs.declared.ended.Ran.{Ran}
+use Rattle.run_stop.specs.Runs.{Searching, stream_for, ForFiles, observed_transfers, HasCandidates}
+use Rattle.run_stop.specs.Outcomes.{JudgesWords, ReadsInputs, StopsAtFiles, SealsStream, AllCleared, RecordsFiles, TellsNotes}
 
--- P holds of the settings that the words say and of the bytes of the file that they name, where those are told
-abbrev pub ForFile : List (List ℕ) → Told → (SettingsSeen → List ℕ → Type 0) → Type 0
-ForFile words told P =
-    (s : SettingsSeen) (name : List ℕ) → Asks words s name → OfFile told name (P s)
+-- P holds of the settings that the words of a search say and of the files that they name, where all of these are told
+abbrev pub ForSearch : List (List ℕ) → Told → (SettingsSeen → FileStream → Type 0) → Type 0
+ForSearch = ForFiles Searching
 
--- no file was opened, or the one that the words name was read within its header at most
-abbrev pub ReadsNoData : List (List ℕ) → Told → Told → Type 0
-ReadsNoData words before after = (after ≡ before)
-    ⊎ ForFile words before (λ s file. IsInHeader file (left_to_read after))
+-- all data are read, and have as many candidates as there may be
+abbrev pub IsSearched : SettingsSeen → FileStream → Type 0
+IsSearched s w = HasCandidates s w (λ total. total ≤ s.search.max_candidates)
 
--- P holds of the text of all data of the file: it is accepted, the search is planned, the data bytes and the candidates
--- are as many as there may be
-abbrev pub HasText : (List ℕ → Type 0) → Search → ℕ → List ℕ → Type 0
-HasText P search most file = Planned search file (λ h o. (length (past_header file h) ≤ most)
-    × (length (candidates_of o search (past_header file h)) ≤ search.max_candidates)
-    × P (search_text o search (past_header file h)))
+-- and P holds of their text
+abbrev pub HasText : (List ℕ → Type 0) → SettingsSeen → FileStream → Type 0
+HasText P s w = IsSearched s w × P (searched_text s.search (observed_transfers w))
 
--- the notes took the line of a stop with the status, or its front at a fault of theirs; what it says of the words and
--- of the file is so
-pub record NotesStop
-    (words : List (List ℕ)) (told : Told) (before after : SinkSeen) (status : ℕ)
-    : Type 0 where
-  pub stop : Stop
-  pub answered : status ≡ status_of stop
-  pub words_cause : IsStopOfWords words stop
-  pub cause : ForFile words told (λ s file. IsStopOf s.search s.max_bytes file stop)
-  pub line : Noted (note_of stop) before after
+-- What the output took: nothing but the text of all data. It is whole at 0, and at 11, where the files that are made
+-- failed besides; at 10 its front is there, which comes only where the output failed.
+pub record WritesText
+    (words : List (List ℕ)) (told : Told) (before after : SinkSeen) (status : ℕ) : Type 0 where
+  pub text : status ≡ 0 → ForSearch words told (HasText (λ text. WroteAll text before after))
+  pub text_too : status ≡ 11 → ForSearch words told (HasText (λ text. WroteAll text before after))
+  pub front : status ≡ 10 → ForSearch words told (HasText (λ text. WroteFront text before after))
+  pub failed : status ≡ 10 → Rose before.faults after.faults
+  pub quiet : status ≢ 10 → after.faults ≡ before.faults
+  pub untouched : status ≢ 0 → status ≢ 10 → status ≢ 11 → after ≡ before
 
--- The outcome of a search for these words over these inputs, which may be calm: how it ended, by its status, what the
--- output and the notes took, and which faults were counted.
+-- the readers that cleared all that was sealed: those of the shards, and at 0 that of the recorder too
+pub record ClearsBlocks (words : List (List ℕ)) (blocks : Option Finished) (status : ℕ) :
+    Type 0 where
+  pub shards : (b : Finished) → blocks ≡ Some b → (s : SettingsSeen) → SaySearch words s →
+      AllCleared b 0 s.search.shards
+  pub recorder : status ≡ 0 → (b : Finished) → blocks ≡ Some b →
+      (s : SettingsSeen) → SaySearch words s → s.recording ≡ true →
+      AllCleared b s.search.shards 1
+
+-- The outcome of a search for these words over these inputs, which may be calm: how it ended, by its status, and what
+-- the outside objects and the data ring took. Where more than one cause is there, the first of these counts: words,
+-- first headers, searches, recordings; the stop of the walk of the files; the candidates; the output; the files.
 pub record Outcome (words : List (List ℕ)) (inputs : InputsSeen) (is_calm : Type 0)
-    (out_before out_after notes_before notes_after : SinkSeen) (status : ℕ) : Type 0 where
-  -- there is no other status; 5 is want of memory
-  pub known : Contains (0 ∷ 2 ∷ 3 ∷ 4 ∷ 5 ∷ 6 ∷ 8 ∷ 9 ∷ 10 ∷ []) status
-  -- the headline: the output has grown by exactly the text of all data of the file
-  pub text : status ≡ 0
-      → ForFile words inputs.told (λ s.
-      HasText (λ text. WroteAll text out_before out_after) s.search s.max_bytes)
-  -- 2 exactly where the words don't ask for a search
-  pub asked : status ≢ 2 → status ≢ 5 → (s : SettingsSeen) × (name : List ℕ) × Asks words s name
-  pub words_refused : status ≡ 2 → (s : SettingsSeen) (name : List ℕ) → ¬ Asks words s name
-  -- 3 exactly where the header is refused, 4 where the plan is, 8 where there are too many data, and 9 where there are
-  -- too many candidates: at each later one, and at 0 and 10, none of these holds
-  pub header_refused : status ≡ 3
-      → ForFile words inputs.told (λ s file. (cause : HeaderCause) × IsCause file cause)
-  pub plan_refused : status ≡ 4 → ForFile words inputs.told (λ s file.
-      Accepted file (λ h o. (cause : PlanCause) × IsPlanCause (plan_refusal o s.search) cause))
-  pub too_long : status ≡ 8 → ForFile words inputs.told (λ s file.
-      Planned s.search file (λ h o. s.max_bytes < length (past_header file h)))
-  pub too_many : status ≡ 9 → ForFile words inputs.told (λ s file.
-      HasCandidates s.search s.max_bytes file (λ n. s.search.max_candidates < n))
-  -- 6 only where the inputs failed, which calm ones that hold the file don't
-  pub read_fault : status ≡ 6 → Rose inputs.faults_before inputs.faults_after
-  pub calm : is_calm → ForFile words inputs.told (λ s file. status ≢ 6)
-  pub inputs_quiet : status ≢ 6 → inputs.faults_after ≡ inputs.faults_before
-  pub inputs_count : inputs.faults_before ≤ inputs.faults_after
-  -- 10 only where the output failed, which it doesn't where it tells room for the text; it holds the front of the text
-  pub sink_fault : status ≡ 10 → Rose out_before.faults out_after.faults
-  pub front : status ≡ 10
-      → ForFile words inputs.told (λ s.
-      HasText (λ text. WroteFront text out_before out_after) s.search s.max_bytes)
-  pub out_quiet : status ≢ 10 → out_after.faults ≡ out_before.faults
-  pub untouched : status ≢ 0 → status ≢ 10 → out_after ≡ out_before
-  -- the line to the notes; their faults change nothing else
-  pub silent : status ≡ 0 → notes_after ≡ notes_before
-  pub noted : status ≢ 0 → NotesStop words inputs.told notes_before notes_after status
+    (files_before files_after : FilesSeen)
+    (out_before out_after notes_before notes_after : SinkSeen)
+    (ran : Ran) : Type 0 where
+  -- there is no other status; 5 is want of memory, before the session alone
+  pub known : Contains
+      (0 ∷ 2 ∷ 3 ∷ 4 ∷ 5 ∷ 6 ∷ 7 ∷ 8 ∷ 9 ∷ 10 ∷ 11 ∷ []) ran.status
+  -- the headline: the output has grown by exactly the text of all data of the files
+  pub written : WritesText words inputs.told out_before out_after ran.status
+  pub judged : JudgesWords Searching words ran.status
+  pub read : ReadsInputs Searching words inputs is_calm ran.status
+  pub stopped : StopsAtFiles Searching words inputs.told ran.blocks ran.status
+  -- 9 exactly where all data have more candidates than there may be
+  pub too_many : ran.status ≡ 9 → ForSearch words inputs.told (λ s w.
+      HasCandidates s w (λ total. s.search.max_candidates < total))
+  pub sealed : SealsStream Searching words inputs.told ran.blocks ran.status
+  pub cleared : ClearsBlocks words ran.blocks ran.status
+  pub recorded : RecordsFiles Searching words inputs.told ran.blocks files_before files_after
+      ran.status
+  pub noted : TellsNotes Searching words inputs.told notes_before notes_after ran.status
 
--- Words, a header, a plan, data and candidates that are accepted are searched, over inputs that are calm or count no
--- fault and an output that counts none: 0, or want of memory.
+-- Words, headers, searches, recordings, data and candidates that are accepted are searched, over inputs that are calm
+-- or count no fault, and an output and files that count none: 0, or want of memory.
 abbrev pub AcceptedIsSearched : Type 0 → Type 0
 AcceptedIsSearched is_calm = (words : List (List ℕ)) (inputs : InputsSeen)
-    (out_before out_after notes_before notes_after : SinkSeen) (status : ℕ) →
-    Outcome words inputs is_calm out_before out_after notes_before notes_after status →
-    (s : SettingsSeen) (name file : List ℕ) (h : HeaderText) (o : Observation) →
-    Asks words s name → inputs.told.bytes_under name ≡ Some file → SaysObservation file h o →
-    plan_refusal o s.search ≡ None → length (past_header file h) ≤ s.max_bytes →
-    length (candidates_of o s.search (past_header file h)) ≤ s.search.max_candidates →
+    (files_before files_after : FilesSeen)
+    (out_before out_after notes_before notes_after : SinkSeen)
+    (ran : Ran) →
+    Outcome words inputs is_calm files_before files_after out_before out_after notes_before
+    notes_after ran →
+    (s : SettingsSeen) (files : List (List ℕ)) → SaySearch words s →
+    AreTold inputs.told s.names files → IsSearched s (stream_for s files) →
     is_calm ⊎ ¬ Rose inputs.faults_before inputs.faults_after →
-    ¬ Rose out_before.faults out_after.faults → (status ≡ 0) ⊎ (status ≡ 5)
+    ¬ Rose out_before.faults out_after.faults → ¬ Rose files_before.faults files_after.faults →
+    (ran.status ≡ 0) ⊎ (ran.status ≡ 5)

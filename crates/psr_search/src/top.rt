@@ -1,63 +1,116 @@
 // The top call.
-ghost use Rattle.std.specs.Prelude.{◌≡◌, map, string_bytes, Err};
-ghost use Rattle.psr_search.specs.Outcome.{Outcome, ReadsNoData};
+ghost use Rattle.std.specs.Prelude.{◌≡◌, Some, map, string_bytes};
+ghost use Rattle.run_stop.specs.Outcomes.{ReadsNoData};
+ghost use Rattle.run_stop.specs.Runs.{Searching};
+ghost use Rattle.psr_search.specs.Outcome.{Outcome};
 ghost use Rattle.psr_search.specs.Ends.{Ends};
 
-use crate::file::search_file;
-use crate::request::Request;
-use crate::stop::Stop;
-use psr_base::{Inputs, Sink, write_all};
+use crate::writing::write_end;
+use psr_base::{Files, Inputs, Sink};
+use ring_ends::Finished;
+use run_stop::{Stop, tell};
+use search_session::{Gate, Ran};
+use search_words::Settings;
 use std::alloc::Global;
+use std::sync::Wait;
+use std::thread::Threads;
+use whole_run::drive;
+// Laws: they do nothing when they run, and the proofs use what they ensure.
+use run_stop::{end_after_whole, end_at_stop, end_at_words, end_before_session, words_say_once};
 
-/// Searches the file that the words name for dispersed pulses, and writes their text to `out`. The
-/// first word is the program's name. The exit status is answered; where it isn't 0, a line to
-/// `notes` says why. A fault of `notes` changes nothing.
-pub fn run<I: Inputs, K: Sink, E: Sink>(
+// What a search came to: its stop, or none where it went to its end; and what went through its data ring, where there
+// was one.
+#[derive(Drop)]
+struct Ended {
+    stop: Option<Stop>,
+    blocks: Option<Finished>,
+}
+
+/// Searches the files that the words name for dispersed pulses and folded periods, and writes their text to `out`. The
+/// data are recorded in `files` where the words ask for it. The first word is the program's name. The exit status is
+/// answered; where it isn't 0, a line to `notes` says why. A fault of `notes` changes nothing.
+pub fn run<
+    I: Inputs + Send,
+    F: Files + Send,
+    K: Sink,
+    E: Sink,
+    G: Gate + Sync,
+    R: Threads + Wait + Sync,
+>(
+    rt: &R,
     alloc: Global,
     words: &[String],
     inputs: &mut I,
+    files: &mut F,
     out: &mut K,
     notes: &mut E,
-) -> u8
+    gate: &G,
+) -> Ran
+    requires closed { ¬ F.is_open files.old }
     ensures outcome { Outcome (map string_bytes words.now)
         (record {
           told = I.told inputs.old;
           faults_before = I.faults inputs.old;
           faults_after = I.faults inputs.new;
         })
-        (I.is_calm inputs.old) (K.seen out.old) (K.seen out.new)
-        (E.seen notes.old) (E.seen notes.new) result }
-    ensures early { result ≡ 5
-        → ReadsNoData (map string_bytes words.now) (I.told inputs.old) (I.told inputs.new) }
+        (I.is_calm inputs.old) (F.seen files.old) (F.seen files.new) (K.seen out.old)
+        (K.seen out.new) (E.seen notes.old) (E.seen notes.new) result }
+    ensures early { result.status ≡ 5 → ReadsNoData Searching (map string_bytes words.now)
+        (I.told inputs.old) (I.told inputs.new) }
 {
-    match search(alloc, words, inputs, out) {
-        Ok(()) => 0,
-        Err(stop) => {
-            let _ = write_all(notes, stop.note().as_bytes());
-            stop.status()
-        }
-    }
+    let Ended { stop, blocks } = search(rt, alloc, words, inputs, files, out, gate);
+    let status = tell(stop, notes);
+    Ran { status, blocks }
 }
 
 // The same without the notes.
-fn search<I: Inputs, K: Sink>(
+fn search<I: Inputs + Send, F: Files + Send, K: Sink, G: Gate + Sync, R: Threads + Wait + Sync>(
+    rt: &R,
     alloc: Global,
     words: &[String],
     inputs: &mut I,
+    files: &mut F,
     out: &mut K,
-) -> Result<(), Stop>
+    gate: &G,
+) -> Ended
+    requires closed { ¬ F.is_open files.old }
     ensures ends { Ends (map string_bytes words.now)
         (record {
           told = I.told inputs.old;
           faults_before = I.faults inputs.old;
           faults_after = I.faults inputs.new;
         })
-        (I.is_calm inputs.old) (K.seen out.old) (K.seen out.new) result }
-    ensures early { result ≡ Err Stop.Memory
-        → ReadsNoData (map string_bytes words.now) (I.told inputs.old) (I.told inputs.new) }
+        (I.is_calm inputs.old) (F.seen files.old) (F.seen files.new) (K.seen out.old)
+        (K.seen out.new) result.stop result.blocks }
+    ensures early { result.stop ≡ Some Stop.Memory
+        → ReadsNoData Searching (map string_bytes words.now) (I.told inputs.old)
+        (I.told inputs.new) }
 {
-    match Request::of(alloc, words) {
-        Ok(request) => search_file(alloc, &request, inputs, out),
-        Err(stop) => Err(stop),
+    end_at_words();
+    words_say_once();
+    end_before_session();
+    end_at_stop();
+    end_after_whole();
+    let settings = match Settings::of(alloc, words) {
+        Ok(settings) => settings,
+        Err(fault) => {
+            return Ended {
+                stop: Some(Stop::of_words(fault)),
+                blocks: None,
+            };
+        }
+    };
+    match drive(rt, alloc, true, &settings, inputs, files, gate) {
+        Ok(found) => {
+            let stop = write_end(&settings.search, &found, out);
+            Ended {
+                stop,
+                blocks: Some(found.blocks),
+            }
+        }
+        Err(stop) => Ended {
+            stop: Some(stop),
+            blocks: None,
+        },
     }
 }

@@ -1,73 +1,74 @@
 // The text of what was found.
-ghost use Rattle.std.specs.Prelude.{ℕ, List, [], ◌∷◌, Some};
-ghost use Rattle.psr_base.specs.Written.{Wrote};
-ghost use Rattle.search_model.specs.declared.candidate.Candidate.{Candidate};
-ghost use Rattle.search_model.specs.CandidateText.{candidate_text};
-ghost use Rattle.search_model.specs.Observed.{labels_of};
-ghost use Rattle.search_model.specs.Order.{IsMergeOf};
+ghost use Rattle.std.specs.Prelude.{◌≡◌, ◌≢◌, ◌<◌, ◌^◌, ℕ, List, Some, None, IfSome, map};
 ghost use Rattle.search_model.specs.Search.{SettingsInRange};
-ghost use Rattle.candidate_book.specs.Conditions.{CanBeMerged, kept_lists};
-ghost use Rattle.search_engine.specs.Engine.{StandsForData};
-ghost use Rattle.psr_search.specs.Searching.{SearchesAll, EndsData};
+ghost use Rattle.transfer_text.specs.Searched.{ObservedTransfer, candidate_total};
+ghost use Rattle.transfer_text.specs.Found.{HoldTransfers};
+ghost use Rattle.disk_feeder.specs.declared.answers.FeedEnd.TheVariants.{Whole};
+ghost use Rattle.dada_recorder.specs.declared.answers.RecordEnd.TheVariants.{FileFault};
+ghost use Rattle.run_stop.specs.Conversions.{stop_of_feed};
+ghost use Rattle.psr_search.specs.Ends.{EndsText as EndsTextOf, EndsFed};
 
-use crate::stop::Stop;
-use candidate_book::{Book, write_merged};
-use obs_plan::Observation;
-use psr_base::{Failed, Sink};
-use search_engine::Engine;
+use dada_recorder::RecordEnd;
+use psr_base::Sink;
+use run_stop::Stop;
 use search_model::Search;
-// Laws: they do nothing when they run, and the proofs use what they ensure.
-use search_model::{candidates_are_listed, candidates_rise, rising_lists_agree, shards_merge};
+use transfer_text::{TextStop, write_found};
+use whole_run::Found;
 
-// Writes the text of the candidates of one book.
-fn write_book<K: Sink>(
-    observation: &Observation,
-    book: Book,
-    spectra: u64,
-    out: &mut K,
-) -> Result<(), Failed>
-    requires { CanBeMerged (Some book ∷ []) }
-    ensures { (merged : List Candidate) → IsMergeOf (kept_lists (Some book ∷ [])) merged
-        → Wrote (candidate_text (labels_of observation.now) spectra merged) (K.seen out.old)
-        (K.seen out.new) result }
+// Whether a call on the files that are made failed.
+fn has_failed(recorded: Option<RecordEnd>) -> Option<Stop>
+    ensures none { result ≡ None → recorded ≢ Some FileFault }
+    ensures failed { IfSome result (λ stop. (stop ≡ Stop.FileFault)
+        × (recorded ≡ Some FileFault)) }
 {
-    let books = [Some(book)];
-    match write_merged(&books, observation, spectra, out) {
-        Ok(_totals) => Ok(()),
-        Err(_fault) => Err(Failed),
+    match recorded {
+        Some(RecordEnd::FileFault) => Some(Stop::FileFault),
+        _ => None,
     }
 }
 
-/// Ends the data of an engine, which searches all delays, and writes the text of its candidates, as long as they are as
-/// many as there may be.
-pub(crate) fn write_text<K: Sink>(
-    observation: &Observation,
-    search: &Search,
-    mut engine: Engine,
-    out: &mut K,
-) -> Result<(), Stop>
+// Writes the text of all data.
+fn write_text<K: Sink>(search: &Search, found: &Found, out: &mut K) -> Option<Stop>
     requires range { SettingsInRange search.now }
-    requires all { SearchesAll search.now engine }
-    requires stands { (bytes : List ℕ) × StandsForData observation.now bytes engine }
-    ensures { (bytes : List ℕ) → StandsForData observation.now bytes engine
-        → EndsData observation.now search.now bytes (K.seen out.old) (K.seen out.new) result }
+    requires found { (transfers : List ObservedTransfer)
+        × HoldTransfers search.now transfers found.now.observations.items
+        (map (λ row. row.items) found.now.books.items) found.now.spectra.items
+        × (candidate_total search.now transfers < 2 ^ 64) }
+    ensures { (transfers : List ObservedTransfer) → HoldTransfers search.now transfers
+        found.now.observations.items (map (λ row. row.items) found.now.books.items)
+        found.now.spectra.items → EndsTextOf search.now transfers found.now.recorded
+        (K.seen out.old) (K.seen out.new) result }
 {
-    candidates_are_listed();
-    candidates_rise();
-    rising_lists_agree();
-    shards_merge();
-    engine.end();
-    let spectra = engine.spectra();
-    let book = engine.into_book();
-    let count = book.count();
-    if count > u64::from(search.max_candidates) {
-        return Err(Stop::TooMany {
-            count,
-            limit: search.max_candidates,
-        });
+    match write_found(
+        search,
+        found.observations.as_slice(),
+        found.books.as_slice(),
+        found.spectra.as_slice(),
+        out,
+    ) {
+        Ok(()) => has_failed(found.recorded),
+        Err(TextStop::TooMany { count, limit }) => Some(Stop::TooMany { count, limit }),
+        Err(TextStop::SinkFault) => Some(Stop::SinkFault),
     }
-    match write_book(observation, book, spectra, out) {
-        Ok(()) => Ok(()),
-        Err(_failed) => Err(Stop::SinkFault),
+}
+
+/// Writes the text of what was found, where all data were searched, and answers what the search came to.
+pub(crate) fn write_end<K: Sink>(search: &Search, found: &Found, out: &mut K) -> Option<Stop>
+    requires range { SettingsInRange search.now }
+    requires found { (bytes : ℕ) → found.now.feed ≡ Whole bytes
+        → (transfers : List ObservedTransfer)
+        × HoldTransfers search.now transfers found.now.observations.items
+        (map (λ row. row.items) found.now.books.items) found.now.spectra.items
+        × (candidate_total search.now transfers < 2 ^ 64) }
+    ensures stopped { IfSome (stop_of_feed found.now.feed) (λ fed. (result ≡ Some fed)
+        × (K.seen out.new ≡ K.seen out.old)) }
+    ensures ended { (transfers : List ObservedTransfer) → HoldTransfers search.now transfers
+        found.now.observations.items (map (λ row. row.items) found.now.books.items)
+        found.now.spectra.items → EndsFed (stop_of_feed found.now.feed) search.now transfers
+        found.now.recorded (K.seen out.old) (K.seen out.new) result }
+{
+    match Stop::of_feed(found.feed) {
+        Some(stop) => Some(stop),
+        None => write_text(search, found, out),
     }
 }

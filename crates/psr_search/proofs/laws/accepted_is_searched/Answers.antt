@@ -1,5 +1,5 @@
-use Rattle.psr_search.proofs.Outcomes.{accepted_is_searched}
+use Rattle.psr_search.proofs.Accepted.{accepted_is_searched}
 use Rattle.psr_search.proofs.laws.accepted_is_searched.Goals as goal
 
 pub returns : goal.returns
-returns g c = λ inputs. accepted_is_searched (g.I.Inputs.is_calm inputs)
+returns g c inputs = accepted_is_searched (g.I.Inputs.is_calm inputs)

@@ -1,38 +1,31 @@
-use Rattle.std.proofs.Common.{inr, map, string_bytes}
-use Rattle.psr_base.specs.Told.{left_to_read}
-use Rattle.psr_search.specs.File.{IsInHeader}
-use Rattle.psr_search.proofs.Asked.{ends_file, ends_at_words, for_file}
+use Rattle.std.proofs.Common.{refl, ap}
+use Rattle.run_stop.specs.Conversions.{stop_of_feed}
+use Rattle.psr_search.proofs.Endings.{at_words, before_session, after_session}
 use Rattle.psr_search.proofs.top.search.Goals as goal
 
 pub returns-in-Err-clause-ends : goal.returns-in-Err-clause-ends
 returns-in-Err-clause-ends g c =
-    let inputs = g.I.Inputs in
-    ends_at_words (map string_bytes c.args.words.now) (inputs.told c.args.inputs.now) (inputs.faults c.args.inputs.now)
-    (inputs.is_calm c.args.inputs.now) (g.K.Sink.seen c.args.out.now) c.in-Err.stop c.in-Err.ensures.refused
+    at_words _ _ _ _ _ c.end_at_words.ensures c.in-Err.fault c.of_words.result c.of_words.ensures
+    c.in-Err.ensures.fault refl
 
-pub returns-in-Ok-clause-ends : goal.returns-in-Ok-clause-ends
-returns-in-Ok-clause-ends g c =
-    let inputs = g.I.Inputs in
-    let request = c.in-Ok.request in
-    ends_file (map string_bytes c.args.words.now) (inputs.told c.args.inputs.now) (inputs.faults c.args.inputs.now)
-    (inputs.faults c.search_file.new.inputs) (inputs.is_calm c.args.inputs.now) (g.K.Sink.seen c.args.out.now)
-    (g.K.Sink.seen c.search_file.new.out) request.search request.max_bytes (string_bytes request.name)
-    c.search_file.result
-    (record {
-      asked = c.in-Ok.ensures.asks;
-      file = c.search_file.ensures.file;
-      output = c.search_file.ensures.output;
-      kind = c.search_file.ensures.kind;
-      failed = c.search_file.ensures.failed;
-      quiet = c.search_file.ensures.quiet;
-      count = c.search_file.ensures.count;
-      serves = c.search_file.ensures.serves;
-    })
+pub returns-in-Ok-drive-clause-ends : goal.returns-in-Ok-drive-clause-ends
+returns-in-Ok-drive-clause-ends g c =
+    let r = c.in-Ok-drive.ensures in
+    let says = c.in-Ok.ensures.says in
+    let cleared = r.cleared in
+    let found = c.in-Ok-drive.found in
+    after_session _ _ _ _ says c.words_say_once.ensures _ _ found.blocks found.feed found.recorded (r.fed _ says)
+    (r.recorded _ says) r.inputs.rose r.inputs.quiet r.inputs.count r.serves (cleared.shards refl) cleared.recorder
+    c.end_at_stop.ensures c.end_after_whole.ensures _ _ c.write_end-stop.result c.write_end-stop.ensures.stopped
+    (λ bytes is. let h = r.found refl bytes is in record {
+      transfers = h.transfers;
+      known = h.known;
+      ended = c.write_end-stop.ensures.ended h.transfers h.held;
+    }) (stop_of_feed found.feed) refl
 
-pub returns-in-Ok-clause-early : goal.returns-in-Ok-clause-early
-returns-in-Ok-clause-early g c = λ e.
-    let told = g.I.Inputs.told in
-    let asks = c.in-Ok.ensures.asks in
-    inr (for_file (map string_bytes c.args.words.now) (told c.args.inputs.now) asks.settings
-    (string_bytes c.in-Ok.request.name) (λ s file. IsInHeader file (left_to_read (told c.search_file.new.inputs)))
-    asks.asks (c.search_file.ensures.unread e))
+pub returns-clause-ends : goal.returns-clause-ends
+returns-clause-ends g c =
+    let r = c.in-Err-drive.ensures in
+    before_session _ _ _ _ c.in-Ok.ensures.says c.words_say_once.ensures c.end_before_session.ensures
+    _ _ _ c.in-Err-drive.stop (r.stopped _ c.in-Ok.ensures.says) (ap g.F.Files.seen r.stands) r.inputs.rose
+    r.inputs.quiet r.inputs.count r.serves
