@@ -20,7 +20,8 @@ use std::alloc::Global;
 // Laws: they do nothing when they run, and the proofs use what they ensure.
 use stream_model::{data_grow, data_none, first_files_continue};
 
-/// The space of a feeder: for the first header of each transfer, and for a block. All memory that a feeder needs is in it.
+/// The space of a feeder: for the first header of each transfer, and for a block. All memory that a feeder needs is in
+/// it.
 #[derive(Drop)]
 pub struct FeederSpace<'a> {
     stream: Stream<'a>,
@@ -29,8 +30,8 @@ pub struct FeederSpace<'a> {
 impl<'a> FeederSpace<'a> {
     ghost use Rattle.disk_feeder.specs.Feeder.{IsSpaceFor};
 
-    /// Takes all space, for blocks of so many bytes. Transfer k begins with file `starts[k]`; all files may have at most
-    /// `max_bytes` data bytes together.
+    /// Takes all space, for blocks of so many bytes. Transfer k begins with file `starts[k]`; all files together may have
+    /// `max_bytes` data bytes at most.
     pub fn take(
         alloc: Global,
         names: &'a [String],
