@@ -21,6 +21,7 @@ use Rattle.disk_feeder.specs.Sources.{RefusesFirst}
 use Rattle.run_stop.specs.declared.stop.Stop.{Stop}
 use Rattle.run_stop.specs.Conversions.{stop_of_begin, stop_of_fields}
 use Rattle.run_stop.specs.Firsts.{first_file, HasHeader, LeavesData, RefusesText, RefusesFields}
+use Rattle.run_stop.specs.Ends.{ComesBefore}
 use Rattle.search_opening.specs.First.{StopsFirsts, AreFirsts, AreObserved}
 use Rattle.search_opening.proofs.Observed.{as_many, some_at, accepted_at}
 
@@ -193,3 +194,21 @@ module _ (w : FileStream) (headers : List HeaderText) (many : length headers ≡
               };
         })
       ])
+
+-- ---- these stops come before the session
+
+pub begin_comes : (fault : FeedFault) → ComesBefore (stop_of_begin fault)
+begin_comes feed.ReadFault = tt
+begin_comes (feed.BadHeader file (header.Short had)) = tt
+begin_comes (feed.BadHeader file (header.NotText place)) = tt
+begin_comes (feed.BadHeader file header.BadSize) = tt
+begin_comes (feed.BadHeader file header.Memory) = tt
+
+pub fields_come : (file : ℕ) (cause : ObsFault) → ComesBefore (stop_of_fields file cause)
+fields_come file (obs.Missing key) = tt
+fields_come file (obs.BadNumber key) = tt
+fields_come file (obs.OutOfProfile key) = tt
+fields_come file (obs.OutOfRange key) = tt
+fields_come file (obs.TooNarrow bw nchan) = tt
+fields_come file (obs.Differs key) = tt
+fields_come file obs.Memory = tt

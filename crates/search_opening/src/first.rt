@@ -4,6 +4,7 @@ ghost use Rattle.stream_model.specs.WalkLaws.{AreStarts};
 ghost use Rattle.disk_feeder.specs.Feeder.{IsFresh, IsBegun, SamePlan, HasOpenFile, header_at, names_at, plan_at};
 ghost use Rattle.disk_feeder.specs.Filling.{HoldsAll};
 ghost use Rattle.run_stop.specs.Firsts.{LeavesData};
+ghost use Rattle.run_stop.specs.Ends.{ComesBefore};
 ghost use Rattle.search_opening.specs.First.{OfFiles, AreFirsts, AreHeadersOf, StopsFirsts, AreObserved, RefusesHeader};
 ghost use Rattle.search_opening.specs.Inputs.{HasReadFrom};
 
@@ -48,8 +49,9 @@ fn observe_all<'a, I: Inputs>(
     Ok(observations)
 }
 
-/// Opens the first file of each transfer in order and reads its header, and then judges what they say, in order: the
-/// observations of all transfers, or why the first headers are not accepted. Transfer k begins with file `starts[k]`.
+/// Reads the header of each transfer's first file, one transfer after another, and then judges what they say, in the
+/// same order: the observations of all transfers, or why the first headers are not accepted. Transfer k begins with file
+/// `starts[k]`.
 pub fn begin_feed<'a, I: Inputs>(
     alloc: Global,
     feeder: &mut Feeder<'a, I>,
@@ -79,6 +81,7 @@ pub fn begin_feed<'a, I: Inputs>(
         (λ w. AreFirsts w observations.items)) }
     ensures left { OnOk result (OfFiles (I.told feeder.old.inputs.now) (plan_at feeder.old)
         (LeavesData (I.told feeder.new.inputs.now))) }
+    ensures kind { IfErr result ComesBefore }
     ensures stopped { IfErr result (λ stop.
         OfFiles (I.told feeder.old.inputs.now) (plan_at feeder.old) (λ w. StopsFirsts w stop)) }
     ensures unread { result ≡ Err Stop.Memory

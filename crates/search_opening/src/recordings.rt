@@ -37,7 +37,7 @@ fn fits_one(
         unreachable!()
     };
     observation.lies_in_range();
-    // They are read back as this header.
+    // What `bytes` ensures: a header is read back from them.
     let _bytes = header.bytes();
     space.copy_from(header);
     fits(space, observation.obs_offset(), file_size, max_bytes)

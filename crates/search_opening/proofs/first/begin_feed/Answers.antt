@@ -5,8 +5,9 @@ use Rattle.std.proofs.lemmas.Option.{slice_get_within}
 use Rattle.stream_model.specs.WalkLaws.{AreStarts}
 use Rattle.disk_feeder.specs.Feeder.{plan_at}
 use Rattle.disk_feeder.specs.Plan.{Plan, stream_of, HasHeaders}
+use Rattle.run_stop.specs.Ends.{ComesBefore}
 use Rattle.search_opening.specs.First.{StopsFirsts}
-use Rattle.search_opening.proofs.Firsts.{still_told, same_stream, leaves_data, stops_text, stops_fields, are_firsts}
+use Rattle.search_opening.proofs.Firsts.{still_told, same_stream, leaves_data, stops_text, stops_fields, are_firsts, begin_comes, fields_come}
 use Rattle.search_opening.proofs.first.begin_feed.Goals as goal
 
 -- as many names as files, where transfers begin
@@ -73,3 +74,10 @@ returns-in-Err-clause-stopped g c = λ files are.
     (stops_text old (length names) (g.I.Inputs.told c.args.feeder.now.inputs.now) files many
     (starts_are old c.args.starts.now (length names) c.requires.plan many c.requires.begin) are c.in-Err.fault
     r.transfer r.there r.refuses r.earlier)
+
+pub returns-in-Err-observe_all-clause-kind : goal.returns-in-Err-observe_all-clause-kind
+returns-in-Err-observe_all-clause-kind g c = subst ComesBefore (sym c.of_observation.ensures)
+    (fields_come _ c.in-Err-observe_all.refused.cause)
+
+pub returns-in-Err-clause-kind : goal.returns-in-Err-clause-kind
+returns-in-Err-clause-kind g c = subst ComesBefore (sym c.of_begin.ensures) (begin_comes c.in-Err.fault)
