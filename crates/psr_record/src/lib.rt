@@ -1,0 +1,8 @@
+//! The recording of files of filterbank samples into new files.
+#![tactic(auto)]
+
+mod laws;
+mod top;
+
+pub use laws::{accepted_is_recorded, recorded_is_read_back};
+pub use top::run_record;

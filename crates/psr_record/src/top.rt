@@ -1,0 +1,132 @@
+// The top call.
+ghost use Rattle.std.specs.Prelude.{◌≡◌, Some, map, string_bytes};
+ghost use Rattle.run_stop.specs.Conversions.{stop_of_feed};
+ghost use Rattle.run_stop.specs.Outcomes.{ReadsNoData};
+ghost use Rattle.run_stop.specs.Runs.{RecordingAlone};
+ghost use Rattle.psr_record.specs.Outcome.{Outcome};
+ghost use Rattle.psr_record.specs.Ends.{Ends, stop_of_files, stop_of_session};
+
+use dada_recorder::RecordEnd;
+use psr_base::{Files, Inputs, Sink};
+use ring_ends::Finished;
+use run_stop::{Stop, tell};
+use search_session::{Gate, Ran};
+use search_words::Settings;
+use std::alloc::Global;
+use std::sync::Wait;
+use std::thread::Threads;
+use whole_run::{Found, drive};
+// Laws: they do nothing when they run, and the proofs use what they ensure.
+use run_stop::{end_after_whole, end_at_stop, end_at_words, end_before_session, words_say_once};
+
+// What a recording came to: its stop, or none where it went to its end; and what went through its data ring, where there
+// was one.
+#[derive(Drop)]
+struct Ended {
+    stop: Option<Stop>,
+    blocks: Option<Finished>,
+}
+
+/// Records the data of the files that the words name in new files. The first word is the program's name. The exit status
+/// is answered; where it isn't 0, a line to `notes` says why. A fault of `notes` changes nothing.
+pub fn run_record<
+    I: Inputs + Send,
+    F: Files + Send,
+    E: Sink,
+    G: Gate + Sync,
+    R: Threads + Wait + Sync,
+>(
+    rt: &R,
+    alloc: Global,
+    words: &[String],
+    inputs: &mut I,
+    files: &mut F,
+    notes: &mut E,
+    gate: &G,
+) -> Ran
+    requires closed { ¬ F.is_open files.old }
+    ensures outcome { Outcome (map string_bytes words.now)
+        (record {
+          told = I.told inputs.old;
+          faults_before = I.faults inputs.old;
+          faults_after = I.faults inputs.new;
+        })
+        (I.is_calm inputs.old) (F.seen files.old) (F.seen files.new) (E.seen notes.old)
+        (E.seen notes.new) result }
+    ensures early { result.status ≡ 5 → ReadsNoData RecordingAlone (map string_bytes words.now)
+        (I.told inputs.old) (I.told inputs.new) }
+{
+    let Ended { stop, blocks } = record_files(rt, alloc, words, inputs, files, gate);
+    let status = tell(stop, notes);
+    Ran { status, blocks }
+}
+
+// Whether a call on the files that are made failed.
+fn has_failed(recorded: Option<RecordEnd>) -> Option<Stop>
+    ensures { result ≡ stop_of_files recorded }
+{
+    match recorded {
+        Some(RecordEnd::FileFault) => Some(Stop::FileFault),
+        _ => None,
+    }
+}
+
+// What stopped a session.
+fn stop_of(found: &Found) -> Option<Stop>
+    ensures { result ≡ stop_of_session (stop_of_feed found.now.feed) found.now.recorded }
+{
+    match Stop::of_feed(found.feed) {
+        Some(stop) => Some(stop),
+        None => has_failed(found.recorded),
+    }
+}
+
+// The same without the notes.
+fn record_files<I: Inputs + Send, F: Files + Send, G: Gate + Sync, R: Threads + Wait + Sync>(
+    rt: &R,
+    alloc: Global,
+    words: &[String],
+    inputs: &mut I,
+    files: &mut F,
+    gate: &G,
+) -> Ended
+    requires closed { ¬ F.is_open files.old }
+    ensures ends { Ends (map string_bytes words.now)
+        (record {
+          told = I.told inputs.old;
+          faults_before = I.faults inputs.old;
+          faults_after = I.faults inputs.new;
+        })
+        (I.is_calm inputs.old) (F.seen files.old) (F.seen files.new) result.stop result.blocks }
+    ensures early { result.stop ≡ Some Stop.Memory
+        → ReadsNoData RecordingAlone (map string_bytes words.now) (I.told inputs.old)
+        (I.told inputs.new) }
+{
+    end_at_words();
+    words_say_once();
+    end_before_session();
+    end_at_stop();
+    end_after_whole();
+    let settings = match Settings::of_record(alloc, words) {
+        Ok(settings) => settings,
+        Err(fault) => {
+            return Ended {
+                stop: Some(Stop::of_words(fault)),
+                blocks: None,
+            };
+        }
+    };
+    match drive(rt, alloc, false, &settings, inputs, files, gate) {
+        Ok(found) => {
+            let stop = stop_of(&found);
+            Ended {
+                stop,
+                blocks: Some(found.blocks),
+            }
+        }
+        Err(stop) => Ended {
+            stop: Some(stop),
+            blocks: None,
+        },
+    }
+}
