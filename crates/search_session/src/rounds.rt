@@ -35,8 +35,8 @@ pub fn round<'a, I: Inputs + Send, F: Files + Send, G: Gate + Sync, R: Threads +
     );
 }
 
-/// Retires each shard that ended, and the recorder where it ended.
-pub(crate) fn retire_ended<I: Inputs, F: Files>(hands: &mut [Hand<'_, I, F>], hdu: &Hdu)
+// Retires each shard that ended, and the recorder where it ended.
+fn retire_ended<I: Inputs, F: Files>(hands: &mut [Hand<'_, I, F>], hdu: &Hdu)
     requires { All (HandOn I.told I.is_open F.is_open hdu.now) hands.old }
     ensures on { All (HandOn I.told I.is_open F.is_open hdu.now) hands.new }
     ensures moved { EachMoved (HandMoved I.told I.is_calm I.faults F.seen 0) hands.old hands.new }
@@ -45,6 +45,23 @@ pub(crate) fn retire_ended<I: Inputs, F: Files>(hands: &mut [Hand<'_, I, F>], hd
     for place in 0..hands.len() {
         hands[place].retire(hdu);
     }
+}
+
+/// One round, after which the writer is freed of each shard that ended, and of the recorder where it ended.
+pub(crate) fn round_and_retire<
+    I: Inputs + Send,
+    F: Files + Send,
+    G: Gate + Sync,
+    R: Threads + Sync,
+>(rt: &R, hands: &mut [Hand<'_, I, F>], hdu: &Hdu, turns: u32, gate: &G)
+    requires { All (HandOn I.told I.is_open F.is_open hdu.now) hands.old }
+    ensures on { All (HandOn I.told I.is_open F.is_open hdu.now) hands.new }
+    ensures moved { EachMoved (HandMoved I.told I.is_calm I.faults F.seen turns)
+        hands.old hands.new }
+    ensures retired { All HandRetired hands.new }
+{
+    round(rt, hands, hdu, turns, gate);
+    retire_ended(hands, hdu);
 }
 
 /// Whether all actors ended.

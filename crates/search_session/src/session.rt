@@ -21,7 +21,7 @@ use crate::ended::{SessionEnd, finish};
 use crate::gate::Gate;
 use crate::gathering::{gather, take_feeder, take_recorder};
 use crate::hand::Hand;
-use crate::rounds::{all_ended, retire_ended, round};
+use crate::rounds::{all_ended, round_and_retire};
 use crate::staff::staff;
 use crate::stage::Stage;
 use dada_hdu::Hdu;
@@ -33,7 +33,7 @@ use dada_recorder::recordings_end;
 use disk_feeder::{feeders_end, headers_are_first};
 use stream_model::{bytes_are_joined, ends_are_counted, streams_have_transfers};
 
-// Rounds of so many turns, until all actors have ended. A shard or recorder that ended is retired between rounds.
+// Rounds of so many turns, until all actors have ended. After each the writer is freed of those that ended.
 fn run_rounds<I: Inputs + Send, F: Files + Send, G: Gate + Sync, R: Threads + Wait + Sync>(
     rt: &R,
     hands: &mut [Hand<'_, I, F>],
@@ -49,8 +49,7 @@ fn run_rounds<I: Inputs + Send, F: Files + Send, G: Gate + Sync, R: Threads + Wa
         hands.old hands.new }
 {
     for _round in rt.forever() {
-        round(rt, hands, hdu, turns, gate);
-        retire_ended(hands, hdu);
+        round_and_retire(rt, hands, hdu, turns, gate);
         if all_ended(hands) {
             return;
         }
@@ -94,8 +93,8 @@ fn end_session<'a, I: Inputs, F: Files>(
     finish(hdu, feeder, shards, recorder)
 }
 
-/// Drives a stage to its end: rounds of so many turns follow one another until all have ended. A shard or recorder that
-/// ended is retired between rounds.
+/// Drives a stage to its end: rounds of so many turns follow one another until all have ended. After each the writer is
+/// freed of the shards that ended, and of the recorder where it ended.
 pub fn run_session<'a, I: Inputs + Send, F: Files + Send, G: Gate + Sync, R: Threads + Wait + Sync>(
     rt: &R,
     stage: Stage<'a, I, F>,

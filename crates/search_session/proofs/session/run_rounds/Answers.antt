@@ -21,14 +21,12 @@ loop-round-preserved g c =
     let files_open = g.F.Files.is_open in
     let seen = g.F.Files.seen in
     let before = c.loop-round.invariant.moved in
-    let first = hands_more told is_open is_calm faults files_open seen before.0 c.args.turns c.args.hands.now
-    c.loop-round.hands c.round.new.hands before.1 c.round.ensures.moved in
     record {
-      on = c.retire_ended.ensures.on;
+      on = c.round_and_retire.ensures.on;
       moved = (
-        before.0 + c.args.turns + 0,
-        hands_more told is_open is_calm faults files_open seen (before.0 + c.args.turns) 0
-            c.args.hands.now c.round.new.hands c.retire_ended.new.hands first c.retire_ended.ensures.moved,
+        before.0 + c.args.turns,
+        hands_more told is_open is_calm faults files_open seen before.0 c.args.turns c.args.hands.now
+            c.loop-round.hands c.round_and_retire.new.hands before.1 c.round_and_retire.ensures.moved,
       );
     }
 
@@ -41,15 +39,13 @@ returns-then-all_ended g c =
     let files_open = g.F.Files.is_open in
     let seen = g.F.Files.seen in
     let before = c.loop-round.invariant.moved in
-    let first = hands_more told is_open is_calm faults files_open seen before.0 c.args.turns c.args.hands.now
-    c.loop-round.hands c.round.new.hands before.1 c.round.ensures.moved in
     record {
-      on = c.retire_ended.ensures.on;
+      on = c.round_and_retire.ensures.on;
       ended = c.all_ended.ensures c.if-all_ended.true;
-      retired = c.retire_ended.ensures.retired;
+      retired = c.round_and_retire.ensures.retired;
       moved = (
-        before.0 + c.args.turns + 0,
-        hands_more told is_open is_calm faults files_open seen (before.0 + c.args.turns) 0
-            c.args.hands.now c.round.new.hands c.retire_ended.new.hands first c.retire_ended.ensures.moved,
+        before.0 + c.args.turns,
+        hands_more told is_open is_calm faults files_open seen before.0 c.args.turns c.args.hands.now
+            c.loop-round.hands c.round_and_retire.new.hands before.1 c.round_and_retire.ensures.moved,
       );
     }

@@ -1,0 +1,22 @@
+use Rattle.std.proofs.Common.{◌≡◌, ℕ, ◌+◌, subst, arith}
+use Rattle.search_session.specs.Hands.{HandMoved, EachMoved}
+use Rattle.search_session.proofs.Handling.{hands_more}
+use Rattle.search_session.proofs.rounds.round_and_retire.Goals as goal
+
+pub returns : goal.returns
+returns g c =
+    let told = g.I.Inputs.told in
+    let is_open = g.I.Inputs.is_open in
+    let is_calm = g.I.Inputs.is_calm in
+    let faults = g.I.Inputs.faults in
+    let files_open = g.F.Files.is_open in
+    let seen = g.F.Files.seen in
+    let both = hands_more told is_open is_calm faults files_open seen c.args.turns 0 c.args.hands.now
+    c.round.new.hands c.retire_ended.new.hands c.round.ensures.moved c.retire_ended.ensures.moved in
+    let none : c.args.turns + 0 ≡ c.args.turns = omega arith in
+    record {
+      on = c.retire_ended.ensures.on;
+      moved = subst (λ (n : ℕ). EachMoved (HandMoved told is_calm faults seen n) c.args.hands.now
+          c.retire_ended.new.hands) none both;
+      retired = c.retire_ended.ensures.retired;
+    }
