@@ -1,9 +1,11 @@
 //! The search of files of filterbank samples for dispersed pulses and folded periods.
 #![tactic(auto)]
 
+mod in_memory;
 mod laws;
 mod top;
 mod writing;
 
-pub use laws::accepted_is_searched;
+pub use in_memory::run_in_memory;
+pub use laws::{accepted_is_searched, sample_is_found};
 pub use top::run;

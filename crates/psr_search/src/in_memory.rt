@@ -1,0 +1,40 @@
+// A search over objects in memory.
+ghost use Rattle.std.specs.Prelude.{◌≡◌, [], map, string_bytes};
+ghost use Rattle.psr_base.specs.InMemory.{told_of, calls_of, files_seen, sink_seen, IsMaking};
+ghost use Rattle.run_stop.specs.Outcomes.{ReadsNoData};
+ghost use Rattle.run_stop.specs.Runs.{Searching};
+ghost use Rattle.psr_search.specs.Outcome.{Outcome};
+
+use crate::top::run;
+use psr_base::{MemFiles, MemInputs, MemSink};
+use search_session::{Gate, Ran};
+use std::alloc::Global;
+use std::sync::Wait;
+use std::thread::Threads;
+
+/// Searches files in memory, as `run` does. The inputs are calm where none of their calls is to fail.
+pub fn run_in_memory<G: Gate + Sync, R: Threads + Wait + Sync>(
+    rt: &R,
+    alloc: Global,
+    words: &[String],
+    inputs: &mut MemInputs,
+    files: &mut MemFiles,
+    out: &mut MemSink,
+    notes: &mut MemSink,
+    gate: &G,
+) -> Ran
+    requires closed { ¬ IsMaking files.old }
+    ensures outcome { Outcome (map string_bytes words.now)
+        (record {
+          told = told_of inputs.old;
+          faults_before = (calls_of inputs.old).faults;
+          faults_after = (calls_of inputs.new).faults;
+        })
+        ((calls_of inputs.old).fail ≡ []) (files_seen files.old) (files_seen files.new)
+        (sink_seen out.old) (sink_seen out.new) (sink_seen notes.old) (sink_seen notes.new)
+        result }
+    ensures early { result.status ≡ 5 → ReadsNoData Searching (map string_bytes words.now)
+        (told_of inputs.old) (told_of inputs.new) }
+{
+    run(rt, alloc, words, inputs, files, out, notes, gate)
+}
