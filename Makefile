@@ -11,7 +11,7 @@ CPU := $(shell grep -qw avx2 /proc/cpuinfo 2>/dev/null && echo --cpu=x86-64-v3)
 help:
 	@echo 'make demo                    makes an observation with three pulses and finds them, in about a minute'
 	@echo 'make test                    the gate: every proof, must-fail edit, test and program'
-	@echo 'make install PREFIX=DIR      proves, builds and installs psr_search, psr_make and ring_trace (PREFIX: $(PREFIX))'
+	@echo 'make install PREFIX=DIR      proves, builds and installs psr_search, psr_record, psr_make and ring_trace (PREFIX: $(PREFIX))'
 
 toolchain:
 	@command -v rt >/dev/null || { echo 'this needs rt, the command of the Rattle toolchain, on the PATH' >&2; exit 1; }
@@ -34,14 +34,17 @@ demo: toolchain
 test: toolchain
 	@.ci/run
 
-# A program is built by running it once: psr_search on its sample, ring_trace on its own, psr_make in a folder of its own.
+# A program is built by running it once: psr_search on its sample, psr_record on a file that is too short, which it refuses
+# with status 3, ring_trace on its own sample, psr_make in a folder of its own.
 install: toolchain
 	@cd crates/psr_search_main && rt run $(CPU) -- $(SEARCH) $(SAMPLE) >/dev/null
+	@cd crates/psr_record_main && { rt run $(CPU) -- data/short.dada >/dev/null 2>&1; [ $$? -eq 3 ]; }
 	@cd crates/ring_trace_main && rt run $(CPU) -- data/trace >/dev/null
 	@folder=$$(mktemp -d) && trap 'rm -rf "$$folder"' EXIT && \
 		cd crates/psr_make_main && rt run $(CPU) -- "$$folder/made.dada" >/dev/null
 	@mkdir -p $(PREFIX)/bin
 	@install crates/psr_search_main/out/psr_search_main $(PREFIX)/bin/psr_search
+	@install crates/psr_record_main/out/psr_record_main $(PREFIX)/bin/psr_record
 	@install crates/psr_make_main/out/psr_make_main $(PREFIX)/bin/psr_make
 	@install crates/ring_trace_main/out/ring_trace_main $(PREFIX)/bin/ring_trace
-	@echo 'installed psr_search, psr_make and ring_trace into $(PREFIX)/bin'
+	@echo 'installed psr_search, psr_record, psr_make and ring_trace into $(PREFIX)/bin'

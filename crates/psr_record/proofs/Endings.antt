@@ -281,7 +281,8 @@ module _ (words : List (List ℕ)) (inputs : InputsSeen) (is_calm : Type 0) (s0 
     -- ---- with all data
 
     module _ (law : EndAfterWhole) (whole : stop_of_feed end ≡ None) where
-      late : (n : ℕ) → IsLate recorded n → EndsAt RecordingAlone words inputs.told (Some blocks) files_before files_after n
+      late : (n : ℕ) → IsLate recorded n →
+          EndsAt RecordingAlone words inputs.told (Some blocks) files_before files_after n
           × ForRecord words inputs.told (λ s w. CanBegin RecordingAlone s w × (walk_stop w ≡ walk.Whole))
       late n at =
           law RecordingAlone words inputs.told blocks end recorded files_before files_after n fed is_recorded whole at

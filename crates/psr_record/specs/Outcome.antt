@@ -1,20 +1,22 @@
 -- What the exit status of a recording says.
 -- Source: this project's choice.
-use Rattle.std.specs.Prelude.{◌≡◌, ◌⊎◌, ℕ, List, [], ◌∷◌, Option, Some, Contains}
+use Rattle.std.specs.Prelude.{◌≡◌, ◌⊎◌, ℕ, ◌+◌, ◌^◌, ◌<◌, ◌≤◌, true, List, [], ◌∷◌, Option, Some, Contains, length, map}
 use Rattle.psr_base.specs.Count.{Rose}
 use Rattle.psr_base.specs.Told.{Told, InputsSeen}
 use Rattle.psr_base.specs.Made.{FilesSeen}
 use Rattle.psr_base.specs.Written.{SinkSeen}
 use Rattle.ring_ends.specs.declared.finished.Finished.{Finished}
-use Rattle.search_words.specs.Settings.{SettingsSeen, SayRecord}
+use Rattle.search_words.specs.Settings.{SettingsSeen, AllInRange, SayRecord}
 use Rattle.stream_model.specs.Walk as walk
-use Rattle.stream_model.specs.Walk.{FileStream, walk_stop, walk_data}
+use Rattle.stream_model.specs.Walk.{FileStream, transfer_data, walk_stop, walk_data}
+use Rattle.stream_model.specs.RecordedLaws.{stream_of_recorded}
 use Rattle.disk_feeder.specs.Plan.{AreTold}
 use Rattle.search_session.specs.declared.ended.Ran.{Ran}
-use Rattle.run_stop.specs.Runs.{RecordingAlone, stream_for, ForFiles, CanBegin}
-use Rattle.run_stop.specs.Outcomes.{JudgesWords, ReadsInputs, StopsAtFiles, SealsStream, AllCleared, RecordsFiles, TellsNotes, MadeAll, MadeFront, files_of_data}
+use Rattle.run_stop.specs.Runs.{RecordingAlone, stream_for, ForFiles, first_observation, CanBegin}
+use Rattle.run_stop.specs.Outcomes.{JudgesWords, ReadsInputs, StopsAtFiles, SealsStream, AllCleared, RecordsFiles, TellsNotes, MadeAll, MadeFront, recorded_transfers, files_of_data}
 
--- P holds of the settings that the words of a recording say and of the files that they name, where all of these are told
+-- P holds of the settings that the words of a recording say and of the files that they name, where all of them are
+-- told
 abbrev pub ForRecord : List (List ℕ) → Told → (SettingsSeen → FileStream → Type 0) → Type 0
 ForRecord = ForFiles RecordingAlone
 
@@ -35,9 +37,9 @@ pub record RecordsData
 abbrev pub ClearsBlocks : Option Finished → ℕ → Type 0
 ClearsBlocks blocks status = status ≡ 0 → (b : Finished) → blocks ≡ Some b → AllCleared b 0 1
 
--- The outcome of a recording for these words over these inputs, which may be calm: how it ended, by its status, and what
--- the outside objects and the data ring took. Where more than one cause is there, the first of these counts: words,
--- first headers, recordings; the stop of the walk of the files; the files that are made.
+-- The outcome of a recording for these words over these inputs, which may be calm: how it ended, by its status, and
+-- what the outside objects and the data ring took. Where more than one cause is there, the first of these counts:
+-- words, first headers, recordings; the stop of the walk of the files; the files that are made.
 pub record Outcome (words : List (List ℕ)) (inputs : InputsSeen) (is_calm : Type 0)
     (files_before files_after : FilesSeen) (notes_before notes_after : SinkSeen) (ran : Ran) :
     Type 0 where
@@ -64,3 +66,23 @@ AcceptedIsRecorded is_calm = (words : List (List ℕ)) (inputs : InputsSeen)
     AreTold inputs.told s.names files → IsRecordable s (stream_for s files) →
     is_calm ⊎ ¬ Rose inputs.faults_before inputs.faults_after →
     ¬ Rose files_before.faults files_after.faults → (ran.status ≡ 0) ⊎ (ran.status ≡ 5)
+
+-- ---- what was recorded is read
+
+-- the files of a recording of all data, in the order in which they were created, as the files of a stream
+abbrev pub recorded_stream : SettingsSeen → FileStream → FileStream
+recorded_stream s w = stream_of_recorded w.max_bytes
+    (recorded_transfers w s.file_size (length w.starts) (transfer_data w))
+
+-- no data byte of a transfer lies past the last offset that a header can have
+abbrev pub HasOffsets : FileStream → Type 0
+HasOffsets w = (k : ℕ) → k < length w.starts →
+    (first_observation w k).obs_offset + length (transfer_data w k) ≤ 10 ^ 15
+
+-- fed in order, the files of a recording of all data are a whole stream with the same data
+abbrev pub RecordedIsReadBack : Type 0
+RecordedIsReadBack = (s : SettingsSeen) (w : FileStream) → AllInRange s → s.recording ≡ true →
+    IsRecordable s w → HasOffsets w →
+    ((recorded_stream s w).files ≡ map (λ file. file.bytes) (files_of_data w s.file_size))
+    × (walk_stop (recorded_stream s w) ≡ walk.Whole)
+    × (walk_data (recorded_stream s w) ≡ walk_data w)

@@ -19,16 +19,16 @@ use whole_run::{Found, drive};
 // Laws: they do nothing when they run, and the proofs use what they ensure.
 use run_stop::{end_after_whole, end_at_stop, end_at_words, end_before_session, words_say_once};
 
-// What a recording came to: its stop, or none where it went to its end; and what went through its data ring, where there
-// was one.
+// What a recording came to: its stop, or none where it went to its end; and what went through its data ring, where
+// there was one.
 #[derive(Drop)]
 struct Ended {
     stop: Option<Stop>,
     blocks: Option<Finished>,
 }
 
-/// Records the data of the files that the words name in new files. The first word is the program's name. The exit status
-/// is answered; where it isn't 0, a line to `notes` says why. A fault of `notes` changes nothing.
+/// Records the data of the files that the words name in new files. The first word is the program's name. The exit
+/// status is answered; where it isn't 0, a line to `notes` says why. A fault of `notes` changes nothing.
 pub fn run_record<
     I: Inputs + Send,
     F: Files + Send,
