@@ -1,3 +1,7 @@
+mod Wording
+mod Staging
+mod Opening
+mod Results
 mod Lists
 mod Told
 mod Recorded

@@ -1,7 +1,10 @@
 -- Lists over ranges.
 use Rattle.std.proofs.Common.{◌≡◌, ℕ, zero, suc, ◌+◌, ◌<◌, ◌≤◌, All, List, [], ◌∷◌, Some, length, map, refl, sym, ap, ◌∙◌, subst, arith}
-use Rattle.std.specs.Prelude.{slice_get, Option, IfSome}
-use Rattle.std.proofs.lemmas.Option.{slice_get_within}
+use Rattle.std.specs.Prelude.{slice_get, Option, IfSome, IsSome, is_some}
+use Rattle.std.specs.Option.{option_map}
+use Rattle.std.proofs.lemmas.List.{length-map}
+use Rattle.std.proofs.lemmas.List.FromFn.{length-map-range_with_len, get_or-map-range_with_len}
+use Rattle.std.proofs.lemmas.Option.{slice_get_within, slice_get-map, get_or_from_slice_get}
 use Rattle.std.specs.List.{sum_by, range_with_len}
 use Rattle.std.proofs.lemmas.List.Sums.{sum_by-cons}
 
@@ -12,14 +15,18 @@ some_at (x ∷ xs) (suc k) below = some_at xs k (omega (arith, below))
 
 pub if_some_at : {X : Type 0} (P : X → Type 0) (xs : List (Option X)) (k : ℕ) (x : X) →
     slice_get xs k ≡ Some (Some x) → All (λ at. IfSome at P) xs → P x
-if_some_at P [] k x there all = absurd (none_at k (slice_get_within [] k (Some x) there))
-  where
-    none_at : (j : ℕ) → j < 0 → ⊥
-    none_at j below = omega (arith, below)
-if_some_at P (y ∷ xs) zero x there all =
-    let is : y ≡ Some x = cc in
-    subst (λ at. IfSome at P) is all.0
-if_some_at P (y ∷ xs) (suc k) x there all = if_some_at P xs k x there all.1
+if_some_at P xs k x there all =
+    let At : Option _ → Type 0 = λ at. IfSome at P in
+    subst At (get_or_from_slice_get xs k (Some x) (Some x) there)
+    (all k (Some x) (slice_get_within xs k (Some x) there))
+
+pub all_there : {X : Type 0} (xs : List X) (ys : List (Option X)) → ys ≡ map Some xs → All IsSome ys
+all_there xs ys are k d below =
+    let count = ap length are ∙ length-map xs Some in
+    let there = some_at xs k (omega (arith, below, count)) in
+    let at : slice_get ys k ≡ Some (Some there.0) =
+    ap (λ os. slice_get os k) are ∙ slice_get-map Some xs k ∙ ap (option_map Some) there.1 in
+    ap is_some (get_or_from_slice_get ys k (Some there.0) d at)
 
 pub same_over : {X : Type 0} (f g : ℕ → X) (a n : ℕ) → ((j : ℕ) → a ≤ j → j < a + n → f j ≡ g j) →
     map f (range_with_len a n) ≡ map g (range_with_len a n)
@@ -47,10 +54,9 @@ sum_over g f (x ∷ xs) =
     sum_by-cons g (f x) (map f xs) ∙ ap (λ n. g (f x) + n) (sum_over g f xs)
     ∙ sym (sum_by-cons (λ k. g (f k)) x xs)
 
-pub all_over : {X : Type 0} (P : X → Type 0) (f : ℕ → X) (a n : ℕ) →
-    ((j : ℕ) → a ≤ j → j < a + n → P (f j)) → All P (map f (range_with_len a n))
-all_over P f a zero each = tt
-all_over P f a (suc n) each = (
-  each a (omega arith) (omega arith),
-  all_over P f (a + 1) n (λ j from to. each j (omega (arith, from)) (omega (arith, to))),
-)
+pub all_over : {X : Type 0} (P : X → Type 0) (f : ℕ → X) (n : ℕ) → ((j : ℕ) → j < n → P (f j)) →
+    All P (map f (range_with_len 0 n))
+all_over P f n each k d below =
+    let count = length-map-range_with_len f 0 n in
+    let within : k < n = omega (arith, below, count) in
+    subst P (sym (get_or-map-range_with_len f 0 n k k d within (omega arith))) (each k within)

@@ -1,5 +1,5 @@
 -- What a session records, over the files of a run.
-use Rattle.std.proofs.Common.{◌≡◌, ◌≢◌, ℕ, ◌+◌, ◌<◌, ◌≤◌, true, false, List, Option, Some, None, Ok, length, map, refl, sym, ap, ◌∙◌, subst, arith}
+use Rattle.std.proofs.Common.{◌≡◌, ◌≢◌, ℕ, ◌<◌, true, false, List, Option, Some, Ok, length, refl, sym, ap, ◌∙◌, subst, arith}
 use Rattle.std.specs.Prelude.{slice_get, slice_index_or}
 use Rattle.std.specs.Option.{option_map}
 use Rattle.std.proofs.lemmas.List.{length-map}
@@ -16,7 +16,6 @@ use Rattle.disk_feeder.specs.declared.feeder.Feeder.{Feeder}
 use Rattle.disk_feeder.specs.Feeder.{header_at, plan_at}
 use Rattle.dada_recorder.specs.declared.answers.RecordEnd.{RecordEnd}
 use Rattle.dada_recorder.specs.declared.answers.RecordEnd.TheVariants.{Whole, Cut, FileFault, BadHeader, TooLong}
-use Rattle.dada_recorder.specs.Blocks.{under_header}
 use Rattle.dada_recorder.specs.Changes.{recording}
 use Rattle.dada_recorder.specs.Making.{Outset, HasMade, BreaksOff}
 use Rattle.search_session.specs.Recorded.{SealsRecordable, EndsRecording, HasRecorded}

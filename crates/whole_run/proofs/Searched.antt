@@ -1,36 +1,27 @@
 -- What a session found, over the files of a run.
-use Rattle.std.proofs.Common.{◌≡◌, ℕ, ◌+◌, ◌^◌, ◌<◌, ◌≤◌, All, List, Option, Some, None, length, map, refl, sym, ap, ◌∙◌, subst, arith}
-use Rattle.std.specs.Prelude.{slice_get, slice_index_or, IfSome}
+use Rattle.std.proofs.Common.{◌≡◌, ℕ, ◌+◌, ◌^◌, ◌<◌, ◌≤◌, List, Option, Some, None, length, map, sym, ap, ◌∙◌, subst, arith}
+use Rattle.std.specs.Prelude.{slice_get, slice_index_or}
 use Rattle.std.specs.List.{sum_by, range_with_len}
 use Rattle.std.proofs.lemmas.List.{length-map}
 use Rattle.std.proofs.lemmas.List.FromFn.{length-map-range_with_len}
-use Rattle.std.proofs.lemmas.Option.{slice_get-map, slice_get_within, get_or_from_slice_get}
+use Rattle.std.proofs.lemmas.Option.{slice_get-map, get_or_from_slice_get}
 use Rattle.std.proofs.lemmas.Simd.{map-map}
-use Rattle.psr_base.specs.Told.{Told}
 use Rattle.dada_model.specs.Observation.{Observation}
 use Rattle.search_model.specs.Plan.{plan_refusal}
 use Rattle.search_model.specs.Search.{SettingsInRange}
 use Rattle.search_model.specs.Observed.{candidates_of}
-use Rattle.candidate_book.specs.Book.{BookContents}
 use Rattle.search_words.specs.Settings.{SettingsSeen}
-use Rattle.stream_model.specs.Blocks.{joined_data}
 use Rattle.stream_model.specs.Walk.{FileStream, transfer_data}
-use Rattle.disk_feeder.specs.declared.answers.FeedEnd.{FeedEnd}
-use Rattle.disk_feeder.specs.declared.answers.FeedEnd.TheVariants as feed
-use Rattle.disk_feeder.specs.declared.feeder.Feeder.{Feeder}
-use Rattle.disk_feeder.specs.Feeder.{header_at, plan_at}
-use Rattle.disk_feeder.specs.Plan.{AreTold}
 use Rattle.transfer_text.specs.Searched.{ObservedTransfer, spectra_of, candidate_total}
 use Rattle.transfer_text.specs.Found.{part_books, HoldTransfers}
 use Rattle.transfer_text.specs.Laws.{TotalsAreCounted}
 use Rattle.search_session.specs.declared.lane.Lane.{Lane}
 use Rattle.search_session.specs.declared.ended.SessionEnd.{SessionEnd}
-use Rattle.search_session.specs.Sessions.{FeedAnswers, ShardAnswers, AreLanesFor, HoldFound, data_through}
-use Rattle.search_opening.specs.declared.space.StageSpace.{StageSpace}
+use Rattle.search_session.specs.Sessions.{AreLanesFor, HoldFound, data_through}
 use Rattle.search_opening.specs.Engines.{AreOpenedLanes}
-use Rattle.search_opening.specs.First.{AreFirsts, AreObserved}
+use Rattle.search_opening.specs.First.{AreFirsts}
 use Rattle.search_opening.specs.Plans.{PlansFit}
-use Rattle.run_stop.specs.Runs.{Task, first_observation, observed_transfers}
+use Rattle.run_stop.specs.Runs.{first_observation, observed_transfers}
 use Rattle.whole_run.proofs.Lists.{some_at, if_some_at, same_over, as_map, sum_over, all_over}
 
 -- ---- observations by their places
@@ -70,7 +61,7 @@ lanes_for s observations lanes said other opened here some = record {
   each = λ shard k below within.
       let lane = opened.each shard (omega (arith, below, opened.count)) in
       let engine = lane.2.each k (said_at said other k) (place_of_said observations said other k here within) in
-      (lane.0, lane.1, engine.0, engine.1, engine.2.opened, engine.2.stands);
+      (lane.0, lane.1, (engine.0, engine.1, engine.2.opened, engine.2.stands));
 }
 
 -- ---- books
@@ -107,8 +98,8 @@ transfers_are_counted end s observations said other law range here few fit total
     let t : ℕ → ObservedTransfer = λ k. record { observation = said_at said other k; bytes = data_through end k } in
     let count = length-map-range_with_len t 0 n in
     law s.search (transfers_through end said other n) range (omega (arith, few, count))
-    (all_over (λ u. plan_refusal u.observation s.search ≡ None) t 0 n (λ j from to.
-    if_some_at (λ o. plan_refusal o s.search ≡ None) observations j (said_at said other j) (place_of_said observations said other j here (omega (arith, to))) fit))
+    (all_over (λ u. plan_refusal u.observation s.search ≡ None) t n (λ j within.
+    if_some_at (λ o. plan_refusal o s.search ≡ None) observations j (said_at said other j) (place_of_said observations said other j here within) fit))
     (subst (λ m. m ≤ 2 ^ 48) (sym (sum_over (λ u. length u.bytes) t (range_with_len 0 n))) total)
 
 -- ---- where the files are told

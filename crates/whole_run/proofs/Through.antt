@@ -8,11 +8,12 @@ use Rattle.candidate_book.specs.Book.{BookContents}
 use Rattle.ring_blocks.specs.declared.Entry.{Entry}
 use Rattle.std.proofs.lemmas.Bool.{true≢false}
 use Rattle.psr_base.specs.Told.{Told}
-use Rattle.psr_base.specs.Made.{NamedBytes, FilesSeen}
+use Rattle.psr_base.specs.Made.{FilesSeen}
 use Rattle.dada_model.specs.Observation.{Observation}
 use Rattle.search_words.specs.Settings.{SettingsSeen}
+use Rattle.ring_ends.specs.declared.finished.Finished.{Finished}
 use Rattle.ring_ends.specs.Ended.{sealed_at_end, cleared_at_end}
-use Rattle.stream_model.specs.Walk.{FileStream, transfer_data}
+use Rattle.stream_model.specs.Walk.{transfer_data}
 use Rattle.disk_feeder.specs.declared.answers.FeedEnd.{FeedEnd}
 use Rattle.disk_feeder.specs.declared.answers.FeedEnd.TheVariants.{Whole}
 use Rattle.disk_feeder.specs.Plan.{Plan}
@@ -23,7 +24,7 @@ use Rattle.dada_recorder.specs.declared.answers.RecordEnd.{RecordEnd}
 use Rattle.dada_recorder.specs.declared.answers.RecordEnd.TheVariants.{FileFault}
 use Rattle.dada_recorder.specs.declared.recorder.Recorder.{Recorder}
 use Rattle.dada_recorder.specs.Blocks.{RecordPlan, files_of_blocks}
-use Rattle.dada_recorder.specs.Making.{Outset, HasMade, BreaksOff}
+use Rattle.dada_recorder.specs.Making.{HasMade, BreaksOff}
 use Rattle.dada_recorder.specs.Recorder.{plan_of}
 use Rattle.search_session.specs.declared.lane.Lane.{Lane}
 use Rattle.search_session.specs.declared.ended.SessionEnd.{SessionEnd}
@@ -33,9 +34,10 @@ use Rattle.transfer_text.specs.Found.{HoldTransfers}
 use Rattle.transfer_text.specs.Laws.{TotalsAreCounted}
 use Rattle.search_opening.specs.Engines.{AreOpenedLanes}
 use Rattle.search_opening.specs.declared.space.StageSpace.{StageSpace}
-use Rattle.run_stop.specs.Laws.{RunsRecordBlocks, RecordsFirsts}
-use Rattle.run_stop.specs.Outcomes.{MadeAll, MadeFront, AllCleared, files_of_stream}
-use Rattle.run_stop.specs.Runs.{Task, Searching, RecordingAlone, stream_for}
+use Rattle.search_opening.specs.Space.{lanes_in}
+use Rattle.run_stop.specs.Laws.{RunsRecordBlocks}
+use Rattle.run_stop.specs.Outcomes.{AllCleared, files_of_stream}
+use Rattle.run_stop.specs.Runs.{Task, Searching, RecordingAlone, CanBegin, stream_for}
 use Rattle.whole_run.specs.declared.found.Found.{Found}
 use Rattle.whole_run.specs.Wholes.{OfRun, ClearsAll, HoldsFound, shards_of}
 use Rattle.whole_run.specs.Openings.{IsReady, RecordsReady, SearchesReady, AreLanesOf, plan_for}
@@ -106,8 +108,8 @@ records_run law told is_open files_open seen task s offsets feeder observations 
       unrecorded = λ not. absurd (true≢false (sym ready.records ∙ not));
       all = λ not records files are. record {
         made = λ outset begins.
-            let blocks_of = λ b. HasMade outset false (files_of_stream (stream_for s files) s.file_size (sealed_at_end b)) after in
-            subst blocks_of (sym blocks)
+            let Blocks : Finished → Type 0 = λ b. HasMade outset false (files_of_stream (stream_for s files) s.file_size (sealed_at_end b)) after in
+            subst Blocks (sym blocks)
             (subst (λ fs. HasMade outset false fs after) (same files are)
             (subst (λ seen. HasMade outset false (files_through feeder r end) seen) (sym is)
             (made_all end.feed (files_through feeder r end) outset (seen by.files.now) by.answer (by.ends recordable)
@@ -161,8 +163,8 @@ pub clears_found : {I F : Type 0} (task : Task) (s : SettingsSeen) (observations
     cleared_at_end end.blocks (length lanes) ≡ sealed_at_end end.blocks) → found.blocks ≡ end.blocks →
     ClearsAll task s found
 clears_found task s observations lanes end found are shards recorder blocks =
-    let Blocks = λ b. AllCleared b 0 s.search.shards in
-    let Last = λ b. AllCleared b (shards_of task s) 1 in
+    let Blocks : Finished → Type 0 = λ b. AllCleared b 0 s.search.shards in
+    let Last : Finished → Type 0 = λ b. AllCleared b (shards_of task s) 1 in
     record {
       shards = λ searching. subst Blocks (sym blocks)
           (clears_shards task s observations lanes end are shards searching);
@@ -177,7 +179,7 @@ few_bytes plan told size headers blocks end bytes limit is whole same most =
     let By : FeedEnd → Type 0 = λ e. SealedAs plan size is.before is.current headers blocks e in
     let sealed = subst By whole is.sealed in
     let few = is.few in
-    let count = sealed.1.1.1 in
+    let count = sealed.3 in
     omega (arith, few, count, same, most)
 
 pub holds_found : {I F : Type 0} → TotalsAreCounted → (told : I → Told) (is_open is_calm : I → Type 0)
@@ -206,7 +208,7 @@ holds_found law told is_open is_calm faults task s offsets feeder observations s
     let held = subst (λ m. HoldFound s.search (said_at said other) (data_through end) m end) n
     (shards.held s.search (said_at said other) (data_through end) bytes feed_whole
     (subst (λ m. AreLanesFor s.search (said_at said other) m lanes) (sym n)
-    (lanes_for s observations.items lanes said other opened here ready.range.parts.shards)) (λ k below. refl)) in
+    (lanes_for s observations.items lanes said other opened here ready.range.parts.least_shards)) (λ k below. refl)) in
     let total : sum_by (λ k. length (data_through end k)) (range_with_len 0 (length said)) ≤ 2 ^ 48 =
     subst (λ m. sum_by (λ k. length (data_through end k)) (range_with_len 0 m) ≤ 2 ^ 48) n
     (subst (λ m. m ≤ 2 ^ 48) (sym (fed.parts bytes feed_whole))
@@ -229,3 +231,101 @@ holds_found law told is_open is_calm faults task s offsets feeder observations s
           (λ w. (k : ℕ) → k < length w.starts → data_through end k ≡ transfer_data w k) ready.plan fed.names
           (fed.walked bytes feed_whole) files are);
     }
+
+-- ---- the whole
+
+begins : {I F : Type 0} (told : I → Told) (is_open : I → Type 0) (task : Task) (s : SettingsSeen) (offsets : List ℕ)
+    (feeder : Feeder I) (observations : List (Option Observation)) (stage : StageSpace I F) →
+    IsReady told is_open task s offsets feeder observations stage →
+    OfRun (told feeder.inputs.now) s (λ w. CanBegin task s w)
+begins told is_open task s offsets feeder observations stage ready files are =
+    let w = stream_for s files in
+    let firsts = ready.firsts files are in
+    record {
+      accepted = firsts.walked;
+      searched = λ is. ready.fit.searched is w firsts;
+      recorded = λ is. ready.fit.recorded is w firsts (ready.headers files are) refl;
+    }
+
+walked_found : {I F : Type 0} (s : SettingsSeen) (told : Told) (observations : ArrayVec (Option Observation))
+    (end : SessionEnd I F) (found : Found) → IsFoundOf observations end found →
+    OfRun told s (λ w. EndIs w s.size (sealed_at_end end.blocks) end.feed) →
+    OfRun told s (λ w. EndIs w s.size (sealed_at_end found.blocks) found.feed)
+walked_found s told observations end found is walked =
+    subst (λ b. OfRun told s (λ w. EndIs w s.size (sealed_at_end b) found.feed)) (sym is.blocks)
+    (subst (λ f. OfRun told s (λ w. EndIs w s.size (sealed_at_end end.blocks) f)) (sym is.feed) walked)
+
+lanes_of_stage : {I F : Type 0} (told : I → Told) (is_open : I → Type 0) (task : Task) (s : SettingsSeen)
+    (offsets : List ℕ) (feeder : Feeder I) (observations : List (Option Observation)) (stage : StageSpace I F)
+    (lanes : List (Option Lane)) → (ready : IsReady told is_open task s offsets feeder observations stage) →
+    lanes ≡ (lanes_in stage).items → lanes ≡ ready.stage_is.lanes.items
+lanes_of_stage told is_open task s offsets feeder observations stage lanes ready same =
+    same ∙ ap (λ ls. ls.items) ready.stage_is.space.lanes_are
+
+pub goes_with : {I F : Type 0} → RunsRecordBlocks → TotalsAreCounted → (told : I → Told)
+    (is_open is_calm : I → Type 0) (faults : I → ℕ) (files_open : F → Type 0) (seen : F → FilesSeen) (task : Task)
+    (s : SettingsSeen) (offsets : List ℕ) (feeder : Feeder I) (observations : ArrayVec (Option Observation))
+    (stage : StageSpace I F) (r : Recorder F) (lanes : List (Option Lane)) (end : SessionEnd I F) (found : Found)
+    (after : FilesSeen) → RecordsReady told is_open files_open task s offsets feeder observations.items stage r →
+    lanes ≡ (lanes_in stage).items → FeedAnswers told is_calm faults feeder end →
+    ShardAnswers (length (plan_at feeder).starts) lanes end → (by : RecordedBy seen feeder r (length lanes) end) →
+    IsFoundOf observations end found → after ≡ seen by.files.now →
+    GoesThrough task s (told feeder.inputs.now) (seen r.files.now) after found
+goes_with blocks totals told is_open is_calm faults files_open seen task s offsets feeder observations stage r lanes end
+    found after ready same fed shards by is made =
+    let ready' = ready.ready in
+    let plan = ready.fresh.plan_is in
+    let of_stage = lanes_of_stage told is_open task s offsets feeder observations.items stage lanes ready' same in
+    let are : AreLanesOf task s observations.items lanes =
+    subst (λ ls. AreLanesOf task s observations.items ls) (sym of_stage) ready'.stage_is.lanes_are in
+    let recordable : SealsRecordable (plan_of r) (plan_at feeder) =
+    subst (λ (p : RecordPlan). SealsRecordable p (plan_at feeder)) (sym plan)
+    (is_recordable told is_open task s offsets feeder observations.items stage ready' ready.records) in
+    record {
+      begun = begins told is_open task s offsets feeder observations.items stage ready';
+      walked = walked_found s (told feeder.inputs.now) observations end found is
+          (goes_walked told is_calm faults feeder end s ready'.plan fed);
+      recorded = records_run blocks told is_open files_open seen task s offsets feeder observations.items stage r
+          (length lanes) end found after ready by made is.recorded is.blocks;
+      cleared = clears_found task s observations.items lanes end found are shards.cleared
+          (λ records fine. by.cleared recordable (λ failed. fine (is.recorded ∙ by.is ∙ ap (λ a. Some a) failed)))
+          is.blocks;
+      held = holds_found totals told is_open is_calm faults task s offsets feeder observations stage lanes end found
+          ready' of_stage fed shards is;
+    }
+
+pub goes_without : {I F : Type 0} → TotalsAreCounted → (told : I → Told) (is_open is_calm : I → Type 0)
+    (faults : I → ℕ) (task : Task) (s : SettingsSeen) (offsets : List ℕ) (feeder : Feeder I)
+    (observations : ArrayVec (Option Observation)) (stage : StageSpace I F) (lanes : List (Option Lane))
+    (end : SessionEnd I F) (found : Found) (before after : FilesSeen) →
+    SearchesReady told is_open task s offsets feeder observations.items stage → lanes ≡ (lanes_in stage).items →
+    FeedAnswers told is_calm faults feeder end → ShardAnswers (length (plan_at feeder).starts) lanes end →
+    HasNoRecording end → IsFoundOf observations end found → after ≡ before →
+    GoesThrough task s (told feeder.inputs.now) before after found
+goes_without totals told is_open is_calm faults task s offsets feeder observations stage lanes end found before after
+    ready same fed shards none is made =
+    let ready' = ready.ready in
+    let of_stage = lanes_of_stage told is_open task s offsets feeder observations.items stage lanes ready' same in
+    let are : AreLanesOf task s observations.items lanes =
+    subst (λ ls. AreLanesOf task s observations.items ls) (sym of_stage) ready'.stage_is.lanes_are in
+    let no_answer : found.recorded ≡ None = is.recorded ∙ none.recorded in
+    record {
+      begun = begins told is_open task s offsets feeder observations.items stage ready';
+      walked = walked_found s (told feeder.inputs.now) observations end found is
+          (goes_walked told is_calm faults feeder end s ready'.plan fed);
+      recorded = record {
+        unrecorded = λ not. (made, λ failed. never (sym no_answer ∙ failed));
+        all = λ fine records. absurd (true≢false (sym records ∙ ready.records_not));
+        front = λ failed records. absurd (true≢false (sym records ∙ ready.records_not));
+        rose = λ failed. absurd (never (sym no_answer ∙ failed));
+        quiet = λ fine. ap (λ (v : FilesSeen). v.faults) made;
+        count = subst (λ (v : FilesSeen). before.faults ≤ v.faults) (sym made) (omega arith);
+      };
+      cleared = clears_found task s observations.items lanes end found are shards.cleared
+          (λ records fine. absurd (true≢false (sym records ∙ ready.records_not))) is.blocks;
+      held = holds_found totals told is_open is_calm faults task s offsets feeder observations stage lanes end found
+          ready' of_stage fed shards is;
+    }
+  where
+    never : None ≡ Some FileFault → ⊥
+    never is = absurd cc

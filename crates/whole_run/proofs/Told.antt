@@ -1,5 +1,5 @@
 -- Files that are told, by the settings and by the feeder's plan.
-use Rattle.std.proofs.Common.{◌≡◌, ℕ, List, Option, sym, ap, ◌∙◌, subst}
+use Rattle.std.proofs.Common.{◌≡◌, ℕ, List, [], Option, sym, ap, ◌∙◌, subst}
 use Rattle.std.specs.Prelude.{slice_index_or}
 use Rattle.psr_base.specs.Told.{Told}
 use Rattle.search_words.specs.Settings.{SettingsSeen}
@@ -7,7 +7,10 @@ use Rattle.stream_model.specs.Walk.{FileStream}
 use Rattle.disk_feeder.specs.declared.feeder.Feeder.{Feeder}
 use Rattle.disk_feeder.specs.Feeder.{HasPlan, plan_at}
 use Rattle.disk_feeder.specs.Plan.{stream_of, AreTold}
-use Rattle.run_stop.specs.Runs.{stream_for}
+use Rattle.run_stop.specs.declared.stop.Stop.{Stop}
+use Rattle.run_stop.specs.Ends.{SaysBefore}
+use Rattle.run_stop.specs.Runs.{Task, stream_for}
+use Rattle.whole_run.specs.Openings.{StopsEarly}
 use Rattle.whole_run.specs.Wholes.{OfRun}
 
 -- files are told as long as what is told under the names stands
@@ -37,3 +40,14 @@ of_plan feeder s old new P plan same holds files are =
     let Told : List (List ℕ) → Type 0 = λ names. AreTold new names files in
     subst P (same_stream feeder s files plan)
     (holds files (subst Told (sym plan.files) (still_told old new s.names files same are)))
+
+pub before_reading : (s : SettingsSeen) (old new : Told) (P : FileStream → Type 0) → new.bytes_under ≡ old.bytes_under →
+    OfRun new s P → OfRun old s P
+before_reading s old new P same holds files are = holds files (still_told old new s.names files same are)
+
+pub stops_before_reading : (task : Task) (s : SettingsSeen) (old new : Told) (stop : Stop) →
+    new.bytes_under ≡ old.bytes_under → StopsEarly task s new stop → StopsEarly task s old stop
+stops_before_reading task s old new stop same stops = record {
+  kind = stops.kind;
+  says = before_reading s old new (λ w. SaysBefore task s w stop) same stops.says;
+}

@@ -1,16 +1,13 @@
 // A run from its settings to the end of its session.
-ghost use Rattle.std.specs.Prelude.{◌≡◌, ◌⊎◌, ℕ, true, false, Err, IfOk, IfErr, OnErr};
+ghost use Rattle.std.specs.Prelude.{◌≡◌, ℕ, true, false, Err, IfOk, IfErr, OnErr};
 ghost use Rattle.search_words.specs.Settings.{AllInRange, settings_seen};
 ghost use Rattle.disk_feeder.specs.declared.answers.FeedEnd.TheVariants.{Whole};
 ghost use Rattle.disk_feeder.specs.Filling.{HoldsAll};
 ghost use Rattle.search_opening.specs.Inputs.{HasReadFrom};
 ghost use Rattle.run_stop.specs.Ends.{StopsBefore, IsFed, IsRecorded};
-ghost use Rattle.run_stop.specs.Firsts.{LeavesData};
 ghost use Rattle.run_stop.specs.Outcomes.{ReadsNoData};
 ghost use Rattle.run_stop.specs.Runs.{Searching};
-ghost use Rattle.whole_run.specs.Ends.{GoesThrough};
-ghost use Rattle.whole_run.specs.Openings.{StopsEarly};
-ghost use Rattle.whole_run.specs.Wholes.{task_of, OfRun, ForWords, FailsReading, ClearsAll, HoldsFound};
+ghost use Rattle.whole_run.specs.Wholes.{task_of, ForWords, FailsReading, ClearsAll, HoldsFound};
 
 use crate::found::Found;
 use crate::lent::{Lent, give_back};
@@ -25,8 +22,10 @@ use search_words::Settings;
 use std::alloc::Global;
 use std::sync::Wait;
 use std::thread::Threads;
+// A law: it does nothing when it runs, and the proofs use what it ensures.
+use run_stop::words_say_once;
 
-// The same with all that is borrowed within one lifetime. `offsets` will hold where the data of each transfer begin.
+// The same with all that is borrowed in one lifetime. `offsets` will hold where the data of each transfer begin.
 fn within<'a, I: Inputs + Send, F: Files + Send, G: Gate + Sync, R: Threads + Wait + Sync>(
     rt: &R,
     alloc: Global,
@@ -47,16 +46,27 @@ fn within<'a, I: Inputs + Send, F: Files + Send, G: Gate + Sync, R: Threads + Wa
     ensures serves { I.is_calm inputs.old
         → HoldsAll (I.told inputs.old) (settings_seen settings.now).names
         → FailsReading result.done → ⊥ }
-    ensures stopped { IfErr result.done (StopsEarly (task_of searches)
-        (settings_seen settings.now) (I.told inputs.old)) }
+    ensures stopped { IfErr result.done (λ stop. ForWords (task_of searches)
+        (settings_seen settings.now) (λ words.
+        StopsBefore (task_of searches) words (I.told inputs.old) stop)) }
     ensures stands { OnErr result.done (result.files.now ≡ files.old) }
     ensures unread { result.done ≡ Err Stop.Memory
-        → (I.told result.inputs.now ≡ I.told inputs.old)
-        ⊎ OfRun (I.told inputs.old) (settings_seen settings.now)
-        (LeavesData (I.told result.inputs.now)) }
-    ensures went { IfOk result.done (GoesThrough (task_of searches) (settings_seen settings.now)
-        (I.told inputs.old) (F.seen files.old) (F.seen result.files.now)) }
+        → ForWords (task_of searches) (settings_seen settings.now) (λ words. ReadsNoData
+        (task_of searches) words (I.told inputs.old) (I.told result.inputs.now)) }
+    ensures fed { IfOk result.done (λ found. ForWords (task_of searches)
+        (settings_seen settings.now) (λ words.
+        IsFed (task_of searches) words (I.told inputs.old) found.blocks found.feed)) }
+    ensures recorded { IfOk result.done (λ found. ForWords (task_of searches)
+        (settings_seen settings.now) (λ words. IsRecorded (task_of searches) words
+        (I.told inputs.old) found.blocks found.recorded (F.seen files.old)
+        (F.seen result.files.now))) }
+    ensures cleared { IfOk result.done
+        (ClearsAll (task_of searches) (settings_seen settings.now)) }
+    ensures found { IfOk result.done (λ found. task_of searches ≡ Searching → (bytes : ℕ)
+        → found.feed ≡ Whole bytes
+        → HoldsFound (settings_seen settings.now) (I.told inputs.old) found) }
 {
+    words_say_once();
     let space = match FeederSpace::take(
         alloc,
         settings.names.as_slice(),

@@ -1,0 +1,177 @@
+-- How a run is opened, or stops before its session.
+use Rattle.std.proofs.Common.{◌≡◌, ◌≢◌, ℕ, ◌+◌, ◌/◌, ◌≤◌, ◌⊎◌, Bool, true, false, List, [], Option, Some, None, Result, Ok, Err, length, take, inl, inr, refl, sym, ap, ◌∙◌, subst, arith}
+use Rattle.std.specs.Prelude.{slice_get, IfErr, OnErr}
+use Rattle.psr_base.specs.Told.{Told}
+use Rattle.dada_model.specs.Fields.{HeaderText}
+use Rattle.dada_model.specs.Observation.{Observation}
+use Rattle.search_words.specs.Settings.{SettingsSeen, AllInRange}
+use Rattle.stream_model.specs.Walk.{FileStream}
+use Rattle.disk_feeder.specs.declared.feeder.Feeder.{Feeder}
+use Rattle.disk_feeder.specs.Feeder.{HasPlan, SamePlan, FeederFeeds, FeederFaultless, HasOpenFile, block_size, has_end, header_at, plan_at}
+use Rattle.disk_feeder.specs.Feeding.{header_entries}
+use Rattle.search_opening.specs.First.{AreFirsts, AreHeadersOf, AreObserved, StopsFirsts}
+use Rattle.search_opening.specs.Offsets.{AreOffsetsOf}
+use Rattle.search_opening.specs.Recordings.{IsOfRecording, StopsRecording}
+use Rattle.search_opening.specs.Space.{FeedsRings}
+use Rattle.run_stop.specs.declared.stop.Stop.{Stop}
+use Rattle.run_stop.specs.declared.stop.Stop.TheVariants.{Words, Value, Header, Plan, Recording, Memory, ReadFault, Gap, TooLong, TooMany, SinkFault, FileFault}
+use Rattle.run_stop.specs.Ends.{ComesBefore, SaysBefore}
+use Rattle.run_stop.specs.Runs.{Task, Searching, RecordingAlone, CanSearchFirst}
+use Rattle.whole_run.specs.declared.spaces.Spaces.{Spaces}
+use Rattle.whole_run.specs.Wholes.{OfRun, task_of}
+use Rattle.whole_run.specs.Openings.{AreFit, IsRefused, IsOpened, AreSpaces, shape_for}
+
+-- ---- what is refused
+
+pub if_err : {T E : Type 0} (P Q : E → Type 0) (R : Type 0) (r : Result T E) → ((e : E) → P e → R → Q e) →
+    IfErr r P → OnErr r R → IfErr r Q
+if_err P Q R (Ok x) so is on = tt
+if_err P Q R (Err e) so is on = so e is on
+
+pub both_err : {T E : Type 0} (P Q : E → Type 0) (r : Result T E) → IfErr r P → IfErr r Q → IfErr r (λ e. P e × Q e)
+both_err P Q (Ok x) one other = tt
+both_err P Q (Err e) one other = (one, other)
+
+pub searching : (searches : Bool) → task_of searches ≡ Searching → searches ≡ true
+searching true is = refl
+searching false is = absurd cc
+
+pub recording_alone : (searches : Bool) → task_of searches ≡ RecordingAlone → searches ≡ false
+recording_alone true is = absurd cc
+recording_alone false is = refl
+
+pub recording_refused : (task : Task) (s : SettingsSeen) (headers : List HeaderText)
+    (observations : List (Option Observation)) (stop : Stop) →
+    (task ≡ Searching → (w : FileStream) → AreFirsts w observations →
+    CanSearchFirst s.search w (length w.starts)) →
+    ((stop ≡ Memory) ⊎ IsOfRecording stop) × ((stop ≡ Memory) ⊎ ((w : FileStream) → AreFirsts w observations →
+    AreHeadersOf w headers → w.max_bytes ≡ s.max_bytes → StopsRecording s.file_size w stop)) →
+    s.recording ≡ true → IsRefused task s headers observations stop
+recording_refused task s headers observations stop searched refused records = record {
+  kind = kind_of refused.0;
+  readable = readable_of refused.0;
+  says = λ w firsts are limit. says_of refused.1 w firsts are limit;
+}
+  where
+    kind_of : (stop ≡ Memory) ⊎ IsOfRecording stop → ComesBefore stop
+    kind_of (inl is) = subst ComesBefore (sym is) tt
+    kind_of (inr is) = subst ComesBefore (sym is.1) tt
+
+    readable_of : (stop ≡ Memory) ⊎ IsOfRecording stop → stop ≢ ReadFault
+    readable_of (inl is) fault = let both = sym is ∙ fault in absurd cc
+    readable_of (inr is) fault = let both = sym is.1 ∙ fault in absurd cc
+
+    says_of : (stop ≡ Memory) ⊎ ((w : FileStream) → AreFirsts w observations → AreHeadersOf w headers →
+        w.max_bytes ≡ s.max_bytes → StopsRecording s.file_size w stop) → (w : FileStream) →
+        AreFirsts w observations → AreHeadersOf w headers → w.max_bytes ≡ s.max_bytes → SaysBefore task s w stop
+    says_of (inl is) w firsts are limit = subst (λ e. SaysBefore task s w e) (sym is) tt
+    says_of (inr is) w firsts are limit =
+        let stops = is w firsts are limit in
+        subst (λ e. SaysBefore task s w e) (sym stops.1) (record {
+          accepted = firsts.walked;
+          searched = λ task_is. searched task_is w firsts;
+          records = records;
+          transfer = stops.2.transfer;
+          there = stops.2.there;
+          refused = stops.2.refused;
+          earlier = stops.2.earlier;
+        })
+
+-- a first header is refused, or could not be read
+pub firsts_say : (task : Task) (s : SettingsSeen) (w : FileStream) (stop : Stop) → StopsFirsts w stop →
+    SaysBefore task s w stop
+firsts_say task s w Words says = absurd says
+firsts_say task s w (Value opt) says = absurd says
+firsts_say task s w (Header file cause) says = says
+firsts_say task s w (Plan cause) says = absurd says
+firsts_say task s w (Recording cause) says = absurd says
+firsts_say task s w Memory says = tt
+firsts_say task s w ReadFault says = tt
+firsts_say task s w (Gap file expected found) says = says
+firsts_say task s w (TooLong limit) says = says
+firsts_say task s w (TooMany count limit) says = says
+firsts_say task s w SinkFault says = says
+firsts_say task s w FileFault says = says
+
+-- ---- what is opened
+
+-- the feeder of a run as it was before its observations were accepted, and after
+pub record IsAccepted {I : Type 0} (told : I → Told) (is_open : I → Type 0) (s : SettingsSeen) (old new : Feeder I) :
+    Type 0 where
+  pub plan : HasPlan old s.names s.starts s.size s.max_bytes
+  pub same : SamePlan old new
+  pub headers : header_at new ≡ header_at old
+  pub inputs : new.inputs.now ≡ old.inputs.now
+  pub feeds : FeederFeeds (told new.inputs.now) new (header_entries (take 1 (header_at new))) []
+  pub faultless : FeederFaultless new
+  pub running : has_end new ≡ None
+  pub reading : HasOpenFile new → HasOpenFile old
+  pub opened : HasOpenFile old → is_open old.inputs.now
+
+plan_stays : {I : Type 0} (told : I → Told) (is_open : I → Type 0) (s : SettingsSeen) (old new : Feeder I) →
+    IsAccepted told is_open s old new → HasPlan new s.names s.starts s.size s.max_bytes
+plan_stays told is_open s old new is = record {
+  files = is.same.names ∙ is.plan.files;
+  transfers = is.same.starts ∙ is.plan.transfers;
+  limit = is.same.limit ∙ is.plan.limit;
+  block = is.same.size ∙ is.plan.block;
+  headers = is.same.headers ∙ is.plan.headers;
+}
+
+feeds_rings : {I : Type 0} (told : I → Told) (is_open : I → Type 0) (s : SettingsSeen) (old new : Feeder I)
+    (header : HeaderText) (lanes : ℕ) → IsAccepted told is_open s old new →
+    slice_get (header_at old) 0 ≡ Some header → FeedsRings told is_open (shape_for s lanes) header new
+feeds_rings told is_open s old new header lanes is first =
+    let plan = plan_stays told is_open s old new is in
+    let Open : _ → Type 0 = is_open in
+    record {
+      first = ap (λ hs. slice_get hs 0) is.headers ∙ first;
+      feeds = is.feeds;
+      running = is.running;
+      file = λ open_file. subst Open (sym is.inputs) (is.opened (is.reading open_file));
+      size = sym plan.block;
+      blocks = at_most _ _ (ap (λ n. n / block_size new + length (plan_at new).starts + 1) plan.limit
+          ∙ ap (λ n. s.max_bytes / n + length (plan_at new).starts + 1) plan.block
+          ∙ ap (λ starts. s.max_bytes / s.size + length starts + 1) plan.transfers);
+    }
+  where
+    at_most : (a b : ℕ) → a ≡ b → a ≤ b
+    at_most a b same = omega (arith, same)
+
+pub is_opened : {I F : Type 0} (told : I → Told) (is_open : I → Type 0) (task : Task) (s : SettingsSeen)
+    (old new : Feeder I) (observations given : List (Option Observation)) (offsets lent : List ℕ) (header : HeaderText)
+    (spaces : Spaces I F) → IsAccepted told is_open s old new → AllInRange s →
+    (task ≡ RecordingAlone → s.recording ≡ true) → slice_get (header_at old) 0 ≡ Some header →
+    given ≡ observations → lent ≡ offsets → AreSpaces task s given header lent spaces →
+    AreObserved (header_at old) observations → AreFit task s (header_at old) observations →
+    AreOffsetsOf observations offsets → OfRun (told old.inputs.now) s (λ w. AreFirsts w observations) →
+    OfRun (told old.inputs.now) s (λ w. AreHeadersOf w (header_at old)) →
+    IsOpened told is_open task s new observations spaces
+is_opened told is_open task s old new observations given offsets lent header spaces is range alone first same_given
+    same_lent spaces_are observed fit offsets_are firsts headers =
+    let spaces_are' = subst (λ os. AreSpaces task s os header offsets spaces) same_given
+    (subst (λ ns. AreSpaces task s given header ns spaces) same_lent spaces_are) in
+    let Observed : List HeaderText → Type 0 = λ hs. AreObserved hs observations in
+    let Fit : List HeaderText → Type 0 = λ hs. AreFit task s hs observations in
+    record {
+      offsets = offsets;
+      ready = record {
+        plan = plan_stays told is_open s old new is;
+        faultless = is.faultless;
+        some = range.transfers.some;
+        few = range.most_transfers;
+        most = omega (arith, range.most_bytes);
+        range = range.search;
+        alone = alone;
+        header = header;
+        stage_is = spaces_are'.stage_is;
+        feeds = feeds_rings told is_open s old new header (length spaces_are'.stage_is.lanes.items) is first;
+        observed = subst Observed (sym is.headers) observed;
+        fit = subst Fit (sym is.headers) fit;
+        offsets_are = offsets_are;
+        firsts = subst (λ i. OfRun (told i) s (λ w. AreFirsts w observations)) (sym is.inputs) firsts;
+        headers = subst (λ hs. OfRun (told new.inputs.now) s (λ w. AreHeadersOf w hs)) (sym is.headers)
+            (subst (λ i. OfRun (told i) s (λ w. AreHeadersOf w (header_at old))) (sym is.inputs) headers);
+      };
+      recorder_is = spaces_are'.recorder_is;
+    }

@@ -1,0 +1,87 @@
+-- What a run comes to, for all words that say its settings.
+use Rattle.std.proofs.Common.{◌≡◌, ℕ, true, inr, List, [], Option, sym, ap, ◌∙◌, subst}
+use Rattle.std.specs.Prelude.{IsSome, slice_index_or}
+use Rattle.psr_base.specs.Told.{Told}
+use Rattle.psr_base.specs.Made.{FilesSeen}
+use Rattle.search_words.specs.Settings.{SettingsSeen}
+use Rattle.stream_model.specs.Walk.{FileStream}
+use Rattle.ring_ends.specs.Ended.{sealed_at_end}
+use Rattle.disk_feeder.specs.Feeding.{EndIs}
+use Rattle.disk_feeder.specs.Filling.{HoldsAll}
+use Rattle.disk_feeder.specs.Plan.{AreTold}
+use Rattle.run_stop.specs.declared.stop.Stop.{Stop}
+use Rattle.run_stop.specs.Ends.{WordsSayOnce, StopsBefore, SaysBefore, IsFed, IsRecorded}
+use Rattle.run_stop.specs.Firsts.{LeavesData}
+use Rattle.run_stop.specs.Outcomes.{ReadsNoData, MadeAll, MadeFront, files_of_stream}
+use Rattle.run_stop.specs.Runs.{Task, Says, ForFiles, CanBegin, stream_for, observed_transfers}
+use Rattle.whole_run.specs.declared.found.Found.{Found}
+use Rattle.whole_run.specs.Wholes.{OfRun, ForWords, HoldsFound}
+use Rattle.whole_run.specs.Openings.{StopsEarly}
+use Rattle.whole_run.specs.Ends.{RecordsRun, GoesThrough}
+use Rattle.whole_run.proofs.Told.{before_reading}
+
+-- words say one settings: so what holds of the files of a run holds for them
+pub for_files : WordsSayOnce → (task : Task) (words : List (List ℕ)) (s : SettingsSeen) (told : Told)
+    (P : SettingsSeen → FileStream → Type 0) → Says task words s → OfRun told s (P s) → ForFiles task words told P
+for_files once task words s told P says holds t files says' are =
+    let same = once task words t s says' says in
+    subst (λ u. P u (stream_for u files)) (sym same)
+    (holds files (subst (λ (u : SettingsSeen). AreTold told u.names files) same are))
+
+pub stops_before : WordsSayOnce → (task : Task) (s : SettingsSeen) (told : Told) (stop : Stop) →
+    StopsEarly task s told stop → ForWords task s (λ words. StopsBefore task words told stop)
+stops_before once task s told stop early words says = record {
+  kind = early.kind;
+  says = for_files once task words s told (λ t w. SaysBefore task t w stop) says early.says;
+}
+
+pub reads_no_data : WordsSayOnce → (task : Task) (s : SettingsSeen) (old new : Told) → OfRun old s (LeavesData new) →
+    ForWords task s (λ words. ReadsNoData task words old new)
+reads_no_data once task s old new leaves words says =
+    inr (for_files once task words s old (λ t w. LeavesData new w) says leaves)
+
+pub is_fed : WordsSayOnce → (task : Task) (s : SettingsSeen) (old new : Told) (before after : FilesSeen) (found : Found) →
+    new.bytes_under ≡ old.bytes_under → GoesThrough task s new before after found →
+    ForWords task s (λ words. IsFed task words old found.blocks found.feed)
+is_fed once task s old new before after found same through words says = record {
+  begun = for_files once task words s old (λ t w. CanBegin task t w) says
+      (before_reading s old new (λ w. CanBegin task s w) same through.begun);
+  walked = for_files once task words s old (λ t w. EndIs w t.size (sealed_at_end found.blocks) found.feed) says
+      (before_reading s old new (λ w. EndIs w s.size (sealed_at_end found.blocks) found.feed) same through.walked);
+}
+
+pub is_recorded : WordsSayOnce → (task : Task) (s : SettingsSeen) (old new : Told) (before after : FilesSeen)
+    (found : Found) → new.bytes_under ≡ old.bytes_under → RecordsRun s new before after found →
+    ForWords task s (λ words. IsRecorded task words old found.blocks found.recorded before after)
+is_recorded once task s old new before after found same by words says = record {
+  unrecorded = λ t says' not. by.unrecorded (ap (λ (u : SettingsSeen). u.recording) (once task words s t says says') ∙ not);
+  all = λ fine. for_files once task words s old (λ t w. t.recording ≡ true →
+      MadeAll (files_of_stream w t.file_size (sealed_at_end found.blocks)) before after) says
+      (before_reading s old new (λ w. s.recording ≡ true →
+      MadeAll (files_of_stream w s.file_size (sealed_at_end found.blocks)) before after) same
+      (λ files are records. by.all fine records files are));
+  front = λ failed. for_files once task words s old (λ t w. t.recording ≡ true →
+      MadeFront (files_of_stream w t.file_size (sealed_at_end found.blocks)) before after) says
+      (before_reading s old new (λ w. s.recording ≡ true →
+      MadeFront (files_of_stream w s.file_size (sealed_at_end found.blocks)) before after) same
+      (λ files are records. by.front failed records files are));
+  rose = by.rose;
+  quiet = by.quiet;
+  count = by.count;
+}
+
+pub still_held : (s : SettingsSeen) (old new : Told) (found : Found) → new.bytes_under ≡ old.bytes_under →
+    HoldsFound s new found → HoldsFound s old found
+still_held s old new found same holds = record {
+  transfers = holds.transfers;
+  held = holds.held;
+  total = holds.total;
+  known = before_reading s old new (λ w. holds.transfers ≡ observed_transfers w) same holds.known;
+}
+
+pub hold_still : (old new : Told) (names names' : List (List ℕ)) → new.bytes_under ≡ old.bytes_under →
+    names' ≡ names → HoldsAll old names → HoldsAll new names'
+hold_still old new names names' same are holds =
+    let Holds : List (List ℕ) → Type 0 = λ ns. HoldsAll new ns in
+    subst Holds (sym are) (λ k below. subst (λ (under : List ℕ → Option (List ℕ)). IsSome (under (slice_index_or names k [])))
+    (sym same) (holds k below))

@@ -1,0 +1,44 @@
+use Rattle.std.proofs.Common.{Bool, Option, None, sym, ap, subst, ◌∙◌}
+use Rattle.std.specs.Prelude.{if◌then◌else◌, length}
+use Rattle.disk_feeder.specs.declared.feeder.Feeder.{Feeder}
+use Rattle.disk_feeder.specs.Feeder.{plan_at}
+use Rattle.dada_recorder.specs.declared.recorder.Recorder.{Recorder}
+use Rattle.search_session.specs.Recorded.{RecordedAnswers}
+use Rattle.search_session.specs.Sessions.{FeedAnswers, ShardAnswers}
+use Rattle.whole_run.proofs.Staging.{is_staged}
+use Rattle.whole_run.proofs.Through.{goes_without}
+use Rattle.whole_run.proofs.session.without_recorder.Goals as goal
+
+pub stage-stage-requires : goal.stage-stage-requires
+stage-stage-requires g c =
+    let at = c.requires.ready in
+    is_staged g.I.Inputs.told g.I.Inputs.is_open g.F.Files.is_open at.0 at.1 at.2 c.args.feeder
+    c.args.observations.items c.args.stage None at.3.ready
+    (ap (λ (b : Bool). if b then 1 else 0) (sym at.3.records_not)) (λ hdu size. tt)
+
+pub returns-clause-serves : goal.returns-clause-serves
+returns-clause-serves g c = λ calm holds fault.
+    let end = c.run_session-end.result in
+    let Fed : Feeder _ → Type 0 = λ feeder.
+    FeedAnswers g.I.Inputs.told g.I.Inputs.is_calm g.I.Inputs.faults feeder end in
+    let fed = subst Fed c.stage-stage.ensures.feeder c.run_session-end.ensures.feed in
+    fed.serves calm holds (sym c.found_without.ensures.found.feed ∙ fault)
+
+pub returns-clause-went : goal.returns-clause-went
+returns-clause-went g c = λ task s offsets ready.
+    let end = c.run_session-end.result in
+    let stage = c.stage-stage.result in
+    let seen = g.F.Files.seen in
+    let lanes = stage.lanes.items in
+    let Fed : Feeder _ → Type 0 = λ feeder.
+    FeedAnswers g.I.Inputs.told g.I.Inputs.is_calm g.I.Inputs.faults feeder end in
+    let Shards : Feeder _ → Type 0 = λ feeder. ShardAnswers (length (plan_at feeder).starts) lanes end in
+    let Recorded : Option (Recorder _) → Type 0 = λ r. RecordedAnswers seen stage.feeder r (length lanes) end in
+    goes_without c.totals_are_counted.ensures g.I.Inputs.told g.I.Inputs.is_open g.I.Inputs.is_calm g.I.Inputs.faults
+    task s offsets c.args.feeder c.args.observations c.args.stage lanes end c.found_without.result.done
+    (seen c.args.files.now) (seen c.found_without.result.files.now) ready
+    (ap (λ ls. ls.items) c.stage-stage.ensures.lanes)
+    (subst Fed c.stage-stage.ensures.feeder c.run_session-end.ensures.feed)
+    (subst Shards c.stage-stage.ensures.feeder c.run_session-end.ensures.shards)
+    (subst Recorded c.stage-stage.ensures.recorder c.run_session-end.ensures.recorded) c.found_without.ensures.found
+    (ap seen c.found_without.ensures.files)
