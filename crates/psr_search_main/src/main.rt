@@ -1,8 +1,10 @@
-//! `psr_search`: searches a file in the DADA form for dispersed pulses.
+//! `psr_search`: searches files in the DADA form for dispersed pulses and folded periods.
 #![tactic(auto)]
 
-use psr_base::{RealInputs, RealSink, write_all};
-use psr_search::{Stop, run};
+use psr_base::{RealFiles, RealInputs, RealSink};
+use psr_search::run;
+use run_stop::{Stop, tell};
+use search_session::NoGate;
 use std::env;
 use std::io::ErrorKind;
 use std::process::ExitCode;
@@ -25,18 +27,20 @@ fn main(rt: HostRuntime) -> ExitCode {
     let mut notes = RealSink::notes(&rt);
     let words = match command_words(&rt) {
         Ok(words) => words,
-        Err(stop) => {
-            let _ = write_all(&mut notes, stop.note().as_bytes());
-            return ExitCode::from(stop.status());
-        }
+        Err(stop) => return ExitCode::from(tell(Some(stop), &mut notes)),
     };
     let mut inputs = RealInputs::new(&rt);
+    let mut files = RealFiles::new(&rt);
     let mut out = RealSink::out(&rt);
-    ExitCode::from(run(
+    let ran = run(
+        &rt,
         rt.alloc(),
         words.as_slice(),
         &mut inputs,
+        &mut files,
         &mut out,
         &mut notes,
-    ))
+        &NoGate,
+    );
+    ExitCode::from(ran.status)
 }

@@ -1,6 +1,12 @@
-//! Tests of whole searches over files in memory. There is nothing else here: a crate with tests is
+//! Tests of whole searches over objects in memory. There is nothing else here: a crate with tests is
 //! proved twice, so those that cross crates stand together.
 #![tactic(auto)]
 
 #[cfg(test)]
+mod recording;
+#[cfg(test)]
+mod running;
+#[cfg(test)]
 mod tests;
+#[cfg(test)]
+mod transfers;

@@ -1,98 +1,13 @@
 // A search of one file, as a user makes it, with its status, text and notes.
+use crate::running::{Faults, NO_FAULTS, OBSERVATION, PULSE, TEXT, file_of, search, words_of};
 use band_paths::{edge_delays, path_sum};
 use detect_rule::Rule;
-use psr_base::{CalmInputs, CalmSink, MemInputs, MemSink, Memory};
-use psr_search::{run, run_in_memory};
-use std::alloc::Global;
+use psr_base::{CalmFiles, CalmInputs, CalmSink, MemSink};
+use psr_search::run;
+use search_session::NoGate;
 use std::test::Fail;
 
-const OBSERVATION: &str =
-    "HDR_SIZE 4096\nNCHAN 2\nNBIT 8\nNPOL 1\nNDIM 1\nTSAMP 64\nFREQ 1400\nBW -200\nOBS_OFFSET 0\n";
-
-const PULSE: [u8; 6] = [10, 0, 0, 20, 0, 0];
-
-const TEXT: &str = "PULSE 1 1 0.104 1 30 3\nEND 1 0 3\n";
-
 const LINE: &str = "--mean 1 --sd 2 --snr 7 --max-delay 1 --widths 1 file";
-
-// How a search ended, and what it wrote.
-#[derive(Drop)]
-struct Ended {
-    status: u8,
-    text: String,
-    notes: String,
-}
-
-impl Ended {
-    fn is(&self, status: u8, text: &str, notes: &str) -> bool {
-        self.status == status && self.text.as_str() == text && self.notes.as_str() == notes
-    }
-}
-
-// The calls that fail, of the inputs, the output and the notes, and the room of the output.
-#[derive(Clone, Copy)]
-struct Faults<'a> {
-    inputs: &'a [u64],
-    out: &'a [u64],
-    notes: &'a [u64],
-    room: u64,
-}
-
-const NO_FAULTS: Faults<'static> = Faults {
-    inputs: &[],
-    out: &[],
-    notes: &[],
-    room: 1000,
-};
-
-// A header of these lines, padded to its size, and the data after it.
-fn file_of(alloc: Global, lines: &str, size: usize, bytes: &[u8]) -> Result<Vec<u8>, Memory> {
-    let mut file = Vec::from_slice(alloc, lines.as_bytes())?;
-    for _ in file.len()..size {
-        file.push(0)?;
-    }
-    file.extend_from_slice(bytes)?;
-    Ok(file)
-}
-
-// The program's name, and the words of a line, which a space parts.
-fn words_of(alloc: Global, line: &str) -> Result<Vec<String>, Memory> {
-    let mut words = Vec::new(alloc);
-    words.push(String::from_str(alloc, "psr_search")?)?;
-    for word in line.split(' ') {
-        words.push(String::from_str(alloc, word)?)?;
-    }
-    Ok(words)
-}
-
-// Searches with these words, where the file stands under its name.
-fn search(
-    alloc: Global,
-    line: &str,
-    file: Option<&[u8]>,
-    faults: Faults<'_>,
-) -> Result<Ended, Memory> {
-    let mut inputs = MemInputs::open(alloc, faults.inputs)?;
-    if let Some(bytes) = file {
-        inputs.put("file", bytes)?;
-    }
-    let mut out = MemSink::open(alloc, faults.room, faults.out)?;
-    let mut notes = MemSink::open(alloc, 1000, faults.notes)?;
-    let words = words_of(alloc, line)?;
-    let status = run_in_memory(alloc, words.as_slice(), &mut inputs, &mut out, &mut notes);
-    Ok(Ended {
-        status,
-        text: text_of(alloc, &out)?,
-        notes: text_of(alloc, &notes)?,
-    })
-}
-
-fn text_of(alloc: Global, sink: &MemSink) -> Result<String, Memory> {
-    match std::str::from_utf8(sink.body()) {
-        Ok(text) => Ok(String::from_str(alloc, text)?),
-        Err(_) => Err(Memory),
-    }
-}
 
 #[test]
 fn the_pulse_is_found_in_each_kind_of_file(rt: HostRuntime) -> Result<(), Fail> {
@@ -135,7 +50,7 @@ fn the_pulse_is_found_in_each_kind_of_file(rt: HostRuntime) -> Result<(), Fail> 
     ];
     for (lines, size, bytes, text) in cases {
         let file = file_of(alloc, lines, size, bytes)?;
-        let ended = search(alloc, LINE, Some(file.as_slice()), NO_FAULTS)?;
+        let ended = search(&rt, alloc, LINE, Some(file.as_slice()), NO_FAULTS)?;
         assert!(rt;
             ended.is(0, text, ""),
             "{lines}{}{}",
@@ -189,7 +104,7 @@ fn a_header_that_is_refused_is_named(rt: HostRuntime) -> Result<(), Fail> {
     ];
     for (lines, size, cause) in cases {
         let file = file_of(alloc, lines, size, &[])?;
-        let ended = search(alloc, LINE, Some(file.as_slice()), NO_FAULTS)?;
+        let ended = search(&rt, alloc, LINE, Some(file.as_slice()), NO_FAULTS)?;
         let note = format!(in alloc; "header of file 0 refused: {cause}\n")?;
         assert!(rt; ended.is(3, "", note.as_str()), "{cause}: {}", ended.notes);
     }
@@ -206,9 +121,6 @@ fn words_are_judged_before_the_file(rt: HostRuntime) -> Result<(), Fail> {
         ("--sd 2 file", refused),
         ("--mean -1 --sd 2 file", refused),
         ("--mean 1 --sd 2 --snr 0 --help file", refused),
-        ("--mean 1 --sd 2 file other", refused),
-        ("--mean 1 --sd 2 file + other", refused),
-        ("--mean 1 --sd 2 --record file", refused),
         (
             "--mean 1 --sd 2 --record --snr 0 file",
             "option --snr refused\n",
@@ -227,7 +139,7 @@ fn words_are_judged_before_the_file(rt: HostRuntime) -> Result<(), Fail> {
         ("--mean 1 --sd 2 file +", "option FILE refused\n"),
     ];
     for (line, note) in cases {
-        let ended = search(alloc, line, None, NO_FAULTS)?;
+        let ended = search(&rt, alloc, line, None, NO_FAULTS)?;
         assert!(rt; ended.is(2, "", note), "{line}: {}", ended.notes);
     }
     Ok(())
@@ -268,7 +180,7 @@ fn widths_and_the_limit_of_candidates(rt: HostRuntime) -> Result<(), Fail> {
     ];
     for (more, status, text, note) in cases {
         let line = format!(in alloc; "--mean 1 --sd 2 --snr 7 --max-delay 1 {more} file")?;
-        let ended = search(alloc, line.as_str(), Some(file.as_slice()), NO_FAULTS)?;
+        let ended = search(&rt, alloc, line.as_str(), Some(file.as_slice()), NO_FAULTS)?;
         assert!(rt;
             ended.is(status, text, note),
             "{more}: {}{}",
@@ -291,7 +203,7 @@ FOLD 0 0.000 2 2 0 1 6 4\nFOLD 0 0.000 2 2 1 0 5 4\nFOLD 0 0.000 2 2 1 1 5 4\nEN
     ];
     for (bytes, text) in cases {
         let file = file_of(alloc, OBSERVATION, 4096, bytes)?;
-        let ended = search(alloc, line, Some(file.as_slice()), NO_FAULTS)?;
+        let ended = search(&rt, alloc, line, Some(file.as_slice()), NO_FAULTS)?;
         assert!(rt; ended.is(0, text, ""), "{}{}", ended.text, ended.notes);
     }
     Ok(())
@@ -328,7 +240,7 @@ fn a_plan_that_does_not_fit_is_named(rt: HostRuntime) -> Result<(), Fail> {
         let file = file_of(alloc, lines, 4096, &[])?;
         let line = format!(in alloc; "--mean 1 --sd 2 {more} file")?;
         let note = format!(in alloc; "plan refused: {cause}\n")?;
-        let ended = search(alloc, line.as_str(), Some(file.as_slice()), NO_FAULTS)?;
+        let ended = search(&rt, alloc, line.as_str(), Some(file.as_slice()), NO_FAULTS)?;
         assert!(rt; ended.is(4, "", note.as_str()), "{cause}: {}", ended.notes);
     }
     Ok(())
@@ -338,21 +250,21 @@ fn a_plan_that_does_not_fit_is_named(rt: HostRuntime) -> Result<(), Fail> {
 fn a_failing_call_of_the_inputs_leaves_no_text(rt: HostRuntime) -> Result<(), Fail> {
     let alloc = rt.alloc();
     let file = file_of(alloc, OBSERVATION, 4096, &PULSE)?;
-    // Opening, the header, the data, and twice their end; then no call is left.
-    for call in 0..6 {
+    // Opening, the header, the data, and their end; then no call is left.
+    for call in 0..5 {
         let faults = Faults {
             inputs: &[call],
             ..NO_FAULTS
         };
-        let ended = search(alloc, LINE, Some(file.as_slice()), faults)?;
-        let is = if call < 5 {
+        let ended = search(&rt, alloc, LINE, Some(file.as_slice()), faults)?;
+        let is = if call < 4 {
             ended.is(6, "", "read fault\n")
         } else {
             ended.is(0, TEXT, "")
         };
         assert!(rt; is, "at call {call}: {}", ended.notes);
     }
-    let missing = search(alloc, LINE, None, NO_FAULTS)?;
+    let missing = search(&rt, alloc, LINE, None, NO_FAULTS)?;
     assert!(rt; missing.is(6, "", "read fault\n"));
     Ok(())
 }
@@ -377,7 +289,7 @@ fn a_fault_of_the_output_ends_the_text(rt: HostRuntime) -> Result<(), Fail> {
             notes,
             ..NO_FAULTS
         };
-        let ended = search(alloc, LINE, Some(file.as_slice()), faults)?;
+        let ended = search(&rt, alloc, LINE, Some(file.as_slice()), faults)?;
         assert!(rt;
             ended.is(status, text, note),
             "room {room}: {}{}",
@@ -395,10 +307,20 @@ fn calm_objects_are_searched_to_the_end(rt: HostRuntime) -> Result<(), Fail> {
     let words = words_of(alloc, LINE)?;
     let mut inputs = CalmInputs::open(alloc)?;
     inputs.put("file", file.as_slice())?;
+    let mut files = CalmFiles::new();
     let mut out = MemSink::open(alloc, 1000, &[])?;
     let mut calm = CalmSink::new();
-    let status = run(alloc, words.as_slice(), &mut inputs, &mut out, &mut calm);
-    assert!(rt; status == 0 && out.body() == TEXT.as_bytes());
+    let ran = run(
+        &rt,
+        alloc,
+        words.as_slice(),
+        &mut inputs,
+        &mut files,
+        &mut out,
+        &mut calm,
+        &NoGate,
+    );
+    assert!(rt; ran.status == 0 && out.body() == TEXT.as_bytes());
     Ok(())
 }
 
@@ -417,7 +339,7 @@ fn data_up_to_the_limit_are_searched(rt: HostRuntime) -> Result<(), Fail> {
     ] {
         let bytes = vec![in alloc; 0u8; len]?;
         let file = file_of(alloc, lines, 4096, bytes.as_slice())?;
-        let ended = search(alloc, line, Some(file.as_slice()), NO_FAULTS)?;
+        let ended = search(&rt, alloc, line, Some(file.as_slice()), NO_FAULTS)?;
         assert!(rt;
             ended.is(status, text, note),
             "{len} bytes: {}",
