@@ -326,9 +326,7 @@ fn failing_calls_leave_what_was_recorded(rt: HostRuntime) -> Result<(), Fail> {
     let alloc = rt.alloc();
     let file = file_of(alloc, TIMED, 4096, &PULSE)?;
     for (more, faults, status, text, note, files) in FAULTS {
-        let line = format!(in alloc;
-            "{BASE} --file-size 4 --max-bytes 1000 {more} file"
-        )?;
+        let line = format!(in alloc; "{BASE} --file-size 4 --max-bytes 1000 {more} file")?;
         let ended = search(&rt, alloc, line.as_str(), Some(file.as_slice()), faults)?;
         assert!(rt;
             ended.is(status, text, note) && has_files(&ended, files),
