@@ -1,9 +1,9 @@
 // A loop over one feeder and one reader: what was sealed, and how it ended.
-ghost use Rattle.std.specs.Prelude.{◌≡◌, ◌≤◌, ◌<◌, ◌+◌, ◌/◌, ◌^◌, length, None, true, false, Ok, [], take, IsTrue, IfSome, IfOk, OnOk, vec_len};
+ghost use Rattle.std.specs.Prelude.{◌≡◌, ◌≤◌, ◌<◌, ◌+◌, ◌/◌, ◌^◌, map, string_bytes, length, None, true, false, Ok, [], take, IsTrue, IfSome, IfOk, OnOk, vec_len};
 ghost use Rattle.stream_model.specs.WalkLaws.{AreStarts};
 ghost use Rattle.ring_words.specs.Shape.{IsRing};
 ghost use Rattle.dada_hdu.specs.Passes.{WritesBoth, ReadsBoth, data_shape};
-ghost use Rattle.disk_feeder.specs.Feeder.{FeederFits, FeederFeeds, HasOpenFile, IsBegun, SamePlan, header_at, has_end};
+ghost use Rattle.disk_feeder.specs.Feeder.{FeederFits, FeederFeeds, HasOpenFile, HasPlan, IsBegun, IsFresh, IsSpaceFor, SamePlan, header_at, has_end};
 ghost use Rattle.disk_feeder.specs.Feeding.{header_entries};
 ghost use Rattle.disk_feeder.specs.Turns.{sealed_headers, sealed_blocks};
 
@@ -325,6 +325,21 @@ fn shape_of(case: Case<'_>) -> RingShape
     }
 }
 
+// The feeder of a case, over its space.
+fn feeder_of<'a, I: Inputs>(
+    inputs: &'a mut I,
+    space: FeederSpace<'a>,
+    case: Case<'_>,
+) -> Feeder<'a, I>
+    requires { IsSpaceFor space (map string_bytes case.names.now) case.starts.now case.size
+        case.max_bytes }
+    ensures plan { HasPlan result (map string_bytes case.entry.names.now) case.entry.starts.now
+        case.entry.size case.entry.max_bytes }
+    ensures fresh { IsFresh result }
+{
+    Feeder::over(inputs, space)
+}
+
 // Feeds the files of a case from inputs that hold them.
 fn feed_from<I: Inputs>(alloc: Global, inputs: &mut I, case: Case<'_>) -> Result<Fed, Fail> {
     if !is_fed(case) {
@@ -347,7 +362,7 @@ fn feed_from<I: Inputs>(alloc: Global, inputs: &mut I, case: Case<'_>) -> Result
     let mut space = vec![in alloc; 0u8; 65537]?;
     let mut fed = Fed::new(alloc);
     let room = FeederSpace::take(alloc, case.names, case.starts, case.size, case.max_bytes)?;
-    let mut feeder = Feeder::over(inputs, room);
+    let mut feeder = feeder_of(inputs, room, case);
     match feeder.begin() {
         Ok(()) => {}
         Err(fault) => {

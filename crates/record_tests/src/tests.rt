@@ -39,8 +39,9 @@ fn inputs_of(alloc: Global, fail: &[u64]) -> Result<MemInputs, Fail> {
         let file = file_of(alloc, lines, data)?;
         inputs.put(name, file.as_slice())?;
     }
-    let file = file_of(alloc, TIMED, &[])?;
-    inputs.put("short", &file.as_slice()[..4095])?;
+    let mut file = file_of(alloc, TIMED, &[])?;
+    file.truncate(4095);
+    inputs.put("short", file.as_slice())?;
     Ok(inputs)
 }
 

@@ -69,8 +69,12 @@ fn candidates_of(found: &Found) -> Option<u64> {
 // The data of the first file that was recorded, or none.
 fn data_of(alloc: Global, files: &MemFiles) -> Result<Vec<u8>, Fail> {
     let mut data = Vec::new(alloc);
-    if files.count() > 0 && files.body(0).len() > HEADER {
-        data.extend_from_slice(&files.body(0)[HEADER..])?;
+    if files.count() == 0 {
+        return Ok(data);
+    }
+    let body = files.body(0);
+    if body.len() > HEADER {
+        data.extend_from_slice(&body[HEADER..])?;
     }
     Ok(data)
 }
