@@ -139,6 +139,11 @@ impl Hdu {
         self.blocks.write(&mut pass.blocks, bytes, mark)
     }
 
+    /// Whether the data ring has room for a block at this moment. The pass stays as it is, and no look is counted.
+    pub fn has_room(&self, pass: &HduWriter) -> bool {
+        self.blocks.has_room(&pass.blocks)
+    }
+
     /// Copies the block of data that comes after those that the reader cleared to the front of `into`. Until it is
     /// cleared, the same block is read again.
     pub fn read(&self, pass: &mut HduReader, into: &mut [u8]) -> Result<Taken, ReadStop>
@@ -160,6 +165,14 @@ impl Hdu {
         ensures header { pass.new.header ≡ pass.old.header }
     {
         self.blocks.clear(&mut pass.blocks)
+    }
+
+    /// Whether a read of a header or of data would find its block at this moment. The pass stays as it is, and no try
+    /// is counted.
+    pub fn has_next(&self, pass: &HduReader) -> bool
+        requires { ReadsBoth self.now pass.now }
+    {
+        self.blocks.has_next(&pass.blocks) || self.header.has_next(&pass.header)
     }
 
     /// The writer no longer waits for this reader, in either ring.

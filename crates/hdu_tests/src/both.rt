@@ -32,6 +32,8 @@ pub(crate) enum Seen {
     /// With the first byte that was copied.
     Read(Result<Taken, ReadStop>, u8),
     Cleared(u64),
+    /// Whether there is room for a block, and whether there is one to read.
+    Looked(bool, bool),
     Nothing,
 }
 
@@ -105,6 +107,11 @@ impl Both {
         } else {
             Seen::Nothing
         }
+    }
+
+    pub(crate) fn look(&self) -> Seen {
+        let has_room = self.hdu.has_room(&self.writer);
+        Seen::Looked(has_room, self.hdu.has_next(&self.reader))
     }
 
     /// Detaches the reader, and attaches it again.

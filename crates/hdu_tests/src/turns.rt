@@ -15,6 +15,7 @@ enum Step {
     End,
     Read,
     Clear,
+    Look,
     /// Detach, and attach again.
     Again,
 }
@@ -28,6 +29,7 @@ fn play(mut both: Both, header: &Header, step: Step) -> (Both, Seen) {
         Step::End => both.end(),
         Step::Read => both.read(),
         Step::Clear => both.clear(),
+        Step::Look => both.look(),
         Step::Again => return (both.again(), Seen::Nothing),
     };
     (both, seen)
@@ -93,6 +95,33 @@ fn headers_and_data_go_through_rings_of_their_own(rt: HostRuntime) -> Result<(),
     assert!(rt; both.reader.number() == 0 && both.reader.header.tries() == 4);
     let finished = both.finish();
     assert!(rt; finished.header.sealed() == 2 && finished.blocks.sealed() == 3);
+    Ok(())
+}
+
+#[test]
+fn a_look_tells_what_a_turn_would_find(rt: HostRuntime) -> Result<(), Fail> {
+    let mut header = Header::blank(rt.alloc())?;
+    header.set("NCHAN", "2")?;
+    let both = open(rt.alloc(), shape(2, 100)).ok_or("memory")?;
+    let steps = [
+        (Step::Look, Seen::Looked(true, false)),
+        (Step::WriteHeader, Seen::Wrote(Ok(0))),
+        (Step::Look, Seen::Looked(true, true)),
+        (Step::ReadHeader, took(0, 4096, Mark::End, b'N')),
+        (Step::ClearHeader, Seen::Cleared(1)),
+        (Step::Look, Seen::Looked(true, false)),
+        (Step::Write(7), Seen::Wrote(Ok(0))),
+        (Step::Write(8), Seen::Wrote(Ok(1))),
+        (Step::Look, Seen::Looked(false, true)),
+        (Step::Read, took(0, 8, Mark::More, 7)),
+        (Step::Clear, Seen::Cleared(1)),
+        (Step::Look, Seen::Looked(true, true)),
+        (Step::Read, took(1, 8, Mark::More, 8)),
+        (Step::Clear, Seen::Cleared(2)),
+        (Step::Look, Seen::Looked(true, false)),
+    ];
+    let (_both, played) = play_all(both, &header, &steps);
+    assert_eq!(rt; played, 15);
     Ok(())
 }
 

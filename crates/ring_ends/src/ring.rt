@@ -80,6 +80,18 @@ impl Ring {
         Ok(self.words.seal(&mut pass.seat, bytes, mark))
     }
 
+    /// Whether each reader has cleared the block in the buffer of the next at this moment. The pass stays as it is, and
+    /// no look is counted.
+    pub fn has_room(&self, pass: &WriterPass) -> bool {
+        let shape = self.words.shape();
+        for number in 0..shape.readers {
+            if is_late(self.words.peek_count(number), pass.sealed(), shape.buffers) {
+                return false;
+            }
+        }
+        true
+    }
+
     /// Copies the block that comes after those that the reader cleared to the front of `into`. Until it is cleared, the
     /// same block is read again.
     pub fn read(&self, pass: &mut ReaderPass, into: &mut [u8]) -> Result<Taken, ReadStop>
@@ -104,6 +116,13 @@ impl Ring {
             }
             Err(word) => Err(stop_of(block, word)),
         }
+    }
+
+    /// Whether a read would find its block at this moment. The pass stays as it is, and no try is counted.
+    pub fn has_next(&self, pass: &ReaderPass) -> bool
+        requires { ReadsFrom self.now pass.now }
+    {
+        self.words.has_next(&pass.seat)
     }
 
     /// Counts the block that was read as cleared, and answers the new count.

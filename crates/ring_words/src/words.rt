@@ -123,6 +123,14 @@ impl Words {
         found
     }
 
+    /// The count of a reader as it stands at this moment, `u64::MAX` where it retired. No seat changes, and no look is
+    /// counted.
+    pub fn peek_count(&self, reader: u32) -> u64
+        requires { reader < (shape_of self.now).readers }
+    {
+        self.table.shared.peek(self.count_word_of(reader))
+    }
+
     /// Takes the buffer of the next block, which no reader needs any more.
     pub fn writer_take(&self, writer: &mut WriterSeat)
         requires seat { Writes self.now writer.old }
@@ -184,6 +192,13 @@ impl Words {
         reader.tries = reader.tries.saturating_add(1);
         reader.last_try = Some(found);
         if found == home { Ok(()) } else { Err(found) }
+    }
+
+    /// Whether the reader's next block is at home at this moment. The seat stays as it is, and no try is counted.
+    pub fn has_next(&self, reader: &ReaderSeat) -> bool
+        requires { Reads self.now reader.now }
+    {
+        self.table.shared.peek(self.slot_of(reader.cleared)) == home_word(reader.cleared)
     }
 
     /// Copies the block that the reader holds to the front of `into`, and gives its buffer back. It answers how many
