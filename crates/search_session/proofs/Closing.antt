@@ -25,10 +25,10 @@ use Rattle.search_session.specs.Shards.{shard_number}
 use Rattle.search_session.specs.Feeds.{FeedOn}
 use Rattle.search_session.specs.Hands.{HandOn, HandMoved, HandEnded, EachMoved}
 use Rattle.search_session.specs.Gathering.{recorder_of, recorder_in}
-use Rattle.search_session.specs.Stages.{IsUnfed, IsFreshRecorder, HasFeeder, HasShard, HasRecorder, RecorderWorks, IsIn, AreOfLanes, recorder_count}
+use Rattle.search_session.specs.Stages.{IsUnfed, IsFreshRecorder, HasFeeder, HasShard, HasRecorder, RecorderWorks, IsInHand, AreOfLanes, recorder_count}
 use Rattle.search_session.specs.Lanes.{HasEngine}
 use Rattle.search_session.specs.Books.{HasLane, HasBook, AreCounted}
-use Rattle.search_session.specs.Ends.{listed, HaveEnginesIn}
+use Rattle.search_session.specs.Ends.{as_passes, HaveEnginesIn}
 use Rattle.search_session.specs.Recorded.{HasNoRecording, RecordedAnswers}
 use Rattle.search_session.specs.Sessions.{FeedAnswers, IsSearched, ShardAnswers, IsEndOf, IsEndOfRecorder}
 use Rattle.search_session.proofs.Rows.{all_written}
@@ -55,10 +55,10 @@ module _ {I F : Type 0} (seen : F → FilesSeen) (number : ℕ) (hands : List (H
   works_some start has = ap (λ (slot : Option (Hand I F)). recorder_of slot) has.there ∙ has.works
 
   pub works_count : (recorder : Option (Recorder F)) → RecorderWorks seen recorder number hands →
-      length (listed (option_map (λ (x : RecordActor F). x.pass) (recorder_in hands))) ≡ recorder_count recorder
-  works_count None none = ap (λ (o : Option (RecordActor F)). length (listed (option_map (λ (x : RecordActor F). x.pass)
-      o))) (works_none none)
-  works_count (Some part) works = ap (λ (o : Option (RecordActor F)). length (listed (option_map (λ (x : RecordActor
+      length (as_passes (option_map (λ (x : RecordActor F). x.pass) (recorder_in hands))) ≡ recorder_count recorder
+  works_count None none = ap (λ (o : Option (RecordActor F)). length (as_passes (option_map (λ (x : RecordActor F).
+      x.pass) o))) (works_none none)
+  works_count (Some part) works = ap (λ (o : Option (RecordActor F)). length (as_passes (option_map (λ (x : RecordActor
       F). x.pass) o))) (works_some works.0 works.2)
 
   pub works_last : (recorder : Option (Recorder F)) → RecorderWorks seen recorder number hands →
@@ -142,7 +142,8 @@ module _ {I F : Type 0} (told : I → Told) (is_open is_calm : I → Type 0) (fa
 
       module _ (same : length (plan_at start.part).starts ≡ transfers)
           (counted : AreCounted (length lanes) transfers end.books.items end.spectra.items)
-          (ends : (s : ℕ) → s < length lanes → (x : ShardActor) × IsIn hands x × (shard_number x ≡ s) × IsEndOf end s x)
+          (ends : (s : ℕ) → s < length lanes → (x : ShardActor) × IsInHand hands x × (shard_number x ≡ s)
+          × IsEndOf end s x)
         where
           ends_so : IsEnding transfers (sealed_at_end end.blocks) end.feed
           ends_so = subst (λ (k : ℕ). IsEnding k (sealed_at_end end.blocks) end.feed) same ending

@@ -30,7 +30,7 @@ use Rattle.search_session.specs.Feeds.{FeedOn}
 use Rattle.search_session.specs.Records.{RecordOn}
 use Rattle.search_session.specs.Hands.{HandOn, HandEnded}
 use Rattle.search_session.specs.Gathering.{recorder_of, recorder_in}
-use Rattle.search_session.specs.Stages.{IsOfLane, AreOfLanes, IsIn}
+use Rattle.search_session.specs.Stages.{IsOfLane, AreOfLanes, IsInHand}
 use Rattle.search_session.specs.Books.{HasLane, HasBook}
 use Rattle.search_session.specs.Sessions.{IsSearched, IsEndOf, data_through}
 use Rattle.search_session.proofs.Engines.{nothing}
@@ -47,18 +47,18 @@ if_some P (Some y) x is holds = let same : y ≡ x = cc in subst P same holds
 
 module _ {I F : Type 0} where
   all_slots : (P : ShardActor → Type 0) (hands : List (Hand I F)) (x : ShardActor) →
-      All (λ h. All (λ slot. IfSome slot P) h.shards.items) hands → IsIn hands x → P x
+      All (λ h. All (λ slot. IfSome slot P) h.shards.items) hands → IsInHand hands x → P x
   all_slots P hands x all is =
       all_at (λ slot. IfSome slot P) is.hand.shards.items is.place (Some x) is.works
       (all_at (λ (h : Hand I F). All (λ slot. IfSome slot P) h.shards.items) hands is.hand_place is.hand is.there all)
 
-  pub ended_in : (hands : List (Hand I F)) (x : ShardActor) → All HandEnded hands → IsIn hands x → x.ended ≡ true
+  pub ended_in : (hands : List (Hand I F)) (x : ShardActor) → All HandEnded hands → IsInHand hands x → x.ended ≡ true
   ended_in hands x ended is = all_slots (λ y. y.ended ≡ true) hands x
       (All-weaker HandEnded (λ h. All (λ slot. IfSome slot (λ y. y.ended ≡ true)) h.shards.items) (λ h e. e.shards)
       hands ended) is
 
   pub of_lane_in : (lanes : List (Option Lane)) (hands : List (Hand I F)) (x : ShardActor) → AreOfLanes lanes hands →
-      IsIn hands x → IsOfLane lanes x
+      IsInHand hands x → IsOfLane lanes x
   of_lane_in lanes hands x of is = all_slots (IsOfLane lanes) hands x of is
 
   pub feeder_ended : (hands : List (Hand I F)) (h : Hand I F) (f : FeedActor I) → All HandEnded hands →
@@ -81,7 +81,7 @@ module _ {I F : Type 0} where
 
 module _ {I F : Type 0} (told : I → Told) (is_open : I → Type 0) (files_open : F → Type 0) (hdu : Hdu)
     (hands : List (Hand I F)) (on : All (HandOn told is_open files_open hdu) hands) where
-  pub on_in : (x : ShardActor) → IsIn hands x → ShardOn hdu x
+  pub on_in : (x : ShardActor) → IsInHand hands x → ShardOn hdu x
   on_in x is = all_slots (ShardOn hdu) hands x (All-weaker (HandOn told is_open files_open hdu)
       (λ h. All (λ slot. IfSome slot (ShardOn hdu)) h.shards.items) (λ h o. o.shards) hands on) is
 

@@ -10,7 +10,7 @@ use Rattle.ring_blocks.specs.declared.Entry.{Entry}
 use Rattle.stream_model.specs.Blocks.{is_end, ended_transfers, transfer_bytes}
 use Rattle.stream_model.specs.BlockLaws.{EndsAreCounted, EntriesAreOfTransfers}
 use Rattle.search_engine.specs.Engine.{EngineState, StandsForData}
-use Rattle.search_session.specs.Lanes.{HasEngine, Stands, IsFed, IsFedAt}
+use Rattle.search_session.specs.Lanes.{HasEngine, Stands, WasFed, WasFedAt}
 use Rattle.search_session.specs.Shards.{StandsAt, IsEngineAt, AreEnginesAt, EngineFollows, EnginesFollow}
 
 -- ---- one block more
@@ -72,7 +72,7 @@ stands_same o k xs ys e ended bytes stands =
 module _ (counted : EndsAreCounted) (of : EntriesAreOfTransfers) (size : ℕ) (xs : List Entry) (e : Entry)
     (fits : length e.bytes ≤ size) where
   this_at : (old new : EngineState) → IsEngineAt size xs (ended_transfers xs) old →
-      IsFed old e.bytes (is_end e.mark) new → IsEngineAt size (xs ++ e ∷ []) (ended_transfers xs) new
+      WasFed old e.bytes (is_end e.mark) new → IsEngineAt size (xs ++ e ∷ []) (ended_transfers xs) new
   this_at old new at fed =
       let bytes = ap (length {A = ℕ}) (of.next (ended_transfers xs) xs e refl) in
       let all = length-append (transfer_bytes (ended_transfers xs) xs) e.bytes in
@@ -91,7 +91,7 @@ module _ (counted : EndsAreCounted) (of : EntriesAreOfTransfers) (size : ℕ) (x
       most_more : (n m z a b c : ℕ) → a ≤ n * z → b ≡ a + c → c ≤ z → m ≡ n + 1 → b ≤ m * z
       most_more n m z a b c most more fits long = rw long (grind arith)
 
-  this_follows : (old new : EngineState) → IsFed old e.bytes (is_end e.mark) new →
+  this_follows : (old new : EngineState) → WasFed old e.bytes (is_end e.mark) new →
       EngineFollows (ended_transfers xs) xs (xs ++ e ∷ []) old new
   this_follows old new fed = record {
     same = fed.same;
@@ -135,7 +135,7 @@ module _ (counted : EndsAreCounted) (of : EntriesAreOfTransfers) (size : ℕ) (x
   -- ---- all
 
   pub engines_at : (old new : List (Option EngineState)) → AreEnginesAt size xs old →
-      IsFedAt old (ended_transfers xs) e.bytes (is_end e.mark) new → AreEnginesAt size (xs ++ e ∷ []) new
+      WasFedAt old (ended_transfers xs) e.bytes (is_end e.mark) new → AreEnginesAt size (xs ++ e ∷ []) new
   engines_at old new at fed = λ k near. dite (ℕ_discrete k (ended_transfers xs))
       (λ same.
       let count = fed.count in
@@ -149,7 +149,7 @@ module _ (counted : EndsAreCounted) (of : EntriesAreOfTransfers) (size : ℕ) (x
       (was.0, fed.others k other ∙ was.1, other_at k was.0 other was.2))
 
   pub engines_follow : (old new : List (Option EngineState)) →
-      IsFedAt old (ended_transfers xs) e.bytes (is_end e.mark) new → EnginesFollow xs (xs ++ e ∷ []) old new
+      WasFedAt old (ended_transfers xs) e.bytes (is_end e.mark) new → EnginesFollow xs (xs ++ e ∷ []) old new
   engines_follow old new fed = record {
     count = fed.count;
     each = λ k f there. dite (ℕ_discrete k (ended_transfers xs))

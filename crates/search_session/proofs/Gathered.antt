@@ -8,7 +8,7 @@ use Rattle.search_session.specs.declared.shard.ShardActor.{ShardActor}
 use Rattle.search_session.specs.declared.hand.Hand.{Hand}
 use Rattle.search_session.specs.Shards.{shard_number}
 use Rattle.search_session.specs.Gathering.{GivesShard, recorder_of, recorder_in}
-use Rattle.search_session.specs.Stages.{HasShard, IsIn, LeavesHand, AreGathered}
+use Rattle.search_session.specs.Stages.{HasShard, IsInHand, LeavesHand, AreGathered}
 use Rattle.search_session.proofs.Rows.{get_set_same, get_set_other, longer, at_end}
 
 -- ---- a slot is left
@@ -82,7 +82,7 @@ module _ {I F : Type 0} where
       near : place < length old
       near = slice_get_within old place leaves.before leaves.there
 
-      pub left_in : IsIn old x
+      pub left_in : IsInHand old x
       left_in = record {
         hand_place = place;
         hand = leaves.before;
@@ -91,7 +91,7 @@ module _ {I F : Type 0} where
         works = leaves.gives.there;
       }
 
-      pub others_in : (y : ShardActor) → IsIn new y → IsIn old y
+      pub others_in : (y : ShardActor) → IsInHand new y → IsInHand old y
       others_in y is = elim (set_at old new place is.hand_place leaves.after is.hand leaves.hands near is.there) [
         | inl h ↦ record {
           hand_place = place;
@@ -157,7 +157,7 @@ module _ {I F : Type 0} where
     near_place = slice_get_within old place before there
 
     module _ (shards : after.shards ≡ before.shards) where
-      pub still_in : (y : ShardActor) → IsIn new y → IsIn old y
+      pub still_in : (y : ShardActor) → IsInHand new y → IsInHand old y
       still_in y is = elim (set_at old new place is.hand_place after is.hand hands near_place is.there) [
         | inl h ↦ record {
           hand_place = place;
@@ -237,7 +237,7 @@ module _ {I F : Type 0} where
   -- ---- one more is gathered
 
   pub gathered_more : (hands : List (Hand I F)) (n : ℕ) (shards : List (Option ShardActor)) (x : ShardActor) →
-      AreGathered hands n shards → shard_number x ≡ n → IsIn hands x →
+      AreGathered hands n shards → shard_number x ≡ n → IsInHand hands x →
       AreGathered hands (n + 1) (shards ++ Some x ∷ [])
   gathered_more hands n shards x so_far number is = record {
     count = length-append shards (Some x ∷ []) ∙ ap (λ (k : ℕ). k + 1) so_far.count;

@@ -11,9 +11,9 @@ use Rattle.search_session.specs.declared.record.RecordActor.{RecordActor}
 use Rattle.search_session.specs.declared.hand.Hand.{Hand}
 use Rattle.search_session.specs.Hands.{HandOn, HandEnded}
 use Rattle.search_session.specs.Gathering.{GivesRecorder, recorder_in}
-use Rattle.search_session.specs.Stages.{HasShard, IsIn, GivesFeeder, AreGathered}
+use Rattle.search_session.specs.Stages.{HasShard, IsInHand, GivesFeeder, AreGathered}
 use Rattle.search_session.specs.Books.{passes_of}
-use Rattle.search_session.specs.Ends.{listed, passes_with, ReadsLast, AreDone, HaveEnginesIn}
+use Rattle.search_session.specs.Ends.{as_passes, passes_with, ReadsLast, AreDone, HaveEnginesIn}
 use Rattle.search_session.proofs.Gathered.{count_same, still_in, still_work, still_recorder}
 use Rattle.search_session.proofs.Finishing.{pass_count}
 use Rattle.search_session.proofs.Ending.{if_some, on_in, ended_in, recorder_on}
@@ -25,7 +25,7 @@ if_each P (Some x) all = all x refl
 
 module _ {I F : Type 0} (old mid new : List (Hand I F)) (f : FeedActor I) (r : Option (RecordActor F))
     (first : GivesFeeder old f mid) (second : GivesRecorder mid r new) where
-  pub in_old : (y : ShardActor) → IsIn new y → IsIn old y
+  pub in_old : (y : ShardActor) → IsInHand new y → IsInHand old y
   in_old y is = still_in old mid 0 first.before first.after first.there first.hands first.shards y
       (still_in mid new (8 % length mid) second.before second.after second.there second.hands second.shards y is)
 
@@ -51,16 +51,16 @@ module _ {I F : Type 0} (old mid new : List (Hand I F)) (f : FeedActor I) (r : O
   module _ (told : I → Told) (is_open : I → Type 0) (files_open : F → Type 0) (hdu : Hdu)
       (on : All (HandOn told is_open files_open hdu) old) (ended : All HandEnded old) (r_is : r ≡ recorder_in mid)
       (shards : List (Option ShardActor)) (n : ℕ) (gathered : AreGathered new n shards)
-      (readers : n + length (listed (option_map (λ (x : RecordActor F). x.pass) (recorder_in old)))
+      (readers : n + length (as_passes (option_map (λ (x : RecordActor F). x.pass) (recorder_in old)))
       ≡ (data_shape hdu).readers)
       (last : IfSome (recorder_in old) (λ (x : RecordActor F). number_of x.pass ≡ n)) where
     all_readers : length (passes_with shards r) ≡ (data_shape hdu).readers
     all_readers =
-        let one = listed (option_map (λ (x : RecordActor F). x.pass) r) in
+        let one = as_passes (option_map (λ (x : RecordActor F). x.pass) r) in
         let long = pass_count shards in
         let count = gathered.count in
-        let same = ap (λ (o : Option (RecordActor F)). length (listed (option_map (λ (x : RecordActor F). x.pass) o)))
-        (is_recorder r_is) in
+        let same = ap (λ (o : Option (RecordActor F)). length (as_passes (option_map (λ (x : RecordActor F).
+        x.pass) o))) (is_recorder r_is) in
         let both = length-append (passes_of shards) one in
         omega arith
 

@@ -9,7 +9,7 @@ use Rattle.ring_ends.specs.declared.passes.ReaderPass.{ReaderPass}
 use Rattle.ring_ends.specs.Passes.{reader_knows}
 use Rattle.dada_hdu.specs.declared.ended.HduEnded.{HduEnded}
 use Rattle.dada_hdu.specs.Passes.{number_of, tries_of}
-use Rattle.search_session.specs.Reads.{TriesNext, Rests, header_view, data_view, header_is_next, ReadsRing, HasRead, HasRested, Reads}
+use Rattle.search_session.specs.Reads.{TriesNext, Rests, header_view, data_view, header_is_next, ReadsRing, ReadsNext, HasRested, Reads}
 
 -- ---- lists of blocks
 
@@ -78,7 +78,7 @@ pub no_reads : (p q : HduEnded) → HasRested p q → Reads 0 p q
 unfolding Reads
 no_reads p q rest = rest
 
-pub one_read : (p q : HduEnded) → HasRead p q → Reads 1 p q
+pub one_read : (p q : HduEnded) → ReadsNext p q → Reads 1 p q
 unfolding Reads
 one_read p q read = (p, rested_itself p, read)
 

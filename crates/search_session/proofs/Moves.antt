@@ -3,7 +3,7 @@ use Rattle.std.proofs.Common.{◌≡◌, ℕ, ◌+◌, ◌<◌, ◌^◌, min, Bo
 use Rattle.ring_core.specs.Machine.{greatest}
 use Rattle.dada_hdu.specs.Passes.{tries_of}
 use Rattle.search_session.specs.declared.shard.ShardActor.{ShardActor}
-use Rattle.search_session.specs.Reads.{header_is_next, HasRead}
+use Rattle.search_session.specs.Reads.{header_is_next, ReadsNext}
 use Rattle.search_session.specs.Shards.{shard_cleared, EnginesFollow, ShardMoved}
 use Rattle.search_session.specs.Hands.{SlotMoved, EachMoved}
 use Rattle.search_session.proofs.ManyReads.{begins_itself, begins_more, rested_itself, no_reads, one_read, reads_more, read_number, read_tries, read_blocks}
@@ -40,7 +40,7 @@ shard_still n x small ended = stands n x small (λ running. absurd (apart (x.end
     apart b t f = cc
 
 -- a turn and its read
-pub shard_turned : (x y : ShardActor) → x.ended ≡ false → HasRead x.pass y.pass → EnginesFollow (shard_cleared x)
+pub shard_turned : (x y : ShardActor) → x.ended ≡ false → ReadsNext x.pass y.pass → EnginesFollow (shard_cleared x)
     (shard_cleared y) x.part.engines.items y.part.engines.items → y.turns ≡ min greatest (x.turns + 1) →
     ShardMoved 1 x y
 shard_turned x y running read engines turns = record {

@@ -30,7 +30,7 @@ use Rattle.dada_recorder.specs.Transfers.{plan_in, StandsAt}
 use Rattle.dada_recorder.specs.Recorder.{plan_of, block_size, has_end, has_header, has_open_file, RecorderStands, FilesAreOf}
 use Rattle.dada_recorder.specs.Turns.{cleared_headers, cleared_blocks, ClearsNext, ReadsOne, RecordAnswers}
 use Rattle.search_session.specs.declared.record.RecordActor.{RecordActor}
-use Rattle.search_session.specs.Reads.{TriesNext, header_is_next, ReadsRing, HasRead, HasRested}
+use Rattle.search_session.specs.Reads.{TriesNext, header_is_next, ReadsRing, ReadsNext, HasRested}
 use Rattle.search_session.specs.Shards.{IsHereOrRetired}
 use Rattle.search_session.specs.Records.{recorded_headers, recorded_blocks, RecordOn, RecordMoved}
 use Rattle.search_session.proofs.ManyReads.{begins_same, begins_more, pass_rests, rested_itself, rested_tries, no_reads, one_read, reads_more, read_number, read_tries, read_headers, read_blocks}
@@ -90,7 +90,7 @@ next_is false headers ended is = grind (arith, nat_tests)
 has_read : (b : Bool) (old new : HduReader) (end : Option RecordEnd) (answer : RecordTurn) →
     RecordAnswers b old new end answer →
     length (cleared_headers old) ≡ ended_transfers (cleared_blocks old) + (if b then 1 else 0) →
-    HasRead (Here old) (Here new)
+    ReadsNext (Here old) (Here new)
 has_read b old new end answer answers begun =
     subst (λ (next : Bool). ReadsRing next (Here old) (Here new))
     (sym (next_is b (length (cleared_headers old)) (ended_transfers (cleared_blocks old)) begun))
@@ -160,8 +160,8 @@ module _ {F : Type 0} (seen : F → FilesSeen) where
       y.turns ≡ min greatest (x.turns + 1) → RecordMoved seen 1 x y
   record_turned x y reader reader' b end answer was now running is answers begun same plan block made failed quiet
       count turns =
-      let read : HasRead x.pass y.pass = subst (λ (p : HduEnded). HasRead p y.pass) (sym was)
-      (subst (λ (p : HduEnded). HasRead (Here reader) p) (sym now)
+      let read : ReadsNext x.pass y.pass = subst (λ (p : HduEnded). ReadsNext p y.pass) (sym was)
+      (subst (λ (p : HduEnded). ReadsNext (Here reader) p) (sym now)
       (has_read b reader reader' end answer answers begun)) in
       let next = header_is_next x.pass in
       let of_headers = λ (p : HduEnded). (ended_knows (header_end p)).cleared in

@@ -20,9 +20,9 @@ use Rattle.stream_model.specs.BlockLaws.{EndsAreCounted, EntriesAreOfTransfers}
 use Rattle.search_engine.specs.Engine.{EngineState, most_fed}
 use Rattle.search_session.specs.declared.lane.Lane.{Lane}
 use Rattle.search_session.specs.declared.shard.ShardActor.{ShardActor}
-use Rattle.search_session.specs.Lanes.{HasEngine, IsFedAt}
+use Rattle.search_session.specs.Lanes.{HasEngine, WasFedAt}
 use Rattle.search_session.specs.Stages.{IsUnfed}
-use Rattle.search_session.specs.Reads.{TriesNext, header_is_next, ReadsRing, HasRead, HasRested}
+use Rattle.search_session.specs.Reads.{TriesNext, header_is_next, ReadsRing, ReadsNext, HasRested}
 use Rattle.search_session.specs.Shards.{AreEnginesAt, EnginesFollow, HasTried, blocks_cleared, shard_cleared, IsHereOrRetired, IsRetired, ShardOn, ShardStepped, ShardMoved}
 use Rattle.search_session.proofs.ManyReads.{pass_rests, rested_tries, no_reads}
 use Rattle.search_session.proofs.Engines.{nothing, ended_more, not_below_itself, engines_at, engines_follow, follow_still}
@@ -72,7 +72,7 @@ module _ (hdu : Hdu) (x y : ShardActor) (reader reader' : HduReader) (was : x.pa
 
   -- the read, as one of the shard's pass
   pass_read : (next : Bool) → header_is_next x.pass ≡ next → ReadsRing next (Here reader) (Here reader') →
-      HasRead x.pass y.pass
+      ReadsNext x.pass y.pass
   pass_read next is read = subst (λ (b : Bool). ReadsRing b x.pass y.pass) (sym is)
       (subst (λ (p : HduEnded). ReadsRing next p y.pass) (sym was)
       (subst (λ (p : HduEnded). ReadsRing next (Here reader) p) (sym now) read))
@@ -122,14 +122,15 @@ module _ (hdu : Hdu) (x y : ShardActor) (reader reader' : HduReader) (was : x.pa
 
   module _ (counted : EndsAreCounted) (of : EntriesAreOfTransfers) (e : Entry)
       (more : blocks_cleared reader' ≡ blocks_cleared reader ++ e ∷ []) (fits : length e.bytes ≤ (data_shape hdu).size)
-      (on : ShardOn hdu x) (fed : IsFedAt x.part.engines.items x.done e.bytes (is_end e.mark) y.part.engines.items)
+      (on : ShardOn hdu x) (fed : WasFedAt x.part.engines.items x.done e.bytes (is_end e.mark) y.part.engines.items)
     where
       cleared_more : shard_cleared y ≡ shard_cleared x ++ e ∷ []
       cleared_more = cleared_now ∙ (more ∙ ap (λ (l : List Entry). l ++ e ∷ []) (sym cleared_was))
 
-      fed_at : IsFedAt x.part.engines.items (ended_transfers (shard_cleared x)) e.bytes (is_end e.mark)
+      fed_at : WasFedAt x.part.engines.items (ended_transfers (shard_cleared x)) e.bytes (is_end e.mark)
           y.part.engines.items
-      fed_at = subst (λ (k : ℕ). IsFedAt x.part.engines.items k e.bytes (is_end e.mark) y.part.engines.items) on.done fed
+      fed_at = subst (λ (k : ℕ). WasFedAt x.part.engines.items k e.bytes (is_end e.mark) y.part.engines.items)
+          on.done fed
 
       pub on_fed : ReadsBoth hdu reader' → vec_len y.space ≡ vec_len x.space → y.turns ≡ x.turns →
           x.ended ≡ false → y.done ≡ x.done + (if is_end e.mark then 1 else 0) →
@@ -236,12 +237,12 @@ has_cleared old mid new e n tried header got cleared still =
 
 -- the same lists of engines, bytes and mark
 pub fed_as : (old old' new new' : List (Option EngineState)) (k : ℕ) (bytes bytes' : List ℕ) (b b' : Bool) →
-    old ≡ old' → bytes ≡ bytes' → b ≡ b' → new ≡ new' → IsFedAt old k bytes b new → IsFedAt old' k bytes' b' new'
+    old ≡ old' → bytes ≡ bytes' → b ≡ b' → new ≡ new' → WasFedAt old k bytes b new → WasFedAt old' k bytes' b' new'
 fed_as old old' new new' k bytes bytes' b b' is_old is_bytes is_b is_new fed =
-    subst (λ (l : List (Option EngineState)). IsFedAt l k bytes' b' new') is_old
-    (subst (λ (l : List ℕ). IsFedAt old k l b' new') is_bytes
-    (subst (λ (c : Bool). IsFedAt old k bytes c new') is_b
-    (subst (λ (l : List (Option EngineState)). IsFedAt old k bytes b l) is_new fed)))
+    subst (λ (l : List (Option EngineState)). WasFedAt l k bytes' b' new') is_old
+    (subst (λ (l : List ℕ). WasFedAt old k l b' new') is_bytes
+    (subst (λ (c : Bool). WasFedAt old k bytes c new') is_b
+    (subst (λ (l : List (Option EngineState)). WasFedAt old k bytes b l) is_new fed)))
 
 pub ended_as : (r : Bool) (a a' d : ℕ) (m m' : Mark) → r ≡ (nat_le a d || is_cut m) → a ≡ a' → m ≡ m' →
     r ≡ (nat_le a' d || is_cut m')

@@ -8,18 +8,18 @@ use Rattle.search_session.specs.declared.shard.ShardActor.{ShardActor}
 use Rattle.search_session.specs.declared.record.RecordActor.{RecordActor}
 use Rattle.search_session.specs.declared.hand.Hand.{Hand}
 use Rattle.search_session.specs.Shards.{ShardOn, shard_number}
-use Rattle.search_session.specs.Stages.{IsIn}
+use Rattle.search_session.specs.Stages.{IsInHand}
 use Rattle.search_session.specs.Books.{passes_of}
 
 -- the pass of a slot, where there is one
-abbrev pub listed : Option HduEnded → List (Option HduEnded)
-listed None = []
-listed (Some pass) = Some pass ∷ []
+abbrev pub as_passes : Option HduEnded → List (Option HduEnded)
+as_passes None = []
+as_passes (Some pass) = Some pass ∷ []
 
 -- the passes of shards, and that of a recorder after them
 abbrev pub passes_with : {F : Type 0} → List (Option ShardActor) → Option (RecordActor F) →
     List (Option HduEnded)
-passes_with shards recorder = passes_of shards ++ listed (option_map (λ x. x.pass) recorder)
+passes_with shards recorder = passes_of shards ++ as_passes (option_map (λ x. x.pass) recorder)
 
 -- a shard that ended
 pub record IsDone (hdu : Hdu) (transfers s : ℕ) (x : ShardActor) : Type 0 where
@@ -43,5 +43,5 @@ pub record AreDone {F : Type 0} (hdu : Hdu) (transfers : ℕ) (shards : List (Op
 
 -- in these hands, each shard with a number below this has so many engines
 abbrev pub HaveEnginesIn : {I F : Type 0} → List (Hand I F) → ℕ → ℕ → Type 0
-HaveEnginesIn hands shards transfers = (x : ShardActor) → IsIn hands x → shard_number x < shards →
-    length x.part.engines.items ≡ transfers
+HaveEnginesIn hands shards transfers = (x : ShardActor) → IsInHand hands x →
+    shard_number x < shards → length x.part.engines.items ≡ transfers

@@ -8,13 +8,14 @@ use Rattle.search_engine.specs.Engine.{EngineState, StandsForData, HasSearched, 
 abbrev pub HasEngine : List (Option EngineState) → ℕ → EngineState → Type 0
 HasEngine engines transfer e = slice_get engines transfer ≡ Some (Some e)
 
--- an engine stands for these data bytes of an observation: until it ended it was fed them, and then it has searched them
+-- an engine stands for these data bytes of an observation: until it ended it was fed them, and then it has searched
+-- them
 abbrev pub Stands : Bool → Observation → List ℕ → EngineState → Type 0
 Stands false o bytes e = StandsForData o bytes e
 Stands true o bytes e = HasSearched o bytes e
 
 -- an engine was fed these bytes, and ended after the last ones
-pub record IsFed (old : EngineState) (bytes : List ℕ) (is_last : Bool) (new : EngineState) :
+pub record WasFed (old : EngineState) (bytes : List ℕ) (is_last : Bool) (new : EngineState) :
     Type 0 where
   pub same : SameShard new old
   pub fed : new.fed ≡ old.fed + length bytes
@@ -23,10 +24,10 @@ pub record IsFed (old : EngineState) (bytes : List ℕ) (is_last : Bool) (new : 
       (before ++ bytes) new
 
 -- the engine of a transfer was fed these bytes, and the others nothing
-pub record IsFedAt (old : List (Option EngineState)) (transfer : ℕ) (bytes : List ℕ)
+pub record WasFedAt (old : List (Option EngineState)) (transfer : ℕ) (bytes : List ℕ)
     (is_last : Bool)
     (new : List (Option EngineState)) : Type 0 where
   pub count : length new ≡ length old
   pub others : (k : ℕ) → k ≢ transfer → slice_get new k ≡ slice_get old k
   pub this : (e : EngineState) → HasEngine old transfer e →
-      (f : EngineState) × HasEngine new transfer f × IsFed e bytes is_last f
+      (f : EngineState) × HasEngine new transfer f × WasFed e bytes is_last f

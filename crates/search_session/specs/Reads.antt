@@ -47,8 +47,8 @@ ReadsRing false old new =
     Rests (header_view old) (header_view new) × TriesNext (data_view old) (data_view new)
 
 -- one read: of the header ring where a header is next, and else of the data ring
-abbrev pub HasRead : HduEnded → HduEnded → Type 0
-HasRead old new = ReadsRing (header_is_next old) old new
+abbrev pub ReadsNext : HduEnded → HduEnded → Type 0
+ReadsNext old new = ReadsRing (header_is_next old) old new
 
 -- no read; the reader may have retired
 pub record HasRested (old new : HduEnded) : Type 0 where
@@ -58,4 +58,4 @@ pub record HasRested (old new : HduEnded) : Type 0 where
 -- n reads, one after another
 unfoldable pub Reads : ℕ → HduEnded → HduEnded → Type 0
 Reads zero old new = HasRested old new
-Reads (suc n) old new = (mid : HduEnded) × Reads n old mid × HasRead mid new
+Reads (suc n) old new = (mid : HduEnded) × Reads n old mid × ReadsNext mid new

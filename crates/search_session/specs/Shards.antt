@@ -17,7 +17,7 @@ use Rattle.stream_model.specs.Blocks.{ended_transfers, is_over, transfer_bytes}
 use Rattle.search_engine.specs.Engine.{EngineState, SameShard, most_fed}
 use Rattle.search_session.specs.declared.shard.ShardActor.{ShardActor}
 use Rattle.search_session.specs.Lanes.{HasEngine, Stands}
-use Rattle.search_session.specs.Reads.{HasRead, Reads}
+use Rattle.search_session.specs.Reads.{ReadsNext, Reads}
 
 -- ---- engines and the blocks that were cleared
 
@@ -126,7 +126,7 @@ pub record KeepsEngines (x y : ShardActor) : Type 0 where
 -- one read of a shard: what it got was fed, and else its engines stand
 pub record ShardStepped (x y : ShardActor) : Type 0 where
   pub turns : y.turns ≡ x.turns
-  pub read : HasRead x.pass y.pass
+  pub read : ReadsNext x.pass y.pass
   pub idle : shard_cleared y ≡ shard_cleared x → KeepsEngines x y
   pub engines : EnginesFollow (shard_cleared x)
       (shard_cleared y) x.part.engines.items y.part.engines.items

@@ -232,7 +232,7 @@ feeder_of stage = record { part = stage.feeder; pass = stage.writer; turns = 0; 
 -- ---- leaving the hands
 
 -- the shard stands in some hand
-pub record IsIn {I F : Type 0} (hands : List (Hand I F)) (x : ShardActor) : Type 0 where
+pub record IsInHand {I F : Type 0} (hands : List (Hand I F)) (x : ShardActor) : Type 0 where
   pub hand_place : ℕ
   pub hand : Hand I F
   pub there : slice_get hands hand_place ≡ Some hand
@@ -265,4 +265,5 @@ pub record AreGathered {I F : Type 0} (hands : List (Hand I F)) (n : ℕ)
     (shards : List (Option ShardActor)) : Type 0 where
   pub count : length shards ≡ n
   pub each : (s : ℕ) → s < n →
-      (x : ShardActor) × (slice_get shards s ≡ Some (Some x)) × (shard_number x ≡ s) × IsIn hands x
+      (x : ShardActor) × (slice_get shards s ≡ Some (Some x)) × (shard_number x ≡ s)
+      × IsInHand hands x

@@ -11,7 +11,7 @@ ghost use Rattle.search_session.specs.declared.record.RecordActor.{RecordActor a
 ghost use Rattle.search_session.specs.Lanes.{HasEngine};
 ghost use Rattle.search_session.specs.Shards.{shard_cleared};
 ghost use Rattle.search_session.specs.Books.{HasBooks, AreCounted, lanes_of};
-ghost use Rattle.search_session.specs.Ends.{AreDone, listed};
+ghost use Rattle.search_session.specs.Ends.{AreDone, as_passes};
 ghost use Rattle.search_session.specs.Recorded.{HasNoRecording};
 ghost use Rattle.search_session.specs.Sessions.{IsEndOfRecorder};
 
@@ -91,7 +91,7 @@ fn with_pass(
     last: Option<HduEnded>,
 ) -> ArrayVec<Option<HduEnded>, 8>
     requires { length passes.items < 8 }
-    ensures { result.items ≡ passes.items ++ listed last }
+    ensures { result.items ≡ passes.items ++ as_passes last }
 {
     if let Some(pass) = last {
         passes.push(Some(pass));

@@ -32,4 +32,9 @@ impl<'a, I: Inputs> FeedActor<'a, I> {
             FeedTurn::Ended(end) => self.end = Some(end),
         }
     }
+
+    // Whether a turn would seal a block at this moment.
+    pub(crate) fn could_move(&self, hdu: &Hdu) -> bool {
+        self.end.is_none() && hdu.has_room(&self.pass)
+    }
 }

@@ -1,5 +1,5 @@
 //! A hand: actors that take turns one after another, in a thread of their own.
-ghost use Rattle.std.specs.Prelude.{◌≡◌, true, None, [], IfSome, IsSome};
+ghost use Rattle.std.specs.Prelude.{◌≡◌, ◌↔◌, true, None, [], IfSome, IsSome, IsTrue};
 ghost use Rattle.search_session.specs.Feeds.{FeedOn, FeedMoved};
 ghost use Rattle.search_session.specs.Shards.{IsRetired, ShardOn, ShardMoved};
 ghost use Rattle.search_session.specs.Records.{RecordOn, RecordMoved};
@@ -8,16 +8,25 @@ use crate::feed::FeedActor;
 use crate::gate::Gate;
 use crate::record::RecordActor;
 use crate::shard::ShardActor;
+use crate::waiting::AtWork;
 use arrayvec::ArrayVec;
 use dada_hdu::Hdu;
 use psr_base::{Files, Inputs};
-use std::mem;
+use std::{mem, thread};
 
 /// The number by which a gate knows the feeder; shard s is actor s + 1.
 const FEEDER: u32 = 0;
 
 /// The number by which a gate knows the recorder.
 const RECORDER: u32 = 8;
+
+/// How often a hand looks for a block or for room while other hands are at work. Each look lets other threads run, and
+/// takes about half a microsecond where none wants to: together they are longer than a turn of a shard should be.
+const LOOKS: u32 = 1_000_000;
+
+/// How often in a row it looks while no other hand is at work. Another one may have found its block or its room and not
+/// have told so yet, for which some tens of microseconds are enough; what nobody changes is not waited for.
+const LAST_LOOKS: u32 = 100;
 
 /// The actors that one thread drives. Each shard is `Some`.
 #[derive(Drop)]
@@ -120,7 +129,7 @@ fn retire_shards(slots: &mut [Option<ShardActor>], hdu: &Hdu)
 
 // Whether the shard of a slot ended, if there is one.
 fn shard_ended(slot: &Option<ShardActor>) -> bool
-    ensures { result ≡ true → IfSome slot.now (λ x. x.ended ≡ true) }
+    ensures { IsTrue result ↔ IfSome slot.now (λ x. x.ended ≡ true) }
 {
     match slot {
         Some(shard) => shard.ended,
@@ -130,7 +139,7 @@ fn shard_ended(slot: &Option<ShardActor>) -> bool
 
 // Whether all shards ended.
 fn shards_ended(slots: &[Option<ShardActor>]) -> bool
-    ensures { result ≡ true → ShardsEnded slots.now }
+    ensures { IsTrue result ↔ ShardsEnded slots.now }
 {
     for place in 0..slots.len() {
         if !shard_ended(&slots[place]) {
@@ -138,6 +147,28 @@ fn shards_ended(slots: &[Option<ShardActor>]) -> bool
         }
     }
     true
+}
+
+// Whether a turn of the shard of a slot would read a block at this moment.
+fn shard_could_move(slot: &Option<ShardActor>, hdu: &Hdu) -> bool
+    requires { IfSome slot.now (ShardOn hdu.now) }
+{
+    match slot {
+        Some(shard) => shard.could_move(hdu),
+        None => false,
+    }
+}
+
+// Whether a turn of some shard would.
+fn shards_could_move(slots: &[Option<ShardActor>], hdu: &Hdu) -> bool
+    requires { ShardsOn hdu.now slots.now }
+{
+    for place in 0..slots.len() {
+        if shard_could_move(&slots[place], hdu) {
+            return true;
+        }
+    }
+    false
 }
 
 ghost use Rattle.search_session.specs.Hands.{SlotMoved, ShardsOn, ShardsMoved, ShardsRetired, ShardsEnded};
@@ -169,15 +200,65 @@ impl<'a, I: Inputs, F: Files> Hand<'a, I, F> {
         turn_recorder(&mut self.recorder, hdu, gate);
     }
 
-    // So many turns of each actor, fewer of one that ends.
-    pub(crate) fn drive<G: Gate>(&mut self, hdu: &Hdu, turns: u32, gate: &G)
+    // So many turns of each actor, fewer of one that ends. Before each but the first it waits for what others are about
+    // to seal or to clear, until it waited in vain.
+    pub(crate) fn drive<G: Gate>(&mut self, hdu: &Hdu, turns: u32, gate: &G, at_work: &AtWork)
         requires { HandOn I.told I.is_open F.is_open hdu.now self.old }
         ensures on { HandOn I.told I.is_open F.is_open hdu.now self.new }
         ensures moved { HandMoved I.told I.is_calm I.faults F.seen turns self.old self.new }
     {
-        for _turn in 0..turns {
+        let mut waits = true;
+        for turn in 0..turns {
+            if waits && turn > 0 {
+                waits = self.has_ended() || self.waits_for_work(hdu, at_work);
+            }
             self.turn(hdu, gate);
         }
+        at_work.leave();
+    }
+
+    // Whether a turn of an actor would write or read a block at this moment.
+    fn could_move(&self, hdu: &Hdu) -> bool
+        requires { HandOn I.told I.is_open F.is_open hdu.now self.now }
+    {
+        self.feeder_could_move(hdu)
+            || shards_could_move(self.shards.as_slice(), hdu)
+            || self.recorder_could_move(hdu)
+    }
+
+    // Waits until an actor could move, while other hands are at work. It answers whether one could.
+    fn waits_for_work(&self, hdu: &Hdu, at_work: &AtWork) -> bool
+        requires { HandOn I.told I.is_open F.is_open hdu.now self.now }
+    {
+        if self.could_move(hdu) {
+            return true;
+        }
+        at_work.leave();
+        let found = self.looks_for_work(hdu, at_work);
+        at_work.come_back();
+        found
+    }
+
+    // The looks of a hand that is not at work.
+    fn looks_for_work(&self, hdu: &Hdu, at_work: &AtWork) -> bool
+        requires { HandOn I.told I.is_open F.is_open hdu.now self.now }
+    {
+        let mut last_looks = 0u32;
+        for _look in 0..LOOKS {
+            thread::yield_now();
+            if self.could_move(hdu) {
+                return true;
+            }
+            last_looks = if at_work.is_nobody() {
+                last_looks.saturating_add(1)
+            } else {
+                0
+            };
+            if last_looks == LAST_LOOKS {
+                return false;
+            }
+        }
+        false
     }
 
     // Retires each shard that ended, and the recorder where it ended.
@@ -193,7 +274,7 @@ impl<'a, I: Inputs, F: Files> Hand<'a, I, F> {
 
     // Whether the feeder ended, if there is one.
     fn feeder_ended(&self) -> bool
-        ensures { result ≡ true → IfSome self.now.feeder (λ f. IsSome f.end) }
+        ensures { IsTrue result ↔ IfSome self.now.feeder (λ f. IsSome f.end) }
     {
         match &self.feeder {
             Some(feeder) => feeder.end.is_some(),
@@ -203,7 +284,7 @@ impl<'a, I: Inputs, F: Files> Hand<'a, I, F> {
 
     // Whether the recorder ended, if there is one.
     fn recorder_ended(&self) -> bool
-        ensures { result ≡ true → IfSome self.now.recorder (λ x. IsSome x.end) }
+        ensures { IsTrue result ↔ IfSome self.now.recorder (λ x. IsSome x.end) }
     {
         match &self.recorder {
             Some(recorder) => recorder.end.is_some(),
@@ -213,14 +294,26 @@ impl<'a, I: Inputs, F: Files> Hand<'a, I, F> {
 
     // Whether all actors ended.
     pub(crate) fn has_ended(&self) -> bool
-        ensures { result ≡ true → HandEnded self.now }
+        ensures { IsTrue result ↔ HandEnded self.now }
     {
-        if !self.feeder_ended() {
-            return false;
+        self.feeder_ended() && self.recorder_ended() && shards_ended(self.shards.as_slice())
+    }
+
+    // Whether a turn of the feeder would seal a block at this moment.
+    fn feeder_could_move(&self, hdu: &Hdu) -> bool {
+        match &self.feeder {
+            Some(feeder) => feeder.could_move(hdu),
+            None => false,
         }
-        if !self.recorder_ended() {
-            return false;
+    }
+
+    // Whether a turn of the recorder would read a block at this moment.
+    fn recorder_could_move(&self, hdu: &Hdu) -> bool
+        requires { HandOn I.told I.is_open F.is_open hdu.now self.now }
+    {
+        match &self.recorder {
+            Some(recorder) => recorder.could_move(hdu),
+            None => false,
         }
-        shards_ended(self.shards.as_slice())
     }
 }

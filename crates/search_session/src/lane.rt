@@ -1,7 +1,7 @@
 //! The engines of a shard.
 ghost use Rattle.std.specs.Prelude.{◌≡◌, ℕ, ◌+◌, ◌<◌, ◌≤◌, false, Some, length, slice_get};
 ghost use Rattle.search_engine.specs.Engine.{EngineState, most_fed};
-ghost use Rattle.search_session.specs.Lanes.{HasEngine, IsFed, IsFedAt};
+ghost use Rattle.search_session.specs.Lanes.{HasEngine, WasFed, WasFedAt};
 
 use arrayvec::ArrayVec;
 use search_engine::Engine;
@@ -17,7 +17,7 @@ fn feed_slot(slot: &mut Option<Engine>, bytes: &[u8], is_last: bool)
     requires { (e : EngineState) × (slot.old ≡ Some e) × (e.has_ended ≡ false)
         × (e.fed + length bytes.now ≤ most_fed) }
     ensures { (e : EngineState) → slot.old ≡ Some e
-        → (f : EngineState) × (slot.new ≡ Some f) × IsFed e bytes.now is_last f }
+        → (f : EngineState) × (slot.new ≡ Some f) × WasFed e bytes.now is_last f }
 {
     let Some(engine) = slot else { unreachable!() };
     engine.feed(bytes);
@@ -35,7 +35,7 @@ pub(crate) fn feed_engine(
 )
     requires there { (e : EngineState) × HasEngine engines.old transfer e
         × (e.has_ended ≡ false) × (e.fed + length bytes.now ≤ most_fed) }
-    ensures { IsFedAt engines.old transfer bytes.now is_last engines.new }
+    ensures { WasFedAt engines.old transfer bytes.now is_last engines.new }
 {
     feed_slot(&mut engines[transfer], bytes, is_last);
 }

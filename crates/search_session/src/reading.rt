@@ -49,6 +49,16 @@ pub(crate) fn read_block(hdu: &Hdu, reader: &mut HduReader, space: &mut [u8]) ->
     }
 }
 
+// Whether a read of a header or of data would find its block at this moment.
+pub(crate) fn has_next(hdu: &Hdu, pass: &HduEnded) -> bool
+    requires { EndedFromBoth hdu.now pass.now }
+{
+    match pass {
+        HduEnded::Here(reader) => hdu.has_next(reader),
+        HduEnded::Away(_) | HduEnded::Retired(_) => false,
+    }
+}
+
 // The writer no longer waits for the reader.
 pub(crate) fn retire(hdu: &Hdu, pass: HduEnded) -> HduEnded
     requires reads { EndedFromBoth hdu.now pass }

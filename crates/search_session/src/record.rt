@@ -1,7 +1,7 @@
 //! A recorder that takes turns.
 ghost use Rattle.std.specs.Prelude.{◌≡◌, None, IsSome};
 
-use crate::reading::retire;
+use crate::reading::{has_next, retire};
 use dada_hdu::{Hdu, HduEnded};
 use dada_recorder::{RecordEnd, RecordTurn, Recorder};
 use psr_base::Files;
@@ -36,6 +36,13 @@ impl<'a, F: Files> RecordActor<'a, F> {
             RecordTurn::Waiting(_) => thread::yield_now(),
             RecordTurn::Ended(end) => self.end = Some(end),
         }
+    }
+
+    // Whether a turn would read a block at this moment.
+    pub(crate) fn could_move(&self, hdu: &Hdu) -> bool
+        requires { RecordOn F.is_open hdu.now self.now }
+    {
+        self.end.is_none() && has_next(hdu, &self.pass)
     }
 
     /// The same recorder; once it ended, the writer of the rings no longer waits for it.

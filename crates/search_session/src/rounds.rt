@@ -1,15 +1,16 @@
 //! A round: hands that run beside each other.
-ghost use Rattle.std.specs.Prelude.{◌≡◌, true, All};
+ghost use Rattle.std.specs.Prelude.{◌↔◌, All, IsTrue};
 ghost use Rattle.search_session.specs.Hands.{HandOn, HandMoved, HandRetired, HandEnded, EachMoved};
 
 use crate::gate::Gate;
 use crate::hand::Hand;
+use crate::waiting::AtWork;
 use dada_hdu::Hdu;
 use psr_base::{Files, Inputs};
 use std::thread::{Threads, for_each_mut};
 
 /// Drives each hand in a thread of its own: each of its actors takes so many turns, fewer only where it ends. No turn
-/// waits.
+/// waits; between its turns a hand waits while others are at work and none of its actors could move.
 pub fn round<'a, I: Inputs + Send, F: Files + Send, G: Gate + Sync, R: Threads + Sync>(
     rt: &R,
     hands: &mut [Hand<'a, I, F>],
@@ -23,6 +24,7 @@ pub fn round<'a, I: Inputs + Send, F: Files + Send, G: Gate + Sync, R: Threads +
         hands.old hands.new }
 {
     let threads = hands.len().max(1);
+    let at_work = AtWork::new(hands.len());
     for_each_mut(
         rt,
         hands,
@@ -31,7 +33,7 @@ pub fn round<'a, I: Inputs + Send, F: Files + Send, G: Gate + Sync, R: Threads +
             requires { HandOn I.told I.is_open F.is_open hdu.now hand.old }
             ensures { HandOn I.told I.is_open F.is_open hdu.entry.now hand.new
                 × HandMoved I.told I.is_calm I.faults F.seen turns hand.old hand.new }
-        { hand.drive(hdu, turns, gate) },
+        { hand.drive(hdu, turns, gate, &at_work) },
     );
 }
 
@@ -66,7 +68,7 @@ pub(crate) fn round_and_retire<
 
 /// Whether all actors ended.
 pub(crate) fn all_ended<I: Inputs, F: Files>(hands: &[Hand<'_, I, F>]) -> bool
-    ensures { result ≡ true → All HandEnded hands.now }
+    ensures { IsTrue result ↔ All HandEnded hands.now }
 {
     for place in 0..hands.len() {
         if !hands[place].has_ended() {

@@ -11,9 +11,9 @@ ghost use Rattle.search_session.specs.declared.record.RecordActor.{RecordActor a
 ghost use Rattle.search_session.specs.Hands.{HandOn, HandMoved, HandRetired, HandEnded, EachMoved};
 ghost use Rattle.search_session.specs.Shards.{shard_number};
 ghost use Rattle.search_session.specs.Gathering.{recorder_in};
-ghost use Rattle.search_session.specs.Stages.{StageOn, HasShard, IsIn, transfers_of};
+ghost use Rattle.search_session.specs.Stages.{StageOn, HasShard, IsInHand, transfers_of};
 ghost use Rattle.search_session.specs.Books.{AreCounted};
-ghost use Rattle.search_session.specs.Ends.{listed, HaveEnginesIn};
+ghost use Rattle.search_session.specs.Ends.{as_passes, HaveEnginesIn};
 ghost use Rattle.search_session.specs.Recorded.{HasNoRecording, RecordedAnswers};
 ghost use Rattle.search_session.specs.Sessions.{FeedAnswers, ShardAnswers, IsEndOf, IsEndOfRecorder};
 
@@ -69,7 +69,7 @@ fn end_session<'a, I: Inputs, F: Files>(
         × (h.feeder ≡ Some f) }
     requires few { shards ≤ 7 }
     requires shards { (s : ℕ) → s < shards → HasShard hands.old s }
-    requires readers { shards + length (listed (option_map (λ x. x.pass) (recorder_in hands.old)))
+    requires readers { shards + length (as_passes (option_map (λ x. x.pass) (recorder_in hands.old)))
         ≡ (data_shape hdu).readers }
     requires last { IfSome (recorder_in hands.old) (λ x. number_of x.pass ≡ shards) }
     requires engines { (transfers : ℕ) × HaveEnginesIn hands.old shards transfers }
@@ -80,7 +80,7 @@ fn end_session<'a, I: Inputs, F: Files>(
         × (sealed_at_end result.blocks ≡ sealed_blocks f.pass) }
     ensures counted { (transfers : ℕ) → HaveEnginesIn hands.old shards transfers
         → AreCounted shards transfers result.books.items result.spectra.items }
-    ensures shards { (s : ℕ) → s < shards → (x : Shard) × IsIn hands.old x
+    ensures shards { (s : ℕ) → s < shards → (x : Shard) × IsInHand hands.old x
         × (shard_number x ≡ s) × IsEndOf result s x }
     ensures recorder { (h : Working I F) (f : Feeding I) (x : Recording F)
         → slice_get hands.old 0 ≡ Some h → h.feeder ≡ Some f → recorder_in hands.old ≡ Some x

@@ -3,7 +3,7 @@ ghost use Rattle.std.specs.Prelude.{◌≡◌, false, true, if◌then◌else◌,
 ghost use Rattle.stream_model.specs.Blocks.{is_end, is_cut};
 
 use crate::lane::{Lane, feed_engine};
-use crate::reading::{pass_header, read_block, retire};
+use crate::reading::{has_next, pass_header, read_block, retire};
 use dada_hdu::{Hdu, HduEnded, Mark};
 // Laws: they do nothing when they run, and the proofs use what they ensure.
 use stream_model::{ends_are_counted, entries_are_of_transfers};
@@ -115,6 +115,13 @@ impl ShardActor {
         hdu.clear(reader);
         self.done += ended_with(taken.mark);
         self.ended = ends_stream(taken.mark, self.done as usize, self.part.engines.len());
+    }
+
+    // Whether a turn would read a block at this moment.
+    pub(crate) fn could_move(&self, hdu: &Hdu) -> bool
+        requires { ShardOn hdu.now self.now }
+    {
+        !self.ended && has_next(hdu, &self.pass)
     }
 
     // The same shard; once it ended, the writer of the rings no longer waits for it.

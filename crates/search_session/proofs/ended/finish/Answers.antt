@@ -11,18 +11,18 @@ use Rattle.search_session.specs.declared.record.RecordActor.{RecordActor}
 use Rattle.search_session.specs.declared.lane.Lane.{Lane}
 use Rattle.search_session.specs.Records.{recorded_headers}
 use Rattle.search_session.specs.Books.{HaveEngines, AreBooks, HasBooks, HasLane, transfers_searched, passes_of, lanes_of}
-use Rattle.search_session.specs.Ends.{listed, passes_with}
+use Rattle.search_session.specs.Ends.{as_passes, passes_with}
 use Rattle.search_session.proofs.Finishing.{passes_in_order, lanes_have, cleared_is, cleared_begins, gives_lane, last_cleared, last_begins, last_headers}
 use Rattle.search_session.proofs.ended.finish.Goals as goal
 
 -- what is given to the end of the rings are the passes of the shards, and the recorder's after them
 all_passes : {F : Type 0} (shards : List (Option ShardActor)) (recorder : Option (RecordActor F))
-    (passes given : List (Option HduEnded)) (last : Option HduEnded) → given ≡ passes ++ listed last →
+    (passes given : List (Option HduEnded)) (last : Option HduEnded) → given ≡ passes ++ as_passes last →
     passes ≡ passes_of shards → last ≡ option_map (λ (x : RecordActor F). x.pass) recorder →
     given ≡ passes_with shards recorder
 all_passes shards recorder passes given last is first one =
-    is ∙ ap (λ (l : List (Option HduEnded)). l ++ listed last) first
-    ∙ ap (λ (p : Option HduEnded). passes_of shards ++ listed p) one
+    is ∙ ap (λ (l : List (Option HduEnded)). l ++ as_passes last) first
+    ∙ ap (λ (p : Option HduEnded). passes_of shards ++ as_passes p) one
 
 pub finish-blocks-requires-clause-readers : goal.finish-blocks-requires-clause-readers
 finish-blocks-requires-clause-readers g c =

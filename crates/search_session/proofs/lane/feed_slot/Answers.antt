@@ -1,14 +1,14 @@
 use Rattle.std.proofs.Common.{◌≡◌, ℕ, ◌+◌, Bool, true, false, List, ◌++◌, length, refl, sym, subst, ◌∙◌}
 use Rattle.dada_model.specs.Observation.{Observation}
 use Rattle.search_engine.specs.Engine.{EngineState, SameShard, StandsForData, HasSearched}
-use Rattle.search_session.specs.Lanes.{Stands, IsFed}
+use Rattle.search_session.specs.Lanes.{Stands, WasFed}
 use Rattle.search_session.proofs.lane.feed_slot.Goals as goal
 
 -- an engine was fed, and goes on
 goes_on : (e f : EngineState) (bytes : List ℕ) (is_last : Bool) → is_last ≡ false → SameShard f e →
     f.has_ended ≡ false → f.fed ≡ e.fed + length bytes →
     ((o : Observation) (before : List ℕ) → StandsForData o before e → StandsForData o (before ++ bytes) f) →
-    IsFed e bytes is_last f
+    WasFed e bytes is_last f
 goes_on e f bytes is_last is same running fed stands = record {
   same = same;
   fed = fed;
@@ -21,7 +21,7 @@ ends : (e f g : EngineState) (bytes : List ℕ) (is_last : Bool) → is_last ≡
     f.fed ≡ e.fed + length bytes →
     ((o : Observation) (before : List ℕ) → StandsForData o before e → StandsForData o (before ++ bytes) f) →
     SameShard g f → g.has_ended ≡ true → g.fed ≡ f.fed →
-    ((o : Observation) (all : List ℕ) → StandsForData o all f → HasSearched o all g) → IsFed e bytes is_last g
+    ((o : Observation) (all : List ℕ) → StandsForData o all f → HasSearched o all g) → WasFed e bytes is_last g
 ends e f g bytes is_last is same fed stands same' ended fed' searched = record {
   same = record { search = same'.search ∙ same.search; shard = same'.shard ∙ same.shard };
   fed = fed' ∙ fed;
@@ -37,7 +37,7 @@ returns-then-is_last c = λ e at.
     let same : c.in-Some.engine ≡ e = cc in (
       g,
       refl,
-      subst (λ (x : EngineState). IsFed x c.args.bytes.now c.args.is_last g) same
+      subst (λ (x : EngineState). WasFed x c.args.bytes.now c.args.is_last g) same
           (ends c.in-Some.engine f g c.args.bytes.now c.args.is_last c.if-is_last.true c.feed.ensures.same
           c.feed.ensures.fed c.feed.ensures.stands c.end.ensures.same c.end.ensures.ended c.end.ensures.fed
           c.end.ensures.searched),
@@ -49,7 +49,7 @@ returns-else-is_last c = λ e at.
     let same : c.in-Some.engine ≡ e = cc in (
       f,
       refl,
-      subst (λ (x : EngineState). IsFed x c.args.bytes.now c.args.is_last f) same
+      subst (λ (x : EngineState). WasFed x c.args.bytes.now c.args.is_last f) same
           (goes_on c.in-Some.engine f c.args.bytes.now c.args.is_last c.if-is_last.false c.feed.ensures.same
           c.feed.ensures.running c.feed.ensures.fed c.feed.ensures.stands),
     )

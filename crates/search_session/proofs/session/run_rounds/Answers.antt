@@ -41,7 +41,7 @@ returns-then-all_ended g c =
     let before = c.loop-round.invariant.moved in
     record {
       on = c.round_and_retire.ensures.on;
-      ended = c.all_ended.ensures c.if-all_ended.true;
+      ended = c.all_ended.ensures.0 c.if-all_ended.true;
       retired = c.round_and_retire.ensures.retired;
       moved = (
         before.0 + c.args.turns,

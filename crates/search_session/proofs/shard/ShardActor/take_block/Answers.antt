@@ -6,7 +6,7 @@ use Rattle.ring_blocks.specs.declared.Mark.{Mark}
 use Rattle.dada_hdu.specs.Passes.{data_shape}
 use Rattle.stream_model.specs.Blocks.{is_end}
 use Rattle.search_engine.specs.Engine.{EngineState}
-use Rattle.search_session.specs.Lanes.{HasEngine, IsFedAt}
+use Rattle.search_session.specs.Lanes.{HasEngine, WasFedAt}
 use Rattle.search_session.proofs.Rows.{all_written}
 use Rattle.search_session.proofs.Turning.{on_still, stepped_still, within_was, takes_block, has_cleared, HasCleared, fed_as, ended_as, on_fed, stepped_fed, found_none}
 use Rattle.search_session.proofs.shard.ShardActor.take_block.Goals as goal
@@ -64,7 +64,7 @@ returns c =
     let count : length new ≡ length old = c.feed_engine.ensures.count
     ∙ ap (λ (l : List (Option EngineState)). length l) c.as_mut_slice-2.ensures.value in
     let written = all_written (length old) old new count in
-    let fed : IsFedAt old x.done block.bytes (is_end block.mark) (take (length old) (new ++ drop (length new) old)) =
+    let fed : WasFedAt old x.done block.bytes (is_end block.mark) (take (length old) (new ++ drop (length new) old)) =
     fed_as c.as_mut_slice-2.result.now old new (take (length old) (new ++ drop (length new) old)) x.done
     (take used c.as_slice.result.now) block.bytes c.ends_transfer-is_last.result (is_end block.mark)
     c.as_mut_slice-2.ensures.value all last (sym written) c.feed_engine.ensures in
