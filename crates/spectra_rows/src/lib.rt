@@ -5,6 +5,7 @@ mod held;
 mod layout;
 mod rows;
 mod samples;
+mod tiles;
 mod unpacker;
 
 pub use unpacker::Unpacker;
