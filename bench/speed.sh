@@ -1,0 +1,109 @@
+#!/usr/bin/env bash
+# The whole table of speed, as markdown rows: speed.sh [PSR_SEARCH [PSR_MAKE [BOOK_BENCH]]]
+# Searches of a large observation (1024 channels, 131072 spectra, 134 MB, delays of 0 to 1024) by one thread and by
+# four, and of one of 8 times as many spectra; their memory; how fast candidates are written and observations are made.
+# The files lie in memory (/dev/shm). Each figure is the best of ROUNDS rounds (9), in which all programs take turns. A
+# program that is not given is proved and built first, for AVX2 where there is that.
+# PEERS=DIR is a folder of C programs that do the same searches, with a build.sh that builds peer_fdmt.v3 and
+# bandwidth.v3 into a folder: they run in the same rounds, ratios are to one thread of peer_fdmt.v3, each text is
+# compared with its text, and what the machine can do is told first. Without it our own figures stand alone.
+set -eu
+rounds=${ROUNDS:-9}
+crates=$(cd "$(dirname "$0")/../crates" && pwd)
+cpu=$(grep -qw avx2 /proc/cpuinfo && echo --cpu=x86-64-v3 || true)
+folder=$(mktemp -d /dev/shm/speed.XXXXXX)
+trap 'rm -rf "$folder"' EXIT
+
+build() { # build PROGRAM WORD..: proves and builds a program, runs it once, and tells its path
+    local program=$1
+    shift
+    (cd "$crates/$program" && rt run $cpu -- "$@") >"$folder/build" 2>&1 || { cat "$folder/build" >&2; exit 1; }
+    echo "$crates/$program/out/$program"
+}
+search=${1:-$(build psr_search_main --mean 1 --sd 2 --snr 7 --max-delay 1 --widths 1 data/pulse.dada)}
+make=${2:-$(build psr_make_main "$folder/first.dada")}
+book=${3:-$(build book_bench)}
+large=$folder/large.dada longer=$folder/longer.dada
+made=(--number 2 --nchan 1024 --delay 512 --period 4096 --height 1)
+"$make" "${made[@]}" --spectra 131072 "$large"
+peer=
+if [ -n "${PEERS:-}" ]; then
+    "$PEERS/build.sh" "$folder/peers" >/dev/null
+    peer=$folder/peers/peer_fdmt.v3
+fi
+
+declare -A wall=() cpu_time=() last=() text=()
+once() { # once NAME COMMAND..: keeps the least time of a command, and its text's last line and checksum
+    local name=$1 took real user system
+    shift
+    took=$( { TIMEFORMAT='%R %U %S'; time "$@" >"$folder/text" 2>/dev/null; } 2>&1)
+    read -r real user system <<<"$took"
+    wall[$name]=$(printf '%s\n' "$real" ${wall[$name]:-} | sort -n | head -n 1)
+    cpu_time[$name]=$(awk "BEGIN { print $user + $system }" |
+        sort -n - <(printf '%s\n' ${cpu_time[$name]:-}) | grep . | head -n 1)
+    last[$name]=$(tail -n 1 "$folder/text")
+    text[$name]=$(md5sum <"$folder/text")
+}
+quotient() { awk "BEGIN { printf \"%.2f\", $1 / $2 }"; }
+memory() { # memory COMMAND..: the most memory of a command, in MB
+    [ -x /usr/bin/time ] && /usr/bin/time -f %M "$@" 2>&1 >/dev/null | awk '{ printf "%.0f MB", $1 / 1000 }' || echo '?'
+}
+
+words=(--mean 16 --sd 2.828 --max-delay 1024 --max-candidates 1000000)
+declare -A options=(
+    [widths to 1]='--widths 1'
+    [widths to 8]='--widths 8'
+    [folds]='--widths 1 --fold-min 3968 --fold-max 4224 --fold-rows 5 --fold-step 64'
+)
+kinds=('widths to 1' 'widths to 8' folds)
+for ((round = 0; round < rounds; round++)); do
+    for kind in "${kinds[@]}"; do
+        once "$kind" "$search" "${words[@]}" ${options[$kind]} "$large"
+        once "$kind, four" "$search" "${words[@]}" ${options[$kind]} --shards 4 --hands 4 "$large"
+        [ -n "$peer" ] && once "$kind, peer" "$peer" "${words[@]}" ${options[$kind]} "$large"
+    done
+    rm -f "$folder/made.dada"
+    once make "$make" "${made[@]}" --spectra 131072 "$folder/made.dada"
+done
+rm -f "$folder/made.dada"
+
+sed -n 's/^model name[^:]*: /machine: /p' /proc/cpuinfo | head -n 1
+echo "cores: $(nproc), load: $(cut -d ' ' -f 1 /proc/loadavg), rounds: $rounds"
+[ -n "$peer" ] && "$folder/peers/bandwidth.v3" | sed 's/^/    /'
+echo
+echo '| What | threads | processor time | wall time | to the peer: processor, wall | memory | last line, text |'
+echo '|---|---|---|---|---|---|---|'
+row() { # row KIND NAME THREADS WORD..
+    local kind=$1 name=$2 threads=$3 ratio=- same=
+    shift 3
+    if [ -n "$peer" ]; then
+        ratio="$(quotient "${cpu_time[$name]}" "${cpu_time[$kind, peer]}"), "
+        ratio+=$(quotient "${wall[$name]}" "${wall[$kind, peer]}")
+        [ "${text[$name]}" = "${text[$kind, peer]}" ] && same=', the same text' || same=', ANOTHER TEXT'
+    fi
+    printf '| %s | %s | %s s | %s s | %s | %s | `%s`%s |\n' "$name" "$threads" "${cpu_time[$name]}" "${wall[$name]}" \
+        "$ratio" "$(memory "$@" "${words[@]}" ${options[$kind]} "$large")" "${last[$name]}" "$same"
+}
+for kind in "${kinds[@]}"; do
+    row "$kind" "$kind" 1 "$search"
+    row "$kind" "$kind, four" 4 "$search" --shards 4 --hands 4
+    [ -n "$peer" ] && row "$kind" "$kind, peer" 1 "$peer"
+done
+
+rm -f "$large"
+"$make" "${made[@]}" --spectra 1048576 "$longer"
+for ((round = 0; round < 3; round++)); do
+    once longer "$search" "${words[@]}" --widths 1 "$longer"
+done
+echo
+echo '| What | figure |'
+echo '|---|---|'
+echo "| time for a byte at 8 times the data, to that of the large observation |" \
+    "$(quotient "${cpu_time[longer]}" "(8 * ${cpu_time[widths to 1]})") |"
+echo "| its memory | $(memory "$search" "${words[@]}" --widths 1 "$longer") |"
+echo "| making the large observation | $(awk "BEGIN { printf \"%.0f\", 134.217728 / ${cpu_time[make]} }") MB for each" \
+    "second of processor time |"
+for ((round = 0; round < 3; round++)); do
+    "$book" 142858 2>&1 >"$folder/text" | awk '{ printf "%.2f\n", $1 / ($11 - $5) / 1000 }'
+done | sort -n | tail -n 1 | awk '{ print "| candidates of seven books, merged and written | " $1 " million a second |" }'
+exit 0
