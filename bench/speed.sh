@@ -105,5 +105,5 @@ echo "| making the large observation | $(awk "BEGIN { printf \"%.0f\", 134.21772
     "second of processor time |"
 for ((round = 0; round < 3; round++)); do
     "$book" 142858 2>&1 >"$folder/text" | awk '{ printf "%.2f\n", $1 / ($11 - $5) / 1000 }'
-done | sort -n | tail -n 1 | awk '{ print "| candidates of seven books, merged and written | " $1 " million a second |" }'
+done | sort -n | tail -n 1 | awk '{ print "| candidates of seven books, written | " $1 " million a second |" }'
 exit 0

@@ -133,7 +133,8 @@ pub sixteen : (old mid new : List ℕ) (base from : ℕ) (value : ℕ → ℕ) �
 sixteen old mid new base from value first next =
     let end : from + 8 + 8 ≡ from + 16 = omega arith in
     subst (λ n. WritesPart old new base from n value) end
-    (more old mid new base from (from + 8) (from + 8 + 8) value value (omega arith) (omega arith) first next (λ t l h. refl))
+    (more old mid new base from (from + 8) (from + 8 + 8) value value (omega arith) (omega arith) first next
+    (λ t l h. refl))
 
 -- the value of a tile in the column of a channel
 pub tile_cell : (bytes : List ℕ) (n : ℕ) (is_falling : Bool) (at from place c column j : ℕ) → at ≡ from * n + place
@@ -147,7 +148,8 @@ pub bytes_are_cells : (old new bytes : List ℕ) (n : ℕ) (is_falling : Bool) (
     → AreWritten old new chunk done from end n (byte_cell n is_falling bytes)
     → AreWritten old new chunk done from to n (λ c. cell n nbit npol bytes (channel_place n is_falling c))
 bytes_are_cells old new bytes n is_falling chunk done from end to nbit npol bits pols ends rows =
-    subst (λ k. AreWritten old new chunk done from k n (λ c. cell n nbit npol bytes (channel_place n is_falling c))) ends
+    subst (λ k. AreWritten old new chunk done from k n (λ c. cell n nbit npol bytes (channel_place n is_falling c)))
+    ends
     (subst (λ b. AreWritten old new chunk done from end n (λ c. cell n b npol bytes (channel_place n is_falling c)))
     (sym bits)
     (subst (λ p. AreWritten old new chunk done from end n (λ c. cell n 8 p bytes (channel_place n is_falling c)))

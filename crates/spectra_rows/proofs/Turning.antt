@@ -36,7 +36,8 @@ tiles_are_long bytes n at (suc (suc zero)) room lt = length-chunk (at + 2 * n) 8
 tiles_are_long bytes n at (suc (suc (suc zero))) room lt = length-chunk (at + 3 * n) 8 bytes (omega arith)
 tiles_are_long bytes n at (suc (suc (suc (suc zero)))) room lt = length-chunk (at + 4 * n) 8 bytes (omega arith)
 tiles_are_long bytes n at (suc (suc (suc (suc (suc zero))))) room lt = length-chunk (at + 5 * n) 8 bytes (omega arith)
-tiles_are_long bytes n at (suc (suc (suc (suc (suc (suc zero)))))) room lt = length-chunk (at + 6 * n) 8 bytes (omega arith)
+tiles_are_long bytes n at (suc (suc (suc (suc (suc (suc zero)))))) room lt =
+    length-chunk (at + 6 * n) 8 bytes (omega arith)
 tiles_are_long bytes n at (suc (suc (suc (suc (suc (suc (suc zero))))))) room lt =
     length-chunk (at + 7 * n) 8 bytes (omega arith)
 tiles_are_long bytes n at (suc (suc (suc (suc (suc (suc (suc (suc k)))))))) room lt = absurd (omega arith)

@@ -1,5 +1,5 @@
-// Tiles of bytes: eight neighbours in each of eight spectra. They are turned, so that the values of a channel stand side
-// by side.
+// Tiles of bytes: eight neighbours in each of eight spectra. They are turned, so that the values of a channel stand
+// side by side.
 ghost use Rattle.std.specs.Prelude.{◌≡◌, ℕ, ◌+◌, ◌*◌, ◌<◌, ◌≤◌, [], ◌∷◌, length, slice_index, slice_index_or};
 ghost use Rattle.spectra_rows.specs.Tiles.{columns};
 
