@@ -22,8 +22,8 @@ use std::marker::Model;
 use dada_model::edges_fall;
 use search_model::{late_path_sums, samples_of_bytes};
 
-/// The most spectra that are searched at a time.
-const MOST_CHUNK: u32 = 256;
+/// The most spectra that are searched at a time. Rows of so many values are an odd number of lines of the cache apart.
+const MOST_CHUNK: u32 = 240;
 
 /// The search of one shard of an observation: data bytes are fed in pieces that are cut anywhere, and the candidates of
 /// the shard's delays are kept in a book. All memory is taken by `open`.
