@@ -6,12 +6,13 @@ MADE = --number 5 --nchan 32 --spectra 256 --delay 20 --period 100 --height 8
 PULSES = --mean 16 --sd 2.828 --snr 19 --max-delay 40 --widths 1
 CPU := $(shell grep -qw avx2 /proc/cpuinfo 2>/dev/null && echo --cpu=x86-64-v3)
 
-.PHONY: help demo test install toolchain
+.PHONY: help demo test install check toolchain
 
 help:
 	@echo 'make demo                    makes an observation with three pulses and finds them, in about a minute'
 	@echo 'make test                    the gate: every proof, must-fail edit, test and program'
-	@echo 'make install PREFIX=DIR      proves, builds and installs psr_search, psr_record, psr_make and ring_trace (PREFIX: $(PREFIX))'
+	@echo 'make install PREFIX=DIR      proves, builds and installs psr_search, psr_record, psr_make, psr_demo and ring_trace (PREFIX: $(PREFIX))'
+	@echo 'make check PREFIX=DIR        tries them together, as they are installed there or were last built here'
 
 toolchain:
 	@command -v rt >/dev/null || { echo 'this needs rt, the command of the Rattle toolchain, on the PATH' >&2; exit 1; }
@@ -35,16 +36,21 @@ test: toolchain
 	@.ci/run
 
 # A program is built by running it once: psr_search on its sample, psr_record on a file that is too short, which it refuses
-# with status 3, ring_trace on its own sample, psr_make in a folder of its own.
+# with status 3, ring_trace on its own sample, psr_demo on number 1, psr_make in a folder of its own.
 install: toolchain
 	@cd crates/psr_search_main && rt run $(CPU) -- $(SEARCH) $(SAMPLE) >/dev/null
 	@cd crates/psr_record_main && { rt run $(CPU) -- data/short.dada >/dev/null 2>&1; [ $$? -eq 3 ]; }
 	@cd crates/ring_trace_main && rt run $(CPU) -- data/trace >/dev/null
+	@cd crates/psr_demo_main && rt run $(CPU) -- 1 >/dev/null
 	@folder=$$(mktemp -d) && trap 'rm -rf "$$folder"' EXIT && \
 		cd crates/psr_make_main && rt run $(CPU) -- "$$folder/made.dada" >/dev/null
 	@mkdir -p $(PREFIX)/bin
 	@install crates/psr_search_main/out/psr_search_main $(PREFIX)/bin/psr_search
 	@install crates/psr_record_main/out/psr_record_main $(PREFIX)/bin/psr_record
 	@install crates/psr_make_main/out/psr_make_main $(PREFIX)/bin/psr_make
+	@install crates/psr_demo_main/out/psr_demo_main $(PREFIX)/bin/psr_demo
 	@install crates/ring_trace_main/out/ring_trace_main $(PREFIX)/bin/ring_trace
-	@echo 'installed psr_search, psr_record, psr_make and ring_trace into $(PREFIX)/bin'
+	@echo 'installed psr_search, psr_record, psr_make, psr_demo and ring_trace into $(PREFIX)/bin'
+
+check:
+	@bench/check.sh $(if $(wildcard $(PREFIX)/bin/psr_search),$(PREFIX)/bin)

@@ -1,0 +1,12 @@
+// A law of the definitions, which the contract of a function that does nothing carries.
+ghost use Rattle.psr_demo.specs.Laws.{EndsInItsEndLine};
+
+// A law: it does nothing when it runs, and the proof uses what it ensures.
+use search_model::samples_of_bytes;
+
+/// The last line of a summary is that of the text of its search.
+pub fn text_ends_in_its_end_line()
+    ensures { EndsInItsEndLine }
+{
+    samples_of_bytes();
+}
