@@ -1,12 +1,17 @@
-//! Tests of whole searches over objects in memory. There is nothing else here: a crate with tests is
-//! proved twice, so those that cross crates stand together.
+//! Tests of whole searches and recordings over objects in memory. There is nothing else here: a crate with tests is
+//! proved twice, so those that cross crates stand together. The runs stand in tables of text, a run on each line, since
+//! each constant in code costs the prover more than a line of text.
 #![tactic(auto)]
 
 #[cfg(test)]
-mod recording;
+mod cases;
+#[cfg(test)]
+mod files;
+#[cfg(test)]
+mod recordings;
 #[cfg(test)]
 mod running;
 #[cfg(test)]
-mod tests;
+mod searches;
 #[cfg(test)]
-mod transfers;
+mod tests;

@@ -1,78 +1,74 @@
-// Runs over objects in memory: their words, the files that they read, and what they leave.
+// Runs over objects in memory, and what they leave.
 ghost use Rattle.std.specs.Prelude.{◌≡◌};
 
 use psr_base::{MemFiles, MemInputs, MemSink};
+use psr_record::run_record;
 use psr_search::run;
-use search_session::{Gate, NoGate, Ran};
+use search_session::{Gate, Ran};
 use std::alloc::Global;
 use std::sync::Wait;
 use std::test::Fail;
 use std::thread::Threads;
 
-pub(crate) const OBSERVATION: &str =
-    "HDR_SIZE 4096\nNCHAN 2\nNBIT 8\nNPOL 1\nNDIM 1\nTSAMP 64\nFREQ 1400\nBW -200\nOBS_OFFSET 0\n";
+/// Which program runs.
+#[derive(Clone, Copy)]
+pub(crate) enum Program {
+    Search,
+    Record,
+}
 
-pub(crate) const PULSE: [u8; 6] = [10, 0, 0, 20, 0, 0];
+/// The numbers of the calls that fail, and how much room there is.
+#[derive(Clone, Copy)]
+pub(crate) struct Limits {
+    pub(crate) input: u64,
+    pub(crate) file: u64,
+    pub(crate) out: u64,
+    pub(crate) note: u64,
+    pub(crate) files: u32,
+    pub(crate) file_room: u64,
+    pub(crate) out_room: u64,
+    pub(crate) note_room: u64,
+}
 
-pub(crate) const TEXT: &str = "PULSE 1 1 0.104 1 30 3\nEND 1 0 3\n";
+/// A number that no call of a small run has.
+pub(crate) const NEVER: u64 = 1000;
 
-/// How a run ended, and what it wrote.
+/// What is enough for small runs.
+pub(crate) const ENOUGH: Limits = Limits {
+    input: NEVER,
+    file: NEVER,
+    out: NEVER,
+    note: NEVER,
+    files: 8,
+    file_room: 100_000,
+    out_room: 1000,
+    note_room: 1000,
+};
+
+/// How a run ended, and what it left.
 #[derive(Drop)]
 pub(crate) struct Ended {
     pub(crate) status: u8,
     pub(crate) text: String,
     pub(crate) notes: String,
     pub(crate) made: MemFiles,
-    /// Data went through its ring.
-    pub(crate) fed: bool,
+    /// How many blocks went through its data ring, or none where it had none.
+    pub(crate) blocks: u64,
 }
 
-impl Ended {
-    pub(crate) fn is(&self, status: u8, text: &str, notes: &str) -> bool {
-        self.status == status && self.text.as_str() == text && self.notes.as_str() == notes
-    }
-}
-
-/// The calls that fail, of the inputs, the made files, the output and the notes, and the room of the output.
-#[derive(Clone, Copy)]
-pub(crate) struct Faults<'a> {
-    pub(crate) inputs: &'a [u64],
-    pub(crate) files: &'a [u64],
-    pub(crate) out: &'a [u64],
-    pub(crate) notes: &'a [u64],
-    pub(crate) room: u64,
-}
-
-pub(crate) const NO_FAULTS: Faults<'static> = Faults {
-    inputs: &[],
-    files: &[],
-    out: &[],
-    notes: &[],
-    room: 1000,
-};
-
-/// A header of these lines, padded to its size, and the data after it.
-pub(crate) fn file_of(
-    alloc: Global,
-    lines: &str,
-    size: usize,
-    bytes: &[u8],
-) -> Result<Vec<u8>, Fail> {
-    let mut file = Vec::from_slice(alloc, lines.as_bytes())?;
-    for _ in file.len()..size {
-        file.push(0)?;
-    }
-    file.extend_from_slice(bytes)?;
-    Ok(file)
-}
-
-/// The program's name, and the words of a line, which a space parts.
-pub(crate) fn words_of(alloc: Global, line: &str) -> Result<Vec<String>, Fail> {
-    let mut words = Vec::new(alloc);
-    words.push(String::from_str(alloc, "psr_search")?)?;
-    for word in line.split(' ') {
+fn push_words(alloc: Global, words: &mut Vec<String>, line: &str) -> Result<(), Fail> {
+    for word in line.split_whitespace() {
         words.push(String::from_str(alloc, word)?)?;
     }
+    Ok(())
+}
+
+/// The program's name, and the words of two lines.
+pub(crate) fn words_of(alloc: Global, first: &str, more: &str) -> Result<Vec<String>, Fail> {
+    let mut words = Vec::new(alloc);
+    words.push(String::from_str(alloc, "psr")?)?;
+    push_words(alloc, &mut words, first)?;
+    push_words(alloc, &mut words, more)?;
     Ok(words)
 }
 
@@ -83,60 +79,33 @@ fn text_of(alloc: Global, sink: &MemSink) -> Result<String, Fail> {
     }
 }
 
-/// Searches with these words, over inputs that hold the files; a gate is told of each turn.
-pub(crate) fn search_past<G: Gate + Sync, R: Threads + Wait + Sync>(
+/// Runs a program with these words over these inputs; a gate is told of each turn.
+pub(crate) fn run_past<G: Gate + Sync, R: Threads + Wait + Sync>(
     rt: &R,
     alloc: Global,
-    line: &str,
+    program: Program,
+    words: &[String],
     inputs: &mut MemInputs,
-    faults: Faults<'_>,
+    limits: &Limits,
     gate: &G,
 ) -> Result<Ended, Fail> {
-    let words = words_of(alloc, line)?;
-    let mut made = MemFiles::open(alloc, 8, 100_000, faults.files)?;
-    let mut out = MemSink::open(alloc, faults.room, faults.out)?;
-    let mut notes = MemSink::open(alloc, 1000, faults.notes)?;
-    let Ran { status, blocks } = run(
-        rt,
-        alloc,
-        words.as_slice(),
-        inputs,
-        &mut made,
-        &mut out,
-        &mut notes,
-        gate,
-    );
+    let mut made = MemFiles::open(alloc, limits.files, limits.file_room, &[limits.file])?;
+    let mut out = MemSink::open(alloc, limits.out_room, &[limits.out])?;
+    let mut notes = MemSink::open(alloc, limits.note_room, &[limits.note])?;
+    let Ran { status, blocks } = match program {
+        Program::Search => run(
+            rt, alloc, words, inputs, &mut made, &mut out, &mut notes, gate,
+        ),
+        Program::Record => run_record(rt, alloc, words, inputs, &mut made, &mut notes, gate),
+    };
     Ok(Ended {
         status,
         text: text_of(alloc, &out)?,
         notes: text_of(alloc, &notes)?,
         made,
-        fed: blocks.is_some(),
+        blocks: match blocks {
+            Some(blocks) => blocks.sealed(),
+            None => 0,
+        },
     })
-}
-
-/// The same with no gate.
-pub(crate) fn search_in<R: Threads + Wait + Sync>(
-    rt: &R,
-    alloc: Global,
-    line: &str,
-    inputs: &mut MemInputs,
-    faults: Faults<'_>,
-) -> Result<Ended, Fail> {
-    search_past(rt, alloc, line, inputs, faults, &NoGate)
-}
-
-/// Searches with these words, where the file stands under its name.
-pub(crate) fn search<R: Threads + Wait + Sync>(
-    rt: &R,
-    alloc: Global,
-    line: &str,
-    file: Option<&[u8]>,
-    faults: Faults<'_>,
-) -> Result<Ended, Fail> {
-    let mut inputs = MemInputs::open(alloc, faults.inputs)?;
-    if let Some(bytes) = file {
-        inputs.put("file", bytes)?;
-    }
-    search_in(rt, alloc, line, &mut inputs, faults)
 }

@@ -1,301 +1,213 @@
-// A search of one file, as a user makes it, with its status, text and notes.
-use crate::running::{Faults, NO_FAULTS, OBSERVATION, PULSE, TEXT, file_of, search, words_of};
+// Whole searches and recordings.
+use crate::cases::check_all;
+use crate::files::{bytes_of, inputs_for};
+use crate::recordings::RECORDINGS;
+use crate::running::Program::{Record, Search};
+use crate::running::{ENOUGH, Ended, Limits, NEVER, Program, run_past, words_of};
+use crate::searches::SEARCHES;
 use band_paths::{edge_delays, path_sum};
 use detect_rule::Rule;
-use psr_base::{CalmFiles, CalmInputs, CalmSink, MemSink};
+use meeting_gate::Meeting;
+use psr_base::{CalmFiles, CalmInputs, CalmSink, MemFiles, MemInputs, MemSink};
+use psr_make::run_make;
 use psr_search::run;
 use search_session::NoGate;
+use std::alloc::Global;
+use std::sync::Wait;
 use std::test::Fail;
+use std::thread::Threads;
 
-const LINE: &str = "--mean 1 --sd 2 --snr 7 --max-delay 1 --widths 1 file";
+const PULSES: &str = "--mean 1 --sd 2 --snr 7 --max-delay 1 --widths 1";
+
+const BOTH: &str = "OBS 0\nPULSE 1 1 0.104 1 30 3\nEND 1 0 3\nOBS 1\nEND 0 0 1\n";
+
+const TEXT: &str = "PULSE 1 1 0.104 1 30 3\nEND 1 0 3\n";
 
 #[test]
-fn the_pulse_is_found_in_each_kind_of_file(rt: HostRuntime) -> Result<(), Fail> {
-    let alloc = rt.alloc();
-    let rising = "NCHAN 2\nNBIT 8\nTSAMP 64\nFREQ 1400\nBW 200\n";
-    let wide = "NCHAN 2\nNBIT 16\nTSAMP 64\nFREQ 1400\nBW -200\n";
-    let both = "NCHAN 2\nNBIT 8\nNPOL 2\nTSAMP 64\nFREQ 1400\nBW -200\n";
-    let all = "NCHAN 2\nNBIT 16\nNPOL 2\nTSAMP 64\nFREQ 1400\nBW 200\n";
-    let precise =
-        "HDR_SIZE 8192\nNCHAN 2.9\nNBIT 8\nTSAMP 64.0009\nFREQ 1400.\nBW\t-200 MHz\r\nBW 1#\n";
-    let cases: [(&str, usize, &[u8], &str); 9] = [
-        (OBSERVATION, 4096, &PULSE, TEXT),
-        // An incomplete last spectrum is not searched.
-        (
-            OBSERVATION,
-            4096,
-            &[10, 0, 0, 20, 0],
-            "PULSE 1 1 0.104 1 30 3\nEND 1 0 2\n",
-        ),
-        (OBSERVATION, 4096, &[], "END 0 0 0\n"),
-        (rising, 4096, &[0, 10, 20, 0, 0, 0], TEXT),
-        (wide, 4096, &[10, 0, 0, 0, 0, 0, 20, 0, 0, 0, 0, 0], TEXT),
-        // The high byte counts 256.
-        (
-            wide,
-            4096,
-            &[1, 1, 0, 0],
-            "PULSE 0 0 0.000 1 257 2\nEND 1 0 1\n",
-        ),
-        (both, 4096, &[4, 6, 0, 0, 0, 0, 0, 20, 0, 0, 0, 0], TEXT),
-        (
-            all,
-            4096,
-            &[
-                0, 0, 0, 0, 4, 0, 6, 0, 19, 0, 1, 0, 0, 0, 0, 0, 0, 0, 0, 0, 0, 0, 0, 0, 9,
-            ],
-            TEXT,
-        ),
-        (precise, 8192, &PULSE, TEXT),
-    ];
-    for (lines, size, bytes, text) in cases {
-        let file = file_of(alloc, lines, size, bytes)?;
-        let ended = search(&rt, alloc, LINE, Some(file.as_slice()), NO_FAULTS)?;
-        assert!(rt;
-            ended.is(0, text, ""),
-            "{lines}{}{}",
-            ended.text,
-            ended.notes
-        );
+fn searches_end_as_their_words_and_files_say(rt: HostRuntime) -> Result<(), Fail> {
+    check_all(&rt, rt.alloc(), &SEARCHES)
+}
+
+#[test]
+fn recordings_end_as_their_words_and_files_say(rt: HostRuntime) -> Result<(), Fail> {
+    check_all(&rt, rt.alloc(), &RECORDINGS)
+}
+
+// Whether two actors of a run meet, each of whom waits for the other.
+fn do_meet<R: Threads + Wait + Sync>(
+    rt: &R,
+    alloc: Global,
+    program: Program,
+    words: &str,
+    actor: u32,
+) -> Result<bool, Fail> {
+    let mut inputs = inputs_for(alloc, "pulse", NEVER)?;
+    let words = words_of(alloc, words, "pulse")?;
+    let meeting = Meeting::of(0, actor);
+    let ended = run_past(
+        rt,
+        alloc,
+        program,
+        words.as_slice(),
+        &mut inputs,
+        &ENOUGH,
+        &meeting,
+    )?;
+    Ok(ended.status == 0 && meeting.both_met())
+}
+
+#[test]
+fn hands_run_beside_each_other(rt: HostRuntime) -> Result<(), Fail> {
+    let searching = "--mean 1 --sd 2 --max-delay 1 --hands 2 --size 4 --turns 1";
+    let recording = "--file-size 4 --max-bytes 1000 --hands 3 --turns 1";
+    assert!(rt;
+        do_meet(&rt, rt.alloc(), Search, searching, 1)?,
+        "a feeder and a shard"
+    );
+    assert!(rt;
+        do_meet(&rt, rt.alloc(), Record, recording, 8)?,
+        "a feeder and a recorder"
+    );
+    Ok(())
+}
+
+// ---- files that were made are read again
+
+// Runs a program over these inputs, with enough room for large observations.
+fn run_over<R: Threads + Wait + Sync>(
+    rt: &R,
+    alloc: Global,
+    program: Program,
+    words: &[String],
+    inputs: &mut MemInputs,
+    file: u64,
+) -> Result<Ended, Fail> {
+    let limits = Limits {
+        file,
+        file_room: 5_000_000,
+        out_room: 5_000_000,
+        ..ENOUGH
+    };
+    run_past(rt, alloc, program, words, inputs, &limits, &NoGate)
+}
+
+// Puts the files that were made under the names 0, 1, 2 and so on.
+fn feed_back(alloc: Global, made: &MemFiles, inputs: &mut MemInputs) -> Result<(), Fail> {
+    for i in 0..made.count() {
+        inputs.put(format!(in alloc; "{i}")?.as_str(), made.body(i))?;
     }
     Ok(())
 }
 
+// The text of a search of what a recording makes.
+fn text_of_recorded<R: Threads + Wait + Sync>(
+    rt: &R,
+    alloc: Global,
+    recording: &str,
+    searching: &str,
+    inputs: &mut MemInputs,
+) -> Result<String, Fail> {
+    let words = words_of(alloc, "--max-bytes 1000", recording)?;
+    let recorded = run_over(rt, alloc, Record, words.as_slice(), inputs, NEVER)?;
+    feed_back(alloc, &recorded.made, inputs)?;
+    let words = words_of(alloc, PULSES, searching)?;
+    let ended = run_over(rt, alloc, Search, words.as_slice(), inputs, NEVER)?;
+    Ok(ended.text)
+}
+
 #[test]
-fn a_header_that_is_refused_is_named(rt: HostRuntime) -> Result<(), Fail> {
-    let alloc = rt.alloc();
-    // The lines, how long the file is, and the cause.
+fn recorded_files_give_the_same_text(rt: HostRuntime) -> Result<(), Fail> {
+    let mut inputs = inputs_for(rt.alloc(), "pulse next", NEVER)?;
+    // The words of a recording, those of a search of its files, and the text. Each records files of the ones before.
     let cases = [
-        (OBSERVATION, 4095, "Short 4095"),
-        ("HDR_SIZE 8192\n", 8191, "Short 8191"),
-        ("HDR_SIZE 4095\n", 4096, "BadSize"),
-        ("HDR_SIZE 4096\n\u{7f}a\u{e9}\n", 4096, "NotText 16"),
-        ("", 4096, "Missing NCHAN"),
-        (
-            "NBIT 8\nTSAMP 64\nFREQ 1400\nBW -200\n",
-            4096,
-            "Missing NCHAN",
-        ),
-        ("NCHAN 4097\n", 4096, "OutOfRange NCHAN"),
-        ("NCHAN 2\nNBIT 4\nTSAMP 6.4e1\n", 4096, "OutOfProfile NBIT"),
-        ("NCHAN 2\nNBIT 8\nNPOL 3\n", 4096, "OutOfProfile NPOL"),
-        ("NCHAN 2\nNBIT 8\nNDIM 2\n", 4096, "OutOfProfile NDIM"),
-        ("NCHAN 2\nNBIT 8\nTSAMP 6.4e1\n", 4096, "BadNumber TSAMP"),
-        (
-            "NCHAN 2\nNBIT 8\nTSAMP 64\nFREQ 0.0009999\n",
-            4096,
-            "OutOfRange FREQ",
-        ),
-        (
-            "NCHAN 2\nNBIT 8\nTSAMP 64\nFREQ 1400\nBW 0\n",
-            4096,
-            "OutOfRange BW",
-        ),
-        (
-            "NCHAN 2\nNBIT 8\nTSAMP 64\nFREQ 1400\nBW -200\nOBS_OFFSET -1\n",
-            4096,
-            "OutOfRange OBS_OFFSET",
-        ),
-        (
-            "NCHAN 2\nNBIT 8\nTSAMP 64\nFREQ 1400\nBW -0.001999\n",
-            4096,
-            "TooNarrow 1999 2",
-        ),
+        ("--file-size 4 pulse", "0 1", TEXT),
+        ("--file-size 6 0 1", "0", TEXT),
+        ("--file-size 1 0", "0 1 2 3 4 5", TEXT),
+        ("--file-size 6 pulse + next", "0 + 1", BOTH),
     ];
-    for (lines, size, cause) in cases {
-        let file = file_of(alloc, lines, size, &[])?;
-        let ended = search(&rt, alloc, LINE, Some(file.as_slice()), NO_FAULTS)?;
-        let note = format!(in alloc; "header of file 0 refused: {cause}\n")?;
-        assert!(rt; ended.is(3, "", note.as_str()), "{cause}: {}", ended.notes);
+    for (recording, searching, wanted) in cases {
+        let text = text_of_recorded(&rt, rt.alloc(), recording, searching, &mut inputs)?;
+        assert!(rt; text.as_str() == wanted, "{recording}: {text}");
     }
     Ok(())
 }
 
-#[test]
-fn words_are_judged_before_the_file(rt: HostRuntime) -> Result<(), Fail> {
-    let alloc = rt.alloc();
-    let refused = "words refused\n";
-    let cases = [
-        ("", refused),
-        ("--mean 1 --sd 2", refused),
-        ("--sd 2 file", refused),
-        ("--mean -1 --sd 2 file", refused),
-        ("--mean 1 --sd 2 --snr 0 --help file", refused),
-        (
-            "--mean 1 --sd 2 --record --snr 0 file",
-            "option --snr refused\n",
-        ),
-        ("--mean 1 --sd 2 --snr 0 file", "option --snr refused\n"),
-        ("--mean=-1 --sd 2 --snr 0 file", "option --snr refused\n"),
-        ("--mean=-1 --sd 2 file", "option --mean refused\n"),
-        (
-            "--mean 1 --sd 2 --max-delay 4 --min-delay 5 file",
-            "option --min-delay refused\n",
-        ),
-        (
-            "--mean 1 --sd 2 --max-candidates 1048577 file",
-            "option --max-candidates refused\n",
-        ),
-        ("--mean 1 --sd 2 file +", "option FILE refused\n"),
-    ];
-    for (line, note) in cases {
-        let ended = search(&rt, alloc, line, None, NO_FAULTS)?;
-        assert!(rt; ended.is(2, "", note), "{line}: {}", ended.notes);
+// ---- an observation of 4 MB, as a user makes, searches and records it
+
+const MAKE: &str =
+    "--number 1 --nchan 1024 --spectra 4096 --delay 256 --period 512 --height 1 made";
+
+const SEARCH: &str = "--mean 16 --sd 2.828 --max-delay 512 --max-candidates 1000000";
+
+const RECORD: &str = "--shards 4 --hands 3 --record --file-size 1500000 made";
+
+fn made_observation(alloc: Global) -> Result<MemInputs, Fail> {
+    let words = words_of(alloc, MAKE, "")?;
+    let mut files = MemFiles::open(alloc, 1, 5_000_000, &[])?;
+    let mut notes = MemSink::open(alloc, 100, &[])?;
+    let mut inputs = MemInputs::open(alloc, &[])?;
+    if run_make(alloc, words.as_slice(), &mut files, &mut notes) == 0 && files.count() == 1 {
+        inputs.put("made", files.body(0))?;
     }
-    Ok(())
+    Ok(inputs)
+}
+
+// Whether files of these numbers of bytes were made, and no others.
+fn has_sizes(made: &MemFiles, sizes: &[usize]) -> bool {
+    if made.count() as usize != sizes.len() {
+        return false;
+    }
+    for i in 0..made.count() {
+        if made.body(i).len() != sizes[i as usize] {
+            return false;
+        }
+    }
+    true
+}
+
+// Whether a search of these words ends so, with this text.
+fn searches_so<R: Threads + Wait + Sync>(
+    rt: &R,
+    alloc: Global,
+    words: &str,
+    inputs: &mut MemInputs,
+    file: u64,
+    status: u8,
+    text: &str,
+) -> Result<bool, Fail> {
+    let words = words_of(alloc, SEARCH, words)?;
+    let ended = run_over(rt, alloc, Search, words.as_slice(), inputs, file)?;
+    Ok(ended.status == status && ended.text.as_str() == text)
+}
+
+// The text of the observation that is recorded in three files, which are put back into the inputs.
+fn text_of_observation<R: Threads + Wait + Sync>(
+    rt: &R,
+    alloc: Global,
+    inputs: &mut MemInputs,
+) -> Result<String, Fail> {
+    let words = words_of(alloc, SEARCH, RECORD)?;
+    let ended = run_over(rt, alloc, Search, words.as_slice(), inputs, NEVER)?;
+    if !has_sizes(&ended.made, &[1_504_096, 1_504_096, 1_198_400]) {
+        return Err("other files".into());
+    }
+    feed_back(alloc, &ended.made, inputs)?;
+    Ok(ended.text)
 }
 
 #[test]
-fn widths_and_the_limit_of_candidates(rt: HostRuntime) -> Result<(), Fail> {
-    let alloc = rt.alloc();
-    let file = file_of(alloc, OBSERVATION, 4096, &PULSE)?;
-    let both = "PULSE 1 1 0.104 1 30 3\nPULSE 2 1 0.104 2 50 6\nEND 2 0 3\n";
-    let cases = [
-        ("--widths 2", 0, both, ""),
-        ("--widths 2 --chunk 1", 0, both, ""),
-        ("--widths 2 --chunk 333 --shards 2", 0, both, ""),
-        ("--widths 2 --chunk 65536 --size 1 --hands 9", 0, both, ""),
-        ("--widths 2 --max-candidates 2", 0, both, ""),
-        (
-            "--widths 2 --max-candidates 1",
-            9,
-            "",
-            "2 candidates, limit 1\n",
-        ),
-        (
-            "--widths 2 --max-candidates 0",
-            9,
-            "",
-            "2 candidates, limit 0\n",
-        ),
-        ("--widths 1 --min-delay 1", 0, TEXT, ""),
-        ("--widths 1 --max-bytes 6", 0, TEXT, ""),
-        ("--widths 1 --max-bytes 5", 8, "", "more than 5 bytes\n"),
-        (
-            "--widths 1 --shards 3",
-            4,
-            "",
-            "plan refused: TooManyShards 3 2\n",
-        ),
-    ];
-    for (more, status, text, note) in cases {
-        let line = format!(in alloc; "--mean 1 --sd 2 --snr 7 --max-delay 1 {more} file")?;
-        let ended = search(&rt, alloc, line.as_str(), Some(file.as_slice()), NO_FAULTS)?;
-        assert!(rt;
-            ended.is(status, text, note),
-            "{more}: {}{}",
-            ended.text,
-            ended.notes
-        );
-    }
-    Ok(())
-}
-
-#[test]
-fn two_rows_folded(rt: HostRuntime) -> Result<(), Fail> {
-    let alloc = rt.alloc();
-    let line = "--mean 0 --sd 1 --snr 2 --max-delay 0 --widths 1 --fold-max 2 --fold-rows 1 file";
-    let all = "PULSE 2 0 0.000 1 3 2\nPULSE 3 0 0.000 1 4 2\nFOLD 0 0.000 2 2 0 0 4 4
-FOLD 0 0.000 2 2 0 1 6 4\nFOLD 0 0.000 2 2 1 0 5 4\nFOLD 0 0.000 2 2 1 1 5 4\nEND 2 4 4\n";
-    let cases: [(&[u8], &str); 2] = [
-        (&[1, 0, 2, 0, 3, 0, 4, 0], all),
-        (&[1, 0, 2, 0, 3, 0], "PULSE 2 0 0.000 1 3 2\nEND 1 0 3\n"),
-    ];
-    for (bytes, text) in cases {
-        let file = file_of(alloc, OBSERVATION, 4096, bytes)?;
-        let ended = search(&rt, alloc, line, Some(file.as_slice()), NO_FAULTS)?;
-        assert!(rt; ended.is(0, text, ""), "{}{}", ended.text, ended.notes);
-    }
-    Ok(())
-}
-
-#[test]
-fn a_plan_that_does_not_fit_is_named(rt: HostRuntime) -> Result<(), Fail> {
-    let alloc = rt.alloc();
-    let narrow = "NCHAN 4096\nNBIT 8\nTSAMP 64\nFREQ 1382\nBW -400\n";
-    let wide = "NCHAN 512\nNBIT 16\nNPOL 2\nTSAMP 64\nFREQ 1382\nBW -400\n";
-    let cases = [
-        (
-            narrow,
-            "--max-delay 8192 --fold-max 2 --fold-rows 12",
-            "SumBound 255 12288 4096",
-        ),
-        (
-            wide,
-            "--max-delay 1024 --widths 32",
-            "SumBound 131070 1536 32",
-        ),
-        (
-            OBSERVATION,
-            "--max-delay 0 --fold-max 1048576 --fold-rows 3",
-            "FoldTooLarge 1048576 3",
-        ),
-        (
-            OBSERVATION,
-            "--max-delay 64 --fold-max 2 --fold-step 1",
-            "TooManyFolds 65",
-        ),
-    ];
-    for (lines, more, cause) in cases {
-        let file = file_of(alloc, lines, 4096, &[])?;
-        let line = format!(in alloc; "--mean 1 --sd 2 {more} file")?;
-        let note = format!(in alloc; "plan refused: {cause}\n")?;
-        let ended = search(&rt, alloc, line.as_str(), Some(file.as_slice()), NO_FAULTS)?;
-        assert!(rt; ended.is(4, "", note.as_str()), "{cause}: {}", ended.notes);
-    }
-    Ok(())
-}
-
-#[test]
-fn a_failing_call_of_the_inputs_leaves_no_text(rt: HostRuntime) -> Result<(), Fail> {
-    let alloc = rt.alloc();
-    let file = file_of(alloc, OBSERVATION, 4096, &PULSE)?;
-    // Opening, the header, the data, and their end; then no call is left.
-    for call in 0..5 {
-        let faults = Faults {
-            inputs: &[call],
-            ..NO_FAULTS
-        };
-        let ended = search(&rt, alloc, LINE, Some(file.as_slice()), faults)?;
-        let is = if call < 4 {
-            ended.is(6, "", "read fault\n")
-        } else {
-            ended.is(0, TEXT, "")
-        };
-        assert!(rt; is, "at call {call}: {}", ended.notes);
-    }
-    let missing = search(&rt, alloc, LINE, None, NO_FAULTS)?;
-    assert!(rt; missing.is(6, "", "read fault\n"));
-    Ok(())
-}
-
-#[test]
-fn a_fault_of_the_output_ends_the_text(rt: HostRuntime) -> Result<(), Fail> {
-    let alloc = rt.alloc();
-    let file = file_of(alloc, OBSERVATION, 4096, &PULSE)?;
-    // The room, the calls that fail, of the output and of the notes; the status, and what both hold in the end.
-    let cases: [(u64, &[u64], &[u64], u8, &str, &str); 5] = [
-        (1000, &[0], &[], 10, "", "sink fault\n"),
-        (10, &[], &[], 10, "", "sink fault\n"),
-        (32, &[], &[], 10, "", "sink fault\n"),
-        (33, &[], &[], 0, TEXT, ""),
-        // A fault of the notes changes no status.
-        (10, &[], &[0], 10, "", ""),
-    ];
-    for (room, out, notes, status, text, note) in cases {
-        let faults = Faults {
-            room,
-            out,
-            notes,
-            ..NO_FAULTS
-        };
-        let ended = search(&rt, alloc, LINE, Some(file.as_slice()), faults)?;
-        assert!(rt;
-            ended.is(status, text, note),
-            "room {room}: {}{}",
-            ended.text,
-            ended.notes
-        );
+fn an_observation_is_made_searched_and_recorded(rt: HostRuntime) -> Result<(), Fail> {
+    let mut inputs = made_observation(rt.alloc())?;
+    let text = text_of_observation(&rt, rt.alloc(), &mut inputs)?;
+    let text = text.as_str();
+    assert!(rt;
+        text.starts_with("PULSE ") && text.ends_with(" 0 4096\n"),
+        "{text}"
+    );
+    // One shard and one hand; the recorded files; and a call of the files that fails.
+    for (words, file, status) in [("made", NEVER, 0), ("0 1 2", NEVER, 0), (RECORD, 2, 11)] {
+        let is = searches_so(&rt, rt.alloc(), words, &mut inputs, file, status, text)?;
+        assert!(rt; is, "{words}");
     }
     Ok(())
 }
@@ -303,51 +215,27 @@ fn a_fault_of_the_output_ends_the_text(rt: HostRuntime) -> Result<(), Fail> {
 #[test]
 fn calm_objects_are_searched_to_the_end(rt: HostRuntime) -> Result<(), Fail> {
     let alloc = rt.alloc();
-    let file = file_of(alloc, OBSERVATION, 4096, &PULSE)?;
-    let words = words_of(alloc, LINE)?;
+    let words = words_of(alloc, PULSES, "0")?;
     let mut inputs = CalmInputs::open(alloc)?;
-    inputs.put("file", file.as_slice())?;
-    let mut files = CalmFiles::new();
+    if let Some(bytes) = bytes_of(alloc, "pulse")? {
+        inputs.put("0", bytes.as_slice())?;
+    }
     let mut out = MemSink::open(alloc, 1000, &[])?;
-    let mut calm = CalmSink::new();
     let ran = run(
         &rt,
         alloc,
         words.as_slice(),
         &mut inputs,
-        &mut files,
+        &mut CalmFiles::new(),
         &mut out,
-        &mut calm,
+        &mut CalmSink::new(),
         &NoGate,
     );
     assert!(rt; ran.status == 0 && out.body() == TEXT.as_bytes());
     Ok(())
 }
 
-#[test]
-fn data_up_to_the_limit_are_searched(rt: HostRuntime) -> Result<(), Fail> {
-    let alloc = rt.alloc();
-    let lines = "NCHAN 4096\nNBIT 8\nTSAMP 64\nFREQ 1382\nBW -400\n";
-    let line = "--mean 1 --sd 2 --snr 7 --max-delay 0 --widths 1 --max-bytes 1000000 file";
-    for (len, status, text, note) in [
-        (8191, 0, "END 0 0 1\n", ""),
-        (8192, 0, "END 0 0 2\n", ""),
-        (65536, 0, "END 0 0 16\n", ""),
-        (65537, 0, "END 0 0 16\n", ""),
-        (1_000_000, 0, "END 0 0 244\n", ""),
-        (1_000_001, 8, "", "more than 1000000 bytes\n"),
-    ] {
-        let bytes = vec![in alloc; 0u8; len]?;
-        let file = file_of(alloc, lines, 4096, bytes.as_slice())?;
-        let ended = search(&rt, alloc, line, Some(file.as_slice()), NO_FAULTS)?;
-        assert!(rt;
-            ended.is(status, text, note),
-            "{len} bytes: {}",
-            ended.notes
-        );
-    }
-    Ok(())
-}
+// ---- parts
 
 #[test]
 fn paths_of_two_channels_and_their_sums(rt: HostRuntime) -> Result<(), Fail> {

@@ -1,0 +1,203 @@
+// Runs as the lines of a table say them, and how they must end.
+use crate::files::{NO_FILE, fields_of, inputs_for, push_data, push_lines};
+use crate::running::{ENOUGH, Ended, Limits, NEVER, Program, run_past, words_of};
+use psr_base::{Inputs, MemFiles, MemInputs};
+use search_session::NoGate;
+use std::alloc::Global;
+use std::process::Abort;
+use std::sync::Wait;
+use std::test::Fail;
+use std::thread::Threads;
+
+/// A run on each line: the words after those of the whole table; the numbers of the calls that fail, and how much room
+/// there is, where it is little; the status; the output and the line on the notes, with `;` for the end of a line; the
+/// files that are made, each with its data; and, of some, how many calls of the inputs were made, and how many blocks
+/// went through.
+#[derive(Clone, Copy)]
+pub(crate) struct Table {
+    pub(crate) program: Program,
+    pub(crate) words: &'static str,
+    pub(crate) runs: &'static str,
+}
+
+// A line of a table.
+#[derive(Clone, Copy)]
+struct Case {
+    words: &'static str,
+    limits: Limits,
+    status: u8,
+    text: &'static str,
+    notes: &'static str,
+    files: &'static str,
+    calls: Option<u64>,
+    blocks: Option<u64>,
+}
+
+impl Case {
+    fn of(line: &'static str) -> Result<Case, Fail> {
+        let [words, limits, status, text, notes, files, counts] = fields_of(line);
+        let mut case = Case {
+            words,
+            limits: ENOUGH,
+            status: status.parse::<u8>()?,
+            text,
+            notes,
+            files,
+            calls: None,
+            blocks: None,
+        };
+        case.set_all(limits)?;
+        case.set_all(counts)?;
+        Ok(case)
+    }
+
+    // Sets what is named by each word of `input 3, out_room 10`.
+    fn set_all(&mut self, numbers: &'static str) -> Result<(), Fail> {
+        for named in numbers.split(',') {
+            if let Some((name, number)) = named.trim().split_once(' ') {
+                self.set(name, number.parse::<u32>()?)?;
+            }
+        }
+        Ok(())
+    }
+
+    fn set(&mut self, name: &str, number: u32) -> Result<(), Fail> {
+        let n = u64::from(number);
+        match name {
+            "input" => self.limits.input = n,
+            "file" => self.limits.file = n,
+            "out" => self.limits.out = n,
+            "note" => self.limits.note = n,
+            "files" => self.limits.files = number,
+            "file_room" => self.limits.file_room = n,
+            "out_room" => self.limits.out_room = n,
+            "note_room" => self.limits.note_room = n,
+            "calls" => self.calls = Some(n),
+            "blocks" => self.blocks = Some(n),
+            _ => return Err("a number of another name".into()),
+        }
+        Ok(())
+    }
+
+    fn is_met(&self, alloc: Global, ended: &Ended) -> Result<bool, Fail> {
+        Ok(
+            self.status == ended.status
+                && has_lines(alloc, ended.text.as_str(), self.text)?
+                && has_lines(alloc, ended.notes.as_str(), self.notes)?
+                && has_files(alloc, &ended.made, self.files)?
+                && self.blocks.unwrap_or(ended.blocks) == ended.blocks,
+        )
+    }
+}
+
+// Whether the text has these lines, each ended by `;`.
+fn has_lines(alloc: Global, text: &str, lines: &str) -> Result<bool, Fail> {
+    let mut wanted = Vec::new(alloc);
+    push_lines(&mut wanted, lines)?;
+    Ok(text.as_bytes() == wanted.as_slice())
+}
+
+// ---- files that were made
+
+const FIRST: &str = "2024-01-02-03:04:05_0000000000000000.000000.dada";
+
+const SECOND: &str = "2024-01-02-03:04:05_0000000000000004.000001.dada";
+
+const NEXT: &str = "2024-01-02-03:05:05_0000000000000000.000000.dada";
+
+// Whether these are a header and the data; `-` stands for a file without a header.
+fn has_data(alloc: Global, body: &[u8], data: &str) -> Result<bool, Fail> {
+    if data == "-" {
+        return Ok(body.is_empty());
+    }
+    let mut wanted = Vec::new(alloc);
+    push_data(&mut wanted, data)?;
+    Ok(body.len() >= 4096 && &body[4096..] == wanted.as_slice())
+}
+
+// Whether a file has the name and the data that `first 10 0 0 20` says.
+fn is_file(alloc: Global, name: &str, body: &[u8], file: &str) -> Result<bool, Fail> {
+    let (word, data) = file.split_once(' ').unwrap_or((file, ""));
+    let whole_name = match word {
+        "first" => FIRST,
+        "second" => SECOND,
+        _ => NEXT,
+    };
+    Ok(name == whole_name && has_data(alloc, body, data)?)
+}
+
+// Whether these files were made alone, in this order.
+fn has_files(alloc: Global, made: &MemFiles, files: &str) -> Result<bool, Fail> {
+    if files.is_empty() {
+        return Ok(made.count() == 0);
+    }
+    let mut rest = files.split(',');
+    for i in 0..made.count() {
+        let Some(file) = rest.next() else {
+            return Ok(false);
+        };
+        if !is_file(alloc, made.name(i), made.body(i), file.trim())? {
+            return Ok(false);
+        }
+    }
+    Ok(rest.next().is_none())
+}
+
+// ---- runs
+
+// How many calls were made of the inputs, of which call NEVER fails.
+fn calls_of(inputs: &mut MemInputs) -> u64 {
+    for more in 0..NEVER {
+        if inputs.open(NO_FILE).is_err() {
+            return NEVER - more;
+        }
+    }
+    0
+}
+
+fn check<R: Threads + Wait + Sync + Abort>(
+    rt: &R,
+    alloc: Global,
+    table: &Table,
+    line: &'static str,
+) -> Result<(), Fail> {
+    let case = Case::of(line)?;
+    let mut inputs = inputs_for(alloc, case.words, case.limits.input)?;
+    let words = words_of(alloc, table.words, case.words)?;
+    let ended = run_past(
+        rt,
+        alloc,
+        table.program,
+        words.as_slice(),
+        &mut inputs,
+        &case.limits,
+        &NoGate,
+    )?;
+    let calls = calls_of(&mut inputs);
+    assert!(rt;
+        case.is_met(alloc, &ended)? && case.calls.unwrap_or(calls) == calls,
+        "{line}: {}, {}{}{} files, {calls} calls, {} blocks",
+        ended.status,
+        ended.text,
+        ended.notes,
+        ended.made.count(),
+        ended.blocks
+    );
+    Ok(())
+}
+
+/// Runs the lines of the tables, each of which must end as it says.
+pub(crate) fn check_all<R: Threads + Wait + Sync + Abort>(
+    rt: &R,
+    alloc: Global,
+    tables: &[Table],
+) -> Result<(), Fail> {
+    for table in tables {
+        for line in table.runs.lines() {
+            if !line.is_empty() {
+                check(rt, alloc, table, line)?;
+            }
+        }
+    }
+    Ok(())
+}
