@@ -1,11 +1,10 @@
 -- A row that is written a part at a time, and rows that are written one after another.
-use Rattle.std.proofs.Common.{◌≡◌, ℕ, Bool, sym, zero, suc, refl, ◌+◌, ◌-◌, ◌*◌, ◌<◌, ◌≤◌, ◌≢◌, inl, inr, List, ◌∷◌, [], length, slice_index, get_or, set, ◌∙◌, ap, subst, arith, get_or-set_other, get_or-set_same}
+use Rattle.std.proofs.Common.{◌≡◌, ℕ, zero, suc, refl, ◌+◌, ◌-◌, ◌*◌, ◌<◌, ◌≤◌, ◌≢◌, inl, inr, List, ◌∷◌, [], length, slice_index, get_or, set, ◌∙◌, ap, subst, arith, get_or-set_other, get_or-set_same}
 use Rattle.std.proofs.lemmas.Bool.{cases_lt}
 use Rattle.std.proofs.Math.Nat.{mul-le-mul_right}
 use Rattle.std.specs.Simd.Lanes.{put_chunk}
 use Rattle.std.proofs.lemmas.Simd.{get_or-put_chunk_below, get_or-put_chunk_at, get_or-put_chunk_above}
-use Rattle.spectra_rows.specs.Cells.{AreWritten, WritesPart, byte_cell, cell, channel_place}
-use Rattle.spectra_rows.proofs.Alike.{plain_sample}
+use Rattle.spectra_rows.specs.Cells.{WritesPart}
 
 -- lanes that are stored at a place
 pub stored : (xs lanes : List ℕ) (base from n : ℕ) (value : ℕ → ℕ) → length lanes ≡ n
@@ -74,6 +73,11 @@ rows_apart c d chunk lt =
     let part : (c + 1) * chunk ≤ d * chunk = mul-le-mul_right chunk next in
     omega arith
 
+-- the first `done` rows have what is written, and what was there before stays
+pub record AreWritten (old new : List ℕ) (chunk done from to channels : ℕ) (value : ℕ → ℕ → ℕ) : Type 0 where
+  pub written : (c t : ℕ) → c < done → from ≤ t → t < to → slice_index new (c * chunk + t) ≡ value c t
+  pub kept : (c t : ℕ) → c < channels → t < from → slice_index new (c * chunk + t) ≡ slice_index old (c * chunk + t)
+
 pub no_row : (old : List ℕ) (chunk from to channels : ℕ) (value : ℕ → ℕ → ℕ)
     → AreWritten old old chunk 0 from to channels value
 no_row old chunk from to channels value = record {
@@ -126,36 +130,3 @@ eight bytes n place from at (suc (suc (suc (suc (suc (suc zero)))))) is lt = ap 
 eight bytes n place from at (suc (suc (suc (suc (suc (suc (suc zero))))))) is lt =
     ap (λ i. slice_index bytes i) (omega arith)
 eight bytes n place from at (suc (suc (suc (suc (suc (suc (suc (suc j)))))))) is lt = absurd (omega arith)
-
--- sixteen values, eight and eight
-pub sixteen : (old mid new : List ℕ) (base from : ℕ) (value : ℕ → ℕ) → WritesPart old mid base from (from + 8) value
-    → WritesPart mid new base (from + 8) (from + 8 + 8) value → WritesPart old new base from (from + 16) value
-sixteen old mid new base from value first next =
-    let end : from + 8 + 8 ≡ from + 16 = omega arith in
-    subst (λ n. WritesPart old new base from n value) end
-    (more old mid new base from (from + 8) (from + 8 + 8) value value (omega arith) (omega arith) first next
-    (λ t l h. refl))
-
--- the value of a tile in the column of a channel
-pub tile_cell : (bytes : List ℕ) (n : ℕ) (is_falling : Bool) (at from place c column j : ℕ) → at ≡ from * n + place
-    → column + place ≡ channel_place n is_falling c
-    → slice_index bytes (at + j * n + column) ≡ byte_cell n is_falling bytes c (from + j)
-tile_cell bytes n is_falling at from place c column j start is = ap (λ i. slice_index bytes i) (omega arith)
-
--- bytes are the samples of 8 bits and one polarisation
-pub bytes_are_cells : (old new bytes : List ℕ) (n : ℕ) (is_falling : Bool) (chunk done from end to nbit npol : ℕ)
-    → nbit ≡ 8 → npol ≡ 1 → end ≡ to
-    → AreWritten old new chunk done from end n (byte_cell n is_falling bytes)
-    → AreWritten old new chunk done from to n (λ c. cell n nbit npol bytes (channel_place n is_falling c))
-bytes_are_cells old new bytes n is_falling chunk done from end to nbit npol bits pols ends rows =
-    subst (λ k. AreWritten old new chunk done from k n (λ c. cell n nbit npol bytes (channel_place n is_falling c)))
-    ends
-    (subst (λ b. AreWritten old new chunk done from end n (λ c. cell n b npol bytes (channel_place n is_falling c)))
-    (sym bits)
-    (subst (λ p. AreWritten old new chunk done from end n (λ c. cell n 8 p bytes (channel_place n is_falling c)))
-    (sym pols)
-    (record {
-      written = λ c t below low high.
-          rows.written c t below low high ∙ plain_sample bytes (t * n + channel_place n is_falling c);
-      kept = rows.kept;
-    })))

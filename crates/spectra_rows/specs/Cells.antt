@@ -18,15 +18,6 @@ pub record WritesPart (old new : List ℕ) (base from to : ℕ) (value : ℕ →
 abbrev pub cell : ℕ → ℕ → ℕ → List ℕ → ℕ → ℕ → ℕ
 cell channels nbit npol bytes place t = sample_at nbit npol bytes (t * channels + place)
 
--- the same where a sample is a byte
-abbrev pub byte_cell : ℕ → Bool → List ℕ → ℕ → ℕ → ℕ
-byte_cell channels is_falling bytes c t = slice_index bytes (t * channels + channel_place channels is_falling c)
-
--- the first `done` rows have these values from place `from` on, up to `to`, and what stood before it stays in all rows
-pub record AreWritten (old new : List ℕ) (chunk done from to channels : ℕ) (value : ℕ → ℕ → ℕ) : Type 0 where
-  pub written : (c t : ℕ) → c < done → from ≤ t → t < to → slice_index new (c * chunk + t) ≡ value c t
-  pub kept : (c t : ℕ) → c < channels → t < from → slice_index new (c * chunk + t) ≡ slice_index old (c * chunk + t)
-
 -- row c begins at c * chunk, and has the samples of the first `count` spectra of the bytes
 abbrev pub AreUnpacked : ℕ → Bool → ℕ → ℕ → ℕ → List ℕ → List ℕ → ℕ → Type 0
 AreUnpacked channels is_falling nbit npol chunk bytes rows count =

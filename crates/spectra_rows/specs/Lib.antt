@@ -1,3 +1,2 @@
 pub mod Unpacking
 pub mod Cells
-pub mod Tiles

@@ -5,7 +5,6 @@ mod held;
 mod layout;
 mod rows;
 mod samples;
-mod tiles;
 mod unpacker;
 
 pub use unpacker::Unpacker;

@@ -1,4 +1,5 @@
-use Rattle.spectra_rows.specs.Cells.{AreWritten, cell, channel_place}
+use Rattle.spectra_rows.specs.Cells.{cell, channel_place}
+use Rattle.spectra_rows.proofs.Parts.{AreWritten}
 use Rattle.spectra_rows.proofs.rows.write_block.Given as goal
 
 abbrev pub invariant-loop-channel : goal.invariant-loop-channel
