@@ -36,7 +36,8 @@ impl Guest {
     }
 }
 
-/// A gate at which two actors wait for each other once. Both see each other only where their hands run at the same time.
+/// A gate at which two actors wait for each other once. Both see each other only where their hands run at the same
+/// time.
 #[derive(Drop)]
 pub struct Meeting {
     one: Guest,

@@ -5,23 +5,16 @@ use Rattle.psr_base.specs.Told.{InputsSeen}
 use Rattle.psr_base.specs.Made.{FilesSeen}
 use Rattle.ring_ends.specs.declared.finished.Finished.{Finished}
 use Rattle.dada_recorder.specs.declared.answers.RecordEnd.{RecordEnd}
-use Rattle.dada_recorder.specs.declared.answers.RecordEnd.TheVariants as recorder
 use Rattle.run_stop.specs.declared.stop.Stop.{Stop}
-use Rattle.run_stop.specs.declared.stop.Stop.TheVariants.{FileFault}
+use Rattle.run_stop.specs.Conversions.{stop_of_recorder}
 use Rattle.run_stop.specs.Runs.{RecordingAlone}
-use Rattle.run_stop.specs.Outcomes.{JudgesWords, ReadsInputs}
-use Rattle.run_stop.specs.Ends.{EndsAt, end_status, IsSaid}
+use Rattle.run_stop.specs.Ends.{EndsRun, end_status, IsSaid}
 use Rattle.psr_record.specs.Outcome.{RecordsData, ClearsBlocks}
-
--- the stop where a call on the files that are made failed
-abbrev pub stop_of_files : Option RecordEnd → Option Stop
-stop_of_files (Some recorder.FileFault) = Some FileFault
-stop_of_files _ = None
 
 -- the stop of a session: that of its feeder first
 abbrev pub stop_of_session : Option Stop → Option RecordEnd → Option Stop
 stop_of_session (Some fed) recorded = Some fed
-stop_of_session None recorded = stop_of_files recorded
+stop_of_session None recorded = stop_of_recorder recorded
 
 -- all that the outcome says but for the notes
 pub record Ends (words : List (List ℕ)) (inputs : InputsSeen) (is_calm : Type 0)
@@ -29,9 +22,7 @@ pub record Ends (words : List (List ℕ)) (inputs : InputsSeen) (is_calm : Type 
     Type 0 where
   pub known : Contains (0 ∷ 2 ∷ 3 ∷ 4 ∷ 5 ∷ 6 ∷ 7 ∷ 8 ∷ 11 ∷ []) (end_status stop)
   pub made : RecordsData words inputs.told files_before files_after (end_status stop)
-  pub judged : JudgesWords RecordingAlone words (end_status stop)
-  pub read : ReadsInputs RecordingAlone words inputs is_calm (end_status stop)
-  pub ends : EndsAt RecordingAlone words inputs.told blocks files_before files_after
+  pub run : EndsRun RecordingAlone words inputs is_calm blocks files_before files_after
       (end_status stop)
   pub cleared : ClearsBlocks blocks (end_status stop)
   pub said : IsSaid RecordingAlone words inputs.told stop

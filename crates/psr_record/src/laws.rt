@@ -6,6 +6,7 @@ ghost use Rattle.psr_record.specs.Outcome.{AcceptedIsRecorded, RecordedIsReadBac
 use psr_base::Inputs;
 // Laws: they do nothing when they run, and the proofs use what they ensure.
 use dada_model::headers_are_read_back;
+use run_stop::accepted_goes_on;
 use stream_model::{
     recorded_files_give_the_data, recorded_transfers_give_the_data, walk_joins_data, whole_exactly,
 };
@@ -14,7 +15,9 @@ use stream_model::{
 /// files that are made count a fault.
 pub fn accepted_is_recorded<I: Inputs>()
     ensures { (inputs : I) → AcceptedIsRecorded (I.is_calm inputs) }
-{}
+{
+    accepted_goes_on::<I>();
+}
 
 /// Fed in order, the recorded files of a whole transfer are a whole stream with the same data.
 pub fn recorded_files_are_read_back()

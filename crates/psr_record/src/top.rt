@@ -4,9 +4,8 @@ ghost use Rattle.run_stop.specs.Conversions.{stop_of_feed};
 ghost use Rattle.run_stop.specs.Outcomes.{ReadsNoData};
 ghost use Rattle.run_stop.specs.Runs.{RecordingAlone};
 ghost use Rattle.psr_record.specs.Outcome.{Outcome};
-ghost use Rattle.psr_record.specs.Ends.{Ends, stop_of_files, stop_of_session};
+ghost use Rattle.psr_record.specs.Ends.{Ends, stop_of_session};
 
-use dada_recorder::RecordEnd;
 use psr_base::{Files, Inputs, Sink};
 use ring_ends::Finished;
 use run_stop::{Stop, tell};
@@ -17,7 +16,7 @@ use std::sync::Wait;
 use std::thread::Threads;
 use whole_run::{Found, drive};
 // Laws: they do nothing when they run, and the proofs use what they ensure.
-use run_stop::{end_after_whole, end_at_stop, end_at_words, end_before_session, words_say_once};
+use run_stop::{end_after_whole, end_at_stop, end_at_words, end_before_session};
 
 // What a recording came to: its stop, or none where it went to its end; and what went through its data ring, where
 // there was one.
@@ -61,23 +60,13 @@ pub fn run_record<
     Ran { status, blocks }
 }
 
-// Whether a call on the files that are made failed.
-fn has_failed(recorded: Option<RecordEnd>) -> Option<Stop>
-    ensures { result ≡ stop_of_files recorded }
-{
-    match recorded {
-        Some(RecordEnd::FileFault) => Some(Stop::FileFault),
-        _ => None,
-    }
-}
-
 // What stopped a session.
 fn stop_of(found: &Found) -> Option<Stop>
     ensures { result ≡ stop_of_session (stop_of_feed found.now.feed) found.now.recorded }
 {
     match Stop::of_feed(found.feed) {
         Some(stop) => Some(stop),
-        None => has_failed(found.recorded),
+        None => Stop::of_recorder(found.recorded),
     }
 }
 
@@ -102,11 +91,10 @@ fn record_files<I: Inputs + Send, F: Files + Send, G: Gate + Sync, R: Threads + 
         → ReadsNoData RecordingAlone (map string_bytes words.now) (I.told inputs.old)
         (I.told inputs.new) }
 {
-    end_at_words();
-    words_say_once();
-    end_before_session();
-    end_at_stop();
-    end_after_whole();
+    end_at_words::<I>();
+    end_before_session::<I>();
+    end_at_stop::<I>();
+    end_after_whole::<I>();
     let settings = match Settings::of_record(alloc, words) {
         Ok(settings) => settings,
         Err(fault) => {

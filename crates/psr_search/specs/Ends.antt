@@ -13,28 +13,27 @@ use Rattle.dada_recorder.specs.declared.answers.RecordEnd.TheVariants as recorde
 use Rattle.run_stop.specs.declared.stop.Stop.{Stop}
 use Rattle.run_stop.specs.declared.stop.Stop.TheVariants.{TooMany, SinkFault, FileFault}
 use Rattle.run_stop.specs.Runs.{Searching, HasCandidates}
-use Rattle.run_stop.specs.Outcomes.{JudgesWords, ReadsInputs}
-use Rattle.run_stop.specs.Ends.{EndsAt, end_status, IsSaid}
+use Rattle.run_stop.specs.Ends.{EndsRun, end_status, IsSaid}
 use Rattle.psr_search.specs.Outcome.{ForSearch, WritesText, ClearsBlocks}
 
 -- ---- the text
 
 -- how a search ends whose data were all sealed: its text is written, or its front at a fault, or there are too many
 -- candidates; and the files failed, or did not
-abbrev pub EndsText : Search → List ObservedTransfer → Option RecordEnd → SinkSeen → SinkSeen
+abbrev pub EndsSearch : Search → List ObservedTransfer → Option RecordEnd → SinkSeen → SinkSeen
     → Option Stop → Type 0
-EndsText search transfers recorded before after None =
+EndsSearch search transfers recorded before after None =
     HasFew search transfers × WroteAll (searched_text search transfers) before after
     × (recorded ≢ Some recorder.FileFault)
-EndsText search transfers recorded before after (Some FileFault) =
+EndsSearch search transfers recorded before after (Some FileFault) =
     HasFew search transfers × WroteAll (searched_text search transfers) before after
     × (recorded ≡ Some recorder.FileFault)
-EndsText search transfers recorded before after (Some SinkFault) =
+EndsSearch search transfers recorded before after (Some SinkFault) =
     HasFew search transfers × WroteFront (searched_text search transfers) before after
-EndsText search transfers recorded before after (Some (TooMany count limit)) =
+EndsSearch search transfers recorded before after (Some (TooMany count limit)) =
     (candidate_total search transfers ≡ count) × (limit ≡ search.max_candidates) × (limit < count)
     × (after ≡ before)
-EndsText search transfers recorded before after (Some stop) = ⊥
+EndsSearch search transfers recorded before after (Some stop) = ⊥
 
 -- the feeder was stopped, which stops the search; or all data were sealed
 abbrev pub EndsFed : Option Stop → Search → List ObservedTransfer → Option RecordEnd → SinkSeen
@@ -42,7 +41,7 @@ abbrev pub EndsFed : Option Stop → Search → List ObservedTransfer → Option
 EndsFed (Some fed) search transfers recorded before after stop =
     (stop ≡ Some fed) × (after ≡ before)
 EndsFed None search transfers recorded before after stop =
-    EndsText search transfers recorded before after stop
+    EndsSearch search transfers recorded before after stop
 
 -- ---- the search
 
@@ -53,9 +52,8 @@ pub record Ends (words : List (List ℕ)) (inputs : InputsSeen) (is_calm : Type 
   pub known : Contains
       (0 ∷ 2 ∷ 3 ∷ 4 ∷ 5 ∷ 6 ∷ 7 ∷ 8 ∷ 9 ∷ 10 ∷ 11 ∷ []) (end_status stop)
   pub written : WritesText words inputs.told out_before out_after (end_status stop)
-  pub judged : JudgesWords Searching words (end_status stop)
-  pub read : ReadsInputs Searching words inputs is_calm (end_status stop)
-  pub ends : EndsAt Searching words inputs.told blocks files_before files_after (end_status stop)
+  pub run : EndsRun Searching words inputs is_calm blocks files_before files_after
+      (end_status stop)
   pub too_many : end_status stop ≡ 9 → ForSearch words inputs.told (λ s w.
       HasCandidates s w (λ total. s.search.max_candidates < total))
   pub cleared : ClearsBlocks words blocks (end_status stop)

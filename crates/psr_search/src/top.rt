@@ -86,11 +86,11 @@ fn search<I: Inputs + Send, F: Files + Send, K: Sink, G: Gate + Sync, R: Threads
         → ReadsNoData Searching (map string_bytes words.now) (I.told inputs.old)
         (I.told inputs.new) }
 {
-    end_at_words();
+    end_at_words::<I>();
     words_say_once();
-    end_before_session();
-    end_at_stop();
-    end_after_whole();
+    end_before_session::<I>();
+    end_at_stop::<I>();
+    end_after_whole::<I>();
     let settings = match Settings::of(alloc, words) {
         Ok(settings) => settings,
         Err(fault) => {

@@ -4,28 +4,14 @@ ghost use Rattle.search_model.specs.Search.{SettingsInRange};
 ghost use Rattle.transfer_text.specs.Searched.{ObservedTransfer, candidate_total};
 ghost use Rattle.transfer_text.specs.Found.{HoldTransfers};
 ghost use Rattle.disk_feeder.specs.declared.answers.FeedEnd.TheVariants.{Whole};
-ghost use Rattle.dada_recorder.specs.declared.answers.RecordEnd.TheVariants.{FileFault};
 ghost use Rattle.run_stop.specs.Conversions.{stop_of_feed};
-ghost use Rattle.psr_search.specs.Ends.{EndsText as EndsTextOf, EndsFed};
+ghost use Rattle.psr_search.specs.Ends.{EndsSearch, EndsFed};
 
-use dada_recorder::RecordEnd;
 use psr_base::Sink;
 use run_stop::Stop;
 use search_model::Search;
 use transfer_text::{TextStop, write_found};
 use whole_run::Found;
-
-// Whether a call on the files that are made failed.
-fn has_failed(recorded: Option<RecordEnd>) -> Option<Stop>
-    ensures none { result ≡ None → recorded ≢ Some FileFault }
-    ensures failed { IfSome result (λ stop. (stop ≡ Stop.FileFault)
-        × (recorded ≡ Some FileFault)) }
-{
-    match recorded {
-        Some(RecordEnd::FileFault) => Some(Stop::FileFault),
-        _ => None,
-    }
-}
 
 // Writes the text of all data.
 fn write_text<K: Sink>(search: &Search, found: &Found, out: &mut K) -> Option<Stop>
@@ -36,7 +22,7 @@ fn write_text<K: Sink>(search: &Search, found: &Found, out: &mut K) -> Option<St
         × (candidate_total search.now transfers < 2 ^ 64) }
     ensures { (transfers : List ObservedTransfer) → HoldTransfers search.now transfers
         found.now.observations.items (map (λ row. row.items) found.now.books.items)
-        found.now.spectra.items → EndsTextOf search.now transfers found.now.recorded
+        found.now.spectra.items → EndsSearch search.now transfers found.now.recorded
         (K.seen out.old) (K.seen out.new) result }
 {
     match write_found(
@@ -46,7 +32,7 @@ fn write_text<K: Sink>(search: &Search, found: &Found, out: &mut K) -> Option<St
         found.spectra.as_slice(),
         out,
     ) {
-        Ok(()) => has_failed(found.recorded),
+        Ok(()) => Stop::of_recorder(found.recorded),
         Err(TextStop::TooMany { count, limit }) => Some(Stop::TooMany { count, limit }),
         Err(TextStop::SinkFault) => Some(Stop::SinkFault),
     }

@@ -23,7 +23,7 @@ use Rattle.run_stop.specs.Conversions.{stop_of_feed}
 use Rattle.run_stop.specs.Runs.{Task, Says, ForFiles, CanBegin, StopsWalk, IsStopOf, stop_of_walk, stream_for}
 use Rattle.run_stop.specs.Outcomes.{StopsAtFiles, SealsStream, RecordsFiles, MadeAll, MadeFront, files_of_stream, files_of_data}
 use Rattle.run_stop.specs.Laws.{WholeRunsRecordData}
-use Rattle.run_stop.specs.Ends.{IsFed, IsRecorded, IsLate, EndsAt, EndAtStop, EndAfterWhole}
+use Rattle.run_stop.specs.Ends.{IsRunFed, IsRecorded, IsLate, EndsAt}
 use Rattle.run_stop.proofs.Before.{none_stopped}
 
 -- what an option has
@@ -117,7 +117,7 @@ module _ (task : Task) (words : List (List ℕ)) (told : Told) (blocks : Finishe
 
   -- the blocks of a walk that went to its stop
   sealed_at : (n : ℕ) → Contains (0 ∷ 3 ∷ 6 ∷ 7 ∷ 8 ∷ 9 ∷ 10 ∷ 11 ∷ []) n → (end : FeedEnd) →
-      IsFed task words told blocks end → n ≢ 6 →
+      IsRunFed task words told blocks end → n ≢ 6 →
       ForFiles task words told (λ s w. IsWalkEnd w s.size (sealed_at_end blocks) end) →
       SealsStream task words told (Some blocks) n
   sealed_at n known end f six walked = record {
@@ -132,7 +132,7 @@ module _ (task : Task) (words : List (List ℕ)) (told : Told) (blocks : Finishe
   }
 
   -- those of a walk that the inputs broke off
-  sealed_broken : IsFed task words told blocks feed.ReadFault →
+  sealed_broken : IsRunFed task words told blocks feed.ReadFault →
       SealsStream task words told (Some blocks) 6
   sealed_broken f = record {
     none = λ e. absurd cc;
@@ -159,7 +159,7 @@ module _ (task : Task) (words : List (List ℕ)) (told : Told) (blocks : Finishe
   -- ---- where the feeder was stopped
 
   -- the walk stops there
-  stops : (end : FeedEnd) (stop : Stop) → IsFed task words told blocks end →
+  stops : (end : FeedEnd) (stop : Stop) → IsRunFed task words told blocks end →
       ForFiles task words told (λ s w. IsWalkEnd w s.size (sealed_at_end blocks) end) →
       stop_of_feed end ≡ Some stop →
       ForFiles task words told (λ s w. StopsWalk task s w stop)
@@ -213,7 +213,7 @@ module _ (task : Task) (words : List (List ℕ)) (told : Told) (blocks : Finishe
         (limit_is limit s.max_bytes (walk_stop (stream_for s files)) at.stops) at;
   }
 
-  ends_stopped : (end : FeedEnd) (stop : Stop) → IsFed task words told blocks end →
+  pub ends_stopped : (end : FeedEnd) (stop : Stop) → IsRunFed task words told blocks end →
       IsRecorded task words told blocks answer before after → stop_of_feed end ≡ Some stop →
       EndsAt task words told (Some blocks) before after (status_of stop)
       × ForFiles task words told (λ s w. IsStopOf task s w stop)
@@ -277,14 +277,14 @@ module _ (task : Task) (words : List (List ℕ)) (told : Told) (blocks : Finishe
   late_known n (suc (suc (suc (suc k))), below, is) = absurd (omega (arith, below))
 
   -- it is none of the statuses between
-  apart : (n m : ℕ) → Contains (0 ∷ 9 ∷ 10 ∷ 11 ∷ []) n → 0 < m → m < 9 → n ≢ m
+  pub apart : (n m : ℕ) → Contains (0 ∷ 9 ∷ 10 ∷ 11 ∷ []) n → 0 < m → m < 9 → n ≢ m
   apart n m (zero, below, is) some few e = omega (arith, is, e, some)
   apart n m (suc zero, below, is) some few e = omega (arith, is, e, few)
   apart n m (suc (suc zero), below, is) some few e = omega (arith, is, e, few)
   apart n m (suc (suc (suc zero)), below, is) some few e = omega (arith, is, e, few)
   apart n m (suc (suc (suc (suc k))), below, is) some few e = omega (arith, below)
 
-  ends_whole : WholeRunsRecordData → (end : FeedEnd) (n : ℕ) → IsFed task words told blocks end →
+  pub ends_whole : WholeRunsRecordData → (end : FeedEnd) (n : ℕ) → IsRunFed task words told blocks end →
       IsRecorded task words told blocks answer before after → stop_of_feed end ≡ None →
       IsLate answer n →
       EndsAt task words told (Some blocks) before after n
@@ -311,11 +311,3 @@ module _ (task : Task) (words : List (List ℕ)) (told : Told) (blocks : Finishe
   ends_whole law (feed.BadHeader file cause) n f r is late = absurd cc
   ends_whole law (feed.Gap file expected found) n f r is late = absurd cc
   ends_whole law (feed.TooLong limit) n f r is late = absurd cc
-
-pub at_stop : EndAtStop
-at_stop task words told blocks end answer before after stop =
-    ends_stopped task words told blocks answer before after end stop
-
-pub after_whole : WholeRunsRecordData → EndAfterWhole
-after_whole law task words told blocks end answer before after n =
-    ends_whole task words told blocks answer before after law end n

@@ -1,5 +1,5 @@
 -- What the exit status says where a run stops before its session.
-use Rattle.std.proofs.Common.{◌≢◌, ℕ, List, [], ◌∷◌, refl, inl, inr, None, Contains, lit<, arith, ◌≡◌, ◌∙◌, sym}
+use Rattle.std.proofs.Common.{◌≢◌, ℕ, List, [], ◌∷◌, refl, inl, inr, None, Contains, lit<, arith, ◌∙◌, sym}
 use Rattle.psr_base.specs.Told.{Told}
 use Rattle.psr_base.specs.Made.{FilesSeen}
 use Rattle.ring_ends.specs.declared.finished.Finished.{Finished}
@@ -10,14 +10,9 @@ use Rattle.run_stop.specs.declared.causes.RecordingCause.{RecordingCause}
 use Rattle.run_stop.specs.declared.stop.Stop.{Stop}
 use Rattle.run_stop.specs.declared.stop.Stop.TheVariants.{Words, Value, Header, Plan, Recording, Memory, ReadFault, Gap, TooLong, TooMany, SinkFault, FileFault}
 use Rattle.run_stop.specs.Texts.{status_of}
-use Rattle.search_words.specs.declared.fault.WordFault.{WordFault}
-use Rattle.search_words.specs.declared.fault.WordFault.TheVariants as fault
-use Rattle.search_words.specs.declared.fault.WordFault.TheVariants.{Refused, OutOfRange}
-use Rattle.search_words.specs.Settings.{SettingsSeen}
-use Rattle.run_stop.specs.Conversions.{stop_of_words}
-use Rattle.run_stop.specs.Runs.{Task, Searching, RecordingAlone, Says, Explains, ForFiles, IsStopOf}
-use Rattle.run_stop.specs.Outcomes.{JudgesWords, StopsAtFiles, SealsStream, RecordsFiles}
-use Rattle.run_stop.specs.Ends.{StopsBefore, EndsAt, EndsAtWords, EndAtWords, WordsSayOnce, EndBeforeSession}
+use Rattle.run_stop.specs.Runs.{Task, Searching, RecordingAlone, ForFiles, IsStopOf}
+use Rattle.run_stop.specs.Outcomes.{StopsAtFiles, SealsStream, RecordsFiles}
+use Rattle.run_stop.specs.Ends.{StopsBefore, EndsAt, WordsSayOnce}
 
 abbrev early : List ℕ
 early = 2 ∷ 3 ∷ 4 ∷ 5 ∷ 6 ∷ []
@@ -98,27 +93,32 @@ module _ (task : Task) (words : List (List ℕ)) (told : Told) where
   }
 
   -- a status that says nothing of the files
-  ends_plainly : (n : ℕ) → Contains early n → n ≢ 3 → n ≢ 4 → n ≢ 7 → n ≢ 8 → n ≢ 0 → n ≢ 11 →
+  pub ends_plainly : (n : ℕ) → Contains early n → n ≢ 3 → n ≢ 4 → n ≢ 7 → n ≢ 8 → n ≢ 0 → n ≢ 11 →
       (seen : FilesSeen) → EndsAt task words told None seen seen n
   ends_plainly n known three four seven eight zeroth last =
       ends_early n known zeroth last (none_stopped None n three four seven eight)
 
-  at_status : (stop : Stop) → StopsBefore task words told stop → (seen : FilesSeen) →
+  pub at_status : (stop : Stop) → StopsBefore task words told stop → (seen : FilesSeen) →
       EndsAt task words told None seen seen (status_of stop)
   at_status Words b = absurd b.kind
   at_status (Value opt) b = absurd b.kind
-  at_status (Header file cause) b = ends_early 3 (1, lit< tt, refl) (λ e. omega (arith, e)) (λ e. omega (arith, e)) (header_stopped file cause b)
-  at_status (Plan cause) b = ends_early 4 (2, lit< tt, refl) (λ e. omega (arith, e)) (λ e. omega (arith, e)) (plan_stopped cause b)
-  at_status (Recording cause) b = ends_early 4 (2, lit< tt, refl) (λ e. omega (arith, e)) (λ e. omega (arith, e)) (recording_stopped cause b)
-  at_status Memory b = ends_plainly 5 (3, lit< tt, refl) (λ e. omega (arith, e)) (λ e. omega (arith, e)) (λ e. omega (arith, e)) (λ e. omega (arith, e)) (λ e. omega (arith, e)) (λ e. omega (arith, e))
-  at_status ReadFault b = ends_plainly 6 (4, lit< tt, refl) (λ e. omega (arith, e)) (λ e. omega (arith, e)) (λ e. omega (arith, e)) (λ e. omega (arith, e)) (λ e. omega (arith, e)) (λ e. omega (arith, e))
+  at_status (Header file cause) b =
+      ends_early 3 (1, lit< tt, refl) (λ e. omega (arith, e)) (λ e. omega (arith, e)) (header_stopped file cause b)
+  at_status (Plan cause) b =
+      ends_early 4 (2, lit< tt, refl) (λ e. omega (arith, e)) (λ e. omega (arith, e)) (plan_stopped cause b)
+  at_status (Recording cause) b =
+      ends_early 4 (2, lit< tt, refl) (λ e. omega (arith, e)) (λ e. omega (arith, e)) (recording_stopped cause b)
+  at_status Memory b = ends_plainly 5 (3, lit< tt, refl) (λ e. omega (arith, e)) (λ e. omega (arith, e))
+      (λ e. omega (arith, e)) (λ e. omega (arith, e)) (λ e. omega (arith, e)) (λ e. omega (arith, e))
+  at_status ReadFault b = ends_plainly 6 (4, lit< tt, refl) (λ e. omega (arith, e)) (λ e. omega (arith, e))
+      (λ e. omega (arith, e)) (λ e. omega (arith, e)) (λ e. omega (arith, e)) (λ e. omega (arith, e))
   at_status (Gap file expected found) b = absurd b.kind
   at_status (TooLong limit) b = absurd b.kind
   at_status (TooMany count limit) b = absurd b.kind
   at_status SinkFault b = absurd b.kind
   at_status FileFault b = absurd b.kind
 
-  says_of : (stop : Stop) → StopsBefore task words told stop →
+  pub says_of : (stop : Stop) → StopsBefore task words told stop →
       ForFiles task words told (λ s w. IsStopOf task s w stop)
   says_of Words b s files says are = absurd b.kind
   says_of (Value opt) b s files says are = absurd b.kind
@@ -133,49 +133,6 @@ module _ (task : Task) (words : List (List ℕ)) (told : Told) where
   says_of SinkFault b s files says are = absurd b.kind
   says_of FileFault b s files says are = absurd b.kind
 
--- ---- at the words
-
-module _ (words : List (List ℕ)) (told : Told) where
-  -- a status 2 says what is told of the words
-  judges : (task : Task) → ((s : SettingsSeen) → ¬ Says task words s) → JudgesWords task words 2
-  judges task unsaid = record { refused = λ e. unsaid; said = λ e f. absurd (e refl) }
-
-  unsaid : (task : Task) (fault : WordFault) → Explains task words fault →
-      status_of (stop_of_words fault) ≡ 2 → (s : SettingsSeen) → ¬ Says task words s
-  unsaid Searching Refused why two s says = why says.taken
-  unsaid RecordingAlone Refused why two s says = why says.taken
-  unsaid Searching (OutOfRange opt) out two s says = cc
-  unsaid RecordingAlone (OutOfRange opt) out two s says = cc
-  unsaid task fault.Memory why two s says = omega (arith, two)
-
-  at_words : (task : Task) (fault : WordFault) → Explains task words fault →
-      EndsAtWords task words told (stop_of_words fault)
-  at_words task Refused why = record {
-    judged = judges task (unsaid task Refused why refl);
-    ends = ends_plainly task words told 2 (0, lit< tt, refl) (λ e. omega (arith, e)) (λ e. omega (arith, e))
-        (λ e. omega (arith, e)) (λ e. omega (arith, e)) (λ e. omega (arith, e)) (λ e. omega (arith, e));
-    said = (why, λ s files says are. tt);
-  }
-  at_words task (OutOfRange opt) out = record {
-    judged = judges task (unsaid task (OutOfRange opt) out refl);
-    ends = ends_plainly task words told 2 (0, lit< tt, refl) (λ e. omega (arith, e)) (λ e. omega (arith, e))
-        (λ e. omega (arith, e)) (λ e. omega (arith, e)) (λ e. omega (arith, e)) (λ e. omega (arith, e));
-    said = (out, λ s files says are. tt);
-  }
-  at_words task fault.Memory why = record {
-    judged = record { refused = λ e. absurd (omega (arith, e)); said = λ e f. absurd (f refl) };
-    ends = ends_plainly task words told 5 (3, lit< tt, refl) (λ e. omega (arith, e)) (λ e. omega (arith, e))
-        (λ e. omega (arith, e)) (λ e. omega (arith, e)) (λ e. omega (arith, e)) (λ e. omega (arith, e));
-    said = (tt, λ s files says are. tt);
-  }
-
-pub ends_at_words : EndAtWords
-ends_at_words task words told fault why = at_words words told task fault why
-
 pub say_once : WordsSayOnce
 say_once Searching words s t a b = a.values ∙ sym b.values
 say_once RecordingAlone words s t a b = a.values ∙ sym b.values
-
-pub ends_before : EndBeforeSession
-ends_before task words told stop b =
-    (at_status task words told stop b, says_of task words told stop b)

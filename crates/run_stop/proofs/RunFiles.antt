@@ -35,7 +35,8 @@ same_transfers f g zero same = refl
 same_transfers f g (suc n) same =
     let one : suc n ≡ n + 1 = omega arith in
     ap (λ m. map f (range_with_len 0 m)) one ∙ map-range_with_len_more f 0 n n (omega arith)
-    ∙ ap (λ (ts : List RecordedTransfer). ts ++ f n ∷ []) (same_transfers f g n (λ k below. same k (omega (arith, below))))
+    ∙ ap (λ (ts : List RecordedTransfer). ts ++ f n ∷ [])
+    (same_transfers f g n (λ k below. same k (omega (arith, below))))
     ∙ ap (λ (t : RecordedTransfer). map g (range_with_len 0 n) ++ t ∷ []) (same n (omega arith))
     ∙ sym (map-range_with_len_more g 0 n n (omega arith)) ∙ ap (λ m. map g (range_with_len 0 m)) (sym one)
 
@@ -62,7 +63,8 @@ recorded_under plan w headers n k firsts below within =
     let there = header_there headers k within in
     let header = there.0 in
     let offset = firsts.offsets k (omega (arith, within, firsts.count)) in
-    ap (λ (b : Option Entry). under_header plan k (header_in_block b)) (block_of_header headers n k header below there.1)
+    ap (λ (b : Option Entry). under_header plan k (header_in_block b))
+    (block_of_header headers n k header below there.1)
     ∙ ap (λ r. under_header plan k (header_or_none r)) (firsts.read_back k header there.1
     ∙ sym (firsts.read k header there.1))
     ∙ ap (λ (o : ℕ). recording (header_or_none (header_of (first_file w k))) o plan.file_size) offset

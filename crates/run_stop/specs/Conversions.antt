@@ -12,6 +12,8 @@ use Rattle.disk_feeder.specs.declared.answers.FeedEnd.{FeedEnd}
 use Rattle.disk_feeder.specs.declared.answers.FeedEnd.TheVariants as feed
 use Rattle.search_engine.specs.declared.fault.PlanFault.{PlanFault}
 use Rattle.search_engine.specs.declared.fault.PlanFault.TheVariants as plan
+use Rattle.dada_recorder.specs.declared.answers.RecordEnd.{RecordEnd}
+use Rattle.dada_recorder.specs.declared.answers.RecordEnd.TheVariants as recorder
 use Rattle.dada_recorder.specs.declared.answers.RecordFault.{RecordFault}
 use Rattle.dada_recorder.specs.declared.answers.RecordFault.TheVariants as recording
 use Rattle.search_words.specs.declared.fault.WordFault.{WordFault}
@@ -19,7 +21,7 @@ use Rattle.search_words.specs.declared.fault.WordFault.TheVariants as words
 use Rattle.run_stop.specs.declared.causes.PlanCause.TheVariants.{SumBound, FoldTooLarge, TooManyFolds, TooManyShards}
 use Rattle.run_stop.specs.declared.causes.RecordingCause.TheVariants.{NoUtc, BadUtc, Overfull, TooManyFiles}
 use Rattle.run_stop.specs.declared.stop.Stop.{Stop}
-use Rattle.run_stop.specs.declared.stop.Stop.TheVariants.{Words, Value, Header, Plan, Recording, Memory, ReadFault, Gap, TooLong}
+use Rattle.run_stop.specs.declared.stop.Stop.TheVariants.{Words, Value, Header, Plan, Recording, Memory, ReadFault, Gap, TooLong, FileFault}
 
 -- of words that say no settings
 abbrev pub stop_of_words : WordFault → Stop
@@ -65,3 +67,8 @@ stop_of_feed feed.ReadFault = Some ReadFault
 stop_of_feed (feed.BadHeader file cause) = Some (Header file cause)
 stop_of_feed (feed.Gap file expected found) = Some (Gap file expected found)
 stop_of_feed (feed.TooLong limit) = Some (TooLong limit)
+
+-- of a recorder: a call on the files that are made failed; its other ends stop no run
+abbrev pub stop_of_recorder : Option RecordEnd → Option Stop
+stop_of_recorder (Some recorder.FileFault) = Some FileFault
+stop_of_recorder _ = None

@@ -1,8 +1,8 @@
 -- How a run of either program ends, before its session or after it, and what its exit status then says.
 -- Source: this project's choice.
-use Rattle.std.specs.Prelude.{◌≡◌, ◌≢◌, ℕ, ◌≤◌, ⊤, true, false, List, [], ◌∷◌, Option, Some, None, Contains}
+use Rattle.std.specs.Prelude.{◌≡◌, ◌≢◌, ℕ, ◌≤◌, ◌⊎◌, ⊤, true, false, List, [], ◌∷◌, Option, Some, None, Contains}
 use Rattle.psr_base.specs.Count.{Rose}
-use Rattle.psr_base.specs.Told.{Told}
+use Rattle.psr_base.specs.Told.{Told, InputsSeen}
 use Rattle.psr_base.specs.Made.{FilesSeen}
 use Rattle.ring_ends.specs.declared.finished.Finished.{Finished}
 use Rattle.ring_ends.specs.Ended.{sealed_at_end}
@@ -10,7 +10,10 @@ use Rattle.search_words.specs.Settings.{SettingsSeen}
 use Rattle.stream_model.specs.Walk as walk
 use Rattle.stream_model.specs.Walk.{FileStream, walk_stop}
 use Rattle.disk_feeder.specs.declared.answers.FeedEnd.{FeedEnd}
+use Rattle.disk_feeder.specs.declared.answers.FeedEnd.TheVariants as feeder
 use Rattle.disk_feeder.specs.Feeding.{EndIs}
+use Rattle.disk_feeder.specs.Filling.{HoldsAll}
+use Rattle.disk_feeder.specs.Plan.{AreTold}
 use Rattle.dada_recorder.specs.declared.answers.RecordEnd.{RecordEnd}
 use Rattle.dada_recorder.specs.declared.answers.RecordEnd.TheVariants as recorder
 use Rattle.run_stop.specs.declared.stop.Stop.{Stop}
@@ -18,8 +21,8 @@ use Rattle.run_stop.specs.declared.stop.Stop.TheVariants.{Words, Value, Header, 
 use Rattle.run_stop.specs.Texts.{status_of}
 use Rattle.search_words.specs.declared.fault.WordFault.{WordFault}
 use Rattle.run_stop.specs.Conversions.{stop_of_words, stop_of_feed}
-use Rattle.run_stop.specs.Runs.{Task, Searching, Says, ForFiles, CanBegin, RefusesFirst, RefusesSearch, RefusesToRecord, IsStopOf, IsStopOfWords, Explains}
-use Rattle.run_stop.specs.Outcomes.{JudgesWords, StopsAtFiles, SealsStream, RecordsFiles, MadeAll, MadeFront, files_of_stream}
+use Rattle.run_stop.specs.Runs.{Task, Searching, Says, ForFiles, stream_for, CanBegin, RefusesFirstHeader, RefusesSearch, RefusesToRecord, IsStopOf, IsStopOfWords, Explains}
+use Rattle.run_stop.specs.Outcomes.{JudgesWords, ReadsInputs, StopsAtFiles, SealsStream, RecordsFiles, MadeAll, MadeFront, files_of_stream}
 
 -- the status of a run that came to a stop, or to none
 abbrev pub end_status : Option Stop → ℕ
@@ -40,18 +43,41 @@ pub record EndsAt
   pub sealed : SealsStream task words told blocks status
   pub recorded : RecordsFiles task words told blocks before after status
 
+-- and of the words and the inputs
+pub record EndsRun
+    (task : Task) (words : List (List ℕ)) (inputs : InputsSeen) (is_calm : Type 0)
+    (blocks : Option Finished) (before after : FilesSeen) (status : ℕ) : Type 0 where
+  pub judged : JudgesWords task words status
+  pub read : ReadsInputs task words inputs is_calm status
+  pub ends : EndsAt task words inputs.told blocks before after status
+
+-- a run ends before all data were sealed: at its words, before its session, or where its feeder was stopped
+pub record EndsShort
+    (task : Task) (words : List (List ℕ)) (inputs : InputsSeen) (is_calm : Type 0)
+    (blocks : Option Finished) (before after : FilesSeen) (stop : Stop) : Type 0 where
+  pub least : 2 ≤ status_of stop
+  pub most : status_of stop ≤ 8
+  pub run : EndsRun task words inputs is_calm blocks before after (status_of stop)
+  pub said : IsSaid task words inputs.told (Some stop)
+
+-- reading failed exactly where the count of faults rose, and not over calm inputs that hold all of these files
+pub record CountsFaults
+    (inputs : InputsSeen) (is_calm : Type 0) (names : List (List ℕ)) (failed : Type 0)
+    : Type 0 where
+  pub rose : failed → Rose inputs.faults_before inputs.faults_after
+  pub quiet : ¬ failed → inputs.faults_after ≡ inputs.faults_before
+  pub count : inputs.faults_before ≤ inputs.faults_after
+  pub serves : is_calm → HoldsAll inputs.told names → ¬ failed
+
 -- ---- at the words
 
--- what a fault of the words leaves: they say no settings, and no file was opened
-pub record EndsAtWords (task : Task) (words : List (List ℕ)) (told : Told) (stop : Stop) :
-    Type 0 where
-  pub judged : JudgesWords task words (status_of stop)
-  pub ends : (seen : FilesSeen) → EndsAt task words told None seen seen (status_of stop)
-  pub said : IsSaid task words told (Some stop)
-
-abbrev pub EndAtWords : Type 0
-EndAtWords = (task : Task) (words : List (List ℕ)) (told : Told) (fault : WordFault) →
-    Explains task words fault → EndsAtWords task words told (stop_of_words fault)
+-- they say no settings, or there was no memory: no file was opened
+abbrev pub EndAtWords : Type 0 → Type 0
+EndAtWords is_calm = (task : Task) (words : List (List ℕ)) (inputs : InputsSeen)
+    (seen : FilesSeen) (fault : WordFault) (stop : Stop) →
+    Explains task words fault → stop ≡ stop_of_words fault →
+    inputs.faults_after ≡ inputs.faults_before →
+    EndsShort task words inputs is_calm None seen seen stop
 
 -- words say one settings at most
 abbrev pub WordsSayOnce : Type 0
@@ -62,7 +88,7 @@ WordsSayOnce = (task : Task) (words : List (List ℕ)) (s t : SettingsSeen) →
 
 -- what a stop between the words and the session says of the files; others don't come there
 abbrev pub SaysBefore : Task → SettingsSeen → FileStream → Stop → Type 0
-SaysBefore task s w (Header file cause) = RefusesFirst w file cause
+SaysBefore task s w (Header file cause) = RefusesFirstHeader w file cause
 SaysBefore task s w (Plan cause) = (task ≡ Searching) × RefusesSearch s.search w cause
 SaysBefore task s w (Recording cause) = RefusesToRecord task s w cause
 SaysBefore task s w Memory = ⊤
@@ -84,16 +110,18 @@ pub record StopsBefore (task : Task) (words : List (List ℕ)) (told : Told) (st
   pub kind : ComesBefore stop
   pub says : ForFiles task words told (λ s w. SaysBefore task s w stop)
 
-abbrev pub EndBeforeSession : Type 0
-EndBeforeSession = (task : Task) (words : List (List ℕ)) (told : Told) (stop : Stop) →
-    StopsBefore task words told stop →
-    ((seen : FilesSeen) → EndsAt task words told None seen seen (status_of stop))
-    × ForFiles task words told (λ s w. IsStopOf task s w stop)
+-- no block was sealed, and no file was made
+abbrev pub EndBeforeSession : Type 0 → Type 0
+EndBeforeSession is_calm = (task : Task) (words : List (List ℕ)) (s : SettingsSeen)
+    (inputs : InputsSeen) (before after : FilesSeen) (stop : Stop) → Says task words s →
+    StopsBefore task words inputs.told stop → after ≡ before →
+    CountsFaults inputs is_calm s.names (stop ≡ ReadFault) →
+    EndsShort task words inputs is_calm None before after stop
 
 -- ---- after it
 
 -- a session went through: nothing stood against it, and its feeder ended so
-pub record IsFed
+pub record IsRunFed
     (task : Task) (words : List (List ℕ)) (told : Told) (blocks : Finished) (feed : FeedEnd)
     : Type 0 where
   pub begun : ForFiles task words told (λ s w. CanBegin task s w)
@@ -114,14 +142,24 @@ pub record IsRecorded
   pub quiet : answer ≢ Some recorder.FileFault → after.faults ≡ before.faults
   pub count : before.faults ≤ after.faults
 
+-- so a session of these settings went through, and this is what was read
+pub record RunsThrough
+    (task : Task) (words : List (List ℕ)) (s : SettingsSeen) (inputs : InputsSeen)
+    (is_calm : Type 0) (blocks : Finished) (feed : FeedEnd) (answer : Option RecordEnd)
+    (before after : FilesSeen) : Type 0 where
+  pub says : Says task words s
+  pub fed : IsRunFed task words inputs.told blocks feed
+  pub recorded : IsRecorded task words inputs.told blocks answer before after
+  pub read : CountsFaults inputs is_calm s.names (feed ≡ feeder.ReadFault)
+
 -- the feeder was stopped
-abbrev pub EndAtStop : Type 0
-EndAtStop = (task : Task) (words : List (List ℕ)) (told : Told) (blocks : Finished)
-    (feed : FeedEnd) (answer : Option RecordEnd) (before after : FilesSeen) (stop : Stop) →
-    IsFed task words told blocks feed → IsRecorded task words told blocks answer before after →
+abbrev pub EndAtStop : Type 0 → Type 0
+EndAtStop is_calm = (task : Task) (words : List (List ℕ)) (s : SettingsSeen)
+    (inputs : InputsSeen) (blocks : Finished) (feed : FeedEnd) (answer : Option RecordEnd)
+    (before after : FilesSeen) (stop : Stop) →
+    RunsThrough task words s inputs is_calm blocks feed answer before after →
     stop_of_feed feed ≡ Some stop →
-    EndsAt task words told (Some blocks) before after (status_of stop)
-    × ForFiles task words told (λ s w. IsStopOf task s w stop)
+    EndsShort task words inputs is_calm (Some blocks) before after stop
 
 -- all data were sealed: the text and the files are there, or what was missing first
 pub record IsLate (answer : Option RecordEnd) (status : ℕ) : Type 0 where
@@ -129,10 +167,25 @@ pub record IsLate (answer : Option RecordEnd) (status : ℕ) : Type 0 where
   pub all : status ≡ 0 → answer ≢ Some recorder.FileFault
   pub failed : status ≡ 11 → answer ≡ Some recorder.FileFault
 
-abbrev pub EndAfterWhole : Type 0
-EndAfterWhole = (task : Task) (words : List (List ℕ)) (told : Told) (blocks : Finished)
-    (feed : FeedEnd) (answer : Option RecordEnd) (before after : FilesSeen) (status : ℕ) →
-    IsFed task words told blocks feed → IsRecorded task words told blocks answer before after →
+abbrev pub EndAfterWhole : Type 0 → Type 0
+EndAfterWhole is_calm = (task : Task) (words : List (List ℕ)) (s : SettingsSeen)
+    (inputs : InputsSeen) (blocks : Finished) (feed : FeedEnd) (answer : Option RecordEnd)
+    (before after : FilesSeen) (status : ℕ) →
+    RunsThrough task words s inputs is_calm blocks feed answer before after →
     stop_of_feed feed ≡ None → IsLate answer status →
-    EndsAt task words told (Some blocks) before after status
-    × ForFiles task words told (λ s w. CanBegin task s w × (walk_stop w ≡ walk.Whole))
+    EndsRun task words inputs is_calm (Some blocks) before after status
+    × ForFiles task words inputs.told (λ s w. CanBegin task s w × (walk_stop w ≡ walk.Whole))
+
+-- ---- where nothing stands against it
+
+-- words, first headers, searches, recordings and data that are accepted, over inputs that are calm or count no fault:
+-- a run ends at none of them
+abbrev pub AcceptedGoesOn : Type 0 → Type 0
+AcceptedGoesOn is_calm = (task : Task) (words : List (List ℕ)) (inputs : InputsSeen)
+    (blocks : Option Finished) (status : ℕ) → JudgesWords task words status →
+    ReadsInputs task words inputs is_calm status →
+    StopsAtFiles task words inputs.told blocks status → (s : SettingsSeen)
+    (files : List (List ℕ)) → Says task words s → AreTold inputs.told s.names files →
+    CanBegin task s (stream_for s files) → walk_stop (stream_for s files) ≡ walk.Whole →
+    is_calm ⊎ ¬ Rose inputs.faults_before inputs.faults_after →
+    ¬ Contains (2 ∷ 3 ∷ 4 ∷ 6 ∷ 7 ∷ 8 ∷ []) status

@@ -19,12 +19,12 @@ first_file w transfer = file_at w (begin_of w transfer)
 abbrev pub HasHeader : List ℕ → Type 0
 HasHeader file = (header : HeaderText) × (header_of file ≡ Ok header)
 
--- what is left to read are the data of the last transfer's first file: no byte past a first header was read
+-- what is left to read of the open file are the data of the last transfer's first file
 abbrev pub LeavesData : Told → FileStream → Type 0
 LeavesData told w = left_to_read told ≡ Some (data_of (first_file w (length w.starts - 1)))
 
 -- the first file of some transfer has no header, and those of the transfers before it have
-pub record RefusesText (w : FileStream) (file : ℕ) (fault : HeaderFault) : Type 0 where
+pub record RefusesFirstText (w : FileStream) (file : ℕ) (fault : HeaderFault) : Type 0 where
   pub transfer : ℕ
   pub there : transfer < length w.starts
   pub is : file ≡ begin_of w transfer
@@ -32,7 +32,7 @@ pub record RefusesText (w : FileStream) (file : ℕ) (fault : HeaderFault) : Typ
   pub earlier : (k : ℕ) → k < transfer → HasHeader (first_file w k)
 
 -- all first files have headers; that of some transfer says no observation, and those of the transfers before it do
-pub record RefusesFields (w : FileStream) (file : ℕ) (fault : ObsFault) : Type 0 where
+pub record RefusesFirstFields (w : FileStream) (file : ℕ) (fault : ObsFault) : Type 0 where
   pub texts : (k : ℕ) → k < length w.starts → HasHeader (first_file w k)
   pub transfer : ℕ
   pub there : transfer < length w.starts

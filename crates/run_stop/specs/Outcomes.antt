@@ -23,7 +23,7 @@ use Rattle.run_stop.specs.declared.causes.RecordingCause.{RecordingCause}
 use Rattle.run_stop.specs.declared.stop.Stop.{Stop}
 use Rattle.run_stop.specs.declared.stop.Stop.TheVariants.{Header, Gap, TooLong}
 use Rattle.run_stop.specs.Texts.{status_of, note_of}
-use Rattle.run_stop.specs.Runs.{Task, Searching, Says, ForFiles, first_recording, CanBegin, RefusesFirst, RefusesSearch, RefusesToRecord, StopsWalk, IsStopOf, IsStopOfWords}
+use Rattle.run_stop.specs.Runs.{Task, Searching, Says, ForFiles, first_recording, CanBegin, RefusesFirstHeader, RefusesSearch, RefusesToRecord, StopsWalk, IsStopOf, IsStopOfWords}
 
 -- ---- the words
 
@@ -44,7 +44,7 @@ pub record ReadsInputs
   pub serves : is_calm → (s : SettingsSeen) → Says task words s →
       HoldsAll inputs.told s.names → status ≢ 6
 
--- no file was opened, or the first of each transfer alone, of which no byte past the header was read
+-- no file was opened; or the open file is the first of the last transfer, and all of its data are left to read
 abbrev pub ReadsNoData : Task → List (List ℕ) → Told → Told → Type 0
 ReadsNoData task words before after = (after ≡ before)
     ⊎ ForFiles task words before (λ s w. LeavesData after w)
@@ -57,7 +57,7 @@ pub record StopsAtFiles
     (task : Task) (words : List (List ℕ)) (told : Told) (blocks : Option Finished)
     (status : ℕ) : Type 0 where
   pub first_header : status ≡ 3 → blocks ≡ None → ForFiles task words told (λ s w.
-      (file : ℕ) × (cause : HeaderCause) × RefusesFirst w file cause)
+      (file : ℕ) × (cause : HeaderCause) × RefusesFirstHeader w file cause)
   pub later_header : status ≡ 3 → IsSome blocks → ForFiles task words told (λ s w.
       (file : ℕ) × (cause : HeaderCause) × StopsWalk task s w (Header file cause))
   pub plan : status ≡ 4 → ForFiles task words told (λ s w.

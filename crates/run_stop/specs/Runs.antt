@@ -24,7 +24,7 @@ use Rattle.disk_feeder.specs.Plan.{AreTold}
 use Rattle.disk_feeder.specs.declared.answers.HeaderCause.{HeaderCause}
 use Rattle.disk_feeder.specs.declared.answers.HeaderCause.TheVariants.{Text, Fields}
 use Rattle.run_stop.specs.Firsts.{first_file}
-use Rattle.run_stop.specs.Firsts.{RefusesText, RefusesFields}
+use Rattle.run_stop.specs.Firsts.{RefusesFirstText, RefusesFirstFields}
 use Rattle.run_stop.specs.declared.causes.PlanCause.{PlanCause}
 use Rattle.run_stop.specs.declared.causes.PlanCause.TheVariants.{SumBound, FoldTooLarge, TooManyFolds, TooManyShards}
 use Rattle.run_stop.specs.declared.causes.RecordingCause.{RecordingCause}
@@ -110,9 +110,9 @@ IsRecordingCause first (Overfull need size) =
 IsRecordingCause first TooManyFiles = first ≡ Some recorded.TooManyFiles
 
 -- the header of this file is the first refused one among those of the transfers' first files
-abbrev pub RefusesFirst : FileStream → ℕ → HeaderCause → Type 0
-RefusesFirst w file (Text fault) = RefusesText w file fault
-RefusesFirst w file (Fields fault) = RefusesFields w file fault
+abbrev pub RefusesFirstHeader : FileStream → ℕ → HeaderCause → Type 0
+RefusesFirstHeader w file (Text fault) = RefusesFirstText w file fault
+RefusesFirstHeader w file (Fields fault) = RefusesFirstFields w file fault
 
 -- the search of some transfer is refused, and those before it fit
 pub record RefusesSearch (search : Search) (w : FileStream) (cause : PlanCause) : Type 0 where
@@ -160,7 +160,7 @@ pub record HasCandidates (s : SettingsSeen) (w : FileStream) (P : ℕ → Type 0
 -- what a stop says of the files
 abbrev pub IsStopOf : Task → SettingsSeen → FileStream → Stop → Type 0
 IsStopOf task s w (Header file cause) =
-    RefusesFirst w file cause ⊎ StopsWalk task s w (Header file cause)
+    RefusesFirstHeader w file cause ⊎ StopsWalk task s w (Header file cause)
 IsStopOf task s w (Plan cause) = (task ≡ Searching) × RefusesSearch s.search w cause
 IsStopOf task s w (Unrecorded cause) = RefusesToRecord task s w cause
 IsStopOf task s w (Gap file expected found) = StopsWalk task s w (Gap file expected found)

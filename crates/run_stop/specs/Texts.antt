@@ -35,11 +35,11 @@ status_of SinkFault = 10
 status_of FileFault = 11
 
 -- a cause as a user reads it: its name, and its numbers or its keyword
-abbrev pub header_text : HeaderFault → List ℕ
-header_text (header.Short had) = codes "Short " ++ decimal had
-header_text (header.NotText place) = codes "NotText " ++ decimal place
-header_text header.BadSize = codes "BadSize"
-header_text header.Memory = codes "Memory"
+abbrev pub header_fault_text : HeaderFault → List ℕ
+header_fault_text (header.Short had) = codes "Short " ++ decimal had
+header_fault_text (header.NotText place) = codes "NotText " ++ decimal place
+header_fault_text header.BadSize = codes "BadSize"
+header_fault_text header.Memory = codes "Memory"
 
 abbrev pub fields_text : ObsFault → List ℕ
 fields_text (obs.Missing key) = codes "Missing " ++ keyword key
@@ -52,7 +52,7 @@ fields_text (obs.Differs key) = codes "Differs " ++ keyword key
 fields_text obs.Memory = codes "Memory"
 
 abbrev pub cause_text : HeaderCause → List ℕ
-cause_text (Text fault) = header_text fault
+cause_text (Text fault) = header_fault_text fault
 cause_text (Fields fault) = fields_text fault
 
 abbrev pub plan_text : PlanCause → List ℕ

@@ -1,6 +1,6 @@
 // The causes of refusals, and how a user reads them.
 ghost use Rattle.std.specs.Prelude.{◌≡◌, ◌≤◌, ◌+◌, ◌++◌, length};
-ghost use Rattle.run_stop.specs.Texts.{cause_text, header_text, fields_text};
+ghost use Rattle.run_stop.specs.Texts.{cause_text, header_fault_text, fields_text};
 
 use crate::line::{push_named_key, push_named_number, push_named_word};
 use dada_header::HeaderFault;
@@ -11,7 +11,7 @@ use text_line::Line;
 // Appends why bytes are no header.
 fn push_text_fault(line: &mut Line, fault: HeaderFault)
     requires { length line.old ≤ 64 }
-    ensures text { line.new ≡ line.old ++ header_text fault }
+    ensures text { line.new ≡ line.old ++ header_fault_text fault }
     ensures bound { length line.new ≤ length line.old + 80 }
 {
     match fault {

@@ -1,10 +1,10 @@
 // The stops of faults.
-ghost use Rattle.std.specs.Prelude.{◌≡◌, ℕ};
+ghost use Rattle.std.specs.Prelude.{◌≡◌, ◌≢◌, ℕ, Some, None, IfSome};
 
 use crate::causes::{PlanCause, RecordingCause};
 use crate::stop::Stop;
 use dada_header::HeaderFault;
-use dada_recorder::RecordFault;
+use dada_recorder::{RecordEnd, RecordFault};
 use disk_feeder::{FeedEnd, FeedFault, HeaderCause};
 use obs_plan::ObsFault;
 use search_engine::PlanFault;
@@ -15,7 +15,7 @@ impl Stop {
     ghost use Rattle.stream_model.specs.Walk.{WalkStop};
     ghost use Rattle.disk_feeder.specs.Ends.{end_of};
     ghost use Rattle.dada_recorder.specs.Changes.{IsRefusal};
-    ghost use Rattle.run_stop.specs.Conversions.{stop_of_words, stop_of_header, stop_of_fields, stop_of_begin, stop_of_plan, IsRecordingStop, stop_of_feed};
+    ghost use Rattle.run_stop.specs.Conversions.{stop_of_words, stop_of_header, stop_of_fields, stop_of_begin, stop_of_plan, IsRecordingStop, stop_of_feed, stop_of_recorder};
     ghost use Rattle.run_stop.specs.Runs.{stop_of_walk};
 
     /// The stop of words that say no settings.
@@ -128,6 +128,19 @@ impl Stop {
                 found,
             }),
             FeedEnd::TooLong { limit } => Some(Stop::TooLong { limit }),
+        }
+    }
+
+    /// The stop of a recorder of whose files a call failed, or none.
+    pub fn of_recorder(recorded: Option<RecordEnd>) -> Option<Stop>
+        ensures is { result ≡ stop_of_recorder recorded }
+        ensures none { result ≡ None → recorded ≢ Some RecordEnd.FileFault }
+        ensures failed { IfSome result (λ stop. (stop ≡ Stop.FileFault)
+            × (recorded ≡ Some RecordEnd.FileFault)) }
+    {
+        match recorded {
+            Some(RecordEnd::FileFault) => Some(Stop::FileFault),
+            _ => None,
         }
     }
 }

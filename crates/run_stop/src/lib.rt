@@ -10,7 +10,10 @@ mod stop;
 mod telling;
 
 pub use causes::{PlanCause, RecordingCause};
-pub use ends::{end_after_whole, end_at_stop, end_at_words, end_before_session, words_say_once};
+pub use ends::{
+    accepted_goes_on, end_after_whole, end_at_stop, end_at_words, end_before_session,
+    words_say_once,
+};
 pub use laws::{runs_record_blocks, whole_runs_record_data};
 pub use stop::Stop;
 pub use telling::tell;

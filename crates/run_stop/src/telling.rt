@@ -8,8 +8,8 @@ ghost use Rattle.run_stop.specs.Ends.{end_status, IsSaid};
 use crate::stop::Stop;
 use psr_base::{Sink, write_all};
 
-/// Tells why a run stopped, by a line to the notes, and answers the exit status. Where it came to no stop that is 0, and
-/// the notes take nothing. A fault of the notes changes nothing.
+/// Tells why a run stopped, by a line to the notes, and answers the exit status. Where it came to no stop that is 0,
+/// and the notes take nothing. A fault of the notes changes nothing.
 pub fn tell<E: Sink>(stop: Option<Stop>, notes: &mut E) -> u8
     ensures status { result ≡ end_status stop }
     ensures told { (task : Task) (words : List (List ℕ)) (told : Told)

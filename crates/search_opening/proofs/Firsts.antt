@@ -20,7 +20,7 @@ use Rattle.disk_feeder.specs.Plan.{Plan, stream_of, AreTold, begin_at}
 use Rattle.disk_feeder.specs.Sources.{RefusesFirst}
 use Rattle.run_stop.specs.declared.stop.Stop.{Stop}
 use Rattle.run_stop.specs.Conversions.{stop_of_begin, stop_of_fields}
-use Rattle.run_stop.specs.Firsts.{first_file, HasHeader, LeavesData, RefusesText, RefusesFields}
+use Rattle.run_stop.specs.Firsts.{first_file, HasHeader, LeavesData, RefusesFirstText, RefusesFirstFields}
 use Rattle.run_stop.specs.Ends.{ComesBefore}
 use Rattle.search_opening.specs.First.{StopsFirsts, AreFirsts, AreObserved}
 use Rattle.search_opening.proofs.Observed.{as_many, some_at, accepted_at}
@@ -64,7 +64,7 @@ module _ (plan : Plan) (count : ℕ) (told : Told) (files : List (List ℕ)) (co
       (λ bytes. (file ≡ begin_at plan.starts count transfer) × IsHeaderRefusal bytes cause) →
       ((k : ℕ) → k < transfer →
       OfFile told (slice_index_or plan.names (begin_at plan.starts count k) []) HasHeader) →
-      RefusesText (stream_of plan files) file cause
+      RefusesFirstText (stream_of plan files) file cause
   refused_text file cause transfer there refuses earlier =
       let w = stream_of plan files in
       let r = refuses (first_file w transfer) (first_told transfer there) in
@@ -113,7 +113,7 @@ said_by rows file header o has accepted =
     let is : o ≡ observation_in (fields_of header.text) = ((rows (fields_of header.text) o).0 accepted).0 in
     ap (λ r. observation_in (fields_past r)) has ∙ sym is
 
-stops_cause : (w : FileStream) (file : ℕ) (cause : ObsFault) → RefusesFields w file cause →
+stops_cause : (w : FileStream) (file : ℕ) (cause : ObsFault) → RefusesFirstFields w file cause →
     StopsFirsts w (stop_of_fields file cause)
 stops_cause w file (obs.Missing key) refuses = refuses
 stops_cause w file (obs.BadNumber key) refuses = refuses

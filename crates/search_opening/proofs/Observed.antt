@@ -35,7 +35,8 @@ one_observed headers k header observations o before there is = record {
       ∙ sym (map-append Ok before.said (o ∷ []));
 }
 
-module _ (headers : List HeaderText) (observations : List (Option Observation)) (are : AreObserved headers observations) where
+module _ (headers : List HeaderText) (observations : List (Option Observation))
+    (are : AreObserved headers observations) where
   said_count : length are.said ≡ length headers
   said_count = sym (length-map are.said Ok) ∙ sym (ap length are.accepted)
       ∙ length-map headers (λ h. observation_of (fields_of h.text))
@@ -108,7 +109,8 @@ one_fits s observations k at before is fits j o within there = elim (cases_lt j 
 pub all_fit : (s : Search) (observations : List (Option Observation)) (k : ℕ) → length observations ≤ k →
     ((j : ℕ) (o : Observation) → j < k → slice_get observations j ≡ Some (Some o) → plan_refusal o s ≡ None) →
     PlansFit s observations
-all_fit s observations k all before i d within = fits (get_or observations i d) (slice_get-get_or observations i d within)
+all_fit s observations k all before i d within =
+    fits (get_or observations i d) (slice_get-get_or observations i d within)
   where
     fits : (at : Option Observation) → slice_get observations i ≡ Some at → IfSome at (λ o. plan_refusal o s ≡ None)
     fits None there = tt

@@ -11,7 +11,7 @@ use Rattle.disk_feeder.specs.Plan.{Plan, stream_of, AreTold}
 use Rattle.run_stop.specs.declared.stop.Stop.{Stop}
 use Rattle.run_stop.specs.declared.stop.Stop.TheVariants.{Header, Memory, ReadFault}
 use Rattle.run_stop.specs.Firsts.{first_file}
-use Rattle.run_stop.specs.Runs.{RefusesFirst}
+use Rattle.run_stop.specs.Runs.{RefusesFirstHeader}
 use Rattle.search_opening.specs.declared.first.RefusedHeader.{RefusedHeader}
 
 -- ---- the files
@@ -35,7 +35,7 @@ AreHeadersOf w headers = (k : ℕ) (header : HeaderText) → slice_get headers k
 
 -- what a stop says of the first files: the header of one of them is the first that is refused
 abbrev pub StopsFirsts : FileStream → Stop → Type 0
-StopsFirsts w (Header file cause) = RefusesFirst w file cause
+StopsFirsts w (Header file cause) = RefusesFirstHeader w file cause
 StopsFirsts w Memory = ⊤
 StopsFirsts w ReadFault = ⊤
 StopsFirsts w _ = ⊥
@@ -50,7 +50,8 @@ pub record AreObserved (headers : List HeaderText) (observations : List (Option 
   pub accepted : map (λ header. observation_of (fields_of header.text)) headers ≡ map Ok said
 
 -- the header of this transfer is refused, by its first refusal or for want of memory, and those before it are accepted
-pub record RefusesHeader (headers : List HeaderText) (refused : RefusedHeader) : Type 0 where
+pub record RefusesTransferHeader (headers : List HeaderText) (refused : RefusedHeader) :
+    Type 0 where
   pub header : HeaderText
   pub there : slice_get headers refused.transfer ≡ Some header
   pub cause : ExplainsObservation (fields_of header.text) refused.cause

@@ -12,18 +12,17 @@ use Rattle.disk_feeder.specs.Feeding.{header_entries}
 use Rattle.dada_recorder.specs.declared.recorder.Recorder.{Recorder}
 use Rattle.search_session.specs.declared.lane.Lane.{Lane}
 use Rattle.search_session.specs.Books.{HasLane}
-use Rattle.search_session.specs.Stages.{IsUnfed, IsEmptyHand, IsFreshRecorder, recorder_count}
+use Rattle.search_session.specs.Stages.{IsUnfed, HasRoomFor, IsEmptyHand, IsFreshRecorder, recorder_count}
 use Rattle.search_opening.specs.declared.space.StageSpace.{StageSpace}
 use Rattle.search_opening.specs.Rings.{AreOpened}
-
--- so many bytes serve a header, and a block of this size
-pub record HasRoom (size bytes : ℕ) : Type 0 where
-  pub header : 65537 ≤ bytes
-  pub block : size ≤ bytes
 
 -- the lanes of a space
 abbrev pub lanes_in : {I F : Type 0} → StageSpace I F → ArrayVec (Option Lane)
 lanes_in space = space.lanes
+
+-- how many hands it has
+abbrev pub hands_in : {I F : Type 0} → StageSpace I F → ℕ
+hands_in space = length space.hands.items
 
 -- The space of a stage of these lanes: rings of this shape, of which the header is sealed, and the empty hands.
 pub record IsSpaceOf {I F : Type 0} (lanes : ArrayVec (Option Lane)) (shape : RingShape)
@@ -32,8 +31,8 @@ pub record IsSpaceOf {I F : Type 0} (lanes : ArrayVec (Option Lane)) (shape : Ri
   pub lanes_are : space.lanes ≡ lanes
   pub spaces_count : length space.spaces.items ≡ length lanes.items
   pub spaces : All
-      (λ slot. IsSomeAnd slot (λ bytes. HasRoom shape.size (vec_len bytes))) space.spaces.items
-  pub some_hand : 0 < length space.hands.items
+      (λ slot. IsSomeAnd slot (λ bytes. HasRoomFor space.hdu (vec_len bytes))) space.spaces.items
+  pub some_hand : 0 < hands_in space
   pub empty : All IsEmptyHand space.hands.items
 
 -- ---- what comes to it

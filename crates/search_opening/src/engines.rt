@@ -63,7 +63,8 @@ fn open_engines(
     Ok(engines)
 }
 
-/// Takes the memory for a search whose plans fit: a lane for each shard, which has an engine for each transfer in order.
+/// Takes the memory for a search whose plans fit: a lane for each shard, which has an engine for each transfer, in
+/// order.
 pub fn open_lanes(
     alloc: Global,
     observations: &[Option<Observation>],

@@ -5,7 +5,7 @@ ghost use Rattle.disk_feeder.specs.Feeder.{IsFresh, IsBegun, SamePlan, HasOpenFi
 ghost use Rattle.disk_feeder.specs.Filling.{HoldsAll};
 ghost use Rattle.run_stop.specs.Firsts.{LeavesData};
 ghost use Rattle.run_stop.specs.Ends.{ComesBefore};
-ghost use Rattle.search_opening.specs.First.{OfFiles, AreFirsts, AreHeadersOf, StopsFirsts, AreObserved, RefusesHeader};
+ghost use Rattle.search_opening.specs.First.{OfFiles, AreFirsts, AreHeadersOf, StopsFirsts, AreObserved, RefusesTransferHeader};
 ghost use Rattle.search_opening.specs.Inputs.{HasReadFrom};
 
 use arrayvec::ArrayVec;
@@ -37,7 +37,7 @@ fn observe_all<'a, I: Inputs>(
     requires all { transfers ≡ length (header_at feeder.now) }
     ensures observed { IfOk result (λ observations.
         AreObserved (header_at feeder.now) observations.items) }
-    ensures refused { IfErr result (RefusesHeader (header_at feeder.now)) }
+    ensures refused { IfErr result (RefusesTransferHeader (header_at feeder.now)) }
 {
     let mut observations = ArrayVec::new();
     for transfer in 0..transfers {
@@ -49,9 +49,8 @@ fn observe_all<'a, I: Inputs>(
     Ok(observations)
 }
 
-/// Reads the header of each transfer's first file, one transfer after another, and then judges what they say, in the
-/// same order: the observations of all transfers, or why the first headers are not accepted. Transfer k begins with file
-/// `starts[k]`.
+/// The observations of all transfers by their first headers, or why one of these is refused. All of them are read
+/// before the first is judged, both in the order of the transfers; transfer k begins with file `starts[k]`.
 pub fn begin_feed<'a, I: Inputs>(
     alloc: Global,
     feeder: &mut Feeder<'a, I>,

@@ -1,8 +1,7 @@
 // The space of a stage, and the stage that is made of it.
 ghost use Rattle.std.specs.Prelude.{◌≡◌, ◌≤◌, ◌<◌, All, IfOk, IsSomeAnd, length, vec_len};
 ghost use Rattle.ring_words.specs.Shape.{IsRing};
-ghost use Rattle.search_session.specs.Stages.{StageOn, IsEmptyHand};
-ghost use Rattle.search_opening.specs.Space.{HasRoom};
+ghost use Rattle.search_session.specs.Stages.{HasRoomFor, StageOn, IsEmptyHand};
 
 use crate::rings::open_rings;
 use arrayvec::ArrayVec;
@@ -18,27 +17,27 @@ use std::alloc::Global;
 /// The least space of a shard, in bytes: one byte more than the longest header.
 const LEAST_SPACE: usize = 65537;
 
-// Space for a header, and for a block of so many bytes.
-fn open_space(alloc: Global, size: u32) -> Result<Vec<u8>, Memory>
-    ensures { IfOk result (λ space. HasRoom size (vec_len space)) }
+// Space for a block of either ring.
+fn open_space(alloc: Global, hdu: &Hdu) -> Result<Vec<u8>, Memory>
+    ensures { IfOk result (λ space. HasRoomFor hdu.now (vec_len space)) }
 {
-    Ok(vec![in alloc; 0u8; LEAST_SPACE.max(size as usize)]?)
+    Ok(vec![in alloc; 0u8; LEAST_SPACE.max(hdu.shape().size as usize)]?)
 }
 
 // So many such spaces.
 fn open_spaces(
     alloc: Global,
+    hdu: &Hdu,
     count: usize,
-    size: u32,
 ) -> Result<ArrayVec<Option<Vec<u8>>, 7>, Memory>
     requires { count ≤ 7 }
     ensures count { IfOk result (λ spaces. length spaces.items ≡ count) }
     ensures room { IfOk result (λ spaces.
-        All (λ slot. IsSomeAnd slot (λ space. HasRoom size (vec_len space))) spaces.items) }
+        All (λ slot. IsSomeAnd slot (λ space. HasRoomFor hdu.now (vec_len space))) spaces.items) }
 {
     let mut spaces = ArrayVec::new();
     for _space in 0..count {
-        spaces.push(Some(open_space(alloc, size)?));
+        spaces.push(Some(open_space(alloc, hdu)?));
     }
     Ok(spaces)
 }
@@ -71,7 +70,7 @@ pub struct StageSpace<'a, I, F> {
 }
 
 impl<'a, I: Inputs, F: Files> StageSpace<'a, I, F> {
-    ghost use Rattle.search_opening.specs.Space.{IsSpaceOf, lanes_in, AreStaged};
+    ghost use Rattle.search_opening.specs.Space.{IsSpaceOf, lanes_in, hands_in, AreStaged};
 
     /// Takes all space: for rings of this shape, of which the header is sealed, for these lanes, which may be none, and
     /// for so many hands.
@@ -84,11 +83,12 @@ impl<'a, I: Inputs, F: Files> StageSpace<'a, I, F> {
     ) -> Result<StageSpace<'a, I, F>, Memory>
         requires ring { IsRing shape }
         requires hands { 1 ≤ hands }
-        ensures { IfOk result (λ space. IsSpaceOf lanes shape header.now space) }
+        ensures space { IfOk result (λ space. IsSpaceOf lanes shape header.now space) }
+        ensures hands { IfOk result (λ space. hands_in space ≡ hands) }
     {
-        let spaces = open_spaces(alloc, lanes.len(), shape.size)?;
-        let hands = open_hands(alloc, hands)?;
         let (hdu, writer, readers) = open_rings(alloc, shape, header)?;
+        let spaces = open_spaces(alloc, &hdu, lanes.len())?;
+        let hands = open_hands(alloc, hands)?;
         Ok(StageSpace {
             hdu,
             writer,

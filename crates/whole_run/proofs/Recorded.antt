@@ -58,7 +58,8 @@ is_recordable told is_open task s offsets feeder observations stage ready record
     record {
       accepted = λ k header there.
           let below = slice_get_within (header_at feeder) k header there in
-          let is = observation_at_place (header_at feeder) observations k ready.observed (omega (arith, below, count)) in
+          let is =
+          observation_at_place (header_at feeder) observations k ready.observed (omega (arith, below, count)) in
           let offset : slice_index_or offsets k 0 ≡ is.0.obs_offset =
           get_or_from_slice_get offsets k is.0.obs_offset 0 (ready.offsets_are.each k is.0 is.1) in (
             ready.fit.read_back records k header there,

@@ -82,7 +82,8 @@ hold_transfers end s observations said other here held =
           ∙ map-map Some (said_at said other) (range_with_len 0 n)
           ∙ sym (map-map (λ u. Some u.observation) t (range_with_len 0 n));
       added = held.added
-          ∙ sym (map-map (λ u. part_books s.search (candidates_of u.observation s.search u.bytes)) t (range_with_len 0 n));
+          ∙ sym (map-map (λ u. part_books s.search (candidates_of u.observation s.search u.bytes)) t
+          (range_with_len 0 n));
       counted = held.counted ∙ sym (map-map spectra_of t (range_with_len 0 n));
     }
 
@@ -99,7 +100,8 @@ transfers_are_counted end s observations said other law range here few fit total
     let count = length-map-range_with_len t 0 n in
     law s.search (transfers_through end said other n) range (omega (arith, few, count))
     (all_over (λ u. plan_refusal u.observation s.search ≡ None) t n (λ j within.
-    if_some_at (λ o. plan_refusal o s.search ≡ None) observations j (said_at said other j) (place_of_said observations said other j here within) fit))
+    if_some_at (λ o. plan_refusal o s.search ≡ None) observations j (said_at said other j)
+    (place_of_said observations said other j here within) fit))
     (subst (λ m. m ≤ 2 ^ 48) (sym (sum_over (λ u. length u.bytes) t (range_with_len 0 n))) total)
 
 -- ---- where the files are told

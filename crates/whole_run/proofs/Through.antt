@@ -108,7 +108,8 @@ records_run law told is_open files_open seen task s offsets feeder observations 
       unrecorded = λ not. absurd (true≢false (sym ready.records ∙ not));
       all = λ not records files are. record {
         made = λ outset begins.
-            let Blocks : Finished → Type 0 = λ b. HasMade outset false (files_of_stream (stream_for s files) s.file_size (sealed_at_end b)) after in
+            let Blocks : Finished → Type 0 = λ b.
+            HasMade outset false (files_of_stream (stream_for s files) s.file_size (sealed_at_end b)) after in
             subst Blocks (sym blocks)
             (subst (λ fs. HasMade outset false fs after) (same files are)
             (subst (λ seen. HasMade outset false (files_through feeder r end) seen) (sym is)

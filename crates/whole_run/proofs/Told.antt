@@ -18,7 +18,8 @@ pub still_told : (old new : Told) (names files : List (List ℕ)) → new.bytes_
     AreTold old names files → AreTold new names files
 still_told old new names files same are = record {
   count = are.count;
-  each = λ k below. ap (λ (under : List ℕ → Option (List ℕ)). under (slice_index_or names k [])) same ∙ are.each k below;
+  each = λ k below.
+      ap (λ (under : List ℕ → Option (List ℕ)). under (slice_index_or names k [])) same ∙ are.each k below;
 }
 
 -- the feeder of a run reads the files of its settings
@@ -28,7 +29,8 @@ FeedsRun feeder s = HasPlan feeder s.names s.starts s.size s.max_bytes
 pub same_stream : {I : Type 0} (feeder : Feeder I) (s : SettingsSeen) (files : List (List ℕ)) → FeedsRun feeder s →
     stream_of (plan_at feeder) files ≡ stream_for s files
 same_stream feeder s files plan =
-    ap (λ (starts : List ℕ). record { files = files; starts = starts; max_bytes = (plan_at feeder).max_bytes }) plan.transfers
+    ap (λ (starts : List ℕ). record { files = files; starts = starts; max_bytes = (plan_at feeder).max_bytes })
+    plan.transfers
     ∙ ap (λ (limit : ℕ). record { files = files; starts = s.starts; max_bytes = limit }) plan.limit
 
 -- what holds of the feeder's files holds of those of the settings

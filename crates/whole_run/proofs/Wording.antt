@@ -10,7 +10,7 @@ use Rattle.disk_feeder.specs.Feeding.{EndIs}
 use Rattle.disk_feeder.specs.Filling.{HoldsAll}
 use Rattle.disk_feeder.specs.Plan.{AreTold}
 use Rattle.run_stop.specs.declared.stop.Stop.{Stop}
-use Rattle.run_stop.specs.Ends.{WordsSayOnce, StopsBefore, SaysBefore, IsFed, IsRecorded}
+use Rattle.run_stop.specs.Ends.{WordsSayOnce, StopsBefore, SaysBefore, IsRunFed, IsRecorded}
 use Rattle.run_stop.specs.Firsts.{LeavesData}
 use Rattle.run_stop.specs.Outcomes.{ReadsNoData, MadeAll, MadeFront, files_of_stream}
 use Rattle.run_stop.specs.Runs.{Task, Says, ForFiles, CanBegin, stream_for, observed_transfers}
@@ -40,9 +40,10 @@ pub reads_no_data : WordsSayOnce → (task : Task) (s : SettingsSeen) (old new :
 reads_no_data once task s old new leaves words says =
     inr (for_files once task words s old (λ t w. LeavesData new w) says leaves)
 
-pub is_fed : WordsSayOnce → (task : Task) (s : SettingsSeen) (old new : Told) (before after : FilesSeen) (found : Found) →
+pub is_fed : WordsSayOnce → (task : Task) (s : SettingsSeen) (old new : Told) (before after : FilesSeen)
+    (found : Found) →
     new.bytes_under ≡ old.bytes_under → GoesThrough task s new before after found →
-    ForWords task s (λ words. IsFed task words old found.blocks found.feed)
+    ForWords task s (λ words. IsRunFed task words old found.blocks found.feed)
 is_fed once task s old new before after found same through words says = record {
   begun = for_files once task words s old (λ t w. CanBegin task t w) says
       (before_reading s old new (λ w. CanBegin task s w) same through.begun);
@@ -54,7 +55,8 @@ pub is_recorded : WordsSayOnce → (task : Task) (s : SettingsSeen) (old new : T
     (found : Found) → new.bytes_under ≡ old.bytes_under → RecordsRun s new before after found →
     ForWords task s (λ words. IsRecorded task words old found.blocks found.recorded before after)
 is_recorded once task s old new before after found same by words says = record {
-  unrecorded = λ t says' not. by.unrecorded (ap (λ (u : SettingsSeen). u.recording) (once task words s t says says') ∙ not);
+  unrecorded = λ t says' not.
+      by.unrecorded (ap (λ (u : SettingsSeen). u.recording) (once task words s t says says') ∙ not);
   all = λ fine. for_files once task words s old (λ t w. t.recording ≡ true →
       MadeAll (files_of_stream w t.file_size (sealed_at_end found.blocks)) before after) says
       (before_reading s old new (λ w. s.recording ≡ true →
@@ -83,5 +85,5 @@ pub hold_still : (old new : Told) (names names' : List (List ℕ)) → new.bytes
     names' ≡ names → HoldsAll old names → HoldsAll new names'
 hold_still old new names names' same are holds =
     let Holds : List (List ℕ) → Type 0 = λ ns. HoldsAll new ns in
-    subst Holds (sym are) (λ k below. subst (λ (under : List ℕ → Option (List ℕ)). IsSome (under (slice_index_or names k [])))
-    (sym same) (holds k below))
+    subst Holds (sym are) (λ k below.
+    subst (λ (under : List ℕ → Option (List ℕ)). IsSome (under (slice_index_or names k []))) (sym same) (holds k below))

@@ -32,14 +32,15 @@ use Rattle.run_stop.specs.Runs.{Task, Searching, RecordingAlone, CanSearchFirst,
 use Rattle.whole_run.specs.declared.spaces.Spaces.{Spaces}
 use Rattle.whole_run.specs.Wholes.{OfRun}
 
--- why a run stops before its session, over its files
+-- A run was given up before its session: the stop is one that comes there, and what it says of the files is so.
 pub record StopsEarly (task : Task) (s : SettingsSeen) (told : Told) (stop : Stop) : Type 0 where
   pub kind : ComesBefore stop
   pub says : OfRun told s (λ w. SaysBefore task s w stop)
 
 -- ---- what is judged
 
--- nothing stands against the search and the recording of all transfers, as far as they are asked for
+-- Searches and recordings were judged: all transfers can be searched and recorded, as far as that is asked for. Each is
+-- said of the headers that were read, for what is opened next, and of a walk's files, for what the exit status says.
 pub record AreFit (task : Task) (s : SettingsSeen) (headers : List HeaderText)
     (observations : List (Option Observation)) : Type 0 where
   pub fits : task ≡ Searching → PlansFit s.search observations
@@ -52,7 +53,7 @@ pub record AreFit (task : Task) (s : SettingsSeen) (headers : List HeaderText)
       AreHeadersOf w headers → w.max_bytes ≡ s.max_bytes →
       CanRecordFirst s.file_size w (length w.starts)
 
--- or a search or a recording is refused, or there is no memory
+-- or one was refused, with its cause over the files of a walk, or there was no memory to judge them
 pub record IsRefused (task : Task) (s : SettingsSeen) (headers : List HeaderText)
     (observations : List (Option Observation)) (stop : Stop) : Type 0 where
   pub kind : ComesBefore stop
@@ -66,6 +67,7 @@ pub record IsRefused (task : Task) (s : SettingsSeen) (headers : List HeaderText
 abbrev pub recorders : SettingsSeen → ℕ
 recorders s = if s.recording then 1 else 0
 
+-- the data ring of a run with so many lanes: each lane is a reader, and so is the recorder
 abbrev pub shape_for : SettingsSeen → ℕ → RingShape
 shape_for s lanes = run_shape s.buffers s.size (lanes + recorders s) s.max_bytes (length s.starts)
 
@@ -94,7 +96,7 @@ pub record IsStageSpace {I F : Type 0} (task : Task) (s : SettingsSeen)
   pub space : IsSpaceOf lanes (shape_for s (length lanes.items)) header stage
   pub total : (shape_for s (length lanes.items)).max_blocks * s.size ≤ most_fed
 
--- that of a session, and that of a recorder, where the run records
+-- all space of a run: that of its session, and that of its recorder, where the run records
 pub record AreSpaces {I F : Type 0} (task : Task) (s : SettingsSeen)
     (observations : List (Option Observation)) (header : HeaderText) (offsets : List ℕ)
     (spaces : Spaces I F) : Type 0 where
@@ -124,7 +126,7 @@ pub record IsReady {I F : Type 0} (told : I → Told) (is_open : I → Type 0) (
   pub firsts : OfRun (told feeder.inputs.now) s (λ w. AreFirsts w observations)
   pub headers : OfRun (told feeder.inputs.now) s (λ w. AreHeadersOf w (header_at feeder))
 
--- and that of its recorder
+-- All is opened: a run is ready, and the space of its recorder is there, where it records.
 pub record IsOpened {I F : Type 0} (told : I → Told) (is_open : I → Type 0) (task : Task)
     (s : SettingsSeen) (feeder : Feeder I) (observations : List (Option Observation))
     (spaces : Spaces I F) : Type 0 where
@@ -132,7 +134,7 @@ pub record IsOpened {I F : Type 0} (told : I → Told) (is_open : I → Type 0) 
   pub ready : IsReady told is_open task s offsets feeder observations spaces.stage
   pub recorder_is : HasRecorderSpace s.recording (plan_for s offsets) s.size spaces.recorder
 
--- a session with a fresh recorder is ready; or one without, which searches
+-- A run that records is ready, and a fresh recorder stands over the files, of which none is open.
 pub record RecordsReady {I F : Type 0} (told : I → Told) (is_open : I → Type 0)
     (files_open : F → Type 0) (task : Task) (s : SettingsSeen) (offsets : List ℕ)
     (feeder : Feeder I) (observations : List (Option Observation)) (stage : StageSpace I F)
@@ -142,6 +144,7 @@ pub record RecordsReady {I F : Type 0} (told : I → Told) (is_open : I → Type
   pub fresh : recorder.IsFreshFor r (plan_for s offsets) s.size
   pub closed : ¬ files_open r.files.now
 
+-- A run that searches alone is ready: it has no recorder, and the files are lent to nobody.
 pub record SearchesReady {I F : Type 0} (told : I → Told) (is_open : I → Type 0) (task : Task)
     (s : SettingsSeen) (offsets : List ℕ) (feeder : Feeder I)
     (observations : List (Option Observation)) (stage : StageSpace I F) : Type 0 where

@@ -4,7 +4,7 @@ ghost use Rattle.search_words.specs.Settings.{AllInRange, settings_seen};
 ghost use Rattle.disk_feeder.specs.declared.answers.FeedEnd.TheVariants.{Whole};
 ghost use Rattle.disk_feeder.specs.Filling.{HoldsAll};
 ghost use Rattle.search_opening.specs.Inputs.{HasReadFrom};
-ghost use Rattle.run_stop.specs.Ends.{StopsBefore, IsFed, IsRecorded};
+ghost use Rattle.run_stop.specs.Ends.{StopsBefore, IsRunFed, IsRecorded};
 ghost use Rattle.run_stop.specs.Outcomes.{ReadsNoData};
 ghost use Rattle.run_stop.specs.Runs.{Searching};
 ghost use Rattle.whole_run.specs.Wholes.{task_of, ForWords, FailsReading, ClearsAll, HoldsFound};
@@ -55,7 +55,7 @@ fn within<'a, I: Inputs + Send, F: Files + Send, G: Gate + Sync, R: Threads + Wa
         (task_of searches) words (I.told inputs.old) (I.told result.inputs.now)) }
     ensures fed { IfOk result.done (λ found. ForWords (task_of searches)
         (settings_seen settings.now) (λ words.
-        IsFed (task_of searches) words (I.told inputs.old) found.blocks found.feed)) }
+        IsRunFed (task_of searches) words (I.told inputs.old) found.blocks found.feed)) }
     ensures recorded { IfOk result.done (λ found. ForWords (task_of searches)
         (settings_seen settings.now) (λ words. IsRecorded (task_of searches) words
         (I.told inputs.old) found.blocks found.recorded (F.seen files.old)
@@ -132,7 +132,7 @@ pub fn drive<I: Inputs + Send, F: Files + Send, G: Gate + Sync, R: Threads + Wai
         → ForWords (task_of searches) (settings_seen settings.now) (λ words.
         ReadsNoData (task_of searches) words (I.told inputs.old) (I.told inputs.new)) }
     ensures fed { IfOk result (λ found. ForWords (task_of searches) (settings_seen settings.now)
-        (λ words. IsFed (task_of searches) words (I.told inputs.old) found.blocks found.feed)) }
+        (λ words. IsRunFed (task_of searches) words (I.told inputs.old) found.blocks found.feed)) }
     ensures recorded { IfOk result (λ found. ForWords (task_of searches)
         (settings_seen settings.now) (λ words. IsRecorded (task_of searches) words
         (I.told inputs.old) found.blocks found.recorded (F.seen files.old) (F.seen files.new))) }

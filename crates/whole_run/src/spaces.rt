@@ -5,6 +5,7 @@ ghost use Rattle.dada_model.specs.Observation.{Observation as Observed};
 ghost use Rattle.search_words.specs.Settings.{AllInRange, settings_seen};
 ghost use Rattle.dada_recorder.specs.Blocks.{PlanInRange};
 ghost use Rattle.search_opening.specs.Plans.{PlansFit};
+ghost use Rattle.search_opening.specs.Space.{hands_in};
 ghost use Rattle.run_stop.specs.Runs.{Task};
 ghost use Rattle.whole_run.specs.Wholes.{task_of};
 ghost use Rattle.whole_run.specs.Openings.{AreLanesOf, IsStageSpace, HasRecorderSpace, recorders, plan_for, shape_for};
@@ -85,9 +86,10 @@ fn take_stage<'a, I: Inputs, F: Files>(
     requires range { AllInRange (settings_seen settings.now) }
     requires few { length lanes.items ≤ 7 }
     requires some { 1 ≤ length lanes.items + recorders (settings_seen settings.now) }
-    ensures { (task : Task) (observations : List (Option Observed))
+    ensures space { (task : Task) (observations : List (Option Observed))
         → AreLanesOf task (settings_seen settings.now) observations lanes.items
         → IfOk result (IsStageSpace task (settings_seen settings.now) observations header.now) }
+    ensures hands { IfOk result (λ stage. hands_in stage ≡ settings.now.hands) }
 {
     let shape = run_shape(
         settings.buffers,

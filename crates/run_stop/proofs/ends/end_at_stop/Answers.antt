@@ -1,5 +1,5 @@
-use Rattle.run_stop.proofs.After.{at_stop}
+use Rattle.run_stop.proofs.Endings.{at_stop}
 use Rattle.run_stop.proofs.ends.end_at_stop.Goals as goal
 
 pub returns : goal.returns
-returns c = at_stop
+returns g c inputs = at_stop (g.I.Inputs.is_calm inputs)

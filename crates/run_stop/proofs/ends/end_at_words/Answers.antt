@@ -1,5 +1,5 @@
-use Rattle.run_stop.proofs.Before.{ends_at_words}
+use Rattle.run_stop.proofs.Endings.{at_words}
 use Rattle.run_stop.proofs.ends.end_at_words.Goals as goal
 
 pub returns : goal.returns
-returns c = ends_at_words
+returns g c inputs = at_words (g.I.Inputs.is_calm inputs)

@@ -1,5 +1,5 @@
-use Rattle.run_stop.proofs.Before.{ends_before}
+use Rattle.run_stop.proofs.Endings.{before_session}
 use Rattle.run_stop.proofs.ends.end_before_session.Goals as goal
 
 pub returns : goal.returns
-returns c = ends_before
+returns g c inputs = before_session (g.I.Inputs.is_calm inputs)

@@ -36,7 +36,8 @@ returns-in-Ok-take-clause-opened g c =
     let headers = header_at c.args.feeder.now in
     let Fit : List (Option Observation) → Type 0 = λ os. AreFit task s headers os in
     let Offsets : List (Option Observation) → Type 0 = λ os. AreOffsetsOf os c.first_offsets.result.items in
-    is_opened g.I.Inputs.told g.I.Inputs.is_open task s c.args.feeder.now c.accept_all.new.feeder c.args.observations.items
+    is_opened g.I.Inputs.told g.I.Inputs.is_open task s c.args.feeder.now c.accept_all.new.feeder
+    c.args.observations.items
     c.as_slice-3.result.now c.first_offsets.result.items c.as_slice-4.result.now c.header.result.now c.in-Ok-take.spaces
     (record {
       plan = c.requires.plan;

@@ -13,7 +13,8 @@ with_recorder-requires-clause-ready g c = λ κs lives.
       at.2.offsets,
       records_ready g.I.Inputs.told g.I.Inputs.is_open g.F.Files.is_open at.0 at.1 c.args.feeder
           c.args.opened.observations.items c.args.opened.spaces c.in-Some.space c.over-recorder.result at.2 c.in-Some.is
-          c.over-recorder.ensures.fresh (λ is_open. c.requires.closed (subst IsOpen c.over-recorder.ensures.files is_open)),
+          c.over-recorder.ensures.fresh
+          (λ is_open. c.requires.closed (subst IsOpen c.over-recorder.ensures.files is_open)),
     )
 
 pub returns-in-Some-clause-went : goal.returns-in-Some-clause-went

@@ -10,8 +10,8 @@ use Rattle.whole_run.specs.Openings.{IsStageSpace, recorders, shape_for}
 use Rattle.whole_run.proofs.Results.{if_ok}
 use Rattle.whole_run.proofs.spaces.take_stage.Goals as goal
 
-pub returns : goal.returns
-returns g c = λ task observations are.
+pub returns-clause-space : goal.returns-clause-space
+returns-clause-space g c = λ task observations are.
     let s = settings_seen c.args.settings.now in
     let lanes = c.args.lanes in
     let made = c.run_shape-shape in
@@ -19,7 +19,8 @@ returns g c = λ task observations are.
     let count = c.recorder_count.ensures in
     let len : vec_len c.args.settings.now.starts ≡ length c.args.settings.now.starts.items = search rules in
     let starts = c.len-2.ensures ∙ len in
-    let readers : c.len.result + c.recorder_count.result ≡ length lanes.items + recorders s = omega (arith, lanes_len, count) in
+    let readers : c.len.result + c.recorder_count.result ≡ length lanes.items + recorders s =
+    omega (arith, lanes_len, count) in
     let shape : made.result ≡ shape_for s (length lanes.items) =
     made.ensures.shape
     ∙ ap (λ (n : ℕ). run_shape s.buffers s.size n s.max_bytes c.len-2.result) readers
@@ -34,7 +35,7 @@ returns g c = λ task observations are.
       space = subst (λ r. IsSpaceOf lanes r c.args.header.now space) shape is;
       total = times_turned s.size (shape_for s (length lanes.items)).max_blocks most_fed total;
     })
-    c.take.ensures
+    c.take.ensures.space
   where
     times_turned : (a b n : ℕ) → a * b ≤ n → b * a ≤ n
     times_turned a b n is = subst (λ m. m ≤ n) (mul_comm a b) is

@@ -1,5 +1,4 @@
-use Rattle.std.proofs.Common.{◌≡◌, ℕ, ◌+◌, ◌*◌, ◌/◌, ◌<◌, ◌≤◌, length, take, get_or, sym, ap, subst, ◌∙◌}
-use Rattle.std.specs.Prelude.{vec_len}
+use Rattle.std.proofs.Common.{◌≡◌, ℕ, ◌+◌, ◌*◌, ◌/◌, ◌<◌, ◌≤◌, length, take, sym, ap, subst, ◌∙◌}
 use Rattle.ring_words.specs.declared.shape.RingShape.{RingShape}
 use Rattle.dada_hdu.specs.Passes.{data_shape}
 use Rattle.search_engine.specs.Engine.{most_fed}
@@ -8,9 +7,8 @@ use Rattle.disk_feeder.specs.Turns.{sealed_blocks}
 use Rattle.disk_feeder.specs.Feeding.{header_entries}
 use Rattle.search_session.specs.declared.lane.Lane.{Lane}
 use Rattle.search_session.specs.Books.{HasLane}
-use Rattle.search_session.specs.Stages.{IsUnfed, HasRoomFor, recorder_count}
-use Rattle.search_opening.specs.Space.{HasRoom}
-use Rattle.search_opening.proofs.Staging.{first_entry, is_unread, has_room_for, some_weaker}
+use Rattle.search_session.specs.Stages.{IsUnfed, recorder_count}
+use Rattle.search_opening.proofs.Staging.{first_entry, is_unread}
 use Rattle.search_opening.proofs.space.StageSpace.stage.Goals as goal
 
 pub returns-clause-on : goal.returns-clause-on
@@ -45,10 +43,7 @@ returns-clause-on g c =
           (lane : Lane) × HasLane lanes.items s lane × IsUnfed (length (plan_at feeder).starts) lane)
           (sym is.lanes_are) c.requires.engines;
       spaces_count = is.spaces_count ∙ ap (λ lanes. length lanes.items) (sym is.lanes_are);
-      spaces = λ k d within. some_weaker (λ space. HasRoom c.requires.shape.size (vec_len space))
-          (λ space. HasRoomFor c.args.self.hdu (vec_len space))
-          (λ space room. has_room_for c.args.self.hdu c.requires.shape (vec_len space) shape room)
-          (get_or c.args.self.spaces.items k d) (is.spaces k d within);
+      spaces = is.spaces;
       recorder = c.requires.recorder_is;
       few = subst (λ (s : RingShape). s.max_blocks * s.size ≤ most_fed) (sym shape) c.requires.few;
       some_hand = is.some_hand;

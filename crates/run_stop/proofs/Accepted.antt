@@ -1,0 +1,144 @@
+-- Where nothing stands against a run, it does not end at its words, its inputs or its files.
+use Rattle.std.proofs.Common.{◌≡◌, ◌≢◌, ◌⊎◌, ℕ, zero, suc, List, [], ◌∷◌, refl, inl, inr, sym, ap, subst, Some, None, Ok, Contains, arith}
+use Rattle.std.specs.Prelude.{Option, IsSome}
+use Rattle.psr_base.specs.Count.{Rose}
+use Rattle.psr_base.specs.Told.{Told, InputsSeen}
+use Rattle.dada_header.specs.declared.faults.HeaderFault.{HeaderFault}
+use Rattle.dada_header.specs.declared.faults.HeaderFault.TheVariants as header
+use Rattle.dada_header.specs.Faults.{IsHeaderRefusal}
+use Rattle.dada_model.specs.Fields.{HeaderText, Field, header_of, fields_of}
+use Rattle.dada_model.specs.Observation.{Observation, observation_of}
+use Rattle.obs_plan.specs.declared.fault.ObsFault.{ObsFault}
+use Rattle.obs_plan.specs.declared.fault.ObsFault.TheVariants as obs
+use Rattle.obs_plan.specs.Faults.{IsRefusedFirst}
+use Rattle.ring_ends.specs.declared.finished.Finished.{Finished}
+use Rattle.search_model.specs.Plan.{PlanRefusal}
+use Rattle.search_words.specs.Settings.{SettingsSeen}
+use Rattle.stream_model.specs.Walk as walk
+use Rattle.stream_model.specs.Walk.{FileStream, WalkStop, walk_stop}
+use Rattle.stream_model.specs.Recorded.{RecordRefusal}
+use Rattle.disk_feeder.specs.Plan.{AreTold}
+use Rattle.disk_feeder.specs.Filling.{HoldsAll}
+use Rattle.disk_feeder.specs.declared.answers.HeaderCause.{HeaderCause}
+use Rattle.disk_feeder.specs.declared.answers.HeaderCause.TheVariants.{Text, Fields}
+use Rattle.run_stop.specs.declared.causes.PlanCause.{PlanCause}
+use Rattle.run_stop.specs.declared.causes.PlanCause.TheVariants.{SumBound, FoldTooLarge, TooManyFolds, TooManyShards}
+use Rattle.run_stop.specs.declared.causes.RecordingCause.{RecordingCause}
+use Rattle.run_stop.specs.declared.causes.RecordingCause.TheVariants.{NoUtc, BadUtc, Overfull, TooManyFiles}
+use Rattle.run_stop.specs.declared.stop.Stop.{Stop}
+use Rattle.run_stop.specs.Runs.{Task, Searching, Says, CanBegin, stream_for, stop_of_walk, RefusesFirstHeader, RefusesSearch, RefusesToRecord, StopsWalk, IsPlanCause, IsRecordingCause}
+use Rattle.run_stop.specs.Outcomes.{JudgesWords, ReadsInputs, StopsAtFiles}
+use Rattle.run_stop.specs.Ends.{AcceptedGoesOn}
+
+-- ---- refusals
+
+-- bytes that have a header are not refused
+has_header : (file : List ℕ) (h : HeaderText) (fault : HeaderFault) → header_of file ≡ Ok h →
+    IsHeaderRefusal file fault → ⊥
+has_header file h (header.Short had) ok refused = cc
+has_header file h (header.NotText place) ok refused = cc
+has_header file h header.BadSize ok refused = cc
+has_header file h header.Memory ok refused = refused
+
+-- nor fields that have an observation
+has_observation : (fields : List Field) (o : Observation) (fault : ObsFault) → observation_of fields ≡ Ok o →
+    IsRefusedFirst fields fault → ⊥
+has_observation fields o (obs.Missing key) ok refused = cc
+has_observation fields o (obs.BadNumber key) ok refused = cc
+has_observation fields o (obs.OutOfProfile key) ok refused = cc
+has_observation fields o (obs.OutOfRange key) ok refused = cc
+has_observation fields o (obs.TooNarrow bw nchan) ok refused = cc
+has_observation fields o (obs.Differs key) ok refused = refused
+has_observation fields o obs.Memory ok refused = refused
+
+one_header : (a b : HeaderText) (file : List ℕ) → header_of file ≡ Ok a → header_of file ≡ Ok b → a ≡ b
+one_header a b file x y = cc
+
+-- a search that is not refused has no cause
+no_plan_cause : (first : Option PlanRefusal) (cause : PlanCause) → first ≡ None → IsPlanCause first cause → ⊥
+no_plan_cause first (SumBound max_sample cells factor) none is = cc
+no_plan_cause first (FoldTooLarge longest halvings) none is = cc
+no_plan_cause first (TooManyFolds count) none is = cc
+no_plan_cause first (TooManyShards shards delays) none is = cc
+
+-- nor has a recording
+no_recording_cause : (first : Option RecordRefusal) (cause : RecordingCause) → first ≡ None →
+    IsRecordingCause first cause → ⊥
+no_recording_cause first NoUtc none is = cc
+no_recording_cause first BadUtc none is = cc
+no_recording_cause first (Overfull need size) none (len, is, told) = cc
+no_recording_cause first TooManyFiles none is = cc
+
+-- a whole walk stops nowhere
+no_stop : (limit : ℕ) (at : WalkStop) (stop : Stop) → at ≡ walk.Whole → stop_of_walk limit at ≡ Some stop → ⊥
+no_stop limit at stop whole stops = let none : stop_of_walk limit at ≡ None = ap (stop_of_walk limit) whole in cc
+
+holds_all : (told : Told) (names files : List (List ℕ)) → AreTold told names files → HoldsAll told names
+holds_all told names files are k below = subst IsSome (sym (are.each k below)) refl
+
+-- ---- the run
+
+module _ (task : Task) (s : SettingsSeen) (w : FileStream) (begins : CanBegin task s w) where
+  first_accepted : (file : ℕ) (cause : HeaderCause) → RefusesFirstHeader w file cause → ⊥
+  first_accepted file (Text fault) r =
+      let a = begins.accepted.accepted r.transfer r.there in
+      has_header _ a.header fault a.is_header r.cause
+  first_accepted file (Fields fault) r =
+      let a = begins.accepted.accepted r.transfer r.there in
+      let same = one_header a.header r.header _ a.is_header r.has in
+      has_observation (fields_of r.header.text) a.observation fault
+      (subst (λ (h : HeaderText). observation_of (fields_of h.text) ≡ Ok a.observation) same a.is_observation) r.cause
+
+  searches : (cause : PlanCause) → task ≡ Searching → RefusesSearch s.search w cause → ⊥
+  searches cause is r = no_plan_cause _ cause (begins.searched is r.transfer r.there) r.refused
+
+  records : (cause : RecordingCause) → RefusesToRecord task s w cause → ⊥
+  records cause r = no_recording_cause _ cause (begins.recorded r.records r.transfer r.there) r.refused
+
+  walks : walk_stop w ≡ walk.Whole → (stop : Stop) → StopsWalk task s w stop → ⊥
+  walks whole stop r = no_stop w.max_bytes (walk_stop w) stop whole r.stops
+
+module _ (task : Task) (words : List (List ℕ)) (inputs : InputsSeen) (is_calm : Type 0) (blocks : Option Finished)
+    (n : ℕ) (judged : JudgesWords task words n) (read : ReadsInputs task words inputs is_calm n)
+    (stopped : StopsAtFiles task words inputs.told blocks n) (s : SettingsSeen) (files : List (List ℕ))
+    (says : Says task words s) (are : AreTold inputs.told s.names files)
+    (begins : CanBegin task s (stream_for s files)) (whole : walk_stop (stream_for s files) ≡ walk.Whole)
+    (calm : is_calm ⊎ (¬ Rose inputs.faults_before inputs.faults_after)) where
+  abbrev w : FileStream
+  w = stream_for s files
+
+  not_three : (at : Option Finished) → blocks ≡ at → n ≢ 3
+  not_three None is e =
+      let r = stopped.first_header e is s files says are in
+      first_accepted task s w begins r.0 r.1 r.2
+  not_three (Some b) is e =
+      let r = stopped.later_header e (subst IsSome (sym is) refl) s files says are in
+      walks task s w begins whole _ r.2
+
+  not_four_by : ((cause : PlanCause) × (task ≡ Searching) × RefusesSearch s.search w cause)
+      ⊎ ((cause : RecordingCause) × RefusesToRecord task s w cause) → ⊥
+  not_four_by (inl r) = searches task s w begins r.0 r.1 r.2
+  not_four_by (inr r) = records task s w begins r.0 r.1
+
+  not_six_by : is_calm ⊎ (¬ Rose inputs.faults_before inputs.faults_after) → n ≢ 6
+  not_six_by (inl is) e = read.serves is s says (holds_all inputs.told s.names files are) e
+  not_six_by (inr still) e = still (read.failed e)
+
+  not_seven : n ≢ 7
+  not_seven e =
+      let r = stopped.gap e s files says are in
+      walks task s w begins whole _ r.3
+
+  pub at_none : ¬ Contains (2 ∷ 3 ∷ 4 ∷ 6 ∷ 7 ∷ 8 ∷ []) n
+  at_none (zero, below, is) = judged.refused (sym is) s says
+  at_none (suc zero, below, is) = not_three blocks refl (sym is)
+  at_none (suc (suc zero), below, is) = not_four_by (stopped.plan (sym is) s files says are)
+  at_none (suc (suc (suc zero)), below, is) = not_six_by calm (sym is)
+  at_none (suc (suc (suc (suc zero))), below, is) = not_seven (sym is)
+  at_none (suc (suc (suc (suc (suc zero)))), below, is) =
+      walks task s w begins whole _ (stopped.too_long (sym is) s files says are)
+  at_none (suc (suc (suc (suc (suc (suc k))))), below, is) = omega (arith, below)
+
+pub goes_on : (is_calm : Type 0) → AcceptedGoesOn is_calm
+goes_on is_calm task words inputs blocks n judged read stopped s files says are begins whole calm =
+    at_none task words inputs is_calm blocks n judged read stopped s files says are begins whole calm
