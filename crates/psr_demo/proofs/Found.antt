@@ -42,7 +42,7 @@ use Rattle.run_stop.specs.declared.causes.RecordingCause.{RecordingCause}
 use Rattle.run_stop.specs.declared.stop.Stop.{Stop}
 use Rattle.run_stop.specs.declared.stop.Stop.TheVariants as stop
 use Rattle.run_stop.specs.Texts.{status_of, note_of}
-use Rattle.run_stop.specs.Runs.{Searching, observed_transfers, first_observation, CanBegin, RefusesFirst, RefusesSearch, RefusesToRecord, StopsWalk, IsPlanCause, IsStopOf, stop_of_walk}
+use Rattle.run_stop.specs.Runs.{Searching, observed_transfers, first_observation, CanBegin, RefusesFirstHeader, RefusesSearch, RefusesToRecord, StopsWalk, IsPlanCause, IsStopOf, stop_of_walk}
 use Rattle.psr_search.specs.Outcome.{Outcome}
 use Rattle.psr_make.specs.Made.{made_observation, made_data, made_file}
 use Rattle.psr_demo.specs.Demo.{demo_spec, demo_search, demo_candidates, demo_text, EndsAt, TellsEnd, text_at, IsFound}
@@ -222,7 +222,7 @@ module _ (by_front : HeadersByFront) (continues : FirstFilesContinue) (exactly :
     recorded = λ records. absurd cc;
   }
 
-  first_accepted : (k : ℕ) (cause : HeaderCause) → RefusesFirst stream k cause → ⊥
+  first_accepted : (k : ℕ) (cause : HeaderCause) → RefusesFirstHeader stream k cause → ⊥
   first_accepted k (Text fault) r =
       let a = accepted r.transfer r.there in has_header _ a.header fault a.is_header r.cause
   first_accepted k (Fields fault) r =
