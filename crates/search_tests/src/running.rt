@@ -1,6 +1,4 @@
 // Runs over objects in memory, and what they leave.
-ghost use Rattle.std.specs.Prelude.{◌≡◌};
-
 use psr_base::{MemFiles, MemInputs, MemSink};
 use psr_record::run_record;
 use psr_search::run;
