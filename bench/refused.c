@@ -1,23 +1,20 @@
-/* Loaded before a program (LD_PRELOAD): refuses its allocation number REFUSED, counted from 1, and leaves the count of
-   all that it asked for in the file REFUSED_COUNT. Allocations by calloc, which the C library alone makes, pass. */
+/* Loaded before a program (LD_PRELOAD): refuses its allocation number REFUSED, counted from 1, and then makes the file
+   REFUSED_MARK. Allocations by calloc, which the C library alone makes, pass. */
 #define _GNU_SOURCE
 #include <dlfcn.h>
 #include <errno.h>
+#include <fcntl.h>
 #include <stdatomic.h>
-#include <stdio.h>
 #include <stdlib.h>
+#include <unistd.h>
 
 static atomic_long asked;
-static long refused;
-
-__attribute__((constructor)) static void begin(void) {
-    const char *text = getenv("REFUSED");
-    refused = text ? atol(text) : 0;
-    atomic_store(&asked, 0);
-}
 
 static int refuses(void) {
-    if (atomic_fetch_add(&asked, 1) + 1 != refused) return 0;
+    const char *number = getenv("REFUSED"), *mark = getenv("REFUSED_MARK");
+    if (atomic_fetch_add(&asked, 1) + 1 != (number ? atol(number) : 0)) return 0;
+    int file = mark ? open(mark, O_CREAT | O_WRONLY, 0600) : -1;
+    if (file >= 0) close(file);
     errno = ENOMEM;
     return 1;
 }
@@ -32,15 +29,4 @@ void *realloc(void *old, size_t size) {
     static void *(*real)(void *, size_t);
     if (!real) real = (void *(*)(void *, size_t))dlsym(RTLD_NEXT, "realloc");
     return refuses() ? NULL : real(old, size);
-}
-
-__attribute__((destructor)) static void end(void) {
-    long count = atomic_load(&asked);
-    const char *path = getenv("REFUSED_COUNT");
-    refused = 0;
-    FILE *file = path ? fopen(path, "w") : NULL;
-    if (file) {
-        fprintf(file, "%ld\n", count);
-        fclose(file);
-    }
 }
