@@ -79,17 +79,19 @@ fn data_of(alloc: Global, files: &MemFiles) -> Result<Vec<u8>, Fail> {
     Ok(data)
 }
 
-/// Drives a session of these words to its end, over a file of that name.
+/// Drives a session of these words to its end, over a file of that name. Of the calls that make the recorder's files,
+/// those whose number is in `fail` fail.
 pub(crate) fn run<G: Gate + Sync, R: Threads + Wait + Sync>(
     rt: &R,
     alloc: Global,
     line: &str,
+    fail: &[u64],
     gate: &G,
 ) -> Result<Ended, Fail> {
     let settings = settings_of(alloc, line)?;
     let mut inputs = MemInputs::open(alloc, &[])?;
     inputs.put("file", file_of(alloc)?.as_slice())?;
-    let mut files = MemFiles::open(alloc, 4, 20_000, &[])?;
+    let mut files = MemFiles::open(alloc, 4, 20_000, fail)?;
     match drive(rt, alloc, true, &settings, &mut inputs, &mut files, gate) {
         Ok(found) => Ok(Ended {
             feed: found.feed,
