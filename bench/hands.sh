@@ -22,7 +22,7 @@ once() { # once PROGRAM SHARDS HANDS: the wall time of one run
     { TIMEFORMAT='%R'; time "$1" "${words[@]}" --shards "$2" --hands "$3" "$file" >"$folder/text"; } 2>&1
 }
 for _ in 1 2 3 4 5 6 7 8 9; do
-    for row in '1 1' '1 2' '2 2' '4 2' '4 4' '7 4'; do
+    for row in '1 1' '1 2' '2 2' '3 4' '4 2' '4 4' '7 4'; do
         set -- $row
         printf '%s shards %s hands: %s s\n' "$1" "$2" "$(once psr_search_main/out/psr_search_main "$1" "$2")"
         [ -n "${OTHER:-}" ] && printf '%s shards %s hands, the other: %s s\n' "$1" "$2" "$(once "$OTHER" "$1" "$2")"
