@@ -1,6 +1,6 @@
 -- How the search of the observation of a number ends.
-use Rattle.std.proofs.Common.{◌≡◌, ◌≢◌, ◌⊎◌, ℕ, zero, suc, ◌+◌, ◌<◌, ◌≤◌, List, [], ◌∷◌, length, inl, inr, Ok, Some, None, Contains, false, refl, sym, ap, ap₂, subst, ◌∙◌, arith, lit<, slice_index_or}
-use Rattle.std.specs.Prelude.{Option, IsSome, codes}
+use Rattle.std.proofs.Common.{◌≡◌, ◌≢◌, ℕ, zero, suc, ◌+◌, ◌<◌, ◌≤◌, List, [], ◌∷◌, length, inl, Some, None, Contains, false, refl, sym, ap, ap₂, subst, ◌∙◌, arith, lit<, slice_index_or}
+use Rattle.std.specs.Prelude.{Option, codes}
 use Rattle.std.specs.Io.KnownBytes.{append_known}
 use Rattle.std.proofs.lemmas.List.{append-nil}
 use Rattle.clap.proofs.OnLiterals.{clap_on_literals}
@@ -10,39 +10,26 @@ use Rattle.psr_base.specs.declared.mem_sink.MemSink.{MemSink}
 use Rattle.psr_base.specs.Told.{InputsSeen}
 use Rattle.psr_base.specs.Made.{FilesSeen}
 use Rattle.psr_base.specs.Written.{SinkSeen, Noted}
-use Rattle.dada_header.specs.declared.faults.HeaderFault.{HeaderFault}
-use Rattle.dada_header.specs.declared.faults.HeaderFault.TheVariants as header
-use Rattle.dada_header.specs.Faults.{IsHeaderRefusal}
 use Rattle.dada_model.specs.Number.{number_value}
 use Rattle.dada_model.specs.ChangeLaws.{HeadersByFront}
 use Rattle.dada_model.specs.Laws.{EdgesFall}
-use Rattle.dada_model.specs.Fields.{HeaderText, Field, header_of, fields_of}
-use Rattle.dada_model.specs.Observation.{Observation, observation_of}
-use Rattle.obs_plan.specs.declared.fault.ObsFault.{ObsFault}
-use Rattle.obs_plan.specs.declared.fault.ObsFault.TheVariants as obs
-use Rattle.obs_plan.specs.Faults.{IsRefusedFirst}
+use Rattle.dada_model.specs.Observation.{Observation}
 use Rattle.search_model.specs.CandidateLaws.{CandidatesAreListed}
-use Rattle.search_model.specs.Plan.{PlanRefusal, plan_refusal}
+use Rattle.search_model.specs.Plan.{plan_refusal}
 use Rattle.search_model.specs.SampleLaws.{SamplesOfBytes}
 use Rattle.search_model.specs.SubbandLaws.{SumsAreBounded}
 use Rattle.search_words.specs.Settings.{SettingsSeen, SaySearch}
 use Rattle.stream_model.specs.Walk as walk
-use Rattle.stream_model.specs.Walk.{FileStream, WalkStop, walk_stop, header_stop, data_between, data_of, file_at, begin_of, observation_at, transfer_data}
+use Rattle.stream_model.specs.Walk.{FileStream, walk_stop, header_stop, data_between, data_of, file_at, begin_of}
 use Rattle.stream_model.specs.WalkLaws.{AreWalked, IsAccepted, FirstFilesContinue, WholeExactly}
 use Rattle.transfer_text.specs.Searched.{candidate_total, searched_text}
 use Rattle.disk_feeder.specs.Plan.{AreTold}
-use Rattle.disk_feeder.specs.Filling.{HoldsAll}
-use Rattle.disk_feeder.specs.declared.answers.HeaderCause.{HeaderCause}
-use Rattle.disk_feeder.specs.declared.answers.HeaderCause.TheVariants.{Text, Fields}
-use Rattle.ring_ends.specs.declared.finished.Finished.{Finished}
 use Rattle.search_session.specs.declared.ended.Ran.{Ran}
-use Rattle.run_stop.specs.declared.causes.PlanCause.{PlanCause}
-use Rattle.run_stop.specs.declared.causes.PlanCause.TheVariants.{SumBound, FoldTooLarge, TooManyFolds, TooManyShards}
-use Rattle.run_stop.specs.declared.causes.RecordingCause.{RecordingCause}
 use Rattle.run_stop.specs.declared.stop.Stop.{Stop}
 use Rattle.run_stop.specs.declared.stop.Stop.TheVariants as stop
 use Rattle.run_stop.specs.Texts.{status_of, note_of}
-use Rattle.run_stop.specs.Runs.{Searching, observed_transfers, first_observation, CanBegin, RefusesFirstHeader, RefusesSearch, RefusesToRecord, StopsWalk, IsPlanCause, IsStopOf, stop_of_walk}
+use Rattle.run_stop.specs.Runs.{Searching, observed_transfers, first_observation, CanBegin, IsStopOf}
+use Rattle.run_stop.specs.Ends.{AcceptedGoesOn}
 use Rattle.psr_search.specs.Outcome.{Outcome}
 use Rattle.psr_make.specs.Made.{made_observation, made_data, made_file}
 use Rattle.psr_demo.specs.Demo.{demo_spec, demo_search, demo_candidates, demo_text, EndsAt, TellsEnd, text_at, IsFound}
@@ -71,79 +58,10 @@ says : SaySearch search_line settings
 unfolding number_value clap_on_literals
 says = record { taken = refl; in_range = refl; values = refl }
 
--- ---- refusals
-
--- bytes that have a header are not refused
-has_header : (file : List ℕ) (h : HeaderText) (fault : HeaderFault) → header_of file ≡ Ok h →
-    IsHeaderRefusal file fault → ⊥
-has_header file h (header.Short had) ok refused = cc
-has_header file h (header.NotText place) ok refused = cc
-has_header file h header.BadSize ok refused = cc
-has_header file h header.Memory ok refused = refused
-
--- nor fields that have an observation
-has_observation : (fields : List Field) (o : Observation) (fault : ObsFault) →
-    observation_of fields ≡ Ok o → IsRefusedFirst fields fault → ⊥
-has_observation fields o (obs.Missing key) ok refused = cc
-has_observation fields o (obs.BadNumber key) ok refused = cc
-has_observation fields o (obs.OutOfProfile key) ok refused = cc
-has_observation fields o (obs.OutOfRange key) ok refused = cc
-has_observation fields o (obs.TooNarrow bw nchan) ok refused = cc
-has_observation fields o (obs.Differs key) ok refused = refused
-has_observation fields o obs.Memory ok refused = refused
-
-one_header : (a b : HeaderText) (file : List ℕ) → header_of file ≡ Ok a → header_of file ≡ Ok b → a ≡ b
-one_header a b file x y = cc
-
--- a plan that is not refused has no cause
-no_plan_cause : (first : Option PlanRefusal) (cause : PlanCause) → first ≡ None →
-    IsPlanCause first cause → ⊥
-no_plan_cause first (SumBound max_sample cells factor) none is = cc
-no_plan_cause first (FoldTooLarge longest halvings) none is = cc
-no_plan_cause first (TooManyFolds count) none is = cc
-no_plan_cause first (TooManyShards shards delays) none is = cc
-
--- a whole walk stops nowhere
-no_stop : (limit : ℕ) (at : WalkStop) (stop : Stop) → at ≡ walk.Whole →
-    stop_of_walk limit at ≡ Some stop → ⊥
-no_stop limit at stop whole stops =
-    let none : stop_of_walk limit at ≡ None = ap (stop_of_walk limit) whole in cc
-
 -- ---- what is written
 
 one_body : {xs ys : List ℕ} → Some xs ≡ Some ys → xs ≡ ys
 one_body e = cc
-
--- the line at 5, and that at 9
-memory_line : (at : Stop) → status_of at ≡ 5 → note_of at ≡ note_of stop.Memory
-memory_line stop.Words e = absurd (omega (arith, e))
-memory_line (stop.Value opt) e = absurd (omega (arith, e))
-memory_line (stop.Header file cause) e = absurd (omega (arith, e))
-memory_line (stop.Plan cause) e = absurd (omega (arith, e))
-memory_line (stop.Recording cause) e = absurd (omega (arith, e))
-memory_line stop.Memory e = refl
-memory_line stop.ReadFault e = absurd (omega (arith, e))
-memory_line (stop.Gap file expected found) e = absurd (omega (arith, e))
-memory_line (stop.TooLong limit) e = absurd (omega (arith, e))
-memory_line (stop.TooMany count limit) e = absurd (omega (arith, e))
-memory_line stop.SinkFault e = absurd (omega (arith, e))
-memory_line stop.FileFault e = absurd (omega (arith, e))
-
-many_line : (total : ℕ) (w : FileStream) (at : Stop) → candidate_total demo_search (observed_transfers w) ≡ total →
-    IsStopOf Searching settings w at → status_of at ≡ 9 → note_of at ≡ note_of (stop.TooMany total 100000)
-many_line total w stop.Words is cause e = absurd (omega (arith, e))
-many_line total w (stop.Value opt) is cause e = absurd (omega (arith, e))
-many_line total w (stop.Header file why) is cause e = absurd (omega (arith, e))
-many_line total w (stop.Plan why) is cause e = absurd (omega (arith, e))
-many_line total w (stop.Recording why) is cause e = absurd (omega (arith, e))
-many_line total w stop.Memory is cause e = absurd (omega (arith, e))
-many_line total w stop.ReadFault is cause e = absurd (omega (arith, e))
-many_line total w (stop.Gap file expected found) is cause e = absurd (omega (arith, e))
-many_line total w (stop.TooLong limit) is cause e = absurd (omega (arith, e))
-many_line total w (stop.TooMany count limit) is cause e =
-    ap₂ (λ (a b : ℕ). note_of (stop.TooMany a b)) (sym cause.total.0 ∙ is) cause.total.1
-many_line total w stop.SinkFault is cause e = absurd (omega (arith, e))
-many_line total w stop.FileFault is cause e = absurd (omega (arith, e))
 
 none_more : (n : ℕ) → 0 + n ≡ n
 none_more n = omega arith
@@ -213,7 +131,25 @@ module _ (by_front : HeadersByFront) (continues : FirstFilesContinue) (exactly :
   unfolding demo_candidates
   total_is = ap (candidate_total demo_search) transfers_are ∙ none_more (length (demo_candidates number))
 
-  -- ---- what is accepted is not refused
+  -- the line at 5, and that at 9
+  line_at : (at : Stop) → IsStopOf Searching settings stream at →
+      (status_of at ≡ 5 → note_of at ≡ note_of stop.Memory)
+      × (status_of at ≡ 9 → note_of at ≡ note_of (stop.TooMany (length (demo_candidates number)) 100000))
+  line_at stop.Words cause = (λ e. absurd (omega (arith, e)), λ e. absurd (omega (arith, e)))
+  line_at (stop.Value opt) cause = (λ e. absurd (omega (arith, e)), λ e. absurd (omega (arith, e)))
+  line_at (stop.Header file why) cause = (λ e. absurd (omega (arith, e)), λ e. absurd (omega (arith, e)))
+  line_at (stop.Plan why) cause = (λ e. absurd (omega (arith, e)), λ e. absurd (omega (arith, e)))
+  line_at (stop.Recording why) cause = (λ e. absurd (omega (arith, e)), λ e. absurd (omega (arith, e)))
+  line_at stop.Memory cause = (λ e. refl, λ e. absurd (omega (arith, e)))
+  line_at stop.ReadFault cause = (λ e. absurd (omega (arith, e)), λ e. absurd (omega (arith, e)))
+  line_at (stop.Gap file expected found) cause = (λ e. absurd (omega (arith, e)), λ e. absurd (omega (arith, e)))
+  line_at (stop.TooLong limit) cause = (λ e. absurd (omega (arith, e)), λ e. absurd (omega (arith, e)))
+  line_at (stop.TooMany count limit) cause = (
+    λ e. absurd (omega (arith, e)),
+    λ e. ap₂ (λ (a b : ℕ). note_of (stop.TooMany a b)) (sym cause.total.0 ∙ total_is) cause.total.1,
+  )
+  line_at stop.SinkFault cause = (λ e. absurd (omega (arith, e)), λ e. absurd (omega (arith, e)))
+  line_at stop.FileFault cause = (λ e. absurd (omega (arith, e)), λ e. absurd (omega (arith, e)))
 
   begins : CanBegin Searching settings stream
   begins = record {
@@ -222,28 +158,12 @@ module _ (by_front : HeadersByFront) (continues : FirstFilesContinue) (exactly :
     recorded = λ records. absurd cc;
   }
 
-  first_accepted : (k : ℕ) (cause : HeaderCause) → RefusesFirstHeader stream k cause → ⊥
-  first_accepted k (Text fault) r =
-      let a = accepted r.transfer r.there in has_header _ a.header fault a.is_header r.cause
-  first_accepted k (Fields fault) r =
-      let a = accepted r.transfer r.there in
-      let same = one_header a.header r.header _ a.is_header r.has in
-      has_observation (fields_of r.header.text) a.observation fault
-      (subst (λ (h : HeaderText). observation_of (fields_of h.text) ≡ Ok a.observation) same a.is_observation)
-      r.cause
-
-  not_planned : (cause : PlanCause) → RefusesSearch demo_search stream cause → ⊥
-  not_planned cause r = no_plan_cause _ cause (searched r.transfer r.there) r.refused
-
-  not_stopped : (at : Stop) → StopsWalk Searching settings stream at → ⊥
-  not_stopped at r = no_stop stream.max_bytes (walk_stop stream) at whole r.stops
-
 -- ---- the outcome
 
 module _ (by_front : HeadersByFront) (continues : FirstFilesContinue) (exactly : WholeExactly)
     (listed : CandidatesAreListed) (samples : SamplesOfBytes) (bounded : SumsAreBounded) (fall : EdgesFall)
-    (number : ℕ) (is_calm : Type 0) (calm : is_calm) (inputs : InputsSeen) (files_before files_after : FilesSeen)
-    (out_before out_after notes_before notes_after : SinkSeen) (ran : Ran)
+    (number : ℕ) (is_calm : Type 0) (calm : is_calm) (goes_on : AcceptedGoesOn is_calm) (inputs : InputsSeen)
+    (files_before files_after : FilesSeen) (out_before out_after notes_before notes_after : SinkSeen) (ran : Ran)
     (words : List (List ℕ)) (line : words ≡ search_line)
     (o : Outcome words inputs is_calm files_before files_after out_before out_after notes_before notes_after ran)
     (known : inputs.told.bytes_under (codes "demo") ≡ Some (made_file (demo_spec number)))
@@ -265,36 +185,10 @@ module _ (by_front : HeadersByFront) (continues : FirstFilesContinue) (exactly :
   are : AreTold inputs.told settings.names files
   are = record { count = refl; each = there }
 
-  holds_all : HoldsAll inputs.told settings.names
-  holds_all k below = subst IsSome (sym (are.each k below)) refl
-
-  not_two : ran.status ≢ 2
-  not_two e = o.judged.refused e settings said
-
-  not_three_of : (blocks : Option Finished) → ran.blocks ≡ blocks → ran.status ≢ 3
-  not_three_of None is e =
-      let r = o.stopped.first_header e is settings files said are in
-      first_accepted by_front continues exactly number r.0 r.1 r.2
-  not_three_of (Some b) is e =
-      let r = o.stopped.later_header e (subst IsSome (sym is) refl) settings files said are in
-      not_stopped by_front continues exactly number _ r.2
-
-  not_four_by : ((cause : PlanCause) × (Searching ≡ Searching) × RefusesSearch demo_search w cause)
-      ⊎ ((cause : RecordingCause) × RefusesToRecord Searching settings w cause) → ⊥
-  not_four_by (inl r) = not_planned by_front continues exactly number r.0 r.2
-  not_four_by (inr r) = let records = r.1.records in absurd cc
-
-  not_four : ran.status ≢ 4
-  not_four e = not_four_by (o.stopped.plan e settings files said are)
-
-  not_six : ran.status ≢ 6
-  not_six e = o.read.serves calm settings said holds_all e
-
-  not_seven : ran.status ≢ 7
-  not_seven e = not_stopped by_front continues exactly number _ (o.stopped.gap e settings files said are).3
-
-  not_eight : ran.status ≢ 8
-  not_eight e = not_stopped by_front continues exactly number _ (o.stopped.too_long e settings files said are)
+  -- nothing stands against it
+  others : ¬ Contains (2 ∷ 3 ∷ 4 ∷ 6 ∷ 7 ∷ 8 ∷ []) ran.status
+  others = goes_on Searching words inputs ran.blocks ran.status o.judged o.read o.stopped settings files said are
+      (begins by_front continues exactly number) (whole by_front continues exactly number) (inl calm)
 
   not_eleven : ran.status ≢ 11
   not_eleven e = (o.recorded.unrecorded settings said refl).1 e
@@ -315,13 +209,13 @@ module _ (by_front : HeadersByFront) (continues : FirstFilesContinue) (exactly :
   known_of : Contains (0 ∷ 2 ∷ 3 ∷ 4 ∷ 5 ∷ 6 ∷ 7 ∷ 8 ∷ 9 ∷ 10 ∷ 11 ∷ []) ran.status →
       Contains (0 ∷ 5 ∷ 9 ∷ []) ran.status
   known_of (zero, below, is) = (0, lit< tt, is)
-  known_of (suc zero, below, is) = absurd (not_two (sym is))
-  known_of (suc (suc zero), below, is) = absurd (not_three_of ran.blocks refl (sym is))
-  known_of (suc (suc (suc zero)), below, is) = absurd (not_four (sym is))
+  known_of (suc zero, below, is) = absurd (others (0, lit< tt, is))
+  known_of (suc (suc zero), below, is) = absurd (others (1, lit< tt, is))
+  known_of (suc (suc (suc zero)), below, is) = absurd (others (2, lit< tt, is))
   known_of (suc (suc (suc (suc zero))), below, is) = (1, lit< tt, is)
-  known_of (suc (suc (suc (suc (suc zero)))), below, is) = absurd (not_six (sym is))
-  known_of (suc (suc (suc (suc (suc (suc zero))))), below, is) = absurd (not_seven (sym is))
-  known_of (suc (suc (suc (suc (suc (suc (suc zero)))))), below, is) = absurd (not_eight (sym is))
+  known_of (suc (suc (suc (suc (suc zero)))), below, is) = absurd (others (3, lit< tt, is))
+  known_of (suc (suc (suc (suc (suc (suc zero))))), below, is) = absurd (others (4, lit< tt, is))
+  known_of (suc (suc (suc (suc (suc (suc (suc zero)))))), below, is) = absurd (others (5, lit< tt, is))
   known_of (suc (suc (suc (suc (suc (suc (suc (suc zero))))))), below, is) = (2, lit< tt, is)
   known_of (suc (suc (suc (suc (suc (suc (suc (suc (suc zero)))))))), below, is) = absurd (not_ten (sym is))
   known_of (suc (suc (suc (suc (suc (suc (suc (suc (suc (suc zero))))))))), below, is) = absurd (not_eleven (sym is))
@@ -371,11 +265,13 @@ module _ (by_front : HeadersByFront) (continues : FirstFilesContinue) (exactly :
   told = record {
     silent = o.noted.silent;
     memory = λ e. let n = o.noted.noted (λ f. omega (arith, e, f)) in
-        subst (λ (line : List ℕ). Noted line notes_before notes_after) (memory_line n.stop (sym n.answered ∙ e)) n.line;
+        subst (λ (line : List ℕ). Noted line notes_before notes_after)
+        ((line_at by_front continues exactly number n.stop (n.cause settings files said are)).0 (sym n.answered ∙ e))
+        n.line;
     many = λ e. let n = o.noted.noted (λ f. omega (arith, e, f)) in
         subst (λ (line : List ℕ). Noted line notes_before notes_after)
-        (many_line (length (demo_candidates number)) w n.stop
-        (total_is by_front continues exactly number) (n.cause settings files said are) (sym n.answered ∙ e)) n.line;
+        ((line_at by_front continues exactly number n.stop (n.cause settings files said are)).1 (sym n.answered ∙ e))
+        n.line;
   }
 
   pub found : (body : List ℕ) → out_before.written ≡ Some [] → out_after.written ≡ Some body →

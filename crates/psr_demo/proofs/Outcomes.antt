@@ -18,7 +18,7 @@ one_number words a b x y =
 for_asked : (words : List (List ℕ)) (P : ℕ → Type 0) (number : ℕ) → AskFor words number → P number → ForAsked words P
 for_asked words P number asks holds other asks_too = subst P (one_number words number other asks asks_too) holds
 
--- at the words, and for want of memory before the search
+-- at the words
 pub at_words : (words : List (List ℕ)) (out notes : SinkSeen) → ((number : ℕ) → ¬ AskFor words number) →
     Outcome words out out notes notes 2
 at_words words out notes refused = record {
@@ -29,21 +29,6 @@ at_words words out notes refused = record {
   found = λ e. absurd (omega (arith, e));
   too_many = λ e. absurd (omega (arith, e));
   no_memory = λ e. absurd (omega (arith, e));
-  broken_off = λ e. absurd (omega (arith, e));
-  failed = λ e. absurd (omega (arith, e));
-  quiet = λ other. refl;
-}
-
-pub for_memory : (words : List (List ℕ)) (number : ℕ) (out notes_before notes_after : SinkSeen) →
-    AskFor words number → notes_after ≡ notes_before → Outcome words out out notes_before notes_after 5
-for_memory words number out notes_before notes_after asks still = record {
-  known = (2, lit< tt, refl);
-  refused = λ e. absurd (omega (arith, e));
-  asked = λ other. (number, asks);
-  untouched = λ e. absurd (omega (arith, e));
-  found = λ e. absurd (omega (arith, e));
-  too_many = λ e. absurd (omega (arith, e));
-  no_memory = λ e. inl (refl, still);
   broken_off = λ e. absurd (omega (arith, e));
   failed = λ e. absurd (omega (arith, e));
   quiet = λ other. refl;

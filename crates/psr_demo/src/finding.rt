@@ -4,7 +4,7 @@ ghost use Rattle.psr_base.specs.InMemory.{body_of};
 ghost use Rattle.psr_demo.specs.Demo.{IsFound};
 
 use crate::making::{made_inputs, search_words};
-use psr_base::{CalmFiles, MemSink, Memory, Sink};
+use psr_base::{CalmFiles, CalmInputs, MemSink, Memory, Sink};
 use psr_search::run;
 use search_session::Gate;
 use std::alloc::Global;
@@ -12,6 +12,7 @@ use std::sync::Wait;
 use std::thread::Threads;
 // Laws: they do nothing when they run, and the proofs use what they ensure.
 use dada_model::{edges_fall, headers_by_front};
+use run_stop::accepted_goes_on;
 use search_model::{candidates_are_listed, samples_of_bytes, sums_are_bounded};
 use stream_model::{first_files_continue, whole_exactly};
 
@@ -45,6 +46,7 @@ pub(crate) fn find<E: Sink, G: Gate + Sync, R: Threads + Wait + Sync>(
     sums_are_bounded();
     first_files_continue();
     whole_exactly();
+    accepted_goes_on::<CalmInputs>();
     let mut inputs = made_inputs(alloc, number)?;
     let words = search_words(alloc)?;
     let mut text = MemSink::open(alloc, ROOM, &[])?;
