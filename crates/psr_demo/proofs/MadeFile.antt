@@ -36,19 +36,14 @@ unfolding made_text digits fields_of value_of words_of without_comment is_white 
 observation_read number = refl
 
 -- the parts of the file
-front_is : (number : ℕ) → take 4096 (made_file (demo_spec number)) ≡ made_header (demo_spec number)
+parts_are : (number : ℕ) → (take 4096 (made_file (demo_spec number)) ≡ made_header (demo_spec number))
+    × (drop 4096 (made_file (demo_spec number)) ≡ made_data (demo_spec number))
 unfolding made_file
-front_is number =
-    let s = demo_spec number in
-    subst (λ n. take n (made_header s ++ made_data s) ≡ made_header s) (header_length number)
-    (take-append_seam (made_header s) (made_data s))
-
-rest_is : (number : ℕ) → drop 4096 (made_file (demo_spec number)) ≡ made_data (demo_spec number)
-unfolding made_file
-rest_is number =
-    let s = demo_spec number in
-    subst (λ n. drop n (made_header s ++ made_data s) ≡ made_data s) (header_length number)
-    (drop-append_seam (made_header s) (made_data s))
+parts_are number =
+    let header = made_header (demo_spec number) in
+    let bytes = made_data (demo_spec number) in
+    subst (λ n. (take n (header ++ bytes) ≡ header) × (drop n (header ++ bytes) ≡ bytes)) (header_length number)
+    (take-append_seam header bytes, drop-append_seam header bytes)
 
 all_of_header : (number : ℕ) → take 4096 (made_header (demo_spec number)) ≡ made_header (demo_spec number)
 all_of_header number =
@@ -60,7 +55,7 @@ module _ (by_front : HeadersByFront) (number : ℕ) where
   header_is =
       let s = demo_spec number in
       by_front (made_header s) (made_file s) (header number) (header_read number)
-      (front_is number ∙ sym (all_of_header number))
+      ((parts_are number).0 ∙ sym (all_of_header number))
 
   pub is_accepted : IsAccepted (made_file (demo_spec number))
   is_accepted = record {
@@ -76,4 +71,4 @@ module _ (by_front : HeadersByFront) (number : ℕ) where
 
   pub holds : data_of (made_file (demo_spec number)) ≡ made_data (demo_spec number)
   unfolding data_of
-  holds = ap (data_past (made_file (demo_spec number))) header_is ∙ rest_is number
+  holds = ap (data_past (made_file (demo_spec number))) header_is ∙ (parts_are number).1

@@ -1,5 +1,5 @@
 -- The ways to end.
-use Rattle.std.proofs.Common.{◌≡◌, ◌≢◌, ℕ, zero, suc, List, [], ◌∷◌, inl, inr, Contains, refl, sym, ap, subst, ◌∙◌, arith, lit<}
+use Rattle.std.proofs.Common.{◌≡◌, ◌≢◌, ℕ, zero, suc, List, [], ◌∷◌, inr, Contains, refl, sym, ap, subst, ◌∙◌, arith, lit<}
 use Rattle.std.specs.Str.Parse.{digits_value}
 use Rattle.psr_base.specs.Written.{SinkSeen, WroteAll, WroteFront}
 use Rattle.psr_demo.specs.Words.{AskFor}

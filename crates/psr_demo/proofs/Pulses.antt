@@ -1,5 +1,5 @@
 -- The candidates of the demonstration are pulses, and their numbers are short; so is the text.
-use Rattle.std.proofs.Common.{◌≡◌, ℕ, ◌+◌, ◌*◌, ◌/◌, ◌^◌, ◌<◌, ◌≤◌, List, length, Contains, refl, sym, ap, subst, ◌∙◌, arith, lit≤, inl, get_or}
+use Rattle.std.proofs.Common.{◌≡◌, ℕ, ◌+◌, ◌*◌, ◌/◌, ◌^◌, ◌<◌, ◌≤◌, List, length, Contains, refl, sym, ap, subst, ◌∙◌, arith, lit≤, inl, get_or, rules}
 use Rattle.std.specs.Prelude.{All, ◌↔◌}
 use Rattle.std.proofs.Math.Nat.{mul-le-mul_right}
 use Rattle.std.proofs.lemmas.List.Elements.{All-from_get_or}
@@ -53,23 +53,7 @@ module _ (number : ℕ) where
       subst (λ byte. byte < 256) (sym at) (data_byte_small i))
 
   in_range : ObservationInRange observation
-  in_range = record {
-    few_channels = lit≤ tt;
-    many_channels = lit≤ tt;
-    whole_bytes = refl;
-    few_bits = lit≤ tt;
-    many_bits = lit≤ tt;
-    few_polarisations = lit≤ tt;
-    many_polarisations = lit≤ tt;
-    short_sample = lit≤ tt;
-    long_sample = lit≤ tt;
-    low_centre = lit≤ tt;
-    high_centre = lit≤ tt;
-    foot = lit≤ tt;
-    top = lit≤ tt;
-    wide = lit≤ tt;
-    early = lit≤ tt;
-  }
+  in_range = search rules
 
   span : dispersion_span observation ≡ 3162640888002
   unfolding dispersion_span edge signed_edge
