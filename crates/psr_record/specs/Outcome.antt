@@ -11,8 +11,10 @@ use Rattle.stream_model.specs.Walk as walk
 use Rattle.stream_model.specs.Walk.{FileStream, transfer_data, walk_stop, walk_data}
 use Rattle.stream_model.specs.RecordedLaws.{stream_of_recorded}
 use Rattle.disk_feeder.specs.Plan.{AreTold}
+use Rattle.search_model.specs.declared.search.Search.{Search}
+use Rattle.transfer_text.specs.Searched.{searched_text}
 use Rattle.search_session.specs.declared.ended.Ran.{Ran}
-use Rattle.run_stop.specs.Runs.{RecordingAlone, stream_for, ForFiles, first_observation, CanBegin}
+use Rattle.run_stop.specs.Runs.{RecordingAlone, stream_for, ForFiles, first_observation, observed_transfers, CanBegin}
 use Rattle.run_stop.specs.Outcomes.{JudgesWords, ReadsInputs, StopsAtFiles, SealsStream, AllCleared, RecordsFiles, TellsNotes, MadeAll, MadeFront, recorded_transfers, files_of_data}
 
 -- P holds of the settings that the words of a recording say and of the files that they name, where all of them are
@@ -86,3 +88,24 @@ RecordedIsReadBack = (s : SettingsSeen) (w : FileStream) → AllInRange s → s.
     ((recorded_stream s w).files ≡ map (λ file. file.bytes) (files_of_data w s.file_size))
     × (walk_stop (recorded_stream s w) ≡ walk.Whole)
     × (walk_data (recorded_stream s w) ≡ walk_data w)
+
+-- and their transfers, as they are searched, are those of the data that were recorded
+abbrev pub RecordedIsObservedAlike : Type 0
+RecordedIsObservedAlike = (s : SettingsSeen) (w : FileStream) → AllInRange s → s.recording ≡ true →
+    IsRecordable s w → HasOffsets w →
+    observed_transfers (recorded_stream s w) ≡ observed_transfers w
+
+-- these settings name the files of a recording in the order in which they were created, with the files of each transfer
+-- together, and these are the bytes of them
+pub record NamesRecorded (s : SettingsSeen) (w : FileStream) (again : SettingsSeen)
+    (files : List (List ℕ)) : Type 0 where
+  pub bytes : files ≡ (recorded_stream s w).files
+  pub transfers : again.starts ≡ (recorded_stream s w).starts
+
+-- so every search of the recorded files has the text of that search of all data
+abbrev pub RecordedIsSearchedAlike : Type 0
+RecordedIsSearchedAlike = (s : SettingsSeen) (w : FileStream) → AllInRange s → s.recording ≡ true →
+    IsRecordable s w → HasOffsets w → (again : SettingsSeen) (files : List (List ℕ)) →
+    NamesRecorded s w again files → (search : Search) →
+    searched_text search (observed_transfers (stream_for again files))
+    ≡ searched_text search (observed_transfers w)
