@@ -1,7 +1,8 @@
 -- The transfers of recorded files, as they are searched, are those that were recorded.
-use Rattle.std.proofs.Common.{◌≡◌, ℕ, zero, suc, ◌+◌, ◌-◌, ◌<◌, true, List, [], ◌∷◌, ◌++◌, length, get_or, take, replicate, Result, Ok, refl, sym, ap, ◌∙◌, arith}
+use Rattle.std.proofs.Common.{◌≡◌, ℕ, zero, suc, ◌+◌, ◌-◌, ◌<◌, true, List, [], ◌∷◌, ◌++◌, length, get_or, take, replicate, Result, Ok, refl, sym, ap, subst, ◌∙◌, arith}
 use Rattle.std.specs.List.{flat_map}
-use Rattle.std.proofs.lemmas.List.{length-append, length-replicate, get_or-map, take-append-le}
+use Rattle.std.proofs.lemmas.List.{length-append, length-replicate, length-map, get_or-map, take-append-le, take_more}
+use Rattle.std.proofs.lemmas.Grind.{flat_map-append}
 use Rattle.std.proofs.lemmas.List.Concat.{get_or-flat_map}
 use Rattle.std.proofs.lemmas.List.Folds.{length-flat_map-take}
 use Rattle.std.proofs.lemmas.List.FromFn.{fill_by_all, get_or-map-range_with_len, length-map-range_with_len}
@@ -13,14 +14,17 @@ use Rattle.psr_base.specs.Made.{NamedBytes}
 use Rattle.search_words.specs.Settings.{SettingsSeen, AllInRange}
 use Rattle.stream_model.specs.Recorded.{file_count, file_data, file_header, file_offset, recorded_file, recorded_files}
 use Rattle.stream_model.specs.RecordedLaws.{EachHeaderHasRoom, HasNumbers, HeadersKeepObservation, HeadersKeepValues, RecordedTransfer, CanBeRecorded, recorded_of_transfers, recorded_starts, stream_of_recorded}
-use Rattle.stream_model.specs.Walk.{FileStream, fields_past, observation_at, transfer_data}
-use Rattle.stream_model.specs.WalkLaws.{WholeExactly, WalkJoinsData}
-use Rattle.transfer_text.specs.Searched.{ObservedTransfer, searched_text}
+use Rattle.stream_model.specs.Walk.{FileStream, fields_past, observation_at, transfer_data, walk_stop}
+use Rattle.stream_model.specs.Walk as walk
+use Rattle.stream_model.specs.WalkLaws.{AreStarts, AreWalked, IsAccepted, WholeExactly, WalkJoinsData}
+use Rattle.search_model.specs.declared.search.Search.{Search}
+use Rattle.search_model.specs.Plan.{plan_refusal}
+use Rattle.transfer_text.specs.Searched.{ObservedTransfer, searched_text, candidate_total}
 use Rattle.dada_recorder.specs.Blocks.{header_or_none}
 use Rattle.run_stop.specs.Firsts.{first_file}
-use Rattle.run_stop.specs.Runs.{first_observation, observed_transfers}
+use Rattle.run_stop.specs.Runs.{Searching, CanBegin, CanSearchFirst, first_observation, first_recording, observed_transfers, stream_for}
 use Rattle.run_stop.specs.Outcomes.{recorded_transfers}
-use Rattle.psr_record.specs.Outcome.{IsRecordable, HasOffsets, RecordedIsReadBack, RecordedIsObservedAlike, RecordedIsSearchedAlike, recorded_stream}
+use Rattle.psr_record.specs.Outcome.{IsRecordable, HasOffsets, RecordedIsReadBack, RecordedIsObservedAlike, RecordedIsSearchedAlike, RecordedCanBeSearched, NamesRecorded, recorded_stream}
 use Rattle.psr_record.proofs.ReadBack.{can, data_is, recorded_at}
 
 -- ---- the first file of a recorded transfer
@@ -30,7 +34,8 @@ files_of t = recorded_files t.recording t.bytes
 
 length_files : (t : RecordedTransfer) → length (files_of t) ≡ file_count t.recording.file_size t.bytes
 unfolding recorded_files
-length_files t = length-map-range_with_len (recorded_file t.recording t.bytes) 0 (file_count t.recording.file_size t.bytes)
+length_files t =
+    length-map-range_with_len (recorded_file t.recording t.bytes) 0 (file_count t.recording.file_size t.bytes)
 
 some_files : (t : RecordedTransfer) → 0 < length (files_of t)
 unfolding file_count
@@ -57,6 +62,38 @@ start_of b (t ∷ ts) (suc k) d below =
     let before = length-append (files_of t) (flat_map files_of (take k ts)) in
     start_of (b + file_count t.recording.file_size t.bytes) ts k d (omega arith)
     ∙ omega (arith, before, length_files t)
+
+-- each transfer begins after the one before it, and before the end of all files
+begin_next : (ts : List RecordedTransfer) (k : ℕ) (e : RecordedTransfer) → k < length ts →
+    length (flat_map files_of (take k ts)) < length (flat_map files_of (take (k + 1) ts))
+begin_next ts k e below =
+    let t = get_or ts k e in
+    let more = ap (λ (xs : List RecordedTransfer). length (flat_map files_of xs)) (take_more ts k e below) in
+    let parts = ap (length {A = NamedBytes}) (flat_map-append files_of (take k ts) (t ∷ [])) in
+    let both = length-append (flat_map files_of (take k ts)) (files_of t ++ []) in
+    let nothing : List NamedBytes = [] in
+    let last = length-append (files_of t) nothing in
+    omega (arith, more, parts, both, last, some_files t)
+
+are_starts : (max_bytes : ℕ) (ts : List RecordedTransfer) (e : RecordedTransfer) → 0 < length ts →
+    let s = stream_of_recorded max_bytes ts in AreStarts s.starts (length s.files)
+unfolding recorded_of_transfers
+are_starts max_bytes ts e some =
+    let s = stream_of_recorded max_bytes ts in
+    let all = length-map (flat_map files_of ts) (λ (file : NamedBytes). file.bytes) in
+    let count = length_starts 0 ts in
+    record {
+      some = omega (arith, count, some);
+      first = start_of 0 ts 0 (length s.files) some;
+      rise = λ i below.
+          let here = start_of 0 ts i (length s.files) (omega (arith, count, below)) in
+          let next = start_of 0 ts (i + 1) (length s.files) (omega (arith, count, below)) in
+          omega (arith, here, next, begin_next ts i e (omega (arith, count, below)));
+      within = λ i below.
+          let here = start_of 0 ts i (length s.files) (omega (arith, count, below)) in
+          let most = length-flat_map-take files_of ts i e (omega (arith, count, below)) in
+          omega (arith, here, most, some_files (get_or ts i e), all);
+    }
 
 first_file_is : (max_bytes : ℕ) (ts : List RecordedTransfer) (k : ℕ) (e : RecordedTransfer) → k < length ts →
     let t = get_or ts k e in
@@ -106,12 +143,15 @@ pub record Laws : Type 0 where
   pub keep : HeadersKeepValues
   pub observed : HeadersKeepObservation
 
--- the first file has the transfer's observation at the recording's first offset
-first_seen : Laws → (t : RecordedTransfer) (can : CanBeRecorded t) →
-    observation_at (recorded_file t.recording t.bytes 0).bytes
-    ≡ record can.observation { obs_offset = t.recording.offset }
+-- the header of the first file, and its observation: the transfer's, at the recording's first offset
+record IsFirstRead (t : RecordedTransfer) (o : Observation) : Type 0 where
+  header : header_of (recorded_file t.recording t.bytes 0).bytes ≡ Ok (file_header t.recording 0)
+  observation : observation_of (fields_of (file_header t.recording 0).text)
+      ≡ Ok (record o { obs_offset = t.recording.offset })
+
+first_read : Laws → (t : RecordedTransfer) (can : CanBeRecorded t) → IsFirstRead t can.observation
 unfolding recorded_file
-first_seen laws t can =
+first_read laws t can =
     let r = t.recording in
     let numbers : HasNumbers r 0 = record {
       offset = omega (arith, can.offsets);
@@ -121,11 +161,11 @@ first_seen laws t can =
     let same : file_offset r 0 ≡ r.offset = omega arith in
     let room = laws.room r can.limit 0 can.none_refused numbers in
     let back = (laws.keep r 0 numbers room can.is_header).is_read in
-    let header = header_found laws.by_front laws.are_text (file_header r 0) (file_data r.file_size t.bytes 0) back in
-    let observed = laws.observed r 0 can.observation numbers can.is_observation (omega (arith, can.offsets)) in
-    seen laws.by_rows (recorded_file r t.bytes 0).bytes (file_header r 0)
-    (record can.observation { obs_offset = file_offset r 0 }) header observed
-    ∙ ap (λ (n : ℕ). record can.observation { obs_offset = n }) same
+    record {
+      header = header_found laws.by_front laws.are_text (file_header r 0) (file_data r.file_size t.bytes 0) back;
+      observation = laws.observed r 0 can.observation numbers can.is_observation (omega (arith, can.offsets))
+          ∙ ap (λ (n : ℕ). Ok (record can.observation { obs_offset = n })) same;
+    }
 
 -- ---- all transfers
 
@@ -140,21 +180,45 @@ module _ (laws : Laws) (read : RecordedIsReadBack) (s : SettingsSeen) (w : FileS
   same_count : length (recorded_stream s w).starts ≡ length w.starts
   same_count = length_starts 0 transfers ∙ count
 
+  -- each recorded transfer can be read again
+  may : (k : ℕ) → k < length w.starts → CanBeRecorded (recorded_at s w k)
+  may = can laws.back laws.whole laws.joins s w range recording recordable offsets
+
+  first_file_again : (k : ℕ) → k < length w.starts →
+      first_file (recorded_stream s w) k
+      ≡ (recorded_file (first_recording w s.file_size k) (transfer_data w k) 0).bytes
+  first_file_again k near =
+      let t = recorded_at s w k in
+      let is : get_or transfers k t ≡ t =
+      get_or-map-range_with_len (recorded_at s w) 0 (length w.starts) k k t near (omega arith) in
+      first_file_is w.max_bytes transfers k t (omega (arith, count, near))
+      ∙ ap (λ (r : RecordedTransfer). (recorded_file r.recording r.bytes 0).bytes) is
+
+  accepted_again : (k : ℕ) → k < length w.starts → IsAccepted (first_file (recorded_stream s w) k)
+  accepted_again k near =
+      let t = recorded_at s w k in
+      let read = first_read laws t (may k near) in
+      record {
+        header = file_header t.recording 0;
+        observation = record (may k near).observation { obs_offset = t.recording.offset };
+        is_header = ap header_of (first_file_again k near) ∙ read.header;
+        is_observation = read.observation;
+      }
+
   same_observation : (k : ℕ) → k < length w.starts →
       first_observation (recorded_stream s w) k ≡ first_observation w k
   same_observation k near =
       let t = recorded_at s w k in
       let a = recordable.begins.accepted.accepted k near in
-      let is : get_or transfers k t ≡ t =
-      get_or-map-range_with_len (recorded_at s w) 0 (length w.starts) k k t near (omega arith) in
-      let file = first_file_is w.max_bytes transfers k t (omega (arith, count, near)) in
-      let may = can laws.back laws.whole laws.joins s w range recording recordable offsets k near in
+      let read = first_read laws t (may k near) in
       let header : header_of (first_file w k) ≡ Ok t.recording.header =
       a.is_header ∙ ap Ok (sym (ap header_or_none a.is_header)) in
-      let mine = seen laws.by_rows (first_file w k) t.recording.header may.observation header may.is_observation in
-      ap observation_at (file ∙ ap (λ (r : RecordedTransfer). (recorded_file r.recording r.bytes 0).bytes) is)
-      ∙ first_seen laws t may
-      ∙ ap (λ (o : Observation). record may.observation { obs_offset = o.obs_offset }) mine
+      let mine = seen laws.by_rows (first_file w k) t.recording.header (may k near).observation header
+      (may k near).is_observation in
+      seen laws.by_rows (first_file (recorded_stream s w) k) (file_header t.recording 0)
+      (record (may k near).observation { obs_offset = t.recording.offset })
+      (ap header_of (first_file_again k near) ∙ read.header) read.observation
+      ∙ ap (λ (o : Observation). record (may k near).observation { obs_offset = o.obs_offset }) mine
       ∙ sym mine
 
   same_data : (k : ℕ) → k < length w.starts → transfer_data (recorded_stream s w) k ≡ transfer_data w k
@@ -186,19 +250,53 @@ module _ (laws : Laws) (read : RecordedIsReadBack) (s : SettingsSeen) (w : FileS
       get_or-map-range_with_len (observed_at w) 0 (length w.starts) k k d near (omega arith)
       ∙ sym (alike_at k near)))
 
+  -- nothing stands against a search of the recorded files that does not stand against that of all data
+  begins_again : (search : Search) → CanSearchFirst search w (length w.starts) →
+      let again = recorded_stream s w in AreWalked again × CanSearchFirst search again (length again.starts)
+  begins_again search fits =
+      let again = recorded_stream s w in
+      let some = recordable.begins.accepted.starts.some in (
+        record {
+          starts = are_starts w.max_bytes transfers (recorded_at s w 0) (omega (arith, count, some));
+          accepted = λ k below. accepted_again k (omega (arith, same_count, below));
+        },
+        λ k below.
+            let near : k < length w.starts = omega (arith, same_count, below) in
+            ap (λ (o : Observation). plan_refusal o search) (same_observation k near) ∙ fits k near,
+      )
+
 pub observed_alike : Laws → RecordedIsReadBack → RecordedIsObservedAlike
 observed_alike laws read s w range recording recordable offsets =
     alike laws read s w range recording recordable offsets
 
+abbrev stream_of : List (List ℕ) → List ℕ → ℕ → FileStream
+stream_of files starts max_bytes = record { files = files; starts = starts; max_bytes = max_bytes }
+
 -- what is searched has no other part in a stream than its files and where transfers begin
 pub searched_alike : RecordedIsObservedAlike → RecordedIsSearchedAlike
 searched_alike law s w range recording recordable offsets again files names search =
-    let stream = λ (bytes : List (List ℕ)) (starts : List ℕ). observed_transfers (record {
-      files = bytes;
-      starts = starts;
-      max_bytes = w.max_bytes;
-    }) in
-    ap (searched_text search)
-    (ap (λ (bytes : List (List ℕ)). stream bytes again.starts) names.bytes
-    ∙ ap (stream (recorded_stream s w).files) names.transfers
-    ∙ law s w range recording recordable offsets)
+    let same = ap (λ (bytes : List (List ℕ)). stream_of bytes again.starts w.max_bytes) names.bytes
+    ∙ ap (λ (starts : List ℕ). stream_of (recorded_stream s w).files starts w.max_bytes) names.transfers in
+    let alike : observed_transfers (stream_for again files) ≡ observed_transfers w =
+    ap observed_transfers same ∙ law s w range recording recordable offsets in
+    (ap (searched_text search) alike, ap (candidate_total search) alike)
+
+named_stream : (s : SettingsSeen) (w : FileStream) (again : SettingsSeen) (files : List (List ℕ)) →
+    NamesRecorded s w again files → again.max_bytes ≡ w.max_bytes → stream_for again files ≡ recorded_stream s w
+named_stream s w again files names limit =
+    ap (λ (bytes : List (List ℕ)). stream_of bytes again.starts again.max_bytes) names.bytes
+    ∙ ap (λ (starts : List ℕ). stream_of (recorded_stream s w).files starts again.max_bytes) names.transfers
+    ∙ ap (stream_of (recorded_stream s w).files (recorded_stream s w).starts) limit
+
+pub can_be_searched : Laws → RecordedIsReadBack → RecordedCanBeSearched
+can_be_searched laws read s w range recording recordable offsets again files names limit unrecorded fits =
+    let both = begins_again laws read s w range recording recordable offsets again.search fits in
+    let P : FileStream → Type 0 = λ v. CanBegin Searching again v × (walk_stop v ≡ walk.Whole) in
+    subst P (sym (named_stream s w again files names limit)) (
+      record {
+        accepted = both.0;
+        searched = λ task. both.1;
+        recorded = λ records. absurd cc;
+      },
+      (read s w range recording recordable offsets).1,
+    )

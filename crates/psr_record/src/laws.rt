@@ -1,7 +1,7 @@
 // Laws of the outcome and of recorded files, which the contracts of functions that do nothing carry. A caller whose
 // proof needs a law calls its function.
 ghost use Rattle.stream_model.specs.RecordedLaws.{RecordedFilesGiveTheData};
-ghost use Rattle.psr_record.specs.Outcome.{AcceptedIsRecorded, RecordedIsReadBack, RecordedIsObservedAlike, RecordedIsSearchedAlike};
+ghost use Rattle.psr_record.specs.Outcome.{AcceptedIsRecorded, RecordedIsReadBack, RecordedIsObservedAlike, RecordedIsSearchedAlike, RecordedCanBeSearched};
 
 use psr_base::Inputs;
 // Laws: they do nothing when they run, and the proofs use what they ensure.
@@ -54,9 +54,26 @@ pub fn recorded_is_observed_alike()
     recorded_is_read_back();
 }
 
-/// A search of the files of a recording of all data has the text of the same search of the data.
+/// A search of the files of a recording of all data has the text and the candidates of the same search of the data.
 pub fn recorded_is_searched_alike()
     ensures { RecordedIsSearchedAlike }
 {
     recorded_is_observed_alike();
+}
+
+/// Nothing stands against a search of the files of a recording of all data where nothing stands against the same search
+/// of the data.
+pub fn recorded_can_be_searched()
+    ensures { RecordedCanBeSearched }
+{
+    headers_are_read_back();
+    headers_by_front();
+    headers_are_text();
+    accepted_by_rows();
+    whole_exactly();
+    walk_joins_data();
+    each_header_has_room();
+    headers_keep_values();
+    headers_keep_observation();
+    recorded_is_read_back();
 }
