@@ -1,3 +1,4 @@
 mod Endings
 mod Accepted
 mod ReadBack
+mod ObservedAlike

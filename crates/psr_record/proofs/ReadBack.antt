@@ -34,7 +34,7 @@ map_twice f g (x ∷ xs) = ap (λ ys. g (f x) ∷ ys) (map_twice f g xs)
 
 -- ---- the data
 
-data_is : (w : FileStream) → walk_data w ≡ map (transfer_data w) (range_with_len 0 (length w.starts))
+pub data_is : (w : FileStream) → walk_data w ≡ map (transfer_data w) (range_with_len 0 (length w.starts))
 unfolding walk_data
 data_is w = refl
 
@@ -47,7 +47,7 @@ within transfers k d near =
     omega arith
 
 -- a transfer as it is recorded
-abbrev recorded_at : SettingsSeen → FileStream → ℕ → RecordedTransfer
+abbrev pub recorded_at : SettingsSeen → FileStream → ℕ → RecordedTransfer
 recorded_at s w k = record { recording = first_recording w s.file_size k; bytes = transfer_data w k }
 
 module _ (read : HeadersAreReadBack) (exactly : WholeExactly) (joins : WalkJoinsData) (s : SettingsSeen)
@@ -69,7 +69,7 @@ module _ (read : HeadersAreReadBack) (exactly : WholeExactly) (joins : WalkJoins
       let all = subst (λ (l : List (List ℕ)). length (joined_data l) ≤ w.max_bytes) (data_is w) total in
       omega arith
 
-  can : (k : ℕ) → k < length w.starts → CanBeRecorded (recorded_at s w k)
+  pub can : (k : ℕ) → k < length w.starts → CanBeRecorded (recorded_at s w k)
   can k near =
       let a = recordable.begins.accepted.accepted k near in
       let is : header_or_none (header_of (first_file w k)) ≡ a.header = ap header_or_none a.is_header in

@@ -1,13 +1,14 @@
 // Laws of the outcome and of recorded files, which the contracts of functions that do nothing carry. A caller whose
 // proof needs a law calls its function.
 ghost use Rattle.stream_model.specs.RecordedLaws.{RecordedFilesGiveTheData};
-ghost use Rattle.psr_record.specs.Outcome.{AcceptedIsRecorded, RecordedIsReadBack};
+ghost use Rattle.psr_record.specs.Outcome.{AcceptedIsRecorded, RecordedIsReadBack, RecordedIsObservedAlike, RecordedIsSearchedAlike, RecordedCanBeSearched};
 
 use psr_base::Inputs;
 // Laws: they do nothing when they run, and the proofs use what they ensure.
-use dada_model::headers_are_read_back;
+use dada_model::{accepted_by_rows, headers_are_read_back, headers_are_text, headers_by_front};
 use run_stop::accepted_goes_on;
 use stream_model::{
+    each_header_has_room, headers_keep_observation, headers_keep_values,
     recorded_files_give_the_data, recorded_transfers_give_the_data, walk_joins_data, whole_exactly,
 };
 
@@ -34,4 +35,45 @@ pub fn recorded_is_read_back()
     whole_exactly();
     walk_joins_data();
     recorded_transfers_give_the_data();
+}
+
+/// Fed in order, the files of a recording of all data have the transfers that were recorded, as they are searched: each
+/// with its observation and its data.
+pub fn recorded_is_observed_alike()
+    ensures { RecordedIsObservedAlike }
+{
+    headers_are_read_back();
+    headers_by_front();
+    headers_are_text();
+    accepted_by_rows();
+    whole_exactly();
+    walk_joins_data();
+    each_header_has_room();
+    headers_keep_values();
+    headers_keep_observation();
+    recorded_is_read_back();
+}
+
+/// A search of the files of a recording of all data has the text and the candidates of the same search of the data.
+pub fn recorded_is_searched_alike()
+    ensures { RecordedIsSearchedAlike }
+{
+    recorded_is_observed_alike();
+}
+
+/// Nothing stands against a search of the files of a recording of all data where nothing stands against the same search
+/// of the data.
+pub fn recorded_can_be_searched()
+    ensures { RecordedCanBeSearched }
+{
+    headers_are_read_back();
+    headers_by_front();
+    headers_are_text();
+    accepted_by_rows();
+    whole_exactly();
+    walk_joins_data();
+    each_header_has_room();
+    headers_keep_values();
+    headers_keep_observation();
+    recorded_is_read_back();
 }
