@@ -1,5 +1,5 @@
 -- The transfers of recorded files, as they are searched, are those that were recorded.
-use Rattle.std.proofs.Common.{◌≡◌, ℕ, zero, suc, ◌+◌, ◌-◌, ◌<◌, true, List, [], ◌∷◌, ◌++◌, length, get_or, take, replicate, Result, Ok, refl, sym, ap, subst, ◌∙◌, arith}
+use Rattle.std.proofs.Common.{◌≡◌, ℕ, zero, suc, ◌+◌, ◌-◌, ◌<◌, ◌≤◌, true, List, [], ◌∷◌, ◌++◌, length, get_or, take, replicate, Result, Ok, refl, sym, ap, subst, ◌∙◌, arith}
 use Rattle.std.specs.List.{flat_map}
 use Rattle.std.proofs.lemmas.List.{length-append, length-replicate, length-map, get_or-map, take-append-le, take_more}
 use Rattle.std.proofs.lemmas.Grind.{flat_map-append}
@@ -14,7 +14,7 @@ use Rattle.psr_base.specs.Made.{NamedBytes}
 use Rattle.search_words.specs.Settings.{SettingsSeen, AllInRange}
 use Rattle.stream_model.specs.Recorded.{file_count, file_data, file_header, file_offset, recorded_file, recorded_files}
 use Rattle.stream_model.specs.RecordedLaws.{EachHeaderHasRoom, HasNumbers, HeadersKeepObservation, HeadersKeepValues, RecordedTransfer, CanBeRecorded, recorded_of_transfers, recorded_starts, stream_of_recorded}
-use Rattle.stream_model.specs.Walk.{FileStream, fields_past, observation_at, transfer_data, walk_stop}
+use Rattle.stream_model.specs.Walk.{FileStream, fields_past, observation_at, header_stop, transfer_data, walk_stop}
 use Rattle.stream_model.specs.Walk as walk
 use Rattle.stream_model.specs.WalkLaws.{AreStarts, AreWalked, IsAccepted, WholeExactly, WalkJoinsData}
 use Rattle.search_model.specs.declared.search.Search.{Search}
@@ -282,21 +282,30 @@ searched_alike law s w range recording recordable offsets again files names sear
     (ap (searched_text search) alike, ap (candidate_total search) alike)
 
 named_stream : (s : SettingsSeen) (w : FileStream) (again : SettingsSeen) (files : List (List ℕ)) →
-    NamesRecorded s w again files → again.max_bytes ≡ w.max_bytes → stream_for again files ≡ recorded_stream s w
-named_stream s w again files names limit =
+    NamesRecorded s w again files →
+    stream_for again files ≡ record (recorded_stream s w) { max_bytes = again.max_bytes }
+named_stream s w again files names =
     ap (λ (bytes : List (List ℕ)). stream_of bytes again.starts again.max_bytes) names.bytes
     ∙ ap (λ (starts : List ℕ). stream_of (recorded_stream s w).files starts again.max_bytes) names.transfers
-    ∙ ap (stream_of (recorded_stream s w).files (recorded_stream s w).starts) limit
+
+-- a walk that is whole is so within a greater limit
+whole_within : WholeExactly → (v : FileStream) (limit : ℕ) → v.max_bytes ≤ limit → walk_stop v ≡ walk.Whole →
+    walk_stop (record v { max_bytes = limit }) ≡ walk.Whole
+unfolding header_stop
+whole_within exactly v limit most whole =
+    let all = (exactly v).0 whole in
+    (exactly (record v { max_bytes = limit })).1 (all.0, omega (arith, all.1, most))
 
 pub can_be_searched : Laws → RecordedIsReadBack → RecordedCanBeSearched
-can_be_searched laws read s w range recording recordable offsets again files names limit unrecorded fits =
+can_be_searched laws read s w range recording recordable offsets again files names most unrecorded fits =
     let both = begins_again laws read s w range recording recordable offsets again.search fits in
+    let whole = (read s w range recording recordable offsets).1 in
     let P : FileStream → Type 0 = λ v. CanBegin Searching again v × (walk_stop v ≡ walk.Whole) in
-    subst P (sym (named_stream s w again files names limit)) (
+    subst P (sym (named_stream s w again files names)) (
       record {
-        accepted = both.0;
+        accepted = record { starts = both.0.starts; accepted = both.0.accepted };
         searched = λ task. both.1;
         recorded = λ records. absurd cc;
       },
-      (read s w range recording recordable offsets).1,
+      whole_within laws.whole (recorded_stream s w) again.max_bytes most whole,
     )

@@ -116,7 +116,7 @@ RecordedIsSearchedAlike = (s : SettingsSeen) (w : FileStream) → AllInRange s �
 abbrev pub RecordedCanBeSearched : Type 0
 RecordedCanBeSearched = (s : SettingsSeen) (w : FileStream) → AllInRange s → s.recording ≡ true →
     IsRecordable s w → HasOffsets w → (again : SettingsSeen) (files : List (List ℕ)) →
-    NamesRecorded s w again files → again.max_bytes ≡ w.max_bytes → again.recording ≡ false →
+    NamesRecorded s w again files → w.max_bytes ≤ again.max_bytes → again.recording ≡ false →
     CanSearchFirst again.search w (length w.starts) →
     CanBegin Searching again (stream_for again files)
     × (walk_stop (stream_for again files) ≡ walk.Whole)

@@ -28,7 +28,7 @@ found_alike is_calm is_calm_again law recorded s again files files_again h befor
     )
 
 pub is_accepted : RecordedIsSearchedAlike → RecordedCanBeSearched → RecordedIsAccepted
-is_accepted alike can recorded s again files files_again h limit unrecorded searched =
+is_accepted alike can recorded s again files files_again h most unrecorded searched =
     let w = stream_for recorded files in
     let r = h.recording in
     let mine : CanSearchFirst s.search w (length w.starts) =
@@ -36,7 +36,7 @@ is_accepted alike can recorded s again files files_again h limit unrecorded sear
     (searched.begins.searched refl) in
     let fits : CanSearchFirst again.search w (length w.starts) =
     subst (λ (search : Search). CanSearchFirst search w (length w.starts)) (sym h.same) mine in
-    let both = can recorded w r.in_range r.recording r.recordable r.offsets again files_again h.named limit unrecorded
+    let both = can recorded w r.in_range r.recording r.recordable r.offsets again files_again h.named most unrecorded
     fits in
     let law = alike recorded w r.in_range r.recording r.recordable r.offsets again files_again h.named again.search in
     let total = candidate_total s.search (observed_transfers (stream_for s files)) in

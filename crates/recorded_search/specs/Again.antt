@@ -1,7 +1,7 @@
 -- Searches of files, and of the files of a recording of their data.
 -- Source: PSRDADA manual (OBS_OFFSET: recorded files go on where those before them ended); the law is this project's
 -- choice.
-use Rattle.std.specs.Prelude.{◌≡◌, ℕ, true, false, List}
+use Rattle.std.specs.Prelude.{◌≡◌, ℕ, ◌≤◌, true, false, List}
 use Rattle.psr_base.specs.Told.{InputsSeen}
 use Rattle.psr_base.specs.Made.{FilesSeen}
 use Rattle.psr_base.specs.Written.{SinkSeen, WroteAll}
@@ -54,11 +54,11 @@ RecordedIsFoundAlike is_calm is_calm_again =
     HasSearched is_calm_again again files_again before_again after_again →
     (text : List ℕ) × WroteAll text before after × WroteAll text before_again after_again
 
--- and where the first is accepted, the second is, which records nothing itself and takes as many data bytes as were
--- recorded
+-- and where the first is accepted, the second is, which records nothing itself and takes no fewer data bytes than the
+-- recording
 abbrev pub RecordedIsAccepted : Type 0
 RecordedIsAccepted =
     (recorded s again : SettingsSeen) (files files_again : List (List ℕ)) →
-    SearchesAgain recorded s again files files_again → again.max_bytes ≡ recorded.max_bytes →
+    SearchesAgain recorded s again files files_again → recorded.max_bytes ≤ again.max_bytes →
     again.recording ≡ false → IsSearched s (stream_for s files) →
     IsSearched again (stream_for again files_again)
