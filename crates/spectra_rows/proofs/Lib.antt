@@ -1,3 +1,4 @@
 mod Parts
 mod Alike
 mod Standing
+mod Tiles

@@ -1,70 +1,13 @@
--- A row that is written a part at a time, and rows that are written one after another.
-use Rattle.std.proofs.Common.{◌≡◌, ℕ, zero, suc, refl, ◌+◌, ◌-◌, ◌*◌, ◌<◌, ◌≤◌, ◌≢◌, inl, inr, List, ◌∷◌, [], length, slice_index, get_or, set, ◌∙◌, ap, subst, arith, get_or-set_other, get_or-set_same}
+-- Cells of rows that are written a part at a time.
+use Rattle.std.proofs.Common.{◌≡◌, ℕ, refl, ◌+◌, ◌-◌, ◌*◌, ◌<◌, ◌≤◌, ◌≢◌, ◌⊎◌, inl, inr, Bool, true, false, List, length, slice_index, get_or, set, map, ◌∙◌, sym, subst, arith, get_or-set_other, get_or-set_same}
 use Rattle.std.proofs.lemmas.Bool.{cases_lt}
+use Rattle.std.proofs.lemmas.List.{get_or-map, length-map}
 use Rattle.std.proofs.Math.Nat.{mul-le-mul_right}
 use Rattle.std.specs.Simd.Lanes.{put_chunk}
 use Rattle.std.proofs.lemmas.Simd.{get_or-put_chunk_below, get_or-put_chunk_at, get_or-put_chunk_above}
-use Rattle.spectra_rows.specs.Cells.{WritesPart}
+use Rattle.spectra_rows.specs.Cells.{WritesCells, AreUnpacked, cell, channel_place}
 
--- lanes that are stored at a place
-pub stored : (xs lanes : List ℕ) (base from n : ℕ) (value : ℕ → ℕ) → length lanes ≡ n
-    → base + from + n ≤ length xs
-    → ((j : ℕ) → j < n → slice_index lanes j ≡ value (from + j))
-    → WritesPart xs (put_chunk (base + from) xs lanes) base from (from + n) value
-stored xs lanes base from n value long fits is = record {
-  before = λ k h. get_or-put_chunk_below (base + from) xs lanes k 0 h;
-  written = λ t low high.
-      let j : ℕ = t - from in
-      let place : base + from + j ≡ base + t = omega arith in
-      let e : from + j ≡ t = omega arith in
-      let lt : j < n = omega arith in
-      let P : ℕ → Type 0 = λ i. get_or (put_chunk (base + from) xs lanes) i 0 ≡ value t in
-      subst P place (get_or-put_chunk_at (base + from) xs lanes j 0 (omega arith) (omega arith) ∙ is j lt ∙ ap value e);
-  after = λ k h. get_or-put_chunk_above (base + from) xs lanes k 0 (omega arith);
-}
-
--- nothing is written
-pub nothing : (xs : List ℕ) (base from : ℕ) (value : ℕ → ℕ) → WritesPart xs xs base from from value
-nothing xs base from value = record {
-  before = λ k h. refl;
-  written = λ t low high. absurd (omega arith);
-  after = λ k h. refl;
-}
-
--- one value is written
-pub one : (xs : List ℕ) (base t y : ℕ) (value : ℕ → ℕ) → base + t < length xs → y ≡ value t
-    → WritesPart xs (set xs (base + t) y) base t (t + 1) value
-one xs base t y value room is = record {
-  before = λ k h. let ne : k ≢ base + t = omega arith in get_or-set_other xs (base + t) k y 0 ne;
-  written = λ s low high.
-      let e : t ≡ s = omega arith in
-      let P : ℕ → Type 0 = λ i. get_or (set xs (base + t) y) (base + i) 0 ≡ value i in
-      subst P e (get_or-set_same xs (base + t) y 0 room ∙ is);
-  after = λ k h. let ne : k ≢ base + t = omega arith in get_or-set_other xs (base + t) k y 0 ne;
-}
-
--- one part more
-pub more : (old mid new : List ℕ) (base i j k : ℕ) (value step : ℕ → ℕ) → i ≤ j → j ≤ k
-    → WritesPart old mid base i j value → WritesPart mid new base j k step
-    → ((t : ℕ) → j ≤ t → t < k → step t ≡ value t)
-    → WritesPart old new base i k value
-more old mid new base i j k value step low high so_far part same = record {
-  before = λ p h. part.before p (omega arith) ∙ so_far.before p h;
-  written = λ t from to. elim (cases_lt t j) [
-    | inl h ↦ part.before (base + t) (omega arith) ∙ so_far.written t from h
-    | inr h ↦ part.written t h to ∙ same t h to
-  ];
-  after = λ p h. part.after p h ∙ so_far.after p (omega arith);
-}
-
--- the same with other values
-pub same_part : (old new : List ℕ) (base i j : ℕ) (value step : ℕ → ℕ) → WritesPart old new base i j step
-    → ((t : ℕ) → step t ≡ value t) → WritesPart old new base i j value
-same_part old new base i j value step part same = record {
-  before = part.before;
-  written = λ t from to. part.written t from to ∙ same t;
-  after = part.after;
-}
+-- ---- rows
 
 -- a row ends before the next begins
 rows_apart : (c d chunk : ℕ) → c < d → c * chunk + chunk ≤ d * chunk
@@ -73,60 +16,196 @@ rows_apart c d chunk lt =
     let part : (c + 1) * chunk ≤ d * chunk = mul-le-mul_right chunk next in
     omega arith
 
--- the first `done` rows have what is written, and what was there before stays
-pub record AreWritten (old new : List ℕ) (chunk done from to channels : ℕ) (value : ℕ → ℕ → ℕ) : Type 0 where
-  pub written : (c t : ℕ) → c < done → from ≤ t → t < to → slice_index new (c * chunk + t) ≡ value c t
-  pub kept : (c t : ℕ) → c < channels → t < from → slice_index new (c * chunk + t) ≡ slice_index old (c * chunk + t)
+-- two places have two rows
+places_apart : (channels : ℕ) (is_falling : Bool) (p q : ℕ) → p < channels → q < channels → p < q
+    → (channel_place channels is_falling p < channel_place channels is_falling q)
+    ⊎ (channel_place channels is_falling q < channel_place channels is_falling p)
+places_apart channels true p q here there lt = inl lt
+places_apart channels false p q here there lt = inr (omega arith)
 
-pub no_row : (old : List ℕ) (chunk from to channels : ℕ) (value : ℕ → ℕ → ℕ)
-    → AreWritten old old chunk 0 from to channels value
-no_row old chunk from to channels value = record {
-  written = λ c t none low high. absurd (omega arith);
-  kept = λ c t here low. refl;
-}
+-- the place of the channel of a place is that place
+place_again : (channels : ℕ) (is_falling : Bool) (c : ℕ) → c < channels
+    → channel_place channels is_falling (channel_place channels is_falling c) ≡ c
+place_again channels true c here = refl
+place_again channels false c here = omega arith
 
-pub row_more : (old mid new : List ℕ) (chunk d from to channels : ℕ) (value : ℕ → ℕ → ℕ) → from ≤ to → to ≤ chunk
-    → AreWritten old mid chunk d from to channels value → WritesPart mid new (d * chunk) from to (value d)
-    → AreWritten old new chunk (d + 1) from to channels value
-row_more old mid new chunk d from to channels value order fits so_far part = record {
-  written = λ c t below low high. elim (cases_lt c d) [
-    | inl h ↦
-        let apart = rows_apart c d chunk h in
-        part.before (c * chunk + t) (omega arith) ∙ so_far.written c t h low high
-    | inr h ↦
-        let e : d ≡ c = omega arith in
-        let P : ℕ → Type 0 = λ i. slice_index new (i * chunk + t) ≡ value i t in
-        subst P e (part.written t low high)
-  ];
-  kept = λ c t here low. elim (cases_lt c d) [
-    | inl h ↦
-        let apart = rows_apart c d chunk h in
-        part.before (c * chunk + t) (omega arith) ∙ so_far.kept c t here low
-    | inr h ↦ elim (cases_lt d c) [
-      | inl g ↦
-          let apart = rows_apart d c chunk g in
-          part.after (c * chunk + t) (omega arith) ∙ so_far.kept c t here low
-      | inr g ↦
-          let e : d ≡ c = omega arith in
-          let P : ℕ → Type 0 = λ i. slice_index new (i * chunk + t) ≡ slice_index mid (i * chunk + t) in
-          subst P e (part.before (d * chunk + t) (omega arith)) ∙ so_far.kept c t here low
-    ]
-  ];
-}
+pub place_below : (channels : ℕ) (is_falling : Bool) (c : ℕ) → c < channels → channel_place channels is_falling c < channels
+place_below channels true c here = here
+place_below channels false c here = omega arith
 
--- the values of eight spectra
-pub eight : (bytes : List ℕ) (n place from at j : ℕ) → at ≡ from * n + place → j < 8
-    → slice_index (slice_index bytes at ∷ slice_index bytes (at + n) ∷ slice_index bytes (at + 2 * n)
-    ∷ slice_index bytes (at + 3 * n) ∷ slice_index bytes (at + 4 * n) ∷ slice_index bytes (at + 5 * n)
-    ∷ slice_index bytes (at + 6 * n) ∷ slice_index bytes (at + 7 * n) ∷ []) j
-    ≡ slice_index bytes ((from + j) * n + place)
-eight bytes n place from at zero is lt = ap (λ i. slice_index bytes i) (omega arith)
-eight bytes n place from at (suc zero) is lt = ap (λ i. slice_index bytes i) (omega arith)
-eight bytes n place from at (suc (suc zero)) is lt = ap (λ i. slice_index bytes i) (omega arith)
-eight bytes n place from at (suc (suc (suc zero))) is lt = ap (λ i. slice_index bytes i) (omega arith)
-eight bytes n place from at (suc (suc (suc (suc zero)))) is lt = ap (λ i. slice_index bytes i) (omega arith)
-eight bytes n place from at (suc (suc (suc (suc (suc zero))))) is lt = ap (λ i. slice_index bytes i) (omega arith)
-eight bytes n place from at (suc (suc (suc (suc (suc (suc zero)))))) is lt = ap (λ i. slice_index bytes i) (omega arith)
-eight bytes n place from at (suc (suc (suc (suc (suc (suc (suc zero))))))) is lt =
-    ap (λ i. slice_index bytes i) (omega arith)
-eight bytes n place from at (suc (suc (suc (suc (suc (suc (suc (suc j)))))))) is lt = absurd (omega arith)
+-- ---- one row
+
+-- of a list no other value than n from `at` on is written
+record OnlyThere (old new : List ℕ) (at n : ℕ) : Type 0 where
+  below : (k : ℕ) → k < at → slice_index new k ≡ slice_index old k
+  above : (k : ℕ) → at + n ≤ k → slice_index new k ≡ slice_index old k
+
+module _ (channels : ℕ) (is_falling : Bool) (chunk p from n : ℕ) (old new : List ℕ) where
+  abbrev row : ℕ → ℕ
+  row q = channel_place channels is_falling q
+
+  other_row : from + n ≤ chunk → OnlyThere old new (row p * chunk + from) n
+      → (q t : ℕ) → (row p < row q) ⊎ (row q < row p) → t < chunk
+      → slice_index new (row q * chunk + t) ≡ slice_index old (row q * chunk + t)
+  other_row fits only q t order low = elim order [
+    | inl lt ↦
+        let apart = rows_apart (row p) (row q) chunk lt in
+        only.above (row q * chunk + t) (omega arith)
+    | inr lt ↦
+        let apart = rows_apart (row q) (row p) chunk lt in
+        only.below (row q * chunk + t) (omega arith)
+  ]
+
+  row_written : (value : ℕ → ℕ → ℕ) → p < channels → from + n ≤ chunk → OnlyThere old new (row p * chunk + from) n
+      → ((t : ℕ) → from ≤ t → t < from + n → slice_index new (row p * chunk + t) ≡ value p t)
+      → WritesCells old new row channels chunk p (p + 1) from (from + n) value
+  row_written value here fits only is = record {
+    written = λ q t low high after before.
+        let e : p ≡ q = omega arith in
+        let P : ℕ → Type 0 = λ i. slice_index new (row i * chunk + t) ≡ value i t in
+        subst P e (is t after before);
+    lower = λ q t lt small. elim (places_apart channels is_falling q p (omega arith) here lt) [
+      | inl g ↦ other_row fits only q t (inr g) small
+      | inr g ↦ other_row fits only q t (inl g) small
+    ];
+    earlier = λ q t there before. elim (cases_lt q p) [
+      | inl lt ↦ elim (places_apart channels is_falling q p there here lt) [
+        | inl g ↦ other_row fits only q t (inr g) (omega arith)
+        | inr g ↦ other_row fits only q t (inl g) (omega arith)
+      ]
+      | inr ge ↦ elim (cases_lt p q) [
+        | inl lt ↦ other_row fits only q t (places_apart channels is_falling p q here there lt) (omega arith)
+        | inr le ↦
+            let e : p ≡ q = omega arith in
+            let P : ℕ → Type 0 = λ i. slice_index new (row i * chunk + t) ≡ slice_index old (row i * chunk + t) in
+            subst P e (only.below (row p * chunk + t) (omega arith))
+      ]
+    ];
+  }
+
+-- a place of a row lies within the rows
+pub row_fits : (channels : ℕ) (is_falling : Bool) (chunk p from n room : ℕ) → p < channels → from + n ≤ chunk
+    → channels * chunk ≤ room → channel_place channels is_falling p * chunk + from + n ≤ room
+row_fits channels is_falling chunk p from n room here fits all =
+    let apart = rows_apart (channel_place channels is_falling p) channels chunk (place_below channels is_falling p here) in
+    omega arith
+
+-- a byte of each of n spectra, stored as lanes
+pub lanes_stored : (channels : ℕ) (is_falling : Bool) (chunk p r from n : ℕ) (xs lanes : List ℕ) → p < channels
+    → r ≡ channel_place channels is_falling p → from + n ≤ chunk → channels * chunk ≤ length xs → length lanes ≡ n
+    → WritesCells xs (put_chunk (r * chunk + from) xs (map (λ x. x) lanes))
+    (channel_place channels is_falling) channels chunk p (p + 1) from (from + n) (λ q t. slice_index lanes (t - from))
+lanes_stored channels is_falling chunk p r from n xs lanes here row fits room long =
+    let at : ℕ = channel_place channels is_falling p * chunk + from in
+    let wide : List ℕ = map (λ x. x) lanes in
+    let same : length wide ≡ n = length-map lanes (λ x. x) ∙ long in
+    let inside : at + n ≤ length xs = row_fits channels is_falling chunk p from n (length xs) here fits room in
+    let Stored : ℕ → Type 0 = λ i. WritesCells xs (put_chunk (i * chunk + from) xs wide)
+    (channel_place channels is_falling) channels chunk p (p + 1) from (from + n)
+    (λ q t. slice_index lanes (t - from)) in
+    subst Stored (sym row)
+    (row_written channels is_falling chunk p from n xs (put_chunk at xs wide) (λ q t. slice_index lanes (t - from))
+    here fits
+    record {
+      below = λ k lt. get_or-put_chunk_below at xs wide k 0 lt;
+      above = λ k le. get_or-put_chunk_above at xs wide k 0 (omega arith);
+    }
+    (λ t after before.
+    let place : at + (t - from) ≡ channel_place channels is_falling p * chunk + t = omega arith in
+    let P : ℕ → Type 0 = λ i. get_or (put_chunk at xs wide) i 0 ≡ slice_index lanes (t - from) in
+    subst P place (get_or-put_chunk_at at xs wide (t - from) 0 (omega arith) (omega arith)
+    ∙ get_or-map (λ x. x) lanes (t - from) 0 0 (omega arith))))
+
+-- one value that is stored
+pub value_stored : (channels : ℕ) (is_falling : Bool) (chunk p r t y : ℕ) (xs : List ℕ) (value : ℕ → ℕ → ℕ)
+    → p < channels → r ≡ channel_place channels is_falling p → t < chunk → channels * chunk ≤ length xs
+    → y ≡ value p t
+    → WritesCells xs (set xs (r * chunk + t) y)
+    (channel_place channels is_falling) channels chunk p (p + 1) t (t + 1) value
+value_stored channels is_falling chunk p r t y xs value here row low room is =
+    let at : ℕ = channel_place channels is_falling p * chunk + t in
+    let inside : at + 1 ≤ length xs =
+    row_fits channels is_falling chunk p t 1 (length xs) here (omega arith) room in
+    let Stored : ℕ → Type 0 = λ i. WritesCells xs (set xs (i * chunk + t) y)
+    (channel_place channels is_falling) channels chunk p (p + 1) t (t + 1) value in
+    subst Stored (sym row)
+    (row_written channels is_falling chunk p t 1 xs (set xs at y) value here (omega arith)
+    record {
+      below = λ k lt. let ne : k ≢ at = omega arith in get_or-set_other xs at k y 0 ne;
+      above = λ k le. let ne : k ≢ at = omega arith in get_or-set_other xs at k y 0 ne;
+    }
+    (λ s after before.
+    let e : t ≡ s = omega arith in
+    let P : ℕ → Type 0 = λ i.
+    slice_index (set xs at y) (channel_place channels is_falling p * chunk + i) ≡ value p i in
+    subst P e (get_or-set_same xs at y 0 (omega arith) ∙ is)))
+
+-- ---- parts together
+
+module _ (row : ℕ → ℕ) (channels chunk : ℕ) (value : ℕ → ℕ → ℕ) where
+  pub no_place : (xs : List ℕ) (lo from to : ℕ) → WritesCells xs xs row channels chunk lo lo from to value
+  no_place xs lo from to = record {
+    written = λ p t low high after before. absurd (omega arith);
+    lower = λ p t lt small. refl;
+    earlier = λ p t here before. refl;
+  }
+
+  pub no_spectrum : (xs : List ℕ) (lo hi from : ℕ) → WritesCells xs xs row channels chunk lo hi from from value
+  no_spectrum xs lo hi from = record {
+    written = λ p t low high after before. absurd (omega arith);
+    lower = λ p t lt small. refl;
+    earlier = λ p t here before. refl;
+  }
+
+  pub same_values : (old new : List ℕ) (lo hi from to : ℕ) (step : ℕ → ℕ → ℕ)
+      → WritesCells old new row channels chunk lo hi from to step
+      → ((p t : ℕ) → lo ≤ p → p < hi → from ≤ t → t < to → step p t ≡ value p t)
+      → WritesCells old new row channels chunk lo hi from to value
+  same_values old new lo hi from to step part same = record {
+    written = λ p t low high after before. part.written p t low high after before ∙ same p t low high after before;
+    lower = part.lower;
+    earlier = part.earlier;
+  }
+
+  pub more_places : (old mid new : List ℕ) (lo m hi from to : ℕ) → lo ≤ m → to ≤ chunk
+      → WritesCells old mid row channels chunk lo m from to value
+      → WritesCells mid new row channels chunk m hi from to value
+      → WritesCells old new row channels chunk lo hi from to value
+  more_places old mid new lo m hi from to order fits first second = record {
+    written = λ p t low high after before. elim (cases_lt p m) [
+      | inl lt ↦ second.lower p t lt (omega arith) ∙ first.written p t low lt after before
+      | inr ge ↦ second.written p t ge high after before
+    ];
+    lower = λ p t lt small. second.lower p t (omega arith) small ∙ first.lower p t lt small;
+    earlier = λ p t here before. second.earlier p t here before ∙ first.earlier p t here before;
+  }
+
+  pub more_spectra : (old mid new : List ℕ) (lo hi from m to : ℕ) → hi ≤ channels → from ≤ m
+      → WritesCells old mid row channels chunk lo hi from m value
+      → WritesCells mid new row channels chunk lo hi m to value
+      → WritesCells old new row channels chunk lo hi from to value
+  more_spectra old mid new lo hi from m to inside order first second = record {
+    written = λ p t low high after before. elim (cases_lt t m) [
+      | inl lt ↦ second.earlier p t (omega arith) lt ∙ first.written p t low high after lt
+      | inr ge ↦ second.written p t low high ge before
+    ];
+    lower = λ p t lt small. second.lower p t lt small ∙ first.lower p t lt small;
+    earlier = λ p t here before. second.earlier p t here (omega arith) ∙ first.earlier p t here before;
+  }
+
+-- cells of all places
+pub all_places : (channels : ℕ) (is_falling : Bool) (nbit npol chunk : ℕ) (bytes old new : List ℕ) (from to : ℕ)
+    → WritesCells old new (channel_place channels is_falling) channels chunk 0 channels from to
+    (cell channels nbit npol bytes)
+    → AreUnpacked channels is_falling nbit npol chunk bytes old from
+    → AreUnpacked channels is_falling nbit npol chunk bytes new to
+all_places channels is_falling nbit npol chunk bytes old new from to part before = λ c t here low.
+    let p : ℕ = channel_place channels is_falling c in
+    let below : p < channels = place_below channels is_falling c here in
+    let P : ℕ → Type 0 = λ i. slice_index new (i * chunk + t) ≡ cell channels nbit npol bytes p t in
+    subst P (place_again channels is_falling c here) (elim (cases_lt t from) [
+      | inl lt ↦ part.earlier p t below lt
+          ∙ subst (λ (i : ℕ). slice_index old (i * chunk + t) ≡ cell channels nbit npol bytes p t)
+          (sym (place_again channels is_falling c here)) (before c t here lt)
+      | inr ge ↦ part.written p t (omega arith) below ge low
+    ])

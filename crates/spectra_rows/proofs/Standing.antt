@@ -1,5 +1,5 @@
 -- What an unpacker stands for.
-use Rattle.std.proofs.Common.{◌≡◌, ℕ, ◌+◌, ◌-◌, ◌*◌, ◌/◌, ◌%◌, ◌<◌, ◌≤◌, Bool, true, false, List, ◌++◌, length, take, drop, slice_index, ◌∙◌, sym, ap, subst, arith, length-append}
+use Rattle.std.proofs.Common.{◌≡◌, ℕ, ◌+◌, ◌-◌, ◌*◌, ◌/◌, ◌%◌, ◌<◌, ◌≤◌, Bool, List, ◌++◌, length, take, drop, slice_index, ◌∙◌, sym, ap, subst, arith, length-append}
 use Rattle.std.proofs.Math.Nat.{div-mul-le_self, mul-le-mul_right}
 use Rattle.std.proofs.lemmas.Nat.{le-div, div-mul-add, div_below, div-add-mod', mod_below}
 use Rattle.std.proofs.lemmas.List.{length-take-le, length-drop, get_or-take, get_or-drop, drop-drop, drop-append-le}
@@ -8,6 +8,7 @@ use Rattle.search_model.specs.Samples.{sample_bytes, sample_at}
 use Rattle.spectra_rows.specs.Unpacking.{Unpacking, AreValues, StandsForBytes, spectrum_bytes, whole_spectra, unpacked, with_bytes, without_spectra}
 use Rattle.spectra_rows.specs.Cells.{AreUnpacked, RowsAreSound, channel_place}
 use Rattle.spectra_rows.proofs.Alike.{sample_alike, some_bytes}
+use Rattle.spectra_rows.proofs.Parts.{place_below}
 
 -- the place of a sample lies within the spectra
 pub within_spectra : (n t place count : ℕ) → place < n → t < count → t * n + place + 1 ≤ count * n
@@ -24,10 +25,6 @@ within_bytes n s t place count limit here low fits =
     mul-le-mul_right s (within_spectra n t place count here low) in
     omega arith
 
-place_below : (n c : ℕ) (is_falling : Bool) → c < n → channel_place n is_falling c < n
-place_below n c true here = here
-place_below n c false here = omega arith
-
 -- rows stand for other bytes that agree as far as the spectra go
 pub cells_kept : (n : ℕ) (is_falling : Bool) (nbit npol chunk : ℕ) (a b rows : List ℕ) (count limit : ℕ)
     → AreValues nbit npol → count * (n * sample_bytes nbit npol) ≤ limit
@@ -37,7 +34,7 @@ cells_kept n is_falling nbit npol chunk a b rows count limit values fits agree c
     let s = sample_bytes nbit npol in
     let place = channel_place n is_falling c in
     let i = t * n + place in
-    let room = within_bytes n s t place count limit (place_below n c is_falling here) low fits in
+    let room = within_bytes n s t place count limit (place_below n is_falling c here) low fits in
     cells c t here low
     ∙ sym (sample_alike b a i i nbit npol values (λ k lt. agree (i * s + k) (omega arith)))
 
@@ -109,7 +106,7 @@ module _ (n : ℕ) (is_falling : Bool) (nbit npol chunk spectrum filled ready : 
   cells_are bytes gone c t stands here low =
       let s = sample_bytes nbit npol in
       let place = channel_place n is_falling c in
-      let inside = place_below n c is_falling here in
+      let inside = place_below n is_falling c here in
       let i = t * n + place in
       let j = (gone + t) * n + place in
       let is = sound.spectrum_is in

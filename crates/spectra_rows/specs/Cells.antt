@@ -1,6 +1,6 @@
 -- The cells of the rows that stand behind.
 -- Source: this project's choice.
-use Rattle.std.specs.Prelude.{ℕ, ◌+◌, ◌-◌, ◌*◌, ◌≡◌, ◌<◌, ◌≤◌, Bool, List, length, slice_index, if◌then◌else◌}
+use Rattle.std.specs.Prelude.{ℕ, ◌+◌, ◌-◌, ◌*◌, ◌≡◌, ◌<◌, ◌≤◌, ◌/◌, ◌%◌, Bool, List, [], length, slice_index, get_or, if◌then◌else◌}
 use Rattle.search_model.specs.Samples.{sample_bytes, sample_at}
 use Rattle.spectra_rows.specs.Unpacking.{AreValues}
 
@@ -8,11 +8,16 @@ use Rattle.spectra_rows.specs.Unpacking.{AreValues}
 abbrev pub channel_place : ℕ → Bool → ℕ → ℕ
 channel_place channels is_falling c = if is_falling then c else channels - 1 - c
 
--- the row that begins at `base` has these values from place `from` on, up to `to`; all others stay
-pub record WritesPart (old new : List ℕ) (base from to : ℕ) (value : ℕ → ℕ) : Type 0 where
-  pub before : (k : ℕ) → k < base + from → slice_index new k ≡ slice_index old k
-  pub written : (t : ℕ) → from ≤ t → t < to → slice_index new (base + t) ≡ value t
-  pub after : (k : ℕ) → base + to ≤ k → slice_index new k ≡ slice_index old k
+-- The cell of a place of a spectrum and of a spectrum t is row p * chunk + t. Cells of the places lo to hi and the
+-- spectra from to to have these values; those of the places before, and those of the spectra before, stay.
+pub record WritesCells (old new : List ℕ) (row : ℕ → ℕ) (channels chunk lo hi from to : ℕ)
+    (value : ℕ → ℕ → ℕ) : Type 0 where
+  pub written : (p t : ℕ) → lo ≤ p → p < hi → from ≤ t → t < to
+      → slice_index new (row p * chunk + t) ≡ value p t
+  pub lower : (p t : ℕ) → p < lo → t < chunk
+      → slice_index new (row p * chunk + t) ≡ slice_index old (row p * chunk + t)
+  pub earlier : (p t : ℕ) → p < channels → t < from
+      → slice_index new (row p * chunk + t) ≡ slice_index old (row p * chunk + t)
 
 -- the sample of spectrum t at a place of the spectrum
 abbrev pub cell : ℕ → ℕ → ℕ → List ℕ → ℕ → ℕ → ℕ
@@ -41,3 +46,7 @@ pub record RowsAreSound (channels : ℕ) (is_falling : Bool)
   pub whole : ready * spectrum ≤ filled
   pub part : filled < ready * spectrum + spectrum
   pub cells : AreUnpacked channels is_falling nbit npol chunk held rows ready
+
+-- value k of vectors of sixteen values, one behind the other
+abbrev pub lane : List (List ℕ) → ℕ → ℕ
+lane vectors k = slice_index (get_or vectors (k / 16) []) (k % 16)

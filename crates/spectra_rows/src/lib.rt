@@ -5,6 +5,7 @@ mod held;
 mod layout;
 mod rows;
 mod samples;
+mod tile;
 mod unpacker;
 
 pub use unpacker::Unpacker;

@@ -1,189 +1,216 @@
-// Spectra into rows. So many are turned at a time that a row gets whole lines of the cache.
-ghost use Rattle.std.specs.Prelude.{◌≡◌, ℕ, ◌+◌, ◌*◌, ◌<◌, ◌≤◌, length, slice_index};
+// Spectra into rows. So few channels are turned at a time that their rows stay in the nearest cache.
+ghost use Rattle.std.specs.Prelude.{◌≡◌, ℕ, ◌+◌, ◌-◌, ◌*◌, ◌<◌, ◌≤◌, length, slice_index};
 ghost use Rattle.search_model.specs.Samples.{sample_bytes};
 ghost use Rattle.spectra_rows.specs.Unpacking.{AreValues};
-ghost use Rattle.spectra_rows.specs.Cells.{AreUnpacked, WritesPart, cell, channel_place};
+ghost use Rattle.spectra_rows.specs.Cells.{AreUnpacked, WritesCells, cell, channel_place};
 
 use crate::layout::Layout;
 use crate::samples::sample;
+use crate::tile::{CHANNELS, SPECTRA, turned};
 use std::simd::prelude::*;
 
-/// How many spectra are turned at a time.
-const BLOCK: usize = 32;
-
-/// How many values are stored at a time.
-const LANES: usize = 8;
-
-// Writes the bytes of eight spectra into a row that begins at `base`.
+// The row of the channel that stands at a place of a spectrum.
 #[inline(always)]
-fn write_lanes(
-    rows: &mut [u32],
-    bytes: &[u8],
-    channels: usize,
-    place: usize,
-    base: usize,
-    from: usize,
-)
-    requires place { place < channels }
-    requires bytes { (from + LANES) * channels ≤ length bytes.now }
-    requires room { base + from + LANES ≤ length rows.old }
-    ensures { WritesPart rows.old rows.new base from (from + LANES)
-        (λ t. slice_index bytes.now (t * channels + place)) }
+fn row_of(layout: Layout, place: usize) -> usize
+    requires { place < layout.channels }
+    ensures row { result ≡ channel_place layout.channels layout.is_falling place }
+    ensures within { result < layout.channels }
 {
-    let at = from * channels + place;
-    let values = [
-        bytes[at],
-        bytes[at + channels],
-        bytes[at + 2 * channels],
-        bytes[at + 3 * channels],
-        bytes[at + 4 * channels],
-        bytes[at + 5 * channels],
-        bytes[at + 6 * channels],
-        bytes[at + 7 * channels],
-    ];
-    u8x8::from_array(values)
-        .cast::<u32>()
-        .copy_to_slice(&mut rows[base + from..]);
-}
-
-// Writes as many bytes as whole lanes have, and says how far it came.
-#[inline(always)]
-fn write_whole_lanes(
-    rows: &mut [u32],
-    bytes: &[u8],
-    channels: usize,
-    place: usize,
-    base: usize,
-    from: usize,
-    to: usize,
-) -> usize
-    requires place { place < channels }
-    requires order { from ≤ to }
-    requires bytes { to * channels ≤ length bytes.now }
-    requires room { base + to ≤ length rows.old }
-    ensures above { from ≤ result }
-    ensures within { result ≤ to }
-    ensures written { WritesPart rows.old rows.new base from result
-        (λ t. slice_index bytes.now (t * channels + place)) }
-{
-    let mut done = from;
-    while to - done >= LANES {
-        write_lanes(rows, bytes, channels, place, base, done);
-        done += LANES;
+    if layout.is_falling {
+        place
+    } else {
+        layout.channels - 1 - place
     }
-    done
 }
 
-// The same of any samples; only bytes that are samples are written.
+// Writes the bytes of eight spectra into the row of a channel.
 #[inline(always)]
-fn begin_channel(
+fn write_values(rows: &mut [u32], values: u8x8, layout: Layout, place: usize, from: usize)
+    requires place { place < layout.channels }
+    requires chunk { from + SPECTRA ≤ layout.chunk }
+    requires room { layout.channels * layout.chunk ≤ length rows.old }
+    ensures { WritesCells rows.old rows.new (channel_place layout.channels layout.is_falling)
+        layout.channels layout.chunk place (place + 1) from (from + SPECTRA)
+        (λ p t. slice_index values (t - from)) }
+{
+    let at = row_of(layout, place) * layout.chunk + from;
+    values.cast::<u32>().copy_to_slice(&mut rows[at..]);
+}
+
+// Writes the bytes of two channels that stand side by side.
+#[inline(always)]
+fn write_pair(rows: &mut [u32], pair: u8x16, layout: Layout, place: usize, from: usize)
+    requires place { place + 2 ≤ layout.channels }
+    requires chunk { from + SPECTRA ≤ layout.chunk }
+    requires room { layout.channels * layout.chunk ≤ length rows.old }
+    ensures { WritesCells rows.old rows.new (channel_place layout.channels layout.is_falling)
+        layout.channels layout.chunk place (place + 2) from (from + SPECTRA)
+        (λ p t. slice_index pair (8 * (p - place) + (t - from))) }
+{
+    write_values(rows, pair.extract::<0, 8>(), layout, place, from);
+    write_values(rows, pair.extract::<8, 8>(), layout, place + 1, from);
+}
+
+// Writes the bytes of eight spectra of sixteen channels.
+fn write_tile(rows: &mut [u32], bytes: &[u8], layout: Layout, place: usize, from: usize)
+    requires place { place + CHANNELS ≤ layout.channels }
+    requires chunk { from + SPECTRA ≤ layout.chunk }
+    requires bytes { (from + SPECTRA) * layout.channels ≤ length bytes.now }
+    requires room { layout.channels * layout.chunk ≤ length rows.old }
+    ensures { WritesCells rows.old rows.new (channel_place layout.channels layout.is_falling)
+        layout.channels layout.chunk place (place + CHANNELS) from (from + SPECTRA)
+        (λ p t. slice_index bytes.now (t * layout.channels + p)) }
+{
+    let tile = turned(bytes, from * layout.channels + place, layout.channels);
+    for pair in 0..8 {
+        write_pair(rows, tile[pair], layout, place + 2 * pair, from);
+    }
+}
+
+// Writes as many bytes as whole tiles have, and says how far it came.
+fn write_tiles(
     rows: &mut [u32],
     bytes: &[u8],
     layout: Layout,
     place: usize,
-    base: usize,
     from: usize,
     to: usize,
 ) -> usize
-    requires place { place < layout.channels }
+    requires place { place + CHANNELS ≤ layout.channels }
     requires order { from ≤ to }
+    requires chunk { to ≤ layout.chunk }
+    requires bytes { to * layout.channels ≤ length bytes.now }
+    requires room { layout.channels * layout.chunk ≤ length rows.old }
+    ensures above { from ≤ result }
+    ensures within { result ≤ to }
+    ensures written { WritesCells rows.old rows.new
+        (channel_place layout.channels layout.is_falling)
+        layout.channels layout.chunk place (place + CHANNELS) from result
+        (λ p t. slice_index bytes.now (t * layout.channels + p)) }
+{
+    let mut done = from;
+    while to - done >= SPECTRA {
+        write_tile(rows, bytes, layout, place, done);
+        done += SPECTRA;
+    }
+    done
+}
+
+// The same of any samples; only bytes that are samples are written, of as many channels as a tile has.
+fn begin_channels(
+    rows: &mut [u32],
+    bytes: &[u8],
+    layout: Layout,
+    place: usize,
+    end: usize,
+    from: usize,
+    to: usize,
+) -> usize
+    requires places { place ≤ end }
+    requires inside { end ≤ layout.channels }
+    requires order { from ≤ to }
+    requires chunk { to ≤ layout.chunk }
     requires values { AreValues layout.nbit layout.npol }
     requires bytes { to * (layout.channels * sample_bytes layout.nbit layout.npol)
         ≤ length bytes.now }
-    requires room { base + to ≤ length rows.old }
+    requires room { layout.channels * layout.chunk ≤ length rows.old }
     ensures above { from ≤ result }
     ensures within { result ≤ to }
-    ensures written { WritesPart rows.old rows.new base from result
-        (cell layout.channels layout.nbit layout.npol bytes.now place) }
+    ensures written { WritesCells rows.old rows.new
+        (channel_place layout.channels layout.is_falling)
+        layout.channels layout.chunk place end from result
+        (cell layout.channels layout.nbit layout.npol bytes.now) }
 {
-    if layout.nbit == 8 && layout.npol == 1 {
-        write_whole_lanes(rows, bytes, layout.channels, place, base, from, to)
+    if layout.nbit == 8 && layout.npol == 1 && end - place == CHANNELS {
+        write_tiles(rows, bytes, layout, place, from, to)
     } else {
         from
     }
 }
 
-// Writes samples one by one.
+// Writes some samples of a spectrum one by one.
 #[inline(always)]
-fn write_samples(
+fn write_spectrum(
     rows: &mut [u32],
     bytes: &[u8],
     layout: Layout,
     place: usize,
-    base: usize,
-    from: usize,
-    to: usize,
+    end: usize,
+    spectrum: usize,
 )
-    requires place { place < layout.channels }
-    requires order { from ≤ to }
+    requires places { place ≤ end }
+    requires inside { end ≤ layout.channels }
+    requires chunk { spectrum < layout.chunk }
     requires values { AreValues layout.nbit layout.npol }
-    requires bytes { to * (layout.channels * sample_bytes layout.nbit layout.npol)
+    requires bytes { (spectrum + 1) * (layout.channels * sample_bytes layout.nbit layout.npol)
         ≤ length bytes.now }
-    requires room { base + to ≤ length rows.old }
-    ensures { WritesPart rows.old rows.new base from to
-        (cell layout.channels layout.nbit layout.npol bytes.now place) }
+    requires room { layout.channels * layout.chunk ≤ length rows.old }
+    ensures { WritesCells rows.old rows.new (channel_place layout.channels layout.is_falling)
+        layout.channels layout.chunk place end spectrum (spectrum + 1)
+        (cell layout.channels layout.nbit layout.npol bytes.now) }
 {
-    for t in from..to {
-        rows[base + t] = sample(bytes, layout.nbit, layout.npol, t * layout.channels + place);
+    for p in place..end {
+        let at = row_of(layout, p) * layout.chunk + spectrum;
+        rows[at] = sample(
+            bytes,
+            layout.nbit,
+            layout.npol,
+            spectrum * layout.channels + p,
+        );
     }
 }
 
-// Where a channel stands in a spectrum.
-fn place_in_spectrum(channels: usize, is_falling: bool, channel: usize) -> usize
-    requires { channel < channels }
-    ensures place { result ≡ channel_place channels is_falling channel }
-    ensures within { result < channels }
-{
-    if is_falling {
-        channel
-    } else {
-        channels - 1 - channel
-    }
-}
-
-// Writes the samples of some spectra into the row of a channel.
-#[inline(always)]
-fn write_channel(
+// Writes some samples of some spectra one by one.
+fn write_spectra(
     rows: &mut [u32],
     bytes: &[u8],
     layout: Layout,
-    channel: usize,
+    place: usize,
+    end: usize,
     from: usize,
     to: usize,
 )
-    requires channel { channel < layout.channels }
+    requires places { place ≤ end }
+    requires inside { end ≤ layout.channels }
     requires order { from ≤ to }
     requires chunk { to ≤ layout.chunk }
     requires values { AreValues layout.nbit layout.npol }
     requires bytes { to * (layout.channels * sample_bytes layout.nbit layout.npol)
         ≤ length bytes.now }
     requires room { layout.channels * layout.chunk ≤ length rows.old }
-    ensures { WritesPart rows.old rows.new (channel * layout.chunk) from to
-        (cell layout.channels layout.nbit layout.npol bytes.now
-        (channel_place layout.channels layout.is_falling channel)) }
+    ensures { WritesCells rows.old rows.new (channel_place layout.channels layout.is_falling)
+        layout.channels layout.chunk place end from to
+        (cell layout.channels layout.nbit layout.npol bytes.now) }
 {
-    let place = place_in_spectrum(layout.channels, layout.is_falling, channel);
-    let base = channel * layout.chunk;
-    let done = begin_channel(rows, bytes, layout, place, base, from, to);
-    write_samples(rows, bytes, layout, place, base, done, to);
+    for spectrum in from..to {
+        write_spectrum(rows, bytes, layout, place, end, spectrum);
+    }
 }
 
-// Writes some spectra into all rows.
-fn write_block(rows: &mut [u32], bytes: &[u8], layout: Layout, from: usize, to: usize)
+// Writes some spectra into the rows of the channels that stand at some places.
+fn write_channels(
+    rows: &mut [u32],
+    bytes: &[u8],
+    layout: Layout,
+    place: usize,
+    end: usize,
+    from: usize,
+    to: usize,
+)
+    requires places { place ≤ end }
+    requires inside { end ≤ layout.channels }
     requires order { from ≤ to }
     requires chunk { to ≤ layout.chunk }
     requires values { AreValues layout.nbit layout.npol }
     requires bytes { to * (layout.channels * sample_bytes layout.nbit layout.npol)
         ≤ length bytes.now }
     requires room { layout.channels * layout.chunk ≤ length rows.old }
-    ensures { AreUnpacked layout.channels layout.is_falling layout.nbit layout.npol layout.chunk
-        bytes.now rows.old from
-        → AreUnpacked layout.channels layout.is_falling layout.nbit layout.npol layout.chunk
-        bytes.now rows.new to }
+    ensures { WritesCells rows.old rows.new (channel_place layout.channels layout.is_falling)
+        layout.channels layout.chunk place end from to
+        (cell layout.channels layout.nbit layout.npol bytes.now) }
 {
-    for channel in 0..layout.channels {
-        write_channel(rows, bytes, layout, channel, from, to);
-    }
+    let done = begin_channels(rows, bytes, layout, place, end, from, to);
+    write_spectra(rows, bytes, layout, place, end, done, to);
 }
 
 /// Writes the spectra `from` to `to` into all rows, where those before are written.
@@ -199,10 +226,10 @@ pub fn unpack(rows: &mut [u32], bytes: &[u8], layout: Layout, from: usize, to: u
         → AreUnpacked layout.channels layout.is_falling layout.nbit layout.npol layout.chunk
         bytes.now rows.new to }
 {
-    let mut done = from;
-    while done < to {
-        let end = done + BLOCK.min(to - done);
-        write_block(rows, bytes, layout, done, end);
-        done = end;
+    let mut place = 0;
+    while place < layout.channels {
+        let end = place + CHANNELS.min(layout.channels - place);
+        write_channels(rows, bytes, layout, place, end, from, to);
+        place = end;
     }
 }

@@ -82,7 +82,7 @@ fn check_pieces(rt: &impl Abort, alloc: Global, shape: Shape) -> Result<(), Fail
     requires some_spectra { 1 ≤ shape.chunk }
     requires most_spectra { shape.chunk ≤ 65536 }
 {
-    let bytes = bytes_of(alloc, 5000)?;
+    let bytes = bytes_of(alloc, 9000)?;
     let mut unpacker = Unpacker::open(
         alloc,
         shape.channels,
@@ -95,7 +95,7 @@ fn check_pieces(rt: &impl Abort, alloc: Global, shape: Shape) -> Result<(), Fail
     let mut gone = 0_usize;
     for turn in 1..400_usize {
         let rest = bytes.as_slice().get(start..).unwrap_or(&[]);
-        let piece = rest.get(..turn * 7 % 101).unwrap_or(rest);
+        let piece = rest.get(..turn * 7 % 311).unwrap_or(rest);
         start = start.wrapping_add(unpacker.push(piece));
         check_rows(rt, &unpacker, shape, bytes.as_slice(), gone);
         if turn % 3 == 0 {
@@ -111,6 +111,7 @@ fn pieces_are_cut_anywhere(rt: HostRuntime) -> Result<(), Fail> {
     for (channels, falling, nbit, npol, chunk) in [
         (37_u32, true, 8_u32, 1_u32, 20_u32),
         (37, false, 8, 1, 3),
+        (18, false, 8, 1, 20),
         (2, false, 8, 1, 50),
         (3, true, 16, 1, 7),
         (5, false, 8, 2, 4),

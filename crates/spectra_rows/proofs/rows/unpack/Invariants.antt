@@ -1,16 +1,14 @@
 use Rattle.std.proofs.Common.{◌-◌, ◌≤◌}
-use Rattle.spectra_rows.specs.Cells.{AreUnpacked}
+use Rattle.spectra_rows.specs.Cells.{WritesCells, cell, channel_place}
 use Rattle.spectra_rows.proofs.rows.unpack.Given as goal
 
-abbrev pub invariant-loop-done : goal.invariant-loop-done
-invariant-loop-done l = record {
-  above : l.from ≤ l.done;
-  within : l.done ≤ l.to;
-  written : AreUnpacked l.layout.channels l.layout.is_falling l.layout.nbit l.layout.npol l.layout.chunk
-      l.bytes l.fn.rows l.from
-      → AreUnpacked l.layout.channels l.layout.is_falling l.layout.nbit l.layout.npol l.layout.chunk
-      l.bytes l.rows l.done;
+abbrev pub invariant-loop-place : goal.invariant-loop-place
+invariant-loop-place l = record {
+  inside : l.place ≤ l.layout.channels;
+  written : WritesCells l.fn.rows l.rows (channel_place l.layout.channels l.layout.is_falling)
+      l.layout.channels l.layout.chunk 0 l.place l.from l.to
+      (cell l.layout.channels l.layout.nbit l.layout.npol l.bytes);
 }
 
-abbrev pub decreases-loop-done : goal.decreases-loop-done
-decreases-loop-done l = l.to - l.done
+abbrev pub decreases-loop-place : goal.decreases-loop-place
+decreases-loop-place l = l.layout.channels - l.place
