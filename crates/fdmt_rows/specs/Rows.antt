@@ -17,6 +17,19 @@ abbrev pub AddsPlainly : List ℕ → List ℕ → List ℕ → Type 0
 AddsPlainly out a b = (k : ℕ) → slice_index a k + slice_index b k < 2 ^ 32
     → slice_index out k ≡ slice_index a k + slice_index b k
 
+-- the sum of two values in 16 bits
+abbrev pub narrow_sum : ℕ → ℕ → ℕ
+narrow_sum x y = (x + y) % 2 ^ 16
+
+-- each value is the sum of those of a and b in 16 bits
+abbrev pub AddsNarrowly : List ℕ → List ℕ → List ℕ → Type 0
+AddsNarrowly out a b =
+    (k : ℕ) → slice_index out k ≡ narrow_sum (slice_index a k) (slice_index b k)
+
+-- each value is that of another row in 16 bits
+abbrev pub Narrows : List ℕ → List ℕ → Type 0
+Narrows out xs = (k : ℕ) → slice_index out k ≡ slice_index xs k % 2 ^ 16
+
 -- the sum of `count` values of a row, from the k-th on
 abbrev pub sum_from : List ℕ → ℕ → ℕ → ℕ
 sum_from row k count = sum (take count (drop k row))

@@ -1,4 +1,4 @@
-//! Sums of whole rows of values, eight lanes at a time and the rest one by one.
+//! Sums of whole rows of values, eight lanes of 32 bits or sixteen of 16 bits at a time and the rest one by one.
 #![tactic(auto)]
 
 ghost use Rattle.std.specs.Prelude.{◌≡◌, ℕ, ◌+◌, ◌-◌, ◌<◌, ◌≤◌, ◌^◌, length, slice_index};
@@ -6,9 +6,11 @@ ghost use Rattle.fdmt_rows.specs.Rows.{AddsWrapping, AddsPlainly, IsGreatest, su
 
 mod lanes;
 mod maxima;
+mod narrow;
 
 use lanes::{add_to_whole_lanes, add_whole_lanes, widen_whole_lanes};
 use maxima::{greatest_lanes, greatest_of_lanes};
+pub use narrow::{add_narrow_rows, narrow_row, widen_row};
 
 /// Adds two rows value by value, in 32 bits.
 pub fn add_rows(out: &mut [u32], a: &[u32], b: &[u32])

@@ -1,0 +1,124 @@
+// Rows of values of 16 bits: their sums, and values of 32 bits in 16 bits and back. The loops over whole lanes take sixteen
+// values a step, and say how far they came.
+ghost use Rattle.std.specs.Prelude.{◌≡◌, ◌+◌, ◌%◌, ◌^◌, ◌<◌, ◌≤◌, length, slice_index};
+ghost use Rattle.fdmt_rows.specs.Rows.{narrow_sum, AddsNarrowly, Narrows};
+ghost use Rattle.fdmt_rows.specs.Writes.{Writes};
+
+use std::simd::prelude::*;
+
+// How many values a step takes.
+const LANES: usize = 16;
+
+// How many values 16 bits have.
+const NARROW_VALUES: u32 = 65536;
+
+#[inline(always)]
+fn add_lanes(out: &mut [u16], a: &[u16], b: &[u16], at: usize)
+    requires room { at + LANES ≤ length out.old }
+    requires first { length a.now ≡ length out.old }
+    requires second { length b.now ≡ length out.old }
+    ensures { Writes out.old out.new at (at + LANES)
+        (λ k. narrow_sum (slice_index a.now k) (slice_index b.now k)) }
+{
+    let sums = u16x16::from_slice(&a[at..]) + u16x16::from_slice(&b[at..]);
+    sums.copy_to_slice(&mut out[at..]);
+}
+
+#[inline(always)]
+fn add_whole_lanes(out: &mut [u16], a: &[u16], b: &[u16]) -> usize
+    requires first { length a.now ≡ length out.old }
+    requires second { length b.now ≡ length out.old }
+    ensures within { result ≤ length out.new }
+    ensures whole { length out.new < result + LANES }
+    ensures added { Writes out.old out.new 0 result
+        (λ k. narrow_sum (slice_index a.now k) (slice_index b.now k)) }
+{
+    let mut done = 0;
+    while out.len() - done >= LANES {
+        add_lanes(out, a, b, done);
+        done += LANES;
+    }
+    done
+}
+
+#[inline(always)]
+fn narrow_lanes(out: &mut [u16], values: &[u32], at: usize)
+    requires room { at + LANES ≤ length out.old }
+    requires same { length values.now ≡ length out.old }
+    ensures { Writes out.old out.new at (at + LANES) (λ k. slice_index values.now k % 2 ^ 16) }
+{
+    let lanes = u32x16::from_slice(&values[at..]) % u32x16::splat(NARROW_VALUES);
+    lanes.cast::<u16>().copy_to_slice(&mut out[at..]);
+}
+
+#[inline(always)]
+fn narrow_whole_lanes(out: &mut [u16], values: &[u32]) -> usize
+    requires { length values.now ≡ length out.old }
+    ensures within { result ≤ length out.new }
+    ensures whole { length out.new < result + LANES }
+    ensures narrowed { Writes out.old out.new 0 result (λ k. slice_index values.now k % 2 ^ 16) }
+{
+    let mut done = 0;
+    while out.len() - done >= LANES {
+        narrow_lanes(out, values, done);
+        done += LANES;
+    }
+    done
+}
+
+#[inline(always)]
+fn widen_lanes(out: &mut [u32], values: &[u16], at: usize)
+    requires room { at + LANES ≤ length out.old }
+    requires same { length values.now ≡ length out.old }
+    ensures { Writes out.old out.new at (at + LANES) (λ k. slice_index values.now k) }
+{
+    u16x16::from_slice(&values[at..])
+        .cast::<u32>()
+        .copy_to_slice(&mut out[at..]);
+}
+
+#[inline(always)]
+fn widen_whole_lanes(out: &mut [u32], values: &[u16]) -> usize
+    requires { length values.now ≡ length out.old }
+    ensures within { result ≤ length out.new }
+    ensures whole { length out.new < result + LANES }
+    ensures widened { Writes out.old out.new 0 result (λ k. slice_index values.now k) }
+{
+    let mut done = 0;
+    while out.len() - done >= LANES {
+        widen_lanes(out, values, done);
+        done += LANES;
+    }
+    done
+}
+
+/// Adds two rows value by value, in 16 bits.
+pub fn add_narrow_rows(out: &mut [u16], a: &[u16], b: &[u16])
+    requires first { length a.now ≡ length out.old }
+    requires second { length b.now ≡ length out.old }
+    ensures { AddsNarrowly out.new a.now b.now }
+{
+    for k in add_whole_lanes(out, a, b)..out.len() {
+        out[k] = a[k].wrapping_add(b[k]);
+    }
+}
+
+/// Writes values of 32 bits in 16 bits.
+pub fn narrow_row(out: &mut [u16], values: &[u32])
+    requires { length values.now ≡ length out.old }
+    ensures { Narrows out.new values.now }
+{
+    for k in narrow_whole_lanes(out, values)..out.len() {
+        out[k] = (values[k] % NARROW_VALUES) as u16;
+    }
+}
+
+/// Writes values of 16 bits as values of 32 bits.
+pub fn widen_row(out: &mut [u32], values: &[u16])
+    requires { length values.now ≡ length out.old }
+    ensures { out.new ≡ values.now }
+{
+    for k in widen_whole_lanes(out, values)..out.len() {
+        out[k] = values[k] as u32;
+    }
+}
