@@ -5,6 +5,7 @@ pub mod Known
 pub mod Law
 pub mod Loops
 pub mod Made
+pub mod Narrow
 pub mod Parts
 pub mod Reading
 pub mod Stands

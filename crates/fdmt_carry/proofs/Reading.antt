@@ -38,15 +38,19 @@ whole_known t is =
       band = is.head;
     }
 
--- no row of a node is above the last row of a node that it is below
-rows_under : AskedRowsAreThere → (t : Tables) → AreTables t → (size k j : ℕ) → k < node_count t →
-    (node_of t k).hi ≤ (node_of t k).lo + size → k ≤ j → j < next_of t k →
-    (node_of t j).last_row ≤ (node_of t k).last_row
-rows_under asked t is zero k j node few ge lt = let some = (is.laid.each k node).branch.some in absurd (omega arith)
-rows_under asked t is (suc size) k j node few ge lt = elim (cases_lt k j) [
+-- node j is node k or one below it: it has no other channels than that, and no later row
+pub record IsUnder (t : Tables) (k j : ℕ) : Type 0 where
+  pub from : (node_of t k).lo ≤ (node_of t j).lo
+  pub to : (node_of t j).hi ≤ (node_of t k).hi
+  pub last : (node_of t j).last_row ≤ (node_of t k).last_row
+
+under_to : AskedRowsAreThere → (t : Tables) → AreTables t → (size k j : ℕ) → k < node_count t →
+    (node_of t k).hi ≤ (node_of t k).lo + size → k ≤ j → j < next_of t k → IsUnder t k j
+under_to asked t is zero k j node few ge lt = let some = (is.laid.each k node).branch.some in absurd (omega arith)
+under_to asked t is (suc size) k j node few ge lt = elim (cases_lt k j) [
   | inr here ↦
       let same : j ≡ k = omega arith in
-      rw same (omega arith)
+      rw same (record { from = omega arith; to = omega arith; last = omega arith })
   | inl after ↦ elim (cases_lt (node_of t k).hi ((node_of t k).lo + 2)) [
     | inl one ↦ absurd (omega arith)
     | inr two ↦
@@ -72,14 +76,24 @@ rows_under asked t is (suc size) k j node few ge lt = elim (cases_lt k j) [
         let lower_end = parts.lower_end in
         elim (cases_lt j low) [
           | inl in_upper ↦
-              let under = rows_under asked t is size (k + 1) j above (omega arith) (omega arith) (omega arith) in
-              omega arith
+              let under = under_to asked t is size (k + 1) j above (omega arith) (omega arith) (omega arith) in
+              let from = under.from in
+              let to = under.to in
+              let last = under.last in
+              record { from = omega arith; to = omega arith; last = omega arith }
           | inr in_lower ↦
-              let under = rows_under asked t is size low j below (omega arith) in_lower (omega arith) in
-              omega arith
+              let under = under_to asked t is size low j below (omega arith) in_lower (omega arith) in
+              let from = under.from in
+              let to = under.to in
+              let last = under.last in
+              record { from = omega arith; to = omega arith; last = omega arith }
         ]
   ]
 ]
+
+pub node_under : AskedRowsAreThere → (t : Tables) → AreTables t → (k j : ℕ) → k < node_count t → k ≤ j →
+    j < next_of t k → IsUnder t k j
+node_under asked t is k j node ge lt = under_to asked t is ((node_of t k).hi) k j node (omega arith) ge lt
 
 pub rows_below : AskedRowsAreThere → (t : Tables) → AreTables t → (k : ℕ) → k < node_count t →
     (node_of t k).last_row ≤ t.plan.last
@@ -88,7 +102,7 @@ rows_below asked t is k node =
     let some = whole.some in
     let next = whole.next in
     let last : (node_of t 0).last_row ≡ t.plan.last = ap (λ n. n.last_row) is.head in
-    let under = rows_under asked t is ((node_of t 0).hi) 0 k some (omega arith) (omega arith) (omega arith) in
+    let under = (node_under asked t is 0 k some (omega arith) (omega arith)).last in
     omega arith
 
 -- where the sums of the band fit, a value is the sum itself

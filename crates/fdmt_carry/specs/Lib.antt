@@ -1,5 +1,6 @@
 pub mod Tables
 pub mod Making
+pub mod Narrow
 pub mod Reading
 pub mod Values
 pub mod Carrying

@@ -7,6 +7,7 @@ ghost use Rattle.search_model.specs.Subbands.{node_sum};
 ghost use Rattle.subband_plan.specs.Nodes.{HasRow, root};
 ghost use Rattle.fdmt_carry.specs.Tables.{node_of, node_count};
 ghost use Rattle.fdmt_carry.specs.Carrying.{Carrying, IsOpened, IsFed, IsStream, AreNext, StandsForSamples, IsSound, carrying};
+ghost use Rattle.fdmt_carry.specs.Narrow.{HaveNarrowRoom};
 
 use crate::tables::Tables;
 use psr_base::Memory;
@@ -26,6 +27,7 @@ pub struct Carry {
     has_tables: bool,
     kept: Vec<u32>,
     values: Vec<u32>,
+    narrow: Vec<u16>,
 }
 
 impl Model for Carry {
@@ -35,7 +37,8 @@ impl Model for Carry {
         c.values.items };
 
     ghost invariant = { λ c. IsSound (carrying c.tables c.max_sample c.fed c.last c.has_tables
-        c.kept.items c.values.items) };
+        c.kept.items c.values.items)
+        × HaveNarrowRoom c.tables c.max_sample (length c.narrow.items) };
 }
 
 impl Carry {
@@ -54,6 +57,7 @@ impl Carry {
         tables.whole_of();
         let kept = zeros(alloc, tables.kept_size())?;
         let values = zeros(alloc, tables.size())?;
+        let narrow = vec![in alloc; 0; tables.narrow_size(max_sample)]?;
         Ok(Carry {
             tables,
             max_sample,
@@ -62,6 +66,7 @@ impl Carry {
             has_tables: false,
             kept,
             values,
+            narrow,
         })
     }
 
@@ -109,8 +114,17 @@ impl Carry {
         self.tables.whole_of();
         let values = self.values.as_mut_slice();
         let kept = self.kept.as_mut_slice();
-        self.tables
-            .fill(0, values, kept, rows, spectra as usize, whole);
+        let narrow = self.narrow.as_mut_slice();
+        self.tables.fill(
+            0,
+            values,
+            kept,
+            rows,
+            spectra as usize,
+            whole,
+            self.max_sample,
+            narrow,
+        );
         self.fed += u64::from(spectra);
         self.last = spectra;
         self.has_tables = whole;

@@ -5,8 +5,11 @@ ghost use Rattle.subband_plan.specs.Rows.{merge_at};
 ghost use Rattle.fdmt_carry.specs.Tables.{Tables as TablesOf, AreTables, IsRow, node_of, node_count, all_rows, held_at, place_at, tail_of, start_of, row_number, place_of, hold_of, next_of, stop_of, tables as tables_of};
 ghost use Rattle.fdmt_carry.specs.Making.{IsPair, IsSingle, IsWide, StepsAt, IsMerge, IsRunOn, AreBases, IsPart, AreParts, lower_of};
 ghost use Rattle.fdmt_carry.specs.Reading.{IsWhole, ArePlain};
+ghost use Rattle.search_model.specs.Samples.{Filterbank};
+ghost use Rattle.fdmt_carry.specs.Narrow.{AreAtMost, IsNarrow, PartFits, HaveNarrowRoom};
 
 mod filling;
+mod narrow;
 mod nodes;
 
 use psr_base::Memory;
@@ -19,6 +22,9 @@ use std::marker::Model;
 use subband_plan::{
     Merge, Node, Plan, Rows, asked_rows_are_there, plans_are_laid, rows_are_few, rows_are_numbered,
 };
+
+// Where sums of 16 bits end.
+const NARROW_SUMS: u64 = 65536;
 
 /// The tables of a plan, for up to `chunk` spectra at a time. Where all stand, the rows stand one after another, each
 /// behind what is kept of it.
@@ -74,6 +80,12 @@ impl Tables {
         let _chunk = self.chunk;
     }
 
+    fn nodes(&self) -> usize
+        ensures { result ≡ node_count self.now }
+    {
+        self.plan.nodes()
+    }
+
     fn node(&self, k: usize) -> Node
         requires { k < node_count self.now }
         ensures { result ≡ node_of self.now k }
@@ -110,6 +122,66 @@ impl Tables {
         self.hold();
         let node = self.node(k);
         node.hi - node.lo >= 4
+    }
+
+    // Whether no sum of node `k` passes 16 bits where no sample is above `most`.
+    fn is_narrow(&self, k: usize, most: u32) -> bool
+        requires { k < node_count self.now }
+        ensures one { result ≡ true → IsNarrow self.now most k }
+        ensures two { IsNarrow self.now most k → result ≡ true }
+    {
+        self.hold();
+        let node = self.node(k);
+        let cells = u64::from(node.hi - node.lo) + u64::from(node.last_row);
+        u64::from(most).saturating_mul(cells) < NARROW_SUMS
+    }
+
+    // Whether node `k` is made in 16 bits, where its table alone is to stand.
+    fn is_low(&self, k: usize, most: u32, whole: bool) -> bool
+        requires { k < node_count self.now }
+        ensures alone { result ≡ true → whole ≡ false }
+        ensures narrow { result ≡ true → IsNarrow self.now most k }
+    {
+        !whole && self.is_narrow(k, most)
+    }
+
+    // Where node `k` is narrow, no value of it passes 16 bits, nor one of a node below it; it does nothing.
+    fn fits(&self, k: usize, most: u32)
+        requires { IsNarrow self.now most k }
+        ensures { (f : Filterbank) → AreAtMost most f → PartFits self.now f k }
+    {
+        self.hold();
+        halves_add();
+        one_channel_adds();
+        one_channel_is_its_sample();
+        nothing_before();
+        splits_fit();
+        asked_rows_are_there();
+    }
+
+    // How many values node `k` and all nodes below it have, where it is narrow.
+    fn narrow_span(&self, k: usize, most: u32) -> usize
+        requires { k < node_count self.now }
+        ensures { IsNarrow self.now most k
+            → place_of self.now (next_of self.now k) ≤ place_of self.now k + result }
+    {
+        if self.is_narrow(k, most) {
+            self.span(k, self.next(k))
+        } else {
+            0
+        }
+    }
+
+    /// How many values have room for each narrow node with all nodes below it.
+    pub fn narrow_size(&self, most: u32) -> usize
+        ensures { HaveNarrowRoom self.now most result }
+    {
+        self.hold();
+        let mut size: usize = 0;
+        for k in 0..self.nodes() {
+            size = size.max(self.narrow_span(k, most));
+        }
+        size
     }
 
     // The lower half of node `k`.

@@ -1,11 +1,13 @@
 // How the next spectra are taken into the tables of a node and of all nodes below it.
-ghost use Rattle.std.specs.Prelude.{◌≡◌, ℕ, ◌+◌, ◌-◌, ◌*◌, ◌<◌, ◌≤◌, length};
+ghost use Rattle.std.specs.Prelude.{◌≡◌, ℕ, ◌+◌, ◌-◌, ◌*◌, ◌<◌, ◌≤◌, false, length};
 ghost use Rattle.search_model.specs.Samples.{Filterbank};
 ghost use Rattle.band_paths.specs.Edges.{channels_of};
 ghost use Rattle.fdmt_carry.specs.Tables.{node_count, place_of, hold_of, next_of, stop_of, HasNext, AreKept};
 ghost use Rattle.fdmt_carry.specs.Making.{IsPair, IsWide, FitNode, HaveRoom, KeepsNode, KeepsPart, HalvesStand, WidePartStands, PartStands, lower_of};
+ghost use Rattle.fdmt_carry.specs.Narrow.{AreAtMost, IsNarrow, HaveNarrowRoom};
 
 use super::Tables;
+use fdmt_rows::widen_row;
 
 impl Tables {
     // Makes the rows of both halves of node `k`, and of all nodes below them, and tells how many values come before the
@@ -19,6 +21,8 @@ impl Tables {
         rows: &[u32],
         spectra: usize,
         whole: bool,
+        most: u32,
+        narrow: &mut [u16],
     ) -> usize
         requires node { IsPair self.now k }
         requires room { place_of self.now (next_of self.now k)
@@ -27,11 +31,13 @@ impl Tables {
             ≡ hold_of self.now (next_of self.now k) }
         requires rows { length rows.now ≡ channels_of self.now.plan.edges * self.now.chunk }
         requires short { spectra ≤ self.now.chunk }
+        requires narrow { HaveNarrowRoom self.now most (length narrow.old) }
         ensures value { place_of self.now (k + 1) + result
             ≡ place_of self.now (stop_of self.now whole (k + 1)) }
         ensures within { result ≤ length below.new }
         ensures room { HaveRoom self.now k result (length below.new - result) }
-        ensures made { (f : Filterbank) (u : ℕ) → HasNext self.now f u spectra rows.now
+        ensures made { (f : Filterbank) (u : ℕ) → AreAtMost most f
+            → HasNext self.now f u spectra rows.now
             → AreKept self.now f u (k + 1) (next_of self.now k) kept.old
             → HalvesStand self.now f u spectra whole k result below.new kept.new }
     {
@@ -40,10 +46,10 @@ impl Tables {
         self.parts_of(k);
         let low = self.lower(k);
         let (upper_kept, lower_kept) = kept.split_at_mut(self.kept_span(k + 1, low));
-        self.fill(k + 1, below, upper_kept, rows, spectra, whole);
+        self.fill(k + 1, below, upper_kept, rows, spectra, whole, most, narrow);
         let made = self.span(k + 1, self.stop(k + 1, whole));
         let (_, lower) = below.split_at_mut(made);
-        self.fill(low, lower, lower_kept, rows, spectra, whole);
+        self.fill(low, lower, lower_kept, rows, spectra, whole, most, narrow);
         made
     }
 
@@ -60,9 +66,12 @@ impl Tables {
         lower_kept: &mut [u32],
         rows: &[u32],
         spectra: usize,
+        most: u32,
+        narrow: &mut [u16],
     )
         requires node { IsWide self.now k }
         requires short { spectra ≤ self.now.chunk }
+        requires narrow { HaveNarrowRoom self.now most (length narrow.old) }
         requires own { FitNode self.now k (length table.old) (length kept.old) }
         requires room { place_of self.now (next_of self.now k)
             ≤ place_of self.now (k + 1) + length below.old }
@@ -71,7 +80,8 @@ impl Tables {
         requires lower { hold_of self.now (lower_of self.now k) + length lower_kept.old
             ≡ hold_of self.now (next_of self.now (lower_of self.now k)) }
         requires rows { length rows.now ≡ channels_of self.now.plan.edges * self.now.chunk }
-        ensures { (f : Filterbank) (u : ℕ) → HasNext self.now f u spectra rows.now
+        ensures { (f : Filterbank) (u : ℕ) → AreAtMost most f
+            → HasNext self.now f u spectra rows.now
             → KeepsNode self.now f u k kept.old
             → KeepsPart self.now f u (k + 1) upper_kept.old
             → KeepsPart self.now f u (lower_of self.now k) lower_kept.old
@@ -85,10 +95,28 @@ impl Tables {
         self.parts_of(low);
         let (upper_own, upper_tails) = upper_kept.split_at_mut(self.kept_span(k + 1, k + 1 + 1));
         let (lower_own, lower_tails) = lower_kept.split_at_mut(self.kept_span(low, low + 1));
-        let upper_made = self.fill_halves(k + 1, below, upper_tails, rows, spectra, false);
+        let upper_made = self.fill_halves(
+            k + 1,
+            below,
+            upper_tails,
+            rows,
+            spectra,
+            false,
+            most,
+            narrow,
+        );
         let upper_end = upper_made + self.lower_span(k + 1);
         let (upper_tables, rest) = below.split_at_mut(upper_end);
-        let lower_made = self.fill_halves(low, rest, lower_tails, rows, spectra, false);
+        let lower_made = self.fill_halves(
+            low,
+            rest,
+            lower_tails,
+            rows,
+            spectra,
+            false,
+            most,
+            narrow,
+        );
         let lower_end = lower_made + self.lower_span(low);
         let (lower_tables, rest) = rest.split_at_mut(lower_end);
         let (upper_row, rest) = rest.split_at_mut(self.span(k + 1, k + 1 + 1));
@@ -111,8 +139,40 @@ impl Tables {
         );
     }
 
+    // Makes the rows of node `k` from the next spectra in 16 bits, and its table of these.
+    fn fill_low(
+        &self,
+        k: usize,
+        table: &mut [u32],
+        kept: &mut [u32],
+        rows: &[u32],
+        spectra: usize,
+        most: u32,
+        narrow: &mut [u16],
+    )
+        requires node { IsNarrow self.now most k }
+        requires room { place_of self.now (next_of self.now k)
+            ≤ place_of self.now k + length table.old }
+        requires tails { hold_of self.now k + length kept.old
+            ≡ hold_of self.now (next_of self.now k) }
+        requires rows { length rows.now ≡ channels_of self.now.plan.edges * self.now.chunk }
+        requires short { spectra ≤ self.now.chunk }
+        requires narrow { HaveNarrowRoom self.now most (length narrow.old) }
+        ensures { (f : Filterbank) (u : ℕ) → AreAtMost most f
+            → HasNext self.now f u spectra rows.now
+            → KeepsPart self.now f u k kept.old
+            → PartStands self.now f u spectra false k table.new kept.new }
+    {
+        self.hold();
+        self.part_of(k);
+        self.fits(k, most);
+        self.fill_narrow(k, narrow, kept, rows, spectra);
+        let own = self.span(k, k + 1);
+        widen_row(&mut table[..own], &narrow[..own]);
+    }
+
     /// Makes the rows of node `k` from the next spectra, and those of all nodes below it; `whole` says whether the
-    /// tables of these stand too.
+    /// tables of these stand too. No sample is above `most`, and `narrow` is room for rows of 16 bits.
     #[cycle(fill)]
     pub fn fill(
         &self,
@@ -122,6 +182,8 @@ impl Tables {
         rows: &[u32],
         spectra: usize,
         whole: bool,
+        most: u32,
+        narrow: &mut [u16],
     )
         requires node { k < node_count self.now }
         requires room { place_of self.now (next_of self.now k)
@@ -130,12 +192,18 @@ impl Tables {
             ≡ hold_of self.now (next_of self.now k) }
         requires rows { length rows.now ≡ channels_of self.now.plan.edges * self.now.chunk }
         requires short { spectra ≤ self.now.chunk }
-        ensures { (f : Filterbank) (u : ℕ) → HasNext self.now f u spectra rows.now
+        requires narrow { HaveNarrowRoom self.now most (length narrow.old) }
+        ensures { (f : Filterbank) (u : ℕ) → AreAtMost most f
+            → HasNext self.now f u spectra rows.now
             → KeepsPart self.now f u k kept.old
             → PartStands self.now f u spectra whole k table.new kept.new }
     {
         self.hold();
         self.part_of(k);
+        if self.is_low(k, most, whole) {
+            self.fill_low(k, table, kept, rows, spectra, most, narrow);
+            return;
+        }
         let (own, below) = table.split_at_mut(self.span(k, k + 1));
         let (own_kept, below_kept) = kept.split_at_mut(self.kept_span(k, k + 1));
         if self.is_single(k) {
@@ -147,11 +215,11 @@ impl Tables {
             let low = self.lower(k);
             let (upper_kept, lower_kept) = below_kept.split_at_mut(self.kept_span(k + 1, low));
             self.fill_wide(
-                k, own, own_kept, below, upper_kept, lower_kept, rows, spectra,
+                k, own, own_kept, below, upper_kept, lower_kept, rows, spectra, most, narrow,
             );
             return;
         }
-        let made = self.fill_halves(k, below, below_kept, rows, spectra, whole);
+        let made = self.fill_halves(k, below, below_kept, rows, spectra, whole, most, narrow);
         let (upper, lower) = below.split_at(made);
         self.merge(k, own, own_kept, upper, lower, spectra);
     }

@@ -1,12 +1,18 @@
-use Rattle.std.proofs.Common.{ℕ, ◌≡◌, ◌+◌, ◌≤◌, ◌<◌, false, length, take, drop, ap, sym, subst, ◌∙◌, arith}
+use Rattle.std.proofs.Common.{ℕ, ◌≡◌, ◌+◌, ◌≤◌, ◌<◌, rules, false, length, take, drop, ap, sym, subst, ◌∙◌, arith}
 use Rattle.std.proofs.lemmas.List.{length-take-le}
 use Rattle.fdmt_carry.specs.Tables.{place_of, hold_of, stop_of, node_count}
+use Rattle.fdmt_carry.specs.Narrow.{HaveNarrowRoom}
 use Rattle.fdmt_carry.specs.Making.{KeepsNode, KeepsPart, PartStands, HalvesStand, AreHalves, AreParts, lower_of}
 use Rattle.fdmt_carry.proofs.Halves.{KeepsRest, own_kept, below_kept, upper_kept, lower_kept, kept_more, halves_cut, halves_joined, part_joined, wide_joined, channel_made, channel_next, stop_above}
 use Rattle.fdmt_carry.proofs.tables.Tables.+fill.Goals as goal
 
+pub fill-returns-then-is_low : goal.fill-returns-then-is_low
+fill-returns-then-is_low t c = λ f u small next keeps.
+    subst (λ whole. PartStands c.args.self.now f u c.args.spectra whole c.args.k c.fill_low.new.table c.fill_low.new.kept)
+    (sym (c.is_low.ensures.alone c.if-is_low.true)) (c.fill_low.ensures f u small next keeps)
+
 pub fill-returns-then-is_single : goal.fill-returns-then-is_single
-fill-returns-then-is_single t c = λ f u next keeps.
+fill-returns-then-is_single t c = λ f u small next keeps.
     let self = c.args.self.now in
     let k : ℕ = c.args.k in
     let is = c.hold.ensures in
@@ -27,7 +33,7 @@ fill-returns-then-is_single t c = λ f u next keeps.
     c.requires.short (omega arith) (omega arith) (c.run_channel.ensures f u next own)
 
 pub fill-returns-then-is_wide : goal.fill-returns-then-is_wide
-fill-returns-then-is_wide t c = λ f u next keeps.
+fill-returns-then-is_wide t c = λ f u small next keeps.
     let self = c.args.self.now in
     let k : ℕ = c.args.k in
     let is = c.hold.ensures in
@@ -65,10 +71,10 @@ fill-returns-then-is_wide t c = λ f u next keeps.
     wide_joined self is f u c.args.spectra k c.args.whole c.fill_wide.new.table c.fill_wide.new.kept
     c.fill_wide.new.below c.fill_wide.new.upper_kept c.fill_wide.new.lower_kept
     (c.is_wide.ensures.alone c.if-is_wide.true) part parts c.requires.short (omega arith) (omega arith) (omega arith)
-    (c.fill_wide.ensures f u next own keeps_upper keeps_lower)
+    (c.fill_wide.ensures f u small next own keeps_upper keeps_lower)
 
 pub fill-returns : goal.fill-returns
-fill-returns t c = λ f u next keeps.
+fill-returns t c = λ f u small next keeps.
     let self = c.args.self.now in
     let k : ℕ = c.args.k in
     let spectra : ℕ = c.args.spectra in
@@ -87,7 +93,7 @@ fill-returns t c = λ f u next keeps.
     let made : ℕ = c.fill_halves-made.result in
     let below = c.fill_halves-made.new.below in
     let stand : HalvesStand self f u spectra c.args.whole k made below c.fill_halves-made.new.kept =
-    c.fill_halves-made.ensures.made f u next rest in
+    c.fill_halves-made.ensures.made f u small next rest in
     let halves : AreHalves self f u spectra k c.split_at.result.0.now c.split_at.result.1.now =
     subst (λ xs. AreHalves self f u spectra k xs c.split_at.result.1.now) (sym c.split_at.ensures.front)
     (subst (λ xs. AreHalves self f u spectra k (take made below) xs) (sym c.split_at.ensures.back) stand.halves) in
@@ -99,7 +105,7 @@ fill-returns t c = λ f u next keeps.
     c.fill_halves-made.new.kept part c.requires.short (omega arith) (omega arith) (c.merge.ensures f u halves own) stand
 
 pub fill_halves-returns-clause-made : goal.fill_halves-returns-clause-made
-fill_halves-returns-clause-made t c = λ f u next keeps.
+fill_halves-returns-clause-made t c = λ f u small next keeps.
     let self = c.args.self.now in
     let k : ℕ = c.args.k in
     let whole = c.args.whole in
@@ -129,10 +135,10 @@ fill_halves-returns-clause-made t c = λ f u next keeps.
     (subst (λ xs. KeepsPart self f u low xs) (sym c.split_at_mut-upper_kept.ensures.back)
     (lower_kept self f u k n kept parts upper_kept_size keeps)) in
     let upper_made : PartStands self f u spectra whole (k + 1) c.fill.new.table c.fill.new.kept =
-    c.fill.ensures f u next keeps_upper in
+    c.fill.ensures f u small next keeps_upper in
     let lower_made : PartStands self f u spectra whole low c.fill-2.new.table c.fill-2.new.kept =
     subst (λ j. PartStands self f u spectra whole j c.fill-2.new.table c.fill-2.new.kept) low_is
-    (c.fill-2.ensures f u next keeps_lower) in
+    (c.fill-2.ensures f u small next keeps_lower) in
     let front = c.split_at_mut-lower.ensures.front in
     let upper_long = c.split_at_mut-lower.ensures.front_len in
     let upper_kept_long = c.split_at_mut-upper_kept.ensures.front_len in
@@ -143,7 +149,7 @@ fill_halves-returns-clause-made t c = λ f u next keeps.
     made_size made_is (omega arith) upper_made lower_made)
 
 pub fill_wide-returns : goal.fill_wide-returns
-fill_wide-returns t c = λ f u next keeps upper_keeps lower_keeps.
+fill_wide-returns t c = λ f u small next keeps upper_keeps lower_keeps.
     let self = c.args.self.now in
     let k : ℕ = c.args.k in
     let low : ℕ = lower_of self k in
@@ -183,10 +189,10 @@ fill_wide-returns t c = λ f u next keeps upper_keeps lower_keeps.
     let upper_tails = c.fill_halves-upper_made.new.kept in
     let lower_tails = c.fill_halves-lower_made.new.kept in
     let upper_stand : HalvesStand self f u spectra false (k + 1) above upper_all upper_tails =
-    c.fill_halves-upper_made.ensures.made f u next upper_kept_rest in
+    c.fill_halves-upper_made.ensures.made f u small next upper_kept_rest in
     let lower_stand : HalvesStand self f u spectra false low below lower_all lower_tails =
     subst (λ j. HalvesStand self f u spectra false j below lower_all lower_tails) low_is
-    (c.fill_halves-lower_made.ensures.made f u next
+    (c.fill_halves-lower_made.ensures.made f u small next
     (subst (λ j. KeepsRest self f u j c.split_at_mut-lower_own.result.1.now) (sym low_is) lower_kept_rest)) in
     let upper_halves : AreHalves self f u spectra (k + 1) c.split_at.result.0.now
     c.split_at.result.1.now =
@@ -222,3 +228,10 @@ fill_wide-returns t c = λ f u next keeps upper_keeps lower_keeps.
       lower_tails = kept_more self is f (u + spectra) low c.merge_wide.new.lower_kept lower_tails parts.lower_part
           (omega arith) made.lower_tails lower_stand.tails;
     }
+
+pub fill_wide-fill_halves-lower_made-requires : goal.fill_wide-fill_halves-lower_made-requires
+fill_wide-fill_halves-lower_made-requires t c =
+    let narrow : HaveNarrowRoom c.args.self.now c.args.most (length c.fill_halves-upper_made.new.narrow) =
+    subst (λ size. HaveNarrowRoom c.args.self.now c.args.most size) (sym c.fill_halves-upper_made.auto.narrow)
+    c.requires.narrow in
+    (search rules, (search rules, (search rules, (search rules, (search rules, (search rules, narrow))))))

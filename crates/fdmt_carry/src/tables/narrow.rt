@@ -1,0 +1,308 @@
+// How the rows of a node are made in 16 bits where none of its values passes them, and those of all nodes below it.
+ghost use Rattle.std.specs.Prelude.{◌≡◌, ℕ, ◌+◌, ◌-◌, ◌*◌, ◌<◌, ◌≤◌, false, length};
+ghost use Rattle.search_model.specs.Samples.{Filterbank};
+ghost use Rattle.band_paths.specs.Edges.{channels_of};
+ghost use Rattle.subband_plan.specs.Nodes.{HasKept};
+ghost use Rattle.fdmt_carry.specs.Tables.{node_of, node_count, held_at, tail_of, row_number, place_of, hold_of, next_of, HasNext, AreKept};
+ghost use Rattle.fdmt_carry.specs.Making.{IsPair, IsSingle, IsMerge, AreBases, FitNode, HasRoom, HaveRoom, AreHalves, AreSamples, ChannelHas, KeepsTail, KeepsNode, KeepsPart, HaveHalfRows, RowStandsAt, RowStands, ChangesRowAt, ChangesRow, NodeStands, HalvesStand, PartStands, lower_of};
+ghost use Rattle.fdmt_carry.specs.Narrow.{NodeFits, PartFits};
+
+use super::{Bases, Tables};
+use crate::rows::{add_next_narrow, copy_next_narrow};
+use search_model::{halves_add, one_channel_adds, one_channel_is_its_sample, time_shifts};
+use subband_plan::Merge;
+
+impl Tables {
+    // Makes row `r`, which is that of delay `d` of node `k`, at place `at` of a table, in 16 bits from rows of its
+    // halves that begin at places `above` and `below`.
+    #[inline(always)]
+    fn add_row_narrow(
+        &self,
+        k: usize,
+        d: u32,
+        r: usize,
+        merge: Merge,
+        table: &mut [u16],
+        at: usize,
+        kept: &mut [u32],
+        hold: usize,
+        upper: &[u16],
+        above: usize,
+        lower: &[u16],
+        below: usize,
+        spectra: usize,
+    )
+        requires node { IsPair self.now k }
+        requires row { HasKept (node_of self.now k) d }
+        requires number { r ≡ row_number self.now k d }
+        requires merge { IsMerge self.now k d merge }
+        requires table { at + (tail_of self.now r + spectra) ≤ length table.old }
+        requires hold { hold_of self.now k + hold ≡ held_at self.now r }
+        requires kept { hold + tail_of self.now r ≤ length kept.old }
+        requires upper { above + (tail_of self.now merge.upper + spectra) ≤ length upper.now }
+        requires lower { below + (tail_of self.now merge.lower + spectra) ≤ length lower.now }
+        ensures made { (f : Filterbank) (u : ℕ) → NodeFits self.now f k
+            → HaveHalfRows self.now f u spectra k d above below upper.now lower.now
+            → KeepsTail self.now f u k d kept.old
+            → RowStandsAt self.now f u spectra k d at table.new kept.new }
+        ensures rest { ChangesRowAt self.now k r at (tail_of self.now r + spectra)
+            table.old table.new kept.old kept.new }
+    {
+        self.hold();
+        halves_add();
+        time_shifts();
+        self.row_of(k, d, r);
+        let tail = self.tail(r);
+        let above = above + (self.tail(merge.upper as usize) - merge.late as usize);
+        let below = below + self.tail(merge.lower as usize);
+        add_next_narrow(
+            &mut table[at..at + (tail + spectra)],
+            &mut kept[hold..hold + tail],
+            &upper[above..above + spectra],
+            &lower[below..below + spectra],
+        );
+    }
+
+    // Makes row `r`, which is that of delay `d` of node `k`, in 16 bits from the tables of its halves.
+    #[inline(always)]
+    fn merge_row_narrow(
+        &self,
+        k: usize,
+        d: u32,
+        r: usize,
+        bases: Bases,
+        table: &mut [u16],
+        kept: &mut [u32],
+        upper: &[u16],
+        lower: &[u16],
+        spectra: usize,
+    )
+        requires node { IsPair self.now k }
+        requires row { HasKept (node_of self.now k) d }
+        requires number { r ≡ row_number self.now k d }
+        requires bases { AreBases self.now k bases.place bases.hold bases.upper bases.lower }
+        requires short { spectra ≤ self.now.chunk }
+        requires own { FitNode self.now k (length table.old) (length kept.old) }
+        requires upper { HasRoom self.now (k + 1) (length upper.now) }
+        requires lower { HasRoom self.now (lower_of self.now k) (length lower.now) }
+        ensures made { (f : Filterbank) (u : ℕ) → NodeFits self.now f k
+            → AreHalves self.now f u spectra k upper.now lower.now
+            → KeepsTail self.now f u k d kept.old
+            → RowStands self.now f u spectra k d table.new kept.new }
+        ensures rest { ChangesRow self.now k (row_number self.now k d) table.old table.new
+            kept.old kept.new }
+    {
+        self.row_of(k, d, r);
+        let merge = self.merge_of(k, d, r);
+        let at = self.place_in(bases.place, r);
+        let hold = self.hold_in(bases.hold, r);
+        let above = self.place_in(bases.upper, merge.upper as usize);
+        let below = self.place_in(bases.lower, merge.lower as usize);
+        self.add_row_narrow(
+            k, d, r, merge, table, at, kept, hold, upper, above, lower, below, spectra,
+        );
+    }
+
+    // Makes the rows of node `k` in 16 bits from those of its halves.
+    fn merge_narrow(
+        &self,
+        k: usize,
+        table: &mut [u16],
+        kept: &mut [u32],
+        upper: &[u16],
+        lower: &[u16],
+        spectra: usize,
+    )
+        requires node { IsPair self.now k }
+        requires short { spectra ≤ self.now.chunk }
+        requires own { FitNode self.now k (length table.old) (length kept.old) }
+        requires upper { HasRoom self.now (k + 1) (length upper.now) }
+        requires lower { HasRoom self.now (lower_of self.now k) (length lower.now) }
+        ensures { (f : Filterbank) (u : ℕ) → NodeFits self.now f k
+            → AreHalves self.now f u spectra k upper.now lower.now
+            → KeepsNode self.now f u k kept.old
+            → NodeStands self.now f u spectra k table.new kept.new }
+    {
+        self.hold();
+        let node = self.node(k);
+        let bases = self.bases(k);
+        let first = self.start(k);
+        let least = node.least_row();
+        for d in least..node.last_row + 1 {
+            let r = first + (d - least) as usize;
+            self.merge_row_narrow(k, d, r, bases, table, kept, upper, lower, spectra);
+        }
+    }
+
+    // Makes the row of delay `d` of a single channel in 16 bits from those of lesser delays.
+    fn run_row_narrow(&self, k: usize, d: u32, table: &mut [u16], kept: &mut [u32], spectra: usize)
+        requires node { IsSingle self.now k }
+        requires later { 1 ≤ d }
+        requires row { HasKept (node_of self.now k) d }
+        requires short { spectra ≤ self.now.chunk }
+        requires own { FitNode self.now k (length table.old) (length kept.old) }
+        ensures made { (f : Filterbank) (u : ℕ) → NodeFits self.now f k
+            → f.channels ≡ channels_of self.now.plan.edges
+            → ChannelHas self.now f u spectra k d table.old
+            → KeepsTail self.now f u k d kept.old
+            → RowStands self.now f u spectra k d table.new kept.new }
+        ensures rest { ChangesRow self.now k (row_number self.now k d) table.old table.new
+            kept.old kept.new }
+    {
+        self.hold();
+        one_channel_adds();
+        time_shifts();
+        self.run_of(k, d);
+        let (a, b) = (self.number(k, 0), self.number(k, d - 1));
+        let r = self.number(k, d);
+        let base = self.base(k);
+        let at = self.place_in(base, r);
+        let hold = self.hold_in(self.hold_base(k), r);
+        let tail = self.tail(r);
+        let above = self.tail(a) - d as usize;
+        let below = self.place_in(base, b) + self.tail(b);
+        let (before, row) = table.split_at_mut(at);
+        add_next_narrow(
+            &mut row[..tail + spectra],
+            &mut kept[hold..hold + tail],
+            &before[above..above + spectra],
+            &before[below..below + spectra],
+        );
+    }
+
+    // Makes the row of delay 0 of a single channel, which has its samples, in 16 bits.
+    fn copy_row_narrow(&self, k: usize, table: &mut [u16], kept: &mut [u32], samples: &[u32])
+        requires node { IsSingle self.now k }
+        requires short { length samples.now ≤ self.now.chunk }
+        requires own { FitNode self.now k (length table.old) (length kept.old) }
+        ensures made { (f : Filterbank) (u : ℕ) → NodeFits self.now f k
+            → AreSamples self.now f u k samples.now
+            → KeepsTail self.now f u k 0 kept.old
+            → RowStands self.now f u (length samples.now) k 0 table.new kept.new }
+        ensures rest { ChangesRow self.now k (row_number self.now k 0) table.old table.new
+            kept.old kept.new }
+    {
+        self.hold();
+        one_channel_is_its_sample();
+        time_shifts();
+        let tail = self.tail(self.number(k, 0));
+        copy_next_narrow(
+            &mut table[..tail + samples.len()],
+            &mut kept[..tail],
+            samples,
+        );
+    }
+
+    // Makes the rows of a single channel in 16 bits from its samples.
+    fn run_narrow(&self, k: usize, table: &mut [u16], kept: &mut [u32], samples: &[u32])
+        requires node { IsSingle self.now k }
+        requires short { length samples.now ≤ self.now.chunk }
+        requires own { FitNode self.now k (length table.old) (length kept.old) }
+        ensures { (f : Filterbank) (u : ℕ) → NodeFits self.now f k
+            → AreSamples self.now f u k samples.now
+            → KeepsNode self.now f u k kept.old
+            → NodeStands self.now f u (length samples.now) k table.new kept.new }
+    {
+        self.hold();
+        self.copy_row_narrow(k, table, kept, samples);
+        for d in 1..self.node(k).last_row + 1 {
+            self.run_row_narrow(k, d, table, kept, samples.len());
+        }
+    }
+
+    // Makes the rows of a single channel in 16 bits from the next spectra.
+    fn run_channel_narrow(
+        &self,
+        k: usize,
+        table: &mut [u16],
+        kept: &mut [u32],
+        rows: &[u32],
+        spectra: usize,
+    )
+        requires node { IsSingle self.now k }
+        requires own { FitNode self.now k (length table.old) (length kept.old) }
+        requires rows { length rows.now ≡ channels_of self.now.plan.edges * self.now.chunk }
+        requires short { spectra ≤ self.now.chunk }
+        ensures { (f : Filterbank) (u : ℕ) → NodeFits self.now f k
+            → HasNext self.now f u spectra rows.now
+            → KeepsNode self.now f u k kept.old
+            → NodeStands self.now f u spectra k table.new kept.new }
+    {
+        self.hold();
+        self.part_of(k);
+        let at = self.node(k).lo as usize * self.chunk();
+        self.run_narrow(k, table, kept, &rows[at..at + spectra]);
+    }
+
+    // Makes the rows of both halves of node `k` in 16 bits, and of all nodes below them, and tells how many values come
+    // before the rows of the lower half.
+    #[cycle(fill_narrow)]
+    fn fill_halves_narrow(
+        &self,
+        k: usize,
+        below: &mut [u16],
+        kept: &mut [u32],
+        rows: &[u32],
+        spectra: usize,
+    ) -> usize
+        requires node { IsPair self.now k }
+        requires room { place_of self.now (next_of self.now k)
+            ≤ place_of self.now (k + 1) + length below.old }
+        requires tails { hold_of self.now (k + 1) + length kept.old
+            ≡ hold_of self.now (next_of self.now k) }
+        requires rows { length rows.now ≡ channels_of self.now.plan.edges * self.now.chunk }
+        requires short { spectra ≤ self.now.chunk }
+        ensures within { result ≤ length below.new }
+        ensures room { HaveRoom self.now k result (length below.new - result) }
+        ensures made { (f : Filterbank) (u : ℕ) → PartFits self.now f k
+            → HasNext self.now f u spectra rows.now
+            → AreKept self.now f u (k + 1) (next_of self.now k) kept.old
+            → HalvesStand self.now f u spectra false k result below.new kept.new }
+    {
+        self.hold();
+        self.part_of(k);
+        self.parts_of(k);
+        let low = self.lower(k);
+        let (upper_kept, lower_kept) = kept.split_at_mut(self.kept_span(k + 1, low));
+        self.fill_narrow(k + 1, below, upper_kept, rows, spectra);
+        let made = self.span(k + 1, k + 1 + 1);
+        let (_, lower) = below.split_at_mut(made);
+        self.fill_narrow(low, lower, lower_kept, rows, spectra);
+        made
+    }
+
+    /// Makes the rows of node `k` from the next spectra in 16 bits.
+    #[cycle(fill_narrow)]
+    pub(super) fn fill_narrow(
+        &self,
+        k: usize,
+        table: &mut [u16],
+        kept: &mut [u32],
+        rows: &[u32],
+        spectra: usize,
+    )
+        requires node { k < node_count self.now }
+        requires room { place_of self.now (next_of self.now k)
+            ≤ place_of self.now k + length table.old }
+        requires tails { hold_of self.now k + length kept.old
+            ≡ hold_of self.now (next_of self.now k) }
+        requires rows { length rows.now ≡ channels_of self.now.plan.edges * self.now.chunk }
+        requires short { spectra ≤ self.now.chunk }
+        ensures { (f : Filterbank) (u : ℕ) → PartFits self.now f k
+            → HasNext self.now f u spectra rows.now
+            → KeepsPart self.now f u k kept.old
+            → PartStands self.now f u spectra false k table.new kept.new }
+    {
+        self.hold();
+        self.part_of(k);
+        let (own, below) = table.split_at_mut(self.span(k, k + 1));
+        let (own_kept, below_kept) = kept.split_at_mut(self.kept_span(k, k + 1));
+        if self.is_single(k) {
+            self.run_channel_narrow(k, own, own_kept, rows, spectra);
+            return;
+        }
+        let made = self.fill_halves_narrow(k, below, below_kept, rows, spectra);
+        let (upper, lower) = below.split_at(made);
+        self.merge_narrow(k, own, own_kept, upper, lower, spectra);
+    }
+}
