@@ -1,66 +1,97 @@
 // Changes of the fields of a header.
+use crate::lines::{bytes_of, fields_of};
 use dada_header::{Header, SetFault};
 use std::alloc::Global;
 use std::test::Fail;
 
-const SAMPLE: &[u8] = b"HDR_SIZE 4096
-NCHAN 2
-NBIT 8
-NPOL 1
-NDIM 1
-TSAMP 64
-FREQ 1400
-BW -200
-UTC_START 2024-01-02-03:04:05
-OBS_OFFSET 0
+// A text, a value that one field gets, and the text after that: a longer value has a line at the end.
+const CHANGES: &str = "
+ | 1 | BW 1;
+BW -200; | 1 | BW 1   ;
+BW -200; | -400 | BW -400;
+BW 1#MHz;BWA 2 | -400 | ,,,,#MHz;BWA 2;BW -400;
+BW 1;BW -200; | -400 | ,,,,;       ;BW -400;
+BW -200;BW 1; | -4 | BW -4  ;BW 1;
+BW;\tBW  5 MHz#BW 6; | 7 | BW;\tBW  7 MHz#BW 6;
+BW;\tBW  5 MHz#BW 6; | 70 | BW;          #BW 6;BW 70;
+# BW 1;BW#1; | 2 | # BW 1;BW#1;BW 2;
+HDR_SIZE 4096;NCHAN 2;NBIT 8;NPOL 1;NDIM 1;TSAMP 64;FREQ 1400;BW -200;UTC_START 2024-01-02-03:04:05;OBS_OFFSET 0; \
+    | 0000000000000002 \
+    | HDR_SIZE 4096;NCHAN 2;NBIT 8;NPOL 1;NDIM 1;TSAMP 64;FREQ 1400;BW -200;UTC_START 2024-01-02-03:04:05;\
+            ,           ;OBS_OFFSET 0000000000000002;
 ";
 
-fn header(alloc: Global, text: &[u8]) -> Result<Header, Fail> {
-    let mut bytes = text.to_vec(alloc)?;
-    bytes.resize(4096, 0)?;
+// Sets BW, or OBS_OFFSET of sixteen digits, to a value of graphic bytes without '#', and answers which.
+fn set_field(header: &mut Header, value: &str) -> Result<&'static str, SetFault> {
+    match value {
+        "0000000000000002" => {
+            header.set("OBS_OFFSET", "0000000000000002")?;
+            return Ok("OBS_OFFSET");
+        }
+        "1" => header.set("BW", "1")?,
+        "2" => header.set("BW", "2")?,
+        "7" => header.set("BW", "7")?,
+        "-4" => header.set("BW", "-4")?,
+        "70" => header.set("BW", "70")?,
+        _ => header.set("BW", "-400")?,
+    }
+    Ok("BW")
+}
+
+fn header_of(alloc: Global, text: &str) -> Result<Header, Fail> {
+    let bytes = bytes_of(alloc, 0, text, 4096)?;
     Ok(Header::read(alloc, bytes.as_slice())?)
 }
 
+// Whether the text of a line becomes the other.
+fn is_changed(alloc: Global, line: &'static str) -> Result<bool, Fail> {
+    let [text, value, wanted, ..] = fields_of(line);
+    let mut header = header_of(alloc, text)?;
+    let after = bytes_of(alloc, 0, wanted, 4096)?;
+    let key = set_field(&mut header, value)?;
+    Ok(header.bytes() == after.as_slice() && header.get(key) == Some(value))
+}
+
+#[test]
+fn a_field_is_set_where_it_stands_or_at_the_end(rt: HostRuntime) -> Result<(), Fail> {
+    for line in CHANGES.lines() {
+        assert!(rt;
+            line.is_empty() || is_changed(rt.alloc(), line)?,
+            "{line:?}"
+        );
+    }
+    Ok(())
+}
+
+// ---- the lines of a recorded file
+
 // The three changes that a recorded file's header has.
-fn changed_for_a_file(header: &mut Header) -> Result<(), SetFault> {
+fn change_for_a_file(header: &mut Header) -> Result<(), SetFault> {
     header.set("OBS_OFFSET", "0000000000000002")?;
     header.set("FILE_NUMBER", "000000")?;
     header.set("FILE_SIZE", "0000000000000004")
 }
 
-#[test]
-fn a_longer_value_has_a_line_at_the_end(rt: HostRuntime) -> Result<(), Fail> {
-    let mut header = header(rt.alloc(), SAMPLE)?;
-    header.set("OBS_OFFSET", "0000000000000002")?;
-    let expected = b"HDR_SIZE 4096
-NCHAN 2
-NBIT 8
-NPOL 1
-NDIM 1
-TSAMP 64
-FREQ 1400
-BW -200
-UTC_START 2024-01-02-03:04:05
-            
-OBS_OFFSET 0000000000000002
-";
-    assert_eq!(rt; expected.len(), SAMPLE.len() + 28);
-    let (text, rest) = header.bytes().split_at(expected.len());
-    assert_eq!(rt; text, expected.as_slice());
-    assert!(rt; rest.iter().all(|byte| *byte == 0));
-    assert_eq!(rt; header.get("OBS_OFFSET"), Some("0000000000000002"));
-    assert_eq!(rt; header.get("UTC_START"), Some("2024-01-02-03:04:05"));
-    Ok(())
+// A header whose text has a length: the line of OBS_OFFSET, a comment, and the last line feed.
+fn header_of_length(alloc: Global, len: usize) -> Result<Header, Fail> {
+    let mut bytes = b"OBS_OFFSET 0\n#".to_vec(alloc)?;
+    bytes.resize(len.saturating_sub(1), b'.')?;
+    bytes.push(b'\n')?;
+    bytes.resize(4096, 0)?;
+    Ok(Header::read(alloc, bytes.as_slice())?)
 }
 
-// A text of a length: the line of OBS_OFFSET, a comment, and the last line feed.
-fn text_of_length(alloc: Global, len: usize) -> Result<Vec<u8>, Fail> {
-    let mut text = b"OBS_OFFSET 0\n#".to_vec(alloc)?;
-    if text.len() < len {
-        text.resize(len - 1, b'.')?;
-        text.push(b'\n')?;
-    }
-    Ok(text)
+// Whether the changes are answered so, and the header can be read again after them.
+fn is_answered(alloc: Global, len: usize, wanted: Result<(), SetFault>) -> Result<bool, Fail> {
+    let mut header = header_of_length(alloc, len)?;
+    let answer = change_for_a_file(&mut header);
+    let again = Header::read(alloc, header.bytes())?;
+    Ok(
+        answer == wanted
+            && header.get("FILE_NUMBER") == Some("000000")
+            && header.get("FILE_SIZE").is_some() == wanted.is_ok()
+            && again.bytes() == header.bytes(),
+    )
 }
 
 #[test]
@@ -69,54 +100,7 @@ fn three_lines_of_a_file_need_74_bytes(rt: HostRuntime) -> Result<(), Fail> {
         need: 4096,
         size: 4096,
     };
-    for (len, answer) in [(4021, Ok(())), (4022, Err(full))] {
-        let text = text_of_length(rt.alloc(), len)?;
-        let mut header = header(rt.alloc(), text.as_slice())?;
-        assert_eq!(rt; changed_for_a_file(&mut header), answer, "{len}");
-        assert_eq!(rt; header.get("FILE_NUMBER"), Some("000000"));
-        assert_eq!(rt; header.get("FILE_SIZE").is_some(), answer.is_ok());
-        let again = Header::read(rt.alloc(), header.bytes())?;
-        assert_eq!(rt; again.bytes(), header.bytes());
-    }
-    Ok(())
-}
-
-// Sets BW to a value of graphic bytes without '#'.
-fn set_width(header: &mut Header, value: &str) -> Result<(), Fail> {
-    match value {
-        "1" => header.set("BW", "1")?,
-        "2" => header.set("BW", "2")?,
-        "7" => header.set("BW", "7")?,
-        "-4" => header.set("BW", "-4")?,
-        "70" => header.set("BW", "70")?,
-        _ => header.set("BW", "-400")?,
-    }
-    Ok(())
-}
-
-#[test]
-fn a_field_is_set_where_it_stands_or_at_the_end(rt: HostRuntime) -> Result<(), Fail> {
-    let cases: [(&[u8], &str, &[u8]); 9] = [
-        (b"", "1", b"BW 1\n"),
-        (b"BW -200\n", "1", b"BW 1   \n"),
-        (b"BW -200\n", "-400", b"BW -400\n"),
-        (b"BW 1#MHz\nBWA 2", "-400", b"    #MHz\nBWA 2\nBW -400\n"),
-        (b"BW 1\nBW -200\n", "-400", b"    \n       \nBW -400\n"),
-        (b"BW -200\nBW 1\n", "-4", b"BW -4  \nBW 1\n"),
-        (b"BW\n\tBW  5 MHz#BW 6\n", "7", b"BW\n\tBW  7 MHz#BW 6\n"),
-        (
-            b"BW\n\tBW  5 MHz#BW 6\n",
-            "70",
-            b"BW\n          #BW 6\nBW 70\n",
-        ),
-        (b"# BW 1\nBW#1\n", "2", b"# BW 1\nBW#1\nBW 2\n"),
-    ];
-    for (text, value, expected) in cases {
-        let mut header = header(rt.alloc(), text)?;
-        set_width(&mut header, value)?;
-        assert!(rt; header.bytes().starts_with(expected), "{text:?} {value}");
-        assert_eq!(rt; header.bytes().get(expected.len()), Some(&0), "{text:?}");
-        assert_eq!(rt; header.get("BW"), Some(value), "{text:?}");
-    }
+    assert!(rt; is_answered(rt.alloc(), 4021, Ok(()))?);
+    assert!(rt; is_answered(rt.alloc(), 4022, Err(full))?);
     Ok(())
 }
