@@ -4,6 +4,8 @@
 #[cfg(test)]
 mod fitting;
 #[cfg(test)]
+mod lines;
+#[cfg(test)]
 mod recording;
 #[cfg(test)]
 mod tests;

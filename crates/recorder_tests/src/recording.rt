@@ -13,17 +13,34 @@ use psr_base::Files;
 use std::alloc::Global;
 use std::test::Fail;
 
-/// What is written for each transfer, a header with these lines and these data, the last of which is given up or ends;
-/// and what the recorder is opened for.
+/// What is written, the data of a transfer and of a second one, if there is one, with the lines of its header, the last
+/// of which is given up or ends; and what the recorder is opened for.
 #[derive(Clone, Copy)]
-pub(crate) struct Case<'a> {
-    pub(crate) transfers: &'a [(&'a str, &'a [u8])],
+pub(crate) struct Case {
+    pub(crate) first: &'static str,
+    pub(crate) second: Option<(&'static str, &'static str)>,
     pub(crate) last: Mark,
-    pub(crate) offsets: &'a [u64],
+    pub(crate) offset: u64,
     pub(crate) size: u32,
     pub(crate) file_size: u64,
     pub(crate) max_bytes: u64,
 }
+
+// How many transfers are written.
+fn count_of(case: Case) -> usize
+    ensures { result ≤ 2 }
+{
+    match case.second {
+        Some(_) => 2,
+        None => 1,
+    }
+}
+
+/// The lines of the first header.
+pub(crate) const LINES: &str = "UTC_START 2024-01-02-03:04:05\nNBIT 8\n";
+
+// The offset of a second transfer.
+const SECOND_OFFSET: u64 = 7;
 
 /// A header of 4096 bytes with these lines.
 pub(crate) fn header_of(alloc: Global, lines: &str) -> Result<Header, Fail> {
@@ -92,28 +109,20 @@ fn write_transfer(
 }
 
 // Writes all transfers.
-fn write_all(
-    alloc: Global,
-    hdu: &Hdu,
-    pass: &mut HduWriter,
-    transfers: &[(&str, &[u8])],
-    size: usize,
-    last: Mark,
-) -> Result<(), Fail>
+fn write_all(alloc: Global, hdu: &Hdu, pass: &mut HduWriter, case: Case) -> Result<(), Fail>
     requires writes { WritesBoth hdu.now pass.old }
-    requires size { (data_shape hdu.now).size ≡ size }
-    requires some { 1 ≤ size }
+    requires size { (data_shape hdu.now).size ≡ case.size }
+    requires some { 1 ≤ case.size }
 {
-    for k in 0..transfers.len() {
-        let (lines, bytes) = transfers[k];
-        let header = header_of(alloc, lines)?;
-        let mark = if k + 1 < transfers.len() {
-            Mark::End
-        } else {
-            last
-        };
-        write_transfer(hdu, pass, &header, bytes, size, mark);
-    }
+    let header = header_of(alloc, LINES)?;
+    let size = case.size as usize;
+    let Some((lines, data)) = case.second else {
+        write_transfer(hdu, pass, &header, case.first.as_bytes(), size, case.last);
+        return Ok(());
+    };
+    write_transfer(hdu, pass, &header, case.first.as_bytes(), size, Mark::End);
+    let header = header_of(alloc, lines)?;
+    write_transfer(hdu, pass, &header, data.as_bytes(), size, case.last);
     Ok(())
 }
 
@@ -215,18 +224,18 @@ fn are_offsets(offsets: &[u64]) -> bool
 pub(crate) fn record<F: Files>(
     alloc: Global,
     files: &mut F,
-    case: Case<'_>,
+    case: Case,
 ) -> Result<Option<RecordEnd>, Fail>
     requires { ¬ F.is_open files.old }
 {
     let Case {
-        transfers,
-        last,
-        offsets,
         size,
         file_size,
         max_bytes,
+        ..
     } = case;
+    let both = [case.offset, SECOND_OFFSET];
+    let offsets = &both[..count_of(case)];
     if !are_offsets(offsets) || file_size < 1 || file_size > 1 << 40 || max_bytes > 1 << 40 {
         return Err("a case".into());
     }
@@ -259,7 +268,7 @@ pub(crate) fn record<F: Files>(
     if take_turn(&mut recorder, &hdu, &mut reader).is_some() {
         return Err("an end before the first block".into());
     }
-    write_all(alloc, &hdu, &mut pass, transfers, size as usize, last)?;
+    write_all(alloc, &hdu, &mut pass, case)?;
     let end = take_turns(&mut recorder, &hdu, &mut reader);
     recorder.close();
     Ok(end)

@@ -1,15 +1,61 @@
 // What is recorded, and how that ends.
+use crate::lines::{fields_of, parts_of, words_of};
 use crate::recording::{Case, record};
 use dada_hdu::Mark;
 use dada_header::Header;
-use dada_recorder::{RecordEnd, RecordFault};
+use dada_recorder::RecordEnd;
 use psr_base::{MemFiles, RealFiles, RealInputs, read_file};
 use std::alloc::Global;
 use std::fs;
 use std::test::Fail;
 
-const LINES: &str = "UTC_START 2024-01-02-03:04:05\nNBIT 8\n";
+// The data, and those of a second transfer after `+`; the numbers that differ from those of the sample; how the
+// recording ends; and the files, each with its data, where `-` stands for a file without a header.
+const RECORDINGS: &str = "
+abcdef | | whole 2 | first abcd, second ef
+abcdef | size 1 | whole 2 | first abcd, second ef
+abcdef | size 8 | whole 2 | first abcd, second ef
+abcdef | file_size 6 | whole 1 | first abcdef
+abcdef | file_size 100 | whole 1 | first abcdef
+abcdef | file_size 3 | whole 2 | first abc, at_3 def
+ | | whole 1 | first
+abcdefghi | offset 90, file_size 6 | whole 2 | at_90 abcdef, at_96 ghi
+abcdef + gh | | whole 3 | first abcd, second ef, third gh
+abcdefgh | cut | cut 2 | first abcd, second ef
+ | cut | cut 1 | first
+abcdef + gh | cut | cut 3 | first abcd, second ef, third
+abcdef | max_bytes 5 | too_long 5 | first abc
+abcdef | max_bytes 0 | too_long 0 | first
+abcdef + untimed gh | | no_time | first abcd, second ef
+abcdef | max_bytes 4000001 | too_many_files
+abcdef | call 0 | file_fault
+abcdef | call 1 | file_fault | first -
+abcdef | call 2 | file_fault | first
+abcdef | call 3 | file_fault | first abc
+abcdef | call 4 | file_fault | first abcd
+abcdef | call 5 | file_fault | first abcd
+abcdef | call 6 | file_fault | first abcd, second -
+abcdef | call 7 | file_fault | first abcd, second
+abcdef | call 8 | file_fault | first abcd, second ef
+abcdef | call 9 | whole 2 | first abcd, second ef
+abcdef | files 1 | file_fault | first abcd
+abcdef | bytes 8197 | file_fault | first abcd, second
+abcdef | bytes 4000 | file_fault | first -
+abcdef | files 0 | file_fault
+";
 
+// Six bytes, of which a file has four, through blocks of three.
+const SAMPLE: Case = Case {
+    first: "abcdef",
+    second: None,
+    last: Mark::End,
+    offset: 0,
+    size: 3,
+    file_size: 4,
+    max_bytes: 1000,
+};
+
+// The lines of a second header.
 const LATER: &str = "UTC_START 2024-01-02-03:05:00\nNBIT 8\n";
 
 const UNTIMED: &str = "NBIT 8\n";
@@ -19,289 +65,167 @@ const FIRST: &str = "2024-01-02-03:04:05_0000000000000000.000000.dada";
 
 const SECOND: &str = "2024-01-02-03:04:05_0000000000000004.000001.dada";
 
-const AT_3: &str = "2024-01-02-03:04:05_0000000000000003.000001.dada";
-
-const AT_90: &str = "2024-01-02-03:04:05_0000000000000090.000000.dada";
-
-const AT_96: &str = "2024-01-02-03:04:05_0000000000000096.000001.dada";
-
-const THIRD: &str = "2024-01-02-03:05:00_0000000000000007.000000.dada";
-
-// Six bytes, of which a file has four, through blocks of three.
-const SAMPLE: Case<'static> = Case {
-    transfers: &[(LINES, b"abcdef")],
-    last: Mark::End,
-    offsets: &[0],
-    size: 3,
-    file_size: 4,
-    max_bytes: 1000,
-};
-
-// Nine bytes, none, and two transfers.
-const NINE: Case<'static> = Case {
-    transfers: &[(LINES, b"abcdefghi")],
-    ..SAMPLE
-};
-
-const NONE: Case<'static> = Case {
-    transfers: &[(LINES, b"")],
-    ..SAMPLE
-};
-
-const TWO: Case<'static> = Case {
-    transfers: &[(LINES, b"abcdef"), (LATER, b"gh")],
-    offsets: &[0, 7],
-    ..SAMPLE
-};
-
-// What is recorded, how it ends, and the names and data of its files.
-type Cut = (
-    Case<'static>,
-    RecordEnd,
-    &'static [(&'static str, &'static [u8])],
-);
-
-const CUTS: [Cut; 12] = [
-    (
-        SAMPLE,
-        RecordEnd::Whole { files: 2 },
-        &[(FIRST, b"abcd"), (SECOND, b"ef")],
-    ),
-    (
-        Case { size: 1, ..SAMPLE },
-        RecordEnd::Whole { files: 2 },
-        &[(FIRST, b"abcd"), (SECOND, b"ef")],
-    ),
-    (
-        Case { size: 8, ..SAMPLE },
-        RecordEnd::Whole { files: 2 },
-        &[(FIRST, b"abcd"), (SECOND, b"ef")],
-    ),
-    (
-        Case {
-            file_size: 6,
-            ..SAMPLE
-        },
-        RecordEnd::Whole { files: 1 },
-        &[(FIRST, b"abcdef")],
-    ),
-    (
-        Case {
-            file_size: 100,
-            ..SAMPLE
-        },
-        RecordEnd::Whole { files: 1 },
-        &[(FIRST, b"abcdef")],
-    ),
-    (
-        Case {
-            file_size: 3,
-            ..SAMPLE
-        },
-        RecordEnd::Whole { files: 2 },
-        &[(FIRST, b"abc"), (AT_3, b"def")],
-    ),
-    (NONE, RecordEnd::Whole { files: 1 }, &[(FIRST, b"")]),
-    (
-        Case {
-            offsets: &[90],
-            file_size: 6,
-            ..NINE
-        },
-        RecordEnd::Whole { files: 2 },
-        &[(AT_90, b"abcdef"), (AT_96, b"ghi")],
-    ),
-    (
-        TWO,
-        RecordEnd::Whole { files: 3 },
-        &[(FIRST, b"abcd"), (SECOND, b"ef"), (THIRD, b"gh")],
-    ),
-    (
-        Case {
-            last: Mark::Cut,
-            transfers: &[(LINES, b"abcdefgh")],
-            ..SAMPLE
-        },
-        RecordEnd::Cut { files: 2 },
-        &[(FIRST, b"abcd"), (SECOND, b"ef")],
-    ),
-    (
-        Case {
-            last: Mark::Cut,
-            ..NONE
-        },
-        RecordEnd::Cut { files: 1 },
-        &[(FIRST, b"")],
-    ),
-    (
-        Case {
-            last: Mark::Cut,
-            ..TWO
-        },
-        RecordEnd::Cut { files: 3 },
-        &[(FIRST, b"abcd"), (SECOND, b"ef"), (THIRD, b"")],
-    ),
-];
-
-// The data of a file, after its header of 4096 bytes.
-fn data_in(body: &[u8]) -> Option<&[u8]> {
-    if body.len() < 4096 {
-        return None;
+fn name_of(word: &str) -> &'static str {
+    match word {
+        "first" => FIRST,
+        "second" => SECOND,
+        "at_3" => "2024-01-02-03:04:05_0000000000000003.000001.dada",
+        "at_90" => "2024-01-02-03:04:05_0000000000000090.000000.dada",
+        "at_96" => "2024-01-02-03:04:05_0000000000000096.000001.dada",
+        _ => "2024-01-02-03:05:00_0000000000000007.000000.dada",
     }
-    Some(&body[4096..])
 }
 
-// Whether the files have these names and these data.
-fn are_files(files: &MemFiles, wanted: &[(&str, &[u8])]) -> bool {
-    if files.count() as usize != wanted.len() {
-        return false;
+// What a line records: the case, the call of the files that fails, and how much room there is.
+#[derive(Clone, Copy)]
+struct Line {
+    case: Case,
+    call: u64,
+    files: u32,
+    bytes: u64,
+}
+
+impl Line {
+    fn of(data: &'static str) -> Line {
+        let (first, later) = parts_of(data, '+');
+        let second = match later.strip_prefix("untimed ") {
+            Some(data) => Some((UNTIMED, data)),
+            None if later.is_empty() => None,
+            None => Some((LATER, later)),
+        };
+        Line {
+            case: Case {
+                first,
+                second,
+                ..SAMPLE
+            },
+            call: 100,
+            files: 4,
+            bytes: 100_000,
+        }
     }
+
+    // Sets what is named by each word of `size 3, cut`, and answers whether each has a name.
+    fn set_all(&mut self, settings: &'static str) -> bool {
+        for setting in settings.split(',') {
+            let (name, number) = parts_of(setting, ' ');
+            if !self.set(name, number.parse::<u32>().unwrap_or(0)) {
+                return false;
+            }
+        }
+        true
+    }
+
+    fn set(&mut self, name: &str, number: u32) -> bool {
+        let n = u64::from(number);
+        match name {
+            "" => {}
+            "cut" => self.case.last = Mark::Cut,
+            "offset" => self.case.offset = n,
+            "size" => self.case.size = number,
+            "file_size" => self.case.file_size = n,
+            "max_bytes" => self.case.max_bytes = n,
+            "call" => self.call = n,
+            "files" => self.files = number,
+            "bytes" => self.bytes = n,
+            _ => return false,
+        }
+        true
+    }
+}
+
+// Whether a recording ended as `whole 2` says.
+fn ends_so(end: RecordEnd, wanted: &'static str) -> bool {
+    let (word, number) = words_of(end);
+    let (wanted, wanted_number) = parts_of(wanted, ' ');
+    word == wanted && number == u64::from(wanted_number.parse::<u32>().unwrap_or(0))
+}
+
+// Whether these are a header of 4096 bytes and the data.
+fn has_data(body: &[u8], data: &str) -> bool {
+    if data == "-" {
+        return body.is_empty();
+    }
+    body.len() >= 4096 && &body[4096..] == data.as_bytes()
+}
+
+// Whether these files, and no others, were made in this order, as `first abcd, second ef`.
+fn are_files(files: &MemFiles, wanted: &'static str) -> bool {
+    if wanted.is_empty() {
+        return files.count() == 0;
+    }
+    let mut rest = wanted.split(',');
     for i in 0..files.count() {
-        let (name, data) = wanted[i as usize];
-        if files.name(i) != name || data_in(files.body(i)) != Some(data) {
+        let Some(file) = rest.next() else {
+            return false;
+        };
+        let (word, data) = parts_of(file, ' ');
+        if files.name(i) != name_of(word) || !has_data(files.body(i), data) {
             return false;
         }
     }
-    true
+    rest.next().is_none()
+}
+
+// Whether a recording ends, and leaves files, as its line says.
+fn is_met(alloc: Global, text: &'static str) -> Result<bool, Fail> {
+    let [data, settings, end, wanted] = fields_of(text);
+    let mut line = Line::of(data);
+    if !line.set_all(settings) {
+        return Ok(false);
+    }
+    let mut files = MemFiles::open(alloc, line.files, line.bytes, &[line.call])?;
+    match record(alloc, &mut files, line.case)? {
+        Some(ended) => Ok(ends_so(ended, end) && are_files(&files, wanted)),
+        None => Ok(false),
+    }
 }
 
 #[test]
-fn data_are_cut_into_files(rt: HostRuntime) -> Result<(), Fail> {
-    let alloc = rt.alloc();
-    for (case, end, wanted) in CUTS {
-        let mut files = MemFiles::open(alloc, 4, 100_000, &[])?;
-        assert_eq!(rt; record(alloc, &mut files, case)?, Some(end));
-        assert!(rt; are_files(&files, wanted));
+fn recordings_end_and_leave_files_as_their_lines_say(rt: HostRuntime) -> Result<(), Fail> {
+    for line in RECORDINGS.lines() {
+        assert!(rt; line.is_empty() || is_met(rt.alloc(), line)?, "{line}");
     }
     Ok(())
 }
 
-// A block that passes the limit, and a header that is refused, leave nothing.
-#[test]
-fn a_recording_ends_early(rt: HostRuntime) -> Result<(), Fail> {
-    let alloc = rt.alloc();
-    let untimed = Case {
-        transfers: &[(LINES, b"abcdef"), (UNTIMED, b"gh")],
-        offsets: &[0, 7],
-        ..SAMPLE
-    };
-    let refused = RecordEnd::BadHeader(RecordFault::NoUtc);
-    let cases: [(Case<'_>, RecordEnd, &[(&str, &[u8])]); 4] = [
-        (
-            Case {
-                max_bytes: 5,
-                ..SAMPLE
-            },
-            RecordEnd::TooLong { limit: 5 },
-            &[(FIRST, b"abc")],
-        ),
-        (
-            Case {
-                max_bytes: 0,
-                ..SAMPLE
-            },
-            RecordEnd::TooLong { limit: 0 },
-            &[(FIRST, b"")],
-        ),
-        (untimed, refused, &[(FIRST, b"abcd"), (SECOND, b"ef")]),
-        (
-            Case {
-                max_bytes: 4_000_001,
-                ..SAMPLE
-            },
-            RecordEnd::BadHeader(RecordFault::TooManyFiles),
-            &[],
-        ),
-    ];
-    for (case, end, wanted) in cases {
-        let mut files = MemFiles::open(alloc, 4, 100_000, &[])?;
-        assert_eq!(rt; record(alloc, &mut files, case)?, Some(end));
-        assert!(rt; are_files(&files, wanted));
-    }
-    Ok(())
+// ---- files of the system
+
+// How the sample is recorded in files of the system.
+fn record_really(rt: &HostRuntime) -> Result<Option<RecordEnd>, Fail> {
+    record(rt.alloc(), &mut RealFiles::new(rt), SAMPLE)
 }
 
-// Each call fails in turn; how many files there are then, and how many bytes the last of them has.
-#[test]
-fn a_fault_leaves_a_front(rt: HostRuntime) -> Result<(), Fail> {
-    let alloc = rt.alloc();
-    let cases = [
-        (0, 0, 0),
-        (1, 1, 0),
-        (2, 1, 4096),
-        (3, 1, 4099),
-        (4, 1, 4100),
-        (5, 1, 4100),
-        (6, 2, 0),
-        (7, 2, 4096),
-        (8, 2, 4098),
-    ];
-    for (call, count, last) in cases {
-        let mut files = MemFiles::open(alloc, 4, 100_000, &[call])?;
-        assert_eq!(rt;
-            record(alloc, &mut files, SAMPLE)?,
-            Some(RecordEnd::FileFault),
-            "call {call}"
-        );
-        assert_eq!(rt; files.count(), count, "call {call}");
-        if count > 0 && files.count() == count {
-            assert_eq!(rt; files.body(count - 1).len(), last, "call {call}");
-        }
-    }
-    let mut files = MemFiles::open(alloc, 4, 100_000, &[9])?;
-    assert_eq!(rt;
-        record(alloc, &mut files, SAMPLE)?,
-        Some(RecordEnd::Whole { files: 2 })
-    );
-    Ok(())
-}
-
-// Too few files, and too few bytes.
-#[test]
-fn a_want_of_room_is_a_fault(rt: HostRuntime) -> Result<(), Fail> {
-    let alloc = rt.alloc();
-    for (room, bytes, count) in [(1, 100_000, 1), (2, 8197, 2), (2, 4000, 1), (0, 100_000, 0)] {
-        let mut files = MemFiles::open(alloc, room, bytes, &[])?;
-        assert_eq!(rt;
-            record(alloc, &mut files, SAMPLE)?,
-            Some(RecordEnd::FileFault)
-        );
-        assert_eq!(rt; files.count(), count);
-    }
-    Ok(())
+// Whether a file has these data, and its header these fields.
+fn is_read_back(
+    rt: &HostRuntime,
+    name: &str,
+    data: &str,
+    offset: &str,
+    number: &str,
+) -> Result<bool, Fail> {
+    let body = read_file(rt.alloc(), &mut RealInputs::new(rt), name, 10_000)?;
+    let header = Header::read(rt.alloc(), body.as_slice())?;
+    Ok(
+        has_data(body.as_slice(), data)
+            && header.get("OBS_OFFSET") == Some(offset)
+            && header.get("FILE_NUMBER") == Some(number)
+            && header.get("FILE_SIZE") == Some("0000000000000004")
+            && header.get("NBIT") == Some("8"),
+    )
 }
 
 #[test]
 fn real_files_are_read_back(rt: HostRuntime) -> Result<(), Fail> {
-    let alloc = rt.alloc();
     for name in [FIRST, SECOND] {
         let _removed = fs::remove_file(&rt, name);
     }
-    let mut files = RealFiles::new(&rt);
-    assert_eq!(rt;
-        record(alloc, &mut files, SAMPLE)?,
-        Some(RecordEnd::Whole { files: 2 })
-    );
+    assert!(rt; record_really(&rt)? == Some(RecordEnd::Whole { files: 2 }));
     // The names are there now.
-    let mut again = RealFiles::new(&rt);
-    assert_eq!(rt;
-        record(alloc, &mut again, SAMPLE)?,
-        Some(RecordEnd::FileFault)
-    );
-    let wanted: [(&str, &[u8], &str, &str); 2] = [
-        (FIRST, b"abcd", "0000000000000000", "000000"),
-        (SECOND, b"ef", "0000000000000004", "000001"),
-    ];
-    let mut inputs = RealInputs::new(&rt);
-    for (name, data, offset, number) in wanted {
-        let body = read_file(alloc, &mut inputs, name, 10_000)?;
-        assert!(rt; data_in(body.as_slice()) == Some(data), "{name}");
-        let header = Header::read(alloc, body.as_slice())?;
-        assert_eq!(rt; header.get("OBS_OFFSET"), Some(offset));
-        assert_eq!(rt; header.get("FILE_NUMBER"), Some(number));
-        assert_eq!(rt; header.get("FILE_SIZE"), Some("0000000000000004"));
-        assert_eq!(rt; header.get("NBIT"), Some("8"));
-        fs::remove_file(&rt, name)?;
-    }
+    assert!(rt; record_really(&rt)? == Some(RecordEnd::FileFault));
+    assert!(rt; is_read_back(&rt, FIRST, "abcd", "0000000000000000", "000000")?);
+    assert!(rt; is_read_back(&rt, SECOND, "ef", "0000000000000004", "000001")?);
+    fs::remove_file(&rt, FIRST)?;
+    fs::remove_file(&rt, SECOND)?;
     Ok(())
 }
