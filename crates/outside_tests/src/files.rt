@@ -1,7 +1,10 @@
 // Files that are made in memory and for real, through their trait.
-ghost use Rattle.std.specs.Prelude.{OnOk};
+ghost use Rattle.std.specs.Prelude.{OnOk, IsErr};
+ghost use Rattle.psr_base.specs.InMemory.{IsMaking};
 
+use crate::lines::{call_of, words_of};
 use psr_base::{CalmFiles, Failed, Files, MemFiles, RealFiles, append_all, append_to_memory};
+use std::alloc::Global;
 use std::fs;
 use std::test::Fail;
 
@@ -16,98 +19,164 @@ fn make<F: Files>(files: &mut F, name: &str, first: &str, second: &str) -> Resul
     files.finish()
 }
 
-#[test]
-fn files_in_memory_stand_in_order(rt: HostRuntime) -> Result<(), Fail> {
-    let mut files = MemFiles::open(rt.alloc(), 3, 8, &[])?;
-    make(&mut files, "b", "ab", "c")?;
-    make(&mut files, "a", "", "de")?;
-    assert_eq!(rt; files.create("b"), Err(Failed));
-    assert_eq!(rt; files.create("c"), Ok(()));
-    // Three bytes are left.
-    assert_eq!(rt; append_to_memory(&mut files, b"fghi"), Err(Failed));
-    assert_eq!(rt; append_to_memory(&mut files, b"fgh"), Ok(()));
-    assert_eq!(rt; files.finish(), Ok(()));
-    // No file is left.
-    assert_eq!(rt; files.create("d"), Err(Failed));
-    assert_eq!(rt; files.count(), 3);
-    let held = [("b", "abc"), ("a", "de"), ("c", "fgh")];
-    for i in 0..3u32 {
-        let (name, body) = held[i as usize];
-        assert_eq!(rt; files.name(i), name);
-        assert_eq!(rt; files.body(i), body.as_bytes());
+// An answer where a refusal was wanted, and the other way round.
+fn refused(answer: Result<(), Failed>) -> Result<(), Failed>
+    ensures { OnOk result (IsErr answer) }
+{
+    match answer {
+        Ok(()) => Err(Failed),
+        Err(Failed) => Ok(()),
     }
-    Ok(())
 }
 
-#[test]
-fn each_call_of_files_in_memory_fails_where_it_is_told_to(rt: HostRuntime) -> Result<(), Fail> {
-    // Created, two pieces, finished; how many files there are then, and the bytes of the first.
-    let cases = [
-        (0, 0, ""),
-        (1, 1, ""),
-        (2, 1, "ab"),
-        (3, 1, "abc"),
-        (4, 1, "abc"),
-    ];
-    for (call, count, body) in cases {
-        let mut files = MemFiles::open(rt.alloc(), 1, 3, &[call])?;
-        assert_eq!(rt;
-            make(&mut files, "f", "ab", "c").is_ok(),
-            call == 4,
-            "call {call}"
-        );
-        assert_eq!(rt; files.count(), count, "call {call}");
-        if count > 0 && files.count() > 0 {
-            assert_eq!(rt; files.body(0), body.as_bytes(), "call {call}");
+// Whether these files, and no others, stand there in this order, as `b abc, a de`.
+fn are_files(files: &MemFiles, wanted: &str) -> bool {
+    if wanted.is_empty() {
+        return files.count() == 0;
+    }
+    let mut rest = wanted.split(',');
+    for i in 0..files.count() {
+        let Some(file) = rest.next() else {
+            return false;
+        };
+        let file = file.trim();
+        let (name, body) = file.split_once(' ').unwrap_or((file, ""));
+        if files.name(i) != name || files.body(i) != body.as_bytes() {
+            return false;
         }
     }
-    Ok(())
+    rest.next().is_none()
+}
+
+// Makes three files, of eight bytes in all, between calls that must fail.
+fn make_three(files: &mut MemFiles) -> Result<(), Failed>
+    requires { ¬ IsMaking files.old }
+{
+    make(files, "b", "ab", "c")?;
+    make(files, "a", "", "de")?;
+    refused(files.create("b"))?;
+    files.create("c")?;
+    // Three bytes are left.
+    refused(append_to_memory(files, b"fghi"))?;
+    append_to_memory(files, b"fgh")?;
+    files.finish()?;
+    // No file is left.
+    refused(files.create("d"))
+}
+
+// Whether three files are made and stand in their order.
+fn stand_in_order(alloc: Global) -> bool {
+    match MemFiles::open(alloc, 3, 8, &[]) {
+        Ok(mut files) => {
+            make_three(&mut files).is_ok() && are_files(&files, "b abc, a de, c fgh")
+        }
+        Err(_) => false,
+    }
 }
 
 #[test]
-fn a_name_in_memory_has_at_most_64_bytes(rt: HostRuntime) -> Result<(), Fail> {
-    let long = "0123456789abcdef0123456789abcdef0123456789abcdef0123456789abcdef";
-    let mut files = MemFiles::open(rt.alloc(), 2, 0, &[])?;
-    make(&mut files, long, "", "")?;
-    let mut longer = String::from_str(rt.alloc(), long)?;
-    longer.push('x')?;
-    assert_eq!(rt; files.create(longer.as_str()), Err(Failed));
-    assert_eq!(rt; files.create(""), Ok(()));
-    Ok(())
+fn files_in_memory_stand_in_order(rt: HostRuntime) {
+    assert!(rt; stand_in_order(rt.alloc()));
+}
+
+// The call that fails: created, two pieces, finished; whether the file is made, and the files there are then.
+const FAILING: &str = "
+0 failed
+1 failed f
+2 failed f ab
+3 failed f abc
+4 ok f abc
+";
+
+// Whether the call of a line that fails leaves what stands after it.
+fn is_left(alloc: Global, line: &'static str) -> bool {
+    let (call, left) = line.split_once(' ').unwrap_or((line, ""));
+    let (answer, wanted) = left.split_once(' ').unwrap_or((left, ""));
+    let Ok(mut files) = MemFiles::open(alloc, 1, 3, &[call_of(call)]) else {
+        return false;
+    };
+    let is_made = make(&mut files, "f", "ab", "c").is_ok();
+    is_made == (answer == "ok") && are_files(&files, wanted)
 }
 
 #[test]
-fn calm_files_take_all(rt: HostRuntime) -> Result<(), Fail> {
+fn each_call_of_files_in_memory_fails_where_it_is_told_to(rt: HostRuntime) {
+    for line in FAILING.lines() {
+        assert!(rt; line.is_empty() || is_left(rt.alloc(), line), "{line}");
+    }
+}
+
+const LONG: &str = "0123456789abcdef0123456789abcdef0123456789abcdef0123456789abcdef";
+
+const LONGER: &str = "0123456789abcdef0123456789abcdef0123456789abcdef0123456789abcdefx";
+
+// Makes files of the longest name and of the shortest, between a call that must fail.
+fn make_long(files: &mut MemFiles) -> Result<(), Failed>
+    requires { ¬ IsMaking files.old }
+{
+    make(files, LONG, "", "")?;
+    refused(files.create(LONGER))?;
+    files.create("")
+}
+
+// Whether files of these names are made.
+fn take_long(alloc: Global) -> bool {
+    match MemFiles::open(alloc, 2, 0, &[]) {
+        Ok(mut files) => make_long(&mut files).is_ok(),
+        Err(_) => false,
+    }
+}
+
+#[test]
+fn a_name_in_memory_has_at_most_64_bytes(rt: HostRuntime) {
+    assert!(rt; take_long(rt.alloc()));
+}
+
+// Makes calm files, two of them of one name.
+fn make_calm() -> Result<(), Failed> {
     let mut files = CalmFiles::new();
     make(&mut files, "a", "ab", "c")?;
     make(&mut files, "a", "ab", "c")?;
-    assert_eq!(rt; make(&mut files, "", "", ""), Ok(()));
-    Ok(())
+    make(&mut files, "", "", "")
+}
+
+#[test]
+fn calm_files_take_all(rt: HostRuntime) {
+    assert!(rt; make_calm().is_ok());
+}
+
+// Files of the system, of which the first has no name and one was there before, with `ok` where they are made.
+const REAL: &str = "
+outside_test_new ok
+outside_test_new
+outside_test_old
+.
+";
+
+// Whether the file of a line is made where it says so.
+fn is_made(rt: &HostRuntime, line: &'static str) -> bool {
+    let [name, answer, ..] = words_of(line);
+    let is_made = make(&mut RealFiles::new(rt), name, "ab\n", "c").is_ok();
+    is_made == (answer == "ok")
+}
+
+// Whether a file holds these bytes.
+fn is_held(rt: &HostRuntime, name: &str, bytes: &str) -> bool {
+    match fs::read(rt, name) {
+        Ok(held) => held.as_slice() == bytes.as_bytes(),
+        Err(_) => false,
+    }
 }
 
 #[test]
 fn real_files_are_made_new(rt: HostRuntime) -> Result<(), Fail> {
-    const NEW: &str = "outside_test_new";
-    const OLD: &str = "outside_test_old";
-    fs::write(&rt, OLD, b"kept".as_slice())?;
-    let cases = [
-        (NEW, true),
-        (NEW, false),
-        (OLD, false),
-        (".", false),
-        ("", false),
-    ];
-    for (name, answer) in cases {
-        let mut files = RealFiles::new(&rt);
-        assert_eq!(rt;
-            make(&mut files, name, "ab\n", "c").is_ok(),
-            answer,
-            "{name}"
-        );
+    fs::write(&rt, "outside_test_old", b"kept".as_slice())?;
+    for line in REAL.lines() {
+        assert!(rt; is_made(&rt, line), "{line}");
     }
-    assert_eq!(rt; fs::read(&rt, NEW)?.as_slice(), b"ab\nc".as_slice());
-    assert_eq!(rt; fs::read(&rt, OLD)?.as_slice(), b"kept".as_slice());
-    fs::remove_file(&rt, NEW)?;
-    fs::remove_file(&rt, OLD)?;
+    assert!(rt; is_held(&rt, "outside_test_new", "ab\nc"));
+    assert!(rt; is_held(&rt, "outside_test_old", "kept"));
+    fs::remove_file(&rt, "outside_test_new")?;
+    fs::remove_file(&rt, "outside_test_old")?;
     Ok(())
 }

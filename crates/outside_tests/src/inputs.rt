@@ -1,4 +1,5 @@
 // Files in memory and real ones, read through their trait.
+use crate::lines::call_of;
 use psr_base::{
     CalmInputs, DataFault, Failed, Inputs, MemInputs, Memory, RealInputs, fill, read_from_memory,
     read_to_end,
@@ -31,6 +32,38 @@ impl<I: Inputs> Inputs for Trickle<I> {
     }
 }
 
+// The inputs, each step with what it gives, and a step after one that failed.
+const IN_MEMORY: &str = "
+held 0 | read a b: failed; read a b: abcde
+held 1 | read a b: failed; read a b: abcde
+held 2 | read a b: failed; read a b: abcde
+held 3 | read a b: failed; read a b: abcde
+held 4 | read a b: failed; read a b: abcde
+trickle 0 | read a b: failed
+trickle 1 | read a b: failed
+trickle 2 | read a b: failed
+trickle 3 | read a b: failed
+trickle 4 | read a b: failed
+trickle 5 | read a b: failed
+trickle 6 | read a b: failed
+trickle 7 | read a b: failed
+trickle 8 | read a b: abcde
+held | open c: failed; open _: failed; open b:
+held | rest 0 0: 0 bytes; rest 1 0: too long; rest 20000 20000: 20000 bytes; rest 20000 19999: too long
+held | rest 8192 8192: 8192 bytes; rest 8193 8192: too long
+calm | read a c: abcde; byte a: a; byte b: ; byte c: ; byte _: ; byte a: a
+";
+
+// Of inputs whose call 2 fails: the second file is opened, and then the read fails.
+const WHOLE: &str = "c 9: failed; a 9: failed; a 9: abcde; a 4: too long; b 0:";
+
+// Files of the system, of which one is opened more often than a process may have files open.
+const REAL: &str =
+    "read outside_test_a outside_test_b: abcde; often outside_test_a: ; byte outside_test_a: a;\
+    byte outside_test_b: ; byte outside_test_c: failed; byte .: failed";
+
+// ---- steps
+
 // Two bytes of one file and then the rest of them, and another is opened.
 fn read_in_steps<I: Inputs>(
     alloc: Global,
@@ -48,73 +81,12 @@ fn read_in_steps<I: Inputs>(
     Ok(all)
 }
 
-fn two_files(alloc: Global, fail: &[u64]) -> Result<MemInputs, Memory> {
-    let mut inputs = MemInputs::open(alloc, fail)?;
-    inputs.put("a", b"old")?;
-    inputs.put("b", b"")?;
-    inputs.put("a", b"abcde")?;
-    Ok(inputs)
-}
-
-#[test]
-fn a_call_fails_where_it_is_told_to_and_the_next_goes_on(rt: HostRuntime) -> Result<(), Fail> {
-    // Opening, two bytes, three bytes, the end, opening.
-    for call in 0..5 {
-        let mut inputs = two_files(rt.alloc(), &[call])?;
-        let first = read_in_steps(rt.alloc(), &mut inputs, "a", "b");
-        assert_eq!(rt; first.err(), Some(DataFault::Failed), "call {call}");
-        let second = read_in_steps(rt.alloc(), &mut inputs, "a", "b")?;
-        assert_eq!(rt; second.as_slice(), b"abcde".as_slice(), "after call {call}");
-    }
-    Ok(())
-}
-
-#[test]
-fn one_byte_at_a_time_is_enough(rt: HostRuntime) -> Result<(), Fail> {
-    // Opening, five bytes, the end, opening.
-    for call in 0..9 {
-        let mut inputs = Trickle(two_files(rt.alloc(), &[call])?);
-        let first = read_in_steps(rt.alloc(), &mut inputs, "a", "b");
-        if call < 8 {
-            assert_eq!(rt; first.err(), Some(DataFault::Failed), "call {call}");
-        } else {
-            assert_eq!(rt; first?.as_slice(), b"abcde".as_slice(), "call {call}");
-        }
-    }
-    Ok(())
-}
-
-#[test]
-fn a_limit_refuses_one_byte_more(rt: HostRuntime) -> Result<(), Fail> {
-    for (len, limit) in [
-        (0, 0),
-        (1, 0),
-        (20000, 20000),
-        (20000, 19999),
-        (8192, 8192),
-        (8193, 8192),
-    ] {
-        let bytes = vec![in rt.alloc(); 7u8; len]?;
-        let mut inputs = MemInputs::open(rt.alloc(), &[])?;
-        inputs.put("long", bytes.as_slice())?;
-        inputs.open("long")?;
-        let read = read_to_end(rt.alloc(), &mut inputs, limit);
-        if len <= limit {
-            assert_eq!(rt; read?.len(), len, "{len} bytes");
-        } else {
-            assert_eq!(rt; read.err(), Some(DataFault::TooLong), "{len} bytes");
-        }
-    }
-    Ok(())
-}
-
-#[test]
-fn a_name_that_is_not_there_cannot_be_opened(rt: HostRuntime) -> Result<(), Fail> {
-    let mut inputs = two_files(rt.alloc(), &[])?;
-    assert_eq!(rt; inputs.open("c"), Err(Failed));
-    assert_eq!(rt; inputs.open(""), Err(Failed));
-    assert_eq!(rt; inputs.open("b"), Ok(()));
-    Ok(())
+// The first byte under the name, if there is one.
+fn read_byte<I: Inputs>(alloc: Global, inputs: &mut I, name: &str) -> Result<Vec<u8>, DataFault> {
+    inputs.open(name)?;
+    let mut byte = [0];
+    let n = fill(inputs, &mut byte)?;
+    Ok(Vec::from_slice(alloc, &byte[..n])?)
 }
 
 // Opens a name again and again, each time in place of the last.
@@ -125,75 +97,144 @@ fn open_often<I: Inputs>(inputs: &mut I, name: &str, times: u32) -> Result<(), F
     Ok(())
 }
 
-// Whether a byte can be read under the name.
-fn reads_a_byte<I: Inputs>(inputs: &mut I, name: &str) -> Result<bool, Failed> {
-    inputs.open(name)?;
-    let n = fill(inputs, &mut [0])?;
-    Ok(n == 1)
+// Parts a text at the first place of a sign, if there is one.
+fn parts_of(text: &'static str, sign: char) -> (&'static str, &'static str) {
+    let (front, back) = text.split_once(sign).unwrap_or((text, ""));
+    (front.trim(), back.trim())
+}
+
+// What a step gives, where `_` is the name without a letter.
+fn bytes_of<I: Inputs>(
+    alloc: Global,
+    inputs: &mut I,
+    step: &'static str,
+) -> Result<Vec<u8>, DataFault> {
+    let (verb, names) = parts_of(step, ' ');
+    let (name, other) = parts_of(names, ' ');
+    let name = if name == "_" { "" } else { name };
+    match verb {
+        "read" => return read_in_steps(alloc, inputs, name, other),
+        "byte" => return read_byte(alloc, inputs, name),
+        "often" => open_often(inputs, name, 70000)?,
+        _ => inputs.open(name)?,
+    }
+    if verb == "rest" {
+        return read_to_end(alloc, inputs, other.parse::<usize>().unwrap_or(0));
+    }
+    Ok(Vec::new(alloc))
+}
+
+// Whether these bytes, so many of them, or this fault are wanted.
+fn is_wanted(given: &Result<Vec<u8>, DataFault>, wanted: &str) -> bool {
+    match given {
+        Ok(bytes) => match wanted.strip_suffix(" bytes") {
+            Some(count) => count.parse::<usize>().unwrap_or(usize::MAX) == bytes.len(),
+            None => bytes.as_slice() == wanted.as_bytes(),
+        },
+        Err(DataFault::Failed) => wanted == "failed",
+        Err(DataFault::TooLong) => wanted == "too long",
+        Err(DataFault::Memory) => false,
+    }
+}
+
+// Whether each step gives what stands after it.
+fn are_met<I: Inputs>(alloc: Global, inputs: &mut I, steps: &'static str) -> bool {
+    for step in steps.split(';') {
+        let (step, wanted) = parts_of(step, ':');
+        if !is_wanted(&bytes_of(alloc, inputs, step), wanted) {
+            return false;
+        }
+    }
+    true
+}
+
+// ---- inputs
+
+// Puts a file of so many bytes under their number.
+fn put_bytes(alloc: Global, inputs: &mut MemInputs, number: &str) -> Result<(), Memory> {
+    let bytes = vec![in alloc; 7u8; number.parse::<usize>().unwrap_or(0)]?;
+    inputs.put(number, bytes.as_slice())
+}
+
+// The files a, which is put there twice, and b, and files of so many bytes.
+fn held_files(alloc: Global, failing: u64) -> Result<MemInputs, Memory> {
+    let mut inputs = MemInputs::open(alloc, &[failing])?;
+    inputs.put("a", b"old")?;
+    inputs.put("b", b"")?;
+    inputs.put("a", b"abcde")?;
+    for number in ["0", "1", "8192", "8193", "20000"] {
+        put_bytes(alloc, &mut inputs, number)?;
+    }
+    Ok(inputs)
+}
+
+fn calm_files(alloc: Global) -> Result<CalmInputs, Memory> {
+    let mut inputs = CalmInputs::open(alloc)?;
+    inputs.put("a", b"old")?;
+    inputs.put("b", b"")?;
+    inputs.put("a", b"abcde")?;
+    Ok(inputs)
+}
+
+// Whether the steps of calm inputs give what stands after them.
+fn is_calm_met(alloc: Global, steps: &'static str) -> bool {
+    match calm_files(alloc) {
+        Ok(mut inputs) => are_met(alloc, &mut inputs, steps),
+        Err(_) => false,
+    }
+}
+
+// Whether the steps of a line, of inputs of which a call fails, give what stands after them.
+fn is_met(alloc: Global, line: &'static str) -> bool {
+    let (inputs, steps) = parts_of(line, '|');
+    let (kind, failing) = parts_of(inputs, ' ');
+    if kind == "calm" {
+        return is_calm_met(alloc, steps);
+    }
+    let Ok(mut held) = held_files(alloc, call_of(failing)) else {
+        return false;
+    };
+    if kind == "held" {
+        return are_met(alloc, &mut held, steps);
+    }
+    are_met(alloc, &mut Trickle(held), steps)
+}
+
+#[test]
+fn files_in_memory_are_read(rt: HostRuntime) {
+    for line in IN_MEMORY.lines() {
+        assert!(rt; line.is_empty() || is_met(rt.alloc(), line), "{line}");
+    }
+}
+
+// Whether whole files give what stands after them, and a limit.
+fn are_whole(alloc: Global, files: &'static str) -> bool {
+    let Ok(mut inputs) = held_files(alloc, 2) else {
+        return false;
+    };
+    for file in files.split(';') {
+        let (file, wanted) = parts_of(file, ':');
+        let (name, limit) = parts_of(file, ' ');
+        let limit = limit.parse::<usize>().unwrap_or(0);
+        if !is_wanted(&read_from_memory(alloc, &mut inputs, name, limit), wanted) {
+            return false;
+        }
+    }
+    true
+}
+
+#[test]
+fn a_file_in_memory_is_read_by_its_name(rt: HostRuntime) {
+    assert!(rt; are_whole(rt.alloc(), WHOLE));
 }
 
 #[test]
 fn real_files_are_read_and_closed(rt: HostRuntime) -> Result<(), Fail> {
-    const FILE: &str = "outside_test_a";
-    const EMPTY: &str = "outside_test_b";
-    fs::write(&rt, FILE, b"abcde".as_slice())?;
-    fs::write(&rt, EMPTY, b"".as_slice())?;
-    let mut inputs = RealInputs::new(&rt);
-    let whole = read_in_steps(rt.alloc(), &mut inputs, FILE, EMPTY)?;
-    assert_eq!(rt; whole.as_slice(), b"abcde".as_slice());
-    // More often than a process may have files open.
-    assert_eq!(rt; open_often(&mut inputs, FILE, 70000), Ok(()));
-    let answers = [
-        (FILE, Ok(true)),
-        (EMPTY, Ok(false)),
-        ("outside_test_c", Err(Failed)),
-        (".", Err(Failed)),
-    ];
-    for (name, answer) in answers {
-        assert_eq!(rt; reads_a_byte(&mut inputs, name), answer, "{name}");
-    }
-    fs::remove_file(&rt, FILE)?;
-    fs::remove_file(&rt, EMPTY)?;
-    Ok(())
-}
-
-#[test]
-fn calm_files_are_read_and_a_missing_one_is_empty(rt: HostRuntime) -> Result<(), Fail> {
-    let mut inputs = CalmInputs::open(rt.alloc())?;
-    inputs.put("a", b"old")?;
-    inputs.put("b", b"")?;
-    inputs.put("a", b"abcde")?;
-    let whole = read_in_steps(rt.alloc(), &mut inputs, "a", "c")?;
-    assert_eq!(rt; whole.as_slice(), b"abcde".as_slice());
-    for (name, answer) in [
-        ("a", true),
-        ("b", false),
-        ("c", false),
-        ("", false),
-        ("a", true),
-    ] {
-        assert_eq!(rt; reads_a_byte(&mut inputs, name), Ok(answer), "{name}");
-    }
-    Ok(())
-}
-
-#[test]
-fn a_file_in_memory_is_read_by_its_name(rt: HostRuntime) -> Result<(), Fail> {
-    let mut inputs = two_files(rt.alloc(), &[2])?;
-    let cases = [
-        ("c", 9, Err(DataFault::Failed)),
-        // Opened, and then the read fails.
-        ("a", 9, Err(DataFault::Failed)),
-        ("a", 9, Ok(5)),
-        ("a", 4, Err(DataFault::TooLong)),
-        ("b", 0, Ok(0)),
-    ];
-    for (name, limit, answer) in cases {
-        let len = match read_from_memory(rt.alloc(), &mut inputs, name, limit) {
-            Ok(bytes) => Ok(bytes.len()),
-            Err(fault) => Err(fault),
-        };
-        assert_eq!(rt; len, answer, "{name} {limit}");
-    }
+    fs::write(&rt, "outside_test_a", b"abcde".as_slice())?;
+    fs::write(&rt, "outside_test_b", b"".as_slice())?;
+    let is_read = are_met(rt.alloc(), &mut RealInputs::new(&rt), REAL);
+    fs::remove_file(&rt, "outside_test_a")?;
+    fs::remove_file(&rt, "outside_test_b")?;
+    assert!(rt; is_read);
     Ok(())
 }

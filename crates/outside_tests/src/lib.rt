@@ -9,4 +9,6 @@ mod files;
 #[cfg(test)]
 mod inputs;
 #[cfg(test)]
+mod lines;
+#[cfg(test)]
 mod sinks;

@@ -1,6 +1,8 @@
 // Streams in memory and real ones, written through their trait.
-use crate::fakes::Streams;
+use crate::fakes::{Streams, Takes};
+use crate::lines::{call_of, words_of};
 use psr_base::{CalmSink, Failed, MemSink, RealSink, Sink, write_all, write_to_memory};
+use std::alloc::Global;
 use std::test::Fail;
 
 // A sink that takes one byte at a time.
@@ -26,88 +28,137 @@ fn write_in_steps<S: Sink>(sink: &mut S) -> Result<(), Failed> {
     Ok(())
 }
 
-#[test]
-fn a_sink_holds_what_was_written_before_it_failed(rt: HostRuntime) -> Result<(), Fail> {
-    let whole = [(0, ""), (1, "ab"), (2, "abcd"), (3, "abcde")];
-    for (call, held) in whole {
-        let mut sink = MemSink::open(rt.alloc(), 5, &[call])?;
-        assert_eq!(rt; write_in_steps(&mut sink).is_ok(), call == 3, "call {call}");
-        assert_eq!(rt; sink.body(), held.as_bytes(), "call {call}");
+// ---- in memory
+
+// The sink, its room and the call that fails (99: none); how writing ends, and what the sink then holds.
+const IN_MEMORY: &str = "
+held 5 0 failed
+held 5 1 failed ab
+held 5 2 failed abcd
+held 5 3 ok abcde
+held 0 99 failed
+held 1 99 failed
+held 2 99 failed ab
+held 4 99 failed abcd
+held 5 99 ok abcde
+drip 5 0 failed
+drip 5 1 failed a
+drip 5 2 failed ab
+drip 5 3 failed abc
+drip 5 5 ok abcde
+";
+
+// Whether writing in steps ends as the word says.
+fn ends_so<S: Sink>(sink: &mut S, answer: &str) -> bool {
+    write_in_steps(sink).is_ok() == (answer == "ok")
+}
+
+// Whether a sink holds what a line says.
+fn is_met(alloc: Global, line: &'static str) -> bool {
+    let [kind, room, failing, answer, wanted] = words_of(line);
+    let room = room.parse::<u32>().unwrap_or(0);
+    let Ok(mut sink) = MemSink::open(alloc, u64::from(room), &[call_of(failing)]) else {
+        return false;
+    };
+    if kind == "drip" {
+        let mut drip = Drip(sink);
+        return ends_so(&mut drip, answer) && drip.0.body() == wanted.as_bytes();
     }
-    let room = [(0, ""), (1, ""), (2, "ab"), (4, "abcd"), (5, "abcde")];
-    for (room, held) in room {
-        let mut sink = MemSink::open(rt.alloc(), room, &[])?;
-        assert_eq!(rt; write_in_steps(&mut sink).is_ok(), room == 5, "room {room}");
-        assert_eq!(rt; sink.body(), held.as_bytes(), "room {room}");
-    }
-    for (call, held) in [(0, ""), (1, "a"), (2, "ab"), (3, "abc"), (5, "abcde")] {
-        let mut sink = Drip(MemSink::open(rt.alloc(), 5, &[call])?);
-        assert_eq!(rt; write_in_steps(&mut sink).is_ok(), call == 5, "byte {call}");
-        assert_eq!(rt; sink.0.body(), held.as_bytes(), "byte {call}");
-    }
-    Ok(())
+    ends_so(&mut sink, answer) && sink.body() == wanted.as_bytes()
 }
 
 #[test]
-fn a_sink_in_memory_takes_what_it_has_room_for(rt: HostRuntime) -> Result<(), Fail> {
-    let mut sink = MemSink::open(rt.alloc(), 5, &[1])?;
-    let cases = [
-        ("ab", true),
-        ("c", false),
-        ("cde", true),
-        ("", true),
-        ("f", false),
-    ];
-    for (text, answer) in cases {
-        assert_eq!(rt;
-            write_to_memory(&mut sink, text.as_bytes()).is_ok(),
-            answer,
-            "{text}"
-        );
+fn a_sink_holds_what_was_written_before_it_failed(rt: HostRuntime) {
+    for line in IN_MEMORY.lines() {
+        assert!(rt; line.is_empty() || is_met(rt.alloc(), line), "{line}");
     }
-    assert_eq!(rt; sink.body(), b"abcde".as_slice());
-    assert_eq!(rt; write_in_steps(&mut CalmSink::new()), Ok(()));
-    Ok(())
+    assert!(rt; write_in_steps(&mut CalmSink::new()).is_ok());
+}
+
+// Pieces for a sink with room for five bytes, of which call 1 fails, and whether each is taken.
+const PIECES: &str = "ab:ok, c:failed, cde:ok, :ok, f:failed";
+
+// Whether each piece is taken where `ok` stands after it, and the sink then holds the rest.
+fn are_taken(alloc: Global, pieces: &'static str) -> bool {
+    let Ok(mut sink) = MemSink::open(alloc, 5, &[1]) else {
+        return false;
+    };
+    for piece in pieces.split(',') {
+        let (text, answer) = piece.split_once(':').unwrap_or((piece, ""));
+        let is_ok = write_to_memory(&mut sink, text.trim().as_bytes()).is_ok();
+        if is_ok != (answer == "ok") {
+            return false;
+        }
+    }
+    sink.body() == b"abcde".as_slice()
 }
 
 #[test]
-fn a_stream_gets_each_byte_once(rt: HostRuntime) -> Result<(), Fail> {
-    let whole = "ab\ncde";
-    // What a stream takes at once, and what it took in the end.
-    let cases = [
-        (None, ""),
-        (Some(0), ""),
-        (Some(1), whole),
-        (Some(2), whole),
-        (Some(5), whole),
-        (Some(9), whole),
-    ];
-    for (takes, held) in cases {
-        let streams = Streams::new(rt.alloc(), takes);
-        let mut out = RealSink::out(&streams);
-        assert_eq!(rt; write_all(&mut out, b"ab\ncde").is_ok(), !held.is_empty());
-        assert_eq!(rt; write_all(&mut out, b""), Ok(()));
-        assert_eq!(rt; streams.output()?.as_slice(), held.as_bytes());
-        assert_eq!(rt; streams.notes()?.as_slice(), b"".as_slice());
+fn a_sink_in_memory_takes_what_it_has_room_for(rt: HostRuntime) {
+    assert!(rt; are_taken(rt.alloc(), PIECES));
+}
+
+// ---- streams
+
+// What a stream takes at once, if it takes anything, and what it took in the end.
+const STREAMS: &str = "
+closed nothing
+0 nothing
+1 whole
+2 whole
+5 whole
+9 whole
+";
+
+fn takes_of(word: &str) -> Takes {
+    match word.parse::<usize>() {
+        Ok(most) => Some(most),
+        Err(_) => None,
     }
-    Ok(())
+}
+
+// Whether the streams took this output, and these notes.
+fn took(streams: &Streams, output: &str, notes: &str) -> bool {
+    let (Ok(given), Ok(noted)) = (streams.output(), streams.notes()) else {
+        return false;
+    };
+    given.as_slice() == output.as_bytes() && noted.as_slice() == notes.as_bytes()
+}
+
+// Whether a stream gets each byte once.
+fn is_written(alloc: Global, line: &'static str) -> bool {
+    let [takes, wanted, ..] = words_of(line);
+    let wanted = if wanted == "whole" { "ab\ncde" } else { "" };
+    let streams = Streams::new(alloc, takes_of(takes));
+    let mut out = RealSink::out(&streams);
+    let is_ok = write_all(&mut out, b"ab\ncde").is_ok();
+    is_ok == !wanted.is_empty() && write_all(&mut out, b"").is_ok() && took(&streams, wanted, "")
 }
 
 #[test]
-fn notes_get_the_whole_text(rt: HostRuntime) -> Result<(), Fail> {
-    for (takes, held) in [(None, ""), (Some(1), "ab\nc\u{e9}d")] {
-        let streams = Streams::new(rt.alloc(), takes);
-        let mut notes = RealSink::notes(&streams);
-        assert_eq!(rt; write_all(&mut notes, b"ab\n").is_ok(), takes.is_some());
-        assert_eq!(rt; write_all(&mut notes, b"\xff"), Err(Failed));
-        assert_eq!(rt;
-            write_all(&mut notes, "c\u{e9}d".as_bytes()).is_ok(),
-            takes.is_some()
-        );
-        assert_eq!(rt; streams.notes()?.as_slice(), held.as_bytes());
-        assert_eq!(rt; streams.output()?.as_slice(), b"".as_slice());
+fn a_stream_gets_each_byte_once(rt: HostRuntime) {
+    for line in STREAMS.lines() {
+        assert!(rt; line.is_empty() || is_written(rt.alloc(), line), "{line}");
     }
-    Ok(())
+}
+
+// Whether text is taken where the stream is open, and bytes that aren't text never are.
+fn is_text_taken<S: Sink>(notes: &mut S, is_open: bool) -> bool {
+    write_all(notes, b"ab\n").is_ok() == is_open
+        && write_all(notes, b"\xff").is_err()
+        && write_all(notes, "c\u{e9}d".as_bytes()).is_ok() == is_open
+}
+
+// Whether notes get the whole text.
+fn is_noted(alloc: Global, takes: Takes, wanted: &str) -> bool {
+    let streams = Streams::new(alloc, takes);
+    is_text_taken(&mut RealSink::notes(&streams), takes.is_some()) && took(&streams, "", wanted)
+}
+
+#[test]
+fn notes_get_the_whole_text(rt: HostRuntime) {
+    assert!(rt; is_noted(rt.alloc(), None, ""));
+    assert!(rt; is_noted(rt.alloc(), Some(1), "ab\nc\u{e9}d"));
 }
 
 #[test]
