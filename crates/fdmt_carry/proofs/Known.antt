@@ -10,8 +10,8 @@ use Rattle.subband_plan.specs.Nodes.{BandPlan, IsPlan, HasKept, nodes_of, split_
 use Rattle.subband_plan.specs.NodeLaws.{PlansAreLaid}
 use Rattle.subband_plan.specs.Rows.{AreRows, merge_at, row_of}
 use Rattle.subband_plan.specs.RowLaws.{RowsAreNumbered, RowsAreFew, AreFew}
-use Rattle.fdmt_carry.specs.Tables.{Tables, AreTables, ArePlaced, IsRow, tables, node_of, node_count, all_rows, held_at, place_at, start_of, tail_of, row_number, next_of}
-use Rattle.fdmt_carry.specs.Making.{IsPair, IsSingle, IsWide, StepsAt, IsMerge, IsRunOn, IsPart, AreParts, lower_of}
+use Rattle.fdmt_carry.specs.Tables.{Tables, AreTables, ArePlaced, IsRow, tables, node_of, node_count, all_rows, held_at, place_at, start_of, row_number, next_of}
+use Rattle.fdmt_carry.specs.Making.{IsPair, IsSingle, IsWide, StepsAt, IsMerge, IsRun, IsRunOn, IsPart, AreParts, lower_of}
 
 rows_placed : (t : Tables) → AreRows t.plan t.rows → AreFew t.rows → t.chunk ≤ 65536 → ArePlaced t (place_at t) t.chunk
 unfolding place_at
@@ -139,34 +139,43 @@ merge_known t is k d pair has =
     }
 
 -- what a row of a single channel is made of
-pub run_known : (t : Tables) → AreTables t → (k d : ℕ) → IsSingle t k → 1 ≤ d → HasKept (node_of t k) d → IsRunOn t k d
-run_known t is k d single later has =
-    let n = node_of t k in
+pub channel_known : (t : Tables) → AreTables t → (k d : ℕ) → IsSingle t k → HasKept (node_of t k) d →
+    IsRun t k d (merge_at t.rows.merges.items (row_number t k d))
+channel_known t is k d single has =
     let r : ℕ = row_number t k d in
-    let m = merge_at t.rows.merges.items r in
-    let row = row_known t is k d single.node has in
-    let below = row.below in
+    let below = (row_known t is k d single.node has).below in
     let entries = is.rows.tails.entries in
     let there : r < length t.rows.merges.items = omega arith in
     let made = is.rows.made k d single.node has there in
     let least = is.numbered.of_one k single.one in
     let most = has.most in
-    let upper : m.upper ≡ row_number t k 0 = made.channel_upper single.one in
-    let late : m.late ≡ d = made.channel_late single.one in
-    let enough : m.late ≤ tail_of t m.upper = is.rows.tails.enough r there in
-    let tail : tail_of t m.upper ≡ tail_of t (row_number t k 0) = ap (tail_of t) upper in
-    let first : row_number t k 0 ≡ start_of t k = omega arith in
-    let next : row_number t k (d - 1) + 1 ≡ row_number t k d = omega arith in
     record {
       zero_kept = record { least = omega arith; most = omega arith };
       prior_kept = record { least = omega arith; most = omega arith };
-      first = ap (place_at t) first;
-      first_held = ap (held_at t) first;
-      enough = omega arith;
-      next = next;
-      rise = is.placed.rise (row_number t k 0 + 1) r (omega arith) (omega arith);
-      prior = ap (place_at t) next;
+      upper = made.channel_upper single.one;
+      lower = made.channel_lower single.one;
+      late = made.channel_late single.one;
+      enough = is.rows.tails.enough r there;
     }
+
+-- and where it stands
+pub run_known : (t : Tables) → AreTables t → (k d r : ℕ) → IsSingle t k → 1 ≤ d → HasKept (node_of t k) d →
+    r ≡ row_number t k d → IsRunOn t k d r (merge_at t.rows.merges.items r)
+run_known t is k d r single later has number =
+    let m = merge_at t.rows.merges.items (row_number t k d) in
+    let run = channel_known t is k d single has in
+    let below = (row_known t is k d single.node has).below in
+    let least = is.numbered.of_one k single.one in
+    let upper = run.upper in
+    let lower = run.lower in
+    let next : m.lower + 1 ≡ row_number t k d = omega arith in
+    subst (λ r. IsRunOn t k d r (merge_at t.rows.merges.items r)) (sym number) (record {
+      run = run;
+      upper_row = subst (λ r. IsRow t k r) (sym run.upper) (row_known t is k 0 single.node run.zero_kept);
+      lower_row = subst (λ r. IsRow t k r) (sym run.lower) (row_known t is k (d - 1) single.node run.prior_kept);
+      rise = is.placed.rise (m.upper + 1) (row_number t k d) (omega arith) (omega arith);
+      prior = ap (place_at t) next;
+    })
 
 -- where a node ends, alone and with all nodes below it
 pub part_known : (t : Tables) → AreTables t → (k : ℕ) → k < node_count t → IsPart t k

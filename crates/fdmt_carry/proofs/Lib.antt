@@ -9,4 +9,5 @@ pub mod Narrow
 pub mod Parts
 pub mod Reading
 pub mod Stands
+pub mod Steps
 mod Wide

@@ -1,5 +1,5 @@
 -- How a row is made, and what stays.
-use Rattle.std.proofs.Common.{◌≡◌, ℕ, ◌+◌, ◌-◌, ◌≤◌, ◌<◌, List, length, slice_index, take, drop, arith, sym, ap, subst, ◌∙◌}
+use Rattle.std.proofs.Common.{◌≡◌, ℕ, ◌+◌, ◌-◌, ◌≤◌, List, length, slice_index, take, drop, arith, sym, ap, subst, ◌∙◌}
 use Rattle.std.proofs.lemmas.List.{get_or-take}
 use borrow.Rule.Slice.PartMut.{put_mid}
 use Rattle.search_model.specs.Samples.{Filterbank}
@@ -8,9 +8,8 @@ use Rattle.subband_plan.specs.declared.rows.Merge.{Merge}
 use Rattle.subband_plan.specs.Nodes.{split_of}
 use Rattle.fdmt_rows.specs.Rows.{wrapping_sum}
 use Rattle.fdmt_carry.specs.Values.{Begins, GoesOn, GoesOnWith, after}
-use Rattle.fdmt_carry.specs.Tables.{Tables, AreTables, IsRow, ListsRow, node_of, node_count, tail_of, row_number, start_of, held_at, place_at, place_of, hold_of, row_value}
+use Rattle.fdmt_carry.specs.Tables.{Tables, AreTables, IsRow, ListsRow, node_of, tail_of, row_number, start_of, held_at, place_at, place_of, hold_of, row_value}
 use Rattle.fdmt_carry.specs.Making.{IsPair, IsSingle, IsMerge, IsRunOn, ChannelHas, AreSamples, AreHalves, KeepsTail, HasRowAt, HaveHalfRows, RowStandsAt, RowStands, ChangesRowAt, ChangesRow, lower_of}
-use Rattle.fdmt_carry.proofs.Known.{row_known}
 use Rattle.fdmt_carry.proofs.Law.{value_later, merged_value, channel_value, sample_value}
 use Rattle.fdmt_carry.proofs.Parts.{part_begins, put_listed, put_stays, parts_go_on}
 
@@ -159,39 +158,45 @@ halves_go_on adds shifts t is f u spectra k d above below at_upper at_lower len 
 
 -- of a single channel, rows that are made before go on with it
 pub channel_goes_on : OneChannelAdds → TimeShifts → (t : Tables) → AreTables t →
-    (f : Filterbank) (u spectra k d above below at_row len m1 m2 : ℕ) (before : List ℕ) →
-    IsSingle t k → 1 ≤ d → IsRunOn t k d → ChannelHas t f u spectra k d before →
-    above ≡ tail_of t (row_number t k 0) - d →
-    place_of t k + at_row ≡ place_at t (row_number t k (d - 1)) → below ≡ at_row + tail_of t (row_number t k (d - 1)) →
+    (f : Filterbank) (u spectra k d r above below len m1 m2 : ℕ) (m : Merge) (before : List ℕ) →
+    IsSingle t k → 1 ≤ d → IsRunOn t k d r m → ChannelHas t f u spectra k d before →
+    place_of t k + above + m.late ≡ place_at t m.upper + tail_of t m.upper →
+    place_of t k + below ≡ place_at t m.lower + tail_of t m.lower →
     len ≡ tail_of t (row_number t k d) → m1 ≡ spectra → m2 ≡ spectra → above + m1 ≤ length before →
     GoesOn (row_value t f u k d) len (take m1 (drop above before)) (take m2 (drop below before))
-channel_goes_on adds shifts t is f u spectra k d above below at_row len m1 m2 before single later run has
-    above_is row_is below_is len_is first_is second_is in_before =
+channel_goes_on adds shifts t is f u spectra k d r above below len m1 m2 m before single later on has
+    above_is below_is len_is first_is second_is in_before =
     let e : ℕ = d - 1 in
-    let start = run.first in
+    let run = on.run in
+    let late = run.late in
     let enough = run.enough in
+    let a : tail_of t m.upper ≡ tail_of t (row_number t k 0) = ap (tail_of t) run.upper in
+    let b : tail_of t m.lower ≡ tail_of t (row_number t k e) = ap (tail_of t) run.lower in
+    let at_a : place_at t m.upper ≡ place_at t (row_number t k 0) = ap (place_at t) run.upper in
+    let at_b : place_at t m.lower ≡ place_at t (row_number t k e) = ap (place_at t) run.lower in
     parts_go_on (row_value t f u k d) len (tail_of t (row_number t k d)) above below m1 m2 before before len_is
     (omega arith)
     in_before
     (λ i lt.
     let up = has.first (tail_of t (row_number t k 0) - d + i) (above + i) (omega arith) (omega arith) in
     let down = has.prior (tail_of t (row_number t k e) + i) (below + i) (omega arith) (omega arith) in
-    channel_value adds shifts t is f u k d e i single (omega arith) enough
+    channel_value adds shifts t is f u k d e i single (omega arith) (omega arith)
     ∙ ap (λ x. wrapping_sum x (row_value t f u k e (tail_of t (row_number t k e) + i))) (sym up)
     ∙ ap (λ y. wrapping_sum (slice_index before (above + i)) y) (sym down))
 
 -- the rows of lesser delays stand before it
-pub before_has : (t : Tables) → AreTables t → (f : Filterbank) (u spectra k d at : ℕ) (table : List ℕ) → k <
-    node_count t →
-    IsRunOn t k d → spectra ≤ t.chunk → place_of t k + at ≡ place_at t (row_number t k d) →
+pub before_has : (t : Tables) (f : Filterbank) (u spectra k d r at : ℕ) (m : Merge) (table : List ℕ) →
+    IsRunOn t k d r m → spectra ≤ t.chunk → place_of t k + at ≡ place_at t r →
     ChannelHas t f u spectra k d table → ChannelHas t f u spectra k d (take at table)
-before_has t is f u spectra k d at table node run short at_is has =
-    let first_row = row_known t is k 0 node run.zero_kept in
-    let prior_row = row_known t is k (d - 1) node run.prior_kept in
-    let first_next = first_row.next in
-    let prior_next = prior_row.next in
-    let rise = run.rise in
-    let prior_end = run.prior in
+before_has t f u spectra k d r at m table on short at_is has =
+    let a : tail_of t m.upper ≡ tail_of t (row_number t k 0) = ap (tail_of t) on.run.upper in
+    let b : tail_of t m.lower ≡ tail_of t (row_number t k (d - 1)) = ap (tail_of t) on.run.lower in
+    let at_a : place_at t m.upper ≡ place_at t (row_number t k 0) = ap (place_at t) on.run.upper in
+    let at_b : place_at t m.lower ≡ place_at t (row_number t k (d - 1)) = ap (place_at t) on.run.lower in
+    let first_next = on.upper_row.next in
+    let prior_next = on.lower_row.next in
+    let rise = on.rise in
+    let prior_end = on.prior in
     record {
       first = λ i p lt e. get_or-take at table p 0 (omega arith) ∙ has.first i p lt e;
       prior = λ i p lt e. get_or-take at table p 0 (omega arith) ∙ has.prior i p lt e;

@@ -4,3 +4,4 @@ pub mod Narrow
 pub mod Reading
 pub mod Values
 pub mod Carrying
+pub mod Steps

@@ -52,22 +52,21 @@ pub record IsMerge (t : Tables) (k d : ℕ) (m : Merge) : Type 0 where
 
 -- what the row of delay d of a single channel is made of: the row of delay 0, of which enough is
 -- kept, and the row before
-pub record IsRunOn (t : Tables) (k d : ℕ) : Type 0 where
+pub record IsRun (t : Tables) (k d : ℕ) (m : Merge) : Type 0 where
   pub zero_kept : HasKept (node_of t k) 0
   pub prior_kept : HasKept (node_of t k) (d - 1)
-  pub first : place_at t (row_number t k 0) ≡ place_of t k
-  pub first_held : held_at t (row_number t k 0) ≡ hold_of t k
-  pub enough : d ≤ tail_of t (row_number t k 0)
-  pub next : row_number t k (d - 1) + 1 ≡ row_number t k d
-  pub rise : place_at t (row_number t k 0 + 1) ≤ place_at t (row_number t k d)
-  pub prior : place_at t (row_number t k (d - 1) + 1) ≡ place_at t (row_number t k d)
+  pub upper : m.upper ≡ row_number t k 0
+  pub lower : m.lower ≡ row_number t k (d - 1)
+  pub late : m.late ≡ d
+  pub enough : m.late ≤ tail_of t m.upper
 
--- where the rows of node k, the values that are kept of them, and the rows of its halves begin
-pub record AreBases (t : Tables) (k place hold upper lower : ℕ) : Type 0 where
-  pub place_is : place ≡ place_of t k
-  pub hold_is : hold ≡ hold_of t k
-  pub upper_is : upper ≡ place_of t (k + 1)
-  pub lower_is : lower ≡ place_of t (lower_of t k)
+-- and that these stand before it, which is row r
+pub record IsRunOn (t : Tables) (k d r : ℕ) (m : Merge) : Type 0 where
+  pub run : IsRun t k d m
+  pub upper_row : IsRow t k m.upper
+  pub lower_row : IsRow t k m.lower
+  pub rise : place_at t (m.upper + 1) ≤ place_at t r
+  pub prior : place_at t (m.lower + 1) ≡ place_at t r
 
 -- where node k ends, and where it ends with all nodes below it
 pub record IsPart (t : Tables) (k : ℕ) : Type 0 where

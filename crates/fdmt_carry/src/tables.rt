@@ -1,17 +1,19 @@
 // The tables of a plan: where their rows stand, and what is known of them.
 ghost use Rattle.std.specs.Prelude.{true, false, ◌≡◌, ℕ, ◌+◌, ◌-◌, ◌*◌, ◌<◌, ◌≤◌, IfOk};
 ghost use Rattle.subband_plan.specs.Nodes.{HasKept, split_of};
-ghost use Rattle.subband_plan.specs.Rows.{merge_at};
 ghost use Rattle.fdmt_carry.specs.Tables.{Tables as TablesOf, AreTables, IsRow, node_of, node_count, all_rows, held_at, place_at, tail_of, start_of, row_number, place_of, hold_of, next_of, stop_of, tables as tables_of};
-ghost use Rattle.fdmt_carry.specs.Making.{IsPair, IsSingle, IsWide, StepsAt, IsMerge, IsRunOn, AreBases, IsPart, AreParts, lower_of};
+ghost use Rattle.fdmt_carry.specs.Making.{IsPair, IsSingle, IsWide, StepsAt, IsMerge, IsRunOn, IsPart, AreParts, lower_of};
 ghost use Rattle.fdmt_carry.specs.Reading.{IsWhole, ArePlain};
 ghost use Rattle.search_model.specs.Samples.{Filterbank};
 ghost use Rattle.fdmt_carry.specs.Narrow.{AreAtMost, IsNarrow, PartFits, HaveNarrowRoom};
+ghost use Rattle.fdmt_carry.specs.Steps.{IsStep, MakesRow, AreSteps, made_of};
 
 mod filling;
 mod narrow;
 mod nodes;
+mod steps;
 
+use self::steps::{Step, all_steps};
 use psr_base::Memory;
 use search_model::{
     halves_add, nothing_before, one_channel_adds, one_channel_is_its_sample, splits_fit,
@@ -27,21 +29,13 @@ use subband_plan::{
 const NARROW_SUMS: u64 = 65536;
 
 /// The tables of a plan, for up to `chunk` spectra at a time. Where all stand, the rows stand one after another, each
-/// behind what is kept of it.
+/// behind what is kept of it. How each row is made is reckoned once.
 #[derive(Drop)]
 pub struct Tables {
     plan: Plan,
     rows: Rows,
     chunk: u32,
-}
-
-// Where the rows of a node, the values that are kept of them, and the rows of its halves begin.
-#[derive(Clone, Copy)]
-struct Bases {
-    place: usize,
-    hold: usize,
-    upper: usize,
-    lower: usize,
+    steps: Vec<Step>,
 }
 
 impl Model for Tables {
@@ -49,7 +43,9 @@ impl Model for Tables {
 
     ghost view = { λ t. tables_of t.plan t.rows t.chunk };
 
-    ghost invariant = { λ t. AreTables (tables_of t.plan t.rows t.chunk) };
+    ghost invariant = { λ t. AreTables (tables_of t.plan t.rows t.chunk)
+        × AreSteps (tables_of t.plan t.rows t.chunk) (all_rows (tables_of t.plan t.rows t.chunk))
+        t.steps.items };
 }
 
 impl Tables {
@@ -64,7 +60,13 @@ impl Tables {
         rows_are_numbered();
         rows_are_few();
         let rows = Rows::of(alloc, &plan)?;
-        Ok(Tables { plan, rows, chunk })
+        let steps = all_steps(alloc, &plan, &rows, chunk)?;
+        Ok(Tables {
+            plan,
+            rows,
+            chunk,
+            steps,
+        })
     }
 
     pub fn plan(&self) -> &Plan
@@ -361,55 +363,6 @@ impl Tables {
         self.span(low, low + 1)
     }
 
-    // Where the rows of node `k` and of its halves begin.
-    fn bases(&self, k: usize) -> Bases
-        requires { IsPair self.now k }
-        ensures { AreBases self.now k result.place result.hold result.upper result.lower }
-    {
-        self.hold();
-        self.parts_of(k);
-        Bases {
-            place: self.base(k),
-            hold: self.hold_base(k),
-            upper: self.base(k + 1),
-            lower: self.base(self.lower(k)),
-        }
-    }
-
-    // Where the rows of node `k` begin.
-    fn base(&self, k: usize) -> usize
-        requires { k < node_count self.now }
-        ensures { result ≡ place_of self.now k }
-    {
-        self.place_at(self.start(k))
-    }
-
-    // Where the values begin that are kept of these.
-    fn hold_base(&self, k: usize) -> usize
-        requires { k < node_count self.now }
-        ensures { result ≡ hold_of self.now k }
-    {
-        self.held(self.start(k))
-    }
-
-    // How far row `r` begins past a place.
-    fn place_in(&self, base: usize, r: usize) -> usize
-        requires row { r ≤ all_rows self.now }
-        requires order { base ≤ place_at self.now r }
-        ensures { base + result ≡ place_at self.now r }
-    {
-        self.place_at(r) - base
-    }
-
-    // How far the values that are kept of row `r` begin past a place.
-    fn hold_in(&self, base: usize, r: usize) -> usize
-        requires row { r ≤ all_rows self.now }
-        requires order { base ≤ held_at self.now r }
-        ensures { base + result ≡ held_at self.now r }
-    {
-        self.held(r) - base
-    }
-
     // Where row `r` stands, which is that of delay `d` of node `k`; it does nothing.
     fn row_of(&self, k: usize, d: u32, r: usize)
         requires node { k < node_count self.now }
@@ -423,7 +376,7 @@ impl Tables {
     // What row `r` is made of.
     fn merge_at(&self, r: usize) -> Merge
         requires { r < all_rows self.now }
-        ensures { result ≡ merge_at self.now.rows.merges.items r }
+        ensures { result ≡ made_of self.now r }
     {
         self.rows.merges[r]
     }
@@ -435,19 +388,70 @@ impl Tables {
         requires number { r ≡ row_number self.now k d }
         ensures { IsMerge self.now k d result }
     {
-        self.hold();
         self.row_of(k, d, r);
+        self.pair_of(k, d, r);
         self.merge_at(r)
     }
 
-    // What the row of delay `d` of a single channel is made of; it does nothing.
-    fn run_of(&self, k: usize, d: u32)
+    // What that is like; it does nothing.
+    fn pair_of(&self, k: usize, d: u32, r: usize)
+        requires node { IsPair self.now k }
+        requires row { HasKept (node_of self.now k) d }
+        requires number { r ≡ row_number self.now k d }
+        ensures { IsMerge self.now k d (made_of self.now r) }
+    {
+        self.hold();
+    }
+
+    // What row `r` is made of, which is that of delay `d` of a single channel; it does nothing.
+    fn run_of(&self, k: usize, d: u32, r: usize)
         requires node { IsSingle self.now k }
         requires later { 1 ≤ d }
         requires row { HasKept (node_of self.now k) d }
-        ensures { IsRunOn self.now k d }
+        requires number { r ≡ row_number self.now k d }
+        ensures { IsRunOn self.now k d r (made_of self.now r) }
     {
         self.hold();
+    }
+
+    // How row `r` is made, which is that of delay `d` of node `k`.
+    fn step_at(&self, k: usize, d: u32, r: usize) -> Step
+        requires node { k < node_count self.now }
+        requires row { HasKept (node_of self.now k) d }
+        requires number { r ≡ row_number self.now k d }
+        ensures { MakesRow self.now k r result }
+    {
+        self.row_of(k, d, r);
+        self.steps[r]
+    }
+
+    // How it is made from rows of the halves of the node.
+    fn pair_step(&self, k: usize, d: u32, r: usize) -> Step
+        requires node { IsPair self.now k }
+        requires row { HasKept (node_of self.now k) d }
+        requires number { r ≡ row_number self.now k d }
+        ensures step { IsStep self.now k (k + 1) (lower_of self.now k) r result }
+        ensures row { IsRow self.now k r }
+        ensures made { IsMerge self.now k d (made_of self.now r) }
+    {
+        self.row_of(k, d, r);
+        self.pair_of(k, d, r);
+        self.step_at(k, d, r)
+    }
+
+    // How it is made from others of a single channel.
+    fn run_step(&self, k: usize, d: u32, r: usize) -> Step
+        requires node { IsSingle self.now k }
+        requires later { 1 ≤ d }
+        requires row { HasKept (node_of self.now k) d }
+        requires number { r ≡ row_number self.now k d }
+        ensures step { IsStep self.now k k k r result }
+        ensures row { IsRow self.now k r }
+        ensures made { IsRunOn self.now k d r (made_of self.now r) }
+    {
+        self.row_of(k, d, r);
+        self.run_of(k, d, r);
+        self.step_at(k, d, r)
     }
 
     // How the delays of node `k` are split; it does nothing.

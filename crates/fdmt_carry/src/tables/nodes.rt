@@ -4,12 +4,13 @@ ghost use Rattle.search_model.specs.Samples.{Filterbank};
 ghost use Rattle.band_paths.specs.Edges.{channels_of};
 ghost use Rattle.subband_plan.specs.Nodes.{HasKept};
 ghost use Rattle.fdmt_carry.specs.Tables.{node_of, held_at, tail_of, row_number, hold_of, HasNext};
-ghost use Rattle.fdmt_carry.specs.Making.{IsPair, IsSingle, IsWide, IsMerge, AreBases, FitNode, HasRoom, HaveRoom, AreHalves, AreSamples, ChannelHas, KeepsTail, KeepsNode, HaveHalfRows, RowStandsAt, RowStands, StaysOutside, ChangesRowAt, ChangesRow, NodeStands, LastStands, WideStands, lower_of};
+ghost use Rattle.fdmt_carry.specs.Steps.{IsStep};
+ghost use Rattle.fdmt_carry.specs.Making.{IsPair, IsSingle, IsWide, FitNode, HasRoom, HaveRoom, AreHalves, AreSamples, ChannelHas, KeepsTail, KeepsNode, HaveHalfRows, RowStandsAt, RowStands, StaysOutside, ChangesRowAt, ChangesRow, NodeStands, LastStands, WideStands, lower_of};
 
-use super::{Bases, Tables};
+use super::Tables;
+use super::steps::Step;
 use crate::rows::{add_next, copy_next};
 use search_model::{halves_add, one_channel_adds, one_channel_is_its_sample, time_shifts};
-use subband_plan::Merge;
 
 impl Tables {
     // Makes row `r`, which is that of delay `d` of node `k`, at place `at` of a table, from rows of its halves that
@@ -20,11 +21,10 @@ impl Tables {
         k: usize,
         d: u32,
         r: usize,
-        merge: Merge,
+        step: Step,
         table: &mut [u32],
         at: usize,
         kept: &mut [u32],
-        hold: usize,
         upper: &[u32],
         above: usize,
         lower: &[u32],
@@ -34,12 +34,11 @@ impl Tables {
         requires node { IsPair self.now k }
         requires row { HasKept (node_of self.now k) d }
         requires number { r ≡ row_number self.now k d }
-        requires merge { IsMerge self.now k d merge }
-        requires table { at + (tail_of self.now r + spectra) ≤ length table.old }
-        requires hold { hold_of self.now k + hold ≡ held_at self.now r }
-        requires kept { hold + tail_of self.now r ≤ length kept.old }
-        requires upper { above + (tail_of self.now merge.upper + spectra) ≤ length upper.now }
-        requires lower { below + (tail_of self.now merge.lower + spectra) ≤ length lower.now }
+        requires step { IsStep self.now k (k + 1) (lower_of self.now k) r step }
+        requires table { at + (step.tail + spectra) ≤ length table.old }
+        requires kept { step.hold + step.tail ≤ length kept.old }
+        requires upper { above + (step.upper_from + spectra) ≤ length upper.now }
+        requires lower { below + (step.lower_from + spectra) ≤ length lower.now }
         ensures made { (f : Filterbank) (u : ℕ)
             → HaveHalfRows self.now f u spectra k d above below upper.now lower.now
             → KeepsTail self.now f u k d kept.old
@@ -51,9 +50,10 @@ impl Tables {
         halves_add();
         time_shifts();
         self.row_of(k, d, r);
-        let tail = self.tail(r);
-        let above = above + (self.tail(merge.upper as usize) - merge.late as usize);
-        let below = below + self.tail(merge.lower as usize);
+        self.pair_of(k, d, r);
+        let (hold, tail) = (step.hold as usize, step.tail as usize);
+        let above = above + step.upper_from as usize;
+        let below = below + step.lower_from as usize;
         add_next(
             &mut table[at..at + (tail + spectra)],
             &mut kept[hold..hold + tail],
@@ -69,7 +69,6 @@ impl Tables {
         k: usize,
         d: u32,
         r: usize,
-        bases: Bases,
         table: &mut [u32],
         kept: &mut [u32],
         upper: &[u32],
@@ -79,7 +78,6 @@ impl Tables {
         requires node { IsPair self.now k }
         requires row { HasKept (node_of self.now k) d }
         requires number { r ≡ row_number self.now k d }
-        requires bases { AreBases self.now k bases.place bases.hold bases.upper bases.lower }
         requires short { spectra ≤ self.now.chunk }
         requires own { FitNode self.now k (length table.old) (length kept.old) }
         requires upper { HasRoom self.now (k + 1) (length upper.now) }
@@ -90,14 +88,11 @@ impl Tables {
         ensures rest { ChangesRow self.now k (row_number self.now k d) table.old table.new
             kept.old kept.new }
     {
-        self.row_of(k, d, r);
-        let merge = self.merge_of(k, d, r);
-        let at = self.place_in(bases.place, r);
-        let hold = self.hold_in(bases.hold, r);
-        let above = self.place_in(bases.upper, merge.upper as usize);
-        let below = self.place_in(bases.lower, merge.lower as usize);
+        let step = self.pair_step(k, d, r);
+        let at = step.at as usize;
+        let (above, below) = (step.upper_at as usize, step.lower_at as usize);
         self.add_row(
-            k, d, r, merge, table, at, kept, hold, upper, above, lower, below, spectra,
+            k, d, r, step, table, at, kept, upper, above, lower, below, spectra,
         );
     }
 
@@ -108,7 +103,6 @@ impl Tables {
         k: usize,
         d: u32,
         r: usize,
-        bases: Bases,
         row: &mut [u32],
         kept: &mut [u32],
         upper: &[u32],
@@ -118,7 +112,6 @@ impl Tables {
         requires node { IsPair self.now k }
         requires row { HasKept (node_of self.now k) d }
         requires number { r ≡ row_number self.now k d }
-        requires bases { AreBases self.now k bases.place bases.hold bases.upper bases.lower }
         requires short { spectra ≤ self.now.chunk }
         requires own { FitNode self.now k (length row.old) (length kept.old) }
         requires upper { HasRoom self.now (k + 1) (length upper.now) }
@@ -129,13 +122,10 @@ impl Tables {
         ensures rest { StaysOutside (hold_of self.now k) (held_at self.now r)
             (held_at self.now (r + 1)) kept.old kept.new }
     {
-        self.row_of(k, d, r);
-        let merge = self.merge_of(k, d, r);
-        let hold = self.hold_in(bases.hold, r);
-        let above = self.place_in(bases.upper, merge.upper as usize);
-        let below = self.place_in(bases.lower, merge.lower as usize);
+        let step = self.pair_step(k, d, r);
+        let (above, below) = (step.upper_at as usize, step.lower_at as usize);
         self.add_row(
-            k, d, r, merge, row, 0, kept, hold, upper, above, lower, below, spectra,
+            k, d, r, step, row, 0, kept, upper, above, lower, below, spectra,
         );
     }
 
@@ -146,7 +136,6 @@ impl Tables {
         k: usize,
         d: u32,
         r: usize,
-        bases: Bases,
         table: &mut [u32],
         kept: &mut [u32],
         upper: &[u32],
@@ -156,7 +145,6 @@ impl Tables {
         requires node { IsPair self.now k }
         requires row { HasKept (node_of self.now k) d }
         requires number { r ≡ row_number self.now k d }
-        requires bases { AreBases self.now k bases.place bases.hold bases.upper bases.lower }
         requires short { spectra ≤ self.now.chunk }
         requires own { FitNode self.now k (length table.old) (length kept.old) }
         requires upper { HasRoom self.now (k + 1) (length upper.now) }
@@ -168,13 +156,9 @@ impl Tables {
         ensures rest { ChangesRow self.now k (row_number self.now k d) table.old table.new
             kept.old kept.new }
     {
-        self.row_of(k, d, r);
-        let merge = self.merge_of(k, d, r);
-        let at = self.place_in(bases.place, r);
-        let hold = self.hold_in(bases.hold, r);
-        self.add_row(
-            k, d, r, merge, table, at, kept, hold, upper, 0, lower, 0, spectra,
-        );
+        let step = self.pair_step(k, d, r);
+        let at = step.at as usize;
+        self.add_row(k, d, r, step, table, at, kept, upper, 0, lower, 0, spectra);
     }
 
     // Makes the rows of node `k` from those of its halves.
@@ -198,20 +182,29 @@ impl Tables {
     {
         self.hold();
         let node = self.node(k);
-        let bases = self.bases(k);
         let first = self.start(k);
         let least = node.least_row();
         for d in least..node.last_row + 1 {
             let r = first + (d - least) as usize;
-            self.merge_row(k, d, r, bases, table, kept, upper, lower, spectra);
+            self.merge_row(k, d, r, table, kept, upper, lower, spectra);
         }
     }
 
-    // Makes the row of delay `d` of a single channel from those of lesser delays.
-    fn run_row(&self, k: usize, d: u32, table: &mut [u32], kept: &mut [u32], spectra: usize)
+    // Makes row `r`, which is that of delay `d` of a single channel, from those of lesser delays.
+    #[inline(always)]
+    fn run_row(
+        &self,
+        k: usize,
+        d: u32,
+        r: usize,
+        table: &mut [u32],
+        kept: &mut [u32],
+        spectra: usize,
+    )
         requires node { IsSingle self.now k }
         requires later { 1 ≤ d }
         requires row { HasKept (node_of self.now k) d }
+        requires number { r ≡ row_number self.now k d }
         requires short { spectra ≤ self.now.chunk }
         requires own { FitNode self.now k (length table.old) (length kept.old) }
         ensures made { (f : Filterbank) (u : ℕ) → f.channels ≡ channels_of self.now.plan.edges
@@ -224,16 +217,11 @@ impl Tables {
         self.hold();
         one_channel_adds();
         time_shifts();
-        self.run_of(k, d);
-        let (a, b) = (self.number(k, 0), self.number(k, d - 1));
-        let r = self.number(k, d);
-        let base = self.base(k);
-        let at = self.place_in(base, r);
-        let hold = self.hold_in(self.hold_base(k), r);
-        let tail = self.tail(r);
-        let above = self.tail(a) - d as usize;
-        let below = self.place_in(base, b) + self.tail(b);
-        let (before, row) = table.split_at_mut(at);
+        let step = self.run_step(k, d, r);
+        let (hold, tail) = (step.hold as usize, step.tail as usize);
+        let above = step.upper_at as usize + step.upper_from as usize;
+        let below = step.lower_at as usize + step.lower_from as usize;
+        let (before, row) = table.split_at_mut(step.at as usize);
         add_next(
             &mut row[..tail + spectra],
             &mut kept[hold..hold + tail],
@@ -275,8 +263,10 @@ impl Tables {
     {
         self.hold();
         self.copy_row(k, table, kept, samples);
+        let first = self.start(k);
         for d in 1..self.node(k).last_row + 1 {
-            self.run_row(k, d, table, kept, samples.len());
+            let r = first + d as usize;
+            self.run_row(k, d, r, table, kept, samples.len());
         }
     }
 
@@ -289,7 +279,6 @@ impl Tables {
         d: u32,
         next: u32,
         r: usize,
-        bases: Bases,
         row: &mut [u32],
         kept: &mut [u32],
         upper: &[u32],
@@ -301,7 +290,6 @@ impl Tables {
         requires number { r ≡ row_number self.now k d }
         requires order { d ≤ next }
         requires step { next ≤ d + 1 }
-        requires bases { AreBases self.now k bases.place bases.hold bases.upper bases.lower }
         requires short { spectra ≤ self.now.chunk }
         requires own { FitNode self.now k (length row.old) (length kept.old) }
         requires upper { HasRoom self.now (k + 1) (length upper.now) }
@@ -314,7 +302,7 @@ impl Tables {
         if d < next {
             return;
         }
-        self.live_row(k, d, r, bases, row, kept, upper, lower, spectra);
+        self.live_row(k, d, r, row, kept, upper, lower, spectra);
     }
 
     // Makes the rows of node `k` from those of its halves, of which one at a time is made in one place: those of the
@@ -358,7 +346,6 @@ impl Tables {
         self.parts_of(k);
         let node = self.node(k);
         let low = self.lower(k);
-        let (bases, upper_bases, lower_bases) = (self.bases(k), self.bases(k + 1), self.bases(low));
         let first = self.start(k);
         let least = node.least_row();
         self.steps_of(k);
@@ -374,7 +361,6 @@ impl Tables {
                 early,
                 upper_next,
                 merge.upper as usize,
-                upper_bases,
                 upper,
                 upper_kept,
                 upper_above,
@@ -386,7 +372,6 @@ impl Tables {
                 late,
                 lower_next,
                 merge.lower as usize,
-                lower_bases,
                 lower,
                 lower_kept,
                 lower_above,
@@ -395,7 +380,7 @@ impl Tables {
             );
             upper_next = early + 1;
             lower_next = late + 1;
-            self.join_row(k, d, r, bases, table, kept, upper, lower, spectra);
+            self.join_row(k, d, r, table, kept, upper, lower, spectra);
         }
     }
 

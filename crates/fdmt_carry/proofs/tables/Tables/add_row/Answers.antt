@@ -1,5 +1,6 @@
 use Rattle.std.proofs.Common.{ℕ, ◌≡◌, ◌+◌, ◌-◌, ◌≤◌, length, ap, ◌∙◌, arith}
 use Rattle.fdmt_carry.specs.Tables.{tail_of, row_number, held_at}
+use Rattle.fdmt_carry.specs.Steps.{made_of}
 use Rattle.fdmt_carry.proofs.Parts.{part_length}
 use Rattle.fdmt_carry.proofs.Made.{row_made_at, row_alone_at, halves_go_on}
 use Rattle.fdmt_carry.proofs.tables.Tables.add_row.Goals as goal
@@ -15,22 +16,19 @@ returns-clause-made c = λ f u halves keeps.
     let lower = c.args.lower.now in
     let spectra : ℕ = c.args.spectra in
     let at : ℕ = c.args.at in
-    let hold : ℕ = c.args.hold in
-    let tail : ℕ = c.tail-tail.result in
-    let above : ℕ = c.args.above + (c.tail.result - c.args.merge.late) in
-    let below : ℕ = c.args.below + c.tail-2.result in
+    let hold : ℕ = c.args.step.hold in
+    let tail : ℕ = c.args.step.tail in
+    let above : ℕ = c.args.above + c.args.step.upper_from in
+    let below : ℕ = c.args.below + c.args.step.lower_from in
     let m : ℕ = at + (tail + spectra) - at in
     let n : ℕ = hold + tail - hold in
     let m1 : ℕ = above + spectra - above in
     let m2 : ℕ = below + spectra - below in
-    let merge = c.requires.merge in
-    let enough = merge.enough in
+    let step = c.requires.step in
     let r_is = c.requires.number in
-    let hold_is = c.requires.hold in
-    let tail_is = c.tail-tail.ensures in
-    let tail_now : tail ≡ tail_of t (row_number t k d) = tail_is ∙ ap (tail_of t) r_is in
-    let upper_tail = c.tail.ensures in
-    let lower_tail = c.tail-2.ensures in
+    let tail_now : tail ≡ tail_of t (row_number t k d) = step.tail ∙ ap (tail_of t) r_is in
+    let from = step.upper_from in
+    let lower_from = step.lower_from in
     let table_room = c.requires.table in
     let kept_room = c.requires.kept in
     let upper_room = c.requires.upper in
@@ -40,12 +38,12 @@ returns-clause-made c = λ f u halves keeps.
     let in_upper : above + m1 ≤ length upper = omega arith in
     let front = part_length hold n kept in_kept in
     row_made_at t f u spectra k d at hold m n _ table kept c.add_next.new.row c.add_next.new.kept _
-    (hold_is ∙ ap (held_at t) r_is) (omega arith) (omega arith) (part_length above m1 upper in_upper ∙ omega arith)
+    (step.hold ∙ ap (held_at t) r_is) (omega arith) (omega arith) (part_length above m1 upper in_upper ∙ omega arith)
     in_table in_kept (c.add_next.auto.row ∙ part_length at m table in_table) (c.add_next.auto.kept ∙ front)
     c.add_next.ensures.row c.add_next.ensures.kept
     (halves_go_on c.halves_add.ensures c.time_shifts.ensures t c.hold.ensures f u spectra k d above below c.args.above
-    c.args.below _ m1 m2 c.args.merge upper lower c.requires.node merge halves (omega arith) (omega arith)
-    (front ∙ omega arith) (omega arith) (omega arith) in_upper)
+    c.args.below _ m1 m2 (made_of t c.args.r) upper lower c.requires.node c.pair_of.ensures halves (omega arith)
+    (omega arith) (front ∙ omega arith) (omega arith) (omega arith) in_upper)
     keeps
 
 pub returns-clause-rest : goal.returns-clause-rest
@@ -55,15 +53,15 @@ returns-clause-rest c =
     let kept = c.args.kept.now in
     let spectra : ℕ = c.args.spectra in
     let at : ℕ = c.args.at in
-    let hold : ℕ = c.args.hold in
-    let tail : ℕ = c.tail-tail.result in
+    let hold : ℕ = c.args.step.hold in
+    let tail : ℕ = c.args.step.tail in
     let m : ℕ = at + (tail + spectra) - at in
     let n : ℕ = hold + tail - hold in
-    let tail_is = c.tail-tail.ensures in
+    let tail_is = c.requires.step.tail in
     let table_room = c.requires.table in
     let kept_room = c.requires.kept in
     let in_table : at + m ≤ length table = omega arith in
     let in_kept : hold + n ≤ length kept = omega arith in
     row_alone_at t c.args.k c.args.r at hold (tail_of t c.args.r + spectra) m n table kept c.add_next.new.row
-    c.add_next.new.kept c.row_of.ensures c.requires.hold (omega arith) (omega arith) in_table in_kept
+    c.add_next.new.kept c.row_of.ensures c.requires.step.hold (omega arith) (omega arith) in_table in_kept
     (c.add_next.auto.row ∙ part_length at m table in_table) (c.add_next.auto.kept ∙ part_length hold n kept in_kept)

@@ -1,22 +1,12 @@
-use Rattle.std.proofs.Common.{ℕ, ◌≡◌, ◌+◌, arith}
-use Rattle.fdmt_carry.specs.Tables.{place_at, place_of}
-use Rattle.fdmt_carry.specs.Making.{lower_of}
+use Rattle.fdmt_carry.specs.Steps.{made_of}
 use Rattle.fdmt_carry.proofs.Made.{halves_at}
 use Rattle.fdmt_carry.proofs.tables.Tables.live_row.Goals as goal
 
 pub returns-clause-made : goal.returns-clause-made
 returns-clause-made c = λ f u halves keeps.
     let t = c.args.self.now in
-    let k : ℕ = c.args.k in
-    let d : ℕ = c.args.d in
-    let bases = c.requires.bases in
-    let merge = c.merge_of-merge.ensures in
-    let upper_base = bases.upper_is in
-    let lower_base = bases.lower_is in
-    let above_is : place_of t (k + 1) + c.place_in-above.result ≡ place_at t c.merge_of-merge.result.upper =
-    omega (arith, c.place_in-above.ensures) in
-    let below_is : place_of t (lower_of t k) + c.place_in-below.result ≡ place_at t c.merge_of-merge.result.lower =
-    omega (arith, c.place_in-below.ensures) in
-    let there = halves_at t f u c.args.spectra k d c.place_in-above.result c.place_in-below.result
-    c.merge_of-merge.result c.args.upper.now c.args.lower.now merge above_is below_is halves in
+    let s = c.pair_step-step.result in
+    let step = c.pair_step-step.ensures.step in
+    let there = halves_at t f u c.args.spectra c.args.k c.args.d s.upper_at s.lower_at (made_of t c.args.r)
+    c.args.upper.now c.args.lower.now c.pair_step-step.ensures.made step.upper_at step.lower_at halves in
     c.add_row.ensures.made f u there keeps

@@ -1,7 +1,4 @@
-use Rattle.fdmt_carry.proofs.Known.{merge_known}
 use Rattle.fdmt_carry.proofs.tables.Tables.merge_of.Goals as goal
 
 pub returns : goal.returns
-returns c =
-    rw (c.merge_at.ensures, c.requires.number)
-    (merge_known c.args.self.now c.hold.ensures c.args.k c.args.d c.requires.node c.requires.row)
+returns c = rw c.merge_at.ensures c.pair_of.ensures
