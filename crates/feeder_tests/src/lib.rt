@@ -6,4 +6,6 @@ mod feeding;
 #[cfg(test)]
 mod files;
 #[cfg(test)]
+mod lines;
+#[cfg(test)]
 mod tests;

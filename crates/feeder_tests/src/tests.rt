@@ -1,192 +1,197 @@
 // Files that are fed, and how that ends.
 use crate::feeding::{Case, Fed, feed};
 use crate::files::names_of;
+use crate::lines::fields_of;
 use dada_header::HeaderFault;
 use disk_feeder::{FeedEnd, FeedFault, HeaderCause};
 use obs_plan::{Key, ObsFault};
 use std::alloc::Global;
-use std::process::Abort;
 use std::test::Fail;
+
+// The names that are read, with `+` before a second transfer; the size of a block, the most data bytes and the call
+// that fails; how the feeder ends, or begins; its trace; and its turns. Where no call fails, the same comes of bytes
+// that are read whole and of those that come one at a time.
+//
+// A file's first calls open it and read its header, in two pieces where that is longer than 4096 bytes. The first files
+// of two transfers are opened again: two blocks are full, the third is empty; then one is full, and of the last one
+// byte is read before its end is.
+//
+// In the last line there are two buffers, and a reader that reads after each third turn, of which the first reads the
+// header: the block that found no room is sealed once there is some, and nothing is read for it again.
+const FEEDS: &str = "
+six | size 6, max_bytes 6 | whole 6 | Habcdef.E
+six | size 1, max_bytes 6 | whole 6 | Ha.b.c.d.e.f.E
+six | size 3, max_bytes 9 | whole 6 | Habc.def.E
+six | size 4, max_bytes 9 | whole 6 | Habcd.efE
+none | size 4, max_bytes 9 | whole 0 | HE
+long | size 2, max_bytes 9 | whole 3 | Huv.wE
+four at_four | size 3, max_bytes 6 | whole 6 | Habc.dxy.E
+four + six | size 3, max_bytes 10 | whole 10 | Habc.dEHabc.def.E
+none + four | size 3, max_bytes 4 | whole 4 | HEHabc.dE
+four + at_four | size 3, max_bytes 6 | whole 6 | Habc.dEHxyE
+six + none | size 6, max_bytes 6 | whole 6 | Habcdef.EHE
+four at_twelve | size 3, max_bytes 6 | gap 1 | Habc.C
+six + four at_twelve | size 3, max_bytes 12 | gap 2 | Habc.def.EHabc.C
+four short | size 2, max_bytes 6 | short | Hab.cd.C
+four other | size 8, max_bytes 6 | differs | HC
+six | size 2, max_bytes 5 | too_long 5 | Hab.cd.C
+six | size 8, max_bytes 5 | too_long 5 | HC
+four + six | size 3, max_bytes 9 | too_long 9 | Habc.dEHabc.C
+six + four | call 0 | read_fault at first
+six + four | call 1 | read_fault at first
+six + four | call 2 | read_fault at first
+six + four | call 3 | read_fault at first
+six + four | call 4 | begun
+six four | call 2 | begun
+long | call 2 | read_fault at first
+long | call 3 | begun
+six + gone | call 9 | read_fault at first
+six + short | call 9 | short at first
+short | call 1 | read_fault at first
+six + four | call 4 | read_fault | HC
+six + four | call 5 | read_fault | HC
+six + four | call 6 | read_fault | HC
+six + four | call 7 | read_fault | Habc.C
+six + four | call 8 | read_fault | Habc.def.C
+six + four | call 9 | read_fault | Habc.def.EHC
+six + four | call 10 | read_fault | Habc.def.EHC
+six + four | call 11 | read_fault | Habc.def.EHC
+six + four | call 12 | read_fault | Habc.def.EHabc.C
+six + four | call 13 | read_fault | Habc.def.EHabc.C
+six + four | call 14 | whole 10
+six gone | call 99 | read_fault | Habc.def.C
+six | size 1, call 9 | whole 6 | Ha.b.c.d.e.f.E | MM0000M11M22M33M44E
+";
 
 const ONE: &[u32] = &[0];
 
 const TWO: &[u32] = &[0, 1];
 
-// What is read of a name, its transfers' starts, the size of a block, the limit, the end and the trace.
-type Ending<'a> = (&'a [&'a str], &'a [u32], u32, u64, FeedEnd, &'a [u8]);
+// A number that no call has.
+const NEVER: u64 = u64::MAX;
 
-// All calls succeed: the same comes of bytes that are read whole and of those that come one at a time.
-fn ends_so(rt: &impl Abort, alloc: Global, cases: &[Ending<'_>]) -> Result<(), Fail> {
-    for (order, starts, size, max_bytes, end, trace) in cases {
-        let names = names_of(alloc, order)?;
-        for slowly in [false, true] {
-            let case = Case {
-                names: names.as_slice(),
-                starts,
-                size: *size,
-                max_bytes: *max_bytes,
-                fail: &[],
-                slowly,
-            };
-            let fed = feed(alloc, case)?;
-            assert_eq!(rt; fed.end, Some(*end));
-            assert!(rt; fed.trace.as_slice() == *trace);
-        }
-    }
-    Ok(())
-}
-
-fn whole(bytes: u64) -> FeedEnd {
-    FeedEnd::Whole { bytes }
-}
-
-#[test]
-fn files_are_fed(rt: HostRuntime) -> Result<(), Fail> {
-    ends_so(
-        &rt,
-        rt.alloc(),
-        &[
-            (&["six"], ONE, 6, 6, whole(6), b"Habcdef.E"),
-            (&["six"], ONE, 1, 6, whole(6), b"Ha.b.c.d.e.f.E"),
-            (&["six"], ONE, 3, 9, whole(6), b"Habc.def.E"),
-            (&["six"], ONE, 4, 9, whole(6), b"Habcd.efE"),
-            (&["none"], ONE, 4, 9, whole(0), b"HE"),
-            (&["long"], ONE, 2, 9, whole(3), b"Huv.wE"),
-            (&["four", "at four"], ONE, 3, 6, whole(6), b"Habc.dxy.E"),
-            (
-                &["four", "six"],
-                TWO,
-                3,
-                10,
-                whole(10),
-                b"Habc.dEHabc.def.E",
-            ),
-            (&["none", "four"], TWO, 3, 4, whole(4), b"HEHabc.dE"),
-            (&["four", "at four"], TWO, 3, 6, whole(6), b"Habc.dEHxyE"),
-            (&["six", "none"], TWO, 6, 6, whole(6), b"Habcdef.EHE"),
-        ],
-    )
-}
-
-#[test]
-fn streams_are_cut(rt: HostRuntime) -> Result<(), Fail> {
-    let gap = |file: u32| FeedEnd::Gap {
-        file,
-        expected: 4,
-        found: 12,
-    };
-    let refused = FeedEnd::BadHeader {
-        file: 1,
-        cause: HeaderCause::Text(HeaderFault::Short { had: 100 }),
-    };
-    let differs = FeedEnd::BadHeader {
-        file: 1,
-        cause: HeaderCause::Fields(ObsFault::Differs(Key::Nchan)),
-    };
-    let long = |limit: u64| FeedEnd::TooLong { limit };
-    ends_so(
-        &rt,
-        rt.alloc(),
-        &[
-            (&["four", "at twelve"], ONE, 3, 6, gap(1), b"Habc.C"),
-            (
-                &["six", "four", "at twelve"],
-                TWO,
-                3,
-                12,
-                gap(2),
-                b"Habc.def.EHabc.C",
-            ),
-            (&["four", "short"], ONE, 2, 6, refused, b"Hab.cd.C"),
-            (&["four", "other"], ONE, 8, 6, differs, b"HC"),
-            (&["six"], ONE, 2, 5, long(5), b"Hab.cd.C"),
-            (&["six"], ONE, 8, 5, long(5), b"HC"),
-            (&["four", "six"], TWO, 3, 9, long(9), b"Habc.dEHabc.C"),
-        ],
-    )
-}
-
-// One call fails, or none.
-fn fails_at(
-    alloc: Global,
-    order: &[&str],
-    starts: &[u32],
+// The numbers of a line.
+#[derive(Clone, Copy)]
+struct Numbers {
     size: u32,
+    max_bytes: u64,
     call: u64,
+}
+
+impl Numbers {
+    // The numbers that are named in `size 3, call 9`, or none where one has another name.
+    fn of(settings: &'static str) -> Option<Numbers> {
+        let mut numbers = Numbers {
+            size: 3,
+            max_bytes: 12,
+            call: NEVER,
+        };
+        for setting in settings.split(',') {
+            let (name, number) = setting.trim().split_once(' ')?;
+            let number = number.parse::<u32>().ok()?;
+            match name {
+                "size" => numbers.size = number,
+                "max_bytes" => numbers.max_bytes = u64::from(number),
+                "call" => numbers.call = u64::from(number),
+                _ => return None,
+            }
+        }
+        Some(numbers)
+    }
+}
+
+// Feeds the files of a line.
+fn feed_names(
+    alloc: Global,
+    names: &'static str,
+    numbers: Numbers,
+    slowly: bool,
 ) -> Result<Fed, Fail> {
-    let names = names_of(alloc, order)?;
+    let list = names_of(alloc, names)?;
+    let starts = if names.contains('+') { TWO } else { ONE };
     feed(
         alloc,
         Case {
-            names: names.as_slice(),
+            names: list.as_slice(),
             starts,
-            size,
-            max_bytes: 12,
-            fail: &[call],
-            slowly: false,
+            size: numbers.size,
+            max_bytes: numbers.max_bytes,
+            fail: &[numbers.call],
+            slowly,
         },
     )
 }
 
-// A file's first calls open it and read its header, in two pieces where that is longer than 4096 bytes.
-#[test]
-fn first_headers_are_read(rt: HostRuntime) -> Result<(), Fail> {
-    let refused = Err(FeedFault::BadHeader {
+// The end of a word and a number: `gap 1` is file 1 that begins at 12 in place of 4; `short` is file 1 of 100 bytes;
+// `differs` is file 1 of another NCHAN.
+fn end_of(word: &str, number: u32) -> FeedEnd {
+    match word {
+        "whole" => FeedEnd::Whole {
+            bytes: u64::from(number),
+        },
+        "too_long" => FeedEnd::TooLong {
+            limit: u64::from(number),
+        },
+        "gap" => FeedEnd::Gap {
+            file: number,
+            expected: 4,
+            found: 12,
+        },
+        "short" => FeedEnd::BadHeader {
+            file: 1,
+            cause: HeaderCause::Text(HeaderFault::Short { had: 100 }),
+        },
+        "differs" => FeedEnd::BadHeader {
+            file: 1,
+            cause: HeaderCause::Fields(ObsFault::Differs(Key::Nchan)),
+        },
+        _ => FeedEnd::ReadFault,
+    }
+}
+
+// Whether a feeder begins or ends so.
+fn ends_so(fed: &Fed, wanted: &'static str) -> bool {
+    let short = FeedFault::BadHeader {
         file: 1,
         cause: HeaderFault::Short { had: 100 },
-    });
-    let cases: [(&[&str], &[u32], u64, Result<(), FeedFault>); 11] = [
-        (&["six", "four"], TWO, 0, Err(FeedFault::ReadFault)),
-        (&["six", "four"], TWO, 1, Err(FeedFault::ReadFault)),
-        (&["six", "four"], TWO, 2, Err(FeedFault::ReadFault)),
-        (&["six", "four"], TWO, 3, Err(FeedFault::ReadFault)),
-        (&["six", "four"], TWO, 4, Ok(())),
-        (&["six", "four"], ONE, 2, Ok(())),
-        (&["long"], ONE, 2, Err(FeedFault::ReadFault)),
-        (&["long"], ONE, 3, Ok(())),
-        (&["six", "gone"], TWO, 9, Err(FeedFault::ReadFault)),
-        (&["six", "short"], TWO, 9, refused),
-        (&["short"], ONE, 1, Err(FeedFault::ReadFault)),
-    ];
-    for (order, starts, call, begun) in cases {
-        let fed = fails_at(rt.alloc(), order, starts, 3, call)?;
-        assert_eq!(rt; fed.begun, begun);
+    };
+    let (word, number) = wanted.split_once(' ').unwrap_or((wanted, ""));
+    match wanted {
+        "begun" => fed.begun == Ok(()),
+        "read_fault at first" => fed.begun == Err(FeedFault::ReadFault),
+        "short at first" => fed.begun == Err(short),
+        _ => fed.end == Some(end_of(word, number.parse::<u32>().unwrap_or(0))),
     }
-    Ok(())
 }
 
-#[test]
-fn faults_are_told(rt: HostRuntime) -> Result<(), Fail> {
-    // The first files of two transfers are opened again. Two blocks are full, the third is empty; then one is full, and
-    // of the last one byte is read before its end is.
-    let cases: [(u64, u64, &[u8]); 5] = [
-        (4, 6, b"HC"),
-        (7, 7, b"Habc.C"),
-        (8, 8, b"Habc.def.C"),
-        (9, 11, b"Habc.def.EHC"),
-        (12, 13, b"Habc.def.EHabc.C"),
-    ];
-    for (first, last, trace) in cases {
-        for call in first..=last {
-            let fed = fails_at(rt.alloc(), &["six", "four"], TWO, 3, call)?;
-            assert_eq!(rt; fed.end, Some(FeedEnd::ReadFault));
-            assert!(rt; fed.trace.as_slice() == trace);
+// Whether a text is wanted, or none is.
+fn is_so(text: &[u8], wanted: &str) -> bool {
+    wanted.is_empty() || text == wanted.as_bytes()
+}
+
+// Whether the files of a line are fed as it says.
+fn is_met(alloc: Global, line: &'static str) -> Result<bool, Fail> {
+    let [names, settings, end, trace, turns] = fields_of(line);
+    let Some(numbers) = Numbers::of(settings) else {
+        return Ok(false);
+    };
+    for slowly in [false, true] {
+        if slowly && numbers.call < NEVER {
+            return Ok(true);
+        }
+        let fed = feed_names(alloc, names, numbers, slowly)?;
+        let is_traced = is_so(fed.trace.as_slice(), trace) && is_so(fed.turns.as_slice(), turns);
+        if !is_traced || !ends_so(&fed, end) {
+            return Ok(false);
         }
     }
-    let fed = fails_at(rt.alloc(), &["six", "four"], TWO, 3, 14)?;
-    assert_eq!(rt; fed.end, Some(whole(10)));
-    let fed = fails_at(rt.alloc(), &["six", "gone"], ONE, 3, 99)?;
-    assert_eq!(rt; fed.end, Some(FeedEnd::ReadFault));
-    assert!(rt; fed.trace.as_slice() == b"Habc.def.C".as_slice());
-    Ok(())
+    Ok(true)
 }
 
-// Two buffers, and a reader that reads after each third turn, of which the first reads the header: the block that found
-// no room is sealed once there is some, and nothing is read for it again, since call 9 would fail.
 #[test]
-fn a_full_ring_is_waited_for(rt: HostRuntime) -> Result<(), Fail> {
-    let fed = fails_at(rt.alloc(), &["six"], ONE, 1, 9)?;
-    assert!(rt; fed.turns.as_slice() == b"MM0000M11M22M33M44E".as_slice());
-    assert!(rt; fed.trace.as_slice() == b"Ha.b.c.d.e.f.E".as_slice());
+fn files_are_fed_as_their_lines_say(rt: HostRuntime) -> Result<(), Fail> {
+    for line in FEEDS.lines() {
+        assert!(rt; line.is_empty() || is_met(rt.alloc(), line)?, "{line}");
+    }
     Ok(())
 }
