@@ -7,7 +7,7 @@ use Rattle.std.proofs.lemmas.Bool.{cases_lt}
 use Rattle.dada_model.specs.Bounds.{most_delay}
 use Rattle.subband_plan.specs.Nodes.{HasKept, least_row}
 use Rattle.fdmt_carry.specs.declared.tables.steps.Step.{Step}
-use Rattle.fdmt_carry.specs.Tables.{Tables, AreTables, node_of, node_count, all_rows, start_of, row_number, held_at, place_at}
+use Rattle.fdmt_carry.specs.Tables.{Tables, AreTables, node_of, node_count, all_rows, start_of, row_number, held_at, place_at, hold_of}
 use Rattle.fdmt_carry.specs.Making.{IsPair, IsSingle, lower_of}
 use Rattle.fdmt_carry.specs.Steps.{IsNear, AreMadeFrom, IsMadeFrom, IsStep, MakesRow, AreSteps, step_at}
 use Rattle.fdmt_carry.proofs.Known.{row_known, merge_known, channel_known}
@@ -49,6 +49,21 @@ near_known t is k r near =
     let most = is.most in
     let all : r * t.chunk ≡ first * t.chunk + n * t.chunk = ap (λ r. r * t.chunk) (sym there) ∙ omega arith in
     record { held = rise; few = omega arith; chunks = omega arith; place = omega arith }
+
+-- how far the values that are kept of it begin past those of that row
+pub record AreHeldPast (t : Tables) (k r from to : ℕ) : Type 0 where
+  pub rise : from ≤ to
+  pub value : hold_of t k + (to - from) ≡ held_at t r
+  pub few : to - from ≤ 2 ^ 26
+
+pub held_past : (t : Tables) → AreTables t → (k r first from to : ℕ) → IsNear t k r → first ≡ start_of t k →
+    from ≡ held_at t first → to ≡ held_at t r → AreHeldPast t k r from to
+held_past t is k r first from to near first_is from_is to_is =
+    let known = near_known t is k r near in
+    let held = known.held in
+    let more = known.few in
+    let there : from ≡ hold_of t k = from_is ∙ ap (held_at t) first_is in
+    record { rise = omega arith; value = omega arith; few = omega arith }
 
 -- a row that a node keeps
 row_near : (t : Tables) → AreTables t → (k d : ℕ) → k < node_count t → HasKept (node_of t k) d →

@@ -3,7 +3,7 @@ ghost use Rattle.std.specs.Prelude.{◌≡◌, ℕ, ◌+◌, ◌-◌, ◌*◌, �
 ghost use Rattle.search_model.specs.Samples.{Filterbank};
 ghost use Rattle.band_paths.specs.Edges.{channels_of};
 ghost use Rattle.subband_plan.specs.Nodes.{HasKept};
-ghost use Rattle.fdmt_carry.specs.Tables.{node_of, node_count, held_at, tail_of, row_number, place_of, hold_of, next_of, HasNext, AreKept};
+ghost use Rattle.fdmt_carry.specs.Tables.{node_of, node_count, tail_of, row_number, place_of, hold_of, next_of, HasNext, AreKept};
 ghost use Rattle.fdmt_carry.specs.Making.{IsPair, IsSingle, FitNode, HasRoom, HaveRoom, AreHalves, AreSamples, ChannelHas, KeepsTail, KeepsNode, KeepsPart, HaveHalfRows, RowStandsAt, RowStands, ChangesRowAt, ChangesRow, NodeStands, HalvesStand, PartStands, lower_of};
 ghost use Rattle.fdmt_carry.specs.Steps.{IsStep};
 ghost use Rattle.fdmt_carry.specs.Narrow.{NodeFits, PartFits};

@@ -1,6 +1,5 @@
 // What is reckoned of each row when tables are opened.
-ghost use Rattle.std.specs.Prelude.{◌≡◌, ℕ, ◌+◌, ◌-◌, ◌*◌, ◌^◌, ◌<◌, ◌≤◌, IfOk, OnOk};
-ghost use Rattle.subband_plan.specs.Rows.{merge_at};
+ghost use Rattle.std.specs.Prelude.{◌≡◌, ◌+◌, ◌-◌, ◌*◌, ◌^◌, ◌<◌, ◌≤◌, IfOk, OnOk};
 ghost use Rattle.fdmt_carry.specs.Tables.{AreTables, node_count, all_rows, held_at, tail_of, place_at, start_of, place_of, hold_of, tables as tables_of};
 ghost use Rattle.fdmt_carry.specs.Steps.{IsNear, AreMadeFrom, IsMadeFrom, IsStep, AreSteps, made_of};
 
