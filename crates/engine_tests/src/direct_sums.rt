@@ -14,13 +14,19 @@ pub struct Samples<'a> {
     pub edges: &'a [u32],
 }
 
+// The square of an edge; 0 where there is none.
+fn square_of(edges: &[u32], k: usize) -> u128 {
+    match edges.get(k) {
+        Some(edge) => u128::from(*edge).wrapping_mul(u128::from(*edge)),
+        None => 0,
+    }
+}
+
 // Of a delay between two edges, the part above the edge between them: by the squares of the wavelengths, rounded.
 fn split(edges: &[u32], lo: usize, mid: usize, hi: usize, d: u32) -> u32 {
-    let square = |k: usize| {
-        let edge = u128::from(edges.get(k).copied().unwrap_or(0));
-        edge.wrapping_mul(edge)
-    };
-    let (high, middle, low) = (square(lo), square(mid), square(hi));
+    let high = square_of(edges, lo);
+    let middle = square_of(edges, mid);
+    let low = square_of(edges, hi);
     let part = high.wrapping_sub(middle).wrapping_mul(low);
     let whole = high.wrapping_sub(low).wrapping_mul(middle);
     let twice = part.wrapping_mul(2).wrapping_mul(u128::from(d));
@@ -65,21 +71,35 @@ fn path(alloc: Global, samples: Samples<'_>, d: u32) -> Result<Vec<u32>, Memory>
 
 // A sample; 0 before the first spectrum.
 fn sample(samples: Samples<'_>, channel: usize, t: usize) -> u32 {
-    let place = t
-        .checked_mul(samples.channels)
-        .and_then(|first| first.checked_add(channel));
-    let byte = place.and_then(|place| samples.bytes.get(place));
-    byte.map_or(0, |byte| u32::from(*byte))
+    let Some(first) = t.checked_mul(samples.channels) else {
+        return 0;
+    };
+    match samples.bytes.get(first.saturating_add(channel)) {
+        Some(byte) => u32::from(*byte),
+        None => 0,
+    }
+}
+
+// The sum of the cells of a channel between two delays, on a path that begins at spectrum `start`.
+fn cells_of(samples: Samples<'_>, channel: usize, from: u32, to: u32, start: usize) -> u32 {
+    let mut total: u32 = 0;
+    for e in from..to.wrapping_add(1).max(from) {
+        let t = start.wrapping_add(e as usize);
+        total = total.wrapping_add(sample(samples, channel, t));
+    }
+    total
 }
 
 // The sum along a path of delay `d` that ends at spectrum `u`.
 fn path_sum(samples: Samples<'_>, path: &[u32], d: u32, u: usize) -> u32 {
+    let start = u.wrapping_sub(d as usize);
     let mut total: u32 = 0;
-    for (channel, (from, to)) in path.iter().zip(path.iter().skip(1)).enumerate() {
-        for e in *from..to.wrapping_add(1).max(*from) {
-            let t = u.wrapping_add(e as usize).wrapping_sub(d as usize);
-            total = total.wrapping_add(sample(samples, channel, t));
+    let mut from = 0;
+    for (edge, to) in path.iter().enumerate() {
+        if edge > 0 {
+            total = total.wrapping_add(cells_of(samples, edge - 1, from, *to, start));
         }
+        from = *to;
     }
     total
 }

@@ -1,4 +1,4 @@
-// Observations that are made.
+// Observations that are made, and the lines of tables.
 use dada_header::Header;
 use obs_plan::Observation;
 use std::alloc::Global;
@@ -21,4 +21,15 @@ pub fn observation(alloc: Global, lines: &str) -> Option<Observation> {
     bytes.resize(4096, 0).ok()?;
     let header = Header::read(alloc, bytes.as_slice()).ok()?;
     Observation::of(alloc, &header).ok()
+}
+
+/// The fields of a line of a table, which `|` parts. Those that it doesn't have are empty.
+pub fn fields_of(line: &'static str) -> [&'static str; 3] {
+    let mut fields = [""; 3];
+    for (i, field) in line.split('|').enumerate() {
+        if i < fields.len() {
+            fields[i] = field.trim();
+        }
+    }
+    fields
 }

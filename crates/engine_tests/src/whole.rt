@@ -4,7 +4,7 @@ ghost use Rattle.search_model.specs.Search.{SettingsInRange};
 
 use crate::direct_folds::{is_folded, list_delay};
 use crate::direct_sums::{Row, Samples, list_pulses, rows};
-use crate::made::{TWO_CHANNELS, observation};
+use crate::made::{TWO_CHANNELS, fields_of, observation};
 use obs_plan::Observation;
 use psr_base::Memory;
 use search_engine::{Engine, PlanFault};
@@ -204,6 +204,53 @@ fn all_agree(
     Ok(true)
 }
 
+// The chunk and the shards, and the lengths of the pieces that are fed, over and over.
+const CUTS: &str = "
+256 1 | 20000
+1 1 | 1
+7 2 | 37 1 36 38
+64 5 | 1000 3
+299 7 | 4096
+65536 3 | 11099 5
+";
+
+fn lengths_of(alloc: Global, words: &str) -> Result<Vec<usize>, Memory> {
+    let mut lengths = Vec::new(alloc);
+    for word in words.split_whitespace() {
+        lengths.push(word.parse::<usize>().unwrap_or(0))?;
+    }
+    Ok(lengths)
+}
+
+// Whether all shards of the search of a line found the direct candidates.
+fn is_direct(
+    alloc: Global,
+    observation: &Observation,
+    bytes: &[u8],
+    direct: &[Candidate],
+    line: &'static str,
+) -> Result<bool, Memory> {
+    let [numbers, lengths, _] = fields_of(line);
+    let (chunk, shards) = numbers.split_once(' ').unwrap_or((numbers, ""));
+    let search = Search {
+        chunk: chunk.parse::<u32>().unwrap_or(0),
+        shards: shards.parse::<u32>().unwrap_or(0),
+        ..SEARCH
+    };
+    if !search.in_range() {
+        return Ok(false);
+    }
+    let lengths = lengths_of(alloc, lengths)?;
+    all_agree(
+        alloc,
+        observation,
+        &search,
+        bytes,
+        lengths.as_slice(),
+        direct,
+    )
+}
+
 #[test]
 fn all_candidates_are_the_direct_ones(rt: HostRuntime) -> Result<(), Fail> {
     let alloc = rt.alloc();
@@ -213,38 +260,19 @@ fn all_candidates_are_the_direct_ones(rt: HostRuntime) -> Result<(), Fail> {
     // The last spectrum is not whole.
     let bytes = noise(alloc, 300 * 37 + 20)?;
     let direct = list_all(&rt, alloc, &observed, &SEARCH, bytes.as_slice())?;
+    let (bytes, direct) = (bytes.as_slice(), direct.as_slice());
     assert!(rt; direct.len() > 1000, "{}", direct.len());
-    let cases: [(u32, u32, &[usize]); 6] = [
-        (256, 1, &[20000]),
-        (1, 1, &[1]),
-        (7, 2, &[37, 1, 36, 38]),
-        (64, 5, &[1000, 3]),
-        (299, 7, &[4096]),
-        (65536, 3, &[11099, 5]),
-    ];
-    for (chunk, shards, lengths) in cases {
-        let search = Search {
-            chunk,
-            shards,
-            ..SEARCH
-        };
-        assert!(rt; search.in_range());
-        let same = all_agree(
-            alloc,
-            &observed,
-            &search,
-            bytes.as_slice(),
-            lengths,
-            direct.as_slice(),
-        )?;
-        assert!(rt; same, "chunks of {chunk}");
+    for line in CUTS.lines() {
+        assert!(rt;
+            line.is_empty() || is_direct(alloc, &observed, bytes, direct, line)?,
+            "{line}"
+        );
     }
     Ok(())
 }
 
 // The folds of a search of one delay, in two channels, with periods from the least one up to 2.
 fn folds_of(
-    rt: &impl Abort,
     alloc: Global,
     observation: &Observation,
     fold_min: u32,
@@ -261,7 +289,9 @@ fn folds_of(
         snr: 200,
         ..SEARCH
     };
-    assert!(rt; search.in_range());
+    if !search.in_range() {
+        return None;
+    }
     let engine = searched(alloc, observation, &search, 0, bytes, &[3]).ok()?;
     let mut folds = Vec::new(alloc);
     for candidate in engine.book().kept() {
@@ -272,34 +302,42 @@ fn folds_of(
     Some(folds)
 }
 
-#[test]
-fn two_rows_are_folded_where_they_fit(rt: HostRuntime) -> Result<(), Fail> {
-    let Some(observed) = observation(rt.alloc(), TWO_CHANNELS) else {
-        return Err("an observation".into());
-    };
-    let wanted = [(0, 0, 4), (0, 1, 6), (1, 0, 5), (1, 1, 5)].map(|(
-        trial,
-        phase,
-        sum,
-    )| Candidate::Fold {
+// Whether these folds are found.
+fn has_folds(
+    alloc: Global,
+    observation: &Observation,
+    fold_min: u32,
+    bytes: &[u8],
+    wanted: &[Candidate],
+) -> bool {
+    match folds_of(alloc, observation, fold_min, bytes) {
+        Some(folds) => folds.as_slice() == wanted,
+        None => false,
+    }
+}
+
+// A fold of two rows.
+const fn fold(trial: u32, phase: u32, sum: u32) -> Candidate {
+    Candidate::Fold {
         delay: 0,
         period: 2,
         halvings: 1,
         trial,
         phase,
         sum,
-    });
-    let cases: [(u32, &[u8], usize); 3] = [
-        (2, &[1, 0, 2, 0, 3, 0, 4, 0], 4),
-        (2, &[1, 0, 2, 0, 3, 0, 4], 0),
-        (3, &[1, 0, 2, 0, 3, 0, 4, 0], 0),
-    ];
-    for (fold_min, bytes, count) in cases {
-        let folds = folds_of(&rt, rt.alloc(), &observed, fold_min, bytes);
-        let Some(folds) = folds else {
-            return Err("an engine".into());
-        };
-        assert!(rt; folds.as_slice() == &wanted[..count], "{}", bytes.len());
     }
+}
+
+#[test]
+fn two_rows_are_folded_where_they_fit(rt: HostRuntime) -> Result<(), Fail> {
+    let alloc = rt.alloc();
+    let Some(observed) = observation(alloc, TWO_CHANNELS) else {
+        return Err("an observation".into());
+    };
+    let folds = [fold(0, 0, 4), fold(0, 1, 6), fold(1, 0, 5), fold(1, 1, 5)];
+    let bytes = [1, 0, 2, 0, 3, 0, 4, 0];
+    assert!(rt; has_folds(alloc, &observed, 2, &bytes, &folds));
+    assert!(rt; has_folds(alloc, &observed, 2, &bytes[..7], &[]));
+    assert!(rt; has_folds(alloc, &observed, 3, &bytes, &[]));
     Ok(())
 }
