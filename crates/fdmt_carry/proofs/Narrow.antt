@@ -1,16 +1,18 @@
 -- Nodes whose rows are made in 16 bits.
-use Rattle.std.proofs.Common.{◌≡◌, ℕ, ◌+◌, ◌-◌, ◌*◌, ◌%◌, ◌^◌, ◌≤◌, ◌<◌, List, length, slice_index, max, min, arith, below_more, ap, ◌∙◌}
+use Rattle.std.proofs.Common.{◌≡◌, ℕ, ◌+◌, ◌-◌, ◌*◌, ◌%◌, ◌^◌, ◌≤◌, ◌<◌, List, length, slice_index, min, arith, ap, ◌∙◌, inl, inr}
+use Rattle.std.proofs.lemmas.Bool.{cases_lt}
 use Rattle.std.proofs.Math.Nat.{mod-eq_of_lt, mod-le, mul-le-mul_right}
 use Rattle.band_paths.specs.Edges.{channels_of}
 use Rattle.search_model.specs.Samples.{Filterbank}
 use Rattle.search_model.specs.Subbands.{node_sum}
 use Rattle.subband_plan.specs.NodeLaws.{AskedRowsAreThere}
 use Rattle.fdmt_rows.specs.Rows.{AddsNarrowly, Narrows}
-use Rattle.fdmt_carry.specs.Tables.{Tables, AreTables, node_of, place_of, next_of, tail_of, row_number, row_value}
+use Rattle.fdmt_carry.specs.Tables.{Tables, AreTables, node_of, tail_of, row_number, row_value}
+use Rattle.fdmt_carry.specs.Making.{IsPair, lower_of}
 use Rattle.fdmt_carry.specs.Values.{Begins, GoesOn, AreNarrow}
-use Rattle.fdmt_carry.specs.Narrow.{AreAtMost, IsNarrow, PartFits}
+use Rattle.fdmt_carry.specs.Narrow.{AreAtMost, IsNarrow, PartFits, BelowFits, NarrowFit, HasNarrowHalves}
 use Rattle.fdmt_carry.proofs.Bounds.{SumLaws, sums_bounded}
-use Rattle.fdmt_carry.proofs.Known.{part_known}
+use Rattle.fdmt_carry.proofs.Known.{part_known, parts_known}
 use Rattle.fdmt_carry.proofs.Reading.{node_under}
 
 -- no value of a narrow node passes 16 bits, nor one of a node below it
@@ -39,6 +41,18 @@ part_fits laws asked t is most k narrow f small j ge lt d u i has =
     let rest = mod-le (node_sum f t.plan.edges n.lo n.hi d (u + i) late) (2 ^ 32) in
     omega arith
 
+-- no value of a node below one with narrow halves does
+pub halves_fit : (t : Tables) → AreTables t → (most k : ℕ) → NarrowFit t most → IsPair t k →
+    HasNarrowHalves t most k → (f : Filterbank) → AreAtMost most f → BelowFits t f k
+halves_fit t is most k fit pair narrow f small j after lt =
+    let parts = parts_known t is k pair in
+    let upper_end = parts.upper_end in
+    let lower_end = parts.lower_end in
+    elim (cases_lt j (lower_of t k)) [
+      | inl above ↦ fit (k + 1) f narrow.upper small j (omega arith) (omega arith)
+      | inr below ↦ fit (lower_of t k) f narrow.lower small j below (omega arith)
+    ]
+
 -- values of 16 bits stay what they are
 pub narrow_begins : (g : ℕ → ℕ) (xs out : List ℕ) → AreNarrow g → length out ≡ length xs → Begins g xs →
     Narrows out xs → Begins g out
@@ -54,18 +68,6 @@ narrow_sums g n a b out small goes adds i lt =
     let fits = small (n + i) in
     omega arith
 
--- room for one node more
-pub room_more : (t : Tables) (most k size span size' : ℕ) → size' ≡ max size span →
-    ((j : ℕ) → j < k → IsNarrow t most j → place_of t (next_of t j) ≤ place_of t j + size) →
-    (IsNarrow t most k → place_of t (next_of t k) ≤ place_of t k + span) →
-    (j : ℕ) → j < k + 1 → IsNarrow t most j → place_of t (next_of t j) ≤ place_of t j + size'
-room_more t most k size span size' e so_far here = below_more _ _
-    (λ j lt narrow. let le = so_far j lt narrow in grind (arith, le, e))
-    (λ narrow. let le = here narrow in grind (arith, le, e))
-
 -- a product that is cut off far above 16 bits
 pub product_below : (x y : ℕ) → y ≡ min x (2 ^ 64 - 1) → y < 2 ^ 16 → x < 2 ^ 16
 product_below x y e lt = grind (arith, e, lt)
-
-pub below_product : (x y : ℕ) → y ≡ min x (2 ^ 64 - 1) → x < 2 ^ 16 → y < 2 ^ 16
-below_product x y e lt = grind (arith, e, lt)

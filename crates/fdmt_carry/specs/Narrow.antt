@@ -3,7 +3,8 @@
 use Rattle.std.specs.Prelude.{ℕ, ◌+◌, ◌-◌, ◌*◌, ◌^◌, ◌≤◌, ◌<◌}
 use Rattle.search_model.specs.Samples.{Filterbank}
 use Rattle.subband_plan.specs.Nodes.{HasKept}
-use Rattle.fdmt_carry.specs.Tables.{Tables, node_of, node_count, place_of, next_of, row_value}
+use Rattle.fdmt_carry.specs.Tables.{Tables, node_of, node_count, next_of, row_value}
+use Rattle.fdmt_carry.specs.Making.{lower_of}
 
 -- no sample is above `most`
 abbrev pub AreAtMost : ℕ → Filterbank → Type 0
@@ -23,7 +24,21 @@ NodeFits t f k = (d u i : ℕ) → HasKept (node_of t k) d → row_value t f u k
 abbrev pub PartFits : Tables → Filterbank → ℕ → Type 0
 PartFits t f k = (j : ℕ) → k ≤ j → j < next_of t k → NodeFits t f j
 
--- so many values have room for the rows of each narrow node and of all nodes below it
-abbrev pub HaveNarrowRoom : Tables → ℕ → ℕ → Type 0
-HaveNarrowRoom t most size =
-    (k : ℕ) → IsNarrow t most k → place_of t (next_of t k) ≤ place_of t k + size
+-- no value of a node below node k does
+abbrev pub BelowFits : Tables → Filterbank → ℕ → Type 0
+BelowFits t f k = (j : ℕ) → k < j → j < next_of t k → NodeFits t f j
+
+-- narrow nodes fit with all nodes below them
+abbrev pub NarrowFit : Tables → ℕ → Type 0
+NarrowFit t most =
+    (k : ℕ) (f : Filterbank) → IsNarrow t most k → AreAtMost most f → PartFits t f k
+
+-- both halves of node k are narrow
+pub record HasNarrowHalves (t : Tables) (most k : ℕ) : Type 0 where
+  pub upper : IsNarrow t most (k + 1)
+  pub lower : IsNarrow t most (lower_of t k)
+
+-- and so are the halves of both halves
+pub record HasNarrowQuarters (t : Tables) (most k : ℕ) : Type 0 where
+  pub above : HasNarrowHalves t most (k + 1)
+  pub below : HasNarrowHalves t most (lower_of t k)

@@ -7,7 +7,6 @@ ghost use Rattle.search_model.specs.Subbands.{node_sum};
 ghost use Rattle.subband_plan.specs.Nodes.{HasRow, root};
 ghost use Rattle.fdmt_carry.specs.Tables.{node_of, node_count};
 ghost use Rattle.fdmt_carry.specs.Carrying.{Carrying, IsOpened, IsFed, IsStream, AreNext, StandsForSamples, IsSound, carrying};
-ghost use Rattle.fdmt_carry.specs.Narrow.{HaveNarrowRoom};
 
 use crate::tables::Tables;
 use psr_base::Memory;
@@ -37,8 +36,7 @@ impl Model for Carry {
         c.values.items };
 
     ghost invariant = { λ c. IsSound (carrying c.tables c.max_sample c.fed c.last c.has_tables
-        c.kept.items c.values.items)
-        × HaveNarrowRoom c.tables c.max_sample (length c.narrow.items) };
+        c.kept.items c.values.items) };
 }
 
 impl Carry {

@@ -4,14 +4,14 @@ ghost use Rattle.subband_plan.specs.Nodes.{HasKept, split_of};
 ghost use Rattle.fdmt_carry.specs.Tables.{Tables as TablesOf, AreTables, IsRow, node_of, node_count, all_rows, held_at, place_at, tail_of, start_of, row_number, place_of, hold_of, next_of, stop_of, tables as tables_of};
 ghost use Rattle.fdmt_carry.specs.Making.{IsPair, IsSingle, IsWide, StepsAt, IsMerge, IsRunOn, IsPart, AreParts, lower_of};
 ghost use Rattle.fdmt_carry.specs.Reading.{IsWhole, ArePlain};
-ghost use Rattle.search_model.specs.Samples.{Filterbank};
-ghost use Rattle.fdmt_carry.specs.Narrow.{AreAtMost, IsNarrow, PartFits, HaveNarrowRoom};
+ghost use Rattle.fdmt_carry.specs.Narrow.{IsNarrow, HasNarrowHalves, HasNarrowQuarters, NarrowFit};
 ghost use Rattle.fdmt_carry.specs.Steps.{IsStep, MakesRow, AreSteps, made_of};
 
 mod filling;
 mod narrow;
 mod nodes;
 mod steps;
+mod widening;
 
 use self::steps::{Step, all_steps};
 use psr_base::Memory;
@@ -129,8 +129,7 @@ impl Tables {
     // Whether no sum of node `k` passes 16 bits where no sample is above `most`.
     fn is_narrow(&self, k: usize, most: u32) -> bool
         requires { k < node_count self.now }
-        ensures one { result ≡ true → IsNarrow self.now most k }
-        ensures two { IsNarrow self.now most k → result ≡ true }
+        ensures { result ≡ true → IsNarrow self.now most k }
     {
         self.hold();
         let node = self.node(k);
@@ -138,19 +137,47 @@ impl Tables {
         u64::from(most).saturating_mul(cells) < NARROW_SUMS
     }
 
-    // Whether node `k` is made in 16 bits, where its table alone is to stand.
-    fn is_low(&self, k: usize, most: u32, whole: bool) -> bool
+    fn has_narrow_halves(&self, k: usize, most: u32) -> bool
+        requires { IsPair self.now k }
+        ensures { result ≡ true → HasNarrowHalves self.now most k }
+    {
+        self.hold();
+        self.parts_of(k);
+        self.is_narrow(k + 1, most) && self.is_narrow(self.lower(k), most)
+    }
+
+    fn has_narrow_quarters(&self, k: usize, most: u32) -> bool
+        requires { IsWide self.now k }
+        ensures { result ≡ true → HasNarrowQuarters self.now most k }
+    {
+        self.hold();
+        self.has_narrow_halves(k + 1, most) && self.has_narrow_halves(self.lower(k), most)
+    }
+
+    // Whether node `k` is made in 16 bits, in so much room, where its table alone is to stand.
+    fn is_low(&self, k: usize, most: u32, room: usize, whole: bool) -> bool
         requires { k < node_count self.now }
         ensures alone { result ≡ true → whole ≡ false }
         ensures narrow { result ≡ true → IsNarrow self.now most k }
+        ensures room { result ≡ true
+            → place_of self.now (next_of self.now k) ≤ place_of self.now k + room }
     {
-        !whole && self.is_narrow(k, most)
+        !whole && self.is_narrow(k, most) && self.part_size(k) <= room
     }
 
-    // Where node `k` is narrow, no value of it passes 16 bits, nor one of a node below it; it does nothing.
-    fn fits(&self, k: usize, most: u32)
-        requires { IsNarrow self.now most k }
-        ensures { (f : Filterbank) → AreAtMost most f → PartFits self.now f k }
+    // Whether the halves of both halves of node `k` are made in 16 bits, in so much room.
+    fn has_low_quarters(&self, k: usize, most: u32, room: usize) -> bool
+        requires { IsWide self.now k }
+        ensures narrow { result ≡ true → HasNarrowQuarters self.now most k }
+        ensures room { result ≡ true
+            → place_of self.now (next_of self.now k) ≤ place_of self.now k + room }
+    {
+        self.has_narrow_quarters(k, most) && self.part_size(k) <= room
+    }
+
+    // Narrow nodes fit into 16 bits with all nodes below them; it does nothing.
+    fn fits(&self, most: u32)
+        ensures { NarrowFit self.now most }
     {
         self.hold();
         halves_add();
@@ -161,27 +188,35 @@ impl Tables {
         asked_rows_are_there();
     }
 
-    // How many values node `k` and all nodes below it have, where it is narrow.
-    fn narrow_span(&self, k: usize, most: u32) -> usize
+    // How many values node `k` has with all nodes below it.
+    fn part_size(&self, k: usize) -> usize
         requires { k < node_count self.now }
-        ensures { IsNarrow self.now most k
-            → place_of self.now (next_of self.now k) ≤ place_of self.now k + result }
+        ensures { place_of self.now k + result ≡ place_of self.now (next_of self.now k) }
     {
-        if self.is_narrow(k, most) {
-            self.span(k, self.next(k))
-        } else {
-            0
-        }
+        self.part_of(k);
+        self.span(k, self.next(k))
     }
 
-    /// How many values have room for each narrow node with all nodes below it.
-    pub fn narrow_size(&self, most: u32) -> usize
-        ensures { HaveNarrowRoom self.now most result }
+    // How much room node `k` asks for where it or the halves of its halves are made in 16 bits.
+    fn low_size(&self, k: usize, most: u32) -> usize
+        requires { k < node_count self.now }
     {
-        self.hold();
+        if self.is_narrow(k, most) {
+            return self.part_size(k);
+        }
+        if self.is_wide(k, false) {
+            if self.has_narrow_quarters(k, most) {
+                return self.part_size(k);
+            }
+        }
+        0
+    }
+
+    /// How much room there should be for values of 16 bits. Where there is less, more rows are made in 32 bits.
+    pub fn narrow_size(&self, most: u32) -> usize {
         let mut size: usize = 0;
         for k in 0..self.nodes() {
-            size = size.max(self.narrow_span(k, most));
+            size = size.max(self.low_size(k, most));
         }
         size
     }

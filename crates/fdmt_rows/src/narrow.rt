@@ -1,7 +1,7 @@
 // Rows of values of 16 bits: their sums, and values of 32 bits in 16 bits and back. The loops over whole lanes take sixteen
 // values a step, and say how far they came.
 ghost use Rattle.std.specs.Prelude.{◌≡◌, ◌+◌, ◌%◌, ◌^◌, ◌<◌, ◌≤◌, length, slice_index};
-ghost use Rattle.fdmt_rows.specs.Rows.{narrow_sum, AddsNarrowly, Narrows};
+ghost use Rattle.fdmt_rows.specs.Rows.{wrapping_sum, narrow_sum, AddsWrapping, AddsNarrowly, Narrows};
 ghost use Rattle.fdmt_rows.specs.Writes.{Writes};
 
 use std::simd::prelude::*;
@@ -36,6 +36,36 @@ fn add_whole_lanes(out: &mut [u16], a: &[u16], b: &[u16]) -> usize
     let mut done = 0;
     while out.len() - done >= LANES {
         add_lanes(out, a, b, done);
+        done += LANES;
+    }
+    done
+}
+
+#[inline(always)]
+fn add_widened_lanes(out: &mut [u32], a: &[u16], b: &[u16], at: usize)
+    requires room { at + LANES ≤ length out.old }
+    requires first { length a.now ≡ length out.old }
+    requires second { length b.now ≡ length out.old }
+    ensures { Writes out.old out.new at (at + LANES)
+        (λ k. wrapping_sum (slice_index a.now k) (slice_index b.now k)) }
+{
+    let wide_a = u16x16::from_slice(&a[at..]).cast::<u32>();
+    let wide_b = u16x16::from_slice(&b[at..]).cast::<u32>();
+    (wide_a + wide_b).copy_to_slice(&mut out[at..]);
+}
+
+#[inline(always)]
+fn add_widened_whole_lanes(out: &mut [u32], a: &[u16], b: &[u16]) -> usize
+    requires first { length a.now ≡ length out.old }
+    requires second { length b.now ≡ length out.old }
+    ensures within { result ≤ length out.new }
+    ensures whole { length out.new < result + LANES }
+    ensures added { Writes out.old out.new 0 result
+        (λ k. wrapping_sum (slice_index a.now k) (slice_index b.now k)) }
+{
+    let mut done = 0;
+    while out.len() - done >= LANES {
+        add_widened_lanes(out, a, b, done);
         done += LANES;
     }
     done
@@ -100,6 +130,17 @@ pub fn add_narrow_rows(out: &mut [u16], a: &[u16], b: &[u16])
 {
     for k in add_whole_lanes(out, a, b)..out.len() {
         out[k] = a[k].wrapping_add(b[k]);
+    }
+}
+
+/// Adds two rows of values of 16 bits value by value, in 32 bits.
+pub fn add_widened_rows(out: &mut [u32], a: &[u16], b: &[u16])
+    requires first { length a.now ≡ length out.old }
+    requires second { length b.now ≡ length out.old }
+    ensures { AddsWrapping out.new a.now b.now }
+{
+    for k in add_widened_whole_lanes(out, a, b)..out.len() {
+        out[k] = (a[k] as u32).wrapping_add(b[k] as u32);
     }
 }
 

@@ -4,7 +4,7 @@ ghost use Rattle.search_model.specs.Samples.{Filterbank};
 ghost use Rattle.band_paths.specs.Edges.{channels_of};
 ghost use Rattle.fdmt_carry.specs.Tables.{node_count, place_of, hold_of, next_of, stop_of, HasNext, AreKept};
 ghost use Rattle.fdmt_carry.specs.Making.{IsPair, IsWide, FitNode, HaveRoom, KeepsNode, KeepsPart, HalvesStand, WidePartStands, PartStands, lower_of};
-ghost use Rattle.fdmt_carry.specs.Narrow.{AreAtMost, IsNarrow, HaveNarrowRoom};
+ghost use Rattle.fdmt_carry.specs.Narrow.{AreAtMost, IsNarrow};
 
 use super::Tables;
 use fdmt_rows::widen_row;
@@ -31,7 +31,6 @@ impl Tables {
             ≡ hold_of self.now (next_of self.now k) }
         requires rows { length rows.now ≡ channels_of self.now.plan.edges * self.now.chunk }
         requires short { spectra ≤ self.now.chunk }
-        requires narrow { HaveNarrowRoom self.now most (length narrow.old) }
         ensures value { place_of self.now (k + 1) + result
             ≡ place_of self.now (stop_of self.now whole (k + 1)) }
         ensures within { result ≤ length below.new }
@@ -71,7 +70,6 @@ impl Tables {
     )
         requires node { IsWide self.now k }
         requires short { spectra ≤ self.now.chunk }
-        requires narrow { HaveNarrowRoom self.now most (length narrow.old) }
         requires own { FitNode self.now k (length table.old) (length kept.old) }
         requires room { place_of self.now (next_of self.now k)
             ≤ place_of self.now (k + 1) + length below.old }
@@ -88,6 +86,12 @@ impl Tables {
             → WidePartStands self.now f u spectra k table.new kept.new upper_kept.new
             lower_kept.new }
     {
+        if self.has_low_quarters(k, most, narrow.len()) {
+            self.fill_widening(
+                k, table, kept, below, upper_kept, lower_kept, rows, spectra, most, narrow,
+            );
+            return;
+        }
         self.hold();
         self.parts_of(k);
         self.parts_of(k + 1);
@@ -157,7 +161,8 @@ impl Tables {
             ≡ hold_of self.now (next_of self.now k) }
         requires rows { length rows.now ≡ channels_of self.now.plan.edges * self.now.chunk }
         requires short { spectra ≤ self.now.chunk }
-        requires narrow { HaveNarrowRoom self.now most (length narrow.old) }
+        requires narrow { place_of self.now (next_of self.now k)
+            ≤ place_of self.now k + length narrow.old }
         ensures { (f : Filterbank) (u : ℕ) → AreAtMost most f
             → HasNext self.now f u spectra rows.now
             → KeepsPart self.now f u k kept.old
@@ -165,7 +170,7 @@ impl Tables {
     {
         self.hold();
         self.part_of(k);
-        self.fits(k, most);
+        self.fits(most);
         self.fill_narrow(k, narrow, kept, rows, spectra);
         let own = self.span(k, k + 1);
         widen_row(&mut table[..own], &narrow[..own]);
@@ -192,7 +197,6 @@ impl Tables {
             ≡ hold_of self.now (next_of self.now k) }
         requires rows { length rows.now ≡ channels_of self.now.plan.edges * self.now.chunk }
         requires short { spectra ≤ self.now.chunk }
-        requires narrow { HaveNarrowRoom self.now most (length narrow.old) }
         ensures { (f : Filterbank) (u : ℕ) → AreAtMost most f
             → HasNext self.now f u spectra rows.now
             → KeepsPart self.now f u k kept.old
@@ -200,7 +204,7 @@ impl Tables {
     {
         self.hold();
         self.part_of(k);
-        if self.is_low(k, most, whole) {
+        if self.is_low(k, most, narrow.len(), whole) {
             self.fill_low(k, table, kept, rows, spectra, most, narrow);
             return;
         }

@@ -6,7 +6,7 @@ ghost use Rattle.subband_plan.specs.Nodes.{HasKept};
 ghost use Rattle.fdmt_carry.specs.Tables.{node_of, node_count, tail_of, row_number, place_of, hold_of, next_of, HasNext, AreKept};
 ghost use Rattle.fdmt_carry.specs.Making.{IsPair, IsSingle, FitNode, HasRoom, HaveRoom, AreHalves, AreSamples, ChannelHas, KeepsTail, KeepsNode, KeepsPart, HaveHalfRows, RowStandsAt, RowStands, ChangesRowAt, ChangesRow, NodeStands, HalvesStand, PartStands, lower_of};
 ghost use Rattle.fdmt_carry.specs.Steps.{IsStep};
-ghost use Rattle.fdmt_carry.specs.Narrow.{NodeFits, PartFits};
+ghost use Rattle.fdmt_carry.specs.Narrow.{NodeFits, PartFits, BelowFits};
 
 use super::Tables;
 use super::steps::Step;
@@ -238,7 +238,7 @@ impl Tables {
     // Makes the rows of both halves of node `k` in 16 bits, and of all nodes below them, and tells how many values come
     // before the rows of the lower half.
     #[cycle(fill_narrow)]
-    fn fill_halves_narrow(
+    pub(super) fn fill_halves_narrow(
         &self,
         k: usize,
         below: &mut [u16],
@@ -253,9 +253,10 @@ impl Tables {
             ≡ hold_of self.now (next_of self.now k) }
         requires rows { length rows.now ≡ channels_of self.now.plan.edges * self.now.chunk }
         requires short { spectra ≤ self.now.chunk }
+        ensures value { place_of self.now (k + 1) + result ≡ place_of self.now (k + 1 + 1) }
         ensures within { result ≤ length below.new }
         ensures room { HaveRoom self.now k result (length below.new - result) }
-        ensures made { (f : Filterbank) (u : ℕ) → PartFits self.now f k
+        ensures made { (f : Filterbank) (u : ℕ) → BelowFits self.now f k
             → HasNext self.now f u spectra rows.now
             → AreKept self.now f u (k + 1) (next_of self.now k) kept.old
             → HalvesStand self.now f u spectra false k result below.new kept.new }

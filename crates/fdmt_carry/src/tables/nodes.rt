@@ -131,7 +131,7 @@ impl Tables {
 
     // Makes row `r`, which is that of delay `d` of node `k`, from the rows of its halves alone that it is made of.
     #[inline(always)]
-    fn join_row(
+    pub(super) fn join_row(
         &self,
         k: usize,
         d: u32,

@@ -29,5 +29,5 @@ returns-clause-sums c = λ f k stands lt.
     ∙ ap (λ xs. slice_index xs (c.place-place.result + k)) c.as_slice.ensures.value
     ∙ ap (λ p. slice_index s.values.items (p + k)) c.place-place.ensures.value
     ∙ value_read t whole c.plain.ensures s.max_sample (s.fed - s.last) s.last 0 1 d k s.values.items f
-    c.self.invariant.0.fits now.stream now.band (omega arith) whole.some has small
+    c.self.invariant.fits now.stream now.band (omega arith) whole.some has small
     ∙ path_read c.whole_band_is_path_sum.ensures t is f d (s.fed - s.last + k) now.stream.channels)

@@ -34,4 +34,4 @@ returns-clause-sums c = λ f i stands lt.
     ∙ ap (λ xs. slice_index xs (c.place-place.result + i)) c.as_slice.ensures.value
     ∙ ap (λ p. slice_index s.values.items (p + i)) c.place-place.ensures.value
     ∙ value_read t c.whole_of.ensures c.plain.ensures s.max_sample (s.fed - s.last) s.last k (node_count t) d i
-    s.values.items f c.self.invariant.0.fits now.stream (now.nodes tables) node node has small)
+    s.values.items f c.self.invariant.fits now.stream (now.nodes tables) node node has small)

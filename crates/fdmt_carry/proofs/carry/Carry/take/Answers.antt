@@ -17,7 +17,7 @@ returns-clause-stands c = λ f stands next.
     let given : AreNext (carrying t s.max_sample s.fed s.last s.has_tables s.kept.items s.values.items) f rows spectra =
     subst (λ (x : Carrying). AreNext x f rows spectra) (sym c.self.view_is) next in
     let spectra_next = next_spectra t c.hold.ensures s.max_sample s.fed s.last spectra s.has_tables s.kept.items
-    s.values.items rows f c.self.invariant.0.fits old given in
+    s.values.items rows f c.self.invariant.fits old given in
     let keeps : KeepsPart t f s.fed 0 c.as_mut_slice-kept.result.now =
     subst (λ (xs : List ℕ). KeepsPart t f s.fed 0 xs) (sym c.as_mut_slice-kept.ensures.value)
     (all_kept t c.whole_of.ensures s.max_sample s.fed s.last s.has_tables s.kept.items s.values.items f old) in

@@ -1,7 +1,6 @@
-use Rattle.std.proofs.Common.{ℕ, ◌≡◌, ◌+◌, ◌≤◌, ◌<◌, rules, false, length, take, drop, ap, sym, subst, ◌∙◌, arith}
+use Rattle.std.proofs.Common.{ℕ, ◌≡◌, ◌+◌, ◌≤◌, ◌<◌, false, length, take, drop, ap, sym, subst, ◌∙◌, arith}
 use Rattle.std.proofs.lemmas.List.{length-take-le}
 use Rattle.fdmt_carry.specs.Tables.{place_of, hold_of, stop_of, node_count}
-use Rattle.fdmt_carry.specs.Narrow.{HaveNarrowRoom}
 use Rattle.fdmt_carry.specs.Making.{KeepsNode, KeepsPart, PartStands, HalvesStand, AreHalves, AreParts, lower_of}
 use Rattle.fdmt_carry.proofs.Halves.{KeepsRest, own_kept, below_kept, upper_kept, lower_kept, kept_more, halves_cut, halves_joined, part_joined, wide_joined, channel_made, channel_next, stop_above}
 use Rattle.fdmt_carry.proofs.tables.Tables.+fill.Goals as goal
@@ -229,9 +228,5 @@ fill_wide-returns t c = λ f u small next keeps upper_keeps lower_keeps.
           (omega arith) made.lower_tails lower_stand.tails;
     }
 
-pub fill_wide-fill_halves-lower_made-requires : goal.fill_wide-fill_halves-lower_made-requires
-fill_wide-fill_halves-lower_made-requires t c =
-    let narrow : HaveNarrowRoom c.args.self.now c.args.most (length c.fill_halves-upper_made.new.narrow) =
-    subst (λ size. HaveNarrowRoom c.args.self.now c.args.most size) (sym c.fill_halves-upper_made.auto.narrow)
-    c.requires.narrow in
-    (search rules, (search rules, (search rules, (search rules, (search rules, (search rules, narrow))))))
+pub fill_wide-returns-then-has_low_quarters : goal.fill_wide-returns-then-has_low_quarters
+fill_wide-returns-then-has_low_quarters t c = c.fill_widening.ensures

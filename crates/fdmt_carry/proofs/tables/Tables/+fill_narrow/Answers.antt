@@ -47,7 +47,7 @@ fill_narrow-returns t c = λ f u fits next keeps.
     let made : ℕ = c.fill_halves_narrow-made.result in
     let below = c.fill_halves_narrow-made.new.below in
     let stand : HalvesStand self f u spectra false k made below c.fill_halves_narrow-made.new.kept =
-    c.fill_halves_narrow-made.ensures.made f u fits next rest in
+    c.fill_halves_narrow-made.ensures.made f u (λ j after lt. fits j (omega arith) lt) next rest in
     let halves : AreHalves self f u spectra k c.split_at.result.0.now c.split_at.result.1.now =
     subst (λ xs. AreHalves self f u spectra k xs c.split_at.result.1.now) (sym c.split_at.ensures.front)
     (subst (λ xs. AreHalves self f u spectra k (take made below) xs) (sym c.split_at.ensures.back) stand.halves) in

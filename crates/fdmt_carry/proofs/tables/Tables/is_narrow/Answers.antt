@@ -1,7 +1,7 @@
-use Rattle.std.proofs.Common.{◌≡◌, ◌+◌, ◌-◌, ◌*◌, ◌^◌, ◌<◌, ap, subst, sym, ◌∙◌, arith}
-use Rattle.std.proofs.lemmas.Bool.{ltb-true, lt-ltb}
+use Rattle.std.proofs.Common.{◌≡◌, ◌+◌, ◌-◌, ◌*◌, ◌^◌, ◌<◌, ap, subst, ◌∙◌, arith}
+use Rattle.std.proofs.lemmas.Bool.{ltb-true}
 use Rattle.fdmt_carry.specs.Tables.{node_of}
-use Rattle.fdmt_carry.proofs.Narrow.{product_below, below_product}
+use Rattle.fdmt_carry.proofs.Narrow.{product_below}
 use Rattle.fdmt_carry.proofs.tables.Tables.is_narrow.Goals as goal
 
 -- what is multiplied
@@ -18,14 +18,9 @@ product_is c =
     let cells : c.from.result + c.from-2.result ≡ n.hi - n.lo + n.last_row = omega arith in
     ap (λ m. m * (c.from.result + c.from-2.result)) c.from-3.ensures ∙ ap (λ x. c.args.most * x) cells
 
-pub returns-clause-one : goal.returns-clause-one
-returns-clause-one c = λ yes. record {
+pub returns : goal.returns
+returns c = λ yes. record {
   node = c.requires;
   fits = subst (λ x. x < 2 ^ 16) (product_is c)
       (product_below _ c.saturating_mul.result c.saturating_mul.ensures (ltb-true _ _ yes));
 }
-
-pub returns-clause-two : goal.returns-clause-two
-returns-clause-two c = λ narrow.
-    lt-ltb _ _ (below_product _ c.saturating_mul.result c.saturating_mul.ensures
-    (subst (λ x. x < 2 ^ 16) (sym (product_is c)) narrow.fits))
