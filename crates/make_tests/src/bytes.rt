@@ -6,39 +6,62 @@ use std::alloc::Global;
 use std::test::Fail;
 
 /// The bytes of an observation whose fields lie in their ranges.
-pub(crate) fn bytes_of(alloc: Global, spec: &MakeSpec) -> Result<Vec<u8>, Fail> {
+pub(crate) fn bytes_of(alloc: Global, spec: &MakeSpec) -> Option<Vec<u8>> {
     if !spec.in_range() {
-        return Err("a field out of its range".into());
+        return None;
     }
     match make_bytes(alloc, spec) {
-        Ok(bytes) => Ok(bytes),
-        Err(_) => Err("no memory".into()),
+        Ok(bytes) => Some(bytes),
+        Err(_) => None,
     }
 }
 
-const PLAIN: MakeSpec = MakeSpec {
-    number: 0,
-    channels: 64,
-    spectra: 4096,
-    delay: 64,
-    period: 256,
-    height: 2,
-    nbit: 8,
-    npol: 1,
-};
+// The number, the channels, spectra, delay, period, height, bits and polarisations; how many bytes there are, and their
+// checksum. In the fourth all cells are on the train, once each; then there are a pulse that just reaches the foot, and
+// one that doesn't; then no spectra, and the most channels.
+const OBSERVATIONS: &str = "
+0 64 4096 64 256 2 8 1 | 266240 6ceaca1801464b76
+1 64 4096 64 256 2 8 1 | 266240 b854e17c1b218a47
+0 64 4096 64 256 0 8 1 | 266240 d46d7aee756835a6
+0 2 20 3 1 200 8 1 | 4136 d49a90650b023425
+0 5 41 40 3 2 16 1 | 4506 29322daa3288ac67
+0 5 40 40 3 2 8 1 | 4296 ea2490be98f56aae
+0 2 0 64 256 2 8 1 | 4096 67f43dca3ad71a05
+0 4096 3 0 1 1 8 1 | 16384 3b032b9d51b5d14e
+0 37 300 90 41 3 8 2 | 26296 21c753cca08606da
+9223372036854775807 3 50 17 5 7 16 2 | 4696 60cbcfa7d9d0d6b7
+9223372036854775808 64 4096 64 256 2 8 1 | out of range
+0 1 4096 64 256 2 8 1 | out of range
+0 4097 4096 64 256 2 8 1 | out of range
+0 64 1048577 64 256 2 8 1 | out of range
+0 64 4096 8193 256 2 8 1 | out of range
+0 64 4096 64 0 2 8 1 | out of range
+0 64 4096 64 1048577 2 8 1 | out of range
+0 64 4096 64 256 201 8 1 | out of range
+0 64 4096 64 256 2 12 1 | out of range
+0 64 4096 64 256 2 8 3 | out of range
+";
 
-// An observation of number 0 of one polarisation.
-const fn shaped(channels: u32, spectra: u32, delay: u32, period: u32, height: u32) -> MakeSpec {
-    MakeSpec {
-        number: 0,
+// The observation of eight numbers.
+fn spec_of(text: &str) -> Option<MakeSpec> {
+    let (number, rest) = text.split_once(' ')?;
+    let mut numbers = [0; 7];
+    for (i, word) in rest.split_whitespace().enumerate() {
+        if i < numbers.len() {
+            numbers[i] = word.parse::<u32>().ok()?;
+        }
+    }
+    let [channels, spectra, delay, period, height, nbit, npol] = numbers;
+    Some(MakeSpec {
+        number: number.parse::<u64>().ok()?,
         channels,
         spectra,
         delay,
         period,
         height,
-        nbit: 8,
-        npol: 1,
-    }
+        nbit,
+        npol,
+    })
 }
 
 // The checksum FNV-1a of 64 bits.
@@ -50,168 +73,71 @@ fn checksum(bytes: &[u8]) -> u64 {
     sum
 }
 
-#[test]
-fn bytes_are_those_of_another_program(rt: HostRuntime) -> Result<(), Fail> {
-    let cases = [
-        (PLAIN, 266240, 0x6cea_ca18_0146_4b76_u64),
-        (
-            MakeSpec { number: 1, ..PLAIN },
-            266240,
-            0xb854_e17c_1b21_8a47,
-        ),
-        (
-            MakeSpec { height: 0, ..PLAIN },
-            266240,
-            0xd46d_7aee_7568_35a6,
-        ),
-        // All cells on the train, once each.
-        (shaped(2, 20, 3, 1, 200), 4136, 0xd49a_9065_0b02_3425),
-        // A pulse that just reaches the foot, and one that doesn't.
-        (
-            MakeSpec {
-                nbit: 16,
-                ..shaped(5, 41, 40, 3, 2)
-            },
-            4506,
-            0x2932_2daa_3288_ac67,
-        ),
-        (shaped(5, 40, 40, 3, 2), 4296, 0xea24_90be_98f5_6aae),
-        // No spectra, and the most channels.
-        (shaped(2, 0, 64, 256, 2), 4096, 0x67f4_3dca_3ad7_1a05),
-        (shaped(4096, 3, 0, 1, 1), 16384, 0x3b03_2b9d_51b5_d14e),
-        (
-            MakeSpec {
-                npol: 2,
-                ..shaped(37, 300, 90, 41, 3)
-            },
-            26296,
-            0x21c7_53cc_a086_06da,
-        ),
-        (
-            MakeSpec {
-                number: 9223372036854775807,
-                nbit: 16,
-                npol: 2,
-                ..shaped(3, 50, 17, 5, 7)
-            },
-            4696,
-            0x60cb_cfa7_d9d0_d6b7,
-        ),
-    ];
-    for (spec, count, sum) in cases {
-        let bytes = bytes_of(rt.alloc(), &spec)?;
-        assert_eq!(rt; bytes.len(), count, "{spec:?}");
-        assert_eq!(rt; checksum(bytes.as_slice()), sum, "{spec:?}");
+// Whether so many bytes have this checksum.
+fn have_sum(bytes: &[u8], wanted: &str) -> bool {
+    let (count, sum) = wanted.split_once(' ').unwrap_or((wanted, ""));
+    count.parse::<usize>() == Ok(bytes.len()) && u64::from_str_radix(sum, 16) == Ok(checksum(bytes))
+}
+
+// Whether the observation of a line is made as it says.
+fn is_made(alloc: Global, line: &str) -> bool {
+    let (numbers, wanted) = line.split_once(" | ").unwrap_or((line, ""));
+    let Some(spec) = spec_of(numbers) else {
+        return false;
+    };
+    match bytes_of(alloc, &spec) {
+        Some(bytes) => have_sum(bytes.as_slice(), wanted),
+        None => wanted == "out of range",
     }
-    Ok(())
 }
 
 #[test]
-fn each_field_has_its_range(rt: HostRuntime) -> Result<(), Fail> {
-    let cases = [
-        (PLAIN, true),
-        (
-            MakeSpec {
-                number: 9223372036854775808,
-                ..PLAIN
-            },
-            false,
-        ),
-        (
-            MakeSpec {
-                channels: 1,
-                ..PLAIN
-            },
-            false,
-        ),
-        (
-            MakeSpec {
-                channels: 4097,
-                ..PLAIN
-            },
-            false,
-        ),
-        (
-            MakeSpec {
-                spectra: 1048577,
-                ..PLAIN
-            },
-            false,
-        ),
-        (
-            MakeSpec {
-                delay: 8193,
-                ..PLAIN
-            },
-            false,
-        ),
-        (MakeSpec { period: 0, ..PLAIN }, false),
-        (
-            MakeSpec {
-                period: 1048577,
-                ..PLAIN
-            },
-            false,
-        ),
-        (
-            MakeSpec {
-                height: 201,
-                ..PLAIN
-            },
-            false,
-        ),
-        (MakeSpec { nbit: 12, ..PLAIN }, false),
-        (MakeSpec { npol: 3, ..PLAIN }, false),
-    ];
-    for (spec, answer) in cases {
-        assert_eq!(rt; spec.in_range(), answer, "{spec:?}");
+fn bytes_are_those_of_another_program(rt: HostRuntime) {
+    for line in OBSERVATIONS.lines() {
+        assert!(rt; line.is_empty() || is_made(rt.alloc(), line), "{line}");
     }
-    Ok(())
 }
+
+// ---- headers
 
 // The header of an observation's bytes.
 fn header_of(alloc: Global, spec: &MakeSpec) -> Result<Header, Fail> {
-    let bytes = bytes_of(alloc, spec)?;
-    match Header::read(alloc, bytes.as_slice()) {
-        Ok(header) => Ok(header),
-        Err(_) => Err("a header".into()),
-    }
+    let Some(bytes) = bytes_of(alloc, spec) else {
+        return Err("no bytes".into());
+    };
+    Ok(Header::read(alloc, bytes.as_slice())?)
 }
 
-// The channels of a spectrum, and the bits and polarisations of a sample.
-fn shape_of(observation: &Observation) -> (u32, u32, u32) {
-    (
-        observation.channels(),
-        observation.nbit(),
-        observation.npol(),
-    )
+// Whether an observation has the channels, bits and polarisations that were asked for.
+fn has_shape(observation: &Observation, spec: &MakeSpec) -> bool {
+    observation.channels() == spec.channels
+        && observation.nbit() == spec.nbit
+        && observation.npol() == spec.npol
 }
 
-// The time from one spectrum to the next, the bytes before the file's, and whether the band falls.
-fn place_of(observation: &Observation) -> (u64, u64, bool) {
-    (
-        observation.tsamp_ns(),
-        observation.obs_offset(),
-        observation.falling(),
-    )
+// Whether it begins a stream of falling bands between these edges, of 64 microseconds each.
+fn has_place(observation: &Observation) -> bool {
+    observation.tsamp_ns() == 64000
+        && observation.obs_offset() == 0
+        && observation.falling()
+        && observation.edges().first() == Some(&1582000)
+        && observation.edges().last() == Some(&1182000)
+}
+
+// Whether the header tells the observation of eight numbers.
+fn is_told(alloc: Global, numbers: &str) -> Result<bool, Fail> {
+    let Some(spec) = spec_of(numbers) else {
+        return Ok(false);
+    };
+    let header = header_of(alloc, &spec)?;
+    let observation = Observation::of(alloc, &header)?;
+    Ok(header.size() == 4096 && has_shape(&observation, &spec) && has_place(&observation))
 }
 
 #[test]
 fn the_header_tells_the_observation(rt: HostRuntime) -> Result<(), Fail> {
-    let small = shaped(2, 1, 0, 1, 0);
-    let large = MakeSpec {
-        nbit: 16,
-        npol: 2,
-        ..shaped(4096, 1, 0, 1, 0)
-    };
-    for (spec, shape) in [(small, (2, 8, 1)), (large, (4096, 16, 2))] {
-        let header = header_of(rt.alloc(), &spec)?;
-        assert_eq!(rt; header.size(), 4096, "{spec:?}");
-        let observation = Observation::of(rt.alloc(), &header)?;
-        assert_eq!(rt; shape_of(&observation), shape);
-        assert_eq!(rt; place_of(&observation), (64000, 0, true), "{spec:?}");
-        assert_eq!(rt; observation.edges().first(), Some(&1582000), "{spec:?}");
-        assert_eq!(rt; observation.edges().last(), Some(&1182000), "{spec:?}");
+    for numbers in ["0 2 1 0 1 0 8 1", "0 4096 1 0 1 0 16 2"] {
+        assert!(rt; is_told(rt.alloc(), numbers)?, "{numbers}");
     }
     Ok(())
 }
