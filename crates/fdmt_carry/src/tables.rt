@@ -4,7 +4,6 @@ ghost use Rattle.subband_plan.specs.Nodes.{HasKept, split_of};
 ghost use Rattle.fdmt_carry.specs.Tables.{Tables as TablesOf, AreTables, IsRow, node_of, node_count, all_rows, held_at, place_at, tail_of, start_of, row_number, place_of, hold_of, next_of, stop_of, tables as tables_of};
 ghost use Rattle.fdmt_carry.specs.Making.{IsPair, IsSingle, IsWide, StepsAt, IsMerge, IsRunOn, IsPart, AreParts, lower_of};
 ghost use Rattle.fdmt_carry.specs.Reading.{IsWhole, ArePlain};
-ghost use Rattle.fdmt_carry.specs.Narrow.{IsNarrow, HasNarrowHalves, HasNarrowQuarters, NarrowFit};
 ghost use Rattle.fdmt_carry.specs.Steps.{IsStep, MakesRow, AreSteps, made_of};
 
 mod filling;
@@ -24,9 +23,6 @@ use std::marker::Model;
 use subband_plan::{
     Merge, Node, Plan, Rows, asked_rows_are_there, plans_are_laid, rows_are_few, rows_are_numbered,
 };
-
-// Where sums of 16 bits end.
-const NARROW_SUMS: u64 = 65536;
 
 /// The tables of a plan, for up to `chunk` spectra at a time. Where all stand, the rows stand one after another, each
 /// behind what is kept of it. How each row is made is reckoned once.
@@ -124,101 +120,6 @@ impl Tables {
         self.hold();
         let node = self.node(k);
         node.hi - node.lo >= 4
-    }
-
-    // Whether no sum of node `k` passes 16 bits where no sample is above `most`.
-    fn is_narrow(&self, k: usize, most: u32) -> bool
-        requires { k < node_count self.now }
-        ensures { result ≡ true → IsNarrow self.now most k }
-    {
-        self.hold();
-        let node = self.node(k);
-        let cells = u64::from(node.hi - node.lo) + u64::from(node.last_row);
-        u64::from(most).saturating_mul(cells) < NARROW_SUMS
-    }
-
-    fn has_narrow_halves(&self, k: usize, most: u32) -> bool
-        requires { IsPair self.now k }
-        ensures { result ≡ true → HasNarrowHalves self.now most k }
-    {
-        self.hold();
-        self.parts_of(k);
-        self.is_narrow(k + 1, most) && self.is_narrow(self.lower(k), most)
-    }
-
-    fn has_narrow_quarters(&self, k: usize, most: u32) -> bool
-        requires { IsWide self.now k }
-        ensures { result ≡ true → HasNarrowQuarters self.now most k }
-    {
-        self.hold();
-        self.has_narrow_halves(k + 1, most) && self.has_narrow_halves(self.lower(k), most)
-    }
-
-    // Whether node `k` is made in 16 bits, in so much room, where its table alone is to stand.
-    fn is_low(&self, k: usize, most: u32, room: usize, whole: bool) -> bool
-        requires { k < node_count self.now }
-        ensures alone { result ≡ true → whole ≡ false }
-        ensures narrow { result ≡ true → IsNarrow self.now most k }
-        ensures room { result ≡ true
-            → place_of self.now (next_of self.now k) ≤ place_of self.now k + room }
-    {
-        !whole && self.is_narrow(k, most) && self.part_size(k) <= room
-    }
-
-    // Whether the halves of both halves of node `k` are made in 16 bits, in so much room.
-    fn has_low_quarters(&self, k: usize, most: u32, room: usize) -> bool
-        requires { IsWide self.now k }
-        ensures narrow { result ≡ true → HasNarrowQuarters self.now most k }
-        ensures room { result ≡ true
-            → place_of self.now (next_of self.now k) ≤ place_of self.now k + room }
-    {
-        self.has_narrow_quarters(k, most) && self.part_size(k) <= room
-    }
-
-    // Narrow nodes fit into 16 bits with all nodes below them; it does nothing.
-    fn fits(&self, most: u32)
-        ensures { NarrowFit self.now most }
-    {
-        self.hold();
-        halves_add();
-        one_channel_adds();
-        one_channel_is_its_sample();
-        nothing_before();
-        splits_fit();
-        asked_rows_are_there();
-    }
-
-    // How many values node `k` has with all nodes below it.
-    fn part_size(&self, k: usize) -> usize
-        requires { k < node_count self.now }
-        ensures { place_of self.now k + result ≡ place_of self.now (next_of self.now k) }
-    {
-        self.part_of(k);
-        self.span(k, self.next(k))
-    }
-
-    // How much room node `k` asks for where it or the halves of its halves are made in 16 bits.
-    fn low_size(&self, k: usize, most: u32) -> usize
-        requires { k < node_count self.now }
-    {
-        if self.is_narrow(k, most) {
-            return self.part_size(k);
-        }
-        if self.is_wide(k, false) {
-            if self.has_narrow_quarters(k, most) {
-                return self.part_size(k);
-            }
-        }
-        0
-    }
-
-    /// How much room there should be for values of 16 bits. Where there is less, more rows are made in 32 bits.
-    pub fn narrow_size(&self, most: u32) -> usize {
-        let mut size: usize = 0;
-        for k in 0..self.nodes() {
-            size = size.max(self.low_size(k, most));
-        }
-        size
     }
 
     // The lower half of node `k`.

@@ -1,5 +1,5 @@
-// Rows of values of 16 bits: their sums, and values of 32 bits in 16 bits and back. The loops over whole lanes take sixteen
-// values a step, and say how far they came.
+// Rows of values of 16 bits: their sums, and values of 32 bits in 16 bits and back. The loops over whole lanes take
+// sixteen values a step, and say how far they came.
 ghost use Rattle.std.specs.Prelude.{◌≡◌, ◌+◌, ◌%◌, ◌^◌, ◌<◌, ◌≤◌, length, slice_index};
 ghost use Rattle.fdmt_rows.specs.Rows.{wrapping_sum, narrow_sum, AddsWrapping, AddsNarrowly, Narrows};
 ghost use Rattle.fdmt_rows.specs.Writes.{Writes};

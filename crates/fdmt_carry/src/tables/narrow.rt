@@ -1,19 +1,121 @@
 // How the rows of a node are made in 16 bits where none of its values passes them, and those of all nodes below it.
-ghost use Rattle.std.specs.Prelude.{◌≡◌, ℕ, ◌+◌, ◌-◌, ◌*◌, ◌<◌, ◌≤◌, false, length};
+ghost use Rattle.std.specs.Prelude.{◌≡◌, ℕ, ◌+◌, ◌-◌, ◌*◌, ◌<◌, ◌≤◌, true, false, length};
 ghost use Rattle.search_model.specs.Samples.{Filterbank};
 ghost use Rattle.band_paths.specs.Edges.{channels_of};
 ghost use Rattle.subband_plan.specs.Nodes.{HasKept};
 ghost use Rattle.fdmt_carry.specs.Tables.{node_of, node_count, tail_of, row_number, place_of, hold_of, next_of, HasNext, AreKept};
-ghost use Rattle.fdmt_carry.specs.Making.{IsPair, IsSingle, FitNode, HasRoom, HaveRoom, AreHalves, AreSamples, ChannelHas, KeepsTail, KeepsNode, KeepsPart, HaveHalfRows, RowStandsAt, RowStands, ChangesRowAt, ChangesRow, NodeStands, HalvesStand, PartStands, lower_of};
+ghost use Rattle.fdmt_carry.specs.Making.{IsPair, IsSingle, IsWide, FitNode, HasRoom, HaveRoom, AreHalves, AreSamples, ChannelHas, KeepsTail, KeepsNode, KeepsPart, HaveHalfRows, RowStandsAt, RowStands, ChangesRowAt, ChangesRow, NodeStands, HalvesStand, PartStands, lower_of};
 ghost use Rattle.fdmt_carry.specs.Steps.{IsStep};
-ghost use Rattle.fdmt_carry.specs.Narrow.{NodeFits, PartFits, BelowFits};
+ghost use Rattle.fdmt_carry.specs.Narrow.{IsNarrow, HasNarrowHalves, HasNarrowQuarters, NarrowFit, NodeFits, PartFits, BelowFits};
 
 use super::Tables;
 use super::steps::Step;
 use crate::rows::{add_next_narrow, copy_next_narrow};
-use search_model::{halves_add, one_channel_adds, one_channel_is_its_sample, time_shifts};
+use search_model::{
+    halves_add, nothing_before, one_channel_adds, one_channel_is_its_sample, splits_fit,
+    time_shifts,
+};
+use subband_plan::asked_rows_are_there;
+
+// Where sums of 16 bits end.
+const NARROW_SUMS: u64 = 65536;
 
 impl Tables {
+    // Whether no sum of node `k` passes 16 bits where no sample is above `most`.
+    fn is_narrow(&self, k: usize, most: u32) -> bool
+        requires { k < node_count self.now }
+        ensures { result ≡ true → IsNarrow self.now most k }
+    {
+        self.hold();
+        let node = self.node(k);
+        let cells = u64::from(node.hi - node.lo) + u64::from(node.last_row);
+        u64::from(most).saturating_mul(cells) < NARROW_SUMS
+    }
+
+    fn has_narrow_halves(&self, k: usize, most: u32) -> bool
+        requires { IsPair self.now k }
+        ensures { result ≡ true → HasNarrowHalves self.now most k }
+    {
+        self.hold();
+        self.parts_of(k);
+        self.is_narrow(k + 1, most) && self.is_narrow(self.lower(k), most)
+    }
+
+    fn has_narrow_quarters(&self, k: usize, most: u32) -> bool
+        requires { IsWide self.now k }
+        ensures { result ≡ true → HasNarrowQuarters self.now most k }
+    {
+        self.hold();
+        self.has_narrow_halves(k + 1, most) && self.has_narrow_halves(self.lower(k), most)
+    }
+
+    // Whether node `k` is made in 16 bits, in so much room, where its table alone is to stand.
+    pub(super) fn is_low(&self, k: usize, most: u32, room: usize, whole: bool) -> bool
+        requires { k < node_count self.now }
+        ensures alone { result ≡ true → whole ≡ false }
+        ensures narrow { result ≡ true → IsNarrow self.now most k }
+        ensures room { result ≡ true
+            → place_of self.now (next_of self.now k) ≤ place_of self.now k + room }
+    {
+        !whole && self.is_narrow(k, most) && self.part_size(k) <= room
+    }
+
+    // Whether the halves of both halves of node `k` are made in 16 bits, in so much room.
+    pub(super) fn has_low_quarters(&self, k: usize, most: u32, room: usize) -> bool
+        requires { IsWide self.now k }
+        ensures narrow { result ≡ true → HasNarrowQuarters self.now most k }
+        ensures room { result ≡ true
+            → place_of self.now (next_of self.now k) ≤ place_of self.now k + room }
+    {
+        self.has_narrow_quarters(k, most) && self.part_size(k) <= room
+    }
+
+    // Narrow nodes fit into 16 bits with all nodes below them; it does nothing.
+    pub(super) fn fits(&self, most: u32)
+        ensures { NarrowFit self.now most }
+    {
+        self.hold();
+        halves_add();
+        one_channel_adds();
+        one_channel_is_its_sample();
+        nothing_before();
+        splits_fit();
+        asked_rows_are_there();
+    }
+
+    // How many values node `k` has with all nodes below it.
+    fn part_size(&self, k: usize) -> usize
+        requires { k < node_count self.now }
+        ensures { place_of self.now k + result ≡ place_of self.now (next_of self.now k) }
+    {
+        self.part_of(k);
+        self.span(k, self.next(k))
+    }
+
+    // How much room node `k` asks for where it or the halves of its halves are made in 16 bits.
+    fn low_size(&self, k: usize, most: u32) -> usize
+        requires { k < node_count self.now }
+    {
+        if self.is_narrow(k, most) {
+            return self.part_size(k);
+        }
+        if self.is_wide(k, false) {
+            if self.has_narrow_quarters(k, most) {
+                return self.part_size(k);
+            }
+        }
+        0
+    }
+
+    /// How much room there should be for values of 16 bits. Where there is less, more rows are made in 32 bits.
+    pub fn narrow_size(&self, most: u32) -> usize {
+        let mut size: usize = 0;
+        for k in 0..self.nodes() {
+            size = size.max(self.low_size(k, most));
+        }
+        size
+    }
+
     // Makes row `r`, which is that of delay `d` of node `k`, at place `at` of a table, in 16 bits from rows of its
     // halves that begin at places `above` and `below`.
     #[inline(always)]

@@ -16,7 +16,8 @@ fill_narrow-returns-then-is_single t c = λ f u fits next keeps.
     let kept_size = c.kept_span.ensures in
     let long = c.split_at_mut-own.ensures.front_len in
     let kept_long = c.split_at_mut-own_kept.ensures.front_len in
-    let same : length c.run_channel_narrow.new.table ≡ length c.split_at_mut-own.result.0.now = c.run_channel_narrow.auto.table in
+    let same : length c.run_channel_narrow.new.table ≡ length c.split_at_mut-own.result.0.now =
+    c.run_channel_narrow.auto.table in
     let kept_same : length c.run_channel_narrow.new.kept ≡ length c.split_at_mut-own_kept.result.0.now =
     c.run_channel_narrow.auto.kept in
     let own : KeepsNode self f u k c.split_at_mut-own_kept.result.0.now =
@@ -25,7 +26,8 @@ fill_narrow-returns-then-is_single t c = λ f u fits next keeps.
     channel_made self is f u c.args.spectra k false c.run_channel_narrow.new.table c.run_channel_narrow.new.kept
     c.split_at_mut-own.result.1.now c.split_at_mut-own_kept.result.1.now part
     (channel_next self is k single)
-    c.requires.short (omega arith) (omega arith) (c.run_channel_narrow.ensures f u (fits k (omega arith) part.above) next own)
+    c.requires.short (omega arith) (omega arith) (c.run_channel_narrow.ensures f u (fits k
+    (omega arith) part.above) next own)
 
 pub fill_narrow-returns : goal.fill_narrow-returns
 fill_narrow-returns t c = λ f u fits next keeps.
@@ -54,9 +56,11 @@ fill_narrow-returns t c = λ f u fits next keeps.
     let long = c.split_at_mut-own.ensures.front_len in
     let kept_long = c.split_at_mut-own_kept.ensures.front_len in
     let same : length c.merge_narrow.new.table ≡ length c.split_at_mut-own.result.0.now = c.merge_narrow.auto.table in
-    let kept_same : length c.merge_narrow.new.kept ≡ length c.split_at_mut-own_kept.result.0.now = c.merge_narrow.auto.kept in
+    let kept_same : length c.merge_narrow.new.kept ≡ length c.split_at_mut-own_kept.result.0.now =
+    c.merge_narrow.auto.kept in
     part_joined self is f u spectra k made false c.merge_narrow.new.table c.merge_narrow.new.kept below
-    c.fill_halves_narrow-made.new.kept part c.requires.short (omega arith) (omega arith) (c.merge_narrow.ensures f u (fits k (omega arith) part.above) halves own) stand
+    c.fill_halves_narrow-made.new.kept part c.requires.short (omega arith) (omega arith) (c.merge_narrow.ensures f u
+    (fits k (omega arith) part.above) halves own) stand
 
 pub fill_halves_narrow-returns-clause-made : goal.fill_halves_narrow-returns-clause-made
 fill_halves_narrow-returns-clause-made t c = λ f u fits next keeps.
@@ -93,13 +97,16 @@ fill_halves_narrow-returns-clause-made t c = λ f u fits next keeps.
     c.fill_narrow.ensures f u (λ j ge lt. fits j (omega arith) (omega (arith, lower_part.above))) next keeps_upper in
     let lower_made : PartStands self f u spectra false low c.fill_narrow-2.new.table c.fill_narrow-2.new.kept =
     subst (λ j. PartStands self f u spectra false j c.fill_narrow-2.new.table c.fill_narrow-2.new.kept) low_is
-    (c.fill_narrow-2.ensures f u (subst (λ j. PartFits self f j) (sym low_is) (λ j ge lt. fits j (omega arith) (omega arith))) next
+    (c.fill_narrow-2.ensures f u (subst (λ j. PartFits self f j) (sym low_is) (λ j ge lt. fits j (omega arith)
+    (omega arith))) next
     keeps_lower) in
     let front = c.split_at_mut-lower.ensures.front in
     let upper_long = c.split_at_mut-lower.ensures.front_len in
     let upper_kept_long = c.split_at_mut-upper_kept.ensures.front_len in
-    let upper_same : length c.fill_narrow.new.kept ≡ length c.split_at_mut-upper_kept.result.0.now = c.fill_narrow.auto.kept in
+    let upper_same : length c.fill_narrow.new.kept ≡ length c.split_at_mut-upper_kept.result.0.now =
+    c.fill_narrow.auto.kept in
     let made_is : length (take made c.fill_narrow.new.table) ≡ made = ap length (sym front) ∙ upper_long in
-    rw front (halves_joined self is f u spectra k made false c.fill_narrow.new.table c.fill_narrow.new.kept c.fill_narrow-2.new.table
+    rw front (halves_joined self is f u spectra k made false c.fill_narrow.new.table c.fill_narrow.new.kept
+    c.fill_narrow-2.new.table
     c.fill_narrow-2.new.kept next.channels part parts short above within (stop_above self low false parts.lower_part)
     made_size made_is (omega arith) upper_made lower_made)

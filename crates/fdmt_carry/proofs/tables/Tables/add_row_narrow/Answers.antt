@@ -39,7 +39,8 @@ returns-clause-made c = λ f u fits halves keeps.
     let front = part_length hold n kept in_kept in
     row_made_at t f u spectra k d at hold m n _ table kept c.add_next_narrow.new.row c.add_next_narrow.new.kept _
     (step.hold ∙ ap (held_at t) r_is) (omega arith) (omega arith) (part_length above m1 upper in_upper ∙ omega arith)
-    in_table in_kept (c.add_next_narrow.auto.row ∙ part_length at m table in_table) (c.add_next_narrow.auto.kept ∙ front)
+    in_table in_kept (c.add_next_narrow.auto.row ∙ part_length at m table in_table)
+    (c.add_next_narrow.auto.kept ∙ front)
     c.add_next_narrow.ensures.row c.add_next_narrow.ensures.kept (
       λ i. fits d u i c.requires.row,
       halves_go_on c.halves_add.ensures c.time_shifts.ensures t c.hold.ensures f u spectra k d above below c.args.above
@@ -66,4 +67,5 @@ returns-clause-rest c =
     let in_kept : hold + n ≤ length kept = omega arith in
     row_alone_at t c.args.k c.args.r at hold (tail_of t c.args.r + spectra) m n table kept c.add_next_narrow.new.row
     c.add_next_narrow.new.kept c.row_of.ensures c.requires.step.hold (omega arith) (omega arith) in_table in_kept
-    (c.add_next_narrow.auto.row ∙ part_length at m table in_table) (c.add_next_narrow.auto.kept ∙ part_length hold n kept in_kept)
+    (c.add_next_narrow.auto.row ∙ part_length at m table in_table) (c.add_next_narrow.auto.kept ∙ part_length hold n
+    kept in_kept)

@@ -39,7 +39,8 @@ returns-clause-made c = λ f u halves keeps.
     let front = part_length hold n kept in_kept in
     row_made_at t f u spectra k d at hold m n _ table kept c.add_next_widening.new.row c.add_next_widening.new.kept _
     (step.hold ∙ ap (held_at t) r_is) (omega arith) (omega arith) (part_length above m1 upper in_upper ∙ omega arith)
-    in_table in_kept (c.add_next_widening.auto.row ∙ part_length at m table in_table) (c.add_next_widening.auto.kept ∙ front)
+    in_table in_kept (c.add_next_widening.auto.row ∙ part_length at m table in_table)
+    (c.add_next_widening.auto.kept ∙ front)
     c.add_next_widening.ensures.row c.add_next_widening.ensures.kept
     (halves_go_on c.halves_add.ensures c.time_shifts.ensures t c.hold.ensures f u spectra k d above below c.args.above
     c.args.below _ m1 m2 (made_of t c.args.r) upper lower c.requires.node c.pair_of.ensures halves (omega arith)
@@ -64,4 +65,5 @@ returns-clause-rest c =
     let in_kept : hold + n ≤ length kept = omega arith in
     row_alone_at t c.args.k c.args.r at hold (tail_of t c.args.r + spectra) m n table kept c.add_next_widening.new.row
     c.add_next_widening.new.kept c.row_of.ensures c.requires.step.hold (omega arith) (omega arith) in_table in_kept
-    (c.add_next_widening.auto.row ∙ part_length at m table in_table) (c.add_next_widening.auto.kept ∙ part_length hold n kept in_kept)
+    (c.add_next_widening.auto.row ∙ part_length at m table in_table) (c.add_next_widening.auto.kept ∙ part_length hold
+    n kept in_kept)

@@ -38,10 +38,12 @@ returns-clause-made c = λ f u fits samples keeps.
     let long : length (take n kept) ≡ n = length-take-le n kept in_kept in
     row_made t f u spectra k 0 0 0 m n spectra table kept c.copy_next_narrow.new.row c.copy_next_narrow.new.kept _
     (omega arith) (omega arith) (omega arith) (omega arith) refl
-    (omega arith) (omega arith) (c.copy_next_narrow.auto.row ∙ length-take-le m table in_table) (c.copy_next_narrow.auto.kept ∙ long)
+    (omega arith) (omega arith) (c.copy_next_narrow.auto.row ∙ length-take-le m table in_table)
+    (c.copy_next_narrow.auto.kept ∙ long)
     c.copy_next_narrow.ensures.row c.copy_next_narrow.ensures.kept (
       λ i. fits 0 u i has,
-      samples_go_on c.one_channel_is_its_sample.ensures c.time_shifts.ensures t c.hold.ensures f u k _ c.args.samples.now
+      samples_go_on c.one_channel_is_its_sample.ensures c.time_shifts.ensures t c.hold.ensures f u k _
+          c.args.samples.now
           c.requires.node samples (long ∙ n_is),
     )
     keeps

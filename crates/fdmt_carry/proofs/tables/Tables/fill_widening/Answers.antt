@@ -44,7 +44,8 @@ returns c = λ f u small next keeps upper_keeps lower_keeps.
     let lower_tails = c.fill_halves_narrow-lower_made.new.kept in
     let upper_stand : HalvesStand self f u spectra false (k + 1) above upper_all upper_tails =
     c.fill_halves_narrow-upper_made.ensures.made f u
-    (halves_fit self is most (k + 1) c.fits.ensures c.requires.node.upper c.requires.quarters.above f small) next upper_kept_rest in
+    (halves_fit self is most (k + 1) c.fits.ensures c.requires.node.upper c.requires.quarters.above f small) next
+    upper_kept_rest in
     let lower_stand : HalvesStand self f u spectra false low below lower_all lower_tails =
     subst (λ j. HalvesStand self f u spectra false j below lower_all lower_tails) low_is
     (c.fill_halves_narrow-lower_made.ensures.made f u (subst (λ j. BelowFits self f j) (sym low_is)
@@ -58,7 +59,8 @@ returns c = λ f u small next keeps upper_keeps lower_keeps.
     (sym c.split_at.ensures.back)
     (subst (λ xs. AreHalves self f u spectra (k + 1) (take above xs) (drop above xs))
     (sym c.split_at_mut-upper_tables.ensures.front)
-    (halves_cut self is f u spectra (k + 1) above upper_cut upper_all c.parts_of-2.ensures c.requires.short c.lower_span.ensures
+    (halves_cut self is f u spectra (k + 1) above upper_cut upper_all c.parts_of-2.ensures c.requires.short
+    c.lower_span.ensures
     (length-take-le above upper_all c.fill_halves_narrow-upper_made.ensures.within) upper_stand.halves))) in
     let lower_halves : AreHalves self f u spectra low c.split_at-2.result.0.now c.split_at-2.result.1.now =
     subst (λ xs. AreHalves self f u spectra low xs c.split_at-2.result.1.now) (sym c.split_at-2.ensures.front)

@@ -16,7 +16,8 @@ loop-d-preserved c = λ f u fits halves keeps.
     let has : HasKept (node_of t k) d = record { least = omega arith; most = omega arith } in
     one_more t c.hold.ensures f u c.args.spectra k d c.loop-d.table c.merge_row_narrow.new.table c.loop-d.kept
     c.merge_row_narrow.new.kept c.requires.node.node c.requires.short has
-    (c.merge_row_narrow.ensures.made f u fits halves (so_far.rest d has (omega arith))) c.merge_row_narrow.ensures.rest so_far
+    (c.merge_row_narrow.ensures.made f u fits halves (so_far.rest d has
+    (omega arith))) c.merge_row_narrow.ensures.rest so_far
 
 pub returns : goal.returns
 returns c = λ f u fits halves keeps.

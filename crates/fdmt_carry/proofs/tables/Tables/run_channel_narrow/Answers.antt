@@ -33,4 +33,5 @@ returns c = λ f u fits next keeps.
           ∙ next.samples (node_of t k).lo i (let channels = next.channels in omega arith) (omega arith)
           ∙ sym (mod-eq_of_lt (next.fits (node_of t k).lo (u + i)));
     } in
-    subst (λ s. NodeStands t f u s k c.run_narrow.new.table c.run_narrow.new.kept) size (c.run_narrow.ensures f u fits samples keeps)
+    subst (λ s. NodeStands t f u s k c.run_narrow.new.table c.run_narrow.new.kept) size
+    (c.run_narrow.ensures f u fits samples keeps)

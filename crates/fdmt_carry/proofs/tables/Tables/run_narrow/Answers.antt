@@ -12,7 +12,8 @@ loop-d-init c = λ f u fits samples keeps.
     let spectra : ℕ = length c.args.samples.now in
     let least = c.hold.ensures.numbered.of_one k c.requires.node.one in
     let has : HasKept (node_of t k) 0 = record { least = omega arith; most = omega arith } in
-    one_more t c.hold.ensures f u spectra k 0 c.args.table.now c.copy_row_narrow.new.table c.args.kept.now c.copy_row_narrow.new.kept
+    one_more t c.hold.ensures f u spectra k 0 c.args.table.now c.copy_row_narrow.new.table c.args.kept.now
+    c.copy_row_narrow.new.kept
     c.requires.node.node c.requires.short has (c.copy_row_narrow.ensures.made f u fits samples (keeps 0 has))
     c.copy_row_narrow.ensures.rest
     (none_made t f u spectra k 0 c.args.table.now c.args.kept.now (λ e has. omega arith) keeps)
@@ -34,9 +35,11 @@ loop-d-preserved c = λ f u fits samples keeps.
       first = (so_far.made 0 zero (omega arith)).row;
       prior = (so_far.made (d - 1) prior (omega arith)).row;
     } in
-    one_more t c.hold.ensures f u spectra k d c.loop-d.table c.run_row_narrow.new.table c.loop-d.kept c.run_row_narrow.new.kept
+    one_more t c.hold.ensures f u spectra k d c.loop-d.table c.run_row_narrow.new.table c.loop-d.kept
+    c.run_row_narrow.new.kept
     c.requires.node.node c.requires.short has
-    (c.run_row_narrow.ensures.made f u fits samples.channels stand (so_far.rest d has (omega arith))) c.run_row_narrow.ensures.rest so_far
+    (c.run_row_narrow.ensures.made f u fits samples.channels stand (so_far.rest d has
+    (omega arith))) c.run_row_narrow.ensures.rest so_far
 
 pub returns : goal.returns
 returns c = λ f u fits samples keeps.

@@ -100,7 +100,8 @@ returns-clause-rest c =
     let in_table : at + m ≤ length table = omega arith in
     let in_kept : hold + n ≤ length kept = omega arith in
     rw (c.split_at_mut-before.ensures.front, c.split_at_mut-before.ensures.back)
-    (row_alone t c.args.k c.args.d c.args.r spectra at hold m n table kept c.add_next_narrow.new.row c.add_next_narrow.new.kept row
+    (row_alone t c.args.k c.args.d c.args.r spectra at hold m n table kept c.add_next_narrow.new.row
+    c.add_next_narrow.new.kept row
     c.requires.number c.requires.short place place_kept (omega arith) (omega arith) in_table in_kept
     (c.add_next_narrow.auto.row ∙ length-take-le m back (omega (arith, back_long)))
     (c.add_next_narrow.auto.kept ∙ part_length hold n kept in_kept))
