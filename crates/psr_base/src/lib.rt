@@ -19,6 +19,7 @@ mod real_files;
 mod real_sink;
 mod sink;
 mod stored;
+mod words;
 mod writing;
 
 pub use calm::{CalmFiles, CalmSink};
@@ -35,4 +36,5 @@ pub use reading::{DataFault, fill, read_file, read_to_end};
 pub use real_files::{RealFiles, RealInputs};
 pub use real_sink::RealSink;
 pub use sink::Sink;
+pub use words::{NoWords, command_words};
 pub use writing::{append_all, appends_join, pieces_join, write_all};

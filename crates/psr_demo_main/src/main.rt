@@ -1,31 +1,17 @@
 //! `psr_demo`: makes the observation of a number, searches it in memory, and sums up what was found.
 #![tactic(auto)]
 
-use psr_base::RealSink;
+use psr_base::{NoWords, RealSink, command_words};
 use psr_demo::{Stop, run_demo};
 use search_session::NoGate;
 use std::env;
-use std::io::ErrorKind;
 use std::process::ExitCode;
 
-// The command words. Those that can't be had, as ones that are no UTF-8, are answered like faulty words, and want of
-// memory is told apart.
-fn command_words(rt: &HostRuntime) -> Result<Vec<String>, Stop> {
-    let args = match env::args(rt) {
-        Ok(args) => args,
-        Err(error) if error.kind() == ErrorKind::OutOfMemory => return Err(Stop::Memory),
-        Err(_) => return Err(Stop::Words),
-    };
-    match args.collect(rt.alloc()) {
-        Ok(words) => Ok(words),
-        Err(_) => Err(Stop::Memory),
-    }
-}
-
 fn main(rt: HostRuntime) -> ExitCode {
-    let words = match command_words(&rt) {
+    let words = match command_words(env::args(&rt), rt.alloc()) {
         Ok(words) => words,
-        Err(stop) => return ExitCode::from(stop.status()),
+        Err(NoWords::Refused) => return ExitCode::from(Stop::Words.status()),
+        Err(NoWords::Memory) => return ExitCode::from(Stop::Memory.status()),
     };
     let mut out = RealSink::out(&rt);
     let mut notes = RealSink::notes(&rt);

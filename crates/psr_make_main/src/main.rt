@@ -1,34 +1,23 @@
 //! `psr_make`: makes an observation of noise and dispersed pulses from a number.
 #![tactic(auto)]
 
-use psr_base::{RealFiles, RealSink, write_all};
+use psr_base::{NoWords, RealFiles, RealSink, Sink, command_words, write_all};
 use psr_make::{Stop, run_make};
 use std::env;
-use std::io::ErrorKind;
 use std::process::ExitCode;
 
-// The command words. Those that can't be had, as ones that are no UTF-8, are answered like faulty
-// words, and want of memory is told apart.
-fn command_words(rt: &HostRuntime) -> Result<Vec<String>, Stop> {
-    let args = match env::args(rt) {
-        Ok(args) => args,
-        Err(error) if error.kind() == ErrorKind::OutOfMemory => return Err(Stop::Memory),
-        Err(_) => return Err(Stop::Words),
-    };
-    match args.collect(rt.alloc()) {
-        Ok(words) => Ok(words),
-        Err(_) => Err(Stop::Memory),
-    }
+// Tells why there is no observation.
+fn end<E: Sink>(stop: Stop, notes: &mut E) -> ExitCode {
+    let _ = write_all(notes, stop.note().as_bytes());
+    ExitCode::from(stop.status())
 }
 
 fn main(rt: HostRuntime) -> ExitCode {
     let mut notes = RealSink::notes(&rt);
-    let words = match command_words(&rt) {
+    let words = match command_words(env::args(&rt), rt.alloc()) {
         Ok(words) => words,
-        Err(stop) => {
-            let _ = write_all(&mut notes, stop.note().as_bytes());
-            return ExitCode::from(stop.status());
-        }
+        Err(NoWords::Refused) => return end(Stop::Words, &mut notes),
+        Err(NoWords::Memory) => return end(Stop::Memory, &mut notes),
     };
     let mut files = RealFiles::new(&rt);
     let status = run_make(rt.alloc(), words.as_slice(), &mut files, &mut notes);

@@ -1,36 +1,19 @@
 //! `psr_record`: records the data of files in the DADA form in new files.
 #![tactic(auto)]
 
-use psr_base::{RealFiles, RealInputs, RealSink, write_all};
+use psr_base::{NoWords, RealFiles, RealInputs, RealSink, command_words};
 use psr_record::run_record;
-use run_stop::Stop;
+use run_stop::{Stop, tell};
 use search_session::{NoGate, Ran};
 use std::env;
-use std::io::ErrorKind;
 use std::process::ExitCode;
-
-// The command words. Those that can't be had, as ones that are no UTF-8, are answered like faulty
-// words, and want of memory is told apart.
-fn command_words(rt: &HostRuntime) -> Result<Vec<String>, Stop> {
-    let args = match env::args(rt) {
-        Ok(args) => args,
-        Err(error) if error.kind() == ErrorKind::OutOfMemory => return Err(Stop::Memory),
-        Err(_) => return Err(Stop::Words),
-    };
-    match args.collect(rt.alloc()) {
-        Ok(words) => Ok(words),
-        Err(_) => Err(Stop::Memory),
-    }
-}
 
 fn main(rt: HostRuntime) -> ExitCode {
     let mut notes = RealSink::notes(&rt);
-    let words = match command_words(&rt) {
+    let words = match command_words(env::args(&rt), rt.alloc()) {
         Ok(words) => words,
-        Err(stop) => {
-            let _ = write_all(&mut notes, stop.note().as_bytes());
-            return ExitCode::from(stop.status());
-        }
+        Err(NoWords::Refused) => return ExitCode::from(tell(Some(Stop::Words), &mut notes)),
+        Err(NoWords::Memory) => return ExitCode::from(tell(Some(Stop::Memory), &mut notes)),
     };
     let mut inputs = RealInputs::new(&rt);
     let mut files = RealFiles::new(&rt);

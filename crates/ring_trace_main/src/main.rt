@@ -1,26 +1,16 @@
 //! Replays the trace in a file, and writes the answers to the standard output.
 #![tactic(auto)]
 
-use psr_base::{RealInputs, RealSink};
+use psr_base::{NoWords, RealInputs, RealSink, command_words};
 use ring_trace::{Stop, run_trace};
 use std::env;
-use std::io::ErrorKind;
 use std::process::ExitCode;
 
-// The command words. Those that can't be had, as ones that are no UTF-8, are answered like faulty
-// words; `None` stands for want of memory.
-fn command_words(rt: &HostRuntime) -> Option<Vec<String>> {
-    let args = match env::args(rt) {
-        Ok(args) => args,
-        Err(error) if error.kind() == ErrorKind::OutOfMemory => return None,
-        Err(_) => return Some(Vec::new(rt.alloc())),
-    };
-    args.collect(rt.alloc()).ok()
-}
-
 fn main(rt: HostRuntime) -> ExitCode {
-    let Some(words) = command_words(&rt) else {
-        return ExitCode::from(Stop::Memory.status());
+    let words = match command_words(env::args(&rt), rt.alloc()) {
+        Ok(words) => words,
+        Err(NoWords::Refused) => return ExitCode::from(Stop::Words.status()),
+        Err(NoWords::Memory) => return ExitCode::from(Stop::Memory.status()),
     };
     let mut inputs = RealInputs::new(&rt);
     let mut out = RealSink::out(&rt);
