@@ -37,10 +37,10 @@ pub fn recorded_is_read_back()
     recorded_transfers_give_the_data();
 }
 
-/// Fed in order, the files of a recording of all data have the transfers that were recorded, as they are searched: each
-/// with its observation and its data.
-pub fn recorded_is_observed_alike()
-    ensures { RecordedIsObservedAlike }
+// Both laws of recorded files that are searched.
+fn recorded_is_alike()
+    ensures observed { RecordedIsObservedAlike }
+    ensures searched { RecordedCanBeSearched }
 {
     headers_are_read_back();
     headers_by_front();
@@ -52,6 +52,14 @@ pub fn recorded_is_observed_alike()
     headers_keep_values();
     headers_keep_observation();
     recorded_is_read_back();
+}
+
+/// Fed in order, the files of a recording of all data have the transfers that were recorded, as they are searched: each
+/// with its observation and its data.
+pub fn recorded_is_observed_alike()
+    ensures { RecordedIsObservedAlike }
+{
+    recorded_is_alike();
 }
 
 /// A search of the files of a recording of all data has the text and the candidates of the same search of the data.
@@ -66,14 +74,5 @@ pub fn recorded_is_searched_alike()
 pub fn recorded_can_be_searched()
     ensures { RecordedCanBeSearched }
 {
-    headers_are_read_back();
-    headers_by_front();
-    headers_are_text();
-    accepted_by_rows();
-    whole_exactly();
-    walk_joins_data();
-    each_header_has_room();
-    headers_keep_values();
-    headers_keep_observation();
-    recorded_is_read_back();
+    recorded_is_alike();
 }
