@@ -1,5 +1,6 @@
 -- How a recording ends: before all data were sealed, or at their end.
-use Rattle.std.proofs.Common.{◌≡◌, ◌≢◌, ℕ, zero, suc, ◌≤◌, List, [], ◌∷◌, refl, sym, ap, subst, Some, None, true, Contains, lit<, arith}
+use Rattle.std.proofs.Common.{◌≡◌, ◌≢◌, ℕ, zero, suc, ◌≤◌, List, [], ◌∷◌, ◌++◌, refl, sym, ap, subst, Some, None, true, Contains, lit<, arith}
+use Rattle.std.proofs.lemmas.List.Elements.{Contains-append_left, Contains-append_right}
 use Rattle.std.specs.Prelude.{Option}
 use Rattle.psr_base.specs.Told.{InputsSeen}
 use Rattle.psr_base.specs.Made.{FilesSeen}
@@ -17,7 +18,7 @@ use Rattle.run_stop.specs.Texts.{status_of}
 use Rattle.run_stop.specs.Conversions.{stop_of_feed, stop_of_recorder}
 use Rattle.run_stop.specs.Runs.{RecordingAlone, CanBegin}
 use Rattle.run_stop.specs.Outcomes.{AllCleared, TellsNotes}
-use Rattle.run_stop.specs.Ends.{EndsRun, EndsShort, EndAtStop, EndAfterWhole, RunsThrough, IsLate, end_status}
+use Rattle.run_stop.specs.Ends.{EndsRun, EndsShort, short_statuses, EndAtStop, EndAfterWhole, RunsThrough, IsLate, end_status}
 use Rattle.psr_record.specs.Outcome.{ForRecord, RecordsData, ClearsBlocks, Outcome}
 use Rattle.psr_record.specs.Ends.{stop_of_session, Ends}
 
@@ -31,19 +32,6 @@ one_list a b e = cc
 pub records : (words : List (List ℕ)) (s : SettingsSeen) → SayRecord words s → s.recording ≡ true
 records words s says = ap (λ (t : SettingsSeen). t.recording) says.values
 
--- the statuses of ends before all data were sealed
-between : (n : ℕ) → 2 ≤ n → n ≤ 8 → Contains statuses n
-between zero least most = absurd (omega (arith, least))
-between (suc zero) least most = absurd (omega (arith, least))
-between (suc (suc zero)) least most = (1, lit< tt, refl)
-between (suc (suc (suc zero))) least most = (2, lit< tt, refl)
-between (suc (suc (suc (suc zero)))) least most = (3, lit< tt, refl)
-between (suc (suc (suc (suc (suc zero))))) least most = (4, lit< tt, refl)
-between (suc (suc (suc (suc (suc (suc zero)))))) least most = (5, lit< tt, refl)
-between (suc (suc (suc (suc (suc (suc (suc zero))))))) least most = (6, lit< tt, refl)
-between (suc (suc (suc (suc (suc (suc (suc (suc zero)))))))) least most = (7, lit< tt, refl)
-between (suc (suc (suc (suc (suc (suc (suc (suc (suc k))))))))) least most = absurd (omega (arith, most))
-
 module _ (words : List (List ℕ)) (inputs : InputsSeen) (is_calm : Type 0) (files_before files_after : FilesSeen) where
   -- ---- before all data were sealed
 
@@ -54,7 +42,8 @@ module _ (words : List (List ℕ)) (inputs : InputsSeen) (is_calm : Type 0) (fil
       let least = e.least in
       let most = e.most in
       record {
-        known = between (status_of stop) least most;
+        known = Contains-append_right (0 ∷ []) (short_statuses ++ 11 ∷ []) (status_of stop)
+            (Contains-append_left short_statuses (11 ∷ []) (status_of stop) e.known);
         made = record { all = λ is. absurd (omega (arith, is, least)); front = λ is. absurd (omega (arith, is, most)) };
         run = e.run;
         cleared = λ is b bs. absurd (omega (arith, is, least));

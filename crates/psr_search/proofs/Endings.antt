@@ -1,5 +1,6 @@
 -- How a search ends: before all data were sealed, or with its text.
-use Rattle.std.proofs.Common.{◌≡◌, ◌≢◌, ℕ, zero, suc, ◌≤◌, ◌<◌, List, [], ◌∷◌, refl, sym, ap, ◌∙◌, subst, Some, None, true, Contains, lit<, arith}
+use Rattle.std.proofs.Common.{◌≡◌, ◌≢◌, ℕ, zero, suc, ◌≤◌, ◌<◌, List, [], ◌∷◌, ◌++◌, refl, sym, ap, ◌∙◌, subst, Some, None, true, Contains, lit<, arith}
+use Rattle.std.proofs.lemmas.List.Elements.{Contains-append_left, Contains-append_right}
 use Rattle.std.specs.Prelude.{Option, IfSome}
 use Rattle.psr_base.specs.Told.{Told, InputsSeen}
 use Rattle.psr_base.specs.Made.{FilesSeen}
@@ -21,7 +22,7 @@ use Rattle.run_stop.specs.Texts.{status_of}
 use Rattle.run_stop.specs.Conversions.{stop_of_feed}
 use Rattle.run_stop.specs.Runs.{Searching, stream_for, observed_transfers, CanBegin, HasCandidates}
 use Rattle.run_stop.specs.Outcomes.{AllCleared, TellsNotes}
-use Rattle.run_stop.specs.Ends.{EndsRun, EndsShort, EndAtStop, EndAfterWhole, RunsThrough, IsLate, WordsSayOnce, end_status}
+use Rattle.run_stop.specs.Ends.{EndsRun, EndsShort, short_statuses, EndAtStop, EndAfterWhole, RunsThrough, IsLate, WordsSayOnce, end_status}
 use Rattle.psr_search.specs.Outcome.{ForSearch, HasText, WritesText, ClearsBlocks, Outcome}
 use Rattle.psr_search.specs.Ends.{Ends, EndsSearch, EndsFed}
 
@@ -30,19 +31,6 @@ statuses = 0 ∷ 2 ∷ 3 ∷ 4 ∷ 5 ∷ 6 ∷ 7 ∷ 8 ∷ 9 ∷ 10 ∷ 11 ∷ [
 
 one_list : (a b : Finished) → Some a ≡ Some b → a ≡ b
 one_list a b e = cc
-
--- the statuses of ends before all data were sealed
-between : (n : ℕ) → 2 ≤ n → n ≤ 8 → Contains statuses n
-between zero least most = absurd (omega (arith, least))
-between (suc zero) least most = absurd (omega (arith, least))
-between (suc (suc zero)) least most = (1, lit< tt, refl)
-between (suc (suc (suc zero))) least most = (2, lit< tt, refl)
-between (suc (suc (suc (suc zero)))) least most = (3, lit< tt, refl)
-between (suc (suc (suc (suc (suc zero))))) least most = (4, lit< tt, refl)
-between (suc (suc (suc (suc (suc (suc zero)))))) least most = (5, lit< tt, refl)
-between (suc (suc (suc (suc (suc (suc (suc zero))))))) least most = (6, lit< tt, refl)
-between (suc (suc (suc (suc (suc (suc (suc (suc zero)))))))) least most = (7, lit< tt, refl)
-between (suc (suc (suc (suc (suc (suc (suc (suc (suc k))))))))) least most = absurd (omega (arith, most))
 
 -- ---- parts of the outcome
 
@@ -77,7 +65,8 @@ module _ (words : List (List ℕ)) (inputs : InputsSeen) (is_calm : Type 0) (fil
       let least = e.least in
       let most = e.most in
       record {
-        known = between (status_of stop) least most;
+        known = Contains-append_right (0 ∷ []) (short_statuses ++ 9 ∷ 10 ∷ 11 ∷ []) (status_of stop)
+            (Contains-append_left short_statuses (9 ∷ 10 ∷ 11 ∷ []) (status_of stop) e.known);
         written = none_written words inputs.told (status_of stop) before after (λ is. omega (arith, is, least))
             (λ is. omega (arith, is, most)) (λ is. omega (arith, is, most)) same;
         run = e.run;

@@ -1,5 +1,7 @@
 -- How a run of either program ends: what its exit status says of the words, the inputs, the files and the data ring.
-use Rattle.std.proofs.Common.{◌≡◌, ◌≢◌, ℕ, ◌≤◌, List, refl, ap, subst, sym, Some, None, lit<, arith}
+use Rattle.std.proofs.Common.{◌≡◌, ◌≢◌, ℕ, ◌-◌, ◌<◌, ◌≤◌, List, refl, ap, subst, sym, ◌∙◌, Some, None, Contains, lit<, arith}
+use Rattle.std.proofs.lemmas.List.Elements.{Contains-get_or}
+use Rattle.std.proofs.lemmas.List.FromFn.{get_or-range_with_len}
 use Rattle.psr_base.specs.Told.{InputsSeen}
 use Rattle.psr_base.specs.Made.{FilesSeen}
 use Rattle.search_words.specs.declared.fault.WordFault.{WordFault}
@@ -16,7 +18,7 @@ use Rattle.run_stop.specs.Conversions.{stop_of_words, stop_of_feed}
 use Rattle.run_stop.specs.Runs.{Task, Searching, RecordingAlone, Says, Explains, IsStopOfWords}
 use Rattle.run_stop.specs.Outcomes.{JudgesWords, ReadsInputs}
 use Rattle.run_stop.specs.Laws.{WholeRunsRecordData}
-use Rattle.run_stop.specs.Ends.{EndsAt, EndsRun, EndsShort, CountsFaults, ComesBefore, EndAtWords, EndBeforeSession, EndAtStop, EndAfterWhole}
+use Rattle.run_stop.specs.Ends.{EndsAt, EndsRun, EndsShort, short_statuses, CountsFaults, ComesBefore, EndAtWords, EndBeforeSession, EndAtStop, EndAfterWhole}
 use Rattle.run_stop.proofs.Before.{say_once, ends_plainly, at_status, says_of}
 use Rattle.run_stop.proofs.After.{apart, ends_stopped, ends_whole}
 
@@ -24,6 +26,14 @@ one_stop : (a b : Stop) → Some a ≡ Some b → a ≡ b
 one_stop a b e = cc
 
 -- ---- the statuses
+
+-- those from 2 to 8
+short : (n : ℕ) → 2 ≤ n → n ≤ 8 → Contains short_statuses n
+short n least most =
+    let below : n - 2 < 7 = omega (arith, least, most) in
+    subst (λ m. Contains short_statuses m)
+    (get_or-range_with_len 2 7 (n - 2) 0 below ∙ omega (arith, least))
+    (Contains-get_or short_statuses (n - 2) 0 below)
 
 -- the status of a stop between the words and the session
 record IsEarly (n : ℕ) : Type 0 where
@@ -186,18 +196,21 @@ at_words is_calm task words inputs seen fault stop why is still =
     by_fault : (f : WordFault) → Explains task words f →
         EndsShort task words inputs is_calm None seen seen (stop_of_words f)
     by_fault Refused out = record {
+      known = (0, lit< tt, refl);
       least = omega arith;
       most = omega arith;
       run = refused Refused out refl;
       said = (out, λ s files says are. tt);
     }
     by_fault (OutOfRange opt) out = record {
+      known = (0, lit< tt, refl);
       least = omega arith;
       most = omega arith;
       run = refused (OutOfRange opt) out refl;
       said = (out, λ s files says are. tt);
     }
     by_fault words_fault.Memory out = record {
+      known = (3, lit< tt, refl);
       least = omega arith;
       most = omega arith;
       run = record {
@@ -216,6 +229,7 @@ before_session is_calm task words s inputs before after stop says b stands read 
     let least = at.least in
     let most = at.most in
     record {
+      known = short (status_of stop) (omega (arith, least)) (omega (arith, most));
       least = omega (arith, least);
       most = omega (arith, most);
       run = record {
@@ -235,6 +249,7 @@ at_stop is_calm task words s inputs blocks end answer before after stop through 
     let ends =
     ends_stopped task words inputs.told blocks answer before after end stop through.fed through.recorded is in
     record {
+      known = short (status_of stop) (omega (arith, least)) at.most;
       least = omega (arith, least);
       most = at.most;
       run = record {

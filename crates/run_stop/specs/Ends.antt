@@ -51,10 +51,15 @@ pub record EndsRun
   pub read : ReadsInputs task words inputs is_calm status
   pub ends : EndsAt task words inputs.told blocks before after status
 
--- a run ends before all data were sealed: at its words, before its session, or where its feeder was stopped
+-- the statuses of a run that ends before all data were sealed
+abbrev pub short_statuses : List ℕ
+short_statuses = 2 ∷ 3 ∷ 4 ∷ 5 ∷ 6 ∷ 7 ∷ 8 ∷ []
+
+-- it ends so: at its words, before its session, or where its feeder was stopped
 pub record EndsShort
     (task : Task) (words : List (List ℕ)) (inputs : InputsSeen) (is_calm : Type 0)
     (blocks : Option Finished) (before after : FilesSeen) (stop : Stop) : Type 0 where
+  pub known : Contains short_statuses (status_of stop)
   pub least : 2 ≤ status_of stop
   pub most : status_of stop ≤ 8
   pub run : EndsRun task words inputs is_calm blocks before after (status_of stop)
