@@ -41,7 +41,8 @@ fields = fields_of (lines
     (codes "HDR_SIZE 4096" ∷ codes "NCHAN 2" ∷ codes "NBIT 8" ∷ codes "TSAMP 64" ∷ codes "FREQ 1400"
     ∷ codes "BW -200" ∷ []))
 
-abbrev two_channels : Observation
+-- two channels of 8 bits, the highest first
+abbrev pub two_channels : Observation
 two_channels = record {
   channels = 2;
   nbit = 8;

@@ -4,21 +4,10 @@ use Rattle.dada_model.specs.declared.key.Key.TheVariants.{Ndim, Bw, ObsOffset}
 use Rattle.dada_model.specs.Number.{number_value}
 use Rattle.dada_model.specs.Fields.{Field, value_of}
 use Rattle.dada_model.specs.Observation.{Observation, number_of}
+use Rattle.dada_model.specs.Worked.{two_channels}
 use Rattle.obs_plan.specs.declared.fault.ObsFault.{ObsFault}
 use Rattle.obs_plan.specs.declared.fault.ObsFault.TheVariants.{BadNumber, OutOfRange, Differs}
 use Rattle.obs_plan.specs.Later.{profile_of, later_offset_of}
-
-abbrev two_channels : Observation
-two_channels = record {
-  channels = 2;
-  nbit = 8;
-  npol = 1;
-  sample_ns = 64000;
-  centre_hz = 1400000000;
-  width_hz = 200000000;
-  is_falling = true;
-  obs_offset = 0;
-}
 
 abbrev field : List ℕ → List ℕ → Field
 field keyword value = record { keyword = keyword; value = value }

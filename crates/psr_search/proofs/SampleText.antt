@@ -7,6 +7,7 @@ use Rattle.psr_base.specs.Written.{WroteAll}
 use Rattle.dada_model.specs.Number.{number_value}
 use Rattle.dada_model.specs.Fields.{HeaderText, is_white, without_comment, words_of, fields_of, value_of, header_size, header_of}
 use Rattle.dada_model.specs.Observation.{Observation, number_of, observation_in, signed_edge, edge, edges, refusal_at, refusals, observation_of, dispersion_span, dm}
+use Rattle.dada_model.specs.Worked.{two_channels}
 use Rattle.search_model.specs.declared.search.Search.{Search}
 use Rattle.search_model.specs.Paths.{entry, path}
 use Rattle.clap.proofs.OnLiterals.{clap_on_literals}
@@ -25,17 +26,7 @@ unfolding header header_of header_size fields_of value_of words_of without_comme
 header_is = refl
 
 observation : Observation
-observation = record {
-  channels = 2;
-  nbit = 8;
-  npol = 1;
-  sample_ns = 64000;
-  centre_hz = 1400000000;
-  width_hz =
-      200000000;
-  is_falling = true;
-  obs_offset = 0;
-}
+observation = two_channels
 
 observation_is : observation_of (fields_of sample_header) ≡ Ok observation
 unfolding observation fields_of value_of words_of without_comment is_white number_value number_of observation_in
@@ -104,7 +95,8 @@ sample_stream : FileStream
 sample_stream = record { files = sample_file ∷ []; starts = 0 ∷ []; max_bytes = 1099511627776 }
 
 transfers_are : observed_transfers sample_stream ≡ transfer ∷ []
-unfolding sample_stream transfer observation observation_at data_between data_of header_of header_size fields_of value_of words_of without_comment is_white number_value number_of observation_in
+unfolding sample_stream transfer observation observation_at data_between data_of header_of
+    header_size fields_of value_of words_of without_comment is_white number_value number_of observation_in
 transfers_are = refl
 
 searched_is : searched_text settings.search (observed_transfers (stream_for settings (sample_file ∷ []))) ≡ sample_text

@@ -2,6 +2,7 @@
 use Rattle.std.proofs.Common.{◌≡◌, ℕ, ◌+◌, ◌*◌, List, [], ◌∷◌, ◌++◌, refl, true, false, map, slice_index, codes, Some, None}
 use Rattle.std.specs.Fmt.{digits}
 use Rattle.dada_model.specs.Observation.{Observation, edges, dm, dispersion_span, edge, signed_edge}
+use Rattle.dada_model.specs.Worked.{two_channels}
 use Rattle.search_model.specs.declared.search.Search.{Search}
 use Rattle.search_model.specs.Samples.{Filterbank, samples_of, filterbank}
 use Rattle.search_model.specs.Paths.{split_at, entry, path}
@@ -100,18 +101,6 @@ equality : map (λ sum. is_detected 0 1000 200 sum 4) (3 ∷ 4 ∷ []) ≡ false
 equality = refl
 
 -- ---- texts
-
-abbrev two_channels : Observation
-two_channels = record {
-  channels = 2;
-  nbit = 8;
-  npol = 1;
-  sample_ns = 64000;
-  centre_hz = 1400000000;
-  width_hz = 200000000;
-  is_falling = true;
-  obs_offset = 0;
-}
 
 abbrev plain_search : Search
 plain_search = record {
