@@ -37,7 +37,8 @@ same_transfers f g zero same = refl
 same_transfers f g (suc n) same =
     let one : suc n ≡ n + 1 = omega arith in
     ap (λ m. map f (range_with_len 0 m)) one ∙ map-range_with_len_more f 0 n n (omega arith)
-    ∙ ap (λ (ts : List RecordedTransfer). ts ++ f n ∷ []) (same_transfers f g n (λ k below. same k (omega (arith, below))))
+    ∙ ap (λ (ts : List RecordedTransfer). ts ++ f n ∷ [])
+    (same_transfers f g n (λ k below. same k (omega (arith, below))))
     ∙ ap (λ (t : RecordedTransfer). map g (range_with_len 0 n) ++ t ∷ []) (same n (omega arith))
     ∙ sym (map-range_with_len_more g 0 n n (omega arith)) ∙ ap (λ m. map g (range_with_len 0 m)) (sym one)
 

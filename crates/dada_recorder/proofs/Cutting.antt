@@ -67,8 +67,10 @@ pub file_begun : (r : Recording) (i : ℕ) (xs : List ℕ) → length xs ≤ i *
     recorded_file r xs i ≡ header_file r i
 unfolding recorded_file file_data
 file_begun r i xs past =
-    ap (λ (bytes : List ℕ). record { name = file_name r i; bytes = header_bytes (file_header r i) ++ take r.file_size bytes })
-    (drop_all (i * r.file_size) xs past)
+    ap (λ (bytes : List ℕ). record {
+      name = file_name r i;
+      bytes = header_bytes (file_header r i) ++ take r.file_size bytes;
+    }) (drop_all (i * r.file_size) xs past)
     ∙ ap (λ (bytes : List ℕ). record { name = file_name r i; bytes = header_bytes (file_header r i) ++ bytes })
     (take_all r.file_size [] (omega arith))
     ∙ ap (λ (bytes : List ℕ). record { name = file_name r i; bytes = bytes })

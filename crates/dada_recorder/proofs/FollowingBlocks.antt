@@ -70,8 +70,8 @@ from_front : (f g : ℕ → RecordedTransfer) (m n : ℕ) (more : List ℕ) → 
     IsFileFront (files_from f 0 (m + 1)) (files_from g 0 (m + suc n))
 from_front f g m n more same header longer some =
     let before = files_from f 0 m in
-    let all : files_from g 0 (m + suc n) ≡ before ++ (recorded_files (f m).recording ((f m).bytes ++ more) ++ files_from g (m
-    + 1) n) =
+    let all : files_from g 0 (m + suc n) ≡ before
+    ++ (recorded_files (f m).recording ((f m).bytes ++ more) ++ files_from g (m + 1) n) =
     split_from g 0 m (suc n) m (omega arith)
     ∙ ap (λ (xs : List NamedBytes). xs ++ files_from g m (suc n)) (sym (same_from f g 0 m (λ k from below. same k (omega
     arith))))
@@ -81,7 +81,8 @@ from_front f g m n more same header longer some =
     split_from f 0 m 1 m (omega arith)
     ∙ ap (λ (xs : List NamedBytes). before ++ xs) (append-nil (recorded_files (f m).recording (f m).bytes)) in
     let Here : List NamedBytes → Type 0 = λ fs. IsFileFront fs (files_from g 0 (m + suc n)) in
-    let There : List NamedBytes → Type 0 = λ fs. IsFileFront (before ++ recorded_files (f m).recording (f m).bytes) fs in
+    let There : List NamedBytes → Type 0 =
+    λ fs. IsFileFront (before ++ recorded_files (f m).recording (f m).bytes) fs in
     subst Here (sym some_of) (subst There (sym all)
     (front_behind before (recorded_files (f m).recording (f m).bytes)
     (recorded_files (f m).recording ((f m).bytes ++ more) ++ files_from g (m + 1) n)
@@ -102,7 +103,8 @@ same_header plan headers more k below =
     ap (λ (block : Option Entry). under_header plan k (header_in_block block)) (sym (same_block headers more k below))
 
 -- a transfer that has ended gets no more bytes
-same_transfer : EntriesAreOfTransfers → (plan : RecordPlan) (headers more_headers blocks more_blocks : List Entry) (k : ℕ) →
+same_transfer : EntriesAreOfTransfers →
+    (plan : RecordPlan) (headers more_headers blocks more_blocks : List Entry) (k : ℕ) →
     k < length headers → k < ended_transfers blocks →
     transfer_at plan headers blocks k ≡ transfer_at plan (headers ++ more_headers) (blocks ++ more_blocks) k
 same_transfer law plan headers more_headers blocks more_blocks k below ended =
@@ -121,7 +123,8 @@ longer_transfer law k blocks more = elim (cases_lt k (ended_transfers blocks)) [
   | inr running ↦ (transfer_bytes (k - ended_transfers blocks) more, law.open_still k blocks more running)
 ]
 
-some_follow : EntriesAreOfTransfers → (plan : RecordPlan) (headers more_headers blocks more_blocks : List Entry) (m : ℕ) →
+some_follow : EntriesAreOfTransfers →
+    (plan : RecordPlan) (headers more_headers blocks more_blocks : List Entry) (m : ℕ) →
     0 < plan.file_size → length headers ≡ m + 1 → m ≤ ended_transfers blocks →
     IsFileFront (files_of_blocks plan headers blocks)
     (files_of_blocks plan (headers ++ more_headers) (blocks ++ more_blocks))
@@ -159,7 +162,7 @@ pub blocks_follow : EntriesAreOfTransfers → (plan : RecordPlan) (headers all_h
 blocks_follow law plan headers all_headers blocks all_blocks some first second few =
     let Headers : List Entry → Type 0 = λ hs. IsFileFront (files_of_blocks plan headers blocks) (files_of_blocks plan hs
     all_blocks) in
-    let Blocks : List Entry → Type 0 = λ bs. IsFileFront (files_of_blocks plan headers blocks) (files_of_blocks plan (headers
-    ++ first.0) bs) in
+    let Blocks : List Entry → Type 0 =
+    λ bs. IsFileFront (files_of_blocks plan headers blocks) (files_of_blocks plan (headers ++ first.0) bs) in
     subst Headers first.1 (subst Blocks second.1 (blocks_follow_on law plan headers first.0 blocks second.0 (length
     headers) some refl few))

@@ -13,7 +13,8 @@ front_then [] more = tt
 front_then (file ∷ files) more = inl (refl, front_then files more)
 
 -- behind the same files
-pub front_behind : (files some all : List NamedBytes) → IsFileFront some all → IsFileFront (files ++ some) (files ++ all)
+pub front_behind : (files some all : List NamedBytes) → IsFileFront some all →
+    IsFileFront (files ++ some) (files ++ all)
 front_behind [] some all is = is
 front_behind (file ∷ files) some all is = inl (refl, front_behind files some all is)
 

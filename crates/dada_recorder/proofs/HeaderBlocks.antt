@@ -177,5 +177,6 @@ pub closed_files : (t : Transfers) (headers blocks : List Entry) (outset : Outse
     HasMade outset t.files.place.is_open (files_of_blocks (plan_in t) headers blocks) seen →
     HasMade outset false (files_of_blocks (plan_in t) headers blocks) seen
 closed_files t headers blocks outset seen none run has =
-    let Made : Bool → Type 0 = λ open_still. HasMade outset open_still (files_of_blocks (plan_in t) headers blocks) seen in
+    let Made : Bool → Type 0 = λ open_still. HasMade outset open_still
+    (files_of_blocks (plan_in t) headers blocks) seen in
     subst Made (run.between none) has

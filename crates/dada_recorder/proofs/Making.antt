@@ -197,7 +197,8 @@ append_breaks outset files file bytes all old new has does front =
           (front_longer files [] longer (longer_file bytes file) is_front) front;
       short = λ enough.
           let most = bytes_front (files ++ longer_file bytes file ∷ []) all front in
-          let less : enough.left.bytes - total_bytes (files ++ file ∷ []) < length bytes = does.short (left_after (files ++ file ∷ []) enough.left) (has.left
+          let less : enough.left.bytes - total_bytes (files ++ file ∷ []) < length bytes =
+          does.short (left_after (files ++ file ∷ []) enough.left) (has.left
           ∙ ap (option_map (left_after (files ++ file ∷ []))) enough.is_told) in
           let before = total-last files file in
           let after = total-last files (longer_file bytes file) in

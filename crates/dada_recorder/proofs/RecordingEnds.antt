@@ -36,8 +36,8 @@ as_many front all is few =
     let count = ap (length {A = Entry}) (sym is.1) ∙ length-append front is.0 in
     all_of_them front is.0 all is.1 (no_more is.0 (omega (arith, count, few)))
 
-over : (plan : RecordPlan) (headers blocks front : List Entry) → AreComplete plan headers blocks → IsPrefix front blocks →
-    is_over (length plan.offsets) front ≡ true → front ≡ blocks
+over : (plan : RecordPlan) (headers blocks front : List Entry) → AreComplete plan headers blocks →
+    IsPrefix front blocks → is_over (length plan.offsets) front ≡ true → front ≡ blocks
 over plan headers blocks front complete is ends =
     all_of_them front is.0 blocks is.1 (complete.once front is.0 is.1 ends)
 
@@ -57,7 +57,8 @@ never_both : (bytes : List ℕ) (header : HeaderText) (refusal : HeaderRefusal) 
     header_of bytes ≡ Err refusal → ⊥
 never_both bytes header refusal is not = let e = sym is ∙ not in absurd cc
 
-same_ok : (bytes : List ℕ) (one other : HeaderText) → header_of bytes ≡ Ok one → header_of bytes ≡ Ok other → one ≡ other
+same_ok : (bytes : List ℕ) (one other : HeaderText) → header_of bytes ≡ Ok one →
+    header_of bytes ≡ Ok other → one ≡ other
 same_ok bytes one other is too = let e : Ok one ≡ Ok other = sym is ∙ too in cc
 
 never_refused : (plan : RecordPlan) (k : ℕ) (bytes : List ℕ) (why : RecordFault) → AcceptsBlock plan k bytes →
@@ -71,7 +72,8 @@ never_refused plan k bytes why accepts refuses =
 
 never_fault : (plan : RecordPlan) (k : ℕ) (bytes : List ℕ) (why : RecordFault) → AcceptsBlock plan k bytes →
     RefusesBlock plan k bytes why → ⊥
-never_fault plan k bytes (NotHeader (Short had)) accepts refuses = never_both bytes accepts.header _ accepts.read refuses
+never_fault plan k bytes (NotHeader (Short had)) accepts refuses =
+    never_both bytes accepts.header _ accepts.read refuses
 never_fault plan k bytes (NotHeader (NotText place)) accepts refuses = never_both bytes accepts.header _ accepts.read
     refuses
 never_fault plan k bytes (NotHeader BadSize) accepts refuses = never_both bytes accepts.header _ accepts.read refuses
@@ -150,8 +152,8 @@ cut_end plan c files begins is =
       count = count_of_all plan c files all is.count;
     }
 
-end_is : BytesAreJoined → (plan : RecordPlan) (c : Cleared) (has_header : Bool) (end : RecordEnd) → BeginsComplete plan c →
-    EndIs plan has_header c.headers c.blocks (Some end) → EndsComplete plan c end
+end_is : BytesAreJoined → (plan : RecordPlan) (c : Cleared) (has_header : Bool) (end : RecordEnd) →
+    BeginsComplete plan c → EndIs plan has_header c.headers c.blocks (Some end) → EndsComplete plan c end
 end_is law plan c has_header (Whole files) begins is = whole_end plan c files begins is
 end_is law plan c has_header (Cut files) begins is = cut_end plan c files begins is
 end_is law plan c has_header FileFault begins is = tt

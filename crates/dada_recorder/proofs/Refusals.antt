@@ -15,7 +15,8 @@ use Rattle.dada_recorder.specs.Changes.{Explains, RefusesRecording, change_refus
 
 -- ---- room
 
-pub room_refused : (size : ℕ) (text : List ℕ) → size ≤ length text → room_refusal size text ≡ Some (NoRoom (length text) size)
+pub room_refused : (size : ℕ) (text : List ℕ) → size ≤ length text →
+    room_refusal size text ≡ Some (NoRoom (length text) size)
 room_refused size text full =
     ap (λ (b : Bool). cond b None (Some (NoRoom (length text) size))) (le-ltb (length text) size full)
 
@@ -112,7 +113,8 @@ refused_third r i one two fault first second is later =
     let offset_room : length (with_offset r i) < size = omega (arith, ap (length {A = ℕ}) first.text, first.room) in
     let number_room : length (with_number r i) < size =
     omega (arith, ap (length {A = ℕ}) (text_two r i one two first second), second.room, first.size) in
-    later_counts (room_refusal size (with_offset r i)) (or_else (room_refusal size (with_number r i)) (or_else room later))
+    later_counts (room_refusal size (with_offset r i))
+    (or_else (room_refusal size (with_number r i)) (or_else room later))
     fault (room_taken size (with_offset r i) offset_room)
     (later_counts (room_refusal size (with_number r i)) (or_else room later) fault
     (room_taken size (with_number r i) number_room)
@@ -124,7 +126,8 @@ pub never_full : (r : Recording) (i : ℕ) (one two : HeaderText) (fault : Recor
     IsSet (codes "FILE_NUMBER") (padded 6 i) one two →
     Explains (room_refusal two.size (changed (codes "FILE_SIZE") (padded 16 r.file_size) two.text)) fault → ⊥
 never_full r i one two fault room first second is =
-    let none = sym (room_taken r.header.size (with_size r i) room.size) ∙ (refused_last r i one two fault first second is).1 in
+    let none = sym (room_taken r.header.size (with_size r i) room.size)
+    ∙ (refused_last r i one two fault first second is).1 in
     absurd cc
 
 -- ---- all refusals

@@ -31,8 +31,8 @@ from_place (letter ∷ form) (byte ∷ text) zero d e low within = refl
 from_place (letter ∷ form) (byte ∷ text) (suc i) d e low within =
     let next : suc i + 1 ≡ suc (i + 1) = omega arith in
     from_place form text i d e (omega arith) (omega arith)
-    ∙ sym (ap (λ (n : ℕ). stands_for (get_or form i d) (get_or text i e) && has_form (drop n (letter ∷ form)) (drop n (byte ∷
-    text))) next)
+    ∙ sym (ap (λ (n : ℕ). stands_for (get_or form i d) (get_or text i e)
+    && has_form (drop n (letter ∷ form)) (drop n (byte ∷ text))) next)
 
 pub at_first : (text : List ℕ) → has_form (codes "0000-00-00-00:00:00") text ≡ is_time text
 unfolding is_time

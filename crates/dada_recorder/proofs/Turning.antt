@@ -41,7 +41,8 @@ files_settled t t' outset headers headers' blocks blocks' end end' seen same_t s
     let ByT : Transfers → Type 0 = λ s. FilesAre (plan_in s) outset s.files.place.is_open headers' blocks' end' seen in
     let ByH : List Entry → Type 0 = λ hs. FilesAre (plan_in t) outset t.files.place.is_open hs blocks' end' seen in
     let ByB : List Entry → Type 0 = λ bs. FilesAre (plan_in t) outset t.files.place.is_open headers bs end' seen in
-    let ByE : Option RecordEnd → Type 0 = λ e. FilesAre (plan_in t) outset t.files.place.is_open headers blocks e seen in
+    let ByE : Option RecordEnd → Type 0 =
+    λ e. FilesAre (plan_in t) outset t.files.place.is_open headers blocks e seen in
     subst ByT (sym same_t) (subst ByH (sym same_h) (subst ByB (sym same_b) (subst ByE (sym same_e) files)))
 
 -- a vector that was written through a slice

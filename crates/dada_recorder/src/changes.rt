@@ -129,8 +129,8 @@ fn judge_time(header: &Header) -> Result<(), RecordFault>
 }
 
 /// Whether a transfer of at most `max_bytes` data bytes can be recorded in files of `file_size` data bytes, its first
-/// byte at the given OBS_OFFSET. The causes are judged in their order; at `Ok` the header is that of file 0, and after a
-/// refusal it may have the changes that come before it.
+/// byte at the given OBS_OFFSET. The causes are judged in their order; at `Ok` the header is that of file 0, and after
+/// a refusal it may have the changes that come before it.
 pub fn fits(
     header: &mut Header,
     offset: u64,

@@ -42,7 +42,8 @@ of_cut ends once size max_bytes n before current blocks end is less other = reco
   cut = λ o. ap has_cut is ∙ ends.abandoned_cut size max_bytes before current;
 }
 
-pub ending : BytesAreJoined → EndsAreCounted → StreamsStopOnce → (plan : Plan) (size : ℕ) (before : List (List ℕ)) (current : List ℕ)
+pub ending : BytesAreJoined → EndsAreCounted → StreamsStopOnce →
+    (plan : Plan) (size : ℕ) (before : List (List ℕ)) (current : List ℕ)
     (headers blocks : List Entry) (end : FeedEnd) → SealedAs plan size before current headers blocks end →
     IsEnding (length plan.starts) blocks end
 ending joined ends once plan size before current headers blocks (Whole bytes) s =

@@ -142,5 +142,6 @@ module _ (plan : Plan) (told told' : Told) (at : Place) (before : List (List ℕ
         front = sym (join files begin at.file next from (omega arith) (omega arith))
             ∙ ap (λ (xs : List ℕ). xs ++ data_between files at.file next) (sym so_far);
         begins = goes s at.transfer at.file before current
-            (came_to plan told at before current is_within has files (told_before told told' plan.names files o.names are));
+            (came_to plan told at before current is_within has files
+            (told_before told told' plan.names files o.names are));
       }

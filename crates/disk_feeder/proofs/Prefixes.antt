@@ -238,14 +238,15 @@ module _ (known : WalkIsKnown) (s : FileStream) (t k : ℕ) (before : List (List
       sym (f.at.blocks size) ∙ ap (stream_to size s) (sym f.is) in
       let same : abandoned_stream size s.max_bytes (take u (walk_data s)) (data_between s.files (begin_of s u) f.to)
       ≡ stream_before size s f.file f.to =
-      ap (λ (i : ℕ). abandoned_stream size s.max_bytes (take i (walk_data s)) (data_between s.files (begin_of s i) f.to))
-      (sym (known.transfers s u f.file c.starts i.is)) in
+      ap (λ (i : ℕ). abandoned_stream size s.max_bytes (take i (walk_data s))
+      (data_between s.files (begin_of s i) f.to)) (sym (known.transfers s u f.file c.starts i.is)) in
       elim (cases_eq u t) [
         | inl here ↦
             prefix_to sealed
             (abandoned_stream size s.max_bytes (take t (walk_data s)) (data_between s.files (begin_of s t) f.to))
             (walk_stream size s) (begins_here f.to (past_read f))
-            (ap (λ (i : ℕ). abandoned_stream size s.max_bytes (take i (walk_data s)) (data_between s.files (begin_of s i) f.to)) (sym here)
+            (ap (λ (i : ℕ). abandoned_stream size s.max_bytes (take i (walk_data s))
+            (data_between s.files (begin_of s i) f.to)) (sym here)
             ∙ same ∙ is)
         | inr later ↦
             known.streams.follows sealed (whole_stream size (take u (walk_data s))) (walk_stream size s)

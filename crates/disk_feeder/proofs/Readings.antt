@@ -208,7 +208,8 @@ module _ (plan : Plan) (told told' : Told) (at : Place) (before : List (List ℕ
             ∙ ap (λ (xs : List ℕ). xs ++ rest) data_is
             ∙ append_assoc current left rest;
         begins = goes s at.transfer at.file before current
-            (came_to plan told at before current is_within has files (told_before told told' plan.names files o.names are));
+            (came_to plan told at before current is_within has files
+            (told_before told told' plan.names files o.names are));
       }
 
 -- ---- the same of all that is read

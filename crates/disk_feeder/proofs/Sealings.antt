@@ -203,14 +203,16 @@ ends_known s at before current size fulls held blocks sealed ReadFault ends coun
           ∙ ap (abandoned_stream size s.max_bytes (take at.transfer (walk_data s)))
           (sym (ap (take (length current)) ends.front ∙ take_at current ends.more (length current) refl));
     }
-ends_known s at before current size fulls held blocks sealed (BadHeader file cause) ends count less are cut is = record {
-  is = ends.is;
-  stream = is ∙ sym (ends.blocks size fulls held count (omega arith) (omega arith));
-}
-ends_known s at before current size fulls held blocks sealed (Gap file expected found) ends count less are cut is = record {
-  is = ends.is;
-  stream = is ∙ sym (ends.blocks size fulls held count (omega arith) (omega arith));
-}
+ends_known s at before current size fulls held blocks sealed (BadHeader file cause) ends count less are cut is =
+    record {
+      is = ends.is;
+      stream = is ∙ sym (ends.blocks size fulls held count (omega arith) (omega arith));
+    }
+ends_known s at before current size fulls held blocks sealed (Gap file expected found) ends count less are cut is =
+    record {
+      is = ends.is;
+      stream = is ∙ sym (ends.blocks size fulls held count (omega arith) (omega arith));
+    }
 ends_known s at before current size fulls held blocks sealed (TooLong limit) ends count less are cut is = record {
   is = ends.is;
   stream = is ∙ sym (ends.blocks size fulls held count (omega arith) (omega arith));

@@ -112,7 +112,8 @@ by_due goes plan told at before current size fulls held (Some (Stopped end)) w d
     by_end (stream_of plan files) at before current size fulls held end (d.2 files are) count d.1 (omega arith)
 
 -- where a stream is
-is_within : (s : Stream) → s.source.place.transfer < length s.source.starts.now → IsWithin (plan_of s.source) s.source.place
+is_within : (s : Stream) → s.source.place.transfer < length s.source.starts.now →
+    IsWithin (plan_of s.source) s.source.place
 is_within s there =
     let at = plan_place s.source in
     record {
@@ -175,8 +176,8 @@ of_running ends s told headers blocks was = by_mark s.header_due was.sealed
     by_mark true sealed =
         let there = was.there in
         let headed = s.source.headed in
-        keep_up (plan_of s.source).headers headers blocks at.transfer at.transfer (omega arith) sealed ended (omega arith)
-        (omega arith)
+        keep_up (plan_of s.source).headers headers blocks at.transfer at.transfer
+        (omega arith) sealed ended (omega arith) (omega arith)
     by_mark false sealed =
         let there = was.there in
         let headed = s.source.headed in

@@ -1,5 +1,6 @@
 -- What is read of a file's header.
--- Source: PSRDADA manual (headers at the front of files, HDR_SIZE); that it is read in two pieces is this project's choice.
+-- Source: PSRDADA manual (headers at the front of files, HDR_SIZE); that it is read in two pieces is this project's
+-- choice.
 use Rattle.std.specs.Prelude.{◌≡◌, ℕ, ⊤, List, take, drop, Option, Some, Ok}
 use Rattle.dada_model.specs.Fields.{HeaderText, header_of}
 use Rattle.dada_header.specs.Faults.{IsHeaderRefusal}

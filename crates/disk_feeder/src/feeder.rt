@@ -30,8 +30,8 @@ pub struct FeederSpace<'a> {
 impl<'a> FeederSpace<'a> {
     ghost use Rattle.disk_feeder.specs.Feeder.{IsSpaceFor};
 
-    /// Takes all space, for blocks of so many bytes. Transfer k begins with file `starts[k]`; all files together may have
-    /// `max_bytes` data bytes at most.
+    /// Takes all space, for blocks of so many bytes. Transfer k begins with file `starts[k]`; all files together may
+    /// have `max_bytes` data bytes at most.
     pub fn take(
         alloc: Global,
         names: &'a [String],

@@ -1,7 +1,7 @@
 //! Searches spectra of 1024 channels that look like noise, delays of 0 to 1024, on one thread. With the words SPECTRA
 //! WIDEST PERIODS CHUNK it searches so many spectra, with boxes of up to WIDEST path sums and folds of the periods from
-//! 2 up to PERIODS, in chunks of up to CHUNK, and prints the time; with none, 256 spectra, with the samples alone and no
-//! folds.
+//! 2 up to PERIODS, in chunks of up to CHUNK, and prints the time; with none, 256 spectra, with the samples alone and
+//! no folds.
 #![tactic(auto)]
 
 ghost use Rattle.std.specs.Prelude.{◌≡◌, ◌≤◌, ◌^◌, false, length, IfOk, vec_len};

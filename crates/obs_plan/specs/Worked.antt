@@ -1,9 +1,9 @@
 -- Worked values of the definitions, computed.
-use Rattle.std.specs.Prelude.{◌≡◌, ℕ, true, List, [], ◌∷◌, map, Result, Ok, Err, codes, refl}
+use Rattle.std.specs.Prelude.{◌≡◌, ℕ, List, [], ◌∷◌, map, Result, Ok, Err, codes, refl}
 use Rattle.dada_model.specs.declared.key.Key.TheVariants.{Ndim, Bw, ObsOffset}
 use Rattle.dada_model.specs.Number.{number_value}
 use Rattle.dada_model.specs.Fields.{Field, value_of}
-use Rattle.dada_model.specs.Observation.{Observation, number_of}
+use Rattle.dada_model.specs.Observation.{number_of}
 use Rattle.dada_model.specs.Worked.{two_channels}
 use Rattle.obs_plan.specs.declared.fault.ObsFault.{ObsFault}
 use Rattle.obs_plan.specs.declared.fault.ObsFault.TheVariants.{BadNumber, OutOfRange, Differs}

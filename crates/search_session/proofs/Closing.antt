@@ -1,5 +1,5 @@
 -- A session from its staffing to its end.
-use Rattle.std.proofs.Common.{◌≡◌, ℕ, ◌%◌, ◌<◌, List, [], ◌++◌, length, take, drop, Option, Some, None, slice_get, option_map, refl, sym, ap, ◌∙◌, subst, arith}
+use Rattle.std.proofs.Common.{◌≡◌, ℕ, ◌%◌, ◌<◌, List, [], ◌++◌, length, take, drop, Option, Some, None, slice_get, refl, sym, ap, ◌∙◌, subst, arith}
 use Rattle.std.specs.Prelude.{All, IfSome}
 use Rattle.std.proofs.lemmas.Option.{slice_get_within}
 use Rattle.psr_base.specs.Told.{Told}
@@ -28,7 +28,7 @@ use Rattle.search_session.specs.Gathering.{recorder_of, recorder_in}
 use Rattle.search_session.specs.Stages.{IsUnfed, IsFreshRecorder, HasFeeder, HasShard, HasRecorder, RecorderWorks, IsInHand, AreOfLanes, recorder_count}
 use Rattle.search_session.specs.Lanes.{HasEngine}
 use Rattle.search_session.specs.Books.{HasLane, HasBook, AreCounted}
-use Rattle.search_session.specs.Ends.{as_passes, HaveEnginesIn}
+use Rattle.search_session.specs.Ends.{HaveEnginesIn, recorder_passes}
 use Rattle.search_session.specs.Recorded.{HasNoRecording, RecordedAnswers}
 use Rattle.search_session.specs.Sessions.{FeedAnswers, IsSearched, ShardAnswers, IsEndOf, IsEndOfRecorder}
 use Rattle.search_session.proofs.Rows.{all_written}
@@ -55,17 +55,17 @@ module _ {I F : Type 0} (seen : F → FilesSeen) (number : ℕ) (hands : List (H
   works_some start has = ap (λ (slot : Option (Hand I F)). recorder_of slot) has.there ∙ has.works
 
   pub works_count : (recorder : Option (Recorder F)) → RecorderWorks seen recorder number hands →
-      length (as_passes (option_map (λ (x : RecordActor F). x.pass) (recorder_in hands))) ≡ recorder_count recorder
-  works_count None none = ap (λ (o : Option (RecordActor F)). length (as_passes (option_map (λ (x : RecordActor F).
-      x.pass) o))) (works_none none)
-  works_count (Some part) works = ap (λ (o : Option (RecordActor F)). length (as_passes (option_map (λ (x : RecordActor
-      F). x.pass) o))) (works_some works.0 works.2)
+      length (recorder_passes (recorder_in hands)) ≡ recorder_count recorder
+  works_count None none = ap (λ (o : Option (RecordActor F)). length (recorder_passes o)) (works_none none)
+  works_count (Some part) works =
+      ap (λ (o : Option (RecordActor F)). length (recorder_passes o)) (works_some works.0 works.2)
 
   pub works_last : (recorder : Option (Recorder F)) → RecorderWorks seen recorder number hands →
       IfSome (recorder_in hands) (λ (x : RecordActor F). number_of x.pass ≡ number)
   works_last None none = subst (λ (o : Option (RecordActor F)). IfSome o (λ (x : RecordActor F). number_of x.pass ≡
       number)) (sym (works_none none)) _
-  works_last (Some part) works = subst (λ (o : Option (RecordActor F)). IfSome o (λ (x : RecordActor F). number_of x.pass
+  works_last (Some part) works =
+      subst (λ (o : Option (RecordActor F)). IfSome o (λ (x : RecordActor F). number_of x.pass
       ≡ number)) (sym (works_some works.0 works.2)) (works.2.moved.number ∙ works.1.number_is)
 
 module _ {I F : Type 0} (told : I → Told) (is_open is_calm : I → Type 0) (faults : I → ℕ) (files_open : F → Type 0)
@@ -103,13 +103,13 @@ module _ {I F : Type 0} (told : I → Told) (is_open is_calm : I → Type 0) (fa
       ((s : ℕ) → s < length lanes → HasShard items s) → AreOfLanes lanes items →
       RecorderWorks seen recorder (length lanes) items →
       All (HandOn told is_open files_open hdu) two → All HandEnded two → AllEnded hdu start lanes recorder last
-  hands_ended hdu start lanes recorder items first two last len n shown long written moved feeder shards of works on ended
-      =
+  hands_ended hdu start lanes recorder items first two last len n shown long written moved
+      feeder shards of works on ended =
       subst (λ (l : List (Hand I F)). AllEnded hdu start lanes recorder l)
       (sym (written ∙ all_written len items two (moved.count ∙ long)))
       (all_ended hdu start lanes recorder items two n
-      (subst (λ (l : List (Hand I F)). EachMoved (HandMoved told is_calm faults seen n) l two) shown moved) feeder shards
-      of works on ended)
+      (subst (λ (l : List (Hand I F)). EachMoved (HandMoved told is_calm faults seen n) l two)
+      shown moved) feeder shards of works on ended)
 
   -- a session that ended
   module _ (hdu : Hdu) (start : FeedActor I) (lanes : List (Option Lane)) (recorder : Option (Recorder F))
@@ -126,8 +126,8 @@ module _ {I F : Type 0} (told : I → Told) (is_open is_calm : I → Type 0) (fa
         (inputs : end.inputs.now ≡ all.feeder.feeder.part.inputs.now)
         (sealed : sealed_at_end end.blocks ≡ sealed_blocks all.feeder.feeder.pass) where
       feeder_is_on : FeedOn told is_open hdu all.feeder.feeder
-      feeder_is_on = feeder_on told is_open files_open hdu hands all.on all.feeder.hand all.feeder.feeder all.feeder.there
-          all.feeder.works
+      feeder_is_on = feeder_on told is_open files_open hdu hands all.on all.feeder.hand
+          all.feeder.feeder all.feeder.there all.feeder.works
 
       pub feed_is : end.inputs.ghost_name ≡ all.feeder.feeder.part.inputs.ghost_name → has_end start.part ≡ None →
           FeederFaultless start.part → FeedAnswers told is_calm faults start.part end
@@ -211,8 +211,8 @@ module _ {I F : Type 0} (told : I → Told) (is_open is_calm : I → Type 0) (fa
               recorded_by seen files_open hdu part fresh (length lanes) has.turns works.0 has.recorder works.1 has.moved
               (recorder_on told is_open files_open hdu hands all.on has.recorder there) laws.recordings start.part end
               (sealed_headers f.pass)
-              (headers_sealed laws told is_open is_calm faults hdu start f all.feeder.turns all.feeder.moved feeder_is_on end
-              feed inputs sealed)
+              (headers_sealed laws told is_open is_calm faults hdu start f all.feeder.turns
+              all.feeder.moved feeder_is_on end feed inputs sealed)
               (keep_up laws told is_open is_calm faults hdu start f all.feeder.turns all.feeder.moved feeder_is_on end
               feed inputs sealed)
               ending

@@ -44,8 +44,8 @@ since_now f k running faultless = record {
 
 module _ {I F : Type 0} (laws : SessionLaws I) (told : I → Told) (is_open is_calm : I → Type 0) (faults : I → ℕ)
     (hdu : Hdu) (start f : FeedActor I) (n : ℕ) (moved : FeedMoved told is_calm faults n start f)
-    (on : FeedOn told is_open hdu f) (end : SessionEnd I F) (feed : f.end ≡ Some end.feed) (inputs : end.inputs.now ≡ f.part.inputs.now)
-    (sealed : sealed_at_end end.blocks ≡ sealed_blocks f.pass) where
+    (on : FeedOn told is_open hdu f) (end : SessionEnd I F) (feed : f.end ≡ Some end.feed)
+    (inputs : end.inputs.now ≡ f.part.inputs.now) (sealed : sealed_at_end end.blocks ≡ sealed_blocks f.pass) where
   part_end : has_end f.part ≡ Some end.feed
   part_end = sym on.end ∙ feed
 

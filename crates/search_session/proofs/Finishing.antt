@@ -24,7 +24,7 @@ use Rattle.search_session.specs.declared.record.RecordActor.{RecordActor}
 use Rattle.search_session.specs.Shards.{shard_cleared, shard_number}
 use Rattle.search_session.specs.Records.{recorded_headers, recorded_blocks}
 use Rattle.search_session.specs.Books.{HasLane, HaveEngines, passes_of, lanes_of}
-use Rattle.search_session.specs.Ends.{as_passes, passes_with, ReadsLast, AreDone}
+use Rattle.search_session.specs.Ends.{passes_with, recorder_passes, ReadsLast, AreDone}
 use Rattle.search_session.proofs.Rows.{longer, at_end}
 
 -- ---- what is at a place
@@ -47,8 +47,7 @@ module _ {F : Type 0} where
   gives_first : (shards : List (Option ShardActor)) (recorder : Option (RecordActor F)) (s : ℕ) (x : ShardActor) →
       slice_get shards s ≡ Some (Some x) → GivesBoth (passes_with shards recorder) s x.pass
   gives_first shards recorder s x at =
-      longer (passes_of shards) (as_passes (option_map (λ (y : RecordActor F). y.pass) recorder)) s (Some x.pass)
-      (gives_pass shards s x at)
+      longer (passes_of shards) (recorder_passes recorder) s (Some x.pass) (gives_pass shards s x at)
 
   gives_last : (shards : List (Option ShardActor)) (recorder : Option (RecordActor F)) (x : RecordActor F) →
       recorder ≡ Some x → GivesBoth (passes_with shards recorder) (length shards) x.pass

@@ -122,7 +122,8 @@ module _ {I F : Type 0} where
           elsewhere : length new ≡ length old → (s + 1) % length old ≢ place → HasShard new s
           elsewhere count apart = record {
             hand = has.hand;
-            there = at_new count has.hand (put_at old new place ((s + 1) % length old) leaves.after has.hand leaves.hands
+            there = at_new count has.hand (put_at old new place
+                ((s + 1) % length old) leaves.after has.hand leaves.hands
                 has.there apart);
             shard = has.shard;
             place = has.place;
@@ -139,7 +140,8 @@ module _ {I F : Type 0} where
               first has.hand leaves.before (sym has.there ∙ (ap (λ (k : ℕ). slice_get old k) same ∙ leaves.there)) in
               record {
                 hand = leaves.after;
-                there = at_new count leaves.after (put_here old new place ((s + 1) % length old) leaves.after leaves.hands
+                there = at_new count leaves.after
+                    (put_here old new place ((s + 1) % length old) leaves.after leaves.hands
                     near same);
                 shard = has.shard;
                 place = has.place;

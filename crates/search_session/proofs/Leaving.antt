@@ -1,5 +1,5 @@
 -- All actors leave their hands.
-use Rattle.std.proofs.Common.{◌≡◌, ℕ, ◌+◌, ◌%◌, ◌<◌, List, length, length-append, Option, Some, None, option_map, refl, sym, ap, ◌∙◌, arith}
+use Rattle.std.proofs.Common.{◌≡◌, ℕ, ◌+◌, ◌%◌, ◌<◌, List, length, length-append, Option, Some, None, refl, sym, ap, ◌∙◌, arith}
 use Rattle.std.specs.Prelude.{All, IfSome}
 use Rattle.std.proofs.lemmas.Option.{slice_get_within}
 use Rattle.psr_base.specs.Told.{Told}
@@ -13,7 +13,7 @@ use Rattle.search_session.specs.Hands.{HandOn, HandEnded}
 use Rattle.search_session.specs.Gathering.{GivesRecorder, recorder_in}
 use Rattle.search_session.specs.Stages.{HasShard, IsInHand, GivesFeeder, AreGathered}
 use Rattle.search_session.specs.Books.{passes_of}
-use Rattle.search_session.specs.Ends.{as_passes, passes_with, ReadsLast, AreDone, HaveEnginesIn}
+use Rattle.search_session.specs.Ends.{passes_with, recorder_passes, ReadsLast, AreDone, HaveEnginesIn}
 use Rattle.search_session.proofs.Gathered.{count_same, still_in, still_work, still_recorder}
 use Rattle.search_session.proofs.Finishing.{pass_count}
 use Rattle.search_session.proofs.Ending.{if_some, on_in, ended_in, recorder_on}
@@ -51,16 +51,14 @@ module _ {I F : Type 0} (old mid new : List (Hand I F)) (f : FeedActor I) (r : O
   module _ (told : I → Told) (is_open : I → Type 0) (files_open : F → Type 0) (hdu : Hdu)
       (on : All (HandOn told is_open files_open hdu) old) (ended : All HandEnded old) (r_is : r ≡ recorder_in mid)
       (shards : List (Option ShardActor)) (n : ℕ) (gathered : AreGathered new n shards)
-      (readers : n + length (as_passes (option_map (λ (x : RecordActor F). x.pass) (recorder_in old)))
-      ≡ (data_shape hdu).readers)
+      (readers : n + length (recorder_passes (recorder_in old)) ≡ (data_shape hdu).readers)
       (last : IfSome (recorder_in old) (λ (x : RecordActor F). number_of x.pass ≡ n)) where
     all_readers : length (passes_with shards r) ≡ (data_shape hdu).readers
     all_readers =
-        let one = as_passes (option_map (λ (x : RecordActor F). x.pass) r) in
+        let one = recorder_passes r in
         let long = pass_count shards in
         let count = gathered.count in
-        let same = ap (λ (o : Option (RecordActor F)). length (as_passes (option_map (λ (x : RecordActor F).
-        x.pass) o))) (is_recorder r_is) in
+        let same = ap (λ (o : Option (RecordActor F)). length (recorder_passes o)) (is_recorder r_is) in
         let both = length-append (passes_of shards) one in
         omega arith
 

@@ -71,8 +71,8 @@ module _ {F : Type 0} (seen : F → FilesSeen) (files_open : F → Type 0) (hdu 
   nothing_recorded : (outset : Outset) → BeginsAt outset (seen part.files.now) →
       FilesAreOf part outset [] [] (seen part.files.now)
   nothing_recorded outset begins =
-      subst (λ (e : Option RecordEnd). FilesAre (plan_of part) outset (has_open_file part) [] [] e (seen part.files.now))
-      (sym fresh.running)
+      subst (λ (e : Option RecordEnd). FilesAre (plan_of part) outset (has_open_file part) [] [] e
+      (seen part.files.now)) (sym fresh.running)
       (subst (λ b. HasMade outset b (files_of_blocks (plan_of part) [] []) (seen part.files.now)) (sym fresh.no_file)
       (nothing_made (plan_of part) outset (seen part.files.now) begins))
 
@@ -183,7 +183,8 @@ module _ {F : Type 0} (seen : F → FilesSeen) (files_open : F → Type 0) (hdu 
                 (ends_complete can));
             made = λ can outset begins.
                 subst (λ (l : List Entry). HasRecorded outset
-                (files_of_blocks (plan_of part) l (sealed_at_end end.blocks)) (seen is_end.files.now) answer) headers_are
+                (files_of_blocks (plan_of part) l (sealed_at_end end.blocks))
+                (seen is_end.files.now) answer) headers_are
                 (has_recorded (plan_of part) all (length (plan_at feeder).starts) end.feed ending outset
                 (seen is_end.files.now) answer
                 (law.files (plan_of part) all (has_header x.part) (has_open_file x.part) answer outset

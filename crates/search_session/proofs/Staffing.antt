@@ -187,7 +187,8 @@ module _ {I F : Type 0} (told : I → Told) (is_open : I → Type 0) (files_open
 
   module _ (old new : List (Hand I F)) (n count : ℕ) (x : ShardActor) (lane : Lane)
       (staffed : AreStaffed told is_open files_open hdu lanes n count old)
-      (takes : TakesShard old ((n + 1) % length old) x new) (at : slice_get lanes n ≡ Some (Some lane)) (fresh : IsShardOf lane n x) (on : ShardOn hdu x) where
+      (takes : TakesShard old ((n + 1) % length old) x new) (at : slice_get lanes n ≡ Some (Some lane))
+      (fresh : IsShardOf lane n x) (on : ShardOn hdu x) where
     near : (n + 1) % length old < length old
     near = slice_get_within old ((n + 1) % length old) takes.before takes.there
 
@@ -255,7 +256,8 @@ module _ {I F : Type 0} (told : I → Told) (is_open : I → Type 0) (files_open
           place = has.place;
           works = ap (λ (l : List (Option ShardActor)). slice_get l has.place) takes.shards
               ∙ longer takes.before.shards.items (Some x ∷ []) has.place (Some has.shard)
-              (subst (λ (h : Hand I F). slice_get h.shards.items has.place ≡ Some (Some has.shard)) before_is has.works);
+              (subst (λ (h : Hand I F). slice_get h.shards.items has.place
+              ≡ Some (Some has.shard)) before_is has.works);
           number = has.number;
         })
         (λ other. record {

@@ -83,7 +83,8 @@ nothing_taken lanes = record {
 -- the books of one transfer more
 pub taken_more : (all left new : List (Option Lane)) (n transfers : ℕ) (books : List (ArrayVec (Option BookContents)))
     (row : ArrayVec (Option BookContents)) → HaveEngines transfers all → (0 < length all → n < transfers) →
-    BooksTaken n all books left → FirstsGiven (length left) left row.items new → BooksTaken (n + 1) all (books ++ row ∷ []) new
+    BooksTaken n all books left → FirstsGiven (length left) left row.items new →
+    BooksTaken (n + 1) all (books ++ row ∷ []) new
 taken_more all left new n transfers books row have near so_far firsts = record {
   count = firsts.count ∙ so_far.count;
   books_count = length-append books (row ∷ []) ∙ ap (λ (k : ℕ). k + 1) so_far.books_count;

@@ -170,7 +170,8 @@ module _ (hdu : Hdu) (x y : ShardActor) (reader reader' : HduReader) (was : x.pa
             let same = ap length none in
             absurd (omega arith);
         engines = subst (λ (l : List Entry). EnginesFollow (shard_cleared x) l x.part.engines.items
-            y.part.engines.items) (sym cleared_more) (engines_follow counted of (data_shape hdu).size (shard_cleared x) e
+            y.part.engines.items) (sym cleared_more)
+            (engines_follow counted of (data_shape hdu).size (shard_cleared x) e
             fits x.part.engines.items y.part.engines.items fed_at);
       }
 

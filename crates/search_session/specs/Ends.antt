@@ -16,10 +16,14 @@ abbrev pub as_passes : Option HduEnded → List (Option HduEnded)
 as_passes None = []
 as_passes (Some pass) = Some pass ∷ []
 
+-- the pass of a recorder, where there is one
+abbrev pub recorder_passes : {F : Type 0} → Option (RecordActor F) → List (Option HduEnded)
+recorder_passes recorder = as_passes (option_map (λ x. x.pass) recorder)
+
 -- the passes of shards, and that of a recorder after them
 abbrev pub passes_with : {F : Type 0} → List (Option ShardActor) → Option (RecordActor F) →
     List (Option HduEnded)
-passes_with shards recorder = passes_of shards ++ as_passes (option_map (λ x. x.pass) recorder)
+passes_with shards recorder = passes_of shards ++ recorder_passes recorder
 
 -- a shard that ended
 pub record IsDone (hdu : Hdu) (transfers s : ℕ) (x : ShardActor) : Type 0 where

@@ -1,5 +1,5 @@
 //! A session: rounds until all have ended.
-ghost use Rattle.std.specs.Prelude.{◌≡◌, ℕ, ◌+◌, ◌<◌, ◌≤◌, All, IfSome, Some, None, length, option_map, slice_get};
+ghost use Rattle.std.specs.Prelude.{◌≡◌, ℕ, ◌+◌, ◌<◌, ◌≤◌, All, IfSome, Some, None, length, slice_get};
 ghost use Rattle.dada_hdu.specs.Passes.{data_shape, number_of};
 ghost use Rattle.ring_ends.specs.Ended.{sealed_at_end};
 ghost use Rattle.disk_feeder.specs.Feeder.{FeederFaultless};
@@ -13,7 +13,7 @@ ghost use Rattle.search_session.specs.Shards.{shard_number};
 ghost use Rattle.search_session.specs.Gathering.{recorder_in};
 ghost use Rattle.search_session.specs.Stages.{StageOn, HasShard, IsInHand, transfers_of};
 ghost use Rattle.search_session.specs.Books.{AreCounted};
-ghost use Rattle.search_session.specs.Ends.{as_passes, HaveEnginesIn};
+ghost use Rattle.search_session.specs.Ends.{HaveEnginesIn, recorder_passes};
 ghost use Rattle.search_session.specs.Recorded.{HasNoRecording, RecordedAnswers};
 ghost use Rattle.search_session.specs.Sessions.{FeedAnswers, ShardAnswers, IsEndOf, IsEndOfRecorder};
 
@@ -69,7 +69,7 @@ fn end_session<'a, I: Inputs, F: Files>(
         × (h.feeder ≡ Some f) }
     requires few { shards ≤ 7 }
     requires shards { (s : ℕ) → s < shards → HasShard hands.old s }
-    requires readers { shards + length (as_passes (option_map (λ x. x.pass) (recorder_in hands.old)))
+    requires readers { shards + length (recorder_passes (recorder_in hands.old))
         ≡ (data_shape hdu).readers }
     requires last { IfSome (recorder_in hands.old) (λ x. number_of x.pass ≡ shards) }
     requires engines { (transfers : ℕ) × HaveEnginesIn hands.old shards transfers }

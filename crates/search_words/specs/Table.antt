@@ -15,7 +15,8 @@ use Rattle.search_words.specs.declared.table.Program.TheVariants.{PsrSearch, Psr
 abbrev pub all_options : List Opt
 all_options =
     MaxDelay ∷ MinDelay ∷ Snr ∷ Mean ∷ Sd ∷ Widths ∷ FoldMin ∷ FoldMax ∷ FoldRows ∷ FoldStep
-    ∷ Buffers ∷ Size ∷ Chunk ∷ Shards ∷ Hands ∷ Turns ∷ FileSize ∷ MaxBytes ∷ MaxCandidates ∷ File ∷ []
+    ∷ Buffers ∷ Size ∷ Chunk ∷ Shards ∷ Hands ∷ Turns
+    ∷ FileSize ∷ MaxBytes ∷ MaxCandidates ∷ File ∷ []
 
 -- the name of an option, without its dashes
 abbrev pub option_name : Opt → List ℕ

@@ -57,13 +57,15 @@ changed_in_place : (key value text : List ℕ) → is_overwritten key value text
     changed key value text ≡ overwritten key value text
 unfolding changed
 changed_in_place key value text e =
-    ap (λ (b : Bool). cond b (overwritten key value text) (blanked key text ++ (line_end text ++ field_line key value))) e
+    ap (λ (b : Bool). cond b (overwritten key value text)
+    (blanked key text ++ (line_end text ++ field_line key value))) e
 
 changed_at_end : (key value text : List ℕ) → is_overwritten key value text ≡ false →
     changed key value text ≡ blanked key text ++ (line_end text ++ field_line key value)
 unfolding changed
 changed_at_end key value text e =
-    ap (λ (b : Bool). cond b (overwritten key value text) (blanked key text ++ (line_end text ++ field_line key value))) e
+    ap (λ (b : Bool). cond b (overwritten key value text)
+    (blanked key text ++ (line_end text ++ field_line key value))) e
 
 size_in_place : ChangesHold → (key value text : List ℕ) → IsWord value → is_overwritten key value text ≡ true →
     IsSameSize (changed key value text) text
@@ -124,7 +126,8 @@ pub all_kept : ChangeKeepsOthers → (key value text other : List ℕ) → IsWor
     value_of other (fields_of (changed key value text)) ≡ value_of other (fields_of text)
 all_kept keeps key value text other k v apart =
     let n = length (changed key value text) + length text in
-    let new : take n (changed key value text) ≡ changed key value text = take_all n (changed key value text) (omega arith) in
+    let new : take n (changed key value text) ≡ changed key value text =
+    take_all n (changed key value text) (omega arith) in
     let old : take n text ≡ text = take_all n text (omega arith) in
     ap (λ (t : List ℕ). value_of other (fields_of t)) (sym new) ∙ keeps key value text other n k v apart
     ∙ ap (λ (t : List ℕ). value_of other (fields_of t)) old

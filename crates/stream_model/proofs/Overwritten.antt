@@ -81,7 +81,8 @@ placed_length line value new bare same at fits few =
     let e = value_end (without_comment line) in
     let s_is : s ≡ value_start bare = ap value_start (sym same) in
     let e_is : e ≡ value_end bare = ap value_end (sym same) in
-    let pad : length (spaces (e - s - length new)) ≡ e - s - length new = length-replicate {A = ℕ} (e - s - length new) 32 in
+    let pad : length (spaces (e - s - length new)) ≡ e - s - length new =
+    length-replicate {A = ℕ} (e - s - length new) 32 in
     let front : length (take s line) ≡ s = length-take-le s line (omega (arith, at.within, at.rises, s_is, e_is)) in
     let one = length-append (take s line) (new ++ (spaces (e - s - length new) ++ drop e line)) in
     let two = length-append new (spaces (e - s - length new) ++ drop e line) in

@@ -35,8 +35,10 @@ has_values gives keeps r i w =
     let a = padded 16 (file_offset r i) in
     let b = padded 6 i in
     let c = padded 16 r.file_size in
-    let number_kept = λ (key : List ℕ) (apart : key ≢ two). all_kept keeps two b (with_offset r i) key number_key w.number apart in
-    let size_kept = λ (key : List ℕ) (apart : key ≢ three). all_kept keeps three c (with_number r i) key size_key w.size apart in
+    let number_kept = λ (key : List ℕ) (apart : key ≢ two). all_kept keeps two b
+    (with_offset r i) key number_key w.number apart in
+    let size_kept = λ (key : List ℕ) (apart : key ≢ three). all_kept keeps three c
+    (with_number r i) key size_key w.size apart in
     record {
       offset = size_kept one (bytes_apart one three refl) ∙ number_kept one (bytes_apart one two refl)
           ∙ gives one a r.header.text offset_key w.offset;
@@ -54,7 +56,8 @@ read_after law r i w room is =
     let size = codes "HDR_SIZE" in
     let one = law (codes "OBS_OFFSET") (padded 16 (file_offset r i)) r.header offset_key w.offset
     (bytes_apart (codes "OBS_OFFSET") size refl) room.offset is in
-    let two = law (codes "FILE_NUMBER") (padded 6 i) (record { size = r.header.size; text = with_offset r i }) number_key
+    let two = law (codes "FILE_NUMBER") (padded 6 i)
+    (record { size = r.header.size; text = with_offset r i }) number_key
     w.number (bytes_apart (codes "FILE_NUMBER") size refl) room.number one in
     law (codes "FILE_SIZE") (padded 16 r.file_size) (record { size = r.header.size; text = with_number r i }) size_key
     w.size (bytes_apart (codes "FILE_SIZE") size refl) room.size two
@@ -115,7 +118,8 @@ other_number r i text v key first second third =
 
 numbers_kept : (r : Recording) (i : ℕ) (text : List ℕ) → HasValues r i text → (key : Key) → key ≢ ObsOffset →
     number_of (fields_of text) key ≡ number_of (fields_of r.header.text) key
-numbers_kept r i text v Nchan apart = other_number r i text v Nchan (bytes_apart (codes "NCHAN") (codes "OBS_OFFSET") refl)
+numbers_kept r i text v Nchan apart =
+    other_number r i text v Nchan (bytes_apart (codes "NCHAN") (codes "OBS_OFFSET") refl)
     (bytes_apart (codes "NCHAN") (codes "FILE_NUMBER") refl) (bytes_apart (codes "NCHAN") (codes "FILE_SIZE") refl)
 numbers_kept r i text v Nbit apart = other_number r i text v Nbit (bytes_apart (codes "NBIT") (codes "OBS_OFFSET") refl)
     (bytes_apart (codes "NBIT") (codes "FILE_NUMBER") refl) (bytes_apart (codes "NBIT") (codes "FILE_SIZE") refl)
@@ -123,7 +127,8 @@ numbers_kept r i text v Npol apart = other_number r i text v Npol (bytes_apart (
     (bytes_apart (codes "NPOL") (codes "FILE_NUMBER") refl) (bytes_apart (codes "NPOL") (codes "FILE_SIZE") refl)
 numbers_kept r i text v Ndim apart = other_number r i text v Ndim (bytes_apart (codes "NDIM") (codes "OBS_OFFSET") refl)
     (bytes_apart (codes "NDIM") (codes "FILE_NUMBER") refl) (bytes_apart (codes "NDIM") (codes "FILE_SIZE") refl)
-numbers_kept r i text v Tsamp apart = other_number r i text v Tsamp (bytes_apart (codes "TSAMP") (codes "OBS_OFFSET") refl)
+numbers_kept r i text v Tsamp apart =
+    other_number r i text v Tsamp (bytes_apart (codes "TSAMP") (codes "OBS_OFFSET") refl)
     (bytes_apart (codes "TSAMP") (codes "FILE_NUMBER") refl) (bytes_apart (codes "TSAMP") (codes "FILE_SIZE") refl)
 numbers_kept r i text v Freq apart = other_number r i text v Freq (bytes_apart (codes "FREQ") (codes "OBS_OFFSET") refl)
     (bytes_apart (codes "FREQ") (codes "FILE_NUMBER") refl) (bytes_apart (codes "FREQ") (codes "FILE_SIZE") refl)

@@ -48,8 +48,8 @@ pub begin_next : (ts : List RecordedTransfer) (k : ℕ) → k < length ts →
 begin_next ts k below =
     let t = transfer_at ts k in
     ap (λ (xs : List RecordedTransfer). length (flat_map files_of xs)) (take_more ts k no_transfer below)
-    ∙ ap (length {A = NamedBytes}) (flat_map-append files_of (take k ts) (t ∷ []) ∙ ap (λ (xs : List NamedBytes). flat_map
-    files_of (take k ts) ++ xs) (append-nil (files_of t)))
+    ∙ ap (length {A = NamedBytes}) (flat_map-append files_of (take k ts) (t ∷ [])
+    ∙ ap (λ (xs : List NamedBytes). flat_map files_of (take k ts) ++ xs) (append-nil (files_of t)))
     ∙ length-append (flat_map files_of (take k ts)) (files_of t)
     ∙ ap (λ (n : ℕ). begin_at ts k + n) (length_files t)
 
@@ -60,8 +60,8 @@ begin_last ts = ap (λ (xs : List RecordedTransfer). length (flat_map files_of x
 -- ---- a file by its number
 
 -- file m of transfer k
-pub file_of : (ts : List RecordedTransfer) (k m : ℕ) (d : NamedBytes) → k < length ts → m < count_of (transfer_at ts k) →
-    get_or (flat_map files_of ts) (begin_at ts k + m) d
+pub file_of : (ts : List RecordedTransfer) (k m : ℕ) (d : NamedBytes) → k < length ts →
+    m < count_of (transfer_at ts k) → get_or (flat_map files_of ts) (begin_at ts k + m) d
     ≡ recorded_file (transfer_at ts k).recording (transfer_at ts k).bytes m
 unfolding recorded_files
 file_of ts k m d below within =

@@ -71,7 +71,8 @@ seen file header o is accepted =
 abbrev AllCan : List RecordedTransfer → Type 0
 AllCan ts = (k : ℕ) → k < length ts → CanBeRecorded (transfer_at ts k)
 
-file_read : WalkHolds → (max_bytes : ℕ) (ts : List RecordedTransfer) (can : AllCan ts) (k m : ℕ) (below : k < length ts) →
+file_read : WalkHolds → (max_bytes : ℕ) (ts : List RecordedTransfer) (can : AllCan ts)
+    (k m : ℕ) (below : k < length ts) →
     m < count_of (transfer_at ts k) → IsRead (transfer_at ts k) (can k below).observation m
 file_read laws max_bytes ts can k m below within = is_read laws (transfer_at ts k) m (can k below) within
 
@@ -211,7 +212,8 @@ transfers_give laws max_bytes ts each few =
 
 -- ---- one transfer
 
-one_stream : (max_bytes : ℕ) (t : RecordedTransfer) → stream_of_recorded max_bytes (t ∷ []) ≡ stream_of_files max_bytes t
+one_stream : (max_bytes : ℕ) (t : RecordedTransfer) →
+    stream_of_recorded max_bytes (t ∷ []) ≡ stream_of_files max_bytes t
 unfolding recorded_of_transfers recorded_starts
 one_stream max_bytes t =
     ap (λ (files : List NamedBytes). record {

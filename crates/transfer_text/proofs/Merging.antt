@@ -140,7 +140,8 @@ module _ (listed : CandidatesAreListed) (rise : CandidatesRise) (merge : ShardsM
   parts_apart = λ i j d before within x y in_x in_y same.
       let part_of : ℕ → List Candidate = λ k. shard_part s k found in
       let count = length-map-range_with_len part_of 0 s.shards in
-      let at_i = get_or-map-range_with_len part_of 0 s.shards i i d (omega (arith, before, within, count)) (omega arith) in
+      let at_i = get_or-map-range_with_len part_of 0 s.shards i i d (omega (arith, before, within, count))
+      (omega arith) in
       let at_j = get_or-map-range_with_len part_of 0 s.shards j j d (omega (arith, within, count)) (omega arith) in
       let x_is = (merge.members s i found x).0 (subst (λ l. Contains l x) at_i in_x) in
       let y_is = (merge.members s j found y).0 (subst (λ l. Contains l y) at_j in_y) in

@@ -48,7 +48,8 @@ module _ (lists : List FoundList) (i : ℕ) (x : FoundList) (there : slice_get l
         ∙ ap (λ (t : List ℕ). t ++ texts_from (0 + length (take (i + 1) lists)) (drop (i + 1) lists)) texts_more,
   )
 
-  module _ (join : PiecesJoin) (old middle new : SinkSeen) (before : WroteAll (texts_from 0 (take i lists)) old middle) where
+  module _ (join : PiecesJoin) (old middle new : SinkSeen)
+      (before : WroteAll (texts_from 0 (take i lists)) old middle) where
     pub one_more : WroteAll (numbered_text i x) middle new → WroteAll (texts_from 0 (take (i + 1) lists)) old new
     one_more here = subst (λ t. WroteAll t old new) (sym texts_more)
         (join.joins (texts_from 0 (take i lists)) (numbered_text i x) old middle new before here)

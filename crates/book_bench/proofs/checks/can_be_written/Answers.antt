@@ -14,9 +14,11 @@ any_default xs k d e within =
 pub loop-k-preserved : goal.loop-k-preserved
 loop-k-preserved c =
     let k = c.loop-k.k in
-    let inside : k < length c.args.observations.now = omega (arith, c.loop-k-test.true, c.if-observations-books.false) in
+    let inside : k < length c.args.observations.now =
+    omega (arith, c.loop-k-test.true, c.if-observations-books.false) in
     let some : IsSome c.index-observations-k.result = search rules in
-    let read = get_or_read c.args.observations.now k c.index-observations-k.result inside c.index-observations-k.is None in
+    let read = get_or_read c.args.observations.now k c.index-observations-k.result inside
+    c.index-observations-k.is None in
     let can : CanBeMerged c.as_slice.result.now = search rules in
     let held : get_or (map (λ shards. shards.items) c.args.books.now) k [] ≡ c.as_slice.result.now =
     get_or-map (λ shards. shards.items) c.args.books.now k c.index-books-k.result [] c.loop-k-test.true

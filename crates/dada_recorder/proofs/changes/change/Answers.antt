@@ -22,6 +22,7 @@ returns-in-Err-set_number-2-clause-fault c =
 
 pub returns-in-Err-set_number-2-clause-serves : goal.returns-in-Err-set_number-2-clause-serves
 returns-in-Err-set_number-2-clause-serves c = λ room.
-    absurd (never_full (recording c.args.header.now c.args.offset c.args.file_size) c.args.number c.set_number.new.header
-    c.set_number-2.new.header c.in-Err-set_number-2.fault room c.in-Ok.ensures.set c.in-Ok-set_number.ensures.set
+    absurd (never_full (recording c.args.header.now c.args.offset c.args.file_size)
+    c.args.number c.set_number.new.header c.set_number-2.new.header c.in-Err-set_number-2.fault room
+    c.in-Ok.ensures.set c.in-Ok-set_number.ensures.set
     c.in-Err-set_number-2.ensures.fault)

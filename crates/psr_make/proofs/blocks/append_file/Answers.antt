@@ -38,7 +38,8 @@ returns-in-Err-append_spectra-clause-appended g c =
     record {
       all = tt;
       front = stops c.appends_join.ensures s from to (g.F.Files.seen c.args.files.now)
-          (g.F.Files.seen c.loop-maker.files) (g.F.Files.seen c.append_spectra.new.files) up within c.loop-maker.invariant.appended front;
+          (g.F.Files.seen c.loop-maker.files)
+          (g.F.Files.seen c.append_spectra.new.files) up within c.loop-maker.invariant.appended front;
     }
 
 pub loop-maker-preserved : goal.loop-maker-preserved

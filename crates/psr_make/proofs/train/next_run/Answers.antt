@@ -14,4 +14,5 @@ returns c =
     let next : IsNextPulse c.args.spec.now c.args.leaves c.args.from c.div_ceil.result =
     next_pulse c.args.spec.now c.args.leaves c.args.from c.div_ceil.result c.requires.spec.some_period (cc) in
     is_run c.args.spec.now c.args.enters c.args.leaves c.args.from c.args.to c.div_ceil.result c.min.result
-    c.min-2.result c.requires.spec.some_period next c.requires.order c.requires.passage c.if-spec-start.false (cc) c.min-2.ensures
+    c.min-2.result c.requires.spec.some_period next c.requires.order c.requires.passage c.if-spec-start.false
+    (cc) c.min-2.ensures

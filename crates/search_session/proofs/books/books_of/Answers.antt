@@ -32,8 +32,8 @@ loop-transfer-preserved c =
     let many = searched ∙ some_searched (length all) transfers some in omega arith in
     subst (λ (l : List (ArrayVec (Option BookContents))). BooksTaken (n + 1) all l
     (take (length left) (new ++ drop (length new) left))) (sym c.push.ensures.items)
-    (taken_more all left (take (length left) (new ++ drop (length new) left)) n transfers c.loop-transfer.books.items row
-    c.requires.1 near c.loop-transfer.invariant
+    (taken_more all left (take (length left) (new ++ drop (length new) left)) n transfers
+    c.loop-transfer.books.items row c.requires.1 near c.loop-transfer.invariant
     (subst (λ (l : List (Option Lane)). FirstsGiven (length left) left row.items l)
     (sym (all_written (length left) left new firsts.count)) firsts))
 

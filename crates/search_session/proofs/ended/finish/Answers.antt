@@ -75,8 +75,8 @@ returns-clause-counted g c = λ transfers done.
     let shown : c.as_slice.result.now ≡ lanes_of shards =
     c.as_slice.ensures.value ∙ c.part_shards-passes.ensures.lanes in
     let spectra : length c.spectra_of-spectra.result.items ≡ transfers_searched (length (lanes_of shards)) transfers =
-    subst (λ (l : List (Option Lane)). length c.spectra_of-spectra.result.items ≡ transfers_searched (length l) transfers)
-    shown (c.spectra_of-spectra.ensures.count transfers
+    subst (λ (l : List (Option Lane)). length c.spectra_of-spectra.result.items
+    ≡ transfers_searched (length l) transfers) shown (c.spectra_of-spectra.ensures.count transfers
     (subst (λ (l : List (Option Lane)). HaveEngines transfers l) (sym shown) have)) in
     record {
       books_count = books.count ∙ ap (λ (n : ℕ). transfers_searched n transfers) long;

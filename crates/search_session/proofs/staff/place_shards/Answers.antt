@@ -39,8 +39,8 @@ shard_of-requires-clause-reader g c =
     let near : s < length c.args.readers.now.items = omega arith in
     let h = c.requires.parts.1.unread s near in
     subst (λ (r : HduReader). IsUnread c.args.hdu.now s r)
-    (taken_is c.args.readers.now.items c.loop-s.readers.items s c.remove-in-loop-s.result h.0 c.in-Some-remove.reader h.1
-    c.loop-s.invariant.readers c.remove-in-loop-s.ensures.value c.in-Some-remove.is) h.2
+    (taken_is c.args.readers.now.items c.loop-s.readers.items s c.remove-in-loop-s.result
+    h.0 c.in-Some-remove.reader h.1 c.loop-s.invariant.readers c.remove-in-loop-s.ensures.value c.in-Some-remove.is) h.2
 
 pub shard_of-requires-clause-lane : goal.shard_of-requires-clause-lane
 shard_of-requires-clause-lane g c =
@@ -84,7 +84,8 @@ loop-s-preserved g c =
       spaces = left_over c.args.spaces.items c.loop-s.spaces.items c.remove-in-loop-s-2.new.self.items s
           c.remove-in-loop-s-2.result near_space inv.spaces c.remove-in-loop-s-2.ensures.items;
       staffed = staffed_more g.I.Inputs.told g.I.Inputs.is_open g.F.Files.is_open c.args.hdu.now
-          c.args.lanes.items c.loop-s.hands c.place_shard.new.hands s (length c.args.hands.now) c.shard_of.result c.in-Some.lane inv.staffed
+          c.args.lanes.items c.loop-s.hands c.place_shard.new.hands s
+          (length c.args.hands.now) c.shard_of.result c.in-Some.lane inv.staffed
           c.place_shard.ensures (h.1 ∙ ap (λ (l : Lane). Some (Some l)) lane) c.shard_of.ensures.new
           c.shard_of.ensures.on;
     }

@@ -84,7 +84,8 @@ returns g c =
     record {
       hdu = refl;
       on = subst (λ (l : List H). All (HandOn told is_open files_open hdu) l) (sym written)
-          (fed_on told is_open files_open hdu lanes is_calm faults seen stage.recorder two three n first f all takes on);
+          (fed_on told is_open files_open hdu lanes is_calm faults seen stage.recorder two
+          three n first f all takes on);
       some = subst (λ (l : List H). 0 < length l) (sym written)
           (fed_some told is_open files_open hdu lanes is_calm faults seen stage.recorder two three n first f all takes
           on);
@@ -95,7 +96,8 @@ returns g c =
           (fed_shards told is_open files_open hdu lanes is_calm faults seen stage.recorder two three n first f all takes
           on s near);
       lanes = subst (λ (l : List H). AreOfLanes lanes l) (sym written)
-          (fed_of told is_open files_open hdu lanes is_calm faults seen stage.recorder two three n first f all takes on);
+          (fed_of told is_open files_open hdu lanes is_calm faults seen stage.recorder two
+          three n first f all takes on);
       recorder = subst (λ (l : List H). RecorderWorks seen stage.recorder n l) (sym written)
           (fed_recorder told is_open files_open hdu lanes is_calm faults seen stage.recorder two three n first f all
           takes on);

@@ -10,7 +10,8 @@ count_shards-count-requires c =
     let within : c.loop-k.k < length books = omega (arith, long, c.loop-k-test.true) in
     let held = items_at (λ shards. shards.items) c.args.books.now c.loop-k.k c.index-books-k.result
     c.as_slice.result.now c.loop-k-test.true c.index-books-k.is c.as_slice.ensures.value in
-    let le = total_within books c.loop-k.k c.loop-k.count c.as_slice.result.now within held c.loop-k.invariant.counted in
+    let le = total_within books c.loop-k.k c.loop-k.count c.as_slice.result.now within held
+    c.loop-k.invariant.counted in
     omega (arith, le, c.requires)
 
 pub overflow_add-count : goal.overflow_add-count
@@ -20,7 +21,8 @@ overflow_add-count c =
     let within : c.loop-k.k < length books = omega (arith, long, c.loop-k-test.true) in
     let held = items_at (λ shards. shards.items) c.args.books.now c.loop-k.k c.index-books-k.result
     c.as_slice.result.now c.loop-k-test.true c.index-books-k.is c.as_slice.ensures.value in
-    let le = total_within books c.loop-k.k c.loop-k.count c.as_slice.result.now within held c.loop-k.invariant.counted in
+    let le = total_within books c.loop-k.k c.loop-k.count c.as_slice.result.now within held
+    c.loop-k.invariant.counted in
     omega (arith, le, c.requires, c.count_shards-count.ensures)
 
 pub loop-k-preserved : goal.loop-k-preserved

@@ -9,7 +9,8 @@ returns-in-Ok g c = λ found is.
     let same = as_written found c.args.observation.now c.in-Some.observation c.args.books.now c.args.spectra
     c.in-Some.is is in
     record {
-      all = subst (λ t. WroteAll t (g.K.Sink.seen c.args.out.now) (g.K.Sink.seen c.write_merged.new.sink)) same wrote.all;
+      all = subst (λ t. WroteAll t (g.K.Sink.seen c.args.out.now) (g.K.Sink.seen c.write_merged.new.sink))
+          same wrote.all;
       front = tt;
     }
 
@@ -20,5 +21,6 @@ returns-in-Err g c = λ found is.
     c.in-Some.is is in
     record {
       all = tt;
-      front = subst (λ t. WroteFront t (g.K.Sink.seen c.args.out.now) (g.K.Sink.seen c.write_merged.new.sink)) same wrote.front;
+      front = subst (λ t. WroteFront t (g.K.Sink.seen c.args.out.now) (g.K.Sink.seen c.write_merged.new.sink))
+          same wrote.front;
     }

@@ -59,8 +59,8 @@ returns-in_err-write_numbered g c =
       front = subst (λ t. WroteFront t (g.K.Sink.seen c.args.out.now) (g.K.Sink.seen c.write_numbered.new.out))
           (sym (several_texts lists several))
           (stopped lists k found.0 found.1 c.pieces_join.ensures.pieces (g.K.Sink.seen c.args.out.now)
-          (g.K.Sink.seen c.loop-k.out) (g.K.Sink.seen c.write_numbered.new.out) (c.loop-k.invariant.written lists merged)
-          (c.in_err-write_numbered.ensures found.0 is).front);
+          (g.K.Sink.seen c.loop-k.out) (g.K.Sink.seen c.write_numbered.new.out)
+          (c.loop-k.invariant.written lists merged) (c.in_err-write_numbered.ensures found.0 is).front);
     })
 
 pub loop-k-preserved : goal.loop-k-preserved

@@ -17,7 +17,8 @@ returns-in-Ok-clause-stands g c =
     (c.clear_header.ensures.blocks ∙ c.in-Ok.ensures.blocks) in
     let bytes = front_is read.entry.bytes c.deref.result.now
     (drop (length read.entry.bytes) c.as_mut_slice.result.now) c.in-Ok.taken.used read.used
-    (c.deref.ensures.value ∙ written_is _ c.read_header.new.into _ (c.read_header.auto.into ∙ c.as_mut_slice.ensures.len)
+    (c.deref.ensures.value
+    ∙ written_is _ c.read_header.new.into _ (c.read_header.auto.into ∙ c.as_mut_slice.ensures.len)
     ∙ read.bytes) in
     stands_settled c.header_block-end.new.self c.settle.new.self.transfers _ (cleared_headers new)
     (cleared_blocks old) (cleared_blocks new) c.header_block-end.result c.settle.new.self.end

@@ -13,7 +13,8 @@ append-requires-clause-limit g c =
 
 pub returns-in-Ok-clause-appended : goal.returns-in-Ok-clause-appended
 returns-in-Ok-clause-appended g c = λ headers blocks block same run.
-    data_appended c.bytes_are_joined.ensures c.args.self.now c.append.new.self headers blocks block c.args.bytes.now same
+    data_appended c.bytes_are_joined.ensures c.args.self.now c.append.new.self headers blocks
+    block c.args.bytes.now same
     c.requires.header run c.requires.limit c.in-Ok.ensures.kept c.in-Ok.ensures.placed c.in-Ok.ensures.count
 
 pub returns-in-Ok-clause-made : goal.returns-in-Ok-clause-made
@@ -32,8 +33,8 @@ returns-in-Ok-clause-made g c = λ headers blocks block same run.
           HasMade outset t.files.place.is_open fs old in
           let New : List NamedBytes → Type 0 = λ fs.
           HasMade outset f.place.is_open fs new in
-          subst New (sym (files_after c.entries_are_of_transfers.ensures t f t.total headers blocks block c.args.bytes.now same
-          header run c.in-Ok.ensures.kept))
+          subst New (sym (files_after c.entries_are_of_transfers.ensures t f t.total headers
+          blocks block c.args.bytes.now same header run c.in-Ok.ensures.kept))
           (appends.all outset (subst Old (files_before t headers blocks header run) has));
       front = λ outset all has front. tt;
     }
@@ -59,6 +60,6 @@ returns-in-Err-clause-made g c = λ headers blocks block same run.
           HasMade outset t.files.place.is_open fs old in
           let Front : List NamedBytes → Type 0 = λ fs. IsFileFront fs all in
           appends.front outset all (subst Old (files_before t headers blocks header run) has)
-          (subst Front (files_after c.entries_are_of_transfers.ensures t f t.total headers blocks block c.args.bytes.now same
-          header run c.in-Err.ensures.kept) front);
+          (subst Front (files_after c.entries_are_of_transfers.ensures t f t.total headers
+          blocks block c.args.bytes.now same header run c.in-Err.ensures.kept) front);
     }

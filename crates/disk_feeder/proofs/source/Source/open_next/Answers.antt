@@ -44,14 +44,14 @@ by_text plan told told' at before current o has transfers counts join goes room 
     absurd refuses
 by_text plan told told' at before current o has transfers counts join goes room files are ReadFault refuses =
     front_at plan told told' at before current o has transfers files are goes join
-by_text plan told told' at before current o has transfers counts join goes room files are (Gap file expected found) refuses =
-    absurd refuses
+by_text plan told told' at before current o has transfers counts join goes room files are
+    (Gap file expected found) refuses = absurd refuses
 by_text plan told told' at before current o has transfers counts join goes room files are (TooLong limit) refuses =
     absurd refuses
 by_text plan told told' at before current o has transfers counts join goes room files are (BadHeader k (Fields fault))
     refuses = absurd refuses
-by_text plan told told' at before current o has transfers counts join goes room files are (BadHeader k (Text fault)) refuses
-    =
+by_text plan told told' at before current o has transfers counts join goes room files are
+    (BadHeader k (Text fault)) refuses =
     by_fault fault refuses.1
   where
     s : FileStream

@@ -68,4 +68,5 @@ returns-clause-since g c = λ k was.
     c.seal.ensures.after.since k (g.I.Inputs.faults c.fill-due.new.inputs) (c.fill-due.ensures.since k was)
 
 pub returns-then-self-clause-since : goal.returns-then-self-clause-since
-returns-then-self-clause-since g c = λ k was. c.seal_header.ensures.after.since k (g.I.Inputs.faults c.args.inputs.now) was
+returns-then-self-clause-since g c =
+    λ k was. c.seal_header.ensures.after.since k (g.I.Inputs.faults c.args.inputs.now) was

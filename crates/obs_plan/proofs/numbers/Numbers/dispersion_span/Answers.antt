@@ -20,4 +20,10 @@ nonzero_div-result c = let below = falls (goal.at.nonzero_div-result c).After-fr
 
 pub returns : goal.returns
 unfolding dispersion_span
-returns c = rw (c.from-top.ensures, c.from-foot.ensures, c.edge.ensures, c.edge-2.ensures, channels (goal.at.returns c).After-from-foot) refl
+returns c = rw (
+  c.from-top.ensures,
+  c.from-foot.ensures,
+  c.edge.ensures,
+  c.edge-2.ensures,
+  channels (goal.at.returns c).After-from-foot,
+) refl

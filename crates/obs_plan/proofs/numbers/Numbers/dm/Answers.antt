@@ -25,4 +25,9 @@ overflow_cast-result c =
 
 pub returns : goal.returns
 unfolding dm
-returns c = rw (c.from.ensures, c.from-2.ensures, c.dispersion_span.ensures, sample (goal.at.returns c).After-dispersion_span) refl
+returns c = rw (
+  c.from.ensures,
+  c.from-2.ensures,
+  c.dispersion_span.ensures,
+  sample (goal.at.returns c).After-dispersion_span,
+) refl

@@ -20,8 +20,8 @@ pub returns-in_default-read_block-clause-stepped : goal.returns-in_default-read_
 returns-in_default-read_block-clause-stepped c = stepped_still c.args.hdu.now c.args.self.now _ c.in-Here.reader
     c.read_block.new.reader c.in-Here.is refl false c.requires.next
     (found_none c.in-Here.reader c.read_block.new.reader c.in_default-read_block.ensures.tried
-    (c.in_default-read_block.ensures.none refl) c.in_default-read_block.ensures.header) c.in_default-read_block.ensures.tried.cleared refl refl
-    refl refl
+    (c.in_default-read_block.ensures.none refl) c.in_default-read_block.ensures.header)
+    c.in_default-read_block.ensures.tried.cleared refl refl refl refl
 
 pub feed_engine-requires : goal.feed_engine-requires
 feed_engine-requires c =
@@ -76,7 +76,8 @@ returns c =
       on = on_fed hdu x _ c.in-Here.reader c.clear.new.pass c.in-Here.is refl c.ends_are_counted.ensures
           c.entries_are_of_transfers.ensures block cleared.more fits c.requires.on fed c.clear.ensures.ring refl refl
           c.requires.running done (ended_as c.ends_stream-self.result c.len.result
-          (length (take (length old) (new ++ drop (length new) old))) (x.done + c.ended_with.result) c.in-Some.taken.mark
+          (length (take (length old) (new ++ drop (length new) old)))
+          (x.done + c.ended_with.result) c.in-Some.taken.mark
           block.mark c.ends_stream-self.ensures c.len.ensures.value b.1.mark);
       stepped = stepped_fed hdu x _ c.in-Here.reader c.clear.new.pass c.in-Here.is refl c.ends_are_counted.ensures
           c.entries_are_of_transfers.ensures block cleared.more fits c.requires.on fed false c.requires.next
