@@ -2,7 +2,7 @@
 ghost use Rattle.std.specs.Prelude.{◌≡◌, ◌≢◌, ℕ, ◌+◌, ◌/◌, ◌^◌, ◌<◌, ◌≤◌, true, List, length, map, string_bytes, None, Some, Ok, Err, [], take, IfOk, IfErr, OnOk, OnErr, IsSome, slice_get};
 ghost use Rattle.dada_model.specs.Fields.{fields_of};
 ghost use Rattle.dada_model.specs.Observation.{observation_of};
-ghost use Rattle.psr_base.specs.Count.{Rose};
+ghost use Rattle.psr_base.specs.Inputs.{HasReadFrom};
 ghost use Rattle.psr_base.specs.Told.{OfFile};
 ghost use Rattle.stream_model.specs.WalkLaws.{AreStarts};
 ghost use Rattle.dada_hdu.specs.Passes.{WritesBoth};
@@ -88,14 +88,8 @@ impl<'a, I: Inputs> Feeder<'a, I> {
         ensures left { OnOk result (FirstsLeft (I.told self.old.inputs.now) self.old
             (I.told self.new.inputs.now)) }
         ensures refused { IfErr result (RefusesAt (I.told self.old.inputs.now) self.old) }
-        ensures quiet { result ≢ Err FeedFault.ReadFault
-            → I.faults self.new.inputs.now ≡ I.faults self.old.inputs.now }
-        ensures failed { result ≡ Err FeedFault.ReadFault
-            → Rose (I.faults self.old.inputs.now) (I.faults self.new.inputs.now) }
-        ensures names { (I.told self.new.inputs.now).bytes_under
-            ≡ (I.told self.old.inputs.now).bytes_under }
-        ensures count { I.faults self.old.inputs.now ≤ I.faults self.new.inputs.now }
-        ensures calm { I.is_calm self.old.inputs.now → I.is_calm self.new.inputs.now }
+        ensures inputs { HasReadFrom I.told I.is_calm I.faults (result ≡ Err FeedFault.ReadFault)
+            self.old.inputs.now self.new.inputs.now }
         ensures serves { I.is_calm self.old.inputs.now
             → HoldsAll (I.told self.old.inputs.now) (names_at self.old)
             → result ≢ Err FeedFault.ReadFault }

@@ -1,6 +1,6 @@
 //! The data of the files, one transfer after another.
 ghost use Rattle.std.specs.Prelude.{◌≡◌, ◌≢◌, ◌≤◌, ◌<◌, ◌+◌, ◌^◌, ℕ, List, [], true, false, length, vec_len, slice_index_or, Some, None, Ok, Err, IfOk, IfErr, OnOk, OnErr, IsOk, IsSome, MatchResult, slice_get};
-ghost use Rattle.psr_base.specs.Count.{Rose};
+ghost use Rattle.psr_base.specs.Inputs.{HasReadFrom};
 ghost use Rattle.psr_base.specs.Told.{OfFile, left_to_read};
 ghost use Rattle.dada_model.specs.Fields.{header_of, fields_of};
 ghost use Rattle.obs_plan.specs.Later.{later_offset_of};
@@ -125,13 +125,8 @@ impl<'a> Source<'a> {
             (first_name self.old transfer) (λ file. RefusesFirst file
             (begin_at self.old.starts.now (length self.old.names.now) transfer) fault)) }
         ensures is_open { OnOk result (I.is_open inputs.new) }
-        ensures quiet { result ≢ Err FeedFault.ReadFault
-            → I.faults inputs.new ≡ I.faults inputs.old }
-        ensures failed { result ≡ Err FeedFault.ReadFault
-            → Rose (I.faults inputs.old) (I.faults inputs.new) }
-        ensures names { (I.told inputs.new).bytes_under ≡ (I.told inputs.old).bytes_under }
-        ensures count { I.faults inputs.old ≤ I.faults inputs.new }
-        ensures calm { I.is_calm inputs.old → I.is_calm inputs.new }
+        ensures inputs { HasReadFrom I.told I.is_calm I.faults (result ≡ Err FeedFault.ReadFault)
+            inputs.old inputs.new }
         ensures serves { I.is_calm inputs.old
             → IsSome ((I.told inputs.old).bytes_under (first_name self.old transfer))
             → result ≢ Err FeedFault.ReadFault }
@@ -158,13 +153,8 @@ impl<'a> Source<'a> {
             (length self.old.starts.now) (I.told inputs.new)) }
         ensures refused { IfErr result (RefusesSome (I.told inputs.old) self.old) }
         ensures is_open { OnOk result (I.is_open inputs.new) }
-        ensures quiet { result ≢ Err FeedFault.ReadFault
-            → I.faults inputs.new ≡ I.faults inputs.old }
-        ensures failed { result ≡ Err FeedFault.ReadFault
-            → Rose (I.faults inputs.old) (I.faults inputs.new) }
-        ensures names { (I.told inputs.new).bytes_under ≡ (I.told inputs.old).bytes_under }
-        ensures count { I.faults inputs.old ≤ I.faults inputs.new }
-        ensures calm { I.is_calm inputs.old → I.is_calm inputs.new }
+        ensures inputs { HasReadFrom I.told I.is_calm I.faults (result ≡ Err FeedFault.ReadFault)
+            inputs.old inputs.new }
         ensures serves { I.is_calm inputs.old
             → HoldsAll (I.told inputs.old) (plan_of self.old).names
             → result ≢ Err FeedFault.ReadFault }
@@ -248,13 +238,8 @@ impl<'a> Source<'a> {
             (λ file. RefusesText file self.old.place.file end)) }
         ensures early { IfErr result (IsEarly (plan_of self.old)) }
         ensures is_open { OnOk result (I.is_open inputs.new) }
-        ensures quiet { result ≢ Err FeedEnd.ReadFault
-            → I.faults inputs.new ≡ I.faults inputs.old }
-        ensures failed { result ≡ Err FeedEnd.ReadFault
-            → Rose (I.faults inputs.old) (I.faults inputs.new) }
-        ensures names { (I.told inputs.new).bytes_under ≡ (I.told inputs.old).bytes_under }
-        ensures count { I.faults inputs.old ≤ I.faults inputs.new }
-        ensures calm { I.is_calm inputs.old → I.is_calm inputs.new }
+        ensures inputs { HasReadFrom I.told I.is_calm I.faults (result ≡ Err FeedEnd.ReadFault)
+            inputs.old inputs.new }
         ensures serves { I.is_calm inputs.old
             → IsSome ((I.told inputs.old).bytes_under (current_name self.old))
             → result ≢ Err FeedEnd.ReadFault }
@@ -298,13 +283,8 @@ impl<'a> Source<'a> {
             (I.told inputs.new) result }
         ensures early { IfErr result (IsEarly (plan_of self.old)) }
         ensures is_open { OnOk result (I.is_open inputs.new) }
-        ensures quiet { result ≢ Err FeedEnd.ReadFault
-            → I.faults inputs.new ≡ I.faults inputs.old }
-        ensures failed { result ≡ Err FeedEnd.ReadFault
-            → Rose (I.faults inputs.old) (I.faults inputs.new) }
-        ensures names { (I.told inputs.new).bytes_under ≡ (I.told inputs.old).bytes_under }
-        ensures count { I.faults inputs.old ≤ I.faults inputs.new }
-        ensures calm { I.is_calm inputs.old → I.is_calm inputs.new }
+        ensures inputs { HasReadFrom I.told I.is_calm I.faults (result ≡ Err FeedEnd.ReadFault)
+            inputs.old inputs.new }
         ensures serves { I.is_calm inputs.old
             → IsSome ((I.told inputs.old).bytes_under (current_name self.old))
             → result ≢ Err FeedEnd.ReadFault }
@@ -403,13 +383,8 @@ impl<'a> Source<'a> {
             self.new.place (I.told inputs.new) into.new result }
         ensures early { IfErr result (IsEarly (plan_of self.old)) }
         ensures is_open { I.is_open inputs.new }
-        ensures quiet { result ≢ Err FeedEnd.ReadFault
-            → I.faults inputs.new ≡ I.faults inputs.old }
-        ensures failed { result ≡ Err FeedEnd.ReadFault
-            → Rose (I.faults inputs.old) (I.faults inputs.new) }
-        ensures names { (I.told inputs.new).bytes_under ≡ (I.told inputs.old).bytes_under }
-        ensures count { I.faults inputs.old ≤ I.faults inputs.new }
-        ensures calm { I.is_calm inputs.old → I.is_calm inputs.new }
+        ensures inputs { HasReadFrom I.told I.is_calm I.faults (result ≡ Err FeedEnd.ReadFault)
+            inputs.old inputs.new }
         ensures serves { I.is_calm inputs.old → result ≢ Err FeedEnd.ReadFault }
     {
         files_are_in_transfers();
@@ -458,13 +433,8 @@ impl<'a> Source<'a> {
             self.new.place (I.told inputs.new) into.new result }
         ensures early { IfErr result (IsEarly (plan_of self.old)) }
         ensures is_open { self.new.place.is_open ≡ true → I.is_open inputs.new }
-        ensures quiet { result ≢ Err FeedEnd.ReadFault
-            → I.faults inputs.new ≡ I.faults inputs.old }
-        ensures failed { result ≡ Err FeedEnd.ReadFault
-            → Rose (I.faults inputs.old) (I.faults inputs.new) }
-        ensures names { (I.told inputs.new).bytes_under ≡ (I.told inputs.old).bytes_under }
-        ensures count { I.faults inputs.old ≤ I.faults inputs.new }
-        ensures calm { I.is_calm inputs.old → I.is_calm inputs.new }
+        ensures inputs { HasReadFrom I.told I.is_calm I.faults (result ≡ Err FeedEnd.ReadFault)
+            inputs.old inputs.new }
         ensures serves { I.is_calm inputs.old
             → IsSome ((I.told inputs.old).bytes_under (current_name self.old))
             → result ≢ Err FeedEnd.ReadFault }

@@ -1,6 +1,6 @@
 //! The blocks of the files' data: one is filled, and kept until it is sealed.
 ghost use Rattle.std.specs.Prelude.{◌≡◌, ◌≢◌, ◌≤◌, ◌<◌, ◌+◌, ◌-◌, ℕ, List, ◌++◌, true, false, length, take, drop, Some, None, Ok, Err, IfOk, IfErr, OnOk, OnErr, MatchResult, IsSome, All, ◌^◌, slice_get};
-ghost use Rattle.psr_base.specs.Count.{Rose};
+ghost use Rattle.psr_base.specs.Inputs.{HasReadFrom};
 ghost use Rattle.disk_feeder.specs.Plan.{AreAccepted, begin_at};
 ghost use Rattle.disk_feeder.specs.Sources.{plan_of, current_name, IsEarly, ends_left};
 ghost use Rattle.dada_hdu.specs.Passes.{WritesBoth, data_shape};
@@ -46,13 +46,8 @@ fn read_behind<I: Inputs>(
         source.new.place (I.told inputs.new) held block.old block.new result }
     ensures early { IfErr result (IsEarly (plan_of source.old)) }
     ensures is_open { source.new.place.is_open ≡ true → I.is_open inputs.new }
-    ensures quiet { result ≢ Err FeedEnd.ReadFault
-        → I.faults inputs.new ≡ I.faults inputs.old }
-    ensures failed { result ≡ Err FeedEnd.ReadFault
-        → Rose (I.faults inputs.old) (I.faults inputs.new) }
-    ensures names { (I.told inputs.new).bytes_under ≡ (I.told inputs.old).bytes_under }
-    ensures count { I.faults inputs.old ≤ I.faults inputs.new }
-    ensures calm { I.is_calm inputs.old → I.is_calm inputs.new }
+    ensures inputs { HasReadFrom I.told I.is_calm I.faults (result ≡ Err FeedEnd.ReadFault)
+        inputs.old inputs.new }
     ensures serves { I.is_calm inputs.old
         → IsSome ((I.told inputs.old).bytes_under (current_name source.old))
         → result ≢ Err FeedEnd.ReadFault }
@@ -129,13 +124,8 @@ impl<'a> Stream<'a> {
         ensures refused { IfErr result (RefusesSome (I.told inputs.old) self.old.source) }
         ensures is_open { OnOk result
             (self.new.source.place.is_open ≡ true → I.is_open inputs.new) }
-        ensures quiet { result ≢ Err FeedFault.ReadFault
-            → I.faults inputs.new ≡ I.faults inputs.old }
-        ensures failed { result ≡ Err FeedFault.ReadFault
-            → Rose (I.faults inputs.old) (I.faults inputs.new) }
-        ensures names { (I.told inputs.new).bytes_under ≡ (I.told inputs.old).bytes_under }
-        ensures count { I.faults inputs.old ≤ I.faults inputs.new }
-        ensures calm { I.is_calm inputs.old → I.is_calm inputs.new }
+        ensures inputs { HasReadFrom I.told I.is_calm I.faults (result ≡ Err FeedFault.ReadFault)
+            inputs.old inputs.new }
         ensures serves { I.is_calm inputs.old
             → HoldsAll (I.told inputs.old) (plan_of self.old.source).names
             → result ≢ Err FeedFault.ReadFault }
@@ -199,13 +189,8 @@ impl<'a> Stream<'a> {
         ensures filled { Fills self.old (I.told inputs.old) self.new (I.told inputs.new) }
         ensures progress { self.new.due ≡ None → work_left self.new < work_left self.old }
         ensures is_open { self.new.source.place.is_open ≡ true → I.is_open inputs.new }
-        ensures quiet { self.new.due ≢ Some (Due.Stopped FeedEnd.ReadFault)
-            → I.faults inputs.new ≡ I.faults inputs.old }
-        ensures failed { self.new.due ≡ Some (Due.Stopped FeedEnd.ReadFault)
-            → Rose (I.faults inputs.old) (I.faults inputs.new) }
-        ensures names { (I.told inputs.new).bytes_under ≡ (I.told inputs.old).bytes_under }
-        ensures count { I.faults inputs.old ≤ I.faults inputs.new }
-        ensures calm { I.is_calm inputs.old → I.is_calm inputs.new }
+        ensures inputs { HasReadFrom I.told I.is_calm I.faults
+            (self.new.due ≡ Some (Due.Stopped FeedEnd.ReadFault)) inputs.old inputs.new }
         ensures serves { I.is_calm inputs.old
             → HoldsAll (I.told inputs.old) (plan_of self.old.source).names
             → self.new.due ≢ Some (Due.Stopped FeedEnd.ReadFault) }

@@ -1,6 +1,7 @@
 -- What the outside objects tell, and what their calls do to it.
 pub mod Count
 pub mod Told
+pub mod Inputs
 pub mod Written
 pub mod Made
 pub mod NamedFiles

@@ -1,5 +1,5 @@
 -- The sample, computed.
-use Rattle.std.proofs.Common.{◌≡◌, ℕ, List, [], ◌∷◌, Ok, Some, true, false, refl, ap, subst, ◌∙◌, arith, zero, suc, ◌<◌, slice_index_or}
+use Rattle.std.proofs.Common.{◌≡◌, ℕ, List, [], ◌∷◌, Ok, Some, false, refl, ap, subst, ◌∙◌, arith, zero, suc, ◌<◌, slice_index_or}
 use Rattle.std.specs.Prelude.{codes}
 use Rattle.std.specs.Fmt.{digits}
 use Rattle.psr_base.specs.Told.{Told}

@@ -1,5 +1,4 @@
 pub mod First
-pub mod Inputs
 pub mod Plans
 pub mod Recordings
 pub mod Offsets

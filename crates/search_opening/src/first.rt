@@ -1,12 +1,12 @@
 // The first headers of all transfers, and their observations.
 ghost use Rattle.std.specs.Prelude.{◌≡◌, ◌≢◌, ◌≤◌, Err, IfOk, IfErr, OnOk, length};
+ghost use Rattle.psr_base.specs.Inputs.{HasReadFrom};
 ghost use Rattle.stream_model.specs.WalkLaws.{AreStarts};
 ghost use Rattle.disk_feeder.specs.Feeder.{IsFresh, IsBegun, SamePlan, HasOpenFile, header_at, names_at, plan_at};
 ghost use Rattle.disk_feeder.specs.Filling.{HoldsAll};
 ghost use Rattle.run_stop.specs.Firsts.{LeavesData};
 ghost use Rattle.run_stop.specs.Ends.{ComesBefore};
 ghost use Rattle.search_opening.specs.First.{OfFiles, AreFirsts, AreHeadersOf, StopsFirsts, AreObserved, RefusesTransferHeader};
-ghost use Rattle.search_opening.specs.Inputs.{HasReadFrom};
 
 use arrayvec::ArrayVec;
 use disk_feeder::Feeder;

@@ -1,10 +1,10 @@
 // What comes before the session of a run.
 ghost use Rattle.std.specs.Prelude.{◌≡◌, ◌≢◌, false, true, Err, IfOk, IfErr, OnOk};
+ghost use Rattle.psr_base.specs.Inputs.{HasReadFrom};
 ghost use Rattle.search_words.specs.Settings.{AllInRange, settings_seen};
 ghost use Rattle.disk_feeder.specs.Feeder.{HasPlan, IsFresh, IsBegun, HasOpenFile, header_at};
 ghost use Rattle.disk_feeder.specs.Filling.{HoldsAll};
 ghost use Rattle.search_opening.specs.First.{AreFirsts, AreHeadersOf, AreObserved};
-ghost use Rattle.search_opening.specs.Inputs.{HasReadFrom};
 ghost use Rattle.run_stop.specs.Firsts.{LeavesData};
 ghost use Rattle.whole_run.specs.Wholes.{task_of, OfRun};
 ghost use Rattle.whole_run.specs.Openings.{StopsEarly, IsOpened};

@@ -1,9 +1,9 @@
 // A run from its settings to the end of its session.
 ghost use Rattle.std.specs.Prelude.{◌≡◌, ℕ, true, false, Err, IfOk, IfErr, OnErr};
+ghost use Rattle.psr_base.specs.Inputs.{HasReadFrom};
 ghost use Rattle.search_words.specs.Settings.{AllInRange, settings_seen};
 ghost use Rattle.disk_feeder.specs.declared.answers.FeedEnd.TheVariants.{Whole};
 ghost use Rattle.disk_feeder.specs.Filling.{HoldsAll};
-ghost use Rattle.search_opening.specs.Inputs.{HasReadFrom};
 ghost use Rattle.run_stop.specs.Ends.{StopsBefore, IsRunFed, IsRecorded};
 ghost use Rattle.run_stop.specs.Outcomes.{ReadsNoData};
 ghost use Rattle.run_stop.specs.Runs.{Searching};

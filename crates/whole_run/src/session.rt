@@ -1,11 +1,11 @@
 // The session of a run.
 ghost use Rattle.std.specs.Prelude.{◌≡◌, ◌≢◌, ℕ, List, Some};
 ghost use Rattle.std.specs.Borrow.{MutBor};
+ghost use Rattle.psr_base.specs.Inputs.{HasReadFrom};
 ghost use Rattle.search_words.specs.Settings.{SettingsSeen};
 ghost use Rattle.disk_feeder.specs.declared.answers.FeedEnd.TheVariants.{ReadFault};
 ghost use Rattle.disk_feeder.specs.Feeder.{names_at};
 ghost use Rattle.disk_feeder.specs.Filling.{HoldsAll};
-ghost use Rattle.search_opening.specs.Inputs.{HasReadFrom};
 ghost use Rattle.run_stop.specs.Runs.{Task};
 ghost use Rattle.whole_run.specs.Openings.{IsOpened, RecordsReady, SearchesReady};
 ghost use Rattle.whole_run.specs.Ends.{IsFoundOf, GoesThrough};

@@ -117,7 +117,7 @@ returns-in-Ok-judge-clause-read g c = λ before current has.
     let told = g.I.Inputs.told c.args.inputs.now in
     let told' = g.I.Inputs.told c.open_file.new.inputs in
     let o : Opens plan told told' at =
-    opens source told told' c.requires.shut c.requires.there c.requires.more c.open_file.ensures.names in
+    opens source told told' c.requires.shut c.requires.there c.requires.more c.open_file.ensures.inputs.names in
     let first = c.first.result in
     let there = first_is source new first c.in-Ok.ensures.plan c.in-Ok.ensures.place c.first.ensures in
     record {
@@ -148,7 +148,7 @@ returns-in-Err-judge-clause-read g c = λ before current has room files are.
     let told = g.I.Inputs.told c.args.inputs.now in
     let told' = g.I.Inputs.told c.open_file.new.inputs in
     let o : Opens plan told told' at =
-    opens source told told' c.requires.shut c.requires.there c.requires.more c.open_file.ensures.names in
+    opens source told told' c.requires.shut c.requires.there c.requires.more c.open_file.ensures.inputs.names in
     let first = c.first.result in
     let there = first_is source new first c.in-Ok.ensures.plan c.in-Ok.ensures.place c.first.ensures in
     let file = file_at (stream_of plan files) at.file in
@@ -172,7 +172,7 @@ returns-in-Err-clause-read g c = λ before current has room files are.
     let told = g.I.Inputs.told c.args.inputs.now in
     let told' = g.I.Inputs.told c.open_file.new.inputs in
     let o : Opens plan told told' at =
-    opens source told told' c.requires.shut c.requires.there c.requires.more c.open_file.ensures.names in
+    opens source told told' c.requires.shut c.requires.there c.requires.more c.open_file.ensures.inputs.names in
     by_text plan told told' at before current o has c.files_are_in_transfers.ensures c.first_stop_counts.ensures
     c.data_join.ensures c.walk_goes_on.ensures room files are c.in-Err.end
     (c.in-Err.ensures.stopped (file_at (stream_of plan files) at.file) (known_at plan told told' at files o are))

@@ -58,10 +58,10 @@ loop-transfer-preserved g c =
           c.in-Ok.ensures.left file (told_still old now told told' k t file before.kept before.names (omega arith)
           known);
       is_open = λ some. c.in-Ok.ensures.is_open;
-      names = c.read_first.ensures.names ∙ before.names;
-      quiet = c.in-Ok.ensures.quiet (λ e. absurd cc) ∙ before.quiet;
-      count = omega (arith, before.count, c.read_first.ensures.count);
-      calm = λ calm. c.read_first.ensures.calm (before.calm calm);
+      names = c.read_first.ensures.inputs.names ∙ before.names;
+      quiet = c.in-Ok.ensures.inputs.quiet (λ e. absurd cc) ∙ before.quiet;
+      count = omega (arith, before.count, c.read_first.ensures.inputs.count);
+      calm = λ calm. c.read_first.ensures.inputs.calm (before.calm calm);
     }
 
 pub returns-in-Err-clause-refused : goal.returns-in-Err-clause-refused

@@ -33,15 +33,15 @@ loop-self-preserved g c =
       kept = keeps c.args.self.now c.loop-self.self c.step.new.self before.kept c.step.ensures.kept;
       filled = λ blocks was. c.step.ensures.filled blocks (before.filled blocks was);
       is_open = c.step.ensures.is_open;
-      count = let a = before.count in let b = c.step.ensures.count in omega arith;
-      quiet = λ fine. c.step.ensures.quiet fine ∙ before.quiet (not_due c.loop-self.self.due c.in_default.is);
+      count = let a = before.count in let b = c.step.ensures.inputs.count in omega arith;
+      quiet = λ fine. c.step.ensures.inputs.quiet fine ∙ before.quiet (not_due c.loop-self.self.due c.in_default.is);
       since = λ k was.
           since_more k (i.faults c.loop-self.inputs) (i.faults c.step.new.inputs) c.loop-self.self.due
-          c.step.new.self.due c.loop-self.self.end c.step.new.self.end (before.since k was) c.step.ensures.count
-          c.in_default.is (before.kept.end ∙ c.requires.running) c.step.ensures.kept.end c.step.ensures.failed
-          c.step.ensures.quiet;
-      names = c.step.ensures.names ∙ before.names;
-      calm = λ h. c.step.ensures.calm (before.calm h);
+          c.step.new.self.due c.loop-self.self.end c.step.new.self.end (before.since k was) c.step.ensures.inputs.count
+          c.in_default.is (before.kept.end ∙ c.requires.running) c.step.ensures.kept.end c.step.ensures.inputs.rose
+          c.step.ensures.inputs.quiet;
+      names = c.step.ensures.inputs.names ∙ before.names;
+      calm = λ h. c.step.ensures.inputs.calm (before.calm h);
       serves = λ calm holds fine.
           c.step.ensures.serves (before.calm calm)
           (holds_still (i.told c.args.inputs.now) (i.told c.loop-self.inputs) (plan_of c.args.self.now.source).names
