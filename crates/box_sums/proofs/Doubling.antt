@@ -1,13 +1,13 @@
 -- Boxes twice as wide are two boxes each.
-use Rattle.std.proofs.Common.{◌≡◌, ℕ, ◌+◌, ◌-◌, ◌*◌, ◌%◌, ◌^◌, ◌<◌, ◌≤◌, inl, inr, List, length, slice_index, sum_by, take, drop, ◌++◌, ◌∙◌, sym, ap, subst, arith, length-drop}
+use Rattle.std.proofs.Common.{◌≡◌, ℕ, ◌+◌, ◌-◌, ◌*◌, ◌%◌, ◌^◌, ◌<◌, ◌≤◌, ◌≢◌, inl, inr, List, length, slice_index, set, sum_by, take, drop, ◌++◌, ◌∙◌, sym, ap, subst, arith, length-drop}
 use Rattle.std.proofs.lemmas.Bool.{cases_lt}
-use Rattle.std.proofs.lemmas.List.{take-take, drop-drop, drop-take, get_or-drop, get_or_append_left}
+use Rattle.std.proofs.lemmas.List.{take-take, drop-drop, drop-take, get_or-drop, get_or_append_left, get_or-set_same, get_or-set_other}
 use Rattle.std.proofs.lemmas.List.Sums.{sum_by-take-drop, sum_by-take-le, sum_by_more}
 use Rattle.std.proofs.lemmas.Nat.{pow-add, pow_pos}
 use Rattle.std.proofs.Math.Nat.{mod-eq_of_lt, mul-le-mul_right}
 use Rattle.std.proofs.Math.Pow.{pow_mono}
 use Rattle.fdmt_rows.specs.Rows.{sum_from, wrapping_sum}
-use Rattle.box_sums.specs.Tables.{AreBoxes}
+use Rattle.box_sums.specs.Tables.{AreBoxes, AreBounds}
 
 pub two_boxes : (row : List ℕ) (k n m : ℕ) → sum_from row k (n + m) ≡ sum_from row k n + sum_from row (k + n) m
 two_boxes row k n m =
@@ -61,6 +61,29 @@ level_more old new row stride level levels width total count more is short is_co
           ∙ are level (i + 2 ^ level) (omega arith) (omega arith))
           ∙ ap (λ x. x % 2 ^ 32) both
           ∙ mod-eq_of_lt (let lt : sum_from row i (2 ^ (level + 1)) < 2 ^ 32 = omega arith in lt))
+    ]
+
+-- the greatest of a level more
+pub bounds_more : (boxes row bounds : List ℕ) (stride level width total most : ℕ)
+    → width ≡ 2 ^ level → level + 1 < length bounds → AreBoxes boxes stride (level + 1) row total
+    → ((i : ℕ) → i < total + 1 - 2 * width → slice_index boxes ((level + 1) * stride + i) ≤ most)
+    → AreBounds bounds level row total → AreBounds (set bounds (level + 1) most) (level + 1) row total
+bounds_more boxes row bounds stride level width total most is inside are bound so_far m i some le room =
+    let twice : 2 ^ (level + 1) ≡ 2 ^ level + 2 ^ level = pow-add 2 level 1 ∙ omega arith in
+    elim (cases_lt m (level + 1)) [
+      | inl h ↦
+          let other : m ≢ level + 1 = omega arith in
+          let same = get_or-set_other bounds (level + 1) m most 0 other in
+          let b = so_far m i some (omega arith) room in
+          omega (arith, same, b)
+      | inr h ↦
+          let is_top : level + 1 ≡ m = omega arith in
+          let top : i + 2 ^ (level + 1) ≤ total = subst (λ (m : ℕ). i + 2 ^ m ≤ total) (sym is_top) room in
+          let same = get_or-set_same bounds (level + 1) most 0 inside in
+          let box = are (level + 1) i (omega arith) top in
+          let b = bound i (omega arith) in
+          subst (λ (m : ℕ). sum_from row i (2 ^ m) ≤ slice_index (set bounds (level + 1) most) m) is_top
+          (omega (arith, same, box, b))
     ]
 
 -- the boxes of one value

@@ -10,8 +10,8 @@ use Rattle.std.proofs.Math.Nat.{mul-le-mul_right}
 use Rattle.fdmt_rows.specs.Rows.{sum_from}
 use Rattle.box_sums.specs.Tails.{row_at}
 use Rattle.box_sums.specs.Rows.{sum_ending, Keeps}
-use Rattle.box_sums.specs.Tables.{AreBoxes, AreUpTo}
-use Rattle.box_sums.proofs.Parts.{part_small, part_at}
+use Rattle.box_sums.specs.Tables.{AreBounds, AreUpTo}
+use Rattle.box_sums.proofs.Parts.{part_small}
 use Rattle.box_sums.proofs.Ending.{box_is_ending}
 
 pub feeds : (old new feed xs : List ℕ) (reach n : ℕ) → Keeps old reach n xs
@@ -120,24 +120,26 @@ level_le m levels widest narrow is = elim (cases_lt levels m) [
   | inr h ↦ h
 ]
 
-pub fed_boxes : (boxes new kept table fed values : List ℕ) (stride at reach n levels widest m : ℕ)
-    → boxes ≡ new → kept ≡ table → at < length fed → reach + n ≤ stride
+pub fed_bounds : (bounds new kept table fed values : List ℕ) (stride at reach n levels widest m : ℕ)
+    → bounds ≡ new → kept ≡ table → at < length fed → reach + n ≤ stride
     → values ≡ take (reach + n) (drop (at * stride) table) → length values ≡ reach + n
     → 2 ^ levels ≡ widest → 2 ^ m ≤ widest
-    → AreBoxes new stride levels values (length values)
-    → AreBoxes boxes stride m (row_at kept stride at) (reach + slice_index (set fed at n) at)
-fed_boxes boxes new kept table fed values stride at reach n levels widest m same_boxes same_kept inside short
-    is_values long is_widest narrow are m' i le room =
+    → AreBounds new levels values (length values)
+    → AreBounds bounds m (row_at kept stride at) (reach + slice_index (set fed at n) at)
+fed_bounds bounds new kept table fed values stride at reach n levels widest m same_bounds same_kept inside short
+    is_values long is_widest narrow are m' i some le room =
     let count : slice_index (set fed at n) at ≡ n = get_or-set_same fed at n 0 inside in
     let lower = level_le m levels widest narrow is_widest in
     let part = drop (at * stride) table in
     let fits : i + 2 ^ m' ≤ reach + n = omega (arith, room, count) in
-    ap (λ xs. slice_index xs (m' * stride + i)) same_boxes
-    ∙ are m' i (omega (arith, le, lower)) (omega (arith, fits, long))
-    ∙ ap (λ xs. sum_from xs i (2 ^ m')) is_values
+    let sum_is : sum_from values i (2 ^ m') ≡ sum_from (row_at kept stride at) i (2 ^ m') =
+    ap (λ xs. sum_from xs i (2 ^ m')) is_values
     ∙ ap (λ xs. sum xs) (inner_part (reach + n) i (2 ^ m') part fits)
     ∙ ap (λ xs. sum xs) (sym (inner_part stride i (2 ^ m') part (omega arith)))
-    ∙ ap (λ xs. sum_from (row_at xs stride at) i (2 ^ m')) (sym same_kept)
+    ∙ ap (λ xs. sum_from (row_at xs stride at) i (2 ^ m')) (sym same_kept) in
+    subst (λ (x : ℕ). x ≤ slice_index bounds m') sum_is
+    (subst (λ (xs : List ℕ). sum_from values i (2 ^ m') ≤ slice_index xs m') (sym same_bounds)
+    (are m' i some (omega (arith, le, lower)) (omega (arith, fits, long))))
 
 pub box_read : (table xs : List ℕ) (stride at reach n k w : ℕ)
     → Keeps (row_at table stride at) reach n xs → k < n → w ≤ reach + 1 → reach + n ≤ stride
@@ -150,18 +152,16 @@ box_read table xs stride at reach n k w keeps lt narrow short =
     ∙ ap (λ ys. sum ys) (sym (inner_part stride start w (drop (at * stride) table) (omega arith)))
     ∙ box_is_ending (row_at table stride at) xs reach n k w keeps lt narrow
 
-pub row_read : (boxes kept xs : List ℕ) (stride at reach n k w level count : ℕ)
-    → 2 ^ level ≡ w → AreBoxes boxes stride level (row_at kept stride at) (reach + n)
-    → Keeps (row_at kept stride at) reach n xs → k < n → n ≡ count → w ≤ reach + 1
-    → slice_index (take count (drop (level * stride + (reach + 1 - w)) boxes)) k ≡ sum_ending xs (length xs - n + k) w
-row_read boxes kept xs stride at reach n k w level count power are keeps lt same narrow =
+pub bound_read : (bounds kept xs : List ℕ) (stride at reach n k w level : ℕ)
+    → 2 ^ level ≡ w → 1 ≤ level → AreBounds bounds level (row_at kept stride at) (reach + n)
+    → Keeps (row_at kept stride at) reach n xs → k < n → w ≤ reach + 1
+    → sum_ending xs (length xs - n + k) w ≤ slice_index bounds level
+bound_read bounds kept xs stride at reach n k w level power some are keeps lt narrow =
     let start : ℕ = reach + 1 - w + k in
-    part_at (level * stride + (reach + 1 - w)) count boxes k (omega arith)
-    ∙ ap (λ m. slice_index boxes m) (let e : level * stride +
-    (reach + 1 - w) + k ≡ level * stride + start = omega arith in e)
-    ∙ are level start (omega arith) (omega (arith, power))
-    ∙ ap (λ m. sum_from (row_at kept stride at) start m) power
-    ∙ box_is_ending (row_at kept stride at) xs reach n k w keeps lt narrow
+    subst (λ (x : ℕ). x ≤ slice_index bounds level)
+    (ap (λ m. sum_from (row_at kept stride at) start m) power
+    ∙ box_is_ending (row_at kept stride at) xs reach n k w keeps lt narrow)
+    (are level start some (omega arith) (omega (arith, power)))
 
 pub drop_small : (bound n : ℕ) (xs : List ℕ) → AreUpTo bound xs → AreUpTo bound (drop n xs)
 drop_small bound n xs small k = subst (λ (x : ℕ). x ≤ bound) (sym (get_or-drop n xs k 0)) (small (n + k))

@@ -7,7 +7,7 @@ use Rattle.search_model.specs.Search.{longest_chunk}
 use Rattle.fdmt_rows.specs.Rows.{sum_from}
 use Rattle.box_sums.specs.Tails.{row_at}
 use Rattle.box_sums.specs.Rows.{Keeps, IsWidth}
-use Rattle.box_sums.specs.Tables.{AreBoxes, AreUpTo, TablesAreSound}
+use Rattle.box_sums.specs.Tables.{AreBounds, AreUpTo, TablesAreSound}
 use Rattle.box_sums.proofs.Parts.{part_length, part_at, part_small, same_values}
 use Rattle.box_sums.proofs.Feeding.{sum_bound}
 
@@ -42,19 +42,19 @@ zeros_keep n m stride at reach room short =
           ∙ sym (ap (λ ys. slice_index ys k) back ∙ zero_at reach k));
     })
 
-pub zero_boxes : (n rows stride at total m : ℕ)
-    → AreBoxes (replicate n 0) stride m (row_at (replicate rows 0) stride at) total
-zero_boxes n rows stride at total m m' i le room =
+pub zero_bounds : (n rows stride at total m : ℕ)
+    → AreBounds (replicate n 0) m (row_at (replicate rows 0) stride at) total
+zero_bounds n rows stride at total m m' i some le room =
     let row = row_at (replicate rows 0) stride at in
     let small = part_small 0 (at * stride) stride (replicate rows 0) (zeros_are_small 0 rows) in
     let none = sum_bound 0 (2 ^ m') (drop i row) (λ k. subst (λ (x : ℕ). x ≤ 0) (sym (get_or-drop i row k 0))
     (small (i + k))) in
-    zero_at n (m' * stride + i) ∙ (let zero : 0 ≡ sum_from row i (2 ^ m') = omega (arith, none) in zero)
+    let zero : sum_from row i (2 ^ m') ≤ slice_index (replicate n 0) m' = omega (arith, none) in zero
 
 pub zeros_sound : (first last chunk widest bound : ℕ)
     → first ≤ last → last ≤ most_delay → 1 ≤ chunk → chunk ≤ longest_chunk → IsWidth widest → bound * widest < 2 ^ 32
     → TablesAreSound first last chunk widest bound first (replicate (last - first + 1) 0)
-    (replicate ((last - first + 1) * (widest - 1 + chunk)) 0) (replicate (6 * (widest - 1 + chunk)) 0)
+    (replicate ((last - first + 1) * (widest - 1 + chunk)) 0) (replicate (6 * (widest - 1 + chunk)) 0) (replicate 6 0)
 zeros_sound first last chunk widest bound order few some most width fits =
     let stride : ℕ = widest - 1 + chunk in
     let rows : ℕ = last - first + 1 in
@@ -70,8 +70,9 @@ zeros_sound first last chunk widest bound order few some most width fits =
       fed_room = length-replicate {A = ℕ} rows 0;
       kept_room = length-replicate {A = ℕ} (rows * stride) 0;
       boxes_room = length-replicate {A = ℕ} (6 * stride) 0;
+      greatest_room = length-replicate {A = ℕ} 6 0;
       short = zeros_are_small chunk rows;
       small = zeros_are_small bound (rows * stride);
-      sums = λ m narrow. zero_boxes (6 * stride) (rows * stride) stride (first - first)
+      bounds = λ m narrow. zero_bounds 6 (rows * stride) stride (first - first)
           (widest - 1 + slice_index (replicate rows 0) (first - first)) m;
     }

@@ -16,9 +16,15 @@ abbrev pub AreBoxes : List ℕ → ℕ → ℕ → List ℕ → ℕ → Type 0
 AreBoxes boxes stride levels row total = (m i : ℕ) → m ≤ levels → i + 2 ^ m ≤ total
     → slice_index boxes (m * stride + i) ≡ sum_from row i (2 ^ m)
 
--- what stands behind is as large as it has to be, and the boxes are those of the row that was fed last
+-- no sum of 2^m neighbours of the first `total` values of a row is above bound m, for m from 1 up to `levels`
+abbrev pub AreBounds : List ℕ → ℕ → List ℕ → ℕ → Type 0
+AreBounds bounds levels row total = (m i : ℕ) → 1 ≤ m → m ≤ levels → i + 2 ^ m ≤ total
+    → sum_from row i (2 ^ m) ≤ slice_index bounds m
+
+-- what stands behind is as large as it has to be, and no box of the row that was fed last is
+-- above the greatest of its width
 pub record TablesAreSound (first last chunk widest bound newest : ℕ)
-    (fed kept boxes : List ℕ) : Type 0 where
+    (fed kept boxes greatest : List ℕ) : Type 0 where
   pub order : first ≤ last
   pub few_rows : last ≤ most_delay
   pub some : 1 ≤ chunk
@@ -30,8 +36,9 @@ pub record TablesAreSound (first last chunk widest bound newest : ℕ)
   pub fed_room : length fed ≡ last - first + 1
   pub kept_room : length kept ≡ (last - first + 1) * (widest - 1 + chunk)
   pub boxes_room : length boxes ≡ 6 * (widest - 1 + chunk)
+  pub greatest_room : length greatest ≡ 6
   pub short : AreUpTo chunk fed
   pub small : AreUpTo bound kept
-  pub sums : (m : ℕ) → 2 ^ m ≤ widest → AreBoxes boxes (widest - 1 + chunk) m
+  pub bounds : (m : ℕ) → 2 ^ m ≤ widest → AreBounds greatest m
       (row_at kept (widest - 1 + chunk) (newest - first))
       (widest - 1 + slice_index fed (newest - first))

@@ -16,7 +16,8 @@ use std::marker::Model;
 /// How many widths a box can have.
 const LEVELS: usize = 6;
 
-/// Rows that are fed in pieces, with the sums of the values that end at each place of the last feed.
+/// Rows that are fed in pieces, with the sums of the values that end at each place of the last feed. `boxes` is where
+/// those of the row that was fed last are added up, and `greatest` has the greatest of each width.
 #[derive(Drop)]
 pub struct Boxes {
     first: u32,
@@ -28,6 +29,7 @@ pub struct Boxes {
     kept: Vec<u32>,
     newest: u32,
     boxes: Vec<u32>,
+    greatest: Vec<u32>,
 }
 
 impl Model for Boxes {
@@ -45,7 +47,7 @@ impl Model for Boxes {
     } };
 
     ghost invariant = { λ b. TablesAreSound b.first b.last b.chunk b.widest b.bound b.newest
-        b.fed.items b.kept.items b.boxes.items };
+        b.fed.items b.kept.items b.boxes.items b.greatest.items };
 }
 
 impl Boxes {
@@ -81,6 +83,7 @@ impl Boxes {
             kept: zeros(alloc, rows * stride)?,
             newest: first,
             boxes: zeros(alloc, LEVELS * stride)?,
+            greatest: zeros(alloc, LEVELS)?,
         })
     }
 
@@ -108,6 +111,7 @@ impl Boxes {
         let values = front_of(self.kept.as_slice(), at * stride, reach + row.len());
         fill_boxes(
             self.boxes.as_mut_slice(),
+            self.greatest.as_mut_slice(),
             stride,
             level_of(self.widest),
             values,
@@ -132,21 +136,17 @@ impl Boxes {
         add_all(front_of(self.kept.as_slice(), place, w as usize))
     }
 
-    /// Such sums for each value of the last feed of row `d`, which was fed last of all rows.
-    pub fn row(&self, d: u32, w: u32) -> &[u32]
-        requires newest { d ≡ self.now.newest }
+    /// The greatest sum of `w` neighbours among the values that are kept of the row that was fed last. No sum of `w`
+    /// values that ends at a value of its last feed is greater.
+    pub fn greatest_kept(&self, w: u32) -> u32
         requires width { IsWidth w }
+        requires wide { 2 ≤ w }
         requires narrow { w ≤ self.now.widest }
-        ensures long { length result.now ≡ last_feed self.now d }
-        ensures sums { (xs : List ℕ) (k : ℕ) → StandsForRow self.now d xs → k < last_feed self.now d
-            → slice_index result.now k
-            ≡ sum_ending xs (length xs - last_feed self.now d + k) w }
+        ensures { (xs : List ℕ) (k : ℕ) → StandsForRow self.now self.now.newest xs
+            → k < last_feed self.now self.now.newest
+            → sum_ending xs (length xs - last_feed self.now self.now.newest + k) w ≤ result }
     {
-        let at = (d - self.first) as usize;
-        let reach = self.widest as usize - 1;
-        let stride = reach + self.chunk as usize;
-        let place = level_of(w) * stride + (reach + 1 - w as usize);
-        front_of(self.boxes.as_slice(), place, self.fed[at] as usize)
+        self.greatest[level_of(w)]
     }
 }
 

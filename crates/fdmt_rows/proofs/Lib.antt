@@ -1,4 +1,5 @@
 pub mod Steps
 pub mod GreatestValues
 pub mod Sums
+pub mod AddedMaxima
 pub mod Worked

@@ -2,10 +2,15 @@
 -- Source: this project's choice.
 use Rattle.std.specs.Prelude.{ℕ, ◌+◌, ◌%◌, ◌^◌, ◌≡◌, ◌<◌, ◌≤◌, List, length, sum, slice_index, drop, take}
 use Rattle.std.specs.List.{Contains}
+use Rattle.std.specs.Simd.Lanes.{zip2}
 
 -- the sum of two values in 32 bits
 abbrev pub wrapping_sum : ℕ → ℕ → ℕ
 wrapping_sum x y = (x + y) % 2 ^ 32
+
+-- the sums of two rows in 32 bits
+abbrev pub sums_of : List ℕ → List ℕ → List ℕ
+sums_of a b = zip2 wrapping_sum a b
 
 -- each value is the sum of those of a and b in 32 bits
 abbrev pub AddsWrapping : List ℕ → List ℕ → List ℕ → Type 0

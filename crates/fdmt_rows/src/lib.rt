@@ -4,10 +4,12 @@
 ghost use Rattle.std.specs.Prelude.{◌≡◌, ℕ, ◌+◌, ◌-◌, ◌<◌, ◌≤◌, ◌^◌, length, slice_index};
 ghost use Rattle.fdmt_rows.specs.Rows.{AddsWrapping, AddsPlainly, IsGreatest, sum_from};
 
+mod adding_maxima;
 mod lanes;
 mod maxima;
 mod narrow;
 
+pub use adding_maxima::add_rows_greatest;
 use lanes::{add_to_whole_lanes, add_whole_lanes, widen_whole_lanes};
 use maxima::{greatest_lanes, greatest_of_lanes};
 pub use narrow::{add_narrow_rows, add_widened_rows, narrow_row, widen_row};

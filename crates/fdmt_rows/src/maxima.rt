@@ -5,15 +5,24 @@ ghost use Rattle.fdmt_rows.specs.Lanes.{AreLaneGreatest, IsZeroOrIn};
 use crate::lanes::LANES;
 use std::simd::prelude::*;
 
+/// The greater of each lane of both.
+#[inline(always)]
+pub fn greater_lanes(a: u32x8, b: u32x8) -> u32x8
+    ensures long { length result ≡ 8 }
+    ensures greater { (j : ℕ) → j < 8
+        → slice_index result j ≡ max (slice_index a j) (slice_index b j) }
+{
+    a.simd_max(b)
+}
+
 #[inline(always)]
 fn max_lanes(lanes: u32x8, row: &[u32], at: usize) -> u32x8
-    requires long { length lanes ≡ 8 }
     requires room { at + 8 ≤ length row.now }
     ensures long { length result ≡ 8 }
     ensures greater { (j : ℕ) → j < 8
         → slice_index result j ≡ max (slice_index lanes j) (slice_index row.now (at + j)) }
 {
-    lanes.simd_max(u32x8::from_slice(&row[at..]))
+    greater_lanes(lanes, u32x8::from_slice(&row[at..]))
 }
 
 #[inline(always)]

@@ -15,12 +15,11 @@ fn last_values_are_added(rt: HostRuntime) -> Result<(), Memory> {
     boxes.feed_row(1, &[0, 30, 20]);
     assert_eq!(rt; boxes.sum(1, 2, 2), 50);
     assert_eq!(rt; boxes.sum(1, 0, 2), 0);
-    assert_eq!(rt; boxes.row(1, 2), [0_u32, 30, 50].as_slice());
-    assert_eq!(rt; boxes.row(1, 1), [0_u32, 30, 20].as_slice());
+    assert_eq!(rt; boxes.greatest_kept(2), 50);
     boxes.feed_row(1, &[7]);
     assert_eq!(rt; boxes.sum(1, 0, 2), 27);
     assert_eq!(rt; boxes.sum(1, 0, 1), 7);
-    assert_eq!(rt; boxes.row(1, 2), [27_u32].as_slice());
+    assert_eq!(rt; boxes.greatest_kept(2), 27);
     Ok(())
 }
 
@@ -46,7 +45,6 @@ fn check_width(rt: &impl Abort, boxes: &Boxes, d: u32, w: u32, all: &[u32], coun
     requires width { IsWidth w }
     requires narrow { w ≤ 32 }
 {
-    let sums = boxes.row(d, w);
     for k in 0..count {
         let wanted = sum_of_last(&all[..all.len() - count + k + 1], w as usize);
         assert_eq!(rt;
@@ -54,7 +52,9 @@ fn check_width(rt: &impl Abort, boxes: &Boxes, d: u32, w: u32, all: &[u32], coun
             wanted,
             "width {w} at {k} of {count}"
         );
-        assert_eq!(rt; sums[k], wanted, "width {w} at {k} of {count}, of a row");
+        if w > 1 {
+            assert!(rt; wanted <= boxes.greatest_kept(w), "width {w} at {k} of {count}");
+        }
     }
 }
 

@@ -1,6 +1,6 @@
 -- What contracts see of the search of a shard's path sums.
 -- Source: this project's choice.
-use Rattle.std.specs.Prelude.{◌≡◌, ℕ, ◌+◌, ◌-◌, ◌*◌, ◌≤◌, ◌<◌, List, length, map, slice_index}
+use Rattle.std.specs.Prelude.{◌≡◌, ℕ, ◌+◌, ◌-◌, ◌*◌, ◌≤◌, ◌<◌, List, map}
 use Rattle.std.specs.List.{range_with_len}
 use Rattle.band_paths.specs.Edges.{channels_of}
 use Rattle.subband_plan.specs.Nodes.{BandPlan}

@@ -125,7 +125,7 @@ impl BoxThresholds {
     }
 }
 
-// The greatest box of a width that ends at one of the sums of row `d`, which was taken last. A box of one sum is that
+// No box of a width that ends at one of the sums of row `d`, which was taken last, is greater. A box of one sum is that
 // sum.
 fn greatest_box(boxes: &Boxes, row: &[u32], d: u32, width: u32) -> u32
     requires newest { 1 < boxes.now.widest → d ≡ boxes.now.newest }
@@ -138,5 +138,5 @@ fn greatest_box(boxes: &Boxes, row: &[u32], d: u32, width: u32) -> u32
         return greatest(row);
     }
     sums_add_values();
-    greatest(boxes.row(d, width))
+    boxes.greatest_kept(width)
 }

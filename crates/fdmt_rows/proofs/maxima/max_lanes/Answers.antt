@@ -1,22 +1,8 @@
-use Rattle.std.proofs.Common.{◌≡◌, false, cond, ltb, length, get_or, ap, ◌∙◌, arith, w32}
-use lib.Lanes.{zip2, sel_l}
-use Rattle.std.specs.Simd.Lanes.{chunk}
-use Rattle.std.proofs.lemmas.Simd.{tops_compared, length-zip2, length-sel_l, get_or-sel_l, get_or-zip2, get_or-chunk, length-chunk}
-use Rattle.fdmt_rows.proofs.Steps.{greater_is_max}
+use Rattle.std.proofs.Common.{slice_index, max, ◌∙◌, ap}
+use Rattle.std.proofs.lemmas.Simd.{get_or-chunk}
 use Rattle.fdmt_rows.proofs.maxima.max_lanes.Goals as goal
 
-pub returns : goal.returns
-returns c =
-    let a = c.args.lanes in
-    let b = chunk c.args.at 8 c.args.row.now in
-    let la : length a ≡ 8 = c.requires.long in
-    let lb : length b ≡ 8 = length-chunk c.args.at 8 c.args.row.now c.requires.room in
-    let long = length-zip2 ltb a b (omega arith) in
-    let is = ap (λ ms. sel_l ms b a) (tops_compared w32 ltb a b) in
-    record {
-      long = ap length is ∙ omega (arith, length-sel_l (zip2 ltb a b) b a (omega arith) (omega arith));
-      greater = λ j lt. ap (λ l. get_or l j 0) is
-          ∙ get_or-sel_l (zip2 ltb a b) b a j 0 (omega arith) (omega arith) (omega arith)
-          ∙ ap (λ t. cond t (get_or b j 0) (get_or a j 0)) (get_or-zip2 ltb a b j 0 0 false (omega arith) (omega arith))
-          ∙ greater_is_max (get_or a j 0) (get_or b j 0) _ (get_or-chunk c.args.at 8 c.args.row.now j 0 lt);
-    }
+pub returns-clause-greater : goal.returns-clause-greater
+returns-clause-greater c = λ j lt.
+    c.greater_lanes.ensures.greater j lt
+    ∙ ap (λ y. max (slice_index c.args.lanes j) y) (get_or-chunk c.args.at 8 c.args.row.now j 0 lt)

@@ -1,4 +1,4 @@
-use Rattle.std.proofs.Common.{◌≡◌, ◌+◌, ◌<◌, inl, inr, length, subst, arith}
+use Rattle.std.proofs.Common.{◌≡◌, inl, inr, length, subst, arith}
 use Rattle.std.proofs.lemmas.Bool.{cases_lt}
 use Rattle.search_engine.specs.PulseSearch.{SearchesDelay, WideRowFed}
 use Rattle.search_engine.proofs.Rows.{taken_more}

@@ -4,7 +4,7 @@ use Rattle.std.specs.List.{All}
 use Rattle.box_sums.specs.Tails.{RowTails, StandsForRow, last_feed, row_at}
 use Rattle.box_sums.specs.Rows.{Keeps}
 use Rattle.box_sums.specs.Tables.{AreUpTo}
-use Rattle.box_sums.proofs.Feeding.{fed_own, fed_other, fed_boxes, sum_fits, drop_small, all_up_to, set_up_to}
+use Rattle.box_sums.proofs.Feeding.{fed_own, fed_other, fed_bounds, sum_fits, drop_small, all_up_to, set_up_to}
 use Rattle.box_sums.proofs.Parts.{part_small}
 use Rattle.box_sums.proofs.boxes.Boxes.feed_row.Goals as goal
 
@@ -63,6 +63,9 @@ invariant_of-self c =
     let boxes_is : take f.boxes.len (c.fill_boxes.new.boxes ++ drop
     (length c.fill_boxes.new.boxes) f.boxes.items) ≡ c.fill_boxes.new.boxes =
     take_at c.fill_boxes.new.boxes _ f.boxes.len (c.fill_boxes.auto.boxes ∙ c.as_mut_slice-2.ensures.len) in
+    let greatest_is : take f.greatest.len (c.fill_boxes.new.greatest ++ drop
+    (length c.fill_boxes.new.greatest) f.greatest.items) ≡ c.fill_boxes.new.greatest =
+    take_at c.fill_boxes.new.greatest _ f.greatest.len (c.fill_boxes.auto.greatest ∙ c.as_mut_slice-3.ensures.len) in
     let values : c.front_of-values.result.now ≡ take (reach + n) (drop (at * stride) c.keep_row.new.table) =
     c.front_of-values.ensures.values
     ∙ ap (λ ys. take (reach + n) (drop (at * stride) ys)) (c.as_slice.ensures.value ∙ kept_is) in
@@ -80,14 +83,16 @@ invariant_of-self c =
           ∙ c.self.invariant.kept_room;
       boxes_room = ap length boxes_is ∙ c.fill_boxes.auto.boxes ∙ ap length c.as_mut_slice-2.ensures.value
           ∙ c.self.invariant.boxes_room;
+      greatest_room = ap length greatest_is ∙ c.fill_boxes.auto.greatest ∙ ap length c.as_mut_slice-3.ensures.value
+          ∙ c.self.invariant.greatest_room;
       short = set_up_to f.chunk f.fed.items at n fits c.self.invariant.short;
       small = kept_is_small f.bound f.kept.items c.as_mut_slice.result.now c.keep_row.new.table _ c.args.row.now
           c.as_mut_slice.ensures.value kept_is (c.keep_row.ensures.small f.bound) c.self.invariant.small
           (feed_is_small f.bound c.args.self.now.bound c.args.row.now bound c.requires.small);
-      sums = λ m narrow.
-          fed_boxes _ c.fill_boxes.new.boxes _ c.keep_row.new.table f.fed.items c.front_of-values.result.now stride
+      bounds = λ m narrow.
+          fed_bounds _ c.fill_boxes.new.greatest _ c.keep_row.new.table f.fed.items c.front_of-values.result.now stride
           at reach n
-          c.level_of.result f.widest m boxes_is kept_is inside (omega arith) values c.front_of-values.ensures.long
+          c.level_of.result f.widest m greatest_is kept_is inside (omega arith) values c.front_of-values.ensures.long
           c.level_of.ensures.power narrow c.fill_boxes.ensures;
     }
 

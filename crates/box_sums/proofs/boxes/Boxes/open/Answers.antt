@@ -11,14 +11,19 @@ invariant_of-result c =
     let a = c.args in
     let stride : ℕ = a.widest - 1 + a.chunk in
     let P : List ℕ → Type 0 = λ fed. TablesAreSound a.first a.last a.chunk a.widest a.bound a.first fed
-    c.in_ok-zeros-2.field-0.items c.in_ok-zeros-3.field-0.items in
+    c.in_ok-zeros-2.field-0.items c.in_ok-zeros-3.field-0.items c.in_ok-zeros-4.field-0.items in
     let Q : List ℕ → Type 0 = λ kept. TablesAreSound a.first a.last a.chunk a.widest a.bound a.first
-    (replicate (a.last - a.first + 1) 0) kept c.in_ok-zeros-3.field-0.items in
+    (replicate (a.last - a.first + 1) 0) kept c.in_ok-zeros-3.field-0.items c.in_ok-zeros-4.field-0.items in
     let R : List ℕ → Type 0 = λ boxes. TablesAreSound a.first a.last a.chunk a.widest a.bound a.first
-    (replicate (a.last - a.first + 1) 0) (replicate ((a.last - a.first + 1) * stride) 0) boxes in
+    (replicate (a.last - a.first + 1) 0) (replicate ((a.last - a.first + 1) * stride) 0) boxes
+    c.in_ok-zeros-4.field-0.items in
+    let S : List ℕ → Type 0 = λ greatest. TablesAreSound a.first a.last a.chunk a.widest a.bound a.first
+    (replicate (a.last - a.first + 1) 0) (replicate ((a.last - a.first + 1) * stride) 0) (replicate (6 * stride) 0)
+    greatest in
     subst P (sym c.in_ok-zeros.ensures) (subst Q (sym c.in_ok-zeros-2.ensures) (subst R (sym c.in_ok-zeros-3.ensures)
+    (subst S (sym c.in_ok-zeros-4.ensures)
     (zeros_sound a.first a.last a.chunk a.widest a.bound c.requires.order c.requires.rows c.requires.some
-    c.requires.most c.requires.width c.requires.fits)))
+    c.requires.most c.requires.width c.requires.fits))))
 
 pub returns-clause-counts : goal.returns-clause-counts
 returns-clause-counts c = λ d has.

@@ -1,10 +1,10 @@
-use Rattle.std.proofs.Common.{◌≡◌, ℕ, ◌+◌, ◌-◌, List, map, sym, ap, subst, arith}
+use Rattle.std.proofs.Common.{◌≡◌, ℕ, ◌+◌, ◌-◌, map, sym, subst, arith}
 use Rattle.std.specs.List.{range_with_len}
 use Rattle.fdmt_carry.specs.Carrying.{IsStream}
 use Rattle.subband_plan.specs.Nodes.{BandPlan}
 use Rattle.search_engine.specs.FoldSearch.{KeepsFrontOf}
 use Rattle.search_engine.specs.PulseSearch.{RowsStandFor}
-use Rattle.search_engine.specs.Sums.{sums_of, sums_from_delay}
+use Rattle.search_engine.specs.Sums.{sums_of}
 use Rattle.search_engine.proofs.shard.ShardSearch.open.Goals as goal
 
 pub returns-clause-stands : goal.returns-clause-stands

@@ -1,0 +1,21 @@
+use Rattle.std.proofs.Common.{◌≡◌, false, refl, cond, ltb, length, get_or, ap, ◌∙◌, arith, w32}
+use lib.Lanes.{zip2, sel_l}
+use Rattle.std.proofs.lemmas.Simd.{tops_compared, length-zip2, length-sel_l, get_or-sel_l, get_or-zip2}
+use Rattle.fdmt_rows.proofs.Steps.{greater_is_max}
+use Rattle.fdmt_rows.proofs.maxima.greater_lanes.Goals as goal
+
+pub returns : goal.returns
+returns c =
+    let a = c.args.a in
+    let b = c.args.b in
+    let la : length a ≡ 8 = c.fits-a.0 in
+    let lb : length b ≡ 8 = c.fits-b.0 in
+    let long = length-zip2 ltb a b (omega arith) in
+    let is = ap (λ ms. sel_l ms b a) (tops_compared w32 ltb a b) in
+    record {
+      long = ap length is ∙ omega (arith, length-sel_l (zip2 ltb a b) b a (omega arith) (omega arith));
+      greater = λ j lt. ap (λ l. get_or l j 0) is
+          ∙ get_or-sel_l (zip2 ltb a b) b a j 0 (omega arith) (omega arith) (omega arith)
+          ∙ ap (λ t. cond t (get_or b j 0) (get_or a j 0)) (get_or-zip2 ltb a b j 0 0 false (omega arith) (omega arith))
+          ∙ greater_is_max (get_or a j 0) (get_or b j 0) _ refl;
+    }
