@@ -13,8 +13,8 @@ use Rattle.fdmt_carry.specs.Making.{IsPair, IsSingle, IsMerge, IsRunOn, ChannelH
 use Rattle.fdmt_carry.proofs.Law.{value_later, merged_value, channel_value, sample_value}
 use Rattle.fdmt_carry.proofs.Parts.{part_begins, put_listed, put_stays, parts_go_on}
 
--- A row is written at a place, and what is kept of it where it stands: what was kept begins the row, and it goes on with
--- its values.
+-- A row is written at a place, and what is kept of it where it stands: what was kept begins the
+-- row, and it goes on with its values.
 pub row_made_at : (t : Tables) (f : Filterbank) (u spectra k d at hold m n later : ℕ) (table kept row tail : List ℕ)
     (Goes : (ℕ → ℕ) → Type 0) →
     hold_of t k + hold ≡ held_at t (row_number t k d) →
@@ -207,7 +207,8 @@ pub samples_go_on : OneChannelIsItsSample → TimeShifts → (t : Tables) → Ar
     (samples : List ℕ) → IsSingle t k → AreSamples t f u k samples → len ≡ tail_of t (row_number t k 0) →
     GoesOnWith (row_value t f u k 0) len samples
 samples_go_on is_sample shifts t is f u k len samples single are len_is i lt =
-    ap (λ n. row_value t f u k 0 (n + i)) len_is ∙ sample_value is_sample shifts t is f u k i single ∙ sym (are.are i lt)
+    ap (λ n. row_value t f u k 0 (n + i)) len_is ∙ sample_value is_sample shifts t is f u k i single
+    ∙ sym (are.are i lt)
 
 -- the row of delay 0 is the first of the node
 pub zero_first : (t : Tables) (k : ℕ) → row_number t k 0 ≡ start_of t k

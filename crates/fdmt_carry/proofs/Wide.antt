@@ -24,7 +24,8 @@ pub next_last : (t : Tables) → AreTables t → (f : Filterbank) (u spectra k d
     StaysOutside (hold_of t k) (held_at t r) (held_at t (r + 1)) kept kept' →
     LastStands t f u spectra k d row kept → LastStands t f u spectra k (d + 1) row' kept'
 next_last t is f u spectra k d r row row' kept kept' node has number here stays so_far =
-    let outside : StaysOutside (hold_of t k) (held_at t (row_number t k d)) (held_at t (row_number t k d + 1)) kept kept' =
+    let outside : StaysOutside (hold_of t k) (held_at t (row_number t k d))
+    (held_at t (row_number t k d + 1)) kept kept' =
     subst (λ r. StaysOutside (hold_of t k) (held_at t r) (held_at t (r + 1)) kept kept') number stays in
     record {
       made = λ e has_e lt. elim (cases_lt e d) [

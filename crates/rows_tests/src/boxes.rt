@@ -53,7 +53,10 @@ fn check_width(rt: &impl Abort, boxes: &Boxes, d: u32, w: u32, all: &[u32], coun
             "width {w} at {k} of {count}"
         );
         if w > 1 {
-            assert!(rt; wanted <= boxes.greatest_kept(w), "width {w} at {k} of {count}");
+            assert!(rt;
+                wanted <= boxes.greatest_kept(w),
+                "width {w} at {k} of {count}"
+            );
         }
     }
 }

@@ -86,11 +86,13 @@ quiet_box tests y s n u d w most least out bound fits below =
     (λ x e. let short = below x e in omega arith))
 
 -- the least sum of a delay
-pub least_at : (s : Search) (n first end d : ℕ) (thresholds : BoxThresholds) (least : Option ℕ) → AreThresholds s n first end thresholds →
-    first ≤ d → d < first + length thresholds.least_sums.items → least ≡ get_or thresholds.least_sums.items (d - first) least →
+pub least_at : (s : Search) (n first end d : ℕ) (thresholds : BoxThresholds) (least : Option ℕ) →
+    AreThresholds s n first end thresholds → first ≤ d → d < first + length thresholds.least_sums.items →
+    least ≡ get_or thresholds.least_sums.items (d - first) least →
     StandOutFrom (noise_of s) (thresholds.width * (n + d)) least
 least_at s n first end d thresholds least is above below read =
     let place : first + (d - first) ≡ d = omega arith in
     let found : slice_get thresholds.least_sums.items (d - first) ≡ Some least =
     slice_get-get_or thresholds.least_sums.items (d - first) least (omega arith) ∙ ap Some (sym read) in
-    subst (λ e. StandOutFrom (noise_of s) (thresholds.width * (n + e)) least) place (is.least_sums (d - first) least found)
+    subst (λ e. StandOutFrom (noise_of s) (thresholds.width * (n + e)) least) place
+    (is.least_sums (d - first) least found)

@@ -10,8 +10,8 @@ use Rattle.search_engine.specs.declared.thresholds.BoxThresholds.{BoxThresholds}
 use Rattle.search_engine.specs.Thresholds.{AreOfAllWidths}
 use Rattle.search_engine.specs.Pulses.{pulse_of, pulses_of_delay}
 
-pub widths_few : (s : Search) (n first end : ℕ) (by_width : List BoxThresholds) → AreOfAllWidths s n first end by_width →
-    length by_width ≤ 6
+pub widths_few : (s : Search) (n first end : ℕ) (by_width : List BoxThresholds) →
+    AreOfAllWidths s n first end by_width → length by_width ≤ 6
 widths_few s n first end by_width are =
     let p : ℕ → Bool = λ w. nat_le w s.widest in
     let long : length (map (λ (l : BoxThresholds). l.width) by_width) ≡ length by_width = simp length-map in

@@ -34,7 +34,8 @@ leasts_more s n first w least_sums x are is =
     ]
 
 -- the width of one thresholds more, which is searched
-pub widths_more : (p : ℕ → Bool) (all : List ℕ) (by_width : List BoxThresholds) (thresholds : BoxThresholds) (i : ℕ) → i < length all →
+pub widths_more : (p : ℕ → Bool) (all : List ℕ) (by_width : List BoxThresholds) (thresholds : BoxThresholds) (i : ℕ) →
+    i < length all →
     map (λ (l : BoxThresholds). l.width) by_width ≡ filter p (take i all) → thresholds.width ≡ get_or all i 0
     → p (get_or all i 0) ≡ true →
     map (λ (l : BoxThresholds). l.width) (by_width ++ thresholds ∷ []) ≡ filter p (take (i + 1) all)

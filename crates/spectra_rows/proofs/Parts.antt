@@ -29,7 +29,8 @@ place_again : (channels : ℕ) (is_falling : Bool) (c : ℕ) → c < channels
 place_again channels true c here = refl
 place_again channels false c here = omega arith
 
-pub place_below : (channels : ℕ) (is_falling : Bool) (c : ℕ) → c < channels → channel_place channels is_falling c < channels
+pub place_below : (channels : ℕ) (is_falling : Bool) (c : ℕ) → c < channels →
+    channel_place channels is_falling c < channels
 place_below channels true c here = here
 place_below channels false c here = omega arith
 
@@ -87,7 +88,8 @@ module _ (channels : ℕ) (is_falling : Bool) (chunk p from n : ℕ) (old new : 
 pub row_fits : (channels : ℕ) (is_falling : Bool) (chunk p from n room : ℕ) → p < channels → from + n ≤ chunk
     → channels * chunk ≤ room → channel_place channels is_falling p * chunk + from + n ≤ room
 row_fits channels is_falling chunk p from n room here fits all =
-    let apart = rows_apart (channel_place channels is_falling p) channels chunk (place_below channels is_falling p here) in
+    let apart = rows_apart (channel_place channels is_falling p) channels chunk
+    (place_below channels is_falling p here) in
     omega arith
 
 -- a byte of each of n spectra, stored as lanes

@@ -21,7 +21,8 @@ value_of : (tile : List (List ℕ)) (i j : ℕ) → i < 8 → j < 16
     ≡ get_or (get_or tile (i / 2) [] ++ get_or tile (4 + i / 2) []) (8 * (i % 2) + (j / 2 + 16 * (j % 2))) 0
 value_of tile i j lt small =
     ap (λ v. slice_index v j) (get_or-map-range_with_len (λ i. map (λ j. get_or (get_or tile (i / 2) []
-    ++ get_or tile (4 + i / 2) []) (8 * (i % 2) + (j / 2 + 16 * (j % 2))) 0) (range_with_len 0 16)) 0 8 i i [] lt (omega arith))
+    ++ get_or tile (4 + i / 2) []) (8 * (i % 2) + (j / 2 + 16 * (j % 2))) 0) (range_with_len 0 16)) 0 8 i i [] lt
+    (omega arith))
     ∙ get_or-map-range_with_len (λ j. get_or (get_or tile (i / 2) [] ++ get_or tile (4 + i / 2) [])
     (8 * (i % 2) + (j / 2 + 16 * (j % 2))) 0) 0 16 j j 0 small (omega arith)
 
@@ -107,7 +108,8 @@ turned bytes at n once twice thrice first second third c s low lt =
 abbrev pub half : List ℕ → ℕ → List ℕ
 half pair h = map (λ j. get_or (pair ++ pair) (h + j) 0) (range_with_len 0 8)
 
-half_is : (pair : List ℕ) (h j : ℕ) → length pair ≡ 16 → h ≤ 8 → j < 8 → slice_index (half pair h) j ≡ slice_index pair (h + j)
+half_is : (pair : List ℕ) (h j : ℕ) → length pair ≡ 16 → h ≤ 8 → j < 8 →
+    slice_index (half pair h) j ≡ slice_index pair (h + j)
 half_is pair h j long low lt =
     get_or-map-range_with_len (λ j. get_or (pair ++ pair) (h + j) 0) 0 8 j j 0 lt (omega arith)
     ∙ get_or_append_left pair pair 0 (h + j) (omega arith)
@@ -115,7 +117,8 @@ half_is pair h j long low lt =
 -- both halves of a vector, in the rows of two channels
 pub pair_written : (row : ℕ → ℕ) (channels chunk place from : ℕ) (pair old mid new : List ℕ) → length pair ≡ 16
     → from + 8 ≤ chunk
-    → WritesCells old mid row channels chunk place (place + 1) from (from + 8) (λ p t. slice_index (half pair 0) (t - from))
+    → WritesCells old mid row channels chunk place (place + 1) from (from + 8)
+    (λ p t. slice_index (half pair 0) (t - from))
     → WritesCells mid new row channels chunk (place + 1) (place + 1 + 1) from (from + 8)
     (λ p t. slice_index (half pair 8) (t - from))
     → WritesCells old new row channels chunk place (place + 2) from (from + 8)

@@ -8,7 +8,8 @@ use std::alloc::Global;
 use subband_plan::{Merge, Plan, Rows};
 
 /// Where a row stands, and where the values begin that are added to make it: those of an upper row, which is one of the
-/// upper half of its node, and those of a lower row. Of a single channel these are the row of delay 0 and the row before.
+/// upper half of its node, and those of a lower row. Of a single channel these are the row of delay 0 and the row
+/// before.
 #[derive(Clone, Copy)]
 pub(super) struct Step {
     /// Where the row begins, past the first row of its node.

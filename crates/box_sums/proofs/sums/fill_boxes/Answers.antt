@@ -45,7 +45,7 @@ loop-level-preserved c =
     record {
       width = ap (λ w. w * 2) c.loop-level.invariant.width ∙ sym twice;
       boxes = boxes;
-      bounds = bounds_more c.double.new.boxes c.args.row.now c.loop-level.greatest c.args.stride level c.loop-level.width
-          total c.double.result c.loop-level.invariant.width (omega arith) boxes c.double.ensures.bound
-          c.loop-level.invariant.bounds;
+      bounds = bounds_more c.double.new.boxes c.args.row.now c.loop-level.greatest c.args.stride
+          level c.loop-level.width total c.double.result c.loop-level.invariant.width
+          (omega arith) boxes c.double.ensures.bound c.loop-level.invariant.bounds;
     }

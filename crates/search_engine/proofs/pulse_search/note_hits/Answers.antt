@@ -36,7 +36,8 @@ loop-thresholds-preserved c =
           noted_more (λ hit. pulse_of_hit y s n (m + k) hit) (λ (l : BoxThresholds). pulse_of y s n (m + k) a.d l.width)
           a.hits.now.items c.loop-thresholds.hits.items c.note.new.hits.items c.hit.result a.by_width.now i thresholds
           c.note.ensures.items (before.pulses s n end m k y all stands below)
-          (c.hit.ensures.pulses s n end m k y (P (AreThresholds s n a.first end) all) stands below) inside c.thresholds-item.is;
+          (c.hit.ensures.pulses s n end m k y (P (AreThresholds s n a.first end) all) stands below)
+          inside c.thresholds-item.is;
     }
 
 pub returns-clause-pulses : goal.returns-clause-pulses

@@ -21,6 +21,6 @@ returns c = λ y m k taken inside.
     box_is_below c.sums_add_values.ensures y c.args.d m (length c.args.row.now) k c.args.width c.greatest_kept.result b
     last below (taken.fed wide)
     (subst (λ (d : ℕ). (xs : List ℕ) → StandsForRow b d xs
-    → sum_ending xs (length xs - last_feed b d + k) c.args.width ≤ c.greatest_kept.result) (sym (c.requires.newest wide))
-    (λ xs stands. c.greatest_kept.ensures xs k stands
+    → sum_ending xs (length xs - last_feed b d + k) c.args.width ≤ c.greatest_kept.result)
+    (sym (c.requires.newest wide)) (λ xs stands. c.greatest_kept.ensures xs k stands
     (subst (λ (d : ℕ). k < last_feed b d) (c.requires.newest wide) below)))

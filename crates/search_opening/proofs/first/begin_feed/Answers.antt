@@ -42,7 +42,8 @@ returns-in-Err-observe_all-clause-stopped g c = λ files are.
     let new = plan_at c.begin.new.self in
     let kept = c.begin.ensures.plan in
     let are_now = still_told (g.I.Inputs.told c.args.feeder.now.inputs.now)
-    (g.I.Inputs.told c.begin.new.self.inputs.now) old.names new.names files c.begin.ensures.inputs.names kept.names are in
+    (g.I.Inputs.told c.begin.new.self.inputs.now) old.names new.names files c.begin.ensures.inputs.names
+    kept.names are in
     let same = same_stream new old files kept.starts kept.limit in
     let have = subst (HasHeaders new) same (c.in-Ok.ensures.begun.headers files are_now) in
     let many = kept.headers ∙ c.requires.headed ∙ ap length (sym c.requires.plan) in

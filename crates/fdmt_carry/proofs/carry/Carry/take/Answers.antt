@@ -32,5 +32,5 @@ returns-clause-stands c = λ f stands next.
     (with_items s.kept kept).items (with_items s.values table).items) f) (sym c.from.ensures)
     (subst (λ (xs : List ℕ). StandsForSamples (carrying t s.max_sample (s.fed + spectra) spectra c.args.whole xs
     (with_items s.values table).items) f) (sym kept_is)
-    (subst (λ (xs : List ℕ). StandsForSamples (carrying t s.max_sample (s.fed + spectra) spectra c.args.whole kept xs) f)
-    (sym table_is) now))
+    (subst (λ (xs : List ℕ). StandsForSamples
+    (carrying t s.max_sample (s.fed + spectra) spectra c.args.whole kept xs) f) (sym table_is) now))

@@ -7,7 +7,8 @@ use Rattle.fdmt_carry.proofs.tables.Tables.+fill.Goals as goal
 
 pub fill-returns-then-is_low : goal.fill-returns-then-is_low
 fill-returns-then-is_low t c = λ f u small next keeps.
-    subst (λ whole. PartStands c.args.self.now f u c.args.spectra whole c.args.k c.fill_low.new.table c.fill_low.new.kept)
+    subst (λ whole. PartStands c.args.self.now f u c.args.spectra whole c.args.k
+    c.fill_low.new.table c.fill_low.new.kept)
     (sym (c.is_low.ensures.alone c.if-is_low.true)) (c.fill_low.ensures f u small next keeps)
 
 pub fill-returns-then-is_single : goal.fill-returns-then-is_single
@@ -201,7 +202,8 @@ fill_wide-returns t c = λ f u small next keeps upper_keeps lower_keeps.
     (sym c.split_at.ensures.back)
     (subst (λ xs. AreHalves self f u spectra (k + 1) (take above xs) (drop above xs))
     (sym c.split_at_mut-upper_tables.ensures.front)
-    (halves_cut self is f u spectra (k + 1) above upper_cut upper_all c.parts_of-2.ensures c.requires.short c.lower_span.ensures
+    (halves_cut self is f u spectra
+    (k + 1) above upper_cut upper_all c.parts_of-2.ensures c.requires.short c.lower_span.ensures
     (length-take-le above upper_all c.fill_halves-upper_made.ensures.within) upper_stand.halves))) in
     let lower_halves : AreHalves self f u spectra low c.split_at-2.result.0.now
     c.split_at-2.result.1.now =

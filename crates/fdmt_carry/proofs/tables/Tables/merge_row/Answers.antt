@@ -19,5 +19,5 @@ returns-clause-made c = λ f u halves keeps.
 pub returns-clause-rest : goal.returns-clause-rest
 returns-clause-rest c =
     change_placed c.args.self.now c.args.k c.args.d c.args.r c.args.spectra c.pair_step-step.result.at c.args.table.now
-    c.add_row.new.table c.args.kept.now c.add_row.new.kept c.pair_step-step.ensures.row c.requires.number c.requires.short
-    c.pair_step-step.ensures.step.at c.add_row.ensures.rest
+    c.add_row.new.table c.args.kept.now c.add_row.new.kept c.pair_step-step.ensures.row
+    c.requires.number c.requires.short c.pair_step-step.ensures.step.at c.add_row.ensures.rest

@@ -105,7 +105,8 @@ loop-d-preserved c =
           let lower_now : LastStands t f u spectra low (late + 1) lower_row c.ready_row-in-loop-d.new.kept =
           subst (λ j. LastStands t f u spectra j (late + 1) lower_row c.ready_row-in-loop-d.new.kept) low_is
           (c.ready_row-in-loop-d.ensures f u
-          (subst (λ j. AreHalves t f u spectra j c.args.lower_above.now c.args.lower_below.now) (sym low_is) lower_halves)
+          (subst (λ j. AreHalves t f u spectra j c.args.lower_above.now c.args.lower_below.now)
+          (sym low_is) lower_halves)
           (subst (λ j. LastStands t f u spectra j c.loop-d.lower_next c.loop-d.lower c.loop-d.lower_kept) (sym low_is)
           so_far.lower_rows)) in
           let halves : HaveHalfRows t f u spectra k d 0 0 upper_row lower_row =
@@ -118,7 +119,8 @@ loop-d-preserved c =
           record {
             own = one_more t c.hold.ensures f u spectra k d c.loop-d.table c.join_row.new.table c.loop-d.kept
                 c.join_row.new.kept c.requires.node.node.node c.requires.short has
-                (c.join_row.ensures.made f u halves (so_far.own.rest d has (omega arith))) c.join_row.ensures.rest so_far.own;
+                (c.join_row.ensures.made f u halves (so_far.own.rest d has (omega arith)))
+                c.join_row.ensures.rest so_far.own;
             upper_rows = upper_now;
             lower_rows = lower_now;
           },

@@ -17,8 +17,8 @@ loop-k-preserved c =
       pulses = λ f carried stands.
           let y = sums_of f c.args.carry.now.tables.plan.edges in
           adds_more c.args.book.now c.loop-k.book c.report_end.new.book
-          (λ u. pulses_of_hits y s.search s.channels u s.hits) c.args.start c.loop-k.k _ refl (before.pulses f carried stands)
-          (c.report_end.ensures.pulses f carried stands);
+          (λ u. pulses_of_hits y s.search s.channels u s.hits) c.args.start c.loop-k.k _ refl
+          (before.pulses f carried stands) (c.report_end.ensures.pulses f carried stands);
     }
 
 pub returns-clause-pulses : goal.returns-clause-pulses

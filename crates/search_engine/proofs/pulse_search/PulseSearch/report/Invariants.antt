@@ -12,8 +12,8 @@ use Rattle.search_engine.proofs.pulse_search.PulseSearch.report.Given as goal
 abbrev pub invariant-loop-k : goal.invariant-loop-k
 invariant-loop-k l = record {
   count : l.book.count ≤ l.fn.book.count + l.k * length l.self.hits;
-  pulses : (f : Filterbank) → StandsForSamples l.carry f → RowsStandFor (sums_of f l.carry.tables.plan.edges) l.self l.carry.fed
-      → Adds l.fn.book l.book
+  pulses : (f : Filterbank) → StandsForSamples l.carry f →
+      RowsStandFor (sums_of f l.carry.tables.plan.edges) l.self l.carry.fed → Adds l.fn.book l.book
       (flat_map (λ u. pulses_of_hits (sums_of f l.carry.tables.plan.edges) l.self.search l.self.channels u l.self.hits)
       (range_with_len l.start l.k));
 }

@@ -11,7 +11,8 @@ use Rattle.search_engine.proofs.pulse_search.PulseSearch.report_end.Given as goa
 abbrev pub invariant-loop-at : goal.invariant-loop-at
 invariant-loop-at l = record {
   count : l.book.count ≤ l.fn.book.count + l.at;
-  pulses : (f : Filterbank) → StandsForSamples l.carry f → RowsStandFor (sums_of f l.carry.tables.plan.edges) l.self l.carry.fed
+  pulses : (f : Filterbank) → StandsForSamples l.carry f →
+      RowsStandFor (sums_of f l.carry.tables.plan.edges) l.self l.carry.fed
       → Adds l.fn.book l.book (pulses_of_hits (sums_of f l.carry.tables.plan.edges) l.self.search l.self.channels
       (l.start + l.k) (take l.at l.self.hits));
 }

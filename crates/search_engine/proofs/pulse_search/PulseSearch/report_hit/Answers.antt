@@ -9,8 +9,8 @@ use Rattle.search_engine.proofs.Reports.{early_box, reported_box, missed_box}
 use Rattle.search_engine.proofs.pulse_search.PulseSearch.report_hit.Goals as goal
 
 -- the sum of the fields is that of what contracts see
-sum_seen : (y : ℕ → ℕ → ℕ) (d start fed last k w sum : ℕ) (inside seen : RowTails) → inside ≡ seen → start + last ≡ fed →
-    WideRowHas seen d (first_sums y d fed) →
+sum_seen : (y : ℕ → ℕ → ℕ) (d start fed last k w sum : ℕ) (inside seen : RowTails) →
+    inside ≡ seen → start + last ≡ fed → WideRowHas seen d (first_sums y d fed) →
     (WideRowHas inside d (first_sums y d fed) → sum ≡ box_of y d (fed - last + k) w) → sum ≡ box_of y d (start + k) w
 sum_seen y d start fed last k w sum inside seen same total stands is =
     let P : RowTails → Type 0 = λ b. WideRowHas b d (first_sums y d fed) in

@@ -46,7 +46,8 @@ invariant_of-self c =
       };
       judges = i.judges;
       hits = c.note_hits.ensures.hits f.search f.channels f.end
-          (subst (All (AreThresholds f.search f.channels f.first f.end)) (sym c.as_slice.ensures.value) i.judges.each) i.hits;
+          (subst (All (AreThresholds f.search f.channels f.first f.end))
+          (sym c.as_slice.ensures.value) i.judges.each) i.hits;
       room = let same = c.note_hits.ensures.capacity in let room = i.room in omega (arith, same, room);
     }
 

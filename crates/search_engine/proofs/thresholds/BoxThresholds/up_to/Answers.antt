@@ -27,7 +27,8 @@ loop-width-preserved c =
                 c.loop-width.by_width.items w.in_ok-thresholds.thresholds i inside before.widths
                 w.in_ok-thresholds.ensures.width (le-leb _ _ w.if-width-search.true);
             each = subst (λ xs. All (AreThresholds a.search.now a.channels a.first a.end) xs) (sym items)
-                (All-push (AreThresholds a.search.now a.channels a.first a.end) c.loop-width.by_width.items w.in_ok-thresholds.thresholds
+                (All-push (AreThresholds a.search.now a.channels a.first a.end)
+                c.loop-width.by_width.items w.in_ok-thresholds.thresholds
                 before.each w.in_ok-thresholds.ensures.thresholds);
           }
       | else-width-search w ↦
