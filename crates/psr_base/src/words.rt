@@ -33,7 +33,7 @@ impl NoWords {
     }
 }
 
-/// The words of a program, its name first, of its arguments as `env::args` gave them.
+/// The words that a program was started with, its name first: those that `env::args` gave, where it gave any.
 pub fn command_words(args: io::Result<Args>, alloc: Global) -> Result<Vec<String>, NoWords>
     ensures words { IfOk result (λ words. IsOkAnd args (λ all. words.items ≡ into_iter_items all)) }
     ensures refused { (result ≡ Err NoWords.Refused)
