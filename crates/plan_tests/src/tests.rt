@@ -89,11 +89,11 @@ fn rows_of_two_channels(rt: HostRuntime) -> Result<(), Memory> {
     assert_eq!(rt; rows.merges.as_slice(), merges.map(merge).as_slice());
     assert_eq!(rt;
         rows.tails.as_slice(),
-        [0, 0, 0, 2, 2, 2, 2, 0, 0].as_slice()
+        [0, 0, 0, 16, 16, 16, 16, 0, 0].as_slice()
     );
     assert_eq!(rt;
         rows.held.as_slice(),
-        [0, 0, 0, 0, 2, 4, 6, 8, 8, 8].as_slice()
+        [0, 0, 0, 0, 16, 32, 48, 64, 64, 64].as_slice()
     );
     Ok(())
 }

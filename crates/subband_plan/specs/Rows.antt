@@ -2,7 +2,7 @@
 -- each is made, and how much of each is kept.
 -- Source: Zackay & Ofek, ApJ 835:11, 2017, section 2 (a row is a row of the upper half, which ends
 -- earlier, added to one of the lower half); the order of the rows is this project's profile.
-use Rattle.std.specs.Prelude.{◌≡◌, ℕ, ◌+◌, ◌-◌, ◌≤◌, ◌<◌, List, length, slice_index, slice_index_or}
+use Rattle.std.specs.Prelude.{◌≡◌, ℕ, ◌+◌, ◌-◌, ◌%◌, ◌≤◌, ◌<◌, List, length, slice_index, slice_index_or}
 use Rattle.dada_model.specs.Bounds.{most_delay}
 use Rattle.subband_plan.specs.declared.nodes.Node.{Node}
 use Rattle.subband_plan.specs.declared.rows.Merge.{Merge}
@@ -57,13 +57,14 @@ pub record IsWithin (rows : ℕ) (m : Merge) : Type 0 where
 abbrev pub AreWithin : ℕ → List Merge → Type 0
 AreWithin rows merges = (r : ℕ) → r < length merges → IsWithin rows (merge_at merges r)
 
--- Of each row as many values are kept as the first rows ask for of those before a chunk, and no
--- more.
+-- Of each row a multiple of 16 values is kept: the least one that is as many as the first rows ask
+-- for of those before a chunk.
 pub record AreTails (merges : List Merge) (count : ℕ) (tails : List ℕ) : Type 0 where
   pub entries : length tails ≡ length merges
+  pub whole : (r : ℕ) → slice_index tails r % 16 ≡ 0
   pub enough : (r : ℕ) → r < count →
       (merge_at merges r).late ≤ slice_index tails (merge_at merges r).upper
-  pub least : (x m : ℕ) →
+  pub least : (x m : ℕ) → m % 16 ≡ 0 →
       ((r : ℕ) → r < count → (merge_at merges r).upper ≡ x → (merge_at merges r).late ≤ m) →
       slice_index tails x ≤ m
 

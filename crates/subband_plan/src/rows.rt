@@ -12,6 +12,10 @@ use crate::plan::{Plan, plans_are_laid};
 use psr_base::Memory;
 use std::alloc::Global;
 
+// How many values of 16 bits a vector has, and of 32 bits a cache line. Tails are rounded up to multiples of it: rows
+// with chunks of such multiples then begin at whole vectors of their table, and tails are copied in whole vectors.
+const LANES: u32 = 16;
+
 /// Of which two rows a row is made, by their numbers. The upper one ends `late` spectra earlier.
 #[derive(Clone, Copy, PartialEq, Eq, Debug)]
 pub struct Merge {
@@ -28,7 +32,7 @@ pub struct Rows {
     pub starts: Vec<usize>,
     /// What each row is made of.
     pub merges: Vec<Merge>,
-    /// How many of its last values are kept of each row.
+    /// How many of its last values are kept of each row, a multiple of 16.
     pub tails: Vec<u32>,
     /// Where these begin if all are kept one after another, and how many there are.
     pub held: Vec<usize>,
@@ -160,7 +164,7 @@ fn keep_tails(alloc: Global, merges: &[Merge]) -> Result<Vec<u32>, Memory>
     let mut tails = vec![in alloc; 0u32; merges.len()]?;
     for merge in merges {
         let upper = merge.upper as usize;
-        tails[upper] = tails[upper].max(merge.late);
+        tails[upper] = tails[upper].max(merge.late.next_multiple_of(LANES));
     }
     Ok(tails)
 }

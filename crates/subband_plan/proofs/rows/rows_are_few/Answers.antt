@@ -1,4 +1,4 @@
-use Rattle.std.proofs.Common.{ℕ, length, slice_index, arith}
+use Rattle.std.proofs.Common.{ℕ, length, slice_index, refl, arith}
 use Rattle.subband_plan.specs.Nodes.{nodes_of}
 use Rattle.subband_plan.proofs.Numbers.{rows_fit}
 use Rattle.subband_plan.proofs.Places.{places_few, places_rise}
@@ -10,7 +10,7 @@ returns c = λ p rows is are.
     let numbered = c.rows_are_numbered.ensures p.edges (nodes_of p) rows.starts.items laid are.starts in
     let count = are.count in
     let fit = rows_fit p.edges (nodes_of p) rows.starts.items laid numbered in
-    let small = λ (x : ℕ). are.tails.least x 8192 (λ r h _. (are.within r h).late) in
+    let small = λ (x : ℕ). are.tails.least x 8192 refl (λ r h _. (are.within r h).late) in
     record {
       count = omega (arith, fit, count);
       tails = small;
