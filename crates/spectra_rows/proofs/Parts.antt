@@ -1,7 +1,6 @@
 -- Cells of rows that are written a part at a time.
-use Rattle.std.proofs.Common.{◌≡◌, ℕ, refl, ◌+◌, ◌-◌, ◌*◌, ◌<◌, ◌≤◌, ◌≢◌, ◌⊎◌, inl, inr, Bool, true, false, List, length, slice_index, get_or, set, map, ◌∙◌, sym, subst, arith, get_or-set_other, get_or-set_same}
+use Rattle.std.proofs.Common.{◌≡◌, ℕ, refl, ◌+◌, ◌-◌, ◌*◌, ◌<◌, ◌≤◌, ◌≢◌, ◌⊎◌, inl, inr, Bool, true, false, List, length, slice_index, get_or, set, ◌∙◌, sym, ap, subst, arith, get_or-set_other, get_or-set_same}
 use Rattle.std.proofs.lemmas.Bool.{cases_lt}
-use Rattle.std.proofs.lemmas.List.{get_or-map, length-map}
 use Rattle.std.proofs.Math.Nat.{mul-le-mul_right}
 use Rattle.std.specs.Simd.Lanes.{put_chunk}
 use Rattle.std.proofs.lemmas.Simd.{get_or-put_chunk_below, get_or-put_chunk_at, get_or-put_chunk_above}
@@ -93,44 +92,43 @@ row_fits channels is_falling chunk p from n room here fits all =
     omega arith
 
 -- a byte of each of n spectra, stored as lanes
-pub lanes_stored : (channels : ℕ) (is_falling : Bool) (chunk p r from n : ℕ) (xs lanes : List ℕ) → p < channels
+pub lanes_stored : (channels : ℕ) (is_falling : Bool) (chunk p r from n : ℕ) (xs ys lanes : List ℕ) → p < channels
     → r ≡ channel_place channels is_falling p → from + n ≤ chunk → channels * chunk ≤ length xs → length lanes ≡ n
-    → WritesCells xs (put_chunk (r * chunk + from) xs (map (λ x. x) lanes))
-    (channel_place channels is_falling) channels chunk p (p + 1) from (from + n) (λ q t. slice_index lanes (t - from))
-lanes_stored channels is_falling chunk p r from n xs lanes here row fits room long =
+    → ys ≡ put_chunk (r * chunk + from) xs lanes
+    → WritesCells xs ys (channel_place channels is_falling) channels chunk p (p + 1) from (from + n)
+    (λ q t. slice_index lanes (t - from))
+lanes_stored channels is_falling chunk p r from n xs ys lanes here row fits room long is =
     let at : ℕ = channel_place channels is_falling p * chunk + from in
-    let wide : List ℕ = map (λ x. x) lanes in
-    let same : length wide ≡ n = length-map lanes (λ x. x) ∙ long in
     let inside : at + n ≤ length xs = row_fits channels is_falling chunk p from n (length xs) here fits room in
-    let Stored : ℕ → Type 0 = λ i. WritesCells xs (put_chunk (i * chunk + from) xs wide)
-    (channel_place channels is_falling) channels chunk p (p + 1) from (from + n)
-    (λ q t. slice_index lanes (t - from)) in
-    subst Stored (sym row)
-    (row_written channels is_falling chunk p from n xs (put_chunk at xs wide) (λ q t. slice_index lanes (t - from))
+    let stored : ys ≡ put_chunk at xs lanes = is ∙ ap (λ i. put_chunk (i * chunk + from) xs lanes) row in
+    let Stored : List ℕ → Type 0 = λ new. WritesCells xs new (channel_place channels is_falling) channels chunk
+    p (p + 1) from (from + n) (λ q t. slice_index lanes (t - from)) in
+    subst Stored (sym stored)
+    (row_written channels is_falling chunk p from n xs (put_chunk at xs lanes) (λ q t. slice_index lanes (t - from))
     here fits
     record {
-      below = λ k lt. get_or-put_chunk_below at xs wide k 0 lt;
-      above = λ k le. get_or-put_chunk_above at xs wide k 0 (omega arith);
+      below = λ k lt. get_or-put_chunk_below at xs lanes k 0 lt;
+      above = λ k le. get_or-put_chunk_above at xs lanes k 0 (omega arith);
     }
     (λ t after before.
     let place : at + (t - from) ≡ channel_place channels is_falling p * chunk + t = omega arith in
-    let P : ℕ → Type 0 = λ i. get_or (put_chunk at xs wide) i 0 ≡ slice_index lanes (t - from) in
-    subst P place (get_or-put_chunk_at at xs wide (t - from) 0 (omega arith) (omega arith)
-    ∙ get_or-map (λ x. x) lanes (t - from) 0 0 (omega arith))))
+    let P : ℕ → Type 0 = λ i. get_or (put_chunk at xs lanes) i 0 ≡ slice_index lanes (t - from) in
+    subst P place (get_or-put_chunk_at at xs lanes (t - from) 0 (omega arith) (omega arith))))
 
 -- one value that is stored
-pub value_stored : (channels : ℕ) (is_falling : Bool) (chunk p r t y : ℕ) (xs : List ℕ) (value : ℕ → ℕ → ℕ)
+pub value_stored : (channels : ℕ) (is_falling : Bool) (chunk p r t : ℕ) (xs ys : List ℕ) (value : ℕ → ℕ → ℕ)
     → p < channels → r ≡ channel_place channels is_falling p → t < chunk → channels * chunk ≤ length xs
-    → y ≡ value p t
-    → WritesCells xs (set xs (r * chunk + t) y)
-    (channel_place channels is_falling) channels chunk p (p + 1) t (t + 1) value
-value_stored channels is_falling chunk p r t y xs value here row low room is =
+    → ys ≡ set xs (r * chunk + t) (value p t)
+    → WritesCells xs ys (channel_place channels is_falling) channels chunk p (p + 1) t (t + 1) value
+value_stored channels is_falling chunk p r t xs ys value here row low room stored =
+    let y : ℕ = value p t in
     let at : ℕ = channel_place channels is_falling p * chunk + t in
     let inside : at + 1 ≤ length xs =
     row_fits channels is_falling chunk p t 1 (length xs) here (omega arith) room in
-    let Stored : ℕ → Type 0 = λ i. WritesCells xs (set xs (i * chunk + t) y)
-    (channel_place channels is_falling) channels chunk p (p + 1) t (t + 1) value in
-    subst Stored (sym row)
+    let at_place : ys ≡ set xs at y = stored ∙ ap (λ i. set xs (i * chunk + t) y) row in
+    let Stored : List ℕ → Type 0 = λ new. WritesCells xs new (channel_place channels is_falling) channels chunk
+    p (p + 1) t (t + 1) value in
+    subst Stored (sym at_place)
     (row_written channels is_falling chunk p t 1 xs (set xs at y) value here (omega arith)
     record {
       below = λ k lt. let ne : k ≢ at = omega arith in get_or-set_other xs at k y 0 ne;
@@ -140,7 +138,7 @@ value_stored channels is_falling chunk p r t y xs value here row low room is =
     let e : t ≡ s = omega arith in
     let P : ℕ → Type 0 = λ i.
     slice_index (set xs at y) (channel_place channels is_falling p * chunk + i) ≡ value p i in
-    subst P e (get_or-set_same xs at y 0 (omega arith) ∙ is)))
+    subst P e (get_or-set_same xs at y 0 (omega arith))))
 
 -- ---- parts together
 

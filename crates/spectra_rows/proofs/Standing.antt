@@ -5,7 +5,7 @@ use Rattle.std.proofs.lemmas.Nat.{le-div, div-mul-add, div_below, div-add-mod', 
 use Rattle.std.proofs.lemmas.List.{length-take-le, length-drop, get_or-take, get_or-drop, drop-drop, drop-append-le}
 use Rattle.std.proofs.lemmas.List.FromFn.{length-map-range_with_len, get_or-map-range_with_len}
 use Rattle.search_model.specs.Samples.{sample_bytes, sample_at}
-use Rattle.spectra_rows.specs.Unpacking.{Unpacking, AreValues, StandsForBytes, spectrum_bytes, whole_spectra, unpacked, with_bytes, without_spectra}
+use Rattle.spectra_rows.specs.Unpacking.{Unpacking, AreValues, Keeps, StandsForBytes, spectrum_bytes, whole_spectra, unpacked, with_bytes, without_spectra}
 use Rattle.spectra_rows.specs.Cells.{AreUnpacked, RowsAreSound, channel_place}
 use Rattle.spectra_rows.proofs.Alike.{sample_alike, some_bytes}
 use Rattle.spectra_rows.proofs.Parts.{place_below}
@@ -53,8 +53,9 @@ two_quotients q n s r length some small is =
     let samples : length / s ≡ q * n + part = quotient_of (q * n + part) s (r % s) length rest (omega arith) in
     ap (λ x. x / n) samples ∙ div-mul-add q n part below
 
-module _ (n : ℕ) (is_falling : Bool) (nbit npol chunk spectrum filled ready : ℕ) (held rows : List ℕ)
-    (sound : RowsAreSound n is_falling nbit npol chunk spectrum filled ready held rows) where
+module _ (n : ℕ) (is_falling : Bool) (nbit npol chunk : ℕ) (in_bytes : Bool) (spectrum filled ready : ℕ)
+    (held rows : List ℕ)
+    (sound : RowsAreSound n is_falling nbit npol chunk in_bytes spectrum filled ready held rows) where
   abbrev view : Unpacking
   view = record {
     channels = n;
@@ -62,6 +63,7 @@ module _ (n : ℕ) (is_falling : Bool) (nbit npol chunk spectrum filled ready : 
     nbit = nbit;
     npol = npol;
     chunk = chunk;
+    in_bytes = in_bytes;
     pending = take filled held;
   }
 
@@ -129,6 +131,20 @@ module _ (n : ℕ) (is_falling : Bool) (nbit npol chunk spectrum filled ready : 
       ∙ sym (get_or-map-range_with_len (λ k. sample_at nbit npol bytes k) 0 (length bytes / s) j j 0 (omega arith)
       (omega arith))
 
+  -- the same of a value that is seen so
+  pub samples_are : (u : Unpacking) (cells : List ℕ) → view ≡ u → cells ≡ rows
+      → (bytes : List ℕ) (gone c t : ℕ) → StandsForBytes u bytes gone → c < u.channels → t < whole_spectra u
+      → slice_index cells (c * u.chunk + t) ≡ (unpacked u bytes).value c (gone + t)
+  samples_are u cells is same =
+      subst (λ (xs : List ℕ).
+      (bytes : List ℕ) (gone c t : ℕ) → StandsForBytes u bytes gone → c < u.channels → t < whole_spectra u
+      → slice_index xs (c * u.chunk + t) ≡ (unpacked u bytes).value c (gone + t))
+      (sym same)
+      (subst (λ (v : Unpacking).
+      (bytes : List ℕ) (gone c t : ℕ) → StandsForBytes v bytes gone → c < v.channels → t < whole_spectra v
+      → slice_index rows (c * v.chunk + t) ≡ (unpacked v bytes).value c (gone + t))
+      is cells_are)
+
 -- ---- what the calls leave
 
 pub more_bytes : (u : Unpacking) (piece before : List ℕ) (gone : ℕ) → StandsForBytes u before gone
@@ -160,18 +176,19 @@ fewer_bytes u bytes gone stands =
     }
 
 -- an unpacker that holds `count` bytes more, and has unpacked all whole spectra
-pub filled_on : (n : ℕ) (is_falling : Bool) (nbit npol chunk spectrum filled ready : ℕ) (held rows : List ℕ)
-    → RowsAreSound n is_falling nbit npol chunk spectrum filled ready held rows
-    → (count : ℕ) (more given kept before after left : List ℕ)
-    → kept ≡ more → left ≡ after → given ≡ more → before ≡ rows
-    → length more ≡ length held → length after ≡ length before
+pub filled_on : (n : ℕ) (is_falling : Bool) (nbit npol chunk : ℕ) (in_bytes : Bool) (spectrum filled ready : ℕ)
+    (held rows : List ℕ) → RowsAreSound n is_falling nbit npol chunk in_bytes spectrum filled ready held rows
+    → (count : ℕ) (more given kept after : List ℕ) (still_in_bytes : Bool)
+    → kept ≡ more → given ≡ more → length more ≡ length held → length after ≡ length rows
+    → still_in_bytes ≡ in_bytes
     → ((k : ℕ) → k < filled → slice_index more k ≡ slice_index held k)
     → filled + count ≤ length held
-    → (AreUnpacked n is_falling nbit npol chunk given before ready
+    → (AreUnpacked n is_falling nbit npol chunk given rows ready
     → AreUnpacked n is_falling nbit npol chunk given after ((filled + count) / spectrum))
-    → RowsAreSound n is_falling nbit npol chunk spectrum (filled + count) ((filled + count) / spectrum) kept left
-filled_on n is_falling nbit npol chunk spectrum filled ready held rows sound count more given kept before after left
-    kept_is left_is given_is before_is long tall same fits turn =
+    → RowsAreSound n is_falling nbit npol chunk still_in_bytes spectrum (filled + count)
+    ((filled + count) / spectrum) kept after
+filled_on n is_falling nbit npol chunk in_bytes spectrum filled ready held rows sound count more given kept after
+    still_in_bytes kept_is given_is long tall kind same fits turn =
     let is = sound.spectrum_is in
     let whole = sound.whole in
     let room = sound.held_room in
@@ -183,35 +200,36 @@ filled_on n is_falling nbit npol chunk spectrum filled ready held rows sound cou
     let old : AreUnpacked n is_falling nbit npol chunk more rows ready =
     cells_kept n is_falling nbit npol chunk held more rows ready filled sound.values (omega arith) same sound.cells in
     let Cells : List ℕ → List ℕ → ℕ → Type 0 = λ xs ys k. AreUnpacked n is_falling nbit npol chunk xs ys k in
-    let ready_before : Cells given before ready =
-    subst (λ (xs : List ℕ). Cells xs before ready) (sym given_is)
-    (subst (λ (ys : List ℕ). Cells more ys ready) (sym before_is) old) in
+    let ready_before : Cells given rows ready = subst (λ (xs : List ℕ). Cells xs rows ready) (sym given_is) old in
     record {
       some_channels = sound.some_channels;
       most_channels = sound.most_channels;
       some_spectra = sound.some_spectra;
       most_spectra = sound.most_spectra;
       values = sound.values;
+      kept = subst (λ (b : Bool). Keeps b nbit npol) (sym kind) sound.kept;
       spectrum_is = is;
       some_bytes = some;
       held_room = ap length kept_is ∙ long ∙ room;
-      rows_room = ap length left_is ∙ tall ∙ ap length before_is ∙ sound.rows_room;
+      rows_room = tall ∙ sound.rows_room;
       within = omega arith;
       whole = omega arith;
       part = omega arith;
-      cells = subst (λ (xs : List ℕ). Cells xs left (total / spectrum)) (given_is ∙ sym kept_is)
-          (subst (λ (ys : List ℕ). Cells given ys (total / spectrum)) (sym left_is) (turn ready_before));
+      cells = subst (λ (xs : List ℕ). Cells xs after (total / spectrum)) (given_is ∙ sym kept_is) (turn ready_before);
     }
 
 -- the bytes behind the whole spectra, moved to the front
-pub view_without : (n : ℕ) (is_falling : Bool) (nbit npol chunk spectrum filled ready : ℕ) (held rows : List ℕ)
-    (sound : RowsAreSound n is_falling nbit npol chunk spectrum filled ready held rows) (given moved kept : List ℕ)
+pub view_without : (n : ℕ) (is_falling : Bool) (nbit npol chunk : ℕ) (in_bytes : Bool) (spectrum filled ready : ℕ)
+    (held rows : List ℕ)
+    (sound : RowsAreSound n is_falling nbit npol chunk in_bytes spectrum filled ready held rows)
+    (given moved kept : List ℕ)
     → given ≡ held → kept ≡ moved
     → take (filled - ready * spectrum) moved ≡ drop (ready * spectrum) (take filled given)
     → take (filled - ready * spectrum) kept
-    ≡ (without_spectra (view n is_falling nbit npol chunk spectrum filled ready held rows sound)).pending
-view_without n is_falling nbit npol chunk spectrum filled ready held rows sound given moved kept given_is kept_is turn =
-    let q = ready_is n is_falling nbit npol chunk spectrum filled ready held rows sound in
+    ≡ (without_spectra (view n is_falling nbit npol chunk in_bytes spectrum filled ready held rows sound)).pending
+view_without n is_falling nbit npol chunk in_bytes spectrum filled ready held rows sound given moved kept given_is
+    kept_is turn =
+    let q = ready_is n is_falling nbit npol chunk in_bytes spectrum filled ready held rows sound in
     let bytes : ready * spectrum
     ≡ length (take filled held) / (n * sample_bytes nbit npol) * (n * sample_bytes nbit npol) =
     ap (λ w. ready * w) sound.spectrum_is ∙ ap (λ k. k * (n * sample_bytes nbit npol)) q in

@@ -2,7 +2,7 @@
 use Rattle.std.proofs.Common.{◌≡◌, ℕ, zero, suc, refl, ◌+◌, ◌-◌, ◌*◌, ◌/◌, ◌%◌, ◌<◌, ◌≤◌, inl, inr, List, ◌∷◌, [], ◌++◌, length, slice_index, get_or, map, ◌∙◌, ap, subst, arith}
 use Rattle.std.proofs.lemmas.Bool.{cases_lt}
 use Rattle.std.proofs.lemmas.List.{get_or_append_left, get_or-append_right}
-use Rattle.std.proofs.lemmas.List.FromFn.{get_or-map-range_with_len}
+use Rattle.std.proofs.lemmas.List.FromFn.{get_or-map-range_with_len, length-map-range_with_len}
 use Rattle.std.proofs.lemmas.Simd.{get_or-chunk, length-chunk}
 use Rattle.std.proofs.Math.Nat.{mul-le-mul_right}
 use Rattle.std.specs.List.{range_with_len}
@@ -107,6 +107,9 @@ turned bytes at n once twice thrice first second third c s low lt =
 -- eight lanes of a vector
 abbrev pub half : List ℕ → ℕ → List ℕ
 half pair h = map (λ j. get_or (pair ++ pair) (h + j) 0) (range_with_len 0 8)
+
+pub half_wide : (pair : List ℕ) (h : ℕ) → length (half pair h) ≡ 8
+half_wide pair h = length-map-range_with_len (λ j. get_or (pair ++ pair) (h + j) 0) 0 8
 
 half_is : (pair : List ℕ) (h j : ℕ) → length pair ≡ 16 → h ≤ 8 → j < 8 →
     slice_index (half pair h) j ≡ slice_index pair (h + j)

@@ -2,7 +2,7 @@
 -- Source: this project's choice.
 use Rattle.std.specs.Prelude.{ℕ, ◌+◌, ◌-◌, ◌*◌, ◌≡◌, ◌<◌, ◌≤◌, ◌/◌, ◌%◌, Bool, List, [], length, slice_index, get_or, if◌then◌else◌}
 use Rattle.search_model.specs.Samples.{sample_bytes, sample_at}
-use Rattle.spectra_rows.specs.Unpacking.{AreValues}
+use Rattle.spectra_rows.specs.Unpacking.{AreValues, Keeps}
 
 -- where a channel, counted from the highest frequency, stands in a spectrum
 abbrev pub channel_place : ℕ → Bool → ℕ → ℕ
@@ -32,12 +32,14 @@ AreUnpacked channels is_falling nbit npol chunk bytes rows count =
 
 -- what stands behind is as large as it has to be, and the whole spectra are unpacked
 pub record RowsAreSound (channels : ℕ) (is_falling : Bool)
-    (nbit npol chunk spectrum filled ready : ℕ) (held rows : List ℕ) : Type 0 where
+    (nbit npol chunk : ℕ) (in_bytes : Bool) (spectrum filled ready : ℕ)
+    (held rows : List ℕ) : Type 0 where
   pub some_channels : 2 ≤ channels
   pub most_channels : channels ≤ 4096
   pub some_spectra : 1 ≤ chunk
   pub most_spectra : chunk ≤ 65536
   pub values : AreValues nbit npol
+  pub kept : Keeps in_bytes nbit npol
   pub spectrum_is : spectrum ≡ channels * sample_bytes nbit npol
   pub some_bytes : 0 < spectrum
   pub held_room : length held ≡ chunk * spectrum

@@ -2,7 +2,9 @@
 #![tactic(auto)]
 
 mod held;
+mod kept;
 mod layout;
+mod row_sample;
 mod rows;
 mod samples;
 mod tile;

@@ -1,11 +1,10 @@
 // Spectra into rows. So few channels are turned at a time that their rows stay in the nearest cache.
 ghost use Rattle.std.specs.Prelude.{◌≡◌, ℕ, ◌+◌, ◌-◌, ◌*◌, ◌<◌, ◌≤◌, length, slice_index};
 ghost use Rattle.search_model.specs.Samples.{sample_bytes};
-ghost use Rattle.spectra_rows.specs.Unpacking.{AreValues};
 ghost use Rattle.spectra_rows.specs.Cells.{AreUnpacked, WritesCells, cell, channel_place};
 
 use crate::layout::Layout;
-use crate::samples::sample;
+use crate::row_sample::RowSample;
 use crate::tile::{CHANNELS, SPECTRA, turned};
 use std::simd::prelude::*;
 
@@ -25,25 +24,34 @@ fn row_of(layout: Layout, place: usize) -> usize
 
 // Writes the bytes of eight spectra into the row of a channel.
 #[inline(always)]
-fn write_values(rows: &mut [u32], values: u8x8, layout: Layout, place: usize, from: usize)
+fn write_values<T: RowSample>(
+    rows: &mut [T],
+    values: u8x8,
+    layout: Layout,
+    place: usize,
+    from: usize,
+)
+    requires wide { length values ≡ SPECTRA }
     requires place { place < layout.channels }
     requires chunk { from + SPECTRA ≤ layout.chunk }
     requires room { layout.channels * layout.chunk ≤ length rows.old }
-    ensures { WritesCells rows.old rows.new (channel_place layout.channels layout.is_falling)
+    ensures { WritesCells (T.numbers rows.old) (T.numbers rows.new)
+        (channel_place layout.channels layout.is_falling)
         layout.channels layout.chunk place (place + 1) from (from + SPECTRA)
         (λ p t. slice_index values (t - from)) }
 {
     let at = row_of(layout, place) * layout.chunk + from;
-    values.cast::<u32>().copy_to_slice(&mut rows[at..]);
+    T::put_bytes(rows, at, values);
 }
 
 // Writes the bytes of two channels that stand side by side.
 #[inline(always)]
-fn write_pair(rows: &mut [u32], pair: u8x16, layout: Layout, place: usize, from: usize)
+fn write_pair<T: RowSample>(rows: &mut [T], pair: u8x16, layout: Layout, place: usize, from: usize)
     requires place { place + 2 ≤ layout.channels }
     requires chunk { from + SPECTRA ≤ layout.chunk }
     requires room { layout.channels * layout.chunk ≤ length rows.old }
-    ensures { WritesCells rows.old rows.new (channel_place layout.channels layout.is_falling)
+    ensures { WritesCells (T.numbers rows.old) (T.numbers rows.new)
+        (channel_place layout.channels layout.is_falling)
         layout.channels layout.chunk place (place + 2) from (from + SPECTRA)
         (λ p t. slice_index pair (8 * (p - place) + (t - from))) }
 {
@@ -52,12 +60,13 @@ fn write_pair(rows: &mut [u32], pair: u8x16, layout: Layout, place: usize, from:
 }
 
 // Writes the bytes of eight spectra of sixteen channels.
-fn write_tile(rows: &mut [u32], bytes: &[u8], layout: Layout, place: usize, from: usize)
+fn write_tile<T: RowSample>(rows: &mut [T], bytes: &[u8], layout: Layout, place: usize, from: usize)
     requires place { place + CHANNELS ≤ layout.channels }
     requires chunk { from + SPECTRA ≤ layout.chunk }
     requires bytes { (from + SPECTRA) * layout.channels ≤ length bytes.now }
     requires room { layout.channels * layout.chunk ≤ length rows.old }
-    ensures { WritesCells rows.old rows.new (channel_place layout.channels layout.is_falling)
+    ensures { WritesCells (T.numbers rows.old) (T.numbers rows.new)
+        (channel_place layout.channels layout.is_falling)
         layout.channels layout.chunk place (place + CHANNELS) from (from + SPECTRA)
         (λ p t. slice_index bytes.now (t * layout.channels + p)) }
 {
@@ -68,8 +77,8 @@ fn write_tile(rows: &mut [u32], bytes: &[u8], layout: Layout, place: usize, from
 }
 
 // Writes as many bytes as whole tiles have, and says how far it came.
-fn write_tiles(
-    rows: &mut [u32],
+fn write_tiles<T: RowSample>(
+    rows: &mut [T],
     bytes: &[u8],
     layout: Layout,
     place: usize,
@@ -83,7 +92,7 @@ fn write_tiles(
     requires room { layout.channels * layout.chunk ≤ length rows.old }
     ensures above { from ≤ result }
     ensures within { result ≤ to }
-    ensures written { WritesCells rows.old rows.new
+    ensures written { WritesCells (T.numbers rows.old) (T.numbers rows.new)
         (channel_place layout.channels layout.is_falling)
         layout.channels layout.chunk place (place + CHANNELS) from result
         (λ p t. slice_index bytes.now (t * layout.channels + p)) }
@@ -97,8 +106,8 @@ fn write_tiles(
 }
 
 // The same of any samples; only bytes that are samples are written, of as many channels as a tile has.
-fn begin_channels(
-    rows: &mut [u32],
+fn begin_channels<T: RowSample>(
+    rows: &mut [T],
     bytes: &[u8],
     layout: Layout,
     place: usize,
@@ -110,13 +119,13 @@ fn begin_channels(
     requires inside { end ≤ layout.channels }
     requires order { from ≤ to }
     requires chunk { to ≤ layout.chunk }
-    requires values { AreValues layout.nbit layout.npol }
+    requires kept { T.keeps layout.nbit layout.npol }
     requires bytes { to * (layout.channels * sample_bytes layout.nbit layout.npol)
         ≤ length bytes.now }
     requires room { layout.channels * layout.chunk ≤ length rows.old }
     ensures above { from ≤ result }
     ensures within { result ≤ to }
-    ensures written { WritesCells rows.old rows.new
+    ensures written { WritesCells (T.numbers rows.old) (T.numbers rows.new)
         (channel_place layout.channels layout.is_falling)
         layout.channels layout.chunk place end from result
         (cell layout.channels layout.nbit layout.npol bytes.now) }
@@ -130,8 +139,8 @@ fn begin_channels(
 
 // Writes some samples of a spectrum one by one.
 #[inline(always)]
-fn write_spectrum(
-    rows: &mut [u32],
+fn write_spectrum<T: RowSample>(
+    rows: &mut [T],
     bytes: &[u8],
     layout: Layout,
     place: usize,
@@ -141,28 +150,24 @@ fn write_spectrum(
     requires places { place ≤ end }
     requires inside { end ≤ layout.channels }
     requires chunk { spectrum < layout.chunk }
-    requires values { AreValues layout.nbit layout.npol }
+    requires kept { T.keeps layout.nbit layout.npol }
     requires bytes { (spectrum + 1) * (layout.channels * sample_bytes layout.nbit layout.npol)
         ≤ length bytes.now }
     requires room { layout.channels * layout.chunk ≤ length rows.old }
-    ensures { WritesCells rows.old rows.new (channel_place layout.channels layout.is_falling)
+    ensures { WritesCells (T.numbers rows.old) (T.numbers rows.new)
+        (channel_place layout.channels layout.is_falling)
         layout.channels layout.chunk place end spectrum (spectrum + 1)
         (cell layout.channels layout.nbit layout.npol bytes.now) }
 {
     for p in place..end {
         let at = row_of(layout, p) * layout.chunk + spectrum;
-        rows[at] = sample(
-            bytes,
-            layout.nbit,
-            layout.npol,
-            spectrum * layout.channels + p,
-        );
+        T::put(rows, at, bytes, layout, spectrum * layout.channels + p);
     }
 }
 
 // Writes some samples of some spectra one by one.
-fn write_spectra(
-    rows: &mut [u32],
+fn write_spectra<T: RowSample>(
+    rows: &mut [T],
     bytes: &[u8],
     layout: Layout,
     place: usize,
@@ -174,11 +179,12 @@ fn write_spectra(
     requires inside { end ≤ layout.channels }
     requires order { from ≤ to }
     requires chunk { to ≤ layout.chunk }
-    requires values { AreValues layout.nbit layout.npol }
+    requires kept { T.keeps layout.nbit layout.npol }
     requires bytes { to * (layout.channels * sample_bytes layout.nbit layout.npol)
         ≤ length bytes.now }
     requires room { layout.channels * layout.chunk ≤ length rows.old }
-    ensures { WritesCells rows.old rows.new (channel_place layout.channels layout.is_falling)
+    ensures { WritesCells (T.numbers rows.old) (T.numbers rows.new)
+        (channel_place layout.channels layout.is_falling)
         layout.channels layout.chunk place end from to
         (cell layout.channels layout.nbit layout.npol bytes.now) }
 {
@@ -188,8 +194,8 @@ fn write_spectra(
 }
 
 // Writes some spectra into the rows of the channels that stand at some places.
-fn write_channels(
-    rows: &mut [u32],
+fn write_channels<T: RowSample>(
+    rows: &mut [T],
     bytes: &[u8],
     layout: Layout,
     place: usize,
@@ -201,11 +207,12 @@ fn write_channels(
     requires inside { end ≤ layout.channels }
     requires order { from ≤ to }
     requires chunk { to ≤ layout.chunk }
-    requires values { AreValues layout.nbit layout.npol }
+    requires kept { T.keeps layout.nbit layout.npol }
     requires bytes { to * (layout.channels * sample_bytes layout.nbit layout.npol)
         ≤ length bytes.now }
     requires room { layout.channels * layout.chunk ≤ length rows.old }
-    ensures { WritesCells rows.old rows.new (channel_place layout.channels layout.is_falling)
+    ensures { WritesCells (T.numbers rows.old) (T.numbers rows.new)
+        (channel_place layout.channels layout.is_falling)
         layout.channels layout.chunk place end from to
         (cell layout.channels layout.nbit layout.npol bytes.now) }
 {
@@ -214,17 +221,17 @@ fn write_channels(
 }
 
 /// Writes the spectra `from` to `to` into all rows, where those before are written.
-pub fn unpack(rows: &mut [u32], bytes: &[u8], layout: Layout, from: usize, to: usize)
+pub fn unpack<T: RowSample>(rows: &mut [T], bytes: &[u8], layout: Layout, from: usize, to: usize)
     requires order { from ≤ to }
     requires chunk { to ≤ layout.chunk }
-    requires values { AreValues layout.nbit layout.npol }
+    requires kept { T.keeps layout.nbit layout.npol }
     requires bytes { to * (layout.channels * sample_bytes layout.nbit layout.npol)
         ≤ length bytes.now }
     requires room { layout.channels * layout.chunk ≤ length rows.old }
     ensures { AreUnpacked layout.channels layout.is_falling layout.nbit layout.npol layout.chunk
-        bytes.now rows.old from
+        bytes.now (T.numbers rows.old) from
         → AreUnpacked layout.channels layout.is_falling layout.nbit layout.npol layout.chunk
-        bytes.now rows.new to }
+        bytes.now (T.numbers rows.new) to }
 {
     let mut place = 0;
     while place < layout.channels {

@@ -1,11 +1,12 @@
 // Bytes that are pushed, as rows.
-ghost use Rattle.std.specs.Prelude.{◌≡◌, ℕ, ◌+◌, ◌-◌, ◌*◌, ◌<◌, ◌≤◌, ◌⊎◌, ◌++◌, List, [], length, take, min, slice_index, IfOk};
-ghost use Rattle.spectra_rows.specs.Unpacking.{Unpacking, StandsForBytes, spectrum_bytes, whole_spectra, unpacked, unpacking_of, with_bytes, without_spectra};
+ghost use Rattle.std.specs.Prelude.{◌≡◌, ℕ, ◌+◌, ◌-◌, ◌*◌, ◌<◌, ◌≤◌, ◌⊎◌, ◌++◌, true, false, List, [], length, take, min, slice_index, IfOk};
+ghost use Rattle.spectra_rows.specs.Unpacking.{AreValues, Keeps, Unpacking, StandsForBytes, byte_unpacking_of, spectrum_bytes, whole_spectra, unpacked, unpacking_of, with_bytes, without_spectra};
 ghost use Rattle.spectra_rows.specs.Cells.{RowsAreSound};
+ghost use Rattle.spectra_rows.specs.Kept.{are_bytes, samples_kept};
 
 use crate::held::{give_up, hold};
+use crate::kept::Rows;
 use crate::layout::Layout;
-use crate::rows::unpack;
 use psr_base::Memory;
 use std::alloc::Global;
 use std::marker::Model;
@@ -18,7 +19,7 @@ pub struct Unpacker {
     held: Vec<u8>,
     filled: usize,
     ready: usize,
-    rows: Vec<u32>,
+    rows: Rows,
 }
 
 impl Model for Unpacker {
@@ -30,11 +31,37 @@ impl Model for Unpacker {
       nbit = u.layout.nbit;
       npol = u.layout.npol;
       chunk = u.layout.chunk;
+      in_bytes = are_bytes u.rows;
       pending = take u.filled u.held.items;
     } };
 
     ghost invariant = { λ u. RowsAreSound u.layout.channels u.layout.is_falling u.layout.nbit
-        u.layout.npol u.layout.chunk u.spectrum u.filled u.ready u.held.items u.rows.items };
+        u.layout.npol u.layout.chunk (are_bytes u.rows) u.spectrum u.filled u.ready u.held.items
+        (samples_kept u.rows) };
+}
+
+// An unpacker with no byte, over rows with room for a chunk of spectra.
+fn over_rows(alloc: Global, layout: Layout, rows: Rows) -> Result<Unpacker, Memory>
+    requires some_channels { 2 ≤ layout.channels }
+    requires most_channels { layout.channels ≤ 4096 }
+    requires some_spectra { 1 ≤ layout.chunk }
+    requires most_spectra { layout.chunk ≤ 65536 }
+    requires values { AreValues layout.nbit layout.npol }
+    requires kept { Keeps (are_bytes rows) layout.nbit layout.npol }
+    requires room { length (samples_kept rows) ≡ layout.channels * layout.chunk }
+    ensures opened { IfOk result (λ u. u ≡ record (unpacking_of layout.channels layout.is_falling
+        layout.nbit layout.npol layout.chunk) { in_bytes = are_bytes rows }) }
+    ensures nothing { IfOk result (λ u. StandsForBytes u [] 0) }
+{
+    let spectrum = layout.channels * (layout.npol as usize * (layout.nbit as usize / 8));
+    Ok(Unpacker {
+        layout,
+        spectrum,
+        held: vec![in alloc; 0; layout.chunk * spectrum]?,
+        filled: 0,
+        ready: 0,
+        rows,
+    })
 }
 
 impl Unpacker {
@@ -64,15 +91,33 @@ impl Unpacker {
             npol,
             chunk: chunk as usize,
         };
-        let spectrum = layout.channels * (layout.npol as usize * (layout.nbit as usize / 8));
-        Ok(Unpacker {
-            layout,
-            spectrum,
-            held: vec![in alloc; 0; layout.chunk * spectrum]?,
-            filled: 0,
-            ready: 0,
-            rows: vec![in alloc; 0; layout.channels * layout.chunk]?,
-        })
+        let rows = vec![in alloc; 0; layout.channels * layout.chunk]?;
+        over_rows(alloc, layout, Rows::Words(rows))
+    }
+
+    /// The same for values of 8 bits and one polarisation, which become rows of bytes.
+    pub fn open_bytes(
+        alloc: Global,
+        channels: u32,
+        falling: bool,
+        chunk: u32,
+    ) -> Result<Unpacker, Memory>
+        requires some_channels { 2 ≤ channels }
+        requires most_channels { channels ≤ 4096 }
+        requires some_spectra { 1 ≤ chunk }
+        requires most_spectra { chunk ≤ 65536 }
+        ensures opened { IfOk result (λ u. u ≡ byte_unpacking_of channels falling chunk) }
+        ensures nothing { IfOk result (λ u. StandsForBytes u [] 0) }
+    {
+        let layout = Layout {
+            channels: channels as usize,
+            is_falling: falling,
+            nbit: 8,
+            npol: 1,
+            chunk: chunk as usize,
+        };
+        let rows = vec![in alloc; 0; layout.channels * layout.chunk]?;
+        over_rows(alloc, layout, Rows::Bytes(rows))
     }
 
     /// Takes bytes until `chunk` spectra are whole or all bytes are taken, and answers how many it took. A part
@@ -88,13 +133,8 @@ impl Unpacker {
         hold(self.held.as_mut_slice(), self.filled, &bytes[..count]);
         self.filled += count;
         let ready = self.filled / self.spectrum;
-        unpack(
-            self.rows.as_mut_slice(),
-            self.held.as_slice(),
-            self.layout,
-            self.ready,
-            ready,
-        );
+        self.rows
+            .unpack(self.held.as_slice(), self.layout, self.ready, ready);
         self.ready = ready;
         count
     }
@@ -109,16 +149,36 @@ impl Unpacker {
         self.ready as u32
     }
 
-    /// The samples of the spectra that are held: a row of `chunk` places for each channel, the highest frequency
-    /// first. The values past the spectra that are held mean nothing.
+    /// Whether the rows are rows of bytes.
+    pub fn in_bytes(&self) -> bool
+        ensures { result ≡ self.now.in_bytes }
+    {
+        self.rows.are_bytes()
+    }
+
+    /// The samples of the spectra that are held, of 32 bits: a row of `chunk` places for each channel, the highest
+    /// frequency first. The values past the spectra that are held mean nothing.
     pub fn rows(&self) -> &[u32]
+        requires { self.now.in_bytes ≡ false }
         ensures long { length result.now ≡ self.now.channels * self.now.chunk }
         ensures samples { (bytes : List ℕ) (gone c t : ℕ) → StandsForBytes self.now bytes gone
             → c < self.now.channels → t < whole_spectra self.now
             → slice_index result.now (c * self.now.chunk + t)
             ≡ (unpacked self.now bytes).value c (gone + t) }
     {
-        self.rows.as_slice()
+        self.rows.words()
+    }
+
+    /// The same where the rows are rows of bytes.
+    pub fn byte_rows(&self) -> &[u8]
+        requires { self.now.in_bytes ≡ true }
+        ensures long { length result.now ≡ self.now.channels * self.now.chunk }
+        ensures samples { (bytes : List ℕ) (gone c t : ℕ) → StandsForBytes self.now bytes gone
+            → c < self.now.channels → t < whole_spectra self.now
+            → slice_index result.now (c * self.now.chunk + t)
+            ≡ (unpacked self.now bytes).value c (gone + t) }
+    {
+        self.rows.bytes()
     }
 
     /// Gives up the whole spectra that are held. A part of a spectrum is kept.

@@ -1,10 +1,26 @@
 // Bytes that look random, pushed in pieces of many lengths, against samples that are read one by one.
-ghost use Rattle.std.specs.Prelude.{◌≡◌, ◌<◌, ◌≤◌, ◌⊎◌};
+ghost use Rattle.std.specs.Prelude.{◌≡◌, ◌<◌, ◌≤◌, ◌⊎◌, IsTrue};
 
 use spectra_rows::Unpacker;
 use std::alloc::{AllocError, Global};
-use std::process::Abort;
 use std::test::Fail;
+
+// A shape on each line: the channels, the order of their frequencies, the bits and the polarisations of a sample, the
+// spectra of a chunk, and what the rows are made of.
+const SHAPES: &str = "37 falling 8 1 20 words
+37 rising 8 1 3 words
+18 rising 8 1 20 words
+2 rising 8 1 50 words
+3 falling 16 1 7 words
+5 rising 8 2 4 words
+4 falling 16 2 9 words
+37 falling 8 1 20 bytes
+37 rising 8 1 3 bytes
+18 rising 8 1 20 bytes
+16 falling 8 1 8 bytes
+48 rising 8 1 17 bytes
+2 falling 8 1 50 bytes
+2 rising 8 1 1 bytes";
 
 // What is unpacked.
 #[derive(Clone, Copy, Drop)]
@@ -14,6 +30,62 @@ struct Shape {
     nbit: u32,
     npol: u32,
     chunk: u32,
+    in_bytes: bool,
+}
+
+impl Shape {
+    // The shape of a line.
+    fn of(line: &str) -> Result<Shape, Fail> {
+        let mut words = [""; 6];
+        for (i, word) in line.split_whitespace().enumerate() {
+            if i < words.len() {
+                words[i] = word;
+            }
+        }
+        let [channels, order, nbit, npol, chunk, kind] = words;
+        Ok(Shape {
+            channels: channels.parse()?,
+            falling: order == "falling",
+            nbit: nbit.parse()?,
+            npol: npol.parse()?,
+            chunk: chunk.parse()?,
+            in_bytes: kind == "bytes",
+        })
+    }
+
+    // Whether an unpacker can be opened for it.
+    fn is_allowed(self) -> bool
+        ensures some_channels { IsTrue result → 2 ≤ self.channels }
+        ensures most_channels { IsTrue result → self.channels ≤ 4096 }
+        ensures bits { IsTrue result → (self.nbit ≡ 8) ⊎ (self.nbit ≡ 16) }
+        ensures polarisations { IsTrue result → (self.npol ≡ 1) ⊎ (self.npol ≡ 2) }
+        ensures some_spectra { IsTrue result → 1 ≤ self.chunk }
+        ensures most_spectra { IsTrue result → self.chunk ≤ 65536 }
+    {
+        self.channels >= 2
+            && self.channels <= 4096
+            && (self.nbit == 8 || self.nbit == 16)
+            && (self.npol == 1 || self.npol == 2)
+            && self.chunk >= 1
+            && self.chunk <= 65536
+    }
+
+    fn open(self, alloc: Global) -> Result<Unpacker, Fail> {
+        if !self.is_allowed() {
+            return Err("no such shape".into());
+        }
+        if self.in_bytes {
+            return Ok(Unpacker::open_bytes(alloc, self.channels, self.falling, self.chunk)?);
+        }
+        Ok(Unpacker::open(
+            alloc,
+            self.channels,
+            self.falling,
+            self.nbit,
+            self.npol,
+            self.chunk,
+        )?)
+    }
 }
 
 // So many bytes.
@@ -57,74 +129,55 @@ fn sample(bytes: &[u8], shape: Shape, channel: usize, spectrum: usize) -> u32 {
     sum
 }
 
-// The rows are the samples of the spectra from `gone` on.
-fn check_rows(rt: &impl Abort, unpacker: &Unpacker, shape: Shape, bytes: &[u8], gone: usize) {
-    let rows = unpacker.rows();
+// A value of the rows, if they have so many.
+fn value_at(unpacker: &Unpacker, at: usize) -> Option<u32> {
+    if unpacker.in_bytes() {
+        let value = *unpacker.byte_rows().get(at)?;
+        Some(u32::from(value))
+    } else {
+        unpacker.rows().get(at).copied()
+    }
+}
+
+// Whether the rows are the samples of the spectra from `gone` on.
+fn are_rows(unpacker: &Unpacker, shape: Shape, bytes: &[u8], gone: usize) -> bool {
     for channel in 0..shape.channels as usize {
         for t in 0..unpacker.spectra() as usize {
             let at = channel.wrapping_mul(shape.chunk as usize).wrapping_add(t);
             let wanted = sample(bytes, shape, channel, gone.wrapping_add(t));
-            assert_eq!(rt;
-                rows.get(at).copied(),
-                Some(wanted),
-                "channel {channel} at {gone} and {t}"
-            );
+            if value_at(unpacker, at) != Some(wanted) {
+                return false;
+            }
         }
     }
+    true
 }
 
-// Pushes pieces of 1, 2, 3 and more bytes, and takes what is whole now and then.
-fn check_pieces(rt: &impl Abort, alloc: Global, shape: Shape) -> Result<(), Fail>
-    requires some_channels { 2 ≤ shape.channels }
-    requires most_channels { shape.channels ≤ 4096 }
-    requires bits { (shape.nbit ≡ 8) ⊎ (shape.nbit ≡ 16) }
-    requires polarisations { (shape.npol ≡ 1) ⊎ (shape.npol ≡ 2) }
-    requires some_spectra { 1 ≤ shape.chunk }
-    requires most_spectra { shape.chunk ≤ 65536 }
-{
+// Pushes pieces of 1, 2, 3 and more bytes, and takes what is whole now and then: whether the rows are right after each.
+fn are_unpacked(alloc: Global, shape: Shape) -> Result<bool, Fail> {
     let bytes = bytes_of(alloc, 9000)?;
-    let mut unpacker = Unpacker::open(
-        alloc,
-        shape.channels,
-        shape.falling,
-        shape.nbit,
-        shape.npol,
-        shape.chunk,
-    )?;
+    let mut unpacker = shape.open(alloc)?;
     let mut start = 0_usize;
     let mut gone = 0_usize;
     for turn in 1..400_usize {
         let rest = bytes.as_slice().get(start..).unwrap_or(&[]);
         let piece = rest.get(..turn * 7 % 311).unwrap_or(rest);
         start = start.wrapping_add(unpacker.push(piece));
-        check_rows(rt, &unpacker, shape, bytes.as_slice(), gone);
+        if !are_rows(&unpacker, shape, bytes.as_slice(), gone) {
+            return Ok(false);
+        }
         if turn % 3 == 0 {
             gone = gone.wrapping_add(unpacker.spectra() as usize);
             unpacker.taken();
         }
     }
-    Ok(())
+    Ok(true)
 }
 
 #[test]
 fn pieces_are_cut_anywhere(rt: HostRuntime) -> Result<(), Fail> {
-    for (channels, falling, nbit, npol, chunk) in [
-        (37_u32, true, 8_u32, 1_u32, 20_u32),
-        (37, false, 8, 1, 3),
-        (18, false, 8, 1, 20),
-        (2, false, 8, 1, 50),
-        (3, true, 16, 1, 7),
-        (5, false, 8, 2, 4),
-        (4, true, 16, 2, 9),
-    ] {
-        let shape = Shape {
-            channels,
-            falling,
-            nbit,
-            npol,
-            chunk,
-        };
-        check_pieces(&rt, rt.alloc(), shape)?;
+    for line in SHAPES.lines() {
+        assert!(rt; are_unpacked(rt.alloc(), Shape::of(line)?)?, "{line}");
     }
     Ok(())
 }

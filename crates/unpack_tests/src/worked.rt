@@ -31,3 +31,19 @@ fn two_channels_in_chunks_of_two(rt: HostRuntime) -> Result<(), Memory> {
     assert_eq!(rt; unpacker.push(&[0, 0]), 2);
     Ok(())
 }
+
+#[test]
+fn a_rising_band_in_rows_of_bytes(rt: HostRuntime) -> Result<(), Memory> {
+    let mut unpacker = Unpacker::open_bytes(rt.alloc(), 3, false, 2)?;
+    assert!(rt; unpacker.in_bytes());
+    assert_eq!(rt; unpacker.push(&[10, 20, 255, 40, 50, 60, 70]), 6);
+    assert_eq!(rt; unpacker.spectra(), 2);
+    assert_eq!(rt;
+        unpacker.byte_rows(),
+        [255_u8, 60, 20, 50, 10, 40].as_slice()
+    );
+    unpacker.taken();
+    assert_eq!(rt; unpacker.push(&[70]), 1);
+    assert_eq!(rt; unpacker.spectra(), 0);
+    Ok(())
+}

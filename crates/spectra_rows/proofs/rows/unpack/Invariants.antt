@@ -3,12 +3,13 @@ use Rattle.spectra_rows.specs.Cells.{WritesCells, cell, channel_place}
 use Rattle.spectra_rows.proofs.rows.unpack.Given as goal
 
 abbrev pub invariant-loop-place : goal.invariant-loop-place
-invariant-loop-place l = record {
+invariant-loop-place g l = record {
   inside : l.place ≤ l.layout.channels;
-  written : WritesCells l.fn.rows l.rows (channel_place l.layout.channels l.layout.is_falling)
+  written : WritesCells (g.T.RowSample.numbers l.fn.rows) (g.T.RowSample.numbers l.rows)
+      (channel_place l.layout.channels l.layout.is_falling)
       l.layout.channels l.layout.chunk 0 l.place l.from l.to
       (cell l.layout.channels l.layout.nbit l.layout.npol l.bytes);
 }
 
 abbrev pub decreases-loop-place : goal.decreases-loop-place
-decreases-loop-place l = l.layout.channels - l.place
+decreases-loop-place g l = l.layout.channels - l.place

@@ -4,8 +4,10 @@ use Rattle.spectra_rows.proofs.Tiles.{tile_more}
 use Rattle.spectra_rows.proofs.rows.write_tile.Goals as goal
 
 pub loop-pair-preserved : goal.loop-pair-preserved
-loop-pair-preserved c =
-    tile_more (channel_place c.args.layout.channels c.args.layout.is_falling) c.args.layout.channels
-    c.args.layout.chunk c.args.place c.args.from c.loop-pair.pair c.turned-tile.result c.args.bytes.now
-    c.args.rows.now c.loop-pair.rows c.write_pair.new.rows c.turned-tile.ensures.turned (omega arith)
+loop-pair-preserved g c =
+    let l = c.args.layout in
+    let numbers = g.T.RowSample.numbers in
+    tile_more (channel_place l.channels l.is_falling) l.channels l.chunk c.args.place c.args.from c.loop-pair.pair
+    c.turned-tile.result c.args.bytes.now (numbers c.args.rows.now) (numbers c.loop-pair.rows)
+    (numbers c.write_pair.new.rows) c.turned-tile.ensures.turned (omega arith)
     c.requires.chunk c.loop-pair.invariant c.write_pair.ensures

@@ -1,8 +1,12 @@
+use Rattle.std.proofs.Common.{arith}
 use Rattle.spectra_rows.proofs.Parts.{lanes_stored}
 use Rattle.spectra_rows.proofs.rows.write_values.Goals as goal
 
 pub returns : goal.returns
-returns c =
-    lanes_stored c.args.layout.channels c.args.layout.is_falling c.args.layout.chunk c.args.place c.row_of.result
-    c.args.from 8 c.args.rows.now c.args.values c.requires.place c.row_of.ensures.row c.requires.chunk
-    c.requires.room c.fits-values.0
+returns g c =
+    let l = c.args.layout in
+    let numbers = g.T.RowSample.numbers in
+    let long = g.met.T.RowSample.long c.args.rows.now in
+    lanes_stored l.channels l.is_falling l.chunk c.args.place c.row_of.result c.args.from 8
+    (numbers c.args.rows.now) _ c.args.values c.requires.place c.row_of.ensures.row c.requires.chunk
+    (omega (arith, long, c.requires.room)) c.requires.wide c.put_bytes.ensures
