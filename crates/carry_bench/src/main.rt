@@ -1,7 +1,7 @@
 //! Takes spectra into tables of 1024 channels and delays from 0 to 1024 spectra, chunk by chunk.
 //!
 //! With the words `feed CHUNK TIMES` or `pass CHUNK TIMES` it takes a chunk of so many spectra so often, and prints the
-//! time; the samples look random, and are the same in each chunk. With no words it does a little of each.
+//! time; the samples are bytes that look random, the same in each chunk. With no words it does a little of each.
 #![tactic(auto)]
 
 mod work;

@@ -4,7 +4,7 @@ ghost use Rattle.dada_model.specs.Edges.{AreEdges};
 ghost use Rattle.fdmt_carry.specs.Carrying.{Carrying};
 ghost use Rattle.carry_bench.specs.Ready.{IsReady};
 
-use fdmt_carry::Carry;
+use fdmt_carry::{Carry, Samples};
 use psr_base::Memory;
 use std::alloc::Global;
 use subband_plan::Plan;
@@ -37,7 +37,7 @@ pub struct Work {
 #[derive(Drop)]
 pub struct Bench {
     carry: Carry,
-    samples: Vec<u32>,
+    samples: Vec<u8>,
     work: Work,
     ghost ready: { IsReady carry work.chunk (length samples.items) },
 }
@@ -73,11 +73,9 @@ impl Bench {
         if self.carry.fed() >= MOST {
             return 0;
         }
-        let samples = self.samples.as_slice();
-        match self.work.way {
-            Way::Feed => self.carry.feed(samples, self.work.chunk),
-            Way::Pass => self.carry.pass(samples, self.work.chunk),
-        }
+        let samples = Samples::Bytes(self.samples.as_slice());
+        let with_tables = self.work.way == Way::Feed;
+        self.carry.take(samples, self.work.chunk, with_tables);
         self.carry.sum(LAST, 0)
     }
 
@@ -110,14 +108,14 @@ fn open_carry(alloc: Global, chunk: u32) -> Result<Carry, Memory>
 }
 
 // So many samples that look random.
-fn make_samples(alloc: Global, count: usize) -> Result<Vec<u32>, Memory>
+fn make_samples(alloc: Global, count: usize) -> Result<Vec<u8>, Memory>
     ensures { IfOk result (λ samples. length samples.items ≡ count) }
 {
     let mut samples = Vec::with_capacity(alloc, count)?;
     let mut state = 13_u32;
     for done in 0..count {
         state = state.wrapping_mul(1_103_515_245).wrapping_add(12_345);
-        samples.push(state >> 27)?;
+        samples.push((state >> 27) as u8)?;
     }
     Ok(samples)
 }

@@ -6,7 +6,7 @@ ghost use Rattle.fdmt_carry.specs.Tables.{node_count};
 ghost use Rattle.carry_tests.specs.Ready.{IsReady};
 
 use crate::direct::{Stream, delays_of};
-use fdmt_carry::Carry;
+use fdmt_carry::{Carry, Samples};
 use psr_base::Memory;
 use std::alloc::Global;
 use subband_plan::{Node, Plan};
@@ -57,13 +57,24 @@ impl Fed {
         })
     }
 
-    /// Feeds or passes the next spectra, and answers how many sums of all rows that stand are not the direct ones.
-    pub fn check(&mut self, alloc: Global, count: u32, whole: bool) -> Result<u64, Memory> {
+    /// Feeds or passes the next spectra, as bytes or as words, and answers how many sums of all rows that stand are not
+    /// the direct ones.
+    pub fn check(
+        &mut self,
+        alloc: Global,
+        count: u32,
+        whole: bool,
+        in_bytes: bool,
+    ) -> Result<u64, Memory> {
         let count = count.min(self.shape.chunk);
         self.count = count;
         if self.carry.fed() < MOST {
             let rows = self.rows(alloc, count)?;
-            if whole {
+            if in_bytes {
+                let bytes = bytes_of(alloc, rows.as_slice())?;
+                self.carry
+                    .take(Samples::Bytes(bytes.as_slice()), count, whole);
+            } else if whole {
                 self.carry.feed(rows.as_slice(), count);
             } else {
                 self.carry.pass(rows.as_slice(), count);
@@ -157,6 +168,17 @@ pub fn table_of(carry: &Carry, k: usize, d: u32) -> &[u32] {
         return &[];
     }
     carry.table(k, d)
+}
+
+// The last eight bits of each value, which are all of a sample.
+fn bytes_of(alloc: Global, rows: &[u32]) -> Result<Vec<u8>, Memory>
+    ensures { IfOk result (λ bytes. length bytes.items ≡ length rows.now) }
+{
+    let mut bytes = Vec::new(alloc);
+    for place in 0..rows.len() {
+        bytes.push((rows[place] % 256) as u8)?;
+    }
+    Ok(bytes)
 }
 
 // Edges that fall by 250 kHz down to 15 MHz.

@@ -2,6 +2,9 @@
 use crate::fed::{Fed, Shape};
 use psr_base::Memory;
 
+/// Whether all tables are to stand after a call, and whether it takes bytes.
+const WAYS: [(bool, bool); 4] = [(true, false), (false, true), (true, true), (false, false)];
+
 #[test]
 fn chunks_of_1_7_and_64_spectra(rt: HostRuntime) -> Result<(), Memory> {
     let shape = Shape {
@@ -14,7 +17,7 @@ fn chunks_of_1_7_and_64_spectra(rt: HostRuntime) -> Result<(), Memory> {
     let counts = [1, 7, 64, 1, 1, 7, 64, 0, 7, 7, 64, 1, 7, 5, 64];
     for (turn, count) in counts.into_iter().enumerate() {
         assert_eq!(rt;
-            fed.check(rt.alloc(), count, turn % 3 != 1)?,
+            fed.check(rt.alloc(), count, turn % 3 != 1, turn % 2 == 1)?,
             0,
             "call {turn}"
         );
@@ -40,9 +43,9 @@ fn few_and_many_channels(rt: HostRuntime) -> Result<(), Memory> {
             chunk,
         };
         let mut fed = Fed::new(rt.alloc(), shape, 12)?;
-        for whole in [true, false, true] {
+        for (whole, in_bytes) in WAYS {
             assert_eq!(rt;
-                fed.check(rt.alloc(), chunk, whole)?,
+                fed.check(rt.alloc(), chunk, whole, in_bytes)?,
                 0,
                 "{channels} channels"
             );
@@ -60,8 +63,8 @@ fn a_delay_beyond_all_that_is_fed(rt: HostRuntime) -> Result<(), Memory> {
         chunk: 16,
     };
     let mut fed = Fed::new(rt.alloc(), shape, 30)?;
-    for whole in [true, false, true] {
-        assert_eq!(rt; fed.check(rt.alloc(), 10, whole)?, 0);
+    for (whole, in_bytes) in WAYS {
+        assert_eq!(rt; fed.check(rt.alloc(), 10, whole, in_bytes)?, 0);
     }
     Ok(())
 }

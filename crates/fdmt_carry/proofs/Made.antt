@@ -1,17 +1,19 @@
 -- How a row is made, and what stays.
-use Rattle.std.proofs.Common.{◌≡◌, ℕ, ◌+◌, ◌-◌, ◌≤◌, List, length, slice_index, take, drop, arith, sym, ap, subst, ◌∙◌}
+use Rattle.std.proofs.Common.{◌≡◌, ℕ, ◌+◌, ◌-◌, ◌*◌, ◌≤◌, List, length, slice_index, take, drop, arith, sym, ap, subst, ◌∙◌}
 use Rattle.std.proofs.lemmas.List.{get_or-take}
+use Rattle.std.proofs.Math.Nat.{mod-eq_of_lt}
 use borrow.Rule.Slice.PartMut.{put_mid}
+use Rattle.band_paths.specs.Edges.{channels_of}
 use Rattle.search_model.specs.Samples.{Filterbank}
 use Rattle.search_model.specs.SubbandLaws.{HalvesAdd, OneChannelAdds, OneChannelIsItsSample, TimeShifts}
 use Rattle.subband_plan.specs.declared.rows.Merge.{Merge}
 use Rattle.subband_plan.specs.Nodes.{split_of}
 use Rattle.fdmt_rows.specs.Rows.{wrapping_sum}
 use Rattle.fdmt_carry.specs.Values.{Begins, GoesOn, GoesOnWith, after}
-use Rattle.fdmt_carry.specs.Tables.{Tables, AreTables, IsRow, ListsRow, node_of, tail_of, row_number, start_of, held_at, place_at, place_of, hold_of, row_value}
-use Rattle.fdmt_carry.specs.Making.{IsPair, IsSingle, IsMerge, IsRunOn, ChannelHas, AreSamples, AreHalves, KeepsTail, HasRowAt, HaveHalfRows, RowStandsAt, RowStands, ChangesRowAt, ChangesRow, lower_of}
+use Rattle.fdmt_carry.specs.Tables.{Tables, AreTables, IsRow, HasNext, ListsRow, node_of, tail_of, row_number, start_of, held_at, place_at, place_of, hold_of, row_value}
+use Rattle.fdmt_carry.specs.Making.{IsPair, IsSingle, IsPart, IsMerge, IsRunOn, ChannelHas, AreSamples, AreHalves, KeepsTail, HasRowAt, HaveHalfRows, RowStandsAt, RowStands, ChangesRowAt, ChangesRow, lower_of}
 use Rattle.fdmt_carry.proofs.Law.{value_later, merged_value, channel_value, sample_value}
-use Rattle.fdmt_carry.proofs.Parts.{part_begins, put_listed, put_stays, parts_go_on}
+use Rattle.fdmt_carry.proofs.Parts.{part_length, part_at, part_begins, put_listed, put_stays, parts_go_on}
 
 -- A row is written at a place, and what is kept of it where it stands: what was kept begins the
 -- row, and it goes on with its values.
@@ -213,3 +215,23 @@ samples_go_on is_sample shifts t is f u k len samples single are len_is i lt =
 -- the row of delay 0 is the first of the node
 pub zero_first : (t : Tables) (k : ℕ) → row_number t k 0 ≡ start_of t k
 zero_first t k = omega arith
+
+-- the next spectra of the channel of a node are a part of those of all channels
+pub channel_samples : (t : Tables) → AreTables t → (f : Filterbank) (u spectra k at : ℕ) (rows samples : List ℕ) →
+    IsSingle t k → IsPart t k → spectra ≤ t.chunk → length rows ≡ channels_of t.plan.edges * t.chunk →
+    at ≡ (node_of t k).lo * t.chunk → samples ≡ take spectra (drop at rows) → HasNext t f u spectra rows →
+    AreSamples t f u k samples
+channel_samples t is f u spectra k at rows samples single part short long at_is samples_are next =
+    let branch = (is.laid.each k single.node).branch in
+    let within = branch.within in
+    let some = branch.some in
+    let inside = part.samples in
+    let size : length (take spectra (drop at rows)) ≡ spectra = part_length at spectra rows (omega arith) in
+    subst (λ xs. AreSamples t f u k xs) (sym samples_are) (record {
+      channels = next.channels;
+      are = λ i lt.
+          part_at at spectra rows i (omega arith)
+          ∙ ap (λ p. slice_index rows (p + i)) at_is
+          ∙ next.samples (node_of t k).lo i (let channels = next.channels in omega arith) (omega arith)
+          ∙ sym (mod-eq_of_lt (next.fits (node_of t k).lo (u + i)));
+    })

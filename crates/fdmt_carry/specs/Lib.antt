@@ -4,4 +4,5 @@ pub mod Narrow
 pub mod Reading
 pub mod Values
 pub mod Carrying
+pub mod Samples
 pub mod Steps

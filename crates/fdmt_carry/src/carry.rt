@@ -6,8 +6,10 @@ ghost use Rattle.search_model.specs.Sums.{path_sum};
 ghost use Rattle.search_model.specs.Subbands.{node_sum};
 ghost use Rattle.subband_plan.specs.Nodes.{HasRow, root};
 ghost use Rattle.fdmt_carry.specs.Tables.{node_of, node_count};
+ghost use Rattle.fdmt_carry.specs.Samples.{values_of};
 ghost use Rattle.fdmt_carry.specs.Carrying.{Carrying, IsOpened, IsFed, IsStream, AreNext, StandsForSamples, IsSound, carrying};
 
+use crate::samples::Samples;
 use crate::tables::Tables;
 use psr_base::Memory;
 use search_model::{nothing_before, whole_band_is_path_sum};
@@ -80,7 +82,7 @@ impl Carry {
         ensures stands { (f : Filterbank) → StandsForSamples self.old f
             → AreNext self.old f rows.now spectra → StandsForSamples self.new f }
     {
-        self.take(rows, spectra, true);
+        self.take(Samples::Words(rows), spectra, true);
     }
 
     /// Takes the next spectra as `feed` does, but only the rows of the whole band stand after it.
@@ -94,19 +96,20 @@ impl Carry {
         ensures stands { (f : Filterbank) → StandsForSamples self.old f
             → AreNext self.old f rows.now spectra → StandsForSamples self.new f }
     {
-        self.take(rows, spectra, false);
+        self.take(Samples::Words(rows), spectra, false);
     }
 
-    // Takes the next spectra; `whole` says whether the tables of all nodes stand after it.
-    fn take(&mut self, rows: &[u32], spectra: u32, whole: bool)
-        requires rows { length rows.now
+    /// Takes the next spectra: the samples of channel `c`, the highest frequency first, begin at `c * chunk`.
+    /// `with_tables` says whether the tables of all nodes stand after it, or only the rows of the whole band.
+    pub fn take(&mut self, samples: Samples<'_>, spectra: u32, with_tables: bool)
+        requires rows { length (values_of samples)
             ≡ channels_of self.old.tables.plan.edges * self.old.tables.chunk }
         requires short { spectra ≤ self.old.tables.chunk }
         requires few { self.old.fed + spectra ≤ 2 ^ 48 }
         ensures fed { IsFed self.old self.new spectra }
-        ensures tables { self.new.has_tables ≡ whole }
+        ensures tables { self.new.has_tables ≡ with_tables }
         ensures stands { (f : Filterbank) → StandsForSamples self.old f
-            → AreNext self.old f rows.now spectra → StandsForSamples self.new f }
+            → AreNext self.old f (values_of samples.entry) spectra → StandsForSamples self.new f }
     {
         self.tables.hold();
         self.tables.whole_of();
@@ -117,15 +120,15 @@ impl Carry {
             0,
             values,
             kept,
-            rows,
+            samples,
             spectra as usize,
-            whole,
+            with_tables,
             self.max_sample,
             narrow,
         );
         self.fed += u64::from(spectra);
         self.last = spectra;
-        self.has_tables = whole;
+        self.has_tables = with_tables;
     }
 
     /// How many spectra were fed and passed in all.

@@ -5,6 +5,8 @@
 
 mod carry;
 mod rows;
+mod samples;
 mod tables;
 
 pub use carry::Carry;
+pub use samples::Samples;

@@ -1,7 +1,9 @@
 // One row: the values that are kept of it, and after these the values of the next spectra.
 ghost use Rattle.std.specs.Prelude.{◌≡◌, ℕ, ◌+◌, length};
+ghost use Rattle.fdmt_carry.specs.Samples.{values_of};
 ghost use Rattle.fdmt_carry.specs.Values.{Begins, GoesOn, GoesOnWith, GoesOnNarrow, GoesOnNarrowWith, after};
 
+use crate::samples::Samples;
 use fdmt_rows::{add_narrow_rows, add_rows, add_widened_rows, narrow_row, widen_row};
 
 // The row goes on with the sums of two others, and as much as before is kept of its end.
@@ -45,17 +47,17 @@ pub fn add_next_widening(row: &mut [u32], kept: &mut [u32], upper: &[u16], lower
 }
 
 // The row goes on with samples.
-pub fn copy_next(row: &mut [u32], kept: &mut [u32], samples: &[u32])
-    requires { length row.old ≡ length kept.old + length samples.now }
+pub fn copy_next(row: &mut [u32], kept: &mut [u32], samples: Samples<'_>)
+    requires { length row.old ≡ length kept.old + length (values_of samples) }
     ensures row { (g : ℕ → ℕ) → Begins g kept.old
-        → GoesOnWith g (length kept.old) samples.now → Begins g row.new }
+        → GoesOnWith g (length kept.old) (values_of samples.entry) → Begins g row.new }
     ensures kept { (g : ℕ → ℕ) → Begins g kept.old
-        → GoesOnWith g (length kept.old) samples.now
-        → Begins (after g (length samples.now)) kept.new }
+        → GoesOnWith g (length kept.old) (values_of samples.entry)
+        → Begins (after g (length (values_of samples.entry))) kept.new }
 {
     let (front, next) = row.split_at_mut(kept.len());
     front.copy_from_slice(kept);
-    next.copy_from_slice(samples);
+    samples.copy_to(next);
     kept.copy_from_slice(&row[samples.len()..]);
 }
 
@@ -80,16 +82,16 @@ pub fn add_next_narrow(row: &mut [u16], kept: &mut [u32], upper: &[u16], lower: 
 }
 
 // The row goes on with samples, in 16 bits.
-pub fn copy_next_narrow(row: &mut [u16], kept: &mut [u32], samples: &[u32])
-    requires { length row.old ≡ length kept.old + length samples.now }
+pub fn copy_next_narrow(row: &mut [u16], kept: &mut [u32], samples: Samples<'_>)
+    requires { length row.old ≡ length kept.old + length (values_of samples) }
     ensures row { (g : ℕ → ℕ) → Begins g kept.old
-        → GoesOnNarrowWith g (length kept.old) samples.now → Begins g row.new }
+        → GoesOnNarrowWith g (length kept.old) (values_of samples.entry) → Begins g row.new }
     ensures kept { (g : ℕ → ℕ) → Begins g kept.old
-        → GoesOnNarrowWith g (length kept.old) samples.now
-        → Begins (after g (length samples.now)) kept.new }
+        → GoesOnNarrowWith g (length kept.old) (values_of samples.entry)
+        → Begins (after g (length (values_of samples.entry))) kept.new }
 {
     let (front, next) = row.split_at_mut(kept.len());
     narrow_row(front, kept);
-    narrow_row(next, samples);
+    samples.narrow_to(next);
     widen_row(kept, &row[samples.len()..]);
 }

@@ -1,8 +1,9 @@
 -- A row that is written a step at a time.
-use Rattle.std.proofs.Common.{◌≡◌, ℕ, ◌+◌, ◌-◌, ◌<◌, ◌≤◌, inl, inr, List, length, slice_index, get_or, cond, ltb, max, ◌∙◌, sym, ap, subst, arith}
+use Rattle.std.proofs.Common.{◌≡◌, ℕ, ◌+◌, ◌-◌, ◌<◌, ◌≤◌, inl, inr, List, length, map, slice_index, get_or, cond, ltb, max, ◌∙◌, sym, ap, subst, arith}
 use Rattle.std.proofs.lemmas.Bool.{cases_lt}
 use Rattle.std.proofs.lemmas.Bool.Decides.{nat_tests}
 use Rattle.std.specs.Simd.Lanes.{zip2, chunk, put_chunk}
+use Rattle.std.proofs.lemmas.List.{get_or-map, length-map}
 use Rattle.std.proofs.lemmas.Simd.{get_or-put_chunk_below, get_or-put_chunk_at, get_or-put_chunk_above, get_or-chunk, get_or-zip2, length-zip2, length-chunk}
 use Rattle.fdmt_rows.specs.Writes.{Writes}
 
@@ -20,6 +21,14 @@ stored xs lanes at n value long fits is = record {
       subst P e (get_or-put_chunk_at at xs lanes j 0 (omega arith) (omega arith) ∙ is j lt);
   after = λ k h. get_or-put_chunk_above at xs lanes k 0 (omega arith);
 }
+
+-- the lanes of a row from a place on, stored in another width
+pub cast_stored : (xs ys : List ℕ) (at n : ℕ) → at + n ≤ length xs → at + n ≤ length ys
+    → Writes xs (put_chunk at xs (map (λ x. x) (chunk at n ys))) at (at + n) (λ k. slice_index ys k)
+cast_stored xs ys at n fits inside =
+    let long : length (chunk at n ys) ≡ n = length-chunk at n ys inside in
+    stored xs _ at n _ (length-map (chunk at n ys) (λ x. x) ∙ long) fits
+    (λ j lt. get_or-map (λ x. x) (chunk at n ys) j 0 0 (omega arith) ∙ get_or-chunk at n ys j 0 lt)
 
 -- the lanes of two rows from a place on, joined
 pub zipped : (f : ℕ → ℕ → ℕ) (a b : List ℕ) (at n : ℕ) → at + n ≤ length a → at + n ≤ length b

@@ -12,7 +12,7 @@ mod narrow;
 pub use adding_maxima::add_rows_greatest;
 use lanes::{add_to_whole_lanes, add_whole_lanes, widen_whole_lanes};
 use maxima::{greatest_lanes, greatest_of_lanes};
-pub use narrow::{add_narrow_rows, add_widened_rows, narrow_row, widen_row};
+pub use narrow::{add_narrow_rows, add_widened_rows, narrow_row, widen_row, widen_to_narrow};
 
 /// Adds two rows value by value, in 32 bits.
 pub fn add_rows(out: &mut [u32], a: &[u32], b: &[u32])

@@ -1,5 +1,5 @@
-// Rows of values of 16 bits: their sums, and values of 32 bits in 16 bits and back. The loops over whole lanes take
-// sixteen values a step, and say how far they came.
+// Rows of values of 16 bits: their sums, values of 32 bits in 16 bits and back, and bytes. The loops over whole lanes
+// take sixteen values a step, and say how far they came.
 ghost use Rattle.std.specs.Prelude.{◌≡◌, ◌+◌, ◌%◌, ◌^◌, ◌<◌, ◌≤◌, length, slice_index};
 ghost use Rattle.fdmt_rows.specs.Rows.{wrapping_sum, narrow_sum, AddsWrapping, AddsNarrowly, Narrows};
 ghost use Rattle.fdmt_rows.specs.Writes.{Writes};
@@ -122,6 +122,32 @@ fn widen_whole_lanes(out: &mut [u32], values: &[u16]) -> usize
     done
 }
 
+#[inline(always)]
+fn widen_byte_lanes(out: &mut [u16], bytes: &[u8], at: usize)
+    requires room { at + LANES ≤ length out.old }
+    requires same { length bytes.now ≡ length out.old }
+    ensures { Writes out.old out.new at (at + LANES) (λ k. slice_index bytes.now k) }
+{
+    u8x16::from_slice(&bytes[at..])
+        .cast::<u16>()
+        .copy_to_slice(&mut out[at..]);
+}
+
+#[inline(always)]
+fn widen_whole_byte_lanes(out: &mut [u16], bytes: &[u8]) -> usize
+    requires { length bytes.now ≡ length out.old }
+    ensures within { result ≤ length out.new }
+    ensures whole { length out.new < result + LANES }
+    ensures widened { Writes out.old out.new 0 result (λ k. slice_index bytes.now k) }
+{
+    let mut done = 0;
+    while out.len() - done >= LANES {
+        widen_byte_lanes(out, bytes, done);
+        done += LANES;
+    }
+    done
+}
+
 /// Adds two rows value by value, in 16 bits.
 pub fn add_narrow_rows(out: &mut [u16], a: &[u16], b: &[u16])
     requires first { length a.now ≡ length out.old }
@@ -161,5 +187,15 @@ pub fn widen_row(out: &mut [u32], values: &[u16])
 {
     for k in widen_whole_lanes(out, values)..out.len() {
         out[k] = values[k] as u32;
+    }
+}
+
+/// Writes bytes as values of 16 bits.
+pub fn widen_to_narrow(out: &mut [u16], bytes: &[u8])
+    requires { length bytes.now ≡ length out.old }
+    ensures { out.new ≡ bytes.now }
+{
+    for k in widen_whole_byte_lanes(out, bytes)..out.len() {
+        out[k] = bytes[k] as u16;
     }
 }

@@ -2,11 +2,13 @@
 ghost use Rattle.std.specs.Prelude.{◌≡◌, ℕ, ◌+◌, ◌-◌, ◌*◌, ◌<◌, ◌≤◌, false, length};
 ghost use Rattle.search_model.specs.Samples.{Filterbank};
 ghost use Rattle.band_paths.specs.Edges.{channels_of};
+ghost use Rattle.fdmt_carry.specs.Samples.{values_of};
 ghost use Rattle.fdmt_carry.specs.Tables.{node_count, place_of, hold_of, next_of, stop_of, HasNext, AreKept};
 ghost use Rattle.fdmt_carry.specs.Making.{IsPair, IsWide, FitNode, HaveRoom, KeepsNode, KeepsPart, HalvesStand, WidePartStands, PartStands, lower_of};
 ghost use Rattle.fdmt_carry.specs.Narrow.{AreAtMost, IsNarrow};
 
 use super::Tables;
+use crate::samples::Samples;
 use fdmt_rows::widen_row;
 
 impl Tables {
@@ -18,7 +20,7 @@ impl Tables {
         k: usize,
         below: &mut [u32],
         kept: &mut [u32],
-        rows: &[u32],
+        samples: Samples<'_>,
         spectra: usize,
         whole: bool,
         most: u32,
@@ -29,14 +31,15 @@ impl Tables {
             ≤ place_of self.now (k + 1) + length below.old }
         requires tails { hold_of self.now (k + 1) + length kept.old
             ≡ hold_of self.now (next_of self.now k) }
-        requires rows { length rows.now ≡ channels_of self.now.plan.edges * self.now.chunk }
+        requires rows { length (values_of samples)
+            ≡ channels_of self.now.plan.edges * self.now.chunk }
         requires short { spectra ≤ self.now.chunk }
         ensures value { place_of self.now (k + 1) + result
             ≡ place_of self.now (stop_of self.now whole (k + 1)) }
         ensures within { result ≤ length below.new }
         ensures room { HaveRoom self.now k result (length below.new - result) }
         ensures made { (f : Filterbank) (u : ℕ) → AreAtMost most f
-            → HasNext self.now f u spectra rows.now
+            → HasNext self.now f u spectra (values_of samples.entry)
             → AreKept self.now f u (k + 1) (next_of self.now k) kept.old
             → HalvesStand self.now f u spectra whole k result below.new kept.new }
     {
@@ -45,10 +48,21 @@ impl Tables {
         self.parts_of(k);
         let low = self.lower(k);
         let (upper_kept, lower_kept) = kept.split_at_mut(self.kept_span(k + 1, low));
-        self.fill(k + 1, below, upper_kept, rows, spectra, whole, most, narrow);
+        self.fill(
+            k + 1,
+            below,
+            upper_kept,
+            samples,
+            spectra,
+            whole,
+            most,
+            narrow,
+        );
         let made = self.span(k + 1, self.stop(k + 1, whole));
         let (_, lower) = below.split_at_mut(made);
-        self.fill(low, lower, lower_kept, rows, spectra, whole, most, narrow);
+        self.fill(
+            low, lower, lower_kept, samples, spectra, whole, most, narrow,
+        );
         made
     }
 
@@ -63,7 +77,7 @@ impl Tables {
         below: &mut [u32],
         upper_kept: &mut [u32],
         lower_kept: &mut [u32],
-        rows: &[u32],
+        samples: Samples<'_>,
         spectra: usize,
         most: u32,
         narrow: &mut [u16],
@@ -77,9 +91,10 @@ impl Tables {
             ≡ hold_of self.now (next_of self.now (k + 1)) }
         requires lower { hold_of self.now (lower_of self.now k) + length lower_kept.old
             ≡ hold_of self.now (next_of self.now (lower_of self.now k)) }
-        requires rows { length rows.now ≡ channels_of self.now.plan.edges * self.now.chunk }
+        requires rows { length (values_of samples)
+            ≡ channels_of self.now.plan.edges * self.now.chunk }
         ensures { (f : Filterbank) (u : ℕ) → AreAtMost most f
-            → HasNext self.now f u spectra rows.now
+            → HasNext self.now f u spectra (values_of samples.entry)
             → KeepsNode self.now f u k kept.old
             → KeepsPart self.now f u (k + 1) upper_kept.old
             → KeepsPart self.now f u (lower_of self.now k) lower_kept.old
@@ -88,7 +103,7 @@ impl Tables {
     {
         if self.has_low_quarters(k, most, narrow.len()) {
             self.fill_widening(
-                k, table, kept, below, upper_kept, lower_kept, rows, spectra, most, narrow,
+                k, table, kept, below, upper_kept, lower_kept, samples, spectra, most, narrow,
             );
             return;
         }
@@ -103,7 +118,7 @@ impl Tables {
             k + 1,
             below,
             upper_tails,
-            rows,
+            samples,
             spectra,
             false,
             most,
@@ -115,7 +130,7 @@ impl Tables {
             low,
             rest,
             lower_tails,
-            rows,
+            samples,
             spectra,
             false,
             most,
@@ -149,7 +164,7 @@ impl Tables {
         k: usize,
         table: &mut [u32],
         kept: &mut [u32],
-        rows: &[u32],
+        samples: Samples<'_>,
         spectra: usize,
         most: u32,
         narrow: &mut [u16],
@@ -159,19 +174,20 @@ impl Tables {
             ≤ place_of self.now k + length table.old }
         requires tails { hold_of self.now k + length kept.old
             ≡ hold_of self.now (next_of self.now k) }
-        requires rows { length rows.now ≡ channels_of self.now.plan.edges * self.now.chunk }
+        requires rows { length (values_of samples)
+            ≡ channels_of self.now.plan.edges * self.now.chunk }
         requires short { spectra ≤ self.now.chunk }
         requires narrow { place_of self.now (next_of self.now k)
             ≤ place_of self.now k + length narrow.old }
         ensures { (f : Filterbank) (u : ℕ) → AreAtMost most f
-            → HasNext self.now f u spectra rows.now
+            → HasNext self.now f u spectra (values_of samples.entry)
             → KeepsPart self.now f u k kept.old
             → PartStands self.now f u spectra false k table.new kept.new }
     {
         self.hold();
         self.part_of(k);
         self.fits(most);
-        self.fill_narrow(k, narrow, kept, rows, spectra);
+        self.fill_narrow(k, narrow, kept, samples, spectra);
         let own = self.span(k, k + 1);
         widen_row(&mut table[..own], &narrow[..own]);
     }
@@ -184,7 +200,7 @@ impl Tables {
         k: usize,
         table: &mut [u32],
         kept: &mut [u32],
-        rows: &[u32],
+        samples: Samples<'_>,
         spectra: usize,
         whole: bool,
         most: u32,
@@ -195,23 +211,24 @@ impl Tables {
             ≤ place_of self.now k + length table.old }
         requires tails { hold_of self.now k + length kept.old
             ≡ hold_of self.now (next_of self.now k) }
-        requires rows { length rows.now ≡ channels_of self.now.plan.edges * self.now.chunk }
+        requires rows { length (values_of samples)
+            ≡ channels_of self.now.plan.edges * self.now.chunk }
         requires short { spectra ≤ self.now.chunk }
         ensures { (f : Filterbank) (u : ℕ) → AreAtMost most f
-            → HasNext self.now f u spectra rows.now
+            → HasNext self.now f u spectra (values_of samples.entry)
             → KeepsPart self.now f u k kept.old
             → PartStands self.now f u spectra whole k table.new kept.new }
     {
         self.hold();
         self.part_of(k);
         if self.is_low(k, most, narrow.len(), whole) {
-            self.fill_low(k, table, kept, rows, spectra, most, narrow);
+            self.fill_low(k, table, kept, samples, spectra, most, narrow);
             return;
         }
         let (own, below) = table.split_at_mut(self.span(k, k + 1));
         let (own_kept, below_kept) = kept.split_at_mut(self.kept_span(k, k + 1));
         if self.is_single(k) {
-            self.run_channel(k, own, own_kept, rows, spectra);
+            self.run_channel(k, own, own_kept, samples, spectra);
             return;
         }
         if self.is_wide(k, whole) {
@@ -219,11 +236,11 @@ impl Tables {
             let low = self.lower(k);
             let (upper_kept, lower_kept) = below_kept.split_at_mut(self.kept_span(k + 1, low));
             self.fill_wide(
-                k, own, own_kept, below, upper_kept, lower_kept, rows, spectra, most, narrow,
+                k, own, own_kept, below, upper_kept, lower_kept, samples, spectra, most, narrow,
             );
             return;
         }
-        let made = self.fill_halves(k, below, below_kept, rows, spectra, whole, most, narrow);
+        let made = self.fill_halves(k, below, below_kept, samples, spectra, whole, most, narrow);
         let (upper, lower) = below.split_at(made);
         self.merge(k, own, own_kept, upper, lower, spectra);
     }

@@ -3,6 +3,7 @@ ghost use Rattle.std.specs.Prelude.{◌≡◌, ℕ, ◌+◌, ◌-◌, ◌*◌, �
 ghost use Rattle.search_model.specs.Samples.{Filterbank};
 ghost use Rattle.band_paths.specs.Edges.{channels_of};
 ghost use Rattle.subband_plan.specs.Nodes.{HasKept};
+ghost use Rattle.fdmt_carry.specs.Samples.{values_of};
 ghost use Rattle.fdmt_carry.specs.Tables.{node_of, node_count, tail_of, row_number, place_of, hold_of, next_of, HasNext, AreKept};
 ghost use Rattle.fdmt_carry.specs.Making.{IsPair, IsSingle, IsWide, FitNode, HasRoom, HaveRoom, AreHalves, AreSamples, ChannelHas, KeepsTail, KeepsNode, KeepsPart, HaveHalfRows, RowStandsAt, RowStands, ChangesRowAt, ChangesRow, NodeStands, HalvesStand, PartStands, lower_of};
 ghost use Rattle.fdmt_carry.specs.Steps.{IsStep};
@@ -11,6 +12,7 @@ ghost use Rattle.fdmt_carry.specs.Narrow.{IsNarrow, HasNarrowHalves, HasNarrowQu
 use super::Tables;
 use super::steps::Step;
 use crate::rows::{add_next_narrow, copy_next_narrow};
+use crate::samples::Samples;
 use search_model::{
     halves_add, nothing_before, one_channel_adds, one_channel_is_its_sample, splits_fit,
     time_shifts,
@@ -272,14 +274,22 @@ impl Tables {
     }
 
     // Makes the row of delay 0 of a single channel, which has its samples, in 16 bits.
-    fn copy_row_narrow(&self, k: usize, table: &mut [u16], kept: &mut [u32], samples: &[u32])
+    fn copy_row_narrow(
+        &self,
+        k: usize,
+        table: &mut [u16],
+        kept: &mut [u32],
+        samples: Samples<'_>,
+        spectra: usize,
+    )
         requires node { IsSingle self.now k }
-        requires short { length samples.now ≤ self.now.chunk }
+        requires size { length (values_of samples) ≡ spectra }
+        requires short { spectra ≤ self.now.chunk }
         requires own { FitNode self.now k (length table.old) (length kept.old) }
         ensures made { (f : Filterbank) (u : ℕ) → NodeFits self.now f k
-            → AreSamples self.now f u k samples.now
+            → AreSamples self.now f u k (values_of samples.entry)
             → KeepsTail self.now f u k 0 kept.old
-            → RowStands self.now f u (length samples.now) k 0 table.new kept.new }
+            → RowStands self.now f u spectra k 0 table.new kept.new }
         ensures rest { ChangesRow self.now k (row_number self.now k 0) table.old table.new
             kept.old kept.new }
     {
@@ -287,29 +297,33 @@ impl Tables {
         one_channel_is_its_sample();
         time_shifts();
         let tail = self.tail(self.number(k, 0));
-        copy_next_narrow(
-            &mut table[..tail + samples.len()],
-            &mut kept[..tail],
-            samples,
-        );
+        copy_next_narrow(&mut table[..tail + spectra], &mut kept[..tail], samples);
     }
 
     // Makes the rows of a single channel in 16 bits from its samples.
-    fn run_narrow(&self, k: usize, table: &mut [u16], kept: &mut [u32], samples: &[u32])
+    fn run_narrow(
+        &self,
+        k: usize,
+        table: &mut [u16],
+        kept: &mut [u32],
+        samples: Samples<'_>,
+        spectra: usize,
+    )
         requires node { IsSingle self.now k }
-        requires short { length samples.now ≤ self.now.chunk }
+        requires size { length (values_of samples) ≡ spectra }
+        requires short { spectra ≤ self.now.chunk }
         requires own { FitNode self.now k (length table.old) (length kept.old) }
         ensures { (f : Filterbank) (u : ℕ) → NodeFits self.now f k
-            → AreSamples self.now f u k samples.now
+            → AreSamples self.now f u k (values_of samples.entry)
             → KeepsNode self.now f u k kept.old
-            → NodeStands self.now f u (length samples.now) k table.new kept.new }
+            → NodeStands self.now f u spectra k table.new kept.new }
     {
         self.hold();
-        self.copy_row_narrow(k, table, kept, samples);
+        self.copy_row_narrow(k, table, kept, samples, spectra);
         let first = self.start(k);
         for d in 1..self.node(k).last_row + 1 {
             let r = first + d as usize;
-            self.run_row_narrow(k, d, r, table, kept, samples.len());
+            self.run_row_narrow(k, d, r, table, kept, spectra);
         }
     }
 
@@ -319,22 +333,23 @@ impl Tables {
         k: usize,
         table: &mut [u16],
         kept: &mut [u32],
-        rows: &[u32],
+        samples: Samples<'_>,
         spectra: usize,
     )
         requires node { IsSingle self.now k }
         requires own { FitNode self.now k (length table.old) (length kept.old) }
-        requires rows { length rows.now ≡ channels_of self.now.plan.edges * self.now.chunk }
+        requires rows { length (values_of samples)
+            ≡ channels_of self.now.plan.edges * self.now.chunk }
         requires short { spectra ≤ self.now.chunk }
         ensures { (f : Filterbank) (u : ℕ) → NodeFits self.now f k
-            → HasNext self.now f u spectra rows.now
+            → HasNext self.now f u spectra (values_of samples.entry)
             → KeepsNode self.now f u k kept.old
             → NodeStands self.now f u spectra k table.new kept.new }
     {
         self.hold();
         self.part_of(k);
         let at = self.node(k).lo as usize * self.chunk();
-        self.run_narrow(k, table, kept, &rows[at..at + spectra]);
+        self.run_narrow(k, table, kept, samples.part(at, spectra), spectra);
     }
 
     // Makes the rows of both halves of node `k` in 16 bits, and of all nodes below them, and tells how many values come
@@ -345,7 +360,7 @@ impl Tables {
         k: usize,
         below: &mut [u16],
         kept: &mut [u32],
-        rows: &[u32],
+        samples: Samples<'_>,
         spectra: usize,
     ) -> usize
         requires node { IsPair self.now k }
@@ -353,13 +368,14 @@ impl Tables {
             ≤ place_of self.now (k + 1) + length below.old }
         requires tails { hold_of self.now (k + 1) + length kept.old
             ≡ hold_of self.now (next_of self.now k) }
-        requires rows { length rows.now ≡ channels_of self.now.plan.edges * self.now.chunk }
+        requires rows { length (values_of samples)
+            ≡ channels_of self.now.plan.edges * self.now.chunk }
         requires short { spectra ≤ self.now.chunk }
         ensures value { place_of self.now (k + 1) + result ≡ place_of self.now (k + 1 + 1) }
         ensures within { result ≤ length below.new }
         ensures room { HaveRoom self.now k result (length below.new - result) }
         ensures made { (f : Filterbank) (u : ℕ) → BelowFits self.now f k
-            → HasNext self.now f u spectra rows.now
+            → HasNext self.now f u spectra (values_of samples.entry)
             → AreKept self.now f u (k + 1) (next_of self.now k) kept.old
             → HalvesStand self.now f u spectra false k result below.new kept.new }
     {
@@ -368,10 +384,10 @@ impl Tables {
         self.parts_of(k);
         let low = self.lower(k);
         let (upper_kept, lower_kept) = kept.split_at_mut(self.kept_span(k + 1, low));
-        self.fill_narrow(k + 1, below, upper_kept, rows, spectra);
+        self.fill_narrow(k + 1, below, upper_kept, samples, spectra);
         let made = self.span(k + 1, k + 1 + 1);
         let (_, lower) = below.split_at_mut(made);
-        self.fill_narrow(low, lower, lower_kept, rows, spectra);
+        self.fill_narrow(low, lower, lower_kept, samples, spectra);
         made
     }
 
@@ -382,7 +398,7 @@ impl Tables {
         k: usize,
         table: &mut [u16],
         kept: &mut [u32],
-        rows: &[u32],
+        samples: Samples<'_>,
         spectra: usize,
     )
         requires node { k < node_count self.now }
@@ -390,10 +406,11 @@ impl Tables {
             ≤ place_of self.now k + length table.old }
         requires tails { hold_of self.now k + length kept.old
             ≡ hold_of self.now (next_of self.now k) }
-        requires rows { length rows.now ≡ channels_of self.now.plan.edges * self.now.chunk }
+        requires rows { length (values_of samples)
+            ≡ channels_of self.now.plan.edges * self.now.chunk }
         requires short { spectra ≤ self.now.chunk }
         ensures { (f : Filterbank) (u : ℕ) → PartFits self.now f k
-            → HasNext self.now f u spectra rows.now
+            → HasNext self.now f u spectra (values_of samples.entry)
             → KeepsPart self.now f u k kept.old
             → PartStands self.now f u spectra false k table.new kept.new }
     {
@@ -402,10 +419,10 @@ impl Tables {
         let (own, below) = table.split_at_mut(self.span(k, k + 1));
         let (own_kept, below_kept) = kept.split_at_mut(self.kept_span(k, k + 1));
         if self.is_single(k) {
-            self.run_channel_narrow(k, own, own_kept, rows, spectra);
+            self.run_channel_narrow(k, own, own_kept, samples, spectra);
             return;
         }
-        let made = self.fill_halves_narrow(k, below, below_kept, rows, spectra);
+        let made = self.fill_halves_narrow(k, below, below_kept, samples, spectra);
         let (upper, lower) = below.split_at(made);
         self.merge_narrow(k, own, own_kept, upper, lower, spectra);
     }

@@ -3,6 +3,7 @@ ghost use Rattle.std.specs.Prelude.{◌≡◌, ℕ, ◌+◌, ◌-◌, ◌*◌, �
 ghost use Rattle.search_model.specs.Samples.{Filterbank};
 ghost use Rattle.band_paths.specs.Edges.{channels_of};
 ghost use Rattle.subband_plan.specs.Nodes.{HasKept};
+ghost use Rattle.fdmt_carry.specs.Samples.{values_of};
 ghost use Rattle.fdmt_carry.specs.Tables.{node_of, held_at, tail_of, row_number, hold_of, HasNext};
 ghost use Rattle.fdmt_carry.specs.Steps.{IsStep};
 ghost use Rattle.fdmt_carry.specs.Making.{IsPair, IsSingle, IsWide, FitNode, HasRoom, HaveRoom, AreHalves, AreSamples, ChannelHas, KeepsTail, KeepsNode, HaveHalfRows, RowStandsAt, RowStands, StaysOutside, ChangesRowAt, ChangesRow, NodeStands, LastStands, WideStands, lower_of};
@@ -10,6 +11,7 @@ ghost use Rattle.fdmt_carry.specs.Making.{IsPair, IsSingle, IsWide, FitNode, Has
 use super::Tables;
 use super::steps::Step;
 use crate::rows::{add_next, copy_next};
+use crate::samples::Samples;
 use search_model::{halves_add, one_channel_adds, one_channel_is_its_sample, time_shifts};
 
 impl Tables {
@@ -231,13 +233,22 @@ impl Tables {
     }
 
     // Makes the row of delay 0 of a single channel, which has its samples.
-    fn copy_row(&self, k: usize, table: &mut [u32], kept: &mut [u32], samples: &[u32])
+    fn copy_row(
+        &self,
+        k: usize,
+        table: &mut [u32],
+        kept: &mut [u32],
+        samples: Samples<'_>,
+        spectra: usize,
+    )
         requires node { IsSingle self.now k }
-        requires short { length samples.now ≤ self.now.chunk }
+        requires size { length (values_of samples) ≡ spectra }
+        requires short { spectra ≤ self.now.chunk }
         requires own { FitNode self.now k (length table.old) (length kept.old) }
-        ensures made { (f : Filterbank) (u : ℕ) → AreSamples self.now f u k samples.now
+        ensures made { (f : Filterbank) (u : ℕ)
+            → AreSamples self.now f u k (values_of samples.entry)
             → KeepsTail self.now f u k 0 kept.old
-            → RowStands self.now f u (length samples.now) k 0 table.new kept.new }
+            → RowStands self.now f u spectra k 0 table.new kept.new }
         ensures rest { ChangesRow self.now k (row_number self.now k 0) table.old table.new
             kept.old kept.new }
     {
@@ -245,28 +256,33 @@ impl Tables {
         one_channel_is_its_sample();
         time_shifts();
         let tail = self.tail(self.number(k, 0));
-        copy_next(
-            &mut table[..tail + samples.len()],
-            &mut kept[..tail],
-            samples,
-        );
+        copy_next(&mut table[..tail + spectra], &mut kept[..tail], samples);
     }
 
     // Makes the rows of a single channel from its samples.
-    fn run(&self, k: usize, table: &mut [u32], kept: &mut [u32], samples: &[u32])
+    fn run(
+        &self,
+        k: usize,
+        table: &mut [u32],
+        kept: &mut [u32],
+        samples: Samples<'_>,
+        spectra: usize,
+    )
         requires node { IsSingle self.now k }
-        requires short { length samples.now ≤ self.now.chunk }
+        requires size { length (values_of samples) ≡ spectra }
+        requires short { spectra ≤ self.now.chunk }
         requires own { FitNode self.now k (length table.old) (length kept.old) }
-        ensures { (f : Filterbank) (u : ℕ) → AreSamples self.now f u k samples.now
+        ensures { (f : Filterbank) (u : ℕ)
+            → AreSamples self.now f u k (values_of samples.entry)
             → KeepsNode self.now f u k kept.old
-            → NodeStands self.now f u (length samples.now) k table.new kept.new }
+            → NodeStands self.now f u spectra k table.new kept.new }
     {
         self.hold();
-        self.copy_row(k, table, kept, samples);
+        self.copy_row(k, table, kept, samples, spectra);
         let first = self.start(k);
         for d in 1..self.node(k).last_row + 1 {
             let r = first + d as usize;
-            self.run_row(k, d, r, table, kept, samples.len());
+            self.run_row(k, d, r, table, kept, spectra);
         }
     }
 
@@ -390,20 +406,22 @@ impl Tables {
         k: usize,
         table: &mut [u32],
         kept: &mut [u32],
-        rows: &[u32],
+        samples: Samples<'_>,
         spectra: usize,
     )
         requires node { IsSingle self.now k }
         requires own { FitNode self.now k (length table.old) (length kept.old) }
-        requires rows { length rows.now ≡ channels_of self.now.plan.edges * self.now.chunk }
+        requires rows { length (values_of samples)
+            ≡ channels_of self.now.plan.edges * self.now.chunk }
         requires short { spectra ≤ self.now.chunk }
-        ensures { (f : Filterbank) (u : ℕ) → HasNext self.now f u spectra rows.now
+        ensures { (f : Filterbank) (u : ℕ)
+            → HasNext self.now f u spectra (values_of samples.entry)
             → KeepsNode self.now f u k kept.old
             → NodeStands self.now f u spectra k table.new kept.new }
     {
         self.hold();
         self.part_of(k);
         let at = self.node(k).lo as usize * self.chunk();
-        self.run(k, table, kept, &rows[at..at + spectra]);
+        self.run(k, table, kept, samples.part(at, spectra), spectra);
     }
 }

@@ -3,6 +3,7 @@ ghost use Rattle.std.specs.Prelude.{◌≡◌, ℕ, ◌+◌, ◌-◌, ◌*◌, �
 ghost use Rattle.search_model.specs.Samples.{Filterbank};
 ghost use Rattle.band_paths.specs.Edges.{channels_of};
 ghost use Rattle.subband_plan.specs.Nodes.{HasKept};
+ghost use Rattle.fdmt_carry.specs.Samples.{values_of};
 ghost use Rattle.fdmt_carry.specs.Tables.{node_of, held_at, tail_of, row_number, place_of, hold_of, next_of, HasNext};
 ghost use Rattle.fdmt_carry.specs.Making.{IsPair, IsWide, FitNode, HasRoom, HaveRoom, AreHalves, KeepsTail, KeepsNode, KeepsPart, HaveHalfRows, RowStandsAt, StaysOutside, ChangesRowAt, LastStands, WideStands, WidePartStands, lower_of};
 ghost use Rattle.fdmt_carry.specs.Steps.{IsStep};
@@ -11,6 +12,7 @@ ghost use Rattle.fdmt_carry.specs.Narrow.{AreAtMost, HasNarrowQuarters};
 use super::Tables;
 use super::steps::Step;
 use crate::rows::add_next_widening;
+use crate::samples::Samples;
 use search_model::{halves_add, time_shifts};
 
 impl Tables {
@@ -222,7 +224,7 @@ impl Tables {
         below: &mut [u32],
         upper_kept: &mut [u32],
         lower_kept: &mut [u32],
-        rows: &[u32],
+        samples: Samples<'_>,
         spectra: usize,
         most: u32,
         narrow: &mut [u16],
@@ -239,9 +241,10 @@ impl Tables {
             ≡ hold_of self.now (next_of self.now (k + 1)) }
         requires lower { hold_of self.now (lower_of self.now k) + length lower_kept.old
             ≡ hold_of self.now (next_of self.now (lower_of self.now k)) }
-        requires rows { length rows.now ≡ channels_of self.now.plan.edges * self.now.chunk }
+        requires rows { length (values_of samples)
+            ≡ channels_of self.now.plan.edges * self.now.chunk }
         ensures { (f : Filterbank) (u : ℕ) → AreAtMost most f
-            → HasNext self.now f u spectra rows.now
+            → HasNext self.now f u spectra (values_of samples.entry)
             → KeepsNode self.now f u k kept.old
             → KeepsPart self.now f u (k + 1) upper_kept.old
             → KeepsPart self.now f u (lower_of self.now k) lower_kept.old
@@ -257,10 +260,10 @@ impl Tables {
         self.fits(most);
         let (upper_own, upper_tails) = upper_kept.split_at_mut(self.kept_span(k + 1, k + 1 + 1));
         let (lower_own, lower_tails) = lower_kept.split_at_mut(self.kept_span(low, low + 1));
-        let upper_made = self.fill_halves_narrow(k + 1, narrow, upper_tails, rows, spectra);
+        let upper_made = self.fill_halves_narrow(k + 1, narrow, upper_tails, samples, spectra);
         let upper_end = upper_made + self.lower_span(k + 1);
         let (upper_tables, lower_tables) = narrow.split_at_mut(upper_end);
-        let lower_made = self.fill_halves_narrow(low, lower_tables, lower_tails, rows, spectra);
+        let lower_made = self.fill_halves_narrow(low, lower_tables, lower_tails, samples, spectra);
         let (upper_above, upper_below) = upper_tables.split_at(upper_made);
         let (lower_above, lower_below) = lower_tables.split_at(lower_made);
         let (upper_row, rest) = below.split_at_mut(self.span(k + 1, k + 1 + 1));

@@ -1,5 +1,6 @@
-use Rattle.std.proofs.Common.{ℕ, ◌≡◌, ◌+◌, ◌≤◌, length, take, ap, sym, ◌∙◌, arith, refl}
+use Rattle.std.proofs.Common.{ℕ, ◌≡◌, ◌+◌, ◌≤◌, length, take, ap, sym, ◌∙◌, arith}
 use Rattle.std.proofs.lemmas.List.{length-take-le}
+use Rattle.fdmt_carry.specs.Samples.{values_of}
 use Rattle.fdmt_carry.specs.Tables.{tail_of, row_number, place_at, held_at, place_of, hold_of, start_of}
 use Rattle.fdmt_carry.proofs.Made.{row_made, row_alone, samples_go_on, zero_first}
 use Rattle.fdmt_carry.proofs.tables.Tables.copy_row.Goals as goal
@@ -11,7 +12,7 @@ returns-clause-made c = λ f u samples keeps.
     let r : ℕ = row_number t k 0 in
     let table = c.args.table.now in
     let kept = c.args.kept.now in
-    let spectra : ℕ = length c.args.samples.now in
+    let spectra : ℕ = c.args.spectra in
     let n : ℕ = c.tail-tail.result in
     let m : ℕ = n + spectra in
     let row = c.number.ensures.row in
@@ -30,14 +31,17 @@ returns-clause-made c = λ f u samples keeps.
     let table_size = c.requires.own.table_size in
     let kept_size = c.requires.own.kept_size in
     let short = c.requires.short in
+    let size = c.requires.size in
     let in_table : m ≤ length table = omega arith in
     let in_kept : n ≤ length kept = omega arith in
     let long : length (take n kept) ≡ n = length-take-le n kept in_kept in
-    row_made t f u spectra k 0 0 0 m n spectra table kept c.copy_next.new.row c.copy_next.new.kept _
-    (omega arith) (omega arith) (omega arith) (omega arith) refl
+    row_made t f u spectra k 0 0 0 m n (length (values_of c.args.samples)) table kept
+    c.copy_next.new.row c.copy_next.new.kept _
+    (omega arith) (omega arith) (omega arith) (omega arith) size
     (omega arith) (omega arith) (c.copy_next.auto.row ∙ length-take-le m table in_table) (c.copy_next.auto.kept ∙ long)
     c.copy_next.ensures.row c.copy_next.ensures.kept
-    (samples_go_on c.one_channel_is_its_sample.ensures c.time_shifts.ensures t c.hold.ensures f u k _ c.args.samples.now
+    (samples_go_on c.one_channel_is_its_sample.ensures c.time_shifts.ensures t c.hold.ensures f u k _
+    (values_of c.args.samples)
     c.requires.node samples (long ∙ n_is))
     keeps
 
@@ -48,7 +52,7 @@ returns-clause-rest c =
     let r : ℕ = c.number.result in
     let table = c.args.table.now in
     let kept = c.args.kept.now in
-    let spectra : ℕ = length c.args.samples.now in
+    let spectra : ℕ = c.args.spectra in
     let n : ℕ = c.tail-tail.result in
     let m : ℕ = n + spectra in
     let row = c.number.ensures.row in

@@ -1,10 +1,11 @@
-use Rattle.std.proofs.Common.{ℕ, length}
+use Rattle.std.proofs.Common.{ℕ}
 use Rattle.search_model.specs.Samples.{Filterbank}
+use Rattle.fdmt_carry.specs.Samples.{values_of}
 use Rattle.fdmt_carry.specs.Making.{AreSamples, KeepsNode}
 use Rattle.fdmt_carry.proofs.Loops.{StandBelow}
 use Rattle.fdmt_carry.proofs.tables.Tables.run.Given as goal
 
 abbrev pub invariant-loop-d : goal.invariant-loop-d
 invariant-loop-d l =
-    (f : Filterbank) (u : ℕ) → AreSamples l.self f u l.k l.samples →
-    KeepsNode l.self f u l.k l.fn.kept → StandBelow l.self f u (length l.samples) l.k l.d l.table l.kept
+    (f : Filterbank) (u : ℕ) → AreSamples l.self f u l.k (values_of l.samples) →
+    KeepsNode l.self f u l.k l.fn.kept → StandBelow l.self f u l.spectra l.k l.d l.table l.kept

@@ -1,4 +1,4 @@
-use Rattle.std.proofs.Common.{ℕ, ◌≡◌, ◌-◌, length, ap, arith}
+use Rattle.std.proofs.Common.{ℕ, ◌≡◌, ◌-◌, ap, arith}
 use Rattle.subband_plan.specs.Nodes.{HasKept}
 use Rattle.fdmt_carry.specs.Tables.{node_of}
 use Rattle.fdmt_carry.specs.Making.{ChannelHas}
@@ -9,7 +9,7 @@ pub loop-d-init : goal.loop-d-init
 loop-d-init c = λ f u fits samples keeps.
     let t = c.args.self.now in
     let k : ℕ = c.args.k in
-    let spectra : ℕ = length c.args.samples.now in
+    let spectra : ℕ = c.args.spectra in
     let least = c.hold.ensures.numbered.of_one k c.requires.node.one in
     let has : HasKept (node_of t k) 0 = record { least = omega arith; most = omega arith } in
     one_more t c.hold.ensures f u spectra k 0 c.args.table.now c.copy_row_narrow.new.table c.args.kept.now
@@ -23,7 +23,7 @@ loop-d-preserved c = λ f u fits samples keeps.
     let t = c.args.self.now in
     let k : ℕ = c.args.k in
     let d : ℕ = c.loop-d.d in
-    let spectra : ℕ = length c.args.samples.now in
+    let spectra : ℕ = c.args.spectra in
     let so_far = c.loop-d.invariant f u fits samples keeps in
     let last : c.node-d-end.result.last_row ≡ (node_of t k).last_row = ap (λ n. n.last_row) c.node-d-end.ensures in
     let least = c.hold.ensures.numbered.of_one k c.requires.node.one in
@@ -46,5 +46,5 @@ returns c = λ f u fits samples keeps.
     let t = c.args.self.now in
     let k : ℕ = c.args.k in
     let last : c.node-d-end.result.last_row ≡ (node_of t k).last_row = ap (λ n. n.last_row) c.node-d-end.ensures in
-    all_made t f u (length c.args.samples.now) k c.loop-d.d c.loop-d.table c.loop-d.kept (omega arith)
+    all_made t f u c.args.spectra k c.loop-d.d c.loop-d.table c.loop-d.kept (omega arith)
     (c.loop-d.invariant f u fits samples keeps)

@@ -1,0 +1,58 @@
+// Samples that are lent to a carry.
+ghost use Rattle.std.specs.Prelude.{◌≡◌, ◌+◌, ◌≤◌, length, take, drop};
+ghost use Rattle.fdmt_rows.specs.Rows.{Narrows};
+ghost use Rattle.fdmt_carry.specs.Samples.{values_of};
+
+use fdmt_rows::{narrow_row, widen, widen_to_narrow};
+
+/// Samples that are lent, as values of 32 bits or as bytes.
+#[derive(Clone, Copy)]
+pub enum Samples<'a> {
+    Words(&'a [u32]),
+    Bytes(&'a [u8]),
+}
+
+impl<'a> Samples<'a> {
+    // How many there are.
+    pub(crate) fn len(self) -> usize
+        ensures { result ≡ length (values_of self.entry) }
+    {
+        match self {
+            Samples::Words(words) => words.len(),
+            Samples::Bytes(bytes) => bytes.len(),
+        }
+    }
+
+    // So many of them from a place on.
+    pub(crate) fn part(self, at: usize, count: usize) -> Samples<'a>
+        requires { at + count ≤ length (values_of self) }
+        ensures { values_of result ≡ take count (drop at (values_of self.entry)) }
+    {
+        match self {
+            Samples::Words(words) => Samples::Words(&words[at..at + count]),
+            Samples::Bytes(bytes) => Samples::Bytes(&bytes[at..at + count]),
+        }
+    }
+
+    // Writes them as values of 32 bits.
+    pub(crate) fn copy_to(self, out: &mut [u32])
+        requires { length (values_of self) ≡ length out.old }
+        ensures { out.new ≡ values_of self.entry }
+    {
+        match self {
+            Samples::Words(words) => out.copy_from_slice(words),
+            Samples::Bytes(bytes) => widen(out, bytes),
+        }
+    }
+
+    // Writes them as values of 16 bits.
+    pub(crate) fn narrow_to(self, out: &mut [u16])
+        requires { length (values_of self) ≡ length out.old }
+        ensures { Narrows out.new (values_of self.entry) }
+    {
+        match self {
+            Samples::Words(words) => narrow_row(out, words),
+            Samples::Bytes(bytes) => widen_to_narrow(out, bytes),
+        }
+    }
+}
