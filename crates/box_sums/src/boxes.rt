@@ -136,9 +136,9 @@ impl Boxes {
         add_all(front_of(self.kept.as_slice(), place, w as usize))
     }
 
-    /// The greatest sum of `w` neighbours among the values that are kept of the row that was fed last. No sum of `w`
-    /// values that ends at a value of its last feed is greater.
-    pub fn greatest_kept(&self, w: u32) -> u32
+    /// A bound for the row that was fed last: no sum of `w` values that ends at a value of its last feed is greater. As
+    /// it is made, it is the greatest sum of `w` neighbours among the values that are kept, which no clause says.
+    pub fn bound_of_newest(&self, w: u32) -> u32
         requires width { IsWidth w }
         requires wide { 2 ≤ w }
         requires narrow { w ≤ self.now.widest }

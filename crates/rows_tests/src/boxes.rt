@@ -15,11 +15,11 @@ fn last_values_are_added(rt: HostRuntime) -> Result<(), Memory> {
     boxes.feed_row(1, &[0, 30, 20]);
     assert_eq!(rt; boxes.sum(1, 2, 2), 50);
     assert_eq!(rt; boxes.sum(1, 0, 2), 0);
-    assert_eq!(rt; boxes.greatest_kept(2), 50);
+    assert_eq!(rt; boxes.bound_of_newest(2), 50);
     boxes.feed_row(1, &[7]);
     assert_eq!(rt; boxes.sum(1, 0, 2), 27);
     assert_eq!(rt; boxes.sum(1, 0, 1), 7);
-    assert_eq!(rt; boxes.greatest_kept(2), 27);
+    assert_eq!(rt; boxes.bound_of_newest(2), 27);
     Ok(())
 }
 
@@ -54,7 +54,7 @@ fn check_width(rt: &impl Abort, boxes: &Boxes, d: u32, w: u32, all: &[u32], coun
         );
         if w > 1 {
             assert!(rt;
-                wanted <= boxes.greatest_kept(w),
+                wanted <= boxes.bound_of_newest(w),
                 "width {w} at {k} of {count}"
             );
         }

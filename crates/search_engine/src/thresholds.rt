@@ -138,5 +138,5 @@ fn greatest_box(boxes: &Boxes, row: &[u32], d: u32, width: u32) -> u32
         return greatest(row);
     }
     sums_add_values();
-    boxes.greatest_kept(width)
+    boxes.bound_of_newest(width)
 }

@@ -18,9 +18,9 @@ returns c = λ y m k taken inside.
     let wide : 1 < b.widest = (let narrow = c.requires.narrow in let above = c.if-width-lt2.false in omega arith) in
     let last = taken.last wide in
     let below : k < last_feed b c.args.d = omega (arith, last, inside) in
-    box_is_below c.sums_add_values.ensures y c.args.d m (length c.args.row.now) k c.args.width c.greatest_kept.result b
-    last below (taken.fed wide)
+    box_is_below c.sums_add_values.ensures y c.args.d m (length c.args.row.now) k c.args.width c.bound_of_newest.result
+    b last below (taken.fed wide)
     (subst (λ (d : ℕ). (xs : List ℕ) → StandsForRow b d xs
-    → sum_ending xs (length xs - last_feed b d + k) c.args.width ≤ c.greatest_kept.result)
-    (sym (c.requires.newest wide)) (λ xs stands. c.greatest_kept.ensures xs k stands
+    → sum_ending xs (length xs - last_feed b d + k) c.args.width ≤ c.bound_of_newest.result)
+    (sym (c.requires.newest wide)) (λ xs stands. c.bound_of_newest.ensures xs k stands
     (subst (λ (d : ℕ). k < last_feed b d) (c.requires.newest wide) below)))

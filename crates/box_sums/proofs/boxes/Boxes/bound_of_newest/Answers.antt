@@ -4,7 +4,7 @@ use Rattle.std.proofs.lemmas.List.{get_or_read}
 use Rattle.box_sums.specs.Tails.{RowTails, StandsForRow, last_feed, row_at}
 use Rattle.box_sums.specs.Rows.{sum_ending, Keeps}
 use Rattle.box_sums.proofs.Feeding.{bound_read}
-use Rattle.box_sums.proofs.boxes.Boxes.greatest_kept.Goals as goal
+use Rattle.box_sums.proofs.boxes.Boxes.bound_of_newest.Goals as goal
 
 -- a box of several values is not on the lowest level
 some_level : (level w : ℕ) → 2 ^ level ≡ w → 2 ≤ w → 1 ≤ level
