@@ -11,7 +11,7 @@ use Rattle.candidate_book.specs.Book.{BookContents, book_of}
 use Rattle.spectra_rows.specs.Unpacking.{Unpacking, StandsForBytes, unpacking_of, whole_spectra}
 use Rattle.search_engine.specs.Pulses.{pulses_of_ends}
 use Rattle.search_engine.specs.Sums.{ShardState, sums_of}
-use Rattle.search_engine.specs.Engine.{EngineState, Searches, HoldsData, HasTaken, StandsForData, EngineIsSound, IsOpenedSums, chunk_of}
+use Rattle.search_engine.specs.Engine.{EngineState, Searches, HoldsData, HasTaken, StandsForData, EngineIsSound, IsOpenedSums, IsOpenedUnpacker, chunk_of}
 
 -- the parts of an engine
 pub record OpenedParts
@@ -23,7 +23,7 @@ pub record OpenedParts
   pub shard : k < s.shards
   pub accepted : plan_refusal o s ≡ None
   pub chunk_is : chunk ≡ chunk_of s
-  pub unpacker : u ≡ unpacking_of o.channels o.is_falling o.nbit o.npol chunk
+  pub unpacker : IsOpenedUnpacker o chunk u
   pub nothing : StandsForBytes u [] 0
   pub path_sums : IsOpenedSums o s k chunk sums
   pub empty : book ≡ book_of s.max_candidates []

@@ -10,7 +10,7 @@ use Rattle.search_model.specs.Candidates.{shard_part}
 use Rattle.search_model.specs.Observed.{filterbank_of, candidates_of}
 use Rattle.search_model.specs.Plan.{plan_refusal}
 use Rattle.candidate_book.specs.Book.{BookContents, book_of}
-use Rattle.spectra_rows.specs.Unpacking.{Unpacking, StandsForBytes, whole_spectra}
+use Rattle.spectra_rows.specs.Unpacking.{Unpacking, StandsForBytes, unpacking_of, whole_spectra}
 use Rattle.subband_plan.specs.Plans.{band_plan}
 use Rattle.fdmt_carry.specs.Carrying as carry
 use Rattle.fdmt_carry.specs.Carrying.{IsStream}
@@ -111,6 +111,11 @@ pub record HasSearched (o : Observation) (bytes : List ℕ) (e : EngineState) : 
       ≡ band_plan (edges o) (shard_start e.search e.shard) (shard_start e.search (e.shard + 1) - 1)
   pub carry : carry.StandsForSamples e.sums.carry (filterbank_of o bytes)
   pub tables : e.sums.carry.has_tables ≡ true
+
+-- an unpacker of an observation's data bytes, with no byte, whether its rows are of bytes or not
+abbrev pub IsOpenedUnpacker : Observation → ℕ → Unpacking → Type 0
+IsOpenedUnpacker o chunk u =
+    u ≡ record (unpacking_of o.channels o.is_falling o.nbit o.npol chunk) { in_bytes = u.in_bytes }
 
 -- the search of the path sums of shard k, of which none is taken
 pub record IsOpenedSums (o : Observation) (search : Search) (k chunk : ℕ) (s : ShardState)

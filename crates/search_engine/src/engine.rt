@@ -1,17 +1,18 @@
 // The engine: data bytes in, candidates out.
-ghost use Rattle.std.specs.Prelude.{◌≡◌, ℕ, ◌+◌, ◌-◌, ◌*◌, ◌/◌, ◌^◌, ◌≤◌, ◌<◌, ◌++◌, [], true, false, None, OnOk, IfOk, IfErr, List, length, take};
+ghost use Rattle.std.specs.Prelude.{◌≡◌, ℕ, ◌+◌, ◌-◌, ◌*◌, ◌/◌, ◌^◌, ◌≤◌, ◌<◌, ◌++◌, [], true, false, None, OnOk, IfOk, IfErr, List, length, slice_index, take};
 ghost use Rattle.dada_model.specs.Observation.{Observation as Described};
 ghost use Rattle.search_model.specs.Search.{SettingsInRange, shard_start as shard_start_of};
 ghost use Rattle.search_model.specs.Plan.{plan_refusal};
 ghost use Rattle.search_engine.specs.Plan.{Explains};
-ghost use Rattle.spectra_rows.specs.Unpacking.{StandsForBytes, unpacking_of};
-ghost use Rattle.search_engine.specs.Engine.{EngineState, EngineIsSound, IsOpenedSums, StandsForData, HasSearched, IsOpenedEngine, SameShard, most_fed};
+ghost use Rattle.fdmt_carry.specs.Samples.{values_of};
+ghost use Rattle.spectra_rows.specs.Unpacking.{StandsForBytes, unpacked, whole_spectra};
+ghost use Rattle.search_engine.specs.Engine.{EngineState, EngineIsSound, IsOpenedSums, StandsForData, HasSearched, IsOpenedEngine, IsOpenedUnpacker, SameShard, most_fed};
 
 use crate::fault::PlanFault;
 use crate::plan::check_plan;
 use crate::shard::ShardSearch;
 use candidate_book::Book;
-use fdmt_carry::Carry;
+use fdmt_carry::{Carry, Samples};
 use obs_plan::Observation;
 use psr_base::Memory;
 use search_model::Search;
@@ -127,7 +128,7 @@ impl Engine {
         late_path_sums();
         let spectra = self.unpacker.spectra();
         self.sums
-            .take(self.unpacker.rows(), spectra, true, &mut self.book);
+            .take(samples(&self.unpacker), spectra, true, &mut self.book);
         self.unpacker.taken();
         self.sums.end(&mut self.book);
         self.has_ended = true;
@@ -193,8 +194,8 @@ impl Engine {
         let count = self.unpacker.push(bytes);
         self.fed += count as u64;
         if self.unpacker.spectra() == self.chunk {
-            self.sums
-                .take(self.unpacker.rows(), self.chunk, false, &mut self.book);
+            let rows = samples(&self.unpacker);
+            self.sums.take(rows, self.chunk, false, &mut self.book);
             self.unpacker.taken();
         }
         count
@@ -210,15 +211,25 @@ fn shard_start(search: &Search, shard: u32) -> u32
     search.min_delay + shard * (search.max_delay + 1 - search.min_delay) / search.shards
 }
 
-// An unpacker of an observation's data bytes, with no byte.
+// Whether each sample is a byte.
+fn are_bytes(observation: &Observation) -> bool
+    ensures bits { result ≡ true → observation.now.nbit ≡ 8 }
+    ensures polarisation { result ≡ true → observation.now.npol ≡ 1 }
+{
+    observation.nbit() == 8 && observation.npol() == 1
+}
+
+// An unpacker of an observation's data bytes, with no byte. Its rows are of bytes where the samples are.
 fn open_unpacker(alloc: Global, observation: &Observation, chunk: u32) -> Result<Unpacker, Memory>
     requires some { 1 ≤ chunk }
     requires most { chunk ≤ 65536 }
-    ensures opened { IfOk result (λ u. u ≡ unpacking_of observation.now.channels
-        observation.now.is_falling observation.now.nbit observation.now.npol chunk) }
+    ensures opened { IfOk result (IsOpenedUnpacker observation.now chunk) }
     ensures nothing { IfOk result (λ u. StandsForBytes u [] 0) }
 {
     observation.lies_in_range();
+    if are_bytes(observation) {
+        return Unpacker::open_bytes(alloc, observation.channels(), observation.falling(), chunk);
+    }
     Unpacker::open(
         alloc,
         observation.channels(),
@@ -227,6 +238,21 @@ fn open_unpacker(alloc: Global, observation: &Observation, chunk: u32) -> Result
         observation.npol(),
         chunk,
     )
+}
+
+// The samples of the spectra that an unpacker holds.
+fn samples(unpacker: &Unpacker) -> Samples<'_>
+    ensures long { length (values_of result) ≡ unpacker.now.channels * unpacker.now.chunk }
+    ensures samples { (bytes : List ℕ) (gone c t : ℕ) → StandsForBytes unpacker.now bytes gone
+        → c < unpacker.now.channels → t < whole_spectra unpacker.now
+        → slice_index (values_of result) (c * unpacker.now.chunk + t)
+        ≡ (unpacked unpacker.now bytes).value c (gone + t) }
+{
+    if unpacker.in_bytes() {
+        Samples::Bytes(unpacker.byte_rows())
+    } else {
+        Samples::Words(unpacker.rows())
+    }
 }
 
 // The search of a shard's path sums, of which none is taken.

@@ -1,7 +1,8 @@
 // The search of a shard's path sums, chunk by chunk.
 ghost use Rattle.std.specs.Prelude.{◌≡◌, ℕ, ◌+◌, ◌-◌, ◌*◌, ◌^◌, ◌≤◌, ◌<◌, [], All, Bool, IfOk, IsTrue, List, length, drop};
 ghost use Rattle.band_paths.specs.Edges.{channels_of};
-ghost use Rattle.fdmt_carry.specs.Carrying.{IsFed, AreNext, IsStream, StandsForSamples};
+ghost use Rattle.fdmt_carry.specs.Carrying.{AreNext, IsStream, StandsForSamples};
+ghost use Rattle.fdmt_carry.specs.Samples.{values_of};
 ghost use Rattle.search_model.specs.Samples.{Filterbank};
 ghost use Rattle.search_model.specs.Search.{SettingsInRange, folds_are_on};
 ghost use Rattle.dada_model.specs.Edges.{AreEdges};
@@ -16,7 +17,7 @@ ghost use Rattle.search_engine.specs.Sums.{ShardState, FitTogether, StandsForStr
 use crate::fold_search::FoldSearch;
 use crate::pulse_search::PulseSearch;
 use candidate_book::Book;
-use fdmt_carry::Carry;
+use fdmt_carry::{Carry, Samples};
 use psr_base::Memory;
 use search_model::Search;
 // A law: it does nothing when it runs, and the proofs use what it ensures.
@@ -97,26 +98,32 @@ impl ShardSearch {
 
     /// Takes the next spectra, as a carry takes them, and adds the pulses that end at them to a book. The tables of all
     /// nodes stand after it where they are asked for.
-    pub(crate) fn take(&mut self, rows: &[u32], spectra: u32, with_tables: bool, book: &mut Book)
-        requires rows { length rows.now
+    pub(crate) fn take(
+        &mut self,
+        samples: Samples<'_>,
+        spectra: u32,
+        with_tables: bool,
+        book: &mut Book,
+    )
+        requires rows { length (values_of samples)
             ≡ channels_of self.old.carry.tables.plan.edges * self.old.carry.tables.chunk }
         requires short { spectra ≤ self.old.carry.tables.chunk }
         requires few { self.old.carry.fed + spectra ≤ 2 ^ 48 }
-        requires stream { ContinuesStream self.old.carry rows.now spectra }
+        requires stream { ContinuesStream self.old.carry (values_of samples) spectra }
         requires room { book.old.count + most_pulses_at_end * spectra < 2 ^ 63 }
         ensures alike { SumsAlike self.new self.old }
         ensures fed { self.new.carry.fed ≡ self.old.carry.fed + spectra }
         ensures tables { self.new.carry.has_tables ≡ with_tables }
         ensures count { book.new.count ≤ book.old.count + most_pulses_at_end * spectra }
         ensures stands { (f : Filterbank) → StandsForStream self.old f
-            → AreNext self.old.carry f rows.now spectra → StandsForStream self.new f }
+            → AreNext self.old.carry f (values_of samples.entry) spectra → StandsForStream self.new f }
         ensures pulses { (f : Filterbank) → StandsForStream self.old f
-            → AreNext self.old.carry f rows.now spectra → Adds book.old book.new
+            → AreNext self.old.carry f (values_of samples.entry) spectra → Adds book.old book.new
             (pulses_of_plan f self.old.carry.tables.plan self.old.pulses.search
             self.old.carry.fed spectra) }
     {
         let start = self.carry.fed();
-        advance(&mut self.carry, rows, spectra, with_tables);
+        self.carry.take(samples, spectra, with_tables);
         self.pulses.begin();
         take_rows(
             &mut self.pulses,
@@ -154,24 +161,6 @@ impl ShardSearch {
         ensures { result.now ≡ self.now.carry }
     {
         &self.carry
-    }
-}
-
-// Feeds the carry where tables are asked for, and else passes.
-fn advance(carry: &mut Carry, rows: &[u32], spectra: u32, with_tables: bool)
-    requires rows { length rows.now
-        ≡ channels_of carry.old.tables.plan.edges * carry.old.tables.chunk }
-    requires short { spectra ≤ carry.old.tables.chunk }
-    requires few { carry.old.fed + spectra ≤ 2 ^ 48 }
-    ensures fed { IsFed carry.old carry.new spectra }
-    ensures tables { carry.new.has_tables ≡ with_tables }
-    ensures stands { (f : Filterbank) → StandsForSamples carry.old f
-        → AreNext carry.old f rows.now spectra → StandsForSamples carry.new f }
-{
-    if with_tables {
-        carry.feed(rows, spectra);
-    } else {
-        carry.pass(rows, spectra);
     }
 }
 

@@ -3,6 +3,7 @@ use Rattle.candidate_book.specs.Book.{book_of}
 use Rattle.fdmt_carry.specs.Carrying as carry
 use Rattle.fdmt_carry.specs.Tables.{Tables}
 use Rattle.search_model.specs.declared.search.Search.{Search}
+use Rattle.fdmt_carry.specs.Samples.{values_of}
 use Rattle.search_model.specs.Samples.{Filterbank}
 use Rattle.search_model.specs.Observed.{filterbank_of}
 use Rattle.spectra_rows.specs.Unpacking.{Unpacking}
@@ -18,7 +19,7 @@ use Rattle.search_engine.proofs.engine.Engine.end.Goals as goal
 pub take-requires-clause-rows : goal.take-requires-clause-rows
 take-requires-clause-rows c =
     let w = c.self.invariant.0 in
-    rows_long c.edges_fall.ensures w.observation _ _ w.taken.holds.searches c.rows.ensures.long
+    rows_long c.edges_fall.ensures w.observation _ _ w.taken.holds.searches c.samples.ensures.long
 
 pub take-requires-clause-few : goal.take-requires-clause-few
 take-requires-clause-few c =
@@ -31,8 +32,8 @@ pub take-requires-clause-stream : goal.take-requires-clause-stream
 take-requires-clause-stream c =
     let w = c.self.invariant.0 in
     let whole = c.spectra-spectra.ensures.whole in
-    goes_on c.samples_of_bytes.ensures w.observation _ c.rows.result.now _ c.spectra-spectra.result w.taken.holds
-    (omega (arith, whole)) (λ k t. c.rows.ensures.samples _ _ k t w.taken.holds.pending)
+    goes_on c.samples_of_bytes.ensures w.observation _ (values_of c.samples.result) _ c.spectra-spectra.result w.taken.holds
+    (omega (arith, whole)) (λ k t. c.samples.ensures.samples _ _ k t w.taken.holds.pending)
 
 pub take-requires-clause-room : goal.take-requires-clause-room
 take-requires-clause-room c =
@@ -70,9 +71,9 @@ invariant_of-self c =
       sums = t;
       book = c.end.new.book;
     }) in
-    let searched = searched_holds w.observation w.bytes c.rows.result.now _ c.taken.new.self c.take.new.self
+    let searched = searched_holds w.observation w.bytes (values_of c.samples.result) _ c.taken.new.self c.take.new.self
     c.end.new.book true c.spectra-spectra.result holds c.taken.ensures.part whole (c.taken.ensures.given_up _ _)
-    c.take.ensures.alike c.take.ensures.fed (λ k t. c.rows.ensures.samples _ _ k t holds.pending)
+    c.take.ensures.alike c.take.ensures.fed (λ k t. c.samples.ensures.samples _ _ k t holds.pending)
     c.take.ensures.stands in (
       record {
         observation = w.observation;
@@ -101,8 +102,8 @@ returns-clause-searched c = λ o bytes stands.
     let begins = λ (v : ℕ). data_begin c.samples_of_bytes.ensures o bytes v s.bounds holds.numbers in
     let all : f.spectra ≡ u + r = ap (λ (g : Filterbank). g.spectra) (sym (unpacked_is o _ bytes s))
     ∙ c.spectra-spectra.ensures.counts bytes u holds.pending in
-    let next = next_spectra o bytes c.rows.result.now _ r holds (omega (arith, whole))
-    (λ k t. c.rows.ensures.samples _ _ k t holds.pending) f (begins (u + r)) in
+    let next = next_spectra o bytes (values_of c.samples.result) _ r holds (omega (arith, whole))
+    (λ k t. c.samples.ensures.samples _ _ k t holds.pending) f (begins (u + r)) in
     let before = holds.sums f (begins u) in
     let after = c.take.ensures.stands f before next in
     let Q : ℕ → Type 0 = λ n. c.take.new.book ≡ book_of i.search.max_candidates

@@ -2,6 +2,7 @@ use Rattle.std.proofs.Common.{◌≡◌, ℕ, ◌+◌, ◌<◌, ◌++◌, All, L
 use Rattle.std.proofs.lemmas.List.Elements.{All-from_get_or}
 use Rattle.spectra_rows.specs.Unpacking.{Unpacking, spectrum_bytes}
 use Rattle.candidate_book.specs.Book.{book_of}
+use Rattle.fdmt_carry.specs.Samples.{values_of}
 use Rattle.search_engine.specs.Engine.{EngineState, BeginsWith, StandsForData}
 use Rattle.search_engine.proofs.Feeding.{piece_holds, begins_old, begins_less, rows_long, next_spectra, goes_on, few_spectra, searched_holds, size_is}
 use Rattle.search_engine.proofs.Searched.{book_more, pulses_so_far}
@@ -20,7 +21,7 @@ take-requires-clause-rows c =
     let holds = piece_holds c.samples_of_bytes.ensures w.observation w.bytes c.args.bytes.now _ c.push-count.new.self
     c.push-count.result _ w.taken.holds c.push-count.ensures.count c.push-count.ensures.holds
     (λ p. c.push-count.ensures.pieces w.bytes _ p) numbers (omega (arith, most, fed)) in
-    rows_long c.edges_fall.ensures w.observation _ _ holds.searches c.rows.ensures.long
+    rows_long c.edges_fall.ensures w.observation _ _ holds.searches c.samples-rows.ensures.long
 
 pub take-requires-clause-few : goal.take-requires-clause-few
 take-requires-clause-few c =
@@ -47,8 +48,8 @@ take-requires-clause-stream c =
     (λ p. c.push-count.ensures.pieces w.bytes _ p) numbers (omega (arith, most, fed)) in
     let whole = c.spectra.ensures.whole in
     let full = c.if-spectra-self.true in
-    goes_on c.samples_of_bytes.ensures w.observation _ c.rows.result.now _ c.self.inside.chunk holds
-    (omega (arith, whole, full)) (λ k t. c.rows.ensures.samples _ _ k t holds.pending)
+    goes_on c.samples_of_bytes.ensures w.observation _ (values_of c.samples-rows.result) _ c.self.inside.chunk holds
+    (omega (arith, whole, full)) (λ k t. c.samples-rows.ensures.samples _ _ k t holds.pending)
 
 pub take-requires-clause-room : goal.take-requires-clause-room
 take-requires-clause-room c =
@@ -84,10 +85,10 @@ invariant_of-self c =
         observation = w.observation;
         bytes = w.bytes ++ take c.push-count.result c.args.bytes.now;
         taken = record {
-          holds = searched_holds w.observation _ c.rows.result.now _ c.taken.new.self c.take.new.self c.take.new.book
+          holds = searched_holds w.observation _ (values_of c.samples-rows.result) _ c.taken.new.self c.take.new.self c.take.new.book
               c.self.inside.has_ended c.self.inside.chunk holds c.taken.ensures.part (sym full ∙ whole)
               (c.taken.ensures.given_up _ _) c.take.ensures.alike c.take.ensures.fed
-              (λ k t. c.rows.ensures.samples _ _ k t holds.pending) c.take.ensures.stands;
+              (λ k t. c.samples-rows.ensures.samples _ _ k t holds.pending) c.take.ensures.stands;
           part = none_left c.push-count.new.self c.taken.new.self c.taken.ensures.part (omega (arith, some, size))
               (omega (arith, chunk, least));
         };
@@ -158,10 +159,10 @@ returns-then-spectra-self-clause-stands c = λ o before stands.
     let u = c.self.inside.sums.carry.fed in
     record {
       taken = record {
-        holds = searched_holds o all c.rows.result.now _ c.taken.new.self c.take.new.self c.take.new.book
+        holds = searched_holds o all (values_of c.samples-rows.result) _ c.taken.new.self c.take.new.self c.take.new.book
             c.self.inside.has_ended r holds c.taken.ensures.part (sym full ∙ whole)
             (c.taken.ensures.given_up _ _) c.take.ensures.alike c.take.ensures.fed
-            (λ k t. c.rows.ensures.samples _ _ k t holds.pending) c.take.ensures.stands;
+            (λ k t. c.samples-rows.ensures.samples _ _ k t holds.pending) c.take.ensures.stands;
         part = none_left c.push-count.new.self c.taken.new.self c.taken.ensures.part (omega (arith, some, size))
             (omega (arith, chunk, least));
       };
@@ -176,8 +177,8 @@ returns-then-spectra-self-clause-stands c = λ o before stands.
           (old.book f (begins_old c.samples_of_bytes.ensures o before _ _ (u + r) f old.taken.holds
           (omega arith) later))
           (c.take.ensures.pulses f (holds.sums f (begins_less o all u (u + r) f (omega arith) later))
-          (next_spectra o all c.rows.result.now _ r holds (omega (arith, whole, full))
-          (λ k t. c.rows.ensures.samples _ _ k t holds.pending) f later)));
+          (next_spectra o all (values_of c.samples-rows.result) _ r holds (omega (arith, whole, full))
+          (λ k t. c.samples-rows.ensures.samples _ _ k t holds.pending) f later)));
     }
 
 pub returns-else-spectra-self-clause-stands : goal.returns-else-spectra-self-clause-stands

@@ -1,4 +1,5 @@
 use Rattle.std.proofs.Common.{◌≡◌, ℕ, ◌+◌, ◌-◌, length, refl, sym, ◌∙◌, ap, subst, arith}
+use Rattle.fdmt_carry.specs.Samples.{values_of}
 use Rattle.fdmt_carry.specs.Carrying.{AreNext}
 use Rattle.fdmt_carry.specs.Tables.{Tables}
 use Rattle.search_engine.specs.PulseSearch.{PulseState, SearchAlike}
@@ -20,9 +21,9 @@ take_rows-requires-clause-order c =
 
 pub take_rows-requires-clause-stream : goal.take_rows-requires-clause-stream
 take_rows-requires-clause-stream c =
-    let P : ShardState → Type 0 = λ s. ContinuesStream s.carry c.args.rows.now c.args.spectra in
+    let P : ShardState → Type 0 = λ s. ContinuesStream s.carry (values_of c.args.samples) c.args.spectra in
     let goes = subst P (sym c.self.view_is) c.requires.stream in
-    record { stream = goes.stream; stands = c.advance.ensures.stands goes.stream goes.stands goes.next }
+    record { stream = goes.stream; stands = c.take.ensures.stands goes.stream goes.stands goes.next }
 
 -- the hits of a chunk are few
 pub report-requires-clause-room : goal.report-requires-clause-room
@@ -57,27 +58,27 @@ pub returns-clause-stands : goal.returns-clause-stands
 returns-clause-stands c = λ f stands next.
     let i = c.self.inside in
     let fit = c.self.invariant.0 in
-    let fed = c.advance.ensures.fed in
+    let fed = c.take.ensures.fed in
     let P : ShardState → Type 0 = λ s. StandsForStream s f in
-    let Q : ShardState → Type 0 = λ s. AreNext s.carry f c.args.rows.now c.args.spectra in
+    let Q : ShardState → Type 0 = λ s. AreNext s.carry f (values_of c.args.samples) c.args.spectra in
     let before = subst P (sym c.self.view_is) stands in
     let goes = subst Q (sym c.self.view_is) next in
-    let carried = c.advance.ensures.stands f before.carry goes in
+    let carried = c.take.ensures.stands f before.carry goes in
     let have = c.take_rows.ensures.stands f carried
-    (begun f i.carry c.advance.new.carry i.pulses c.begin.new.self i.folds c.fed-start.result
-    c.advance.new.carry.last i.first c.begin.ensures fed.tables c.fed-start.ensures (sym c.self.invariant.1)
+    (begun f i.carry c.take.new.self i.pulses c.begin.new.self i.folds c.fed-start.result
+    c.take.new.self.last i.first c.begin.ensures fed.tables c.fed-start.ensures (sym c.self.invariant.1)
     (fit.folds.first_is ∙ sym fit.pulses.first_is ∙ sym c.self.invariant.1) before.pulses before.folds) in
-    let sum : c.fed-start.result + c.advance.new.carry.last ≡ c.advance.new.carry.fed =
+    let sum : c.fed-start.result + c.take.new.self.last ≡ c.take.new.self.fed =
     (let start = c.fed-start.ensures in let last = fed.last in let all = fed.fed in omega arith) in
-    let y = sums_of f c.advance.new.carry.tables.plan.edges in
+    let y = sums_of f c.take.new.self.tables.plan.edges in
     record {
       carry = carried;
-      pulses = all_rows y c.take_rows.new.pulses c.take_rows.new.folds c.fed-start.result c.advance.new.carry.last
-          i.end c.advance.new.carry.fed have
+      pulses = all_rows y c.take_rows.new.pulses c.take_rows.new.folds c.fed-start.result c.take.new.self.last
+          i.end c.take.new.self.fed have
           (c.take_rows.ensures.pulses.end_is ∙ ap (λ (p : PulseState). p.end) c.begin.ensures ∙ sym c.self.invariant.2)
           sum;
-      folds = all_fronts y c.take_rows.new.pulses c.take_rows.new.folds c.fed-start.result c.advance.new.carry.last
-          i.end c.advance.new.carry.fed have
+      folds = all_fronts y c.take_rows.new.pulses c.take_rows.new.folds c.fed-start.result c.take.new.self.last
+          i.end c.take.new.self.fed have
           (c.take_rows.ensures.folds.end ∙ fit.folds.end_is ∙ sym fit.pulses.end_is ∙ sym c.self.invariant.2) sum;
     }
 
@@ -85,22 +86,22 @@ pub returns-clause-pulses : goal.returns-clause-pulses
 returns-clause-pulses c = λ f stands next.
     let i = c.self.inside in
     let fit = c.self.invariant.0 in
-    let fed = c.advance.ensures.fed in
+    let fed = c.take.ensures.fed in
     let P : ShardState → Type 0 = λ s. StandsForStream s f in
-    let Q : ShardState → Type 0 = λ s. AreNext s.carry f c.args.rows.now c.args.spectra in
+    let Q : ShardState → Type 0 = λ s. AreNext s.carry f (values_of c.args.samples) c.args.spectra in
     let before = subst P (sym c.self.view_is) stands in
     let goes = subst Q (sym c.self.view_is) next in
-    let carried = c.advance.ensures.stands f before.carry goes in
+    let carried = c.take.ensures.stands f before.carry goes in
     let have = c.take_rows.ensures.stands f carried
-    (begun f i.carry c.advance.new.carry i.pulses c.begin.new.self i.folds c.fed-start.result
-    c.advance.new.carry.last i.first c.begin.ensures fed.tables c.fed-start.ensures (sym c.self.invariant.1)
+    (begun f i.carry c.take.new.self i.pulses c.begin.new.self i.folds c.fed-start.result
+    c.take.new.self.last i.first c.begin.ensures fed.tables c.fed-start.ensures (sym c.self.invariant.1)
     (fit.folds.first_is ∙ sym fit.pulses.first_is ∙ sym c.self.invariant.1) before.pulses before.folds) in
     let at = c.take_rows.ensures.pulses.end_is ∙ ap (λ (p : PulseState). p.end) c.begin.ensures
     ∙ sym c.self.invariant.2 in
-    let y = sums_of f c.advance.new.carry.tables.plan.edges in
+    let y = sums_of f c.take.new.self.tables.plan.edges in
     let q = c.take_rows.new.pulses in
     let start = c.fed-start.result in
-    let rows = all_rows y q c.take_rows.new.folds start c.advance.new.carry.last i.end c.advance.new.carry.fed have at
+    let rows = all_rows y q c.take_rows.new.folds start c.take.new.self.last i.end c.take.new.self.fed have at
     (let first = c.fed-start.ensures in let last = fed.last in let all = fed.fed in omega arith) in
     let R : ℕ → Type 0 = λ n. HaveTaken y q c.take_rows.new.folds start n i.end in
     let A : PulseState → Type 0 = λ p. SearchAlike q p in
