@@ -15,4 +15,5 @@ loop-p-preserved g c =
     (numbers c.args.rows.now) (numbers c.loop-p.rows) (numbers c.put.new.rows) c.args.place p (p + 1) t (t + 1)
     (omega arith) (omega arith) c.loop-p.invariant
     (value_stored l.channels l.is_falling l.chunk p c.row_of.result t (numbers c.loop-p.rows)
-    (numbers c.put.new.rows) value (omega arith) c.row_of.ensures.row c.requires.chunk (omega (arith, long)) c.put.ensures)
+    (numbers c.put.new.rows) value (omega arith) c.row_of.ensures.row c.requires.chunk (omega (arith, long))
+    c.put.ensures)
