@@ -1,6 +1,7 @@
 -- A value of a list of which a part was written.
 use Rattle.std.proofs.Common.{◌≡◌, ℕ, ◌+◌, ◌-◌, ◌<◌, ◌≤◌, List, length, slice_index, get_or, take, drop, ◌++◌, ◌∙◌, ap, sym, arith, length-drop}
 use Rattle.std.proofs.lemmas.List.{get_or_append_left, get_or-append_right, get_or-take, get_or-drop, length-take-le}
+use Rattle.std.proofs.Math.Seq.{drop-append_seam}
 use borrow.Rule.Slice.PartMut.{put_mid, post_of}
 use Rattle.fdmt_rows.specs.Rows.{wrapping_sum}
 use Rattle.fdmt_carry.specs.Values.{Begins, GoesOn}
@@ -29,6 +30,15 @@ put_after a n xs ys k past le long =
     ∙ get_or-drop n (drop a xs) (k - a - n) 0
     ∙ get_or-drop a xs (n + (k - a - n)) 0
     ∙ ap (λ i. slice_index xs i) (let whole : a + (n + (k - a - n)) ≡ k = omega arith in whole)
+
+-- what stands after the first values
+pub after_front : (n : ℕ) (front xs : List ℕ) → length front ≡ n → drop n (front ++ xs) ≡ xs
+after_front n front xs long = ap (λ m. drop m (front ++ xs)) (sym long) ∙ drop-append_seam front xs
+
+-- a value after them
+pub past_front : (n p k : ℕ) (xs : List ℕ) → slice_index xs (n + p + k) ≡ slice_index (drop n xs) (p + k)
+past_front n p k xs =
+    ap (λ i. slice_index xs i) (let e : n + p + k ≡ n + (p + k) = omega arith in e) ∙ sym (get_or-drop n xs (p + k) 0)
 
 -- how long a part is
 pub part_length : (a n : ℕ) (xs : List ℕ) → a + n ≤ length xs → length (take n (drop a xs)) ≡ n

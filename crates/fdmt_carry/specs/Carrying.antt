@@ -1,10 +1,11 @@
 -- What contracts see of a carry, and the streams of samples that it stands for.
 -- Source: Zackay & Ofek, ApJ 835:11, 2017, section 2 (the dispersion transform, table by table);
 -- that a stream is fed chunk by chunk is this project's choice.
-use Rattle.std.specs.Prelude.{◌≡◌, ℕ, ◌+◌, ◌-◌, ◌*◌, ◌^◌, ◌≤◌, ◌<◌, true, false, Bool, List, length, slice_index}
+use Rattle.std.specs.Prelude.{◌≡◌, ℕ, ◌+◌, ◌-◌, ◌*◌, ◌^◌, ◌≤◌, ◌<◌, true, false, Bool, List, slice_index}
 use Rattle.band_paths.specs.Edges.{channels_of}
 use Rattle.search_model.specs.Samples.{Filterbank}
 use Rattle.subband_plan.specs.Nodes.{BandPlan}
+use Rattle.fdmt_carry.specs.declared.lead.TheConstants.{LEAD, NARROW_LEAD}
 use Rattle.fdmt_carry.specs.Tables.{Tables, node_count, all_rows, held_at, place_at, AreKept, TablesStand}
 
 -- Tables that were fed `fed` spectra in all and `last` of them by the last call; `has_tables` tells
@@ -67,9 +68,10 @@ pub record StandsForSamples (c : Carrying) (f : Filterbank) : Type 0 where
   pub nodes : c.has_tables ≡ true →
       TablesStand c.tables f (c.fed - c.last) c.last 0 (node_count c.tables) c.values
 
--- what holds of a carry
-pub record IsSound (c : Carrying) : Type 0 where
+-- what holds of a carry that has so many values, with those in front
+pub record IsSound (c : Carrying) (kept values narrow : ℕ) : Type 0 where
   pub fits : c.max_sample * (channels_of c.tables.plan.edges + c.tables.plan.last) < 2 ^ 32
   pub short : c.last ≤ c.tables.chunk
-  pub kept_room : length c.kept ≡ held_at c.tables (all_rows c.tables)
-  pub values_room : length c.values ≡ place_at c.tables (all_rows c.tables)
+  pub kept_room : kept ≡ LEAD + held_at c.tables (all_rows c.tables)
+  pub values_room : values ≡ LEAD + place_at c.tables (all_rows c.tables)
+  pub narrow_room : NARROW_LEAD ≤ narrow

@@ -1,14 +1,16 @@
 // Tables that are carried from chunk to chunk.
-ghost use Rattle.std.specs.Prelude.{◌≡◌, ℕ, ◌+◌, ◌-◌, ◌*◌, ◌^◌, ◌<◌, ◌≤◌, true, false, Bool, List, length, slice_index, replicate, IfOk};
+ghost use Rattle.std.specs.Prelude.{◌≡◌, ℕ, ◌+◌, ◌-◌, ◌*◌, ◌^◌, ◌<◌, ◌≤◌, true, false, Bool, List, drop, length, slice_index, replicate, IfOk};
 ghost use Rattle.band_paths.specs.Edges.{channels_of};
 ghost use Rattle.search_model.specs.Samples.{Filterbank};
 ghost use Rattle.search_model.specs.Sums.{path_sum};
 ghost use Rattle.search_model.specs.Subbands.{node_sum};
 ghost use Rattle.subband_plan.specs.Nodes.{HasRow, root};
+ghost use Rattle.fdmt_carry.specs.declared.lead.TheConstants.{LEAD};
 ghost use Rattle.fdmt_carry.specs.Tables.{node_of, node_count};
 ghost use Rattle.fdmt_carry.specs.Samples.{values_of};
 ghost use Rattle.fdmt_carry.specs.Carrying.{Carrying, IsOpened, IsFed, IsStream, AreNext, StandsForSamples, IsSound, carrying};
 
+use crate::lead::LEAD;
 use crate::samples::Samples;
 use crate::tables::Tables;
 use psr_base::Memory;
@@ -18,7 +20,7 @@ use std::marker::Model;
 use subband_plan::Plan;
 
 /// The tables of a plan over a stream of spectra that is fed chunk by chunk. Of each row are kept between two calls as
-/// many values as later spectra need.
+/// many values as later spectra need. Some values in front of `kept`, `values` and `narrow` are not used.
 #[derive(Drop)]
 pub struct Carry {
     tables: Tables,
@@ -34,11 +36,12 @@ pub struct Carry {
 impl Model for Carry {
     ghost Value = { Carrying };
 
-    ghost view = { λ c. carrying c.tables c.max_sample c.fed c.last c.has_tables c.kept.items
-        c.values.items };
+    ghost view = { λ c. carrying c.tables c.max_sample c.fed c.last c.has_tables
+        (drop LEAD c.kept.items) (drop LEAD c.values.items) };
 
     ghost invariant = { λ c. IsSound (carrying c.tables c.max_sample c.fed c.last c.has_tables
-        c.kept.items c.values.items) };
+        (drop LEAD c.kept.items) (drop LEAD c.values.items))
+        (length c.kept.items) (length c.values.items) (length c.narrow.items) };
 }
 
 impl Carry {
@@ -116,8 +119,7 @@ impl Carry {
         let values = self.values.as_mut_slice();
         let kept = self.kept.as_mut_slice();
         let narrow = self.narrow.as_mut_slice();
-        self.tables.fill(
-            0,
+        self.tables.fill_all(
             values,
             kept,
             samples,
@@ -165,7 +167,7 @@ impl Carry {
         self.tables.plain();
         whole_band_is_path_sum();
         let place = self.tables.place(0, d);
-        part(self.values.as_slice(), place, self.last as usize)
+        part(self.values.as_slice(), LEAD + place, self.last as usize)
     }
 
     /// The path sum of delay `d` that ends at the `k`-th spectrum of the last call.
@@ -193,7 +195,7 @@ impl Carry {
         self.tables.whole_of();
         self.tables.plain();
         let place = self.tables.place(k, d);
-        part(self.values.as_slice(), place, self.last as usize)
+        part(self.values.as_slice(), LEAD + place, self.last as usize)
     }
 }
 

@@ -4,6 +4,7 @@
 #![tactic(auto)]
 
 mod carry;
+mod lead;
 mod rows;
 mod samples;
 mod tables;

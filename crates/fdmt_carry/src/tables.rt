@@ -13,6 +13,7 @@ mod steps;
 mod widening;
 
 use self::steps::{Step, all_steps};
+use crate::lead::LEAD;
 use psr_base::Memory;
 use search_model::{
     halves_add, nothing_before, one_channel_adds, one_channel_is_its_sample, splits_fit,
@@ -203,18 +204,20 @@ impl Tables {
         r * self.chunk as usize + self.held(r)
     }
 
-    /// How many values all rows have.
+    /// How many values all rows have, and those in front of them.
     pub fn size(&self) -> usize
-        ensures { result ≡ place_at self.now (all_rows self.now) }
+        ensures { result ≡ LEAD + place_at self.now (all_rows self.now) }
     {
-        self.place_at(self.rows.tails.len())
+        self.hold();
+        LEAD + self.place_at(self.rows.tails.len())
     }
 
-    /// How many values are kept of all rows.
+    /// How many values are kept of all rows, and those in front of them.
     pub fn kept_size(&self) -> usize
-        ensures { result ≡ held_at self.now (all_rows self.now) }
+        ensures { result ≡ LEAD + held_at self.now (all_rows self.now) }
     {
-        self.held(self.rows.tails.len())
+        self.hold();
+        LEAD + self.held(self.rows.tails.len())
     }
 
     // The number of the row of delay `d` of node `k`.

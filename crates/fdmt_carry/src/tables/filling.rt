@@ -1,17 +1,51 @@
 // How the next spectra are taken into the tables of a node and of all nodes below it.
-ghost use Rattle.std.specs.Prelude.{◌≡◌, ℕ, ◌+◌, ◌-◌, ◌*◌, ◌<◌, ◌≤◌, false, length};
+ghost use Rattle.std.specs.Prelude.{◌≡◌, ℕ, ◌+◌, ◌-◌, ◌*◌, ◌<◌, ◌≤◌, false, drop, length};
 ghost use Rattle.search_model.specs.Samples.{Filterbank};
 ghost use Rattle.band_paths.specs.Edges.{channels_of};
 ghost use Rattle.fdmt_carry.specs.Samples.{values_of};
-ghost use Rattle.fdmt_carry.specs.Tables.{node_count, place_of, hold_of, next_of, stop_of, HasNext, AreKept};
+ghost use Rattle.fdmt_carry.specs.Tables.{node_count, all_rows, held_at, place_at, place_of, hold_of, next_of, stop_of, HasNext, AreKept};
 ghost use Rattle.fdmt_carry.specs.Making.{IsPair, IsWide, FitNode, HaveRoom, KeepsNode, KeepsPart, HalvesStand, WidePartStands, PartStands, lower_of};
 ghost use Rattle.fdmt_carry.specs.Narrow.{AreAtMost, IsNarrow};
 
 use super::Tables;
+use crate::lead::{LEAD, NARROW_LEAD};
 use crate::samples::Samples;
 use fdmt_rows::widen_row;
 
 impl Tables {
+    /// Makes the rows of all nodes from the next spectra; `whole` says whether the tables of all nodes stand, or only
+    /// that of the whole band. No sample is above `most`, and `narrow` is room for rows of 16 bits. The values in front
+    /// of each list are not used.
+    pub fn fill_all(
+        &self,
+        values: &mut [u32],
+        kept: &mut [u32],
+        samples: Samples<'_>,
+        spectra: usize,
+        whole: bool,
+        most: u32,
+        narrow: &mut [u16],
+    )
+        requires room { length values.old ≡ LEAD + place_at self.now (all_rows self.now) }
+        requires tails { length kept.old ≡ LEAD + held_at self.now (all_rows self.now) }
+        requires rows { length (values_of samples)
+            ≡ channels_of self.now.plan.edges * self.now.chunk }
+        requires short { spectra ≤ self.now.chunk }
+        requires narrow { NARROW_LEAD ≤ length narrow.old }
+        ensures { (f : Filterbank) (u : ℕ) → AreAtMost most f
+            → HasNext self.now f u spectra (values_of samples.entry)
+            → KeepsPart self.now f u 0 (drop LEAD kept.old)
+            → PartStands self.now f u spectra whole 0 (drop LEAD values.new)
+            (drop LEAD kept.new) }
+    {
+        self.hold();
+        self.whole_of();
+        let (_, own) = values.split_at_mut(LEAD);
+        let (_, own_kept) = kept.split_at_mut(LEAD);
+        let (_, own_narrow) = narrow.split_at_mut(NARROW_LEAD);
+        self.fill(0, own, own_kept, samples, spectra, whole, most, own_narrow);
+    }
+
     // Makes the rows of both halves of node `k`, and of all nodes below them, and tells how many values come before the
     // rows of the lower half.
     #[cycle(fill)]
@@ -192,10 +226,10 @@ impl Tables {
         widen_row(&mut table[..own], &narrow[..own]);
     }
 
-    /// Makes the rows of node `k` from the next spectra, and those of all nodes below it; `whole` says whether the
-    /// tables of these stand too. No sample is above `most`, and `narrow` is room for rows of 16 bits.
+    // Makes the rows of node `k` from the next spectra, and those of all nodes below it; `whole` says whether the
+    // tables of these stand too. No sample is above `most`, and `narrow` is room for rows of 16 bits.
     #[cycle(fill)]
-    pub fn fill(
+    fn fill(
         &self,
         k: usize,
         table: &mut [u32],

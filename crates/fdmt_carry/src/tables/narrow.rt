@@ -11,6 +11,7 @@ ghost use Rattle.fdmt_carry.specs.Narrow.{IsNarrow, HasNarrowHalves, HasNarrowQu
 
 use super::Tables;
 use super::steps::Step;
+use crate::lead::NARROW_LEAD;
 use crate::rows::{add_next_narrow, copy_next_narrow};
 use crate::samples::Samples;
 use search_model::{
@@ -109,13 +110,16 @@ impl Tables {
         0
     }
 
-    /// How much room there should be for values of 16 bits. Where there is less, more rows are made in 32 bits.
-    pub fn narrow_size(&self, most: u32) -> usize {
+    /// How many values of 16 bits there should be, with those in front. Where there are less, more rows are made in 32
+    /// bits.
+    pub fn narrow_size(&self, most: u32) -> usize
+        ensures { NARROW_LEAD ≤ result }
+    {
         let mut size: usize = 0;
         for k in 0..self.nodes() {
             size = size.max(self.low_size(k, most));
         }
-        size
+        size.saturating_add(NARROW_LEAD)
     }
 
     // Makes row `r`, which is that of delay `d` of node `k`, at place `at` of a table, in 16 bits from rows of its
