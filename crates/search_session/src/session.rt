@@ -1,5 +1,5 @@
 //! A session: rounds until all have ended.
-ghost use Rattle.std.specs.Prelude.{◌≡◌, ℕ, ◌+◌, ◌<◌, ◌≤◌, All, IfSome, Some, None, length, slice_get};
+ghost use Rattle.std.specs.Prelude.{◌≡◌, ℕ, ◌+◌, ◌*◌, ◌<◌, ◌≤◌, All, IfSome, Some, None, length, slice_get};
 ghost use Rattle.dada_hdu.specs.Passes.{data_shape, number_of};
 ghost use Rattle.ring_ends.specs.Ended.{sealed_at_end};
 ghost use Rattle.disk_feeder.specs.Feeder.{FeederFaultless};
@@ -33,12 +33,32 @@ use dada_recorder::recordings_end;
 use disk_feeder::{feeders_end, headers_are_first};
 use stream_model::{bytes_are_joined, ends_are_counted, streams_have_transfers};
 
-// Rounds of so many turns, until all actors have ended. After each the writer is freed of those that ended.
+/// Each round has so many times the turns of the one before it. At the end of a round the ring runs empty and new
+/// threads begin, which takes some milliseconds.
+const GROWTH: u32 = 8;
+
+/// From so many turns on rounds grow no longer: their ends cost little by then. A hand that waited in vain takes the
+/// rest of its turns without a wait, about a microsecond each, and so it is soon through.
+const LONG_ROUND: u32 = 32_768;
+
+// The turns of the round after one of so many.
+fn next_round(turns: u32) -> u32
+    ensures short { turns < LONG_ROUND → result ≡ GROWTH * turns }
+    ensures long { LONG_ROUND ≤ turns → result ≡ turns }
+{
+    if turns < LONG_ROUND {
+        GROWTH * turns
+    } else {
+        turns
+    }
+}
+
+// Rounds until all actors have ended, the first of so many turns. After each the writer is freed of those that ended.
 fn run_rounds<I: Inputs + Send, F: Files + Send, G: Gate + Sync, R: Threads + Wait + Sync>(
     rt: &R,
     hands: &mut [Hand<'_, I, F>],
     hdu: &Hdu,
-    turns: u32,
+    mut turns: u32,
     gate: &G,
 )
     requires { All (HandOn I.told I.is_open F.is_open hdu.now) hands.old }
@@ -53,6 +73,7 @@ fn run_rounds<I: Inputs + Send, F: Files + Send, G: Gate + Sync, R: Threads + Wa
         if all_ended(hands) {
             return;
         }
+        turns = next_round(turns);
     }
     unreachable!()
 }
@@ -93,8 +114,9 @@ fn end_session<'a, I: Inputs, F: Files>(
     finish(hdu, feeder, shards, recorder)
 }
 
-/// Drives a stage to its end: rounds of so many turns follow one another until all have ended. After each the writer is
-/// freed of the shards that ended, and of the recorder where it ended.
+/// Drives a stage to its end: rounds follow one another until all have ended. The first has so many turns, and each
+/// later one eight times as many as the one before it, until one has 32768 or more. After each the writer is freed of
+/// the shards that ended, and of the recorder where it ended.
 pub fn run_session<'a, I: Inputs + Send, F: Files + Send, G: Gate + Sync, R: Threads + Wait + Sync>(
     rt: &R,
     stage: Stage<'a, I, F>,

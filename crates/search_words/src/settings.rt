@@ -17,7 +17,7 @@ pub struct Settings {
     pub size: u32,
     /// How many threads work at once.
     pub hands: u32,
-    /// How many turns a hand takes at a time.
+    /// How many turns a hand takes in the first round of a session.
     pub turns: u32,
     /// Whether the data are recorded.
     pub recording: bool,

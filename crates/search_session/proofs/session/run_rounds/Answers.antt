@@ -24,8 +24,8 @@ loop-round-preserved g c =
     record {
       on = c.round_and_retire.ensures.on;
       moved = (
-        before.0 + c.args.turns,
-        hands_more told is_open is_calm faults files_open seen before.0 c.args.turns c.args.hands.now
+        before.0 + c.loop-round.turns,
+        hands_more told is_open is_calm faults files_open seen before.0 c.loop-round.turns c.args.hands.now
             c.loop-round.hands c.round_and_retire.new.hands before.1 c.round_and_retire.ensures.moved,
       );
     }
@@ -44,8 +44,8 @@ returns-then-all_ended g c =
       ended = c.all_ended.ensures.0 c.if-all_ended.true;
       retired = c.round_and_retire.ensures.retired;
       moved = (
-        before.0 + c.args.turns,
-        hands_more told is_open is_calm faults files_open seen before.0 c.args.turns c.args.hands.now
+        before.0 + c.loop-round.turns,
+        hands_more told is_open is_calm faults files_open seen before.0 c.loop-round.turns c.args.hands.now
             c.loop-round.hands c.round_and_retire.new.hands before.1 c.round_and_retire.ensures.moved,
       );
     }
