@@ -116,7 +116,8 @@ impl ShardSearch {
         ensures tables { self.new.carry.has_tables ≡ with_tables }
         ensures count { book.new.count ≤ book.old.count + most_pulses_at_end * spectra }
         ensures stands { (f : Filterbank) → StandsForStream self.old f
-            → AreNext self.old.carry f (values_of samples.entry) spectra → StandsForStream self.new f }
+            → AreNext self.old.carry f (values_of samples.entry) spectra
+            → StandsForStream self.new f }
         ensures pulses { (f : Filterbank) → StandsForStream self.old f
             → AreNext self.old.carry f (values_of samples.entry) spectra → Adds book.old book.new
             (pulses_of_plan f self.old.carry.tables.plan self.old.pulses.search

@@ -32,8 +32,8 @@ pub take-requires-clause-stream : goal.take-requires-clause-stream
 take-requires-clause-stream c =
     let w = c.self.invariant.0 in
     let whole = c.spectra-spectra.ensures.whole in
-    goes_on c.samples_of_bytes.ensures w.observation _ (values_of c.samples.result) _ c.spectra-spectra.result w.taken.holds
-    (omega (arith, whole)) (λ k t. c.samples.ensures.samples _ _ k t w.taken.holds.pending)
+    goes_on c.samples_of_bytes.ensures w.observation _ (values_of c.samples.result) _ c.spectra-spectra.result
+    w.taken.holds (omega (arith, whole)) (λ k t. c.samples.ensures.samples _ _ k t w.taken.holds.pending)
 
 pub take-requires-clause-room : goal.take-requires-clause-room
 take-requires-clause-room c =

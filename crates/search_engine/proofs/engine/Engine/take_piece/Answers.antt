@@ -85,8 +85,8 @@ invariant_of-self c =
         observation = w.observation;
         bytes = w.bytes ++ take c.push-count.result c.args.bytes.now;
         taken = record {
-          holds = searched_holds w.observation _ (values_of c.samples-rows.result) _ c.taken.new.self c.take.new.self c.take.new.book
-              c.self.inside.has_ended c.self.inside.chunk holds c.taken.ensures.part (sym full ∙ whole)
+          holds = searched_holds w.observation _ (values_of c.samples-rows.result) _ c.taken.new.self c.take.new.self
+              c.take.new.book c.self.inside.has_ended c.self.inside.chunk holds c.taken.ensures.part (sym full ∙ whole)
               (c.taken.ensures.given_up _ _) c.take.ensures.alike c.take.ensures.fed
               (λ k t. c.samples-rows.ensures.samples _ _ k t holds.pending) c.take.ensures.stands;
           part = none_left c.push-count.new.self c.taken.new.self c.taken.ensures.part (omega (arith, some, size))
@@ -159,8 +159,8 @@ returns-then-spectra-self-clause-stands c = λ o before stands.
     let u = c.self.inside.sums.carry.fed in
     record {
       taken = record {
-        holds = searched_holds o all (values_of c.samples-rows.result) _ c.taken.new.self c.take.new.self c.take.new.book
-            c.self.inside.has_ended r holds c.taken.ensures.part (sym full ∙ whole)
+        holds = searched_holds o all (values_of c.samples-rows.result) _ c.taken.new.self c.take.new.self
+            c.take.new.book c.self.inside.has_ended r holds c.taken.ensures.part (sym full ∙ whole)
             (c.taken.ensures.given_up _ _) c.take.ensures.alike c.take.ensures.fed
             (λ k t. c.samples-rows.ensures.samples _ _ k t holds.pending) c.take.ensures.stands;
         part = none_left c.push-count.new.self c.taken.new.self c.taken.ensures.part (omega (arith, some, size))
