@@ -38,7 +38,7 @@ use stream_model::{bytes_are_joined, ends_are_counted, streams_have_transfers};
 const GROWTH: u32 = 8;
 
 /// From so many turns on rounds grow no longer: their ends cost little by then. A hand that waited in vain takes the
-/// rest of its turns without a wait, about a microsecond each, and so it is soon through.
+/// rest of its turns without a wait, and at about a look's time each it is soon through.
 const LONG_ROUND: u32 = 32_768;
 
 // The turns of the round after one of so many.
