@@ -79,7 +79,7 @@ impl Bench {
         self.carry.sum(LAST, 0)
     }
 
-    /// How many bytes all rows and tails need.
+    /// How many bytes all rows need, with the tails that a plan says.
     pub fn need(&self) -> u64 {
         self.carry.plan().words(self.work.chunk).wrapping_mul(4)
     }

@@ -9,7 +9,7 @@ use Rattle.fdmt_carry.specs.declared.lead.TheConstants.{LEAD, NARROW_LEAD}
 use Rattle.fdmt_carry.specs.Tables.{Tables, node_count, all_rows, held_at, place_at, AreKept, TablesStand}
 
 -- Tables that were fed `fed` spectra in all and `last` of them by the last call; `has_tables` tells
--- whether that was a feed, after which the tables of all nodes stand. `tables` says where the rows
+-- whether that made the tables of all nodes, which then stand. `tables` says where the rows
 -- are; `kept` has what is kept of them for the next call, `values` what the last call made.
 pub record Carrying : Type 0 where
   pub tables : Tables

@@ -20,7 +20,7 @@ use std::marker::Model;
 use subband_plan::Plan;
 
 /// The tables of a plan over a stream of spectra that is fed chunk by chunk. Of each row are kept between two calls as
-/// many values as later spectra need. Some values in front of `kept`, `values` and `narrow` are not used.
+/// many values as later spectra need, or some more. Some values in front of `kept`, `values` and `narrow` are not used.
 #[derive(Drop)]
 pub struct Carry {
     tables: Tables,
@@ -133,14 +133,14 @@ impl Carry {
         self.has_tables = with_tables;
     }
 
-    /// How many spectra were fed and passed in all.
+    /// How many spectra were taken in all.
     pub fn fed(&self) -> u64
         ensures { result ≡ self.now.fed }
     {
         self.fed
     }
 
-    /// Whether the last call that took spectra was a `feed`, so that the tables of all nodes stand.
+    /// Whether the last call that took spectra was to make the tables of all nodes, so that these stand.
     pub fn has_tables(&self) -> bool
         ensures { result ≡ self.now.has_tables }
     {
@@ -180,7 +180,7 @@ impl Carry {
         self.row(d)[k as usize]
     }
 
-    /// The sums of row `d` of node `k` of the plan that end at the spectra of the last call, which was a `feed`.
+    /// The sums of row `d` of node `k` of the plan that end at the spectra of the last call, which made all tables.
     pub fn table(&self, k: usize, d: u32) -> &[u32]
         requires tables { self.now.has_tables ≡ true }
         requires node { k < node_count self.now.tables }

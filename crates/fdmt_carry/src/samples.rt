@@ -8,7 +8,9 @@ use fdmt_rows::{narrow_row, widen, widen_to_narrow};
 /// Samples that are lent, as values of 32 bits or as bytes.
 #[derive(Clone, Copy)]
 pub enum Samples<'a> {
+    /// Values of 32 bits.
     Words(&'a [u32]),
+    /// Samples of 8 bits, a byte each.
     Bytes(&'a [u8]),
 }
 

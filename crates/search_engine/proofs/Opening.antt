@@ -8,7 +8,7 @@ use Rattle.search_model.specs.declared.search.Search.{Search}
 use Rattle.search_model.specs.Plan.{plan_refusal}
 use Rattle.search_model.specs.Search.{SettingsInRange, shard_start}
 use Rattle.candidate_book.specs.Book.{BookContents, book_of}
-use Rattle.spectra_rows.specs.Unpacking.{Unpacking, StandsForBytes, unpacking_of, whole_spectra}
+use Rattle.spectra_rows.specs.Unpacking.{Unpacking, StandsForBytes, whole_spectra}
 use Rattle.search_engine.specs.Pulses.{pulses_of_ends}
 use Rattle.search_engine.specs.Sums.{ShardState, sums_of}
 use Rattle.search_engine.specs.Engine.{EngineState, Searches, HoldsData, HasTaken, StandsForData, EngineIsSound, IsOpenedSums, IsOpenedUnpacker, chunk_of}

@@ -215,6 +215,7 @@ fn shard_start(search: &Search, shard: u32) -> u32
 fn are_bytes(observation: &Observation) -> bool
     ensures bits { result ≡ true → observation.now.nbit ≡ 8 }
     ensures polarisation { result ≡ true → observation.now.npol ≡ 1 }
+    ensures always { observation.now.nbit ≡ 8 → observation.now.npol ≡ 1 → result ≡ true }
 {
     observation.nbit() == 8 && observation.npol() == 1
 }
@@ -224,6 +225,8 @@ fn open_unpacker(alloc: Global, observation: &Observation, chunk: u32) -> Result
     requires some { 1 ≤ chunk }
     requires most { chunk ≤ 65536 }
     ensures opened { IfOk result (IsOpenedUnpacker observation.now chunk) }
+    ensures bytes { IfOk result (λ u. observation.now.nbit ≡ 8 → observation.now.npol ≡ 1
+        → u.in_bytes ≡ true) }
     ensures nothing { IfOk result (λ u. StandsForBytes u [] 0) }
 {
     observation.lies_in_range();

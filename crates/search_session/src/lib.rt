@@ -3,7 +3,7 @@
 //!
 //! Actor 0 is the feeder, 1 to 7 are the shards in order, and 8 is the recorder; actor a works in hand a modulo the
 //! number of hands. No turn waits; between its turns a hand waits for others that are at work. Rounds of turns follow
-//! one another, at first each longer than the one before, until all have ended. No call takes memory.
+//! one another, the first ones longer and longer, until all have ended. No call takes memory.
 #![tactic(auto)]
 
 mod books;

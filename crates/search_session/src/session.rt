@@ -115,8 +115,8 @@ fn end_session<'a, I: Inputs, F: Files>(
 }
 
 /// Drives a stage to its end: rounds follow one another until all have ended. The first has so many turns, and each
-/// later one eight times as many as the one before it, until one has 32768 or more. After each the writer is freed of
-/// the shards that ended, and of the recorder where it ended.
+/// later one eight times as many as the one before it, until one has 32768 or more; no clause says how many, since no
+/// result rests on it. After each the writer is freed of the shards that ended, and of the recorder where it ended.
 pub fn run_session<'a, I: Inputs + Send, F: Files + Send, G: Gate + Sync, R: Threads + Wait + Sync>(
     rt: &R,
     stage: Stage<'a, I, F>,

@@ -1,5 +1,5 @@
 // Rows as they are kept: of samples of 32 bits, or of bytes.
-ghost use Rattle.std.specs.Prelude.{◌≡◌, ℕ, ◌+◌, ◌*◌, ◌<◌, ◌≤◌, length};
+ghost use Rattle.std.specs.Prelude.{◌≡◌, ◌*◌, ◌≤◌, length};
 ghost use Rattle.search_model.specs.Samples.{sample_bytes};
 ghost use Rattle.spectra_rows.specs.Unpacking.{Keeps};
 ghost use Rattle.spectra_rows.specs.Cells.{AreUnpacked};

@@ -16,7 +16,7 @@ pub trait RowSample: Copy + Drop {
     // whether samples of so many bits and polarisations can be kept
     ghost keeps: { ℕ → ℕ → Type 0 };
 
-    /// Writes sample `index` of the bytes.
+    /// Writes sample `index` of the bytes at a place of the rows.
     fn put(rows: &mut [Self], at: usize, bytes: &[u8], layout: Layout, index: usize)
         requires kept { keeps layout.nbit layout.npol }
         requires place { at < length rows.old }
@@ -24,13 +24,13 @@ pub trait RowSample: Copy + Drop {
         ensures { numbers rows.new
             ≡ slice_set (numbers rows.old) at (sample_at layout.nbit layout.npol bytes.now index) };
 
-    /// Writes eight bytes, each as a sample.
+    /// Writes eight bytes from a place of the rows on, each as a sample.
     fn put_bytes(rows: &mut [Self], at: usize, values: u8x8)
         requires wide { length values ≡ 8 }
         requires place { at + 8 ≤ length rows.old }
         ensures { numbers rows.new ≡ put_chunk at (numbers rows.old) values };
 
-    // each sample is a number
+    // there are as many numbers as samples
     ghost long: { (rows : List Self) → length (numbers rows) ≡ length rows };
 }
 

@@ -66,7 +66,7 @@ fn over_rows(alloc: Global, layout: Layout, rows: Rows) -> Result<Unpacker, Memo
 
 impl Unpacker {
     /// Takes the memory for up to `chunk` spectra of so many channels, whose frequency falls along a spectrum
-    /// or rises, of values of `nbit` bits and `npol` polarisations.
+    /// or rises, of values of `nbit` bits and `npol` polarisations. The rows are of 32 bits.
     pub fn open(
         alloc: Global,
         channels: u32,

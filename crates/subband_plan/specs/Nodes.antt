@@ -75,7 +75,7 @@ node_at nodes k =
 abbrev pub row_count : Node → ℕ
 row_count n = n.last_row + 1 - n.first_row
 
--- how many values the rows and tails of a node have in chunks of so many spectra
+-- how many values the rows of a node have in chunks of so many spectra, with `tail` more for each
 abbrev pub word_count : ℕ → Node → ℕ
 word_count chunk n = row_count n * (chunk + n.tail)
 

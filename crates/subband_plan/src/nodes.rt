@@ -10,7 +10,7 @@ use psr_base::Memory;
 use search_model::{splits_fit, splits_step};
 
 /// A part of the band: the channels from `lo` up to `hi`, the highest first, with a row for each delay from
-/// `first_row` to `last_row` in spectra. Of each row, the last `tail` values are kept for the next spectra.
+/// `first_row` to `last_row` in spectra. The next spectra need at most the last `tail` values of each row.
 #[derive(Clone, Copy, PartialEq, Eq, Debug)]
 pub struct Node {
     pub lo: u32,

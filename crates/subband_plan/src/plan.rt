@@ -103,7 +103,7 @@ impl Plan {
         rows
     }
 
-    /// How many values all rows have in chunks of so many spectra, with their tails.
+    /// How many values all rows have in chunks of so many spectra, with `tail` more for each.
     pub fn words(&self, chunk: u32) -> u64
         ensures { result ≡ sum_by (word_count chunk) (nodes_of self.now) }
     {

@@ -110,7 +110,7 @@ impl Tables {
         0
     }
 
-    /// How many values of 16 bits there should be, with those in front. Where there are less, more rows are made in 32
+    /// How many values of 16 bits there should be, with those in front. Where there are fewer, more rows are made in 32
     /// bits.
     pub fn narrow_size(&self, most: u32) -> usize
         ensures { NARROW_LEAD ≤ result }
