@@ -6,21 +6,21 @@ use Rattle.std.proofs.lemmas.Simd.{get_or-zip2, length-zip2}
 use Rattle.fdmt_rows.specs.Lanes.{AreLaneGreatest, IsZeroOrIn}
 use Rattle.fdmt_rows.specs.Rows.{IsGreatest, sums_of, wrapping_sum}
 use Rattle.fdmt_rows.specs.Writes.{Writes}
-use Rattle.fdmt_rows.proofs.GreatestValues.{eight_more}
+use Rattle.fdmt_rows.proofs.GreatestValues.{lanes_more}
 
 -- a sum of two rows of one length
 pub sum_at : (a b : List ℕ) (k : ℕ) → length a ≡ length b → k < length a
     → slice_index (sums_of a b) k ≡ wrapping_sum (slice_index a k) (slice_index b k)
 sum_at a b k same lt = get_or-zip2 wrapping_sum a b k 0 0 0 lt (omega arith)
 
--- eight sums more
-pub eight_sums : (a b lanes new : List ℕ) (done : ℕ) → length a ≡ length b → done + 8 ≤ length a
-    → AreLaneGreatest (sums_of a b) lanes done → length new ≡ 8
-    → ((j : ℕ) → j < 8 → slice_index new j
+-- the sums of a step more
+pub sums_more : (a b lanes new : List ℕ) (done : ℕ) → length a ≡ length b → done + 16 ≤ length a
+    → AreLaneGreatest (sums_of a b) lanes done → length new ≡ 16
+    → ((j : ℕ) → j < 16 → slice_index new j
     ≡ max (slice_index lanes j) (wrapping_sum (slice_index a (done + j)) (slice_index b (done + j))))
-    → AreLaneGreatest (sums_of a b) new (done + 8)
-eight_sums a b lanes new done same room so_far long is =
-    eight_more (sums_of a b) lanes new done so_far long
+    → AreLaneGreatest (sums_of a b) new (done + 16)
+sums_more a b lanes new done same room so_far long is =
+    lanes_more (sums_of a b) lanes new done so_far long
     (λ j lt. is j lt ∙ ap (λ y. max (slice_index lanes j) y) (sym (sum_at a b (done + j) same (omega arith))))
 
 -- a bound of all values that is one of them

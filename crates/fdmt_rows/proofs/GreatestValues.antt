@@ -19,29 +19,29 @@ greater_is_in row x y z e in_x in_y = elim (cases_lt x y) [
   | inr h ↦ let is : x ≡ z = grind arith in subst (IsZeroOrIn row) is in_x
 ]
 
-pub eight_more : (row lanes new : List ℕ) (done : ℕ) → AreLaneGreatest row lanes done
-    → length new ≡ 8
-    → ((j : ℕ) → j < 8 → slice_index new j ≡ max (slice_index lanes j) (slice_index row (done + j)))
-    → AreLaneGreatest row new (done + 8)
-eight_more row lanes new done so_far long is = record {
+pub lanes_more : (row lanes new : List ℕ) (done : ℕ) → AreLaneGreatest row lanes done
+    → length new ≡ 16
+    → ((j : ℕ) → j < 16 → slice_index new j ≡ max (slice_index lanes j) (slice_index row (done + j)))
+    → AreLaneGreatest row new (done + 16)
+lanes_more row lanes new done so_far long is = record {
   long = long;
-  whole = let w : done % 8 ≡ 0 = so_far.whole in omega arith;
+  whole = let w : done % 16 ≡ 0 = so_far.whole in omega arith;
   bound = λ k h. elim (cases_lt k done) [
     | inl below ↦
         let b = so_far.bound k below in
-        let e = is (k % 8) (omega arith) in
+        let e = is (k % 16) (omega arith) in
         grind (arith, b, e)
     | inr above ↦
-        let w : done % 8 ≡ 0 = so_far.whole in
+        let w : done % 16 ≡ 0 = so_far.whole in
         let j : ℕ = k - done in
         let at : done + j ≡ k = omega arith in
-        let lane : k % 8 ≡ j = omega arith in
+        let lane : k % 16 ≡ j = omega arith in
         let e = is j (omega arith) in
         let P : ℕ → Type 0 = λ i. slice_index row k ≤ slice_index new i in
         let same : slice_index row (done + j) ≡ slice_index row k = ap (λ i. slice_index row i) at in
         subst P (sym lane) (grind (arith, e, same))
   ];
-  found = λ j. elim (cases_lt j 8) [
+  found = λ j. elim (cases_lt j 16) [
     | inl below ↦ greater_is_in row _ _ _ (is j below) (so_far.found j) (at_is_in row (done + j))
     | inr above ↦ inl (get_or_past new j 0 (omega arith))
   ];

@@ -22,13 +22,29 @@ stored xs lanes at n value long fits is = record {
   after = λ k h. get_or-put_chunk_above at xs lanes k 0 (omega arith);
 }
 
--- the lanes of a row from a place on, stored in another width
+-- the lanes of a row from a place on, stored as they are
+pub copied : (xs ys : List ℕ) (at n : ℕ) → at + n ≤ length xs → at + n ≤ length ys
+    → Writes xs (put_chunk at xs (chunk at n ys)) at (at + n) (λ k. slice_index ys k)
+copied xs ys at n fits inside =
+    stored xs _ at n _ (length-chunk at n ys inside) fits (λ j lt. get_or-chunk at n ys j 0 lt)
+
+-- the lanes of a row from a place on, in another width
+abbrev pub cast : List ℕ → ℕ → ℕ → List ℕ
+cast xs at n = map (λ x. x) (chunk at n xs)
+
+pub length_cast : (xs : List ℕ) (at n : ℕ) → at + n ≤ length xs → length (cast xs at n) ≡ n
+length_cast xs at n fits = length-map (chunk at n xs) (λ x. x) ∙ length-chunk at n xs fits
+
+pub cast_at : (xs : List ℕ) (at n j : ℕ) → at + n ≤ length xs → j < n
+    → slice_index (cast xs at n) j ≡ slice_index xs (at + j)
+cast_at xs at n j fits lt =
+    let long = length-chunk at n xs fits in
+    get_or-map (λ x. x) (chunk at n xs) j 0 0 (omega arith) ∙ get_or-chunk at n xs j 0 lt
+
 pub cast_stored : (xs ys : List ℕ) (at n : ℕ) → at + n ≤ length xs → at + n ≤ length ys
-    → Writes xs (put_chunk at xs (map (λ x. x) (chunk at n ys))) at (at + n) (λ k. slice_index ys k)
+    → Writes xs (put_chunk at xs (cast ys at n)) at (at + n) (λ k. slice_index ys k)
 cast_stored xs ys at n fits inside =
-    let long : length (chunk at n ys) ≡ n = length-chunk at n ys inside in
-    stored xs _ at n _ (length-map (chunk at n ys) (λ x. x) ∙ long) fits
-    (λ j lt. get_or-map (λ x. x) (chunk at n ys) j 0 0 (omega arith) ∙ get_or-chunk at n ys j 0 lt)
+    stored xs _ at n _ (length_cast ys at n inside) fits (λ j lt. cast_at ys at n j inside lt)
 
 -- the lanes of two rows from a place on, joined
 pub zipped : (f : ℕ → ℕ → ℕ) (a b : List ℕ) (at n : ℕ) → at + n ≤ length a → at + n ≤ length b
@@ -40,6 +56,23 @@ zipped f a b at n in_a in_b j lt =
     get_or-zip2 f (chunk at n a) (chunk at n b) j 0 0 0 (omega arith) (omega arith)
     ∙ ap (λ x. f x (get_or (chunk at n b) j 0)) (get_or-chunk at n a j 0 lt)
     ∙ ap (λ y. f (get_or a (at + j) 0) y) (get_or-chunk at n b j 0 lt)
+
+-- and with those of the second in another width
+pub zipped_cast : (f : ℕ → ℕ → ℕ) (a b : List ℕ) (at n : ℕ) → at + n ≤ length a → at + n ≤ length b
+    → (j : ℕ) → j < n
+    → slice_index (zip2 f (chunk at n a) (cast b at n)) j ≡ f (slice_index a (at + j)) (slice_index b (at + j))
+zipped_cast f a b at n in_a in_b j lt =
+    let la : length (chunk at n a) ≡ n = length-chunk at n a in_a in
+    let lb : length (cast b at n) ≡ n = length_cast b at n in_b in
+    get_or-zip2 f (chunk at n a) (cast b at n) j 0 0 0 (omega arith) (omega arith)
+    ∙ ap (λ x. f x (get_or (cast b at n) j 0)) (get_or-chunk at n a j 0 lt)
+    ∙ ap (λ y. f (get_or a (at + j) 0) y) (cast_at b at n j in_b lt)
+
+pub length_zipped_cast : (f : ℕ → ℕ → ℕ) (a b : List ℕ) (at n : ℕ) → at + n ≤ length a → at + n ≤ length b
+    → length (zip2 f (chunk at n a) (cast b at n)) ≡ n
+length_zipped_cast f a b at n in_a in_b =
+    let la : length (chunk at n a) ≡ n = length-chunk at n a in_a in
+    length-zip2 f (chunk at n a) (cast b at n) (la ∙ sym (length_cast b at n in_b)) ∙ la
 
 pub length_zipped : (f : ℕ → ℕ → ℕ) (a b : List ℕ) (at n : ℕ) → at + n ≤ length a → at + n ≤ length b
     → length (zip2 f (chunk at n a) (chunk at n b)) ≡ n

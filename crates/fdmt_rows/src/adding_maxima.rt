@@ -8,26 +8,26 @@ use crate::lanes::LANES;
 use crate::maxima::{greater_lanes, greatest_of_lanes};
 use std::simd::prelude::*;
 
-// Stores eight sums, and gives the greater of each and what a lane has.
+// Stores a sum for each lane, and gives the greater of each and what a lane has.
 #[inline(always)]
-fn add_and_compare(lanes: u32x8, out: &mut [u32], a: &[u32], b: &[u32], at: usize) -> u32x8
+fn add_and_compare(lanes: u32x16, out: &mut [u32], a: &[u32], b: &[u32], at: usize) -> u32x16
     requires room { at + LANES ≤ length out.old }
     requires first { length a.now ≡ length out.old }
     requires second { length b.now ≡ length out.old }
     ensures added { Writes out.old out.new at (at + LANES)
         (λ k. wrapping_sum (slice_index a.now k) (slice_index b.now k)) }
-    ensures long { length result ≡ 8 }
-    ensures greater { (j : ℕ) → j < 8 → slice_index result j ≡ max (slice_index lanes j)
+    ensures long { length result ≡ 16 }
+    ensures greater { (j : ℕ) → j < 16 → slice_index result j ≡ max (slice_index lanes j)
         (wrapping_sum (slice_index a.now (at + j)) (slice_index b.now (at + j))) }
 {
-    let sums = u32x8::from_slice(&a[at..]) + u32x8::from_slice(&b[at..]);
+    let sums = u32x16::from_slice(&a[at..]) + u32x16::from_slice(&b[at..]);
     sums.copy_to_slice(&mut out[at..]);
     greater_lanes(lanes, sums)
 }
 
 // As many sums as whole lanes have.
 #[inline(always)]
-fn add_lanes_greatest(out: &mut [u32], a: &[u32], b: &[u32]) -> (u32x8, usize)
+fn add_lanes_greatest(out: &mut [u32], a: &[u32], b: &[u32]) -> (u32x16, usize)
     requires first { length a.now ≡ length out.old }
     requires second { length b.now ≡ length out.old }
     ensures within { result.1 ≤ length out.new }
@@ -35,13 +35,12 @@ fn add_lanes_greatest(out: &mut [u32], a: &[u32], b: &[u32]) -> (u32x8, usize)
         (λ k. wrapping_sum (slice_index a.now k) (slice_index b.now k)) }
     ensures lanes { AreLaneGreatest (sums_of a.now b.now) result.0 result.1 }
 {
-    let mut lanes = u32x8::splat(0);
-    let mut done = 0;
-    while out.len() - done >= LANES {
-        lanes = add_and_compare(lanes, out, a, b, done);
-        done += LANES;
+    let mut lanes = u32x16::splat(0);
+    let steps = out.len() / LANES;
+    for step in 0..steps {
+        lanes = add_and_compare(lanes, out, a, b, step * LANES);
     }
-    (lanes, done)
+    (lanes, steps * LANES)
 }
 
 /// Adds two rows value by value, in 32 bits, and gives the greatest sum, or 0 where there is none.

@@ -1,4 +1,4 @@
-// Loops over as many whole lanes as a row has, eight values a step. Each says how far it came.
+// Loops over as many whole lanes as a row has, sixteen values a step. Each says how far it came.
 ghost use Rattle.std.specs.Prelude.{◌≡◌, ◌+◌, ◌<◌, ◌≤◌, length, slice_index};
 ghost use Rattle.fdmt_rows.specs.Rows.{wrapping_sum};
 ghost use Rattle.fdmt_rows.specs.Writes.{Writes};
@@ -6,7 +6,7 @@ ghost use Rattle.fdmt_rows.specs.Writes.{Writes};
 use std::simd::prelude::*;
 
 /// How many values a step takes.
-pub const LANES: usize = 8;
+pub const LANES: usize = 16;
 
 #[inline(always)]
 fn add_lanes(out: &mut [u32], a: &[u32], b: &[u32], at: usize)
@@ -16,7 +16,7 @@ fn add_lanes(out: &mut [u32], a: &[u32], b: &[u32], at: usize)
     ensures { Writes out.old out.new at (at + LANES)
         (λ k. wrapping_sum (slice_index a.now k) (slice_index b.now k)) }
 {
-    let sums = u32x8::from_slice(&a[at..]) + u32x8::from_slice(&b[at..]);
+    let sums = u32x16::from_slice(&a[at..]) + u32x16::from_slice(&b[at..]);
     sums.copy_to_slice(&mut out[at..]);
 }
 
@@ -29,12 +29,11 @@ pub fn add_whole_lanes(out: &mut [u32], a: &[u32], b: &[u32]) -> usize
     ensures added { Writes out.old out.new 0 result
         (λ k. wrapping_sum (slice_index a.now k) (slice_index b.now k)) }
 {
-    let mut done = 0;
-    while out.len() - done >= LANES {
-        add_lanes(out, a, b, done);
-        done += LANES;
+    let steps = out.len() / LANES;
+    for step in 0..steps {
+        add_lanes(out, a, b, step * LANES);
     }
-    done
+    steps * LANES
 }
 
 #[inline(always)]
@@ -44,7 +43,7 @@ fn add_to_lanes(row: &mut [u32], a: &[u32], at: usize)
     ensures { Writes row.old row.new at (at + LANES)
         (λ k. wrapping_sum (slice_index row.old k) (slice_index a.now k)) }
 {
-    let sums = u32x8::from_slice(&row[at..]) + u32x8::from_slice(&a[at..]);
+    let sums = u32x16::from_slice(&row[at..]) + u32x16::from_slice(&a[at..]);
     sums.copy_to_slice(&mut row[at..]);
 }
 
@@ -56,12 +55,11 @@ pub fn add_to_whole_lanes(row: &mut [u32], a: &[u32]) -> usize
     ensures added { Writes row.old row.new 0 result
         (λ k. wrapping_sum (slice_index row.old k) (slice_index a.now k)) }
 {
-    let mut done = 0;
-    while row.len() - done >= LANES {
-        add_to_lanes(row, a, done);
-        done += LANES;
+    let steps = row.len() / LANES;
+    for step in 0..steps {
+        add_to_lanes(row, a, step * LANES);
     }
-    done
+    steps * LANES
 }
 
 #[inline(always)]
@@ -70,7 +68,7 @@ fn widen_lanes(out: &mut [u32], bytes: &[u8], at: usize)
     requires same { length bytes.now ≡ length out.old }
     ensures { Writes out.old out.new at (at + LANES) (λ k. slice_index bytes.now k) }
 {
-    u8x8::from_slice(&bytes[at..])
+    u8x16::from_slice(&bytes[at..])
         .cast::<u32>()
         .copy_to_slice(&mut out[at..]);
 }
@@ -82,10 +80,9 @@ pub fn widen_whole_lanes(out: &mut [u32], bytes: &[u8]) -> usize
     ensures whole { length out.new < result + LANES }
     ensures widened { Writes out.old out.new 0 result (λ k. slice_index bytes.now k) }
 {
-    let mut done = 0;
-    while out.len() - done >= LANES {
-        widen_lanes(out, bytes, done);
-        done += LANES;
+    let steps = out.len() / LANES;
+    for step in 0..steps {
+        widen_lanes(out, bytes, step * LANES);
     }
-    done
+    steps * LANES
 }

@@ -1,18 +1,22 @@
-//! Sums of whole rows of values, eight lanes of 32 bits or sixteen of 16 bits at a time and the rest one by one.
+//! Sums of whole rows of values, sixteen at a time and the rest one by one.
 #![tactic(auto)]
 
 ghost use Rattle.std.specs.Prelude.{◌≡◌, ℕ, ◌+◌, ◌-◌, ◌<◌, ◌≤◌, ◌^◌, length, slice_index};
 ghost use Rattle.fdmt_rows.specs.Rows.{AddsWrapping, AddsPlainly, IsGreatest, sum_from};
 
 mod adding_maxima;
+mod copies;
 mod lanes;
 mod maxima;
 mod narrow;
 
 pub use adding_maxima::add_rows_greatest;
+pub use copies::{copy_narrow_row, copy_row};
 use lanes::{add_to_whole_lanes, add_whole_lanes, widen_whole_lanes};
 use maxima::{greatest_lanes, greatest_of_lanes};
-pub use narrow::{add_narrow_rows, add_widened_rows, narrow_row, widen_row, widen_to_narrow};
+pub use narrow::{
+    add_mixed_rows, add_narrow_rows, add_widened_rows, narrow_row, widen_row, widen_to_narrow,
+};
 
 /// Adds two rows value by value, in 32 bits.
 pub fn add_rows(out: &mut [u32], a: &[u32], b: &[u32])

@@ -4,10 +4,8 @@ ghost use Rattle.std.specs.Prelude.{◌≡◌, ◌+◌, ◌%◌, ◌^◌, ◌<�
 ghost use Rattle.fdmt_rows.specs.Rows.{wrapping_sum, narrow_sum, AddsWrapping, AddsNarrowly, Narrows};
 ghost use Rattle.fdmt_rows.specs.Writes.{Writes};
 
+use crate::lanes::LANES;
 use std::simd::prelude::*;
-
-// How many values a step takes.
-const LANES: usize = 16;
 
 // How many values 16 bits have.
 const NARROW_VALUES: u32 = 65536;
@@ -33,12 +31,11 @@ fn add_whole_lanes(out: &mut [u16], a: &[u16], b: &[u16]) -> usize
     ensures added { Writes out.old out.new 0 result
         (λ k. narrow_sum (slice_index a.now k) (slice_index b.now k)) }
 {
-    let mut done = 0;
-    while out.len() - done >= LANES {
-        add_lanes(out, a, b, done);
-        done += LANES;
+    let steps = out.len() / LANES;
+    for step in 0..steps {
+        add_lanes(out, a, b, step * LANES);
     }
-    done
+    steps * LANES
 }
 
 #[inline(always)]
@@ -63,12 +60,39 @@ fn add_widened_whole_lanes(out: &mut [u32], a: &[u16], b: &[u16]) -> usize
     ensures added { Writes out.old out.new 0 result
         (λ k. wrapping_sum (slice_index a.now k) (slice_index b.now k)) }
 {
-    let mut done = 0;
-    while out.len() - done >= LANES {
-        add_widened_lanes(out, a, b, done);
-        done += LANES;
+    let steps = out.len() / LANES;
+    for step in 0..steps {
+        add_widened_lanes(out, a, b, step * LANES);
     }
-    done
+    steps * LANES
+}
+
+#[inline(always)]
+fn add_mixed_lanes(out: &mut [u32], wide: &[u32], narrow: &[u16], at: usize)
+    requires room { at + LANES ≤ length out.old }
+    requires first { length wide.now ≡ length out.old }
+    requires second { length narrow.now ≡ length out.old }
+    ensures { Writes out.old out.new at (at + LANES)
+        (λ k. wrapping_sum (slice_index wide.now k) (slice_index narrow.now k)) }
+{
+    let widened = u16x16::from_slice(&narrow[at..]).cast::<u32>();
+    (u32x16::from_slice(&wide[at..]) + widened).copy_to_slice(&mut out[at..]);
+}
+
+#[inline(always)]
+fn add_mixed_whole_lanes(out: &mut [u32], wide: &[u32], narrow: &[u16]) -> usize
+    requires first { length wide.now ≡ length out.old }
+    requires second { length narrow.now ≡ length out.old }
+    ensures within { result ≤ length out.new }
+    ensures whole { length out.new < result + LANES }
+    ensures added { Writes out.old out.new 0 result
+        (λ k. wrapping_sum (slice_index wide.now k) (slice_index narrow.now k)) }
+{
+    let steps = out.len() / LANES;
+    for step in 0..steps {
+        add_mixed_lanes(out, wide, narrow, step * LANES);
+    }
+    steps * LANES
 }
 
 #[inline(always)]
@@ -88,12 +112,11 @@ fn narrow_whole_lanes(out: &mut [u16], values: &[u32]) -> usize
     ensures whole { length out.new < result + LANES }
     ensures narrowed { Writes out.old out.new 0 result (λ k. slice_index values.now k % 2 ^ 16) }
 {
-    let mut done = 0;
-    while out.len() - done >= LANES {
-        narrow_lanes(out, values, done);
-        done += LANES;
+    let steps = out.len() / LANES;
+    for step in 0..steps {
+        narrow_lanes(out, values, step * LANES);
     }
-    done
+    steps * LANES
 }
 
 #[inline(always)]
@@ -114,12 +137,11 @@ fn widen_whole_lanes(out: &mut [u32], values: &[u16]) -> usize
     ensures whole { length out.new < result + LANES }
     ensures widened { Writes out.old out.new 0 result (λ k. slice_index values.now k) }
 {
-    let mut done = 0;
-    while out.len() - done >= LANES {
-        widen_lanes(out, values, done);
-        done += LANES;
+    let steps = out.len() / LANES;
+    for step in 0..steps {
+        widen_lanes(out, values, step * LANES);
     }
-    done
+    steps * LANES
 }
 
 #[inline(always)]
@@ -140,12 +162,11 @@ fn widen_whole_byte_lanes(out: &mut [u16], bytes: &[u8]) -> usize
     ensures whole { length out.new < result + LANES }
     ensures widened { Writes out.old out.new 0 result (λ k. slice_index bytes.now k) }
 {
-    let mut done = 0;
-    while out.len() - done >= LANES {
-        widen_byte_lanes(out, bytes, done);
-        done += LANES;
+    let steps = out.len() / LANES;
+    for step in 0..steps {
+        widen_byte_lanes(out, bytes, step * LANES);
     }
-    done
+    steps * LANES
 }
 
 /// Adds two rows value by value, in 16 bits.
@@ -167,6 +188,17 @@ pub fn add_widened_rows(out: &mut [u32], a: &[u16], b: &[u16])
 {
     for k in add_widened_whole_lanes(out, a, b)..out.len() {
         out[k] = (a[k] as u32).wrapping_add(b[k] as u32);
+    }
+}
+
+/// Adds a row of values of 16 bits to a row of values of 32 bits, value by value, in 32 bits.
+pub fn add_mixed_rows(out: &mut [u32], wide: &[u32], narrow: &[u16])
+    requires first { length wide.now ≡ length out.old }
+    requires second { length narrow.now ≡ length out.old }
+    ensures { AddsWrapping out.new wide.now narrow.now }
+{
+    for k in add_mixed_whole_lanes(out, wide, narrow)..out.len() {
+        out[k] = wide[k].wrapping_add(narrow[k] as u32);
     }
 }
 

@@ -5,7 +5,7 @@ use Rattle.fdmt_rows.proofs.lanes.add_lanes.Goals as goal
 
 pub returns : goal.returns
 returns c =
-    stored c.args.out.now _ c.args.at 8 _
-    (length_zipped wrapping_sum c.args.a.now c.args.b.now c.args.at 8 (omega arith) (omega arith))
+    stored c.args.out.now _ c.args.at 16 _
+    (length_zipped wrapping_sum c.args.a.now c.args.b.now c.args.at 16 (omega arith) (omega arith))
     (omega arith)
-    (zipped wrapping_sum c.args.a.now c.args.b.now c.args.at 8 (omega arith) (omega arith))
+    (zipped wrapping_sum c.args.a.now c.args.b.now c.args.at 16 (omega arith) (omega arith))

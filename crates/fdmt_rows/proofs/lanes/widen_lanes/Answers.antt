@@ -3,4 +3,4 @@ use Rattle.fdmt_rows.proofs.Steps.{cast_stored}
 use Rattle.fdmt_rows.proofs.lanes.widen_lanes.Goals as goal
 
 pub returns : goal.returns
-returns c = cast_stored c.args.out.now c.args.bytes.now c.args.at 8 (omega arith) (omega arith)
+returns c = cast_stored c.args.out.now c.args.bytes.now c.args.at 16 (omega arith) (omega arith)

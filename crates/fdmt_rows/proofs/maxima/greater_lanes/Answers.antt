@@ -8,8 +8,8 @@ pub returns : goal.returns
 returns c =
     let a = c.args.a in
     let b = c.args.b in
-    let la : length a ≡ 8 = c.fits-a.0 in
-    let lb : length b ≡ 8 = c.fits-b.0 in
+    let la : length a ≡ 16 = c.fits-a.0 in
+    let lb : length b ≡ 16 = c.fits-b.0 in
     let long = length-zip2 ltb a b (omega arith) in
     let is = ap (λ ms. sel_l ms b a) (tops_compared w32 ltb a b) in
     record {

@@ -1,13 +1,7 @@
-use Rattle.std.proofs.Common.{◌-◌, length, ◌≤◌, slice_index}
+use Rattle.std.proofs.Common.{◌*◌, slice_index}
 use Rattle.fdmt_rows.specs.Rows.{narrow_sum}
 use Rattle.fdmt_rows.specs.Writes.{Writes}
 use Rattle.fdmt_rows.proofs.narrow.add_whole_lanes.Given as goal
 
-abbrev pub invariant-loop-out : goal.invariant-loop-out
-invariant-loop-out l = record {
-  within : l.done ≤ length l.out;
-  written : Writes l.fn.out l.out 0 l.done (λ k. narrow_sum (slice_index l.a k) (slice_index l.b k));
-}
-
-abbrev pub decreases-loop-out : goal.decreases-loop-out
-decreases-loop-out l = length l.out - l.done
+abbrev pub invariant-loop-step : goal.invariant-loop-step
+invariant-loop-step l = Writes l.fn.out l.out 0 (l.step * 16) (λ k. narrow_sum (slice_index l.a k) (slice_index l.b k))

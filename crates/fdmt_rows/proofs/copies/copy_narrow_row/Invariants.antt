@@ -1,0 +1,6 @@
+use Rattle.std.proofs.Common.{slice_index}
+use Rattle.fdmt_rows.specs.Writes.{Writes}
+use Rattle.fdmt_rows.proofs.copies.copy_narrow_row.Given as goal
+
+abbrev pub invariant-loop-k : goal.invariant-loop-k
+invariant-loop-k l = Writes l.fn.out l.out 0 l.k (λ k. slice_index l.values k)

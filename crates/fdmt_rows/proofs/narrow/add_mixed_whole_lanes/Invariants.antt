@@ -1,0 +1,8 @@
+use Rattle.std.proofs.Common.{◌*◌, slice_index}
+use Rattle.fdmt_rows.specs.Rows.{wrapping_sum}
+use Rattle.fdmt_rows.specs.Writes.{Writes}
+use Rattle.fdmt_rows.proofs.narrow.add_mixed_whole_lanes.Given as goal
+
+abbrev pub invariant-loop-step : goal.invariant-loop-step
+invariant-loop-step l =
+    Writes l.fn.out l.out 0 (l.step * 16) (λ k. wrapping_sum (slice_index l.wide k) (slice_index l.narrow k))
