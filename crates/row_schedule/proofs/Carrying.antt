@@ -1,0 +1,342 @@
+-- What one step does to rows and to what is kept of them.
+use Rattle.std.proofs.Common.{◌≡◌, ◌≢◌, ℕ, ◌+◌, ◌-◌, ◌%◌, ◌^◌, ◌≤◌, ◌<◌, ◌⊎◌, true, false, Bool, List, Some, not, length, replicate, slice_get, slice_index, slice_index_or, refl, arith, sym, ap, subst, ◌∙◌, inl, inr, add-one}
+use Rattle.std.proofs.lemmas.Bool.{cases_lt, cases_eq}
+use Rattle.std.proofs.lemmas.List.{get_or-replicate, get_or_past, length-replicate}
+use Rattle.std.proofs.lemmas.Option.{slice_get-get_or}
+use Rattle.std.proofs.Math.Nat.{mod-eq_of_lt}
+use Rattle.row_model.specs.declared.Rows.{Rows}
+use Rattle.row_model.specs.declared.Source.{Source}
+use Rattle.row_model.specs.declared.Source.TheVariants.{Channel, Sum}
+use Rattle.row_model.specs.Sums.{Sums, AddUp, Fit, is_narrow, value_of}
+use Rattle.row_model.specs.Tails.{row_count}
+use Rattle.row_schedule.specs.declared.step.Step.{Step}
+use Rattle.row_schedule.specs.Samples.{AreNext}
+use Rattle.row_schedule.specs.Orders.{holds, is_made}
+use Rattle.row_schedule.specs.Schedules.{Scheduled}
+use Rattle.row_schedule.specs.Steps.{AreApart, makes_narrow, upper_narrow, lower_narrow, step_at}
+use Rattle.row_schedule.specs.Layout.{hold_of, slot_narrow, tail_of}
+use Rattle.row_schedule.specs.Follows.{Follows, IsStep, BeginsAt}
+use Rattle.row_schedule.specs.Running.{Stores, Kept, KeepsRow, SlotHas, Running, kept_of, list_of, stores}
+use Rattle.row_schedule.specs.Making.{StepMade, next_value}
+use Rattle.row_schedule.specs.Moving.{AreWidened, AreNarrowed}
+use Rattle.row_schedule.specs.Laws.{BeginEmpty}
+use Rattle.row_schedule.proofs.Holding.{MakesIn, holds_here, holds_made, holds_none, holds_other, made_here, made_none, made_other, row_at, slot_at}
+use Rattle.row_schedule.proofs.Keeping.{held_apart}
+use Rattle.row_schedule.proofs.Values.{value_later, value_now, summed_value, sampled_value}
+
+-- no order was carried out
+pub begins : (rows : Rows) (s : Scheduled) (y : Sums) (u spectra : ℕ) (st : Stores) → Kept rows s.narrow y u st →
+    Running rows s y u spectra 0 st
+begins rows s y u spectra st kept = record {
+  slots = λ slot r has. let none = holds_none s.orders slot in absurd cc;
+  made = λ r lt made. let none = made_none s.orders r in absurd cc;
+  others = λ r lt _. kept r lt;
+}
+
+-- all orders were
+pub ends : (rows : Rows) (s : Scheduled) (y : Sums) (u spectra : ℕ) (st : Stores) → Follows rows s →
+    Running rows s y u spectra (length s.orders) st → Kept rows s.narrow y (u + spectra) st
+ends rows s y u spectra st follows running r lt =
+    by_tail (is_made s.orders (length s.orders) r) refl
+  where
+    by_tail : (made : Bool) → is_made s.orders (length s.orders) r ≡ made →
+        KeepsRow rows s.narrow y (u + spectra) st r
+    by_tail true e = running.made r lt e
+    by_tail false e = λ i small.
+        let all = follows.all r lt (omega arith) in
+        absurd cc
+
+zero_at : (n k : ℕ) → slice_index (replicate n 0) k ≡ 0
+zero_at n k = elim (cases_lt k n) [
+  | inl there ↦ get_or-replicate n k 0 0 there
+  | inr past ↦ get_or_past (replicate n 0) k 0 (rw length-replicate past)
+]
+
+same_or_not : (v w : Bool) → (v ≡ w) ⊎ (v ≡ not w)
+same_or_not true true = inl refl
+same_or_not true false = inr refl
+same_or_not false true = inr refl
+same_or_not false false = inl refl
+
+-- before the first spectrum
+pub zeros : (rows : Rows) (narrow : List Bool) (y : Sums) (a b : List ℕ) (n m : ℕ) → BeginEmpty y →
+    Kept rows narrow y 0 (stores a b (replicate n 0) (replicate m 0))
+unfolding value_of
+zeros rows narrow y a b n m empty r lt i small =
+    by_width (is_narrow narrow r) (hold_of rows (is_narrow narrow r) r + i)
+    ∙ ap (λ v. v % 2 ^ 32) (sym (empty r (0 + i) (tail_of rows r) (omega arith)))
+  where
+    by_width : (narrow : Bool) (k : ℕ) →
+        slice_index (kept_of narrow (stores a b (replicate n 0) (replicate m 0))) k ≡ 0
+    by_width true k = zero_at n k
+    by_width false k = zero_at m k
+
+-- What is known where order j is carried out on the spectra from spectrum u on.
+pub record OneMore (rows : Rows) (s : Scheduled) (x : ℕ → ℕ → ℕ) (y : Sums) (u spectra j : ℕ) (samples : List ℕ)
+    (old new : Stores) : Type 0 where
+  pub follows : Follows rows s
+  pub adds : AddUp rows.sources.items x y
+  pub fits : Fit s.narrow y
+  pub next : AreNext x s.channels s.chunk u spectra samples
+  pub number : j < length s.orders
+  pub short : spectra ≤ s.most
+  pub made : StepMade (step_at s.steps j).kind (step_at s.steps j) spectra samples old new
+  pub before : Running rows s y u spectra j old
+
+module _ (rows : Rows) (s : Scheduled) (x : ℕ → ℕ → ℕ) (y : Sums) (u spectra j : ℕ) (samples : List ℕ)
+    (old new : Stores) (o : OneMore rows s x y u spectra j samples old new) where
+  abbrev step : Step
+  step = step_at s.steps j
+
+  abbrev width : Bool
+  width = makes_narrow step.kind
+
+  is_step : IsStep rows s.narrow s.orders s.places s.chunk j step
+  is_step =
+      let entries = o.follows.entries in
+      let number = o.number in
+      o.follows.steps_are j (omega arith)
+
+  -- a list of the other width stays
+  list_stays : (v : Bool) → v ≡ not width → list_of v new ≡ list_of v old
+  list_stays v e = subst (λ v. list_of v new ≡ list_of v old) (sym e) o.made.rest
+
+  kept_stays : (v : Bool) → v ≡ not width → kept_of v new ≡ kept_of v old
+  kept_stays v e = subst (λ v. kept_of v new ≡ kept_of v old) (sym e) o.made.kept_rest
+
+  -- the row of another slot stays
+  slot_stays : (slot r : ℕ) → slot_at s.orders j ≢ slot → holds s.orders j slot ≡ Some r →
+      SlotHas rows s y u spectra new slot r
+  slot_stays slot r other has i lt =
+      let m : MakesIn s.orders j slot r = holds_made s.orders j slot r has in
+      let before = m.before in
+      let number = o.number in
+      let was = o.before.slots slot r has i lt in
+      let k : ℕ = slice_index s.places slot + i in
+      let v : Bool = slot_narrow s.slots slot in
+      elim (same_or_not v width) [
+        | inr off ↦ ap (λ xs. slice_index xs k) (list_stays v off) ∙ was
+        | inl on ↦
+            let is = is_step in
+            let out = is.out in
+            let tail = is.tail in
+            let short = o.short in
+            let ready = o.follows.order j number in
+            let tail_is : tail_of rows (row_at s.orders m.number) ≡ tail_of rows r = ap (tail_of rows) m.row_is in
+            let at_is : slice_index s.places (slot_at s.orders m.number) ≡ slice_index s.places slot =
+            ap (slice_index s.places) m.slot_is in
+            let apart : AreApart k 1 step.out (step.tail + spectra) = elim
+            (o.follows.apart m.number j (omega arith) number (λ e. other (sym (sym m.slot_is ∙ e)))
+            (ap (slot_narrow s.slots) m.slot_is ∙ on ∙ is.width ∙ sym ready.width)) [
+              | inl one ↦ inl (omega arith)
+              | inr two ↦ inr (omega arith)
+            ] in
+            let stays = subst (λ v. slice_index (list_of v new) k ≡ slice_index (list_of v old) k) (sym on)
+            (o.made.own.stays k apart) in
+            stays ∙ was
+      ]
+
+  -- what is kept of another row stays
+  row_stays : (v r : ℕ) → r < row_count rows → row_at s.orders j ≢ r → KeepsRow rows s.narrow y v old r →
+      KeepsRow rows s.narrow y v new r
+  row_stays v r lt other keeps i small =
+      let number = o.number in
+      let w : Bool = is_narrow s.narrow r in
+      let k : ℕ = hold_of rows w r + i in
+      elim (same_or_not w width) [
+        | inr off ↦ ap (λ xs. slice_index xs k) (kept_stays w off) ∙ keeps i small
+        | inl on ↦
+            let is = is_step in
+            let tail = is.tail in
+            let hold : step.hold ≡ hold_of rows w (row_at s.orders j) =
+            is.hold ∙ ap (λ b. hold_of rows b (row_at s.orders j)) (sym (on ∙ is.width)) in
+            let ready = o.follows.order j number in
+            let apart : AreApart k 1 step.hold step.tail = elim
+            (held_apart s.channels rows o.follows.rows_are r (row_at s.orders j) lt ready.row (λ e. other (sym e))) [
+              | inl one ↦ inl (omega arith)
+              | inr two ↦ inr (omega arith)
+            ] in
+            let stays = subst (λ v. slice_index (kept_of v new) k ≡ slice_index (kept_of v old) k) (sym on)
+            (o.made.own.kept_stays k apart) in
+            stays ∙ keeps i small
+      ]
+
+  -- a value of a row that is added
+  added_value : (r late place i k : ℕ) (v : Bool) → BeginsAt rows s.orders s.places j r (place + late) →
+      v ≡ is_narrow s.narrow r → k + late ≡ tail_of rows r + i → i < spectra →
+      slice_index (list_of v old) (place + i) ≡ value_of y rows.tails.items u r k
+  added_value r late place i k v at v_is e lt =
+      let m : MakesIn s.orders j at.slot r = holds_made s.orders j at.slot r at.has in
+      let before = m.before in
+      let number = o.number in
+      let ready = o.follows.order m.number (omega arith) in
+      let there = at.place in
+      let same : v ≡ slot_narrow s.slots at.slot =
+      v_is ∙ ap (is_narrow s.narrow) (sym m.row_is) ∙ sym ready.width ∙ ap (slot_narrow s.slots) m.slot_is in
+      let was = o.before.slots at.slot r at.has k (omega arith) in
+      ap (λ v. slice_index (list_of v old) (place + i)) same
+      ∙ ap (λ p. slice_index (list_of (slot_narrow s.slots at.slot) old) p)
+      (let p : place + i ≡ slice_index s.places at.slot + k = omega arith in p)
+      ∙ was
+
+  -- the next values of the row that is made
+  next_values : (i : ℕ) → i < spectra → next_value step.kind step samples old i
+      ≡ value_of y rows.tails.items u (row_at s.orders j) (tail_of rows (row_at s.orders j) + i)
+  next_values i lt =
+      let ready = o.follows.order j o.number in
+      by_source (slice_index_or rows.sources.items (row_at s.orders j) (Channel 0))
+      (slice_get-get_or rows.sources.items (row_at s.orders j) (Channel 0) ready.row)
+    where
+      by_source : (source : Source) → slice_get rows.sources.items (row_at s.orders j) ≡ Some source →
+          next_value step.kind step samples old i
+          ≡ value_of y rows.tails.items u (row_at s.orders j) (tail_of rows (row_at s.orders j) + i)
+      by_source (Channel c) e =
+          let copy = is_step.channel c e in
+          let there = o.follows.rows_are.channel (row_at s.orders j) c e in
+          let sample : slice_index samples (step.upper + i) ≡ x c (u + i) =
+          ap (λ p. slice_index samples (p + i)) copy.from ∙ o.next c i there lt in
+          rw (copy.copies_it, sample, is_step.width)
+          (sampled_value rows s.narrow x y u (row_at s.orders j) i c o.adds o.fits e)
+      by_source (Sum m) e =
+          let sum = is_step.sum m e in
+          let merge = o.follows.rows_are.merge (row_at s.orders j) m e in
+          let enough = merge.enough in
+          let k : ℕ = tail_of rows m.upper - m.late + i in
+          let e' : k + m.late ≡ tail_of rows m.upper + i = omega arith in
+          let above = added_value m.upper m.late step.upper i k (upper_narrow step.kind) sum.upper sum.upper_width e'
+          lt in
+          let lower_at = subst (λ p. BeginsAt rows s.orders s.places j m.lower p)
+          (let z : step.lower ≡ step.lower + 0 = omega arith in z) sum.lower in
+          let below = added_value m.lower 0 step.lower i (tail_of rows m.lower + i) (lower_narrow step.kind) lower_at
+          sum.lower_width (omega arith) lt in
+          rw (sum.adds, above, below, is_step.width)
+          (summed_value rows s.narrow x y u (row_at s.orders j) i k m o.adds o.fits e e' enough)
+
+  -- the slot has the row
+  slot_made : SlotHas rows s y u spectra new (slot_at s.orders j) (row_at s.orders j)
+  slot_made i lt =
+      let is = is_step in
+      let out = is.out in
+      let tail = is.tail in
+      let ready = o.follows.order j o.number in
+      let r : ℕ = row_at s.orders j in
+      let on : slot_narrow s.slots (slot_at s.orders j) ≡ width = ready.width ∙ sym is.width in
+      let own = ap (λ v. slice_index (list_of v new) (slice_index s.places (slot_at s.orders j) + i)) on in
+      elim (cases_lt i (tail_of rows r)) [
+        | inl front ↦
+            let keeps = o.before.others r ready.row ready.once i front in
+            own
+            ∙ ap (λ p. slice_index (list_of width new) (p + i)) (sym out)
+            ∙ o.made.own.front i (omega arith)
+            ∙ ap (λ p. slice_index (kept_of width old) (p + i)) is.hold
+            ∙ ap (λ v. slice_index (kept_of v old) (hold_of rows (is_narrow s.narrow r) r + i)) is.width
+            ∙ keeps
+        | inr behind ↦
+            let q : ℕ = i - tail_of rows r in
+            own
+            ∙ ap (λ p. slice_index (list_of width new) p)
+            (let p : slice_index s.places (slot_at s.orders j) + i ≡ step.out + (step.tail + q) = omega arith in p)
+            ∙ o.made.own.behind q (omega arith)
+            ∙ next_values q (omega arith)
+            ∙ ap (λ p. value_of y rows.tails.items u r p) (let p : tail_of rows r + q ≡ i = omega arith in p)
+      ]
+
+  -- and its end is kept
+  row_made : KeepsRow rows s.narrow y (u + spectra) new (row_at s.orders j)
+  row_made i lt =
+      let is = is_step in
+      let out = is.out in
+      let tail = is.tail in
+      let ready = o.follows.order j o.number in
+      let r : ℕ = row_at s.orders j in
+      let on : slot_narrow s.slots (slot_at s.orders j) ≡ width = ready.width ∙ sym is.width in
+      ap (λ v. slice_index (kept_of v new) (hold_of rows (is_narrow s.narrow r) r + i)) (sym is.width)
+      ∙ ap (λ p. slice_index (kept_of width new) (p + i)) (sym is.hold)
+      ∙ o.made.own.keeps i (omega arith)
+      ∙ ap (λ p. slice_index (list_of width new) (p + (spectra + i))) out
+      ∙ ap (λ v. slice_index (list_of v new) (slice_index s.places (slot_at s.orders j) + (spectra + i))) (sym on)
+      ∙ slot_made (spectra + i) (omega arith)
+      ∙ sym (value_later y rows.tails.items u spectra r i)
+
+  -- one order more was carried out
+  pub one_more : Running rows s y u spectra (j + 1) new
+  one_more = rw add-one (record {
+    slots = λ slot r has. elim (cases_eq (slot_at s.orders j) slot) [
+      | inl same ↦
+          let here = holds_here s.orders j slot same in
+          let row : row_at s.orders j ≡ r = cc in
+          subst (λ slot. SlotHas rows s y u spectra new slot r) same
+          (subst (λ r. SlotHas rows s y u spectra new (slot_at s.orders j) r) row slot_made)
+      | inr other ↦ slot_stays slot r other (sym (holds_other s.orders j slot other) ∙ has)
+    ];
+    made = λ r lt made. elim (cases_eq (row_at s.orders j) r) [
+      | inl same ↦ subst (λ r. KeepsRow rows s.narrow y (u + spectra) new r) same row_made
+      | inr other ↦
+          row_stays (u + spectra) r lt other
+          (o.before.made r lt (sym (made_other s.orders j r other) ∙ made))
+    ];
+    others = λ r lt not_made. elim (cases_eq (row_at s.orders j) r) [
+      | inl same ↦ absurd (let made = made_here s.orders j r same in cc)
+      | inr other ↦
+          row_stays u r lt other (o.before.others r lt (sym (made_other s.orders j r other) ∙ not_made))
+    ];
+  })
+
+-- a value of a row of 32 bits that stands in its slot
+pub row_read : (rows : Rows) (s : Scheduled) (x : ℕ → ℕ → ℕ) (y : Sums) (u spectra order j k : ℕ) (st : Stores)
+    (wide : List ℕ) → Follows rows s → order < length s.orders →
+    is_narrow s.narrow (row_at s.orders order) ≡ false → AddUp rows.sources.items x y → st.wide ≡ wide →
+    Running rows s y u spectra j st → holds s.orders j (slot_at s.orders order) ≡ Some (row_at s.orders order) →
+    k < spectra →
+    slice_index wide (slice_index s.places (slot_at s.orders order) + tail_of rows (row_at s.orders order) + k)
+    ≡ y (row_at s.orders order) (u + k) 0 % 2 ^ 32
+row_read rows s x y u spectra order j k st wide follows in_orders off adds wide_is running has lt =
+    let ready = follows.order order in_orders in
+    let slot : ℕ = slot_at s.orders order in
+    let r : ℕ = row_at s.orders order in
+    let on : slot_narrow s.slots slot ≡ false = ready.width ∙ off in
+    ap (λ xs. slice_index xs (slice_index s.places slot + tail_of rows r + k)) (sym wide_is)
+    ∙ ap (λ v. slice_index (list_of v st) (slice_index s.places slot + tail_of rows r + k)) (sym on)
+    ∙ ap (λ p. slice_index (list_of (slot_narrow s.slots slot) st) p)
+    (let p : slice_index s.places slot + tail_of rows r + k ≡ slice_index s.places slot + (tail_of rows r + k) =
+    omega arith in p)
+    ∙ running.slots slot r has (tail_of rows r + k) (omega arith)
+    ∙ value_now rows x y u r k adds
+
+-- what is kept of all rows, written in 32 bits
+pub widened : (rows : Rows) (narrow none : List Bool) (y : Sums) (u : ℕ) (a b kept_narrow old new : List ℕ) →
+    ((r : ℕ) → is_narrow none r ≡ false) → AreWidened rows narrow (row_count rows) kept_narrow old new →
+    Kept rows narrow y u (stores a b kept_narrow old) → Kept rows none y u (stores a b kept_narrow new)
+widened rows narrow none y u a b kept_narrow old new off moved kept r lt i small =
+    ap (λ v. slice_index (kept_of v (stores a b kept_narrow new)) (hold_of rows v r + i)) (off r)
+    ∙ by_width (is_narrow narrow r) refl
+    ∙ kept r lt i small
+  where
+    by_width : (v : Bool) → is_narrow narrow r ≡ v → slice_index new (hold_of rows false r + i)
+        ≡ slice_index (kept_of v (stores a b kept_narrow old)) (hold_of rows v r + i)
+    by_width true on = moved.moved r i lt small on
+    by_width false no_narrow = moved.stays r i lt small (inr no_narrow)
+
+-- and in 16 bits
+pub narrowed : (rows : Rows) (narrow none : List Bool) (y : Sums) (u : ℕ) (a b kept_wide old new : List ℕ) →
+    ((r : ℕ) → is_narrow none r ≡ false) → Fit narrow y →
+    AreNarrowed rows narrow (row_count rows) kept_wide old new →
+    Kept rows none y u (stores a b old kept_wide) → Kept rows narrow y u (stores a b new kept_wide)
+unfolding value_of
+narrowed rows narrow none y u a b kept_wide old new off fits moved kept r lt i small =
+    by_width (is_narrow narrow r) refl
+  where
+    was : slice_index kept_wide (hold_of rows false r + i) ≡ value_of y rows.tails.items u r i
+    was =
+        sym (ap (λ v. slice_index (kept_of v (stores a b old kept_wide)) (hold_of rows v r + i)) (off r))
+        ∙ kept r lt i small
+
+    by_width : (v : Bool) → is_narrow narrow r ≡ v →
+        slice_index (kept_of v (stores a b new kept_wide)) (hold_of rows v r + i) ≡ value_of y rows.tails.items u r i
+    by_width false _ = was
+    by_width true on =
+        let fit = fits r (u + i) (tail_of rows r) on in
+        let whole : y r (u + i) (tail_of rows r) % 2 ^ 32 ≡ y r (u + i) (tail_of rows r) = mod-eq_of_lt (omega arith) in
+        let low : y r (u + i) (tail_of rows r) % 2 ^ 16 ≡ y r (u + i) (tail_of rows r) = mod-eq_of_lt fit in
+        moved.moved r i lt small on
+        ∙ ap (λ z. z % 2 ^ 16) (was ∙ whole) ∙ low ∙ sym whole

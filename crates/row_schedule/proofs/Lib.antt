@@ -1,0 +1,9 @@
+pub mod Parts
+pub mod Holding
+pub mod Appending
+pub mod Marking
+pub mod Laying
+pub mod Fitting
+pub mod Values
+pub mod Carrying
+pub mod Keeping

@@ -1,0 +1,11 @@
+pub mod Samples
+pub mod Orders
+pub mod Marks
+pub mod Schedules
+pub mod Steps
+pub mod Layout
+pub mod Follows
+pub mod Running
+pub mod Making
+pub mod Moving
+pub mod Laws

@@ -1,0 +1,73 @@
+-- What rows and kept values stand for while a schedule is carried out.
+-- Source: this project's choice.
+use Rattle.std.specs.Prelude.{◌≡◌, ℕ, ◌+◌, ◌≤◌, ◌<◌, true, false, Bool, List, Some, length, slice_index, if◌then◌else◌}
+use Rattle.row_model.specs.declared.Rows.{Rows}
+use Rattle.row_model.specs.Sums.{Sums, is_narrow, value_of}
+use Rattle.row_model.specs.Tails.{row_count}
+use Rattle.row_schedule.specs.Orders.{holds, is_made}
+use Rattle.row_schedule.specs.Schedules.{Scheduled}
+use Rattle.row_schedule.specs.Layout.{hold_of, slot_narrow}
+
+-- the lists that a schedule works on: the slots of rows of 16 and of 32 bits, and what is kept of
+-- such rows
+pub record Stores : Type 0 where
+  pub narrow : List ℕ
+  pub wide : List ℕ
+  pub kept_narrow : List ℕ
+  pub kept_wide : List ℕ
+
+abbrev pub stores : List ℕ → List ℕ → List ℕ → List ℕ → Stores
+stores narrow wide kept_narrow kept_wide = record {
+  narrow = narrow;
+  wide = wide;
+  kept_narrow = kept_narrow;
+  kept_wide = kept_wide;
+}
+
+-- they are as long as a schedule needs, or longer
+pub record HaveRoom (s : Scheduled) (st : Stores) : Type 0 where
+  pub narrow_room : s.narrow_size ≤ length st.narrow
+  pub wide_room : s.wide_size ≤ length st.wide
+  pub kept_narrow_room : s.kept_size ≤ length st.kept_narrow
+  pub kept_wide_room : s.kept_size ≤ length st.kept_wide
+
+-- the slots of a width, and what is kept of its rows
+abbrev pub list_of : Bool → Stores → List ℕ
+list_of narrow st = if narrow then st.narrow else st.wide
+
+abbrev pub kept_of : Bool → Stores → List ℕ
+kept_of narrow st = if narrow then st.kept_narrow else st.kept_wide
+
+-- value i of what is kept of row r
+abbrev pub kept_value : Rows → List Bool → Stores → ℕ → ℕ → ℕ
+kept_value rows narrow st r i =
+    slice_index (kept_of (is_narrow narrow r) st) (hold_of rows (is_narrow narrow r) r + i)
+
+-- value i of a slot
+abbrev pub slot_value : Scheduled → Stores → ℕ → ℕ → ℕ
+slot_value s st slot i =
+    slice_index (list_of (slot_narrow s.slots slot) st) (slice_index s.places slot + i)
+
+-- Before the sums that end at spectrum u, this is kept of row r.
+abbrev pub KeepsRow : Rows → List Bool → Sums → ℕ → Stores → ℕ → Type 0
+KeepsRow rows narrow y u st r = (i : ℕ) → i < slice_index rows.tails.items r →
+    kept_value rows narrow st r i ≡ value_of y rows.tails.items u r i
+
+-- and this of all rows
+abbrev pub Kept : Rows → List Bool → Sums → ℕ → Stores → Type 0
+Kept rows narrow y u st = (r : ℕ) → r < row_count rows → KeepsRow rows narrow y u st r
+
+-- a slot has row r, whose values behind those that are kept end at spectrum u and after it
+abbrev pub SlotHas : Rows → Scheduled → Sums → ℕ → ℕ → Stores → ℕ → ℕ → Type 0
+SlotHas rows s y u spectra st slot r = (i : ℕ) → i < slice_index rows.tails.items r + spectra →
+    slot_value s st slot i ≡ value_of y rows.tails.items u r i
+
+-- The first j orders were carried out on the spectra from spectrum u on: the slots have the rows
+-- that were made in them last, and what is kept of the rows that were made is of these spectra.
+pub record Running (rows : Rows) (s : Scheduled) (y : Sums) (u spectra j : ℕ) (st : Stores) :
+    Type 0 where
+  pub slots : (slot r : ℕ) → holds s.orders j slot ≡ Some r → SlotHas rows s y u spectra st slot r
+  pub made : (r : ℕ) → r < row_count rows → is_made s.orders j r ≡ true →
+      KeepsRow rows s.narrow y (u + spectra) st r
+  pub others : (r : ℕ) → r < row_count rows → is_made s.orders j r ≡ false →
+      KeepsRow rows s.narrow y u st r

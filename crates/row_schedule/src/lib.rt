@@ -1,0 +1,22 @@
+//! Rows of sums that are made chunk by chunk, in an order and in places that were assembled once.
+//!
+//! A row is made in a slot: what is kept of it comes first, and behind it its values of the next spectra. A slot is used
+//! again for other rows. `Builder` takes an order of rows only where it can be carried out after those before it, and
+//! `Schedule` carries all out.
+#![tactic(auto)]
+
+mod builder;
+mod kept;
+mod layout;
+mod lead;
+mod making;
+mod marks;
+mod reading;
+mod samples;
+mod schedule;
+mod step;
+
+pub use builder::{Builder, Order};
+pub use kept::{narrow_kept, nothing_kept, running_begins, running_ends, widen_kept};
+pub use samples::Samples;
+pub use schedule::Schedule;

@@ -1,0 +1,61 @@
+// Samples that are lent.
+ghost use Rattle.std.specs.Prelude.{◌≡◌, ℕ, ◌+◌, ◌%◌, ◌^◌, ◌≤◌, length, slice_index, take, drop};
+ghost use Rattle.fdmt_rows.specs.Rows.{Narrows};
+ghost use Rattle.row_schedule.specs.Samples.{values_of};
+
+use fdmt_rows::{narrow_row, widen, widen_to_narrow};
+
+/// Samples that are lent, as values of 32 bits or as bytes.
+#[derive(Clone, Copy)]
+pub enum Samples<'a> {
+    /// Values of 32 bits.
+    Words(&'a [u32]),
+    /// Samples of 8 bits, a byte each.
+    Bytes(&'a [u8]),
+}
+
+impl<'a> Samples<'a> {
+    /// All but the first ones, so many.
+    pub fn skip(self, count: usize) -> Samples<'a>
+        requires { count ≤ length (values_of self) }
+        ensures { values_of result ≡ drop count (values_of self.entry) }
+    {
+        match self {
+            Samples::Words(words) => Samples::Words(&words[count..]),
+            Samples::Bytes(bytes) => Samples::Bytes(&bytes[count..]),
+        }
+    }
+
+    // So many of them from a place on.
+    pub(crate) fn part(self, at: usize, count: usize) -> Samples<'a>
+        requires { at + count ≤ length (values_of self) }
+        ensures { values_of result ≡ take count (drop at (values_of self.entry)) }
+    {
+        match self {
+            Samples::Words(words) => Samples::Words(&words[at..at + count]),
+            Samples::Bytes(bytes) => Samples::Bytes(&bytes[at..at + count]),
+        }
+    }
+
+    // Writes them as values of 32 bits.
+    pub(crate) fn copy_to(self, out: &mut [u32])
+        requires { length (values_of self) ≡ length out.old }
+        ensures { (k : ℕ) → slice_index out.new k ≡ slice_index (values_of self.entry) k % 2 ^ 32 }
+    {
+        match self {
+            Samples::Words(words) => out.copy_from_slice(words),
+            Samples::Bytes(bytes) => widen(out, bytes),
+        }
+    }
+
+    // Writes them as values of 16 bits.
+    pub(crate) fn narrow_to(self, out: &mut [u16])
+        requires { length (values_of self) ≡ length out.old }
+        ensures { Narrows out.new (values_of self.entry) }
+    {
+        match self {
+            Samples::Words(words) => narrow_row(out, words),
+            Samples::Bytes(bytes) => widen_to_narrow(out, bytes),
+        }
+    }
+}

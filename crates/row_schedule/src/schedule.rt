@@ -1,0 +1,191 @@
+// A schedule, and how it is carried out.
+ghost use Rattle.std.specs.Prelude.{◌≡◌, ℕ, ◌+◌, ◌-◌, ◌*◌, ◌%◌, ◌^◌, ◌<◌, ◌≤◌, true, false, Some, length, slice_index};
+ghost use Rattle.row_model.specs.Sums.{Sums, AddUp, Fit, is_narrow};
+ghost use Rattle.row_schedule.specs.Samples.{values_of, AreNext};
+ghost use Rattle.row_schedule.specs.Orders.{order_at, holds};
+ghost use Rattle.row_schedule.specs.Steps.{IsSafe, step_at};
+ghost use Rattle.row_schedule.specs.Follows.{Follows};
+ghost use Rattle.row_schedule.specs.Running.{Stores, HaveRoom, Running, stores};
+ghost use Rattle.row_schedule.specs.Making.{StepMade};
+
+use crate::builder::Order;
+use crate::making::{
+    add_narrow, add_narrow_wide, add_wide, add_wide_narrow, add_widened, copy_narrow, copy_wide,
+};
+use crate::reading::tail;
+use crate::samples::Samples;
+use crate::step::{Kind, Step};
+use row_model::Rows;
+use std::marker::Model;
+
+/// How rows are made of the next spectra, step by step. It was laid by `Builder::finish`.
+#[derive(Drop)]
+pub struct Schedule {
+    pub(crate) channels: usize,
+    pub(crate) chunk: usize,
+    pub(crate) most: usize,
+    pub(crate) narrow: Vec<bool>,
+    pub(crate) slots: Vec<bool>,
+    pub(crate) orders: Vec<Order>,
+    pub(crate) places: Vec<usize>,
+    pub(crate) steps: Vec<Step>,
+    pub(crate) narrow_size: usize,
+    pub(crate) wide_size: usize,
+    pub(crate) kept_size: usize,
+}
+
+impl Model for Schedule {
+    ghost use Rattle.row_schedule.specs.Schedules.{Scheduled, scheduled};
+    ghost use Rattle.row_schedule.specs.Steps.{IsSafe};
+
+    ghost Value = { Scheduled };
+
+    ghost view = { λ s. scheduled s.channels s.chunk s.most s.narrow.items s.slots.items s.orders.items
+        s.places.items s.steps.items s.narrow_size s.wide_size s.kept_size };
+
+    ghost invariant = { λ s. IsSafe (scheduled s.channels s.chunk s.most s.narrow.items s.slots.items
+        s.orders.items s.places.items s.steps.items s.narrow_size s.wide_size s.kept_size) };
+}
+
+impl Schedule {
+    /// How many values of 16 bits there are to be in which rows are made.
+    pub fn narrow_size(&self) -> usize
+        ensures { result ≡ self.now.narrow_size }
+    {
+        self.narrow_size
+    }
+
+    /// How many values of 32 bits there are to be in which rows are made.
+    pub fn wide_size(&self) -> usize
+        ensures { result ≡ self.now.wide_size }
+    {
+        self.wide_size
+    }
+
+    /// How many values there are to be of what is kept, of 16 and of 32 bits.
+    pub fn kept_size(&self) -> usize
+        ensures { result ≡ self.now.kept_size }
+    {
+        self.kept_size
+    }
+
+    /// How many rows are made.
+    pub fn orders(&self) -> usize
+        ensures { result ≡ length self.now.orders }
+    {
+        self.orders.len()
+    }
+
+    // Order `j`.
+    fn order(&self, j: usize) -> Order
+        requires { j < length self.now.orders }
+        ensures { result ≡ order_at self.now.orders j }
+    {
+        self.orders[j]
+    }
+
+    // Each step reads and writes within the lists; it does nothing.
+    fn holds(&self)
+        ensures { IsSafe self.now }
+    {
+        let _ = &self.steps;
+    }
+
+    // Where slot `slot` begins.
+    fn place(&self, slot: usize) -> usize
+        requires { slot < length self.now.slots }
+        ensures { result ≡ slice_index self.now.places slot }
+    {
+        self.places[slot]
+    }
+
+    // Carries out step `j`.
+    #[inline(always)]
+    fn make(
+        &self,
+        j: usize,
+        narrow: &mut [u16],
+        wide: &mut [u32],
+        kept_narrow: &mut [u16],
+        kept_wide: &mut [u32],
+        samples: Samples<'_>,
+        spectra: usize,
+    )
+        requires step { j < length self.now.orders }
+        requires room { HaveRoom self.now
+            (stores narrow.old wide.old kept_narrow.old kept_wide.old) }
+        requires short { spectra ≤ self.now.most }
+        requires samples { self.now.channels * self.now.chunk
+            ≤ length (values_of samples) + (self.now.chunk - spectra) }
+        ensures { StepMade (step_at self.now.steps j).kind (step_at self.now.steps j) spectra
+            (values_of samples.entry) (stores narrow.old wide.old kept_narrow.old kept_wide.old)
+            (stores narrow.new wide.new kept_narrow.new kept_wide.new) }
+    {
+        let step = self.steps[j];
+        match step.kind {
+            Kind::CopyNarrow => copy_narrow(step, narrow, kept_narrow, samples, spectra),
+            Kind::CopyWide => copy_wide(step, wide, kept_wide, samples, spectra),
+            Kind::AddNarrow => add_narrow(step, narrow, kept_narrow, spectra),
+            Kind::AddWidened => add_widened(step, wide, kept_wide, narrow, spectra),
+            Kind::AddWideNarrow => add_wide_narrow(step, wide, kept_wide, narrow, spectra),
+            Kind::AddNarrowWide => add_narrow_wide(step, wide, kept_wide, narrow, spectra),
+            Kind::AddWide => add_wide(step, wide, kept_wide, spectra),
+        }
+    }
+
+    /// Carries out the orders from `from` on, up to `to`, over the next spectra: the samples of channel `c`, the
+    /// highest frequency first, begin at `c` times the chunk. Those of the last channel may be no more than the spectra,
+    /// so the samples can be lent from some spectrum on.
+    pub fn run(
+        &self,
+        from: usize,
+        to: usize,
+        narrow: &mut [u16],
+        wide: &mut [u32],
+        kept_narrow: &mut [u16],
+        kept_wide: &mut [u32],
+        samples: Samples<'_>,
+        spectra: usize,
+    )
+        requires begins { from ≤ to }
+        requires ends { to ≤ length self.now.orders }
+        requires room { HaveRoom self.now
+            (stores narrow.old wide.old kept_narrow.old kept_wide.old) }
+        requires short { spectra ≤ self.now.most }
+        requires samples { self.now.channels * self.now.chunk
+            ≤ length (values_of samples) + (self.now.chunk - spectra) }
+        ensures { (rows : Rows) (x : ℕ → ℕ → ℕ) (y : Sums) (u : ℕ) → Follows rows self.now
+            → AddUp rows.sources.items x y → Fit self.now.narrow y
+            → AreNext x self.now.channels self.now.chunk u spectra (values_of samples.entry)
+            → Running rows self.now y u spectra from
+            (stores narrow.old wide.old kept_narrow.old kept_wide.old)
+            → Running rows self.now y u spectra to
+            (stores narrow.new wide.new kept_narrow.new kept_wide.new) }
+    {
+        for j in from..to {
+            self.make(j, narrow, wide, kept_narrow, kept_wide, samples, spectra);
+        }
+    }
+
+    /// The values of the row of an order, which has 32 bits and stands in its slot, that end at the next spectra.
+    pub fn row<'a>(&self, rows: &Rows, wide: &'a [u32], order: usize, spectra: usize) -> &'a [u32]
+        requires follows { Follows rows.now self.now }
+        requires order { order < length self.now.orders }
+        requires width { is_narrow self.now.narrow (order_at self.now.orders order).row ≡ false }
+        requires room { self.now.wide_size ≤ length wide.now }
+        requires short { spectra ≤ self.now.most }
+        ensures long { length result.now ≡ spectra }
+        ensures values { (x : ℕ → ℕ → ℕ) (y : Sums) (u j k : ℕ) (st : Stores)
+            → AddUp rows.now.sources.items x y → st.wide ≡ wide.now
+            → Running rows.now self.now y u spectra j st
+            → holds self.now.orders j (order_at self.now.orders order).slot
+            ≡ Some (order_at self.now.orders order).row
+            → k < spectra → slice_index result.now k
+            ≡ y (order_at self.now.orders order).row (u + k) 0 % 2 ^ 32 }
+    {
+        self.holds();
+        let Order { row, slot } = self.order(order);
+        let at = self.place(slot as usize) + tail(rows, row as usize) as usize;
+        &wide[at..at + spectra]
+    }
+}

@@ -1,0 +1,36 @@
+// One step of a schedule.
+
+/// What a step does: it copies samples or adds two rows, an upper and a lower one, of 16 bits (narrow) or 32 (wide).
+#[derive(Clone, Copy, PartialEq, Eq, Debug)]
+pub enum Kind {
+    /// Samples, in 16 bits.
+    CopyNarrow,
+    /// Samples, in 32 bits.
+    CopyWide,
+    /// Two narrow rows, in 16 bits.
+    AddNarrow,
+    /// Two narrow rows, in 32 bits.
+    AddWidened,
+    /// A wide row and a narrow one, in 32 bits.
+    AddWideNarrow,
+    /// A narrow row and a wide one, in 32 bits.
+    AddNarrowWide,
+    /// Two wide rows, in 32 bits.
+    AddWide,
+}
+
+/// Which values a step reads and writes. All places are those in the lists, with the values in front.
+#[derive(Clone, Copy, PartialEq, Eq, Debug)]
+pub struct Step {
+    pub kind: Kind,
+    /// How many values are kept of the row.
+    pub tail: u32,
+    /// Where its slot begins.
+    pub out: usize,
+    /// Where the values begin that are kept of it.
+    pub hold: usize,
+    /// Where the values of the upper row begin that are added, or the samples that are copied.
+    pub upper: usize,
+    /// Where the values of the lower row begin that are added.
+    pub lower: usize,
+}
