@@ -1,99 +1,114 @@
 // Plans over two and three channels, worked by hand from the split of a delay.
-use psr_base::Memory;
-use subband_plan::{Merge, Node, Plan, Rows};
+ghost use Rattle.subband_plan.specs.Rows.{ArePlanRows};
 
-// A node with its channels, its rows and its tail.
-fn node((lo, hi): (u32, u32), (first_row, last_row): (u32, u32), tail: u32) -> Node {
-    Node {
-        lo,
-        hi,
-        first_row,
-        last_row,
-        tail,
+use row_model::Source;
+use std::alloc::{AllocError, Global};
+use std::test::Fail;
+use subband_plan::{Plan, PlanRows};
+
+const TWO: [u32; 3] = [1_500_000, 1_400_000, 1_300_000];
+
+const THREE: [u32; 4] = [1_600_000, 1_500_000, 1_400_000, 1_300_000];
+
+// Of each plan its channels and delays; the rows of its nodes, and their values with tails in chunks of 10 spectra;
+// the nodes: channels, delays, tail, the number of the first row that is kept; and the rows that are kept: node and
+// delay, what they are made of, how much is kept of them and where that begins.
+const PLANS: &str = "
+2 0 1 | 5 51 | 0-2 0-1 0 0; 0-1 0-0 1 2; 1-2 0-1 0 3; \
+    | 0/0 2+3@0 16/0; 0/1 0+3@1 0/16; 1/0 c0 0/16; 2/0 c1 16/16; 2/1 3+3@1 0/32;
+2 2 4 | 7 74 | 0-2 2-4 0 0; 0-1 1-2 2 5; 1-2 1-2 0 8; \
+    | 0/0 5+8@0 16/0; 0/1 0+8@1 0/16; 0/2 5+1@2 16/16; 0/3 2+8@1 0/32; 0/4 5+3@4 0/32; \
+    1/0 c0 16/32; 1/1 5+5@1 0/48; 1/2 5+6@2 0/48; 2/0 c1 16/48; 2/1 8+8@1 0/64; 2/2 8+9@2 0/64;
+3 6 6 | 5 56 | 0-3 6-6 0 0; 0-1 2-2 4 1; 1-3 4-4 0 4; 1-2 2-2 2 9; 2-3 2-2 0 12; \
+    | 0/6 3+8@4 0/0; 1/0 c0 16/0; 1/1 1+1@1 0/16; 1/2 1+2@2 16/16; \
+    2/0 9+12@0 16/32; 2/1 4+12@1 0/48; 2/2 9+5@2 16/48; 2/3 6+12@1 0/64; 2/4 9+7@4 0/64; \
+    3/0 c1 16/64; 3/1 9+9@1 0/80; 3/2 9+10@2 0/80; 4/0 c2 16/80; 4/1 12+12@1 0/96; 4/2 12+13@2 0/96;
+";
+
+// The fields of a line, which `|` parts. Those that it doesn't have are empty.
+fn fields_of(line: &'static str) -> [&'static str; 4] {
+    let mut fields = [""; 4];
+    for (i, field) in line.split('|').enumerate() {
+        if i < fields.len() {
+            fields[i] = field.trim();
+        }
+    }
+    fields
+}
+
+// The plan of a line.
+fn plan_of(alloc: Global, setting: &'static str) -> Result<Plan, Fail> {
+    let plan = match setting {
+        "2 0 1" => Plan::open(alloc, &TWO, 0, 1)?,
+        "2 2 4" => Plan::open(alloc, &TWO, 2, 4)?,
+        _ => Plan::open(alloc, &THREE, 6, 6)?,
+    };
+    Ok(plan)
+}
+
+// The nodes of a plan as a line has them.
+fn nodes_of(alloc: Global, plan: &Plan, rows: &PlanRows) -> Result<String, AllocError>
+    requires { ArePlanRows plan.now rows.now }
+{
+    let mut text = String::new(alloc);
+    for k in 0..plan.nodes() {
+        let node = plan.node(k);
+        let part = format!(in alloc;
+            "{}-{} {}-{} {}",
+            node.lo, node.hi, node.first_row, node.last_row, node.tail
+        )?;
+        let start = format!(in alloc; " {}; ", rows.starts[k])?;
+        text.push_str(part.as_str())?;
+        text.push_str(start.as_str())?;
+    }
+    Ok(text)
+}
+
+fn source_of(alloc: Global, source: Source) -> Result<String, AllocError> {
+    match source {
+        Source::Channel(channel) => format!(in alloc; "c{channel}"),
+        Source::Sum(merge) => format!(in alloc; "{}+{}@{}", merge.upper, merge.lower, merge.late),
     }
 }
 
-fn merge((upper, lower, late): (u32, u32, u32)) -> Merge {
-    Merge { upper, lower, late }
-}
-
-#[test]
-fn plans_over_two_channels(rt: HostRuntime) -> Result<(), Memory> {
-    let edges = [1_500_000, 1_400_000, 1_300_000];
-    // The delays, the nodes, the rows of all, and their values with tails in chunks of 10 spectra.
-    let cases = [
-        (
-            (0, 1),
-            [
-                node((0, 2), (0, 1), 0),
-                node((0, 1), (0, 0), 1),
-                node((1, 2), (0, 1), 0),
-            ],
-            (5, 51),
-        ),
-        (
-            (2, 4),
-            [
-                node((0, 2), (2, 4), 0),
-                node((0, 1), (1, 2), 2),
-                node((1, 2), (1, 2), 0),
-            ],
-            (7, 74),
-        ),
-    ];
-    for ((first, last), wanted, (rows, words)) in cases {
-        let plan = Plan::open(rt.alloc(), &edges, first, last)?;
-        assert_eq!(rt; plan.all_nodes(), wanted.as_slice());
-        assert_eq!(rt; plan.rows(), rows);
-        assert_eq!(rt; plan.words(10), words);
+// The rows of a plan as a line has them.
+fn rows_of(alloc: Global, plan: &Plan, rows: &PlanRows) -> Result<String, AllocError>
+    requires { ArePlanRows plan.now rows.now }
+{
+    let mut text = String::new(alloc);
+    for r in 0..rows.rows.sources.len() {
+        let label = format!(in alloc; "{}/{} ", rows.nodes[r], rows.delays[r])?;
+        let source = source_of(alloc, rows.rows.sources[r])?;
+        let tail = format!(in alloc; " {}/{}; ", rows.rows.tails[r], rows.rows.held[r])?;
+        text.push_str(label.as_str())?;
+        text.push_str(source.as_str())?;
+        text.push_str(tail.as_str())?;
     }
-    Ok(())
+    Ok(text)
+}
+
+// Whether the plan of a line is as it says.
+fn is_planned(alloc: Global, line: &'static str) -> Result<bool, Fail> {
+    let [setting, counts, nodes, wanted, ..] = fields_of(line);
+    let plan = plan_of(alloc, setting)?;
+    let rows = PlanRows::of(alloc, &plan)?;
+    let sizes = format!(in alloc; "{} {}", plan.rows(), plan.words(10))?;
+    let node_text = nodes_of(alloc, &plan, &rows)?;
+    let row_text = rows_of(alloc, &plan, &rows)?;
+    Ok(
+        sizes.as_str() == counts
+            && node_text.as_str().trim() == nodes
+            && row_text.as_str().trim() == wanted,
+    )
 }
 
 #[test]
-fn the_lower_half_of_three_channels_is_halved_again(rt: HostRuntime) -> Result<(), Memory> {
-    let edges = [1_600_000, 1_500_000, 1_400_000, 1_300_000];
-    let plan = Plan::open(rt.alloc(), &edges, 6, 6)?;
-    let wanted = [
-        node((0, 3), (6, 6), 0),
-        node((0, 1), (2, 2), 4),
-        node((1, 3), (4, 4), 0),
-        node((1, 2), (2, 2), 2),
-        node((2, 3), (2, 2), 0),
-    ];
-    assert_eq!(rt; plan.nodes(), 5);
-    for k in 0..5 {
-        assert_eq!(rt; plan.node(k), wanted[k], "node {k}");
+fn nodes_and_rows_are_as_worked(rt: HostRuntime) -> Result<(), Fail> {
+    for line in PLANS.lines() {
+        assert!(rt;
+            line.is_empty() || is_planned(rt.alloc(), line)?,
+            "{line:?}"
+        );
     }
-    Ok(())
-}
-
-#[test]
-fn rows_of_two_channels(rt: HostRuntime) -> Result<(), Memory> {
-    let edges = [1_500_000, 1_400_000, 1_300_000];
-    let plan = Plan::open(rt.alloc(), &edges, 2, 4)?;
-    let rows = Rows::of(rt.alloc(), &plan)?;
-    // Three rows of the whole band, those of delays 0 to 2 of the upper channel, and those of the lower one.
-    let merges = [
-        (4, 7, 1),
-        (4, 8, 2),
-        (5, 8, 2),
-        (3, 3, 0),
-        (3, 3, 1),
-        (3, 4, 2),
-        (6, 6, 0),
-        (6, 6, 1),
-        (6, 7, 2),
-    ];
-    assert_eq!(rt; rows.starts.as_slice(), [0, 3, 6, 9].as_slice());
-    assert_eq!(rt; rows.merges.as_slice(), merges.map(merge).as_slice());
-    assert_eq!(rt;
-        rows.tails.as_slice(),
-        [0, 0, 0, 16, 16, 16, 16, 0, 0].as_slice()
-    );
-    assert_eq!(rt;
-        rows.held.as_slice(),
-        [0, 0, 0, 0, 16, 32, 48, 64, 64, 64].as_slice()
-    );
     Ok(())
 }

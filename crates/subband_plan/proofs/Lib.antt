@@ -1,6 +1,11 @@
-pub mod Merges
+pub mod Below
+pub mod Bounds
+pub mod Growing
+pub mod Making
 pub mod Numbers
 pub mod Places
+pub mod RowSums
 pub mod Splits
 pub mod Trees
+pub mod Ways
 pub mod Worked

@@ -1,5 +1,7 @@
 -- How a node's delays are split between its halves.
 use Rattle.std.proofs.Common.{◌≡◌, ℕ, ◌+◌, ◌-◌, ◌≤◌, List, arith, zero, suc}
+use Rattle.std.specs.Prelude.{nat_lt}
+use Rattle.std.proofs.lemmas.Bool.{ltb-true, ltb-false}
 use Rattle.dada_model.specs.Edges.{AreEdges}
 use Rattle.band_paths.specs.Edges.{channels_of}
 use Rattle.search_model.specs.Paths.{middle}
@@ -7,7 +9,7 @@ use Rattle.search_model.specs.Laws.{SplitsFit}
 use Rattle.search_model.specs.SubbandLaws.{StepsByOne, SplitsStep}
 use Rattle.subband_plan.specs.declared.nodes.Node.{Node}
 use Rattle.subband_plan.specs.Nodes.{IsBranch, HasRow, split_of, upper_half, lower_half}
-use Rattle.subband_plan.specs.NodeLaws.{HalvesHave, AreBranches}
+use Rattle.subband_plan.specs.NodeLaws.{Grows, HalvesHave, AreBranches}
 
 -- what rises by 1 or not at all from one number to the next, over k numbers
 rises_by : (f : ℕ → ℕ) → ((d : ℕ) → StepsByOne (f d) (f (d + 1))) → (d k : ℕ) →
@@ -28,7 +30,7 @@ rises_to f step d e h =
     let r = rw is at (rises_by f step d k) in
     (r.0, omega (arith, r.1))
 
-node_steps : SplitsStep → (edges : List ℕ) (n : Node) → AreEdges (channels_of edges) edges → IsBranch edges n →
+pub node_steps : SplitsStep → (edges : List ℕ) (n : Node) → AreEdges (channels_of edges) edges → IsBranch edges n →
     n.lo + 2 ≤ n.hi → (d : ℕ) → StepsByOne (split_of edges n d) (split_of edges n (d + 1))
 unfolding split_of
 node_steps steps edges n band branch two d =
@@ -36,13 +38,26 @@ node_steps steps edges n band branch two d =
     steps _ _ _ d (band.falls (middle n.lo n.hi) n.hi (omega arith) (omega arith))
     (band.falls n.lo (middle n.lo n.hi) (omega arith) (omega arith))
 
-node_fits : SplitsFit → (edges : List ℕ) (n : Node) → AreEdges (channels_of edges) edges → IsBranch edges n →
+pub node_fits : SplitsFit → (edges : List ℕ) (n : Node) → AreEdges (channels_of edges) edges → IsBranch edges n →
     n.lo + 2 ≤ n.hi → (d : ℕ) → split_of edges n d ≤ d
 unfolding split_of
 node_fits fits edges n band branch two d =
     let within = branch.within in
     fits.fits _ _ _ d (band.falls (middle n.lo n.hi) n.hi (omega arith) (omega arith))
     (band.falls n.lo (middle n.lo n.hi) (omega arith) (omega arith))
+
+-- the test of whether a split grows
+pub grown : (edges : List ℕ) (n : Node) (d before now : ℕ) → 1 ≤ d →
+    StepsByOne (split_of edges n (d - 1)) (split_of edges n (d - 1 + 1)) → before ≡ split_of edges n (d - 1) →
+    now ≡ split_of edges n d → Grows edges n d (nat_lt before now)
+grown edges n d before now some step before_is now_is =
+    let next : d - 1 + 1 ≡ d = omega arith in
+    let by_one = (rw next at step).by_one in
+    let rises = (rw next at step).rises in
+    record {
+      grows = λ more. let less = ltb-true before now more in omega arith;
+      stays = λ same. let less = ltb-false before now same in omega arith;
+    }
 
 pub halves_have : SplitsFit → SplitsStep → (edges : List ℕ) (n : Node) (d : ℕ) → AreEdges (channels_of edges) edges →
     IsBranch edges n → n.lo + 2 ≤ n.hi → HasRow n d → HalvesHave edges n d

@@ -3,4 +3,5 @@ pub mod NodeLaws
 pub mod Plans
 pub mod Rows
 pub mod RowLaws
-pub mod Merging
+pub mod Values
+pub mod Making

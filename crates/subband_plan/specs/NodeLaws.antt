@@ -1,7 +1,7 @@
 -- Laws of the nodes of a plan; the functions of this crate carry them.
 -- Source: Zackay & Ofek, ApJ 835:11, 2017, section 2; the order of the nodes is this project's
 -- choice.
-use Rattle.std.specs.Prelude.{◌≡◌, ℕ, ◌+◌, ◌-◌, ◌*◌, ◌≤◌, ◌<◌, List, length}
+use Rattle.std.specs.Prelude.{◌≡◌, ℕ, ◌+◌, ◌-◌, ◌*◌, ◌≤◌, ◌<◌, true, false, Bool, List, length}
 use Rattle.dada_model.specs.Edges.{AreEdges}
 use Rattle.band_paths.specs.Edges.{channels_of}
 use Rattle.search_model.specs.Paths.{middle}
@@ -41,6 +41,11 @@ abbrev pub AskedRowsAreThere : Type 0
 AskedRowsAreThere =
     (edges : List ℕ) (n : Node) (d : ℕ) → AreEdges (channels_of edges) edges → IsBranch edges n →
     n.lo + 2 ≤ n.hi → HasRow n d → HalvesHave edges n d
+
+-- whether the upper half gets one spectrum more of the delay d than of the delay before, or as much
+pub record Grows (edges : List ℕ) (n : Node) (d : ℕ) (more : Bool) : Type 0 where
+  pub grows : more ≡ true → split_of edges n d ≡ split_of edges n (d - 1) + 1
+  pub stays : more ≡ false → split_of edges n d ≡ split_of edges n (d - 1)
 
 -- the halves have channels of the band, and rows in order
 pub record AreBranches (edges : List ℕ) (upper lower : Node) : Type 0 where

@@ -97,10 +97,10 @@ pub record HasRow (n : Node) (d : ℕ) : Type 0 where
   pub least : n.first_row ≤ d
   pub most : d ≤ n.last_row
 
--- the least delay of a node's kept rows; those of a single channel begin at delay 0, since each is
--- made of the one before
+-- the least delay of a node's kept rows; those of one or two channels begin at delay 0, since each
+-- is made of the one before
 unfoldable pub least_row : Node → ℕ
-least_row n = if nat_le 2 (n.hi - n.lo) then n.first_row else 0
+least_row n = if nat_le 3 (n.hi - n.lo) then n.first_row else 0
 
 -- a node keeps a row of delay d
 pub record HasKept (n : Node) (d : ℕ) : Type 0 where

@@ -1,13 +1,18 @@
--- The rows of tables that are carried from chunk to chunk: how they are numbered, of which rows
--- each is made, and how much of each is kept.
+-- The rows of tables that are carried from chunk to chunk: how they are numbered, what each is made
+-- of, and how much of each is kept.
 -- Source: Zackay & Ofek, ApJ 835:11, 2017, section 2 (a row is a row of the upper half, which ends
--- earlier, added to one of the lower half); the order of the rows is this project's profile.
-use Rattle.std.specs.Prelude.{◌≡◌, ℕ, ◌+◌, ◌-◌, ◌%◌, ◌≤◌, ◌<◌, List, length, slice_index, slice_index_or}
+-- earlier, added to one of the lower half); that rows of one and two channels are made of those
+-- before them, and the order of the rows, are this project's profile.
+use Rattle.std.specs.Prelude.{◌≡◌, ℕ, ◌+◌, ◌-◌, ◌%◌, ◌^◌, ◌≤◌, ◌<◌, List, length, slice_index, slice_index_or}
 use Rattle.dada_model.specs.Bounds.{most_delay}
+use Rattle.band_paths.specs.Edges.{channels_of}
+use Rattle.row_model.specs.declared.Merge.{Merge}
+use Rattle.row_model.specs.declared.Source.{Source}
+use Rattle.row_model.specs.declared.Source.TheVariants.{Channel, Sum}
+use Rattle.row_model.specs.Tails.{AreRows}
 use Rattle.subband_plan.specs.declared.nodes.Node.{Node}
-use Rattle.subband_plan.specs.declared.rows.Merge.{Merge}
-use Rattle.subband_plan.specs.declared.rows.Rows.{Rows}
-use Rattle.subband_plan.specs.Nodes.{BandPlan, HasKept, least_row, kept_count, split_of, upper_half, lower_half, nodes_of, node_at}
+use Rattle.subband_plan.specs.declared.rows.PlanRows.{PlanRows}
+use Rattle.subband_plan.specs.Nodes.{BandPlan, HasKept, least_row, kept_count, split_of, nodes_of, node_at}
 use Rattle.subband_plan.specs.NodeLaws.{lower_number}
 
 -- where things of these sizes begin that stand one after another, and where the last one ends
@@ -24,59 +29,102 @@ AreStarts nodes starts = ArePlaces (λ k. kept_count (node_at nodes k)) (length 
 abbrev pub row_of : List ℕ → ℕ → Node → ℕ → ℕ
 row_of starts k n d = slice_index starts k + (d - least_row n)
 
--- Of which rows the row of delay d of n, which is node k, is made. The upper one ends `late`
--- spectra before the lower one. A single channel's row is that of delay 0, as much earlier as the
--- row's delay, added to the row before.
-pub record IsMade (edges : List ℕ) (starts : List ℕ) (k : ℕ) (n : Node) (d : ℕ)
-    (m : Merge) : Type 0 where
-  pub upper : n.lo + 2 ≤ n.hi →
-      m.upper ≡ row_of starts (k + 1) (upper_half edges n) (split_of edges n d)
-  pub lower : n.lo + 2 ≤ n.hi →
-      m.lower ≡ row_of starts (lower_number n k) (lower_half edges n) (d - split_of edges n d)
-  pub late : n.lo + 2 ≤ n.hi → m.late ≡ d - split_of edges n d
-  pub channel_upper : n.hi ≤ n.lo + 1 → m.upper ≡ row_of starts k n 0
-  pub channel_lower : n.hi ≤ n.lo + 1 → m.lower ≡ row_of starts k n (d - 1)
-  pub channel_late : n.hi ≤ n.lo + 1 → m.late ≡ d
+-- the number of the row of delay d of node k
+abbrev pub row_at : List Node → List ℕ → ℕ → ℕ → ℕ
+row_at nodes starts k d = row_of starts k (node_at nodes k) d
 
-abbrev pub merge_at : List Merge → ℕ → Merge
-merge_at merges r = slice_index_or merges r (record { upper = 0; lower = 0; late = 0 })
+-- row r is that of a node and of a delay that the node keeps
+pub record IsLabelled (nodes : List Node) (starts : List ℕ) (r k d : ℕ) : Type 0 where
+  pub node : k < length nodes
+  pub kept : HasKept (node_at nodes k) d
+  pub number : row_at nodes starts k d ≡ r
 
--- of these merges, each that belongs to a row of a node makes it
-abbrev pub AreMade : List ℕ → List Node → List ℕ → List Merge → Type 0
-AreMade edges nodes starts merges = (k d : ℕ) → k < length nodes → HasKept (node_at nodes k) d →
-    row_of starts k (node_at nodes k) d < length merges →
-    IsMade edges starts k (node_at nodes k) d
-    (merge_at merges (row_of starts k (node_at nodes k) d))
+-- two rows are added, of which the upper one ends `late` spectra earlier
+abbrev pub sum_of : ℕ → ℕ → ℕ → Source
+sum_of upper lower late = Sum (record { upper = upper; lower = lower; late = late })
 
--- each row is made of rows that there are
-pub record IsWithin (rows : ℕ) (m : Merge) : Type 0 where
-  pub upper : m.upper < rows
-  pub lower : m.lower < rows
-  pub late : m.late ≤ most_delay
+-- The row of delay d of node k, a single channel: that of delay 0 are the samples, and each other
+-- one is that of delay 0, as much earlier as the row's delay, added to the row before.
+pub record IsMadeOfOne (nodes : List Node) (starts : List ℕ) (k d : ℕ) (s : Source) : Type 0 where
+  pub first : d ≡ 0 → s ≡ Channel (node_at nodes k).lo
+  pub next : (e : ℕ) → d ≡ e + 1 →
+      s ≡ sum_of (row_at nodes starts k 0) (row_at nodes starts k e) d
 
-abbrev pub AreWithin : ℕ → List Merge → Type 0
-AreWithin rows merges = (r : ℕ) → r < length merges → IsWithin rows (merge_at merges r)
+-- The row of delay d of node k, of two channels. Where the upper channel's part of the delay grows,
+-- one sample more of the upper channel is added to the row before, and else one of the lower
+-- channel, to the row before as it stood one spectrum earlier.
+pub record IsMadeOfTwo (edges : List ℕ) (nodes : List Node) (starts : List ℕ) (k d : ℕ)
+    (s : Source) : Type 0 where
+  pub first : d ≡ 0 → s ≡ sum_of (row_at nodes starts (k + 1) 0)
+      (row_at nodes starts (lower_number (node_at nodes k) k) 0) 0
+  pub grows : (e : ℕ) → d ≡ e + 1 →
+      split_of edges (node_at nodes k) d ≡ split_of edges (node_at nodes k) e + 1 →
+      s ≡ sum_of (row_at nodes starts (k + 1) 0) (row_at nodes starts k e) d
+  pub stays : (e : ℕ) → d ≡ e + 1 →
+      split_of edges (node_at nodes k) d ≡ split_of edges (node_at nodes k) e →
+      s ≡ sum_of (row_at nodes starts k e)
+      (row_at nodes starts (lower_number (node_at nodes k) k) 0) 1
+
+-- the row of delay d of a node, of which the upper half gets the part `split`: a row of each half
+abbrev pub halves_of : List Node → List ℕ → ℕ → ℕ → ℕ → Source
+halves_of nodes starts k d split = sum_of (row_at nodes starts (k + 1) split)
+    (row_at nodes starts (lower_number (node_at nodes k) k) (d - split)) (d - split)
+
+-- what the row of delay d of node k is made of
+pub record IsMade (edges : List ℕ) (nodes : List Node) (starts : List ℕ) (k d : ℕ)
+    (s : Source) : Type 0 where
+  pub one : (node_at nodes k).hi ≡ (node_at nodes k).lo + 1 → IsMadeOfOne nodes starts k d s
+  pub two : (node_at nodes k).hi ≡ (node_at nodes k).lo + 2 → IsMadeOfTwo edges nodes starts k d s
+  pub more : (node_at nodes k).lo + 3 ≤ (node_at nodes k).hi →
+      s ≡ halves_of nodes starts k d (split_of edges (node_at nodes k) d)
+
+abbrev pub source_at : List Source → ℕ → Source
+source_at sources r = slice_index_or sources r (Channel 0)
 
 -- Of each row a multiple of 16 values is kept: the least one that is as many as the first rows ask
 -- for of those before a chunk.
-pub record AreTails (merges : List Merge) (count : ℕ) (tails : List ℕ) : Type 0 where
-  pub entries : length tails ≡ length merges
+pub record AreTails (sources : List Source) (count : ℕ) (tails : List ℕ) : Type 0 where
+  pub entries : length tails ≡ length sources
   pub whole : (r : ℕ) → slice_index tails r % 16 ≡ 0
-  pub enough : (r : ℕ) → r < count →
-      (merge_at merges r).late ≤ slice_index tails (merge_at merges r).upper
-  pub least : (x m : ℕ) → m % 16 ≡ 0 →
-      ((r : ℕ) → r < count → (merge_at merges r).upper ≡ x → (merge_at merges r).late ≤ m) →
-      slice_index tails x ≤ m
+  pub enough : (r : ℕ) (m : Merge) → r < count → source_at sources r ≡ Sum m →
+      m.late ≤ slice_index tails m.upper
+  pub least : (x most : ℕ) → most % 16 ≡ 0 →
+      ((r : ℕ) (m : Merge) → r < count → source_at sources r ≡ Sum m → m.upper ≡ x →
+      m.late ≤ most) → slice_index tails x ≤ most
 
 -- where the values that are kept of each row begin
 abbrev pub AreHeld : List ℕ → List ℕ → Type 0
 AreHeld tails held = ArePlaces (λ r. slice_index tails r) (length tails) held
 
+-- how many rows there are, the node of a row, and its delay
+abbrev pub all_rows : PlanRows → ℕ
+all_rows rows = length rows.rows.sources.items
+
+abbrev pub node_of : PlanRows → ℕ → ℕ
+node_of rows r = slice_index rows.nodes.items r
+
+abbrev pub delay_of : PlanRows → ℕ → ℕ
+delay_of rows r = slice_index rows.delays.items r
+
+-- row r is that of delay d of node k
+pub record IsRow (rows : PlanRows) (k d r : ℕ) : Type 0 where
+  pub there : r < all_rows rows
+  pub node : node_of rows r ≡ k
+  pub delay : delay_of rows r ≡ d
+
 -- the rows of the tables of a plan
-pub record AreRows (p : BandPlan) (rows : Rows) : Type 0 where
+pub record ArePlanRows (p : BandPlan) (rows : PlanRows) : Type 0 where
   pub starts : AreStarts (nodes_of p) rows.starts.items
-  pub count : length rows.merges.items ≡ slice_index rows.starts.items (length (nodes_of p))
-  pub made : AreMade p.edges (nodes_of p) rows.starts.items rows.merges.items
-  pub within : AreWithin (length rows.merges.items) rows.merges.items
-  pub tails : AreTails rows.merges.items (length rows.merges.items) rows.tails.items
-  pub held : AreHeld rows.tails.items rows.held.items
+  pub count : all_rows rows ≡ slice_index rows.starts.items (length (nodes_of p))
+  pub few : all_rows rows ≤ 2 ^ 26
+  pub nodes_entries : length rows.nodes.items ≡ all_rows rows
+  pub delays_entries : length rows.delays.items ≡ all_rows rows
+  pub row : (k d : ℕ) → k < length (nodes_of p) → HasKept (node_at (nodes_of p) k) d →
+      IsRow rows k d (row_at (nodes_of p) rows.starts.items k d)
+  pub label : (r : ℕ) → r < all_rows rows →
+      IsLabelled (nodes_of p) rows.starts.items r (node_of rows r) (delay_of rows r)
+  pub made : (r : ℕ) → r < all_rows rows → IsMade p.edges (nodes_of p) rows.starts.items
+      (node_of rows r) (delay_of rows r) (source_at rows.rows.sources.items r)
+  pub tails : AreTails rows.rows.sources.items (all_rows rows) rows.rows.tails.items
+  pub short : (r : ℕ) → slice_index rows.rows.tails.items r ≤ most_delay
+  pub are_rows : AreRows (channels_of p.edges) rows.rows

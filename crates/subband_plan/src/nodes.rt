@@ -3,6 +3,7 @@ ghost use Rattle.std.specs.Prelude.{◌≡◌, ◌+◌, ◌-◌, ◌*◌, ◌^�
 ghost use Rattle.dada_model.specs.Edges.{AreEdges};
 ghost use Rattle.band_paths.specs.Edges.{channels_of};
 ghost use Rattle.search_model.specs.Paths.{middle as middle_of};
+ghost use Rattle.dada_model.specs.Bounds.{most_delay};
 ghost use Rattle.subband_plan.specs.NodeLaws.{AskedRowsAreThere};
 
 use band_paths::split;
@@ -22,7 +23,7 @@ pub struct Node {
 
 impl Node {
     ghost use Rattle.subband_plan.specs.Nodes.{IsBranch, IsGrown, HasRow, least_row as least_row_of, split_of, upper_half as upper_half_of, lower_half as lower_half_of};
-    ghost use Rattle.subband_plan.specs.NodeLaws.{AreBranches, HalvesHave, lower_number as lower_number_of};
+    ghost use Rattle.subband_plan.specs.NodeLaws.{AreBranches, Grows, HalvesHave, lower_number as lower_number_of};
 
     // The first channel of the lower half.
     pub(crate) fn middle(self) -> u32
@@ -41,12 +42,12 @@ impl Node {
         k + 2 * (self.middle() - self.lo) as usize
     }
 
-    /// The least delay of the rows that tables keep of this node: 0 for a single channel.
+    /// The least delay of the rows that tables keep of this node: 0 for one or two channels.
     pub fn least_row(self) -> u32
         requires { self.lo ≤ self.hi }
         ensures { result ≡ least_row_of self }
     {
-        if self.hi - self.lo >= 2 {
+        if self.hi - self.lo >= 3 {
             self.first_row
         } else {
             0
@@ -65,6 +66,20 @@ impl Node {
         asked_rows_are_there();
         let middle = self.middle() as usize;
         split(edges, self.lo as usize, middle, self.hi as usize, d)
+    }
+
+    // Whether the upper half gets more of the delay `d` than of the delay before.
+    pub(crate) fn grows(self, edges: &[u32], d: u32) -> bool
+        requires edges { AreEdges (channels_of edges.now) edges.now }
+        requires node { IsBranch edges.now self }
+        requires two { self.lo + 2 ≤ self.hi }
+        requires some { 1 ≤ d }
+        requires few { d ≤ most_delay }
+        ensures { Grows edges.now self d result }
+    {
+        splits_step();
+        let (lo, middle, hi) = (self.lo as usize, self.middle() as usize, self.hi as usize);
+        split(edges, lo, middle, hi, d) > split(edges, lo, middle, hi, d - 1)
     }
 
     // The upper half and the lower half.

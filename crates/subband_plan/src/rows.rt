@@ -1,59 +1,68 @@
 // The rows of the tables that are carried from chunk to chunk.
-ghost use Rattle.std.specs.Prelude.{◌≡◌, ℕ, ◌+◌, ◌-◌, ◌*◌, ◌^◌, ◌<◌, ◌≤◌, List, length, slice_index, IfOk, OnOk};
+ghost use Rattle.std.specs.Prelude.{◌≡◌, ℕ, ◌+◌, ◌^◌, ◌<◌, ◌≤◌, List, length, slice_index, IfOk};
 ghost use Rattle.dada_model.specs.Bounds.{most_delay};
-ghost use Rattle.subband_plan.specs.Nodes.{HasKept, node_at};
 ghost use Rattle.subband_plan.specs.NodeLaws.{AreLaid};
-ghost use Rattle.subband_plan.specs.Rows.{AreStarts, IsMade, IsWithin, AreWithin, AreTails, AreHeld, AreRows, row_of};
-ghost use Rattle.subband_plan.specs.RowLaws.{RowsAreFew, RowsAreNumbered};
-ghost use Rattle.subband_plan.specs.Merging.{AreMerges};
+ghost use Rattle.subband_plan.specs.Rows.{AreStarts, AreTails, AreHeld};
+ghost use Rattle.subband_plan.specs.Making.{AreLabels, AreLabelled, AreWithin};
 
-use crate::nodes::{Node, asked_rows_are_there};
-use crate::plan::{Plan, plans_are_laid};
+use crate::laws::rows_are_numbered;
+use crate::nodes::Node;
+use crate::plan::Plan;
+use crate::sources::make_rows;
 use psr_base::Memory;
+use row_model::{Rows, Source};
 use std::alloc::Global;
 
 // How many values of 16 bits a vector has, and of 32 bits a cache line. Tails are rounded up to multiples of it: rows
 // with chunks of such multiples then begin at whole vectors of their table, and tails are copied in whole vectors.
 const LANES: u32 = 16;
 
-/// Of which two rows a row is made, by their numbers. The upper one ends `late` spectra earlier.
-#[derive(Clone, Copy, PartialEq, Eq, Debug)]
-pub struct Merge {
-    pub upper: u32,
-    pub lower: u32,
-    pub late: u32,
-}
-
-/// The rows of all tables of a plan. They are numbered node by node, and those of a node by their delays; a single
-/// channel's rows begin at delay 0, since each is made of the one before.
+/// The rows of all tables of a plan. They are numbered node by node, and those of a node by their delays; the rows of
+/// nodes of one and two channels begin at delay 0, since each is made of the one before.
 #[derive(Drop)]
-pub struct Rows {
+pub struct PlanRows {
     /// The number of each node's first row, and how many rows there are.
     pub starts: Vec<usize>,
-    /// What each row is made of.
-    pub merges: Vec<Merge>,
-    /// How many of its last values are kept of each row, a multiple of 16.
-    pub tails: Vec<u32>,
-    /// Where these begin if all are kept one after another, and how many there are.
-    pub held: Vec<usize>,
+    /// The number of each row's node.
+    pub nodes: Vec<u32>,
+    /// The delay of each row.
+    pub delays: Vec<u32>,
+    /// What each row is made of, and how much of it is kept.
+    pub rows: Rows,
 }
 
-impl Rows {
+impl PlanRows {
+    ghost use Rattle.subband_plan.specs.Rows.{ArePlanRows};
+
     /// The rows of the tables of a plan.
-    pub fn of(alloc: Global, plan: &Plan) -> Result<Rows, Memory>
-        ensures { IfOk result (λ rows. AreRows plan.now rows) }
+    pub fn of(alloc: Global, plan: &Plan) -> Result<PlanRows, Memory>
+        ensures { IfOk result (λ rows. ArePlanRows plan.now rows) }
     {
         rows_are_numbered();
+        let edges = plan.edges();
         let nodes = plan.all_nodes();
         let starts = start_rows(alloc, nodes)?;
-        let merges = merge_all(alloc, plan.edges(), nodes, starts.as_slice())?;
-        let tails = keep_tails(alloc, merges.as_slice())?;
+        let labels = label_rows(alloc, nodes, starts.as_slice())?;
+        let delays = delay_rows(alloc, nodes, starts.as_slice(), labels.as_slice())?;
+        let sources = make_rows(
+            alloc,
+            edges,
+            nodes,
+            starts.as_slice(),
+            labels.as_slice(),
+            delays.as_slice(),
+        )?;
+        let tails = keep_tails(alloc, sources.as_slice())?;
         let held = hold_tails(alloc, tails.as_slice())?;
-        Ok(Rows {
+        Ok(PlanRows {
             starts,
-            merges,
-            tails,
-            held,
+            nodes: labels,
+            delays,
+            rows: Rows {
+                sources,
+                tails,
+                held,
+            },
         })
     }
 }
@@ -73,100 +82,67 @@ fn start_rows(alloc: Global, nodes: &[Node]) -> Result<Vec<usize>, Memory>
     Ok(starts)
 }
 
-// The number of the row of delay `d` of node `k`.
-fn number(edges: &[u32], nodes: &[Node], starts: &[usize], k: usize, d: u32) -> u32
-    requires laid { AreLaid edges.now nodes.now }
+// The number of each row's node.
+fn label_rows(alloc: Global, nodes: &[Node], starts: &[usize]) -> Result<Vec<u32>, Memory>
+    requires laid { (edges : List ℕ) × AreLaid edges nodes.now }
     requires starts { AreStarts nodes.now starts.now }
-    requires node { k < length nodes.now }
-    requires row { HasKept (node_at nodes.now k) d }
-    ensures value { result ≡ row_of starts.now k (node_at nodes.now k) d }
-    ensures within { result < slice_index starts.now (length nodes.now) }
+    ensures { IfOk result (λ labels. AreLabels nodes.now starts.now
+        (slice_index starts.now (length nodes.now)) labels.items) }
 {
     rows_are_numbered();
-    (starts[k] + (d - nodes[k].least_row()) as usize) as u32
-}
-
-// What the row of delay `d` of node `k` is made of.
-fn made(edges: &[u32], nodes: &[Node], starts: &[usize], k: usize, d: u32) -> Merge
-    requires laid { AreLaid edges.now nodes.now }
-    requires starts { AreStarts nodes.now starts.now }
-    requires node { k < length nodes.now }
-    requires row { HasKept (node_at nodes.now k) d }
-    ensures made { IsMade edges.now starts.now k (node_at nodes.now k) d result }
-    ensures within { IsWithin (slice_index starts.now (length nodes.now)) result }
-{
-    rows_are_numbered();
-    let node = nodes[k];
-    if node.hi - node.lo < 2 {
-        return Merge {
-            upper: number(edges, nodes, starts, k, 0),
-            lower: number(edges, nodes, starts, k, d.saturating_sub(1)),
-            late: d,
-        };
-    }
-    let upper = node.split(edges, d);
-    let late = d - upper;
-    Merge {
-        upper: number(edges, nodes, starts, k + 1, upper),
-        lower: number(edges, nodes, starts, node.lower_number(k), late),
-        late,
-    }
-}
-
-// Appends what the rows of node `k` are made of.
-fn merge_node(
-    edges: &[u32],
-    nodes: &[Node],
-    starts: &[usize],
-    k: usize,
-    merges: &mut Vec<Merge>,
-) -> Result<(), Memory>
-    requires laid { AreLaid edges.now nodes.now }
-    requires starts { AreStarts nodes.now starts.now }
-    requires node { k < length nodes.now }
-    requires merges { AreMerges edges.now nodes.now starts.now
-        (slice_index starts.now k) merges.old.items }
-    ensures { OnOk result (AreMerges edges.now nodes.now starts.now
-        (slice_index starts.now (k + 1)) merges.new.items) }
-{
-    rows_are_numbered();
-    let node = nodes[k];
-    for d in node.least_row()..node.last_row + 1 {
-        merges.push(made(edges, nodes, starts, k, d))?;
-    }
-    Ok(())
-}
-
-// What all rows are made of.
-fn merge_all(
-    alloc: Global,
-    edges: &[u32],
-    nodes: &[Node],
-    starts: &[usize],
-) -> Result<Vec<Merge>, Memory>
-    requires laid { AreLaid edges.now nodes.now }
-    requires starts { AreStarts nodes.now starts.now }
-    ensures { IfOk result (λ merges. AreMerges edges.now nodes.now starts.now
-        (slice_index starts.now (length nodes.now)) merges.items) }
-{
-    let mut merges = Vec::with_capacity(alloc, starts[nodes.len()])?;
+    let mut labels = Vec::with_capacity(alloc, starts[nodes.len()])?;
     for k in 0..nodes.len() {
-        merge_node(edges, nodes, starts, k, &mut merges)?;
+        labels.resize(starts[k + 1], k as u32)?;
     }
-    Ok(merges)
+    Ok(labels)
+}
+
+// The delay of each row.
+fn delay_rows(
+    alloc: Global,
+    nodes: &[Node],
+    starts: &[usize],
+    labels: &[u32],
+) -> Result<Vec<u32>, Memory>
+    requires laid { (edges : List ℕ) × AreLaid edges nodes.now }
+    requires starts { AreStarts nodes.now starts.now }
+    requires labels { AreLabels nodes.now starts.now
+        (slice_index starts.now (length nodes.now)) labels.now }
+    ensures entries { IfOk result (λ delays. length delays.items ≡ length labels.now) }
+    ensures labelled { IfOk result (λ delays.
+        AreLabelled nodes.now starts.now labels.now delays.items) }
+{
+    let mut delays = Vec::with_capacity(alloc, labels.len())?;
+    for r in 0..labels.len() {
+        let k = labels[r] as usize;
+        delays.push(nodes[k].least_row() + (r - starts[k]) as u32)?;
+    }
+    Ok(delays)
 }
 
 // How many values are kept of each row.
-fn keep_tails(alloc: Global, merges: &[Merge]) -> Result<Vec<u32>, Memory>
-    requires { AreWithin (length merges.now) merges.now }
-    ensures tails { IfOk result (λ tails. AreTails merges.now (length merges.now) tails.items) }
+fn keep_tails(alloc: Global, sources: &[Source]) -> Result<Vec<u32>, Memory>
+    requires within { (channels : ℕ) × AreWithin channels (length sources.now) sources.now }
+    ensures tails { IfOk result (λ tails. AreTails sources.now (length sources.now) tails.items) }
 {
-    let mut tails = vec![in alloc; 0u32; merges.len()]?;
-    for merge in merges {
+    let mut tails = vec![in alloc; 0u32; sources.len()]?;
+    for r in 0..sources.len() {
+        keep_tail(sources, r, &mut tails);
+    }
+    Ok(tails)
+}
+
+// Keeps what row `r` asks for, beside what the rows before it ask for.
+fn keep_tail(sources: &[Source], r: usize, tails: &mut Vec<u32>)
+    requires within { (channels : ℕ) × AreWithin channels (length sources.now) sources.now }
+    requires row { r < length sources.now }
+    requires tails { AreTails sources.now r tails.old.items }
+    ensures { AreTails sources.now (r + 1) tails.new.items }
+{
+    if let Source::Sum(merge) = sources[r] {
         let upper = merge.upper as usize;
         tails[upper] = tails[upper].max(merge.late.next_multiple_of(LANES));
     }
-    Ok(tails)
 }
 
 // Where these values are kept.
@@ -183,19 +159,4 @@ fn hold_tails(alloc: Global, tails: &[u32]) -> Result<Vec<usize>, Memory>
         held.push(place)?;
     }
     Ok(held)
-}
-
-/// The rows of a node are numbered from its start up to the next node's, and its halves keep the rows that it asks for.
-pub fn rows_are_numbered()
-    ensures { RowsAreNumbered }
-{
-    asked_rows_are_there();
-}
-
-/// There are no more than 2^26 rows, and of each at most as many values are kept as the longest delay has spectra.
-pub fn rows_are_few()
-    ensures { RowsAreFew }
-{
-    plans_are_laid();
-    rows_are_numbered();
 }

@@ -1,0 +1,49 @@
+-- What the values of a plan's rows are, and laws of these; the functions of this crate carry them.
+-- Source: Zackay & Ofek, ApJ 835:11, 2017, section 2 (the partial sums of the transform).
+use Rattle.std.specs.Prelude.{◌≡◌, ℕ, ◌+◌, ◌-◌, ◌*◌, ◌≤◌, ◌<◌}
+use Rattle.band_paths.specs.Edges.{channels_of}
+use Rattle.search_model.specs.Samples.{Filterbank}
+use Rattle.search_model.specs.Sums.{path_sum}
+use Rattle.search_model.specs.Subbands.{node_sum}
+use Rattle.row_model.specs.Sums.{Sums, AddUp}
+use Rattle.subband_plan.specs.declared.nodes.Node.{Node}
+use Rattle.subband_plan.specs.declared.rows.PlanRows.{PlanRows}
+use Rattle.subband_plan.specs.Nodes.{BandPlan, IsPlan, HasRow, root, nodes_of, node_at}
+use Rattle.subband_plan.specs.Rows.{ArePlanRows, node_of, delay_of, row_at}
+
+-- the node of a row
+abbrev pub part_of : BandPlan → PlanRows → ℕ → Node
+part_of p rows r = node_at (nodes_of p) (node_of rows r)
+
+-- the sum over the row's node, along the path of its delay, that ends `late` spectra before u
+unfoldable pub row_sum : BandPlan → PlanRows → Filterbank → Sums
+row_sum p rows f r u late =
+    node_sum f p.edges (part_of p rows r).lo (part_of p rows r).hi (delay_of rows r) u late
+
+-- these are the samples, and the sums of what the rows are made of
+abbrev pub RowsAddUp : Type 0
+RowsAddUp = (p : BandPlan) (rows : PlanRows) (f : Filterbank) → IsPlan p → ArePlanRows p rows →
+    f.channels ≡ channels_of p.edges →
+    AddUp rows.rows.sources.items f.value (row_sum p rows f)
+
+-- how many samples are added in a value of a row: one of each channel, and one for each spectrum of
+-- delay
+abbrev pub cells_of : BandPlan → PlanRows → ℕ → ℕ
+cells_of p rows r = (part_of p rows r).hi - (part_of p rows r).lo + delay_of rows r
+
+-- where no sample is above m
+abbrev pub RowsAreBounded : Type 0
+RowsAreBounded = (p : BandPlan) (rows : PlanRows) (f : Filterbank) (m : ℕ) → IsPlan p →
+    ArePlanRows p rows → ((c t : ℕ) → f.value c t ≤ m) →
+    (r u late : ℕ) → row_sum p rows f r u late ≤ m * cells_of p rows r
+
+-- before the first spectrum there is nothing
+abbrev pub RowsBeginEmpty : Type 0
+RowsBeginEmpty = (p : BandPlan) (rows : PlanRows) (f : Filterbank) → IsPlan p →
+    ArePlanRows p rows → (r u late : ℕ) → u < late → row_sum p rows f r u late ≡ 0
+
+-- the rows of the whole band, node 0, are its path sums
+abbrev pub BandRowsArePathSums : Type 0
+BandRowsArePathSums = (p : BandPlan) (rows : PlanRows) (f : Filterbank) (d u : ℕ) → IsPlan p →
+    ArePlanRows p rows → f.channels ≡ channels_of p.edges → HasRow (root p) d →
+    row_sum p rows f (row_at (nodes_of p) rows.starts.items 0 d) u 0 ≡ path_sum f p.edges u d
