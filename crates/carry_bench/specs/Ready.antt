@@ -1,5 +1,5 @@
 -- Tables that may be fed.
-use Rattle.std.specs.Prelude.{◌≡◌, ℕ, ◌*◌, ◌≤◌}
+use Rattle.std.specs.Prelude.{◌≡◌, ℕ, ◌*◌, ◌≤◌, false}
 use Rattle.band_paths.specs.Edges.{channels_of}
 use Rattle.fdmt_carry.specs.Carrying.{Carrying}
 
@@ -9,6 +9,8 @@ pub record IsReady (c : Carrying) (chunk size : ℕ) : Type 0 where
   pub first : c.tables.plan.first ≡ 0
   pub last : c.tables.plan.last ≡ 1024
   pub chunk_is : c.tables.chunk ≡ chunk
+  pub most_is : c.tables.most ≡ chunk
   pub some : 1 ≤ chunk
   pub most : chunk ≤ 65536
   pub size_is : size ≡ 1024 * chunk
+  pub not_passing : c.is_passing ≡ false

@@ -73,16 +73,43 @@ impl Bench {
         if self.carry.fed() >= MOST {
             return 0;
         }
-        let samples = Samples::Bytes(self.samples.as_slice());
-        let with_tables = self.work.way == Way::Feed;
-        self.carry.take(samples, self.work.chunk, with_tables);
-        self.carry.sum(LAST, 0)
+        let samples = self.samples.as_slice();
+        match self.work.way {
+            Way::Feed => feed(&mut self.carry, samples, self.work.chunk),
+            Way::Pass => pass(&mut self.carry, samples, self.work.chunk),
+        }
     }
 
     /// How many bytes all rows need, with the tails that a plan says.
     pub fn need(&self) -> u64 {
         self.carry.plan().words(self.work.chunk).wrapping_mul(4)
     }
+}
+
+// Takes a chunk, with the tables of all nodes, and gives the first sum of the longest delay.
+fn feed(carry: &mut Carry, samples: &[u8], chunk: u32) -> u32
+    requires ready { IsReady carry.old chunk (length samples.now) }
+    requires few { carry.old.fed < 2 ^ 40 }
+    ensures { IsReady carry.new chunk (length samples.now) }
+{
+    carry.take(Samples::Bytes(samples), chunk);
+    carry.sum(LAST, 0)
+}
+
+// The same by a pass.
+fn pass(carry: &mut Carry, samples: &[u8], chunk: u32) -> u32
+    requires ready { IsReady carry.old chunk (length samples.now) }
+    requires few { carry.old.fed < 2 ^ 40 }
+    ensures { IsReady carry.new chunk (length samples.now) }
+{
+    let samples = Samples::Bytes(samples);
+    carry.begin(chunk);
+    for d in 0..LAST + 1 {
+        carry.make_row(samples);
+    }
+    let sum = carry.made()[0];
+    carry.finish();
+    sum
 }
 
 // The edges of the channels in kHz.

@@ -1,9 +1,9 @@
 // A carry with the stream that it is fed.
-ghost use Rattle.std.specs.Prelude.{◌≡◌, ℕ, ◌+◌, ◌*◌, ◌<◌, ◌≤◌, true, length, IfOk};
+ghost use Rattle.std.specs.Prelude.{◌≡◌, ℕ, ◌+◌, ◌*◌, ◌^◌, ◌<◌, ◌≤◌, true, length, IfOk};
 ghost use Rattle.dada_model.specs.Edges.{AreEdges};
-ghost use Rattle.band_paths.specs.Edges.{channels_of};
+ghost use Rattle.row_schedule.specs.Samples.{values_of};
 ghost use Rattle.fdmt_carry.specs.Tables.{node_count};
-ghost use Rattle.carry_tests.specs.Ready.{IsReady};
+ghost use Rattle.carry_tests.specs.Ready.{IsReady, IsShape};
 
 use crate::direct::{Stream, delays_of};
 use fdmt_carry::{Carry, Samples};
@@ -14,17 +14,6 @@ use subband_plan::{Node, Plan};
 /// More spectra are not taken.
 const MOST: u64 = 1 << 40;
 
-/// A carry, the edges of its band in kHz, and the stream that it is fed.
-#[derive(Drop)]
-pub struct Fed {
-    pub carry: Carry,
-    edges: Vec<u32>,
-    stream: Stream,
-    shape: Shape,
-    count: u32,
-    ghost ready: { IsReady carry shape.channels shape.first shape.last shape.chunk },
-}
-
 /// What is fed: so many channels, delays from `first` to `last`, calls of up to `chunk` spectra.
 #[derive(Clone, Copy, Debug)]
 pub struct Shape {
@@ -34,15 +23,62 @@ pub struct Shape {
     pub chunk: u32,
 }
 
+impl Shape {
+    /// Whether there may be such a band, delays and calls.
+    pub fn may_be(self) -> bool
+        ensures { result ≡ true → IsShape self.channels self.first self.last self.chunk }
+    {
+        self.channels >= 2
+            && self.channels <= 4096
+            && self.first <= self.last
+            && self.last <= 8192
+            && self.chunk >= 1
+            && self.chunk <= 65536
+    }
+}
+
+/// A carry, and what it is to give.
+#[derive(Drop)]
+pub struct Fed {
+    carry: Carry,
+    direct: Direct,
+    shape: Shape,
+    ghost ready: { IsReady carry shape.channels shape.first shape.last shape.chunk },
+}
+
+// The edges of a band in kHz, and a stream of samples.
+#[derive(Drop)]
+struct Direct {
+    edges: Vec<u32>,
+    stream: Stream,
+}
+
+impl Direct {
+    // How many of the sums over a node that end at spectrum `start` and after it are not those of a row.
+    fn wrong(
+        &self,
+        alloc: Global,
+        node: Node,
+        d: u32,
+        start: usize,
+        row: &[u32],
+    ) -> Result<u64, Memory> {
+        let delays = delays_of(alloc, self.edges.as_slice(), node, d)?;
+        let mut wrong: u64 = 0;
+        for (i, sum) in row.iter().enumerate() {
+            let direct = self
+                .stream
+                .sum(node, delays.as_slice(), d, start.wrapping_add(i));
+            wrong = wrong.wrapping_add(u64::from(direct != *sum));
+        }
+        Ok(wrong)
+    }
+}
+
 impl Fed {
     /// Nothing is fed yet.
     pub fn new(alloc: Global, shape: Shape, spectra: usize) -> Result<Fed, Memory>
-        requires some_channels { 2 ≤ shape.channels }
-        requires most_channels { shape.channels ≤ 4096 }
-        requires order { shape.first ≤ shape.last }
-        requires delays { shape.last ≤ 8192 }
-        requires some { 1 ≤ shape.chunk }
-        requires most { shape.chunk ≤ 65536 }
+        requires { IsShape shape.channels shape.first shape.last shape.chunk }
     {
         let edges = edges_of(alloc, shape.channels)?;
         let plan = Plan::open(alloc, edges.as_slice(), shape.first, shape.last)?;
@@ -50,15 +86,13 @@ impl Fed {
         let stream = Stream::new(alloc, shape.channels as usize, spectra)?;
         Ok(Fed {
             carry,
-            edges,
-            stream,
+            direct: Direct { edges, stream },
             shape,
-            count: 0,
         })
     }
 
-    /// Feeds or passes the next spectra, as bytes or as words, and answers how many sums of all rows that stand are not
-    /// the direct ones.
+    /// Feeds or passes the next spectra, as bytes or as words, and answers how many sums that are made are not the
+    /// direct ones.
     pub fn check(
         &mut self,
         alloc: Global,
@@ -66,22 +100,29 @@ impl Fed {
         whole: bool,
         in_bytes: bool,
     ) -> Result<u64, Memory> {
-        let count = count.min(self.shape.chunk);
-        self.count = count;
-        if self.carry.fed() < MOST {
-            let rows = self.rows(alloc, count)?;
-            if in_bytes {
-                let bytes = bytes_of(alloc, rows.as_slice())?;
-                self.carry
-                    .take(Samples::Bytes(bytes.as_slice()), count, whole);
-            } else if whole {
-                self.carry.feed(rows.as_slice(), count);
-            } else {
-                self.carry.pass(rows.as_slice(), count);
-            }
+        if self.carry.fed() >= MOST {
+            return Ok(1);
         }
-        let wrong = self.wrong_in_band(alloc)?;
-        Ok(wrong.wrapping_add(self.wrong_in_tables(alloc)?))
+        let count = count.min(self.shape.chunk);
+        let rows = self.rows(alloc, count)?;
+        let bytes = bytes_of(alloc, rows.as_slice())?;
+        let samples = if in_bytes {
+            Samples::Bytes(bytes.as_slice())
+        } else {
+            Samples::Words(rows.as_slice())
+        };
+        if !whole {
+            return pass(
+                alloc,
+                &mut self.carry,
+                &self.direct,
+                self.shape,
+                samples,
+                count,
+            );
+        }
+        self.carry.take(samples, count);
+        self.wrong_in_tables(alloc, count)
     }
 
     // The next spectra; what is past them counts for nothing.
@@ -96,7 +137,7 @@ impl Fed {
             let (c, i) = (place / chunk, place % chunk);
             let next = i < count as usize;
             rows.push(if next {
-                self.stream.at(c, from.wrapping_add(i))
+                self.direct.stream.at(c, from.wrapping_add(i))
             } else {
                 1_000_000_007
             })?;
@@ -104,58 +145,65 @@ impl Fed {
         Ok(rows)
     }
 
-    // How many of the sums over a node that end at the spectra of the last call are not those of a row.
-    fn wrong(&self, alloc: Global, node: Node, d: u32, row: &[u32]) -> Result<u64, Memory> {
-        let delays = delays_of(alloc, self.edges.as_slice(), node, d)?;
-        let start = (self.carry.fed() as usize).wrapping_sub(self.count as usize);
-        let mut wrong: u64 = 0;
-        for i in 0..self.count as usize {
-            let sum = self
-                .stream
-                .sum(node, delays.as_slice(), d, start.wrapping_add(i));
-            wrong = wrong.wrapping_add(u64::from(row.get(i).copied() != Some(sum)));
+    // How many sums of the tables of all nodes are wrong; all are, where they don't stand.
+    fn wrong_in_tables(&self, alloc: Global, count: u32) -> Result<u64, Memory> {
+        let start = self.carry.fed().wrapping_sub(u64::from(count)) as usize;
+        let mut wrong = u64::from(!self.carry.has_tables());
+        for k in 0..self.carry.plan().nodes() {
+            wrong = wrong.wrapping_add(self.wrong_in_table(alloc, k, start)?);
         }
         Ok(wrong)
     }
 
-    // How many sums of the whole band are wrong.
-    fn wrong_in_band(&self, alloc: Global) -> Result<u64, Memory> {
-        let node = Node {
-            lo: 0,
-            hi: self.shape.channels,
-            first_row: self.shape.first,
-            last_row: self.shape.last,
-            tail: 0,
-        };
-        let mut wrong: u64 = 0;
-        for d in self.shape.first..self.shape.last + 1 {
-            wrong = wrong.wrapping_add(self.wrong(alloc, node, d, self.carry.row(d))?);
-        }
-        Ok(wrong)
-    }
-
-    // How many sums of the tables of all nodes are wrong, where they stand.
-    fn wrong_in_tables(&self, alloc: Global) -> Result<u64, Memory> {
-        let mut wrong: u64 = 0;
-        if self.carry.has_tables() {
-            for k in 0..self.carry.plan().nodes() {
-                wrong = wrong.wrapping_add(self.wrong_in_table(alloc, k)?);
-            }
-        }
-        Ok(wrong)
-    }
-
-    fn wrong_in_table(&self, alloc: Global, k: usize) -> Result<u64, Memory>
+    fn wrong_in_table(&self, alloc: Global, k: usize, start: usize) -> Result<u64, Memory>
         requires { k < node_count self.now.carry.tables }
     {
         let node = self.carry.plan().node(k);
         let mut wrong: u64 = 0;
         for d in node.first_row..node.last_row.saturating_add(1) {
             let row = table_of(&self.carry, k, d);
-            wrong = wrong.wrapping_add(self.wrong(alloc, node, d, row)?);
+            wrong = wrong.wrapping_add(self.direct.wrong(alloc, node, d, start, row)?);
         }
         Ok(wrong)
     }
+}
+
+// Passes the next spectra, and answers how many sums of the whole band are not the direct ones.
+fn pass(
+    alloc: Global,
+    carry: &mut Carry,
+    direct: &Direct,
+    shape: Shape,
+    samples: Samples<'_>,
+    count: u32,
+) -> Result<u64, Memory>
+    requires ready { IsReady carry.old shape.channels shape.first shape.last shape.chunk }
+    requires short { count ≤ shape.chunk }
+    requires few { carry.old.fed < 2 ^ 40 }
+    requires samples { length (values_of samples) ≡ shape.channels * shape.chunk }
+    ensures { IsReady carry.new shape.channels shape.first shape.last shape.chunk }
+{
+    let band = Node {
+        lo: 0,
+        hi: shape.channels,
+        first_row: shape.first,
+        last_row: shape.last,
+        tail: 0,
+    };
+    let start = carry.fed() as usize;
+    let mut wrong = Ok(0);
+    carry.begin(count);
+    for d in shape.first..shape.last + 1 {
+        carry.make_row(samples);
+        wrong = both(wrong, direct.wrong(alloc, band, d, start, carry.made()));
+    }
+    carry.finish();
+    both(wrong, Ok(u64::from(carry.has_tables())))
+}
+
+// The sum of two counts.
+fn both(one: Result<u64, Memory>, other: Result<u64, Memory>) -> Result<u64, Memory> {
+    Ok(one?.wrapping_add(other?))
 }
 
 /// A row of a node's table; nothing where it does not stand.

@@ -6,6 +6,6 @@ mod direct;
 #[cfg(test)]
 mod fed;
 #[cfg(test)]
-mod sums;
+mod runs;
 #[cfg(test)]
 mod worked;

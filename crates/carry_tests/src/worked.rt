@@ -1,6 +1,6 @@
 // The sample file's bytes, two spectra of two channels at a time.
 use crate::fed::table_of;
-use fdmt_carry::Carry;
+use fdmt_carry::{Carry, Samples};
 use psr_base::Memory;
 use subband_plan::Plan;
 
@@ -12,16 +12,22 @@ fn the_sample_bytes(rt: HostRuntime) -> Result<(), Memory> {
     assert_eq!(rt; carry.has_tables(), false);
     carry.feed(&[10, 0, 0, 20], 2);
     assert_eq!(rt; carry.row(0), [10, 20].as_slice());
-    assert_eq!(rt; carry.row(1), [0, 30].as_slice());
+    assert_eq!(rt; carry.sum(1, 1), 30);
     assert_eq!(rt; table_of(&carry, 0, 1), [0, 30].as_slice());
     assert_eq!(rt; table_of(&carry, 1, 0), [10, 0].as_slice());
     assert_eq!(rt; table_of(&carry, 2, 0), [0, 20].as_slice());
     assert_eq!(rt; table_of(&carry, 2, 1), [0, 20].as_slice());
     assert_eq!(rt; carry.has_tables(), true);
-    carry.pass(&[0, 7, 0, 7], 1);
-    assert_eq!(rt; carry.sum(0, 0), 0);
-    assert_eq!(rt; carry.sum(1, 0), 20);
-    assert_eq!(rt; carry.fed(), 3);
+    carry.begin(1);
+    carry.make_row(Samples::Words(&[0, 7, 0, 7]));
+    assert_eq!(rt; carry.made(), [0].as_slice());
+    carry.make_row(Samples::Words(&[0, 7, 0, 7]));
+    assert_eq!(rt; carry.made(), [20].as_slice());
+    carry.finish();
     assert_eq!(rt; carry.has_tables(), false);
+    carry.pass(Samples::Bytes(&[1, 0, 2, 0]), 1);
+    carry.feed(&[0, 7, 0, 7], 1);
+    assert_eq!(rt; carry.sum(1, 0), 3);
+    assert_eq!(rt; carry.fed(), 5);
     Ok(())
 }

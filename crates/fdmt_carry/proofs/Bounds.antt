@@ -1,71 +1,84 @@
--- Sums over a part of the band are at most their cells times the greatest sample.
-use Rattle.std.proofs.Common.{◌≡◌, ℕ, zero, suc, ◌+◌, ◌-◌, ◌*◌, ◌≤◌, ◌<◌, List, arith, ap, ◌∙◌, inl, inr}
-use Rattle.std.proofs.lemmas.Bool.{cases_lt}
+-- How great the sums of rows are.
+use Rattle.std.proofs.Common.{◌≡◌, ℕ, zero, suc, ◌+◌, ◌*◌, ◌%◌, ◌^◌, ◌<◌, ◌≤◌, List, [], ◌∷◌, ◌++◌, arith, ap, sym, ◌∙◌, subst, refl, inl, inr}
+use Rattle.std.specs.List.{All}
+use Rattle.std.proofs.Math.Nat.{mod-eq_of_lt, mul-le-mul_left}
+use Rattle.std.proofs.lemmas.Bool.{cases_lt, le-leb, lt-leb}
+use Rattle.std.proofs.lemmas.List.Elements.{All-append, All-cons}
 use Rattle.dada_model.specs.Edges.{AreEdges}
+use Rattle.band_paths.specs.Edges.{channels_of}
 use Rattle.search_model.specs.Samples.{Filterbank}
-use Rattle.search_model.specs.Paths.{middle, split_at}
 use Rattle.search_model.specs.Laws.{SplitsFit}
+use Rattle.search_model.specs.Paths.{middle}
 use Rattle.search_model.specs.Subbands.{node_sum}
-use Rattle.search_model.specs.SubbandLaws.{HalvesAdd, OneChannelAdds, OneChannelIsItsSample, NothingBefore}
+use Rattle.subband_plan.specs.declared.nodes.Node.{Node}
+use Rattle.subband_plan.specs.declared.rows.PlanRows.{PlanRows}
+use Rattle.subband_plan.specs.Nodes.{BandPlan, IsPlan, nodes_of, node_at, root, split_of, tree, upper_half, lower_half}
+use Rattle.subband_plan.specs.NodeLaws.{AreLaid}
+use Rattle.subband_plan.specs.Rows.{ArePlanRows, IsRow, all_rows, node_of, delay_of}
+use Rattle.subband_plan.specs.Values.{RowsAreBounded, cells_of, row_sum}
+use Rattle.fdmt_carry.specs.Carrying.{IsStream}
 
--- what the sums over the nodes of a band are like
-pub record SumLaws : Type 0 where
-  pub halves : HalvesAdd
-  pub adds : OneChannelAdds
-  pub sample : OneChannelIsItsSample
-  pub nothing : NothingBefore
-  pub fit : SplitsFit
+-- the rows of the nodes below a node have no later delays
+tree_of_two : (depth : ℕ) (edges : List ℕ) (n : Node) → n.lo + 2 ≤ n.hi → tree (suc depth) edges n
+    ≡ n ∷ (tree depth edges (upper_half edges n) ++ tree depth edges (lower_half edges n))
+unfolding tree
+tree_of_two depth edges n two = rw (le-leb (n.lo + 2) n.hi two, tree) refl
 
-sample_bounded : SumLaws → (f : Filterbank) (edges : List ℕ) (n m c u late : ℕ) → AreEdges n edges → c < n →
-    ((c t : ℕ) → f.value c t ≤ m) → node_sum f edges c (c + 1) 0 u late ≤ m
-sample_bounded laws f edges n m c u late band within small = elim (cases_lt u late) [
-  | inl before ↦
-      let e = laws.nothing f edges n c (c + 1) 0 u late band (omega arith) before in
-      omega arith
-  | inr now ↦
-      let e = laws.sample f edges n c u late band within (omega arith) in
-      let bound = small c (u - late) in
-      omega arith
-]
+tree_of_one : (depth : ℕ) (edges : List ℕ) (n : Node) → n.hi < n.lo + 2 → tree (suc depth) edges n ≡ n ∷ []
+unfolding tree
+tree_of_one depth edges n one = rw (lt-leb (n.lo + 2) n.hi one, tree) refl
 
-single_bounded : SumLaws → (f : Filterbank) (edges : List ℕ) (n m c d u late : ℕ) → AreEdges n edges → c < n →
-    ((c t : ℕ) → f.value c t ≤ m) → node_sum f edges c (c + 1) d u late ≤ m * (1 + d)
-single_bounded laws f edges n m c zero u late band within small =
-    let bound = sample_bounded laws f edges n m c u late band within small in
-    omega arith
-single_bounded laws f edges n m c (suc d) u late band within small =
-    let e = laws.adds f edges n c d u late band within in
-    let first = sample_bounded laws f edges n m c u (late + (d + 1)) band within small in
-    let rest = single_bounded laws f edges n m c d u late band within small in
-    let next : suc d ≡ d + 1 = omega arith in
-    rw (next, e) (omega arith)
+abbrev EndsBy : ℕ → Node → Type 0
+EndsBy most n = n.last_row ≤ most
 
--- a sum of delay d over the channels from lo up to hi is at most m (hi - lo + d)
-bounded_to : SumLaws → (f : Filterbank) (edges : List ℕ) (n m size lo hi d u late : ℕ) → AreEdges n edges → lo < hi →
-    hi ≤ n → hi ≤ lo + size → ((c t : ℕ) → f.value c t ≤ m) → node_sum f edges lo hi d u late ≤ m * (hi - lo + d)
-bounded_to laws f edges n m zero lo hi d u late band some within few small = absurd (omega arith)
-bounded_to laws f edges n m (suc size) lo hi d u late band some within few small = elim (cases_lt hi (lo + 2)) [
-  | inl one ↦
-      let single : hi ≡ lo + 1 = omega arith in
-      let bound = single_bounded laws f edges n m lo d u late band (omega arith) small in
-      let cells : lo + 1 - lo + d ≡ 1 + d = omega arith in
-      rw (single, cells) bound
+only : (most : ℕ) (n : Node) → EndsBy most n → All (EndsBy most) (n ∷ [])
+only most n ends = All-cons (EndsBy most) n [] ends (λ k d lt. absurd (omega arith))
+
+tree_ends : SplitsFit → (depth : ℕ) (edges : List ℕ) (n : Node) (c most : ℕ) → AreEdges c edges → n.hi ≤ c →
+    EndsBy most n → All (EndsBy most) (tree depth edges n)
+unfolding tree split_of
+tree_ends fit zero edges n c most band within ends = only most n ends
+tree_ends fit (suc depth) edges n c most band within ends = elim (cases_lt n.hi (n.lo + 2)) [
+  | inl one ↦ subst (λ (nodes : List Node). All (EndsBy most) nodes) (sym (tree_of_one depth edges n one)) (only most n ends)
   | inr two ↦
-      let mid : ℕ = middle lo hi in
-      let s : ℕ = split_at edges lo hi d in
-      let part : s ≤ d = laws.fit.fits _ _ _ d (band.falls mid hi (omega arith) within)
-      (band.falls lo mid (omega arith) (omega arith)) in
-      let e = laws.halves f edges n lo hi d u late band (omega arith) within in
-      let above = bounded_to laws f edges n m size lo mid s u (late + (d - s)) band (omega arith) (omega arith)
-      (omega arith) small in
-      let below =
-      bounded_to laws f edges n m size mid hi (d - s) u late band (omega arith) within (omega arith) small in
-      let cells : m * (hi - lo + d) ≡ m * (mid - lo + s) + m * (hi - mid + (d - s)) =
-      ap (λ x. m * x) (let e : hi - lo + d ≡ (mid - lo + s) + (hi - mid + (d - s)) = omega arith in e) ∙ omega arith in
-      rw (e, cells) (omega arith)
+      let part : split_of edges n n.last_row ≤ n.last_row = fit.fits _ _ _ n.last_row
+      (band.falls (middle n.lo n.hi) n.hi (omega arith) within)
+      (band.falls n.lo (middle n.lo n.hi) (omega arith) (omega arith)) in
+      subst (λ (nodes : List Node). All (EndsBy most) nodes) (sym (tree_of_two depth edges n two))
+      (All-cons (EndsBy most) n _ ends
+      (All-append (EndsBy most) (tree depth edges (upper_half edges n)) (tree depth edges (lower_half edges n))
+      (tree_ends fit depth edges (upper_half edges n) c most band (omega arith) (omega arith))
+      (tree_ends fit depth edges (lower_half edges n) c most band within (omega arith))))
 ]
 
-pub sums_bounded : SumLaws → (f : Filterbank) (edges : List ℕ) (n m lo hi d u late : ℕ) → AreEdges n edges → lo < hi →
-    hi ≤ n → ((c t : ℕ) → f.value c t ≤ m) → node_sum f edges lo hi d u late ≤ m * (hi - lo + d)
-sums_bounded laws f edges n m lo hi d u late band some within small =
-    bounded_to laws f edges n m hi lo hi d u late band some within (omega arith) small
+-- so a row has no more cells than the whole band has channels and spectra of delay
+pub cells_fit : SplitsFit → (p : BandPlan) (rows : PlanRows) (r : ℕ) → AreLaid p.edges (nodes_of p) →
+    ArePlanRows p rows → r < all_rows rows → cells_of p rows r ≤ channels_of p.edges + p.last
+cells_fit fit p rows r laid is there =
+    let label = is.label r there in
+    let within = (laid.each (node_of rows r) label.node).branch.within in
+    let most = label.kept.most in
+    let ends : (node_at (nodes_of p) (node_of rows r)).last_row ≤ p.last =
+    tree_ends fit 12 p.edges (root p) (channels_of p.edges) p.last laid.band (omega arith) (omega arith)
+    (node_of rows r) _ label.node in
+    omega arith
+
+-- where the sums of the whole band have 32 bits, so have those of each row
+pub sum_is_plain : SplitsFit → RowsAreBounded → (p : BandPlan) (rows : PlanRows) (f : Filterbank) (m r u : ℕ) →
+    IsPlan p → AreLaid p.edges (nodes_of p) → ArePlanRows p rows → IsStream p m f →
+    m * (channels_of p.edges + p.last) < 2 ^ 32 → r < all_rows rows →
+    row_sum p rows f r u 0 % 2 ^ 32 ≡ row_sum p rows f r u 0
+sum_is_plain fit bounded p rows f m r u plan laid is stream fits there =
+    let bound = bounded p rows f m plan is stream.small r u 0 in
+    let cells = cells_fit fit p rows r laid is there in
+    let most = mul-le-mul_left m cells in
+    mod-eq_of_lt (omega arith)
+
+-- they are the sums over its node
+pub sum_of_node : (p : BandPlan) (rows : PlanRows) (f : Filterbank) (k d r u : ℕ) → IsRow rows k d r →
+    row_sum p rows f r u 0
+    ≡ node_sum f p.edges (node_at (nodes_of p) k).lo (node_at (nodes_of p) k).hi d u 0
+unfolding row_sum
+sum_of_node p rows f k d r u is =
+    ap (λ j. node_sum f p.edges (node_at (nodes_of p) j).lo (node_at (nodes_of p) j).hi (delay_of rows r) u 0) is.node
+    ∙ ap (λ e. node_sum f p.edges (node_at (nodes_of p) k).lo (node_at (nodes_of p) k).hi e u 0) is.delay

@@ -1,13 +1,10 @@
-pub mod Bounds
-pub mod Feeding
-pub mod Halves
-pub mod Known
-pub mod Law
-pub mod Loops
-pub mod Made
+pub mod Orders
+pub mod Taking
 pub mod Narrow
-pub mod Parts
+pub mod Starts
+pub mod Stops
+pub mod Plainly
+pub mod Bounds
 pub mod Reading
-pub mod Stands
-pub mod Steps
-mod Wide
+pub mod Running
+pub mod Carried

@@ -1,73 +1,82 @@
--- Nodes whose rows are made in 16 bits.
-use Rattle.std.proofs.Common.{◌≡◌, ℕ, ◌+◌, ◌-◌, ◌*◌, ◌%◌, ◌^◌, ◌≤◌, ◌<◌, List, length, slice_index, min, arith, ap, ◌∙◌, inl, inr}
-use Rattle.std.proofs.lemmas.Bool.{cases_lt}
-use Rattle.std.proofs.Math.Nat.{mod-eq_of_lt, mod-le, mul-le-mul_right}
-use Rattle.band_paths.specs.Edges.{channels_of}
-use Rattle.search_model.specs.Samples.{Filterbank}
-use Rattle.search_model.specs.Subbands.{node_sum}
-use Rattle.subband_plan.specs.NodeLaws.{AskedRowsAreThere}
-use Rattle.fdmt_rows.specs.Rows.{AddsNarrowly, Narrows}
-use Rattle.fdmt_carry.specs.Tables.{Tables, AreTables, node_of, tail_of, row_number, row_value}
-use Rattle.fdmt_carry.specs.Making.{IsPair, lower_of}
-use Rattle.fdmt_carry.specs.Values.{Begins, GoesOn, AreNarrow}
-use Rattle.fdmt_carry.specs.Narrow.{AreAtMost, IsNarrow, PartFits, BelowFits, NarrowFit, HasNarrowHalves}
-use Rattle.fdmt_carry.proofs.Bounds.{SumLaws, sums_bounded}
-use Rattle.fdmt_carry.proofs.Known.{part_known, parts_known}
-use Rattle.fdmt_carry.proofs.Reading.{node_under}
+-- Rows of 16 bits.
+use Rattle.std.proofs.Common.{◌≡◌, ℕ, ◌+◌, ◌-◌, ◌*◌, ◌^◌, ◌<◌, ◌≤◌, true, false, Bool, List, [], ◌∷◌, ◌++◌, length, slice_index_or, replicate, arith, ap, sym, ◌∙◌, subst, refl, inl, inr}
+use Rattle.std.proofs.Math.ListN.{get_or-append, get_or-eq_default}
+use Rattle.std.proofs.Math.Seq.{get_or-append_seam}
+use Rattle.std.proofs.lemmas.List.{length_push, get_or-replicate, length-replicate}
+use Rattle.std.proofs.lemmas.Bool.{cases_lt, false≢true}
+use Rattle.row_model.specs.Sums.{is_narrow}
+use Rattle.subband_plan.specs.declared.nodes.Node.{Node}
+use Rattle.subband_plan.specs.declared.rows.PlanRows.{PlanRows}
+use Rattle.subband_plan.specs.Nodes.{BandPlan, nodes_of, node_at}
+use Rattle.subband_plan.specs.Rows.{ArePlanRows, all_rows, node_of, delay_of}
+use Rattle.fdmt_carry.specs.Orders.{AreLow, AreParts, AreWide}
 
--- no value of a narrow node passes 16 bits, nor one of a node below it
-pub part_fits : SumLaws → AskedRowsAreThere → (t : Tables) → AreTables t → (most k : ℕ) → IsNarrow t most k →
-    (f : Filterbank) → AreAtMost most f → PartFits t f k
-unfolding row_value
-part_fits laws asked t is most k narrow f small j ge lt d u i has =
-    let n = node_of t j in
-    let under = node_under asked t is k j narrow.node ge lt in
-    let from = under.from in
-    let to = under.to in
-    let last = under.last in
-    let all = (part_known t is k narrow.node).within in
-    let lays = is.laid.each j (omega arith) in
-    let within = lays.branch.within in
-    let some = lays.branch.some in
-    let row = has.most in
-    let late : ℕ = tail_of t (row_number t j d) in
-    let bound = sums_bounded laws f t.plan.edges (channels_of t.plan.edges) most n.lo n.hi d (u + i) late is.laid.band
-    some (omega arith) small in
-    let cells : n.hi - n.lo + d ≤ (node_of t k).hi - (node_of t k).lo + (node_of t k).last_row = omega arith in
-    let more = mul-le-mul_right most cells in
-    let fits = narrow.fits in
-    let least : most * (n.hi - n.lo + d) ≤ most * ((node_of t k).hi - (node_of t k).lo + (node_of t k).last_row) =
-    omega arith in
-    let rest = mod-le (node_sum f t.plan.edges n.lo n.hi d (u + i) late) (2 ^ 32) in
-    omega arith
+pub not_true : (b : Bool) → (b ≡ true → ⊥) → b ≡ false
+not_true true never = absurd (never refl)
+not_true false never = refl
 
--- no value of a node below one with narrow halves does
-pub halves_fit : (t : Tables) → AreTables t → (most k : ℕ) → NarrowFit t most → IsPair t k →
-    HasNarrowHalves t most k → (f : Filterbank) → AreAtMost most f → BelowFits t f k
-halves_fit t is most k fit pair narrow f small j after lt =
-    let parts = parts_known t is k pair in
-    let upper_end = parts.upper_end in
-    let lower_end = parts.lower_end in
-    elim (cases_lt j (lower_of t k)) [
-      | inl above ↦ fit (k + 1) f narrow.upper small j (omega arith) (omega arith)
-      | inr below ↦ fit (lower_of t k) f narrow.lower small j below (omega arith)
-    ]
+-- rows that all have 32 bits
+pub none_narrow : (n : ℕ) (narrow : List Bool) → narrow ≡ replicate n false → AreWide narrow
+none_narrow n narrow is r = elim (cases_lt r n) [
+  | inl within ↦ ap (λ (xs : List Bool). slice_index_or xs r false) is ∙ get_or-replicate n r false false within
+  | inr past ↦ ap (λ (xs : List Bool). slice_index_or xs r false) is
+      ∙ get_or-eq_default (replicate n false) false (let e = length-replicate n false in omega arith)
+]
 
--- values of 16 bits stay what they are
-pub narrow_begins : (g : ℕ → ℕ) (xs out : List ℕ) → AreNarrow g → length out ≡ length xs → Begins g xs →
-    Narrows out xs → Begins g out
-narrow_begins g xs out small long begins narrows i lt =
-    narrows i ∙ ap (λ x. x % 2 ^ 16) (begins i (omega arith)) ∙ mod-eq_of_lt (small i)
+-- a row that has 16 bits is none of the whole band, and its sums have 16 bits
+pub record IsLowRow (p : BandPlan) (rows : PlanRows) (m r : ℕ) : Type 0 where
+  pub part : 0 < node_of rows r
+  pub low : m * ((node_at (nodes_of p) (node_of rows r)).hi - (node_at (nodes_of p) (node_of rows r)).lo
+      + delay_of rows r) < 2 ^ 16
 
--- and so do their sums
-pub narrow_sums : (g : ℕ → ℕ) (n : ℕ) (a b out : List ℕ) → AreNarrow g → GoesOn g n a b → AddsNarrowly out a b →
-    (i : ℕ) → i < length a → g (n + i) ≡ slice_index out i
-narrow_sums g n a b out small goes adds i lt =
-    let sum = goes i lt in
-    let here = adds i in
-    let fits = small (n + i) in
-    omega arith
+pub low_row : (p : BandPlan) (rows : PlanRows) (m r k d : ℕ) (nodes : List Node) → nodes ≡ nodes_of p →
+    k ≡ node_of rows r → d ≡ delay_of rows r → 0 < k →
+    m * ((node_at nodes k).hi - (node_at nodes k).lo + d) < 2 ^ 16 → IsLowRow p rows m r
+low_row p rows m r k d nodes all same delay part low = record {
+  part = subst (λ k. 0 < k) same part;
+  low = subst (λ k. m * ((node_at (nodes_of p) k).hi - (node_at (nodes_of p) k).lo + delay_of rows r) < 2 ^ 16) same
+      (subst (λ (nodes : List Node). m * ((node_at nodes k).hi - (node_at nodes k).lo + delay_of rows r) < 2 ^ 16) all
+      (subst (λ d. m * ((node_at nodes k).hi - (node_at nodes k).lo + d) < 2 ^ 16) delay low));
+}
 
--- a product that is cut off far above 16 bits
-pub product_below : (x y : ℕ) → y ≡ min x (2 ^ 64 - 1) → y < 2 ^ 16 → x < 2 ^ 16
-product_below x y e lt = grind (arith, e, lt)
+-- so it is with the first rows
+pub record AreLowRows (p : BandPlan) (rows : PlanRows) (m count : ℕ) (narrow : List Bool) : Type 0 where
+  pub entries : length narrow ≡ count
+  pub each : (r : ℕ) → is_narrow narrow r ≡ true → IsLowRow p rows m r
+
+pub low_more : (p : BandPlan) (rows : PlanRows) (m count : ℕ) (narrow : List Bool) (b : Bool) →
+    AreLowRows p rows m count narrow → (b ≡ true → IsLowRow p rows m count) →
+    AreLowRows p rows m (count + 1) (narrow ++ b ∷ [])
+low_more p rows m count narrow b low here =
+    let size = low.entries in
+    record {
+      entries = length_push narrow b ∙ ap (λ n. n + 1) size;
+      each = λ r has. elim (cases_lt r count) [
+        | inl before ↦ low.each r (sym (get_or-append narrow (b ∷ []) false r (omega arith)) ∙ has)
+        | inr after ↦ elim (cases_lt count r) [
+          | inl past ↦ absurd (false≢true (sym (get_or-eq_default (narrow ++ b ∷ []) false
+              (let e = length_push narrow b in omega arith)) ∙ has))
+          | inr last ↦
+              let same : count ≡ r = omega arith in
+              subst (λ r. IsLowRow p rows m r) same (here
+              (sym (get_or-append_seam narrow b [] false)
+              ∙ ap (λ n. slice_index_or (narrow ++ b ∷ []) n false) (size ∙ same) ∙ has))
+        ]
+      ];
+    }
+
+pub are_low : (p : BandPlan) (rows : PlanRows) (m count : ℕ) (narrow : List Bool) →
+    AreLowRows p rows m count narrow → AreLow p rows narrow m
+are_low p rows m count narrow low r has = (low.each r has).low
+
+pub are_parts : (p : BandPlan) (rows : PlanRows) (m count : ℕ) (narrow : List Bool) →
+    AreLowRows p rows m count narrow → AreParts rows narrow
+are_parts p rows m count narrow low r has zero = let part = (low.each r has).part in omega arith
+
+-- no row has 16 bits
+pub none_low : (p : BandPlan) (rows : PlanRows) (n m : ℕ) (narrow : List Bool) → narrow ≡ replicate n false →
+    AreLow p rows narrow m × AreParts rows narrow
+none_low p rows n m narrow is = (
+  λ r has. absurd (false≢true (sym (none_narrow n narrow is r) ∙ has)),
+  λ r has. absurd (false≢true (sym (none_narrow n narrow is r) ∙ has)),
+)

@@ -1,135 +1,117 @@
--- What is read of tables.
-use Rattle.std.proofs.Common.{◌≡◌, ℕ, zero, suc, ◌+◌, ◌-◌, ◌*◌, ◌^◌, ◌≤◌, ◌<◌, slice_index, replicate, arith, sym, ap, ◌∙◌, inl, inr}
-use Rattle.std.proofs.lemmas.Bool.{cases_lt}
-use Rattle.std.proofs.lemmas.List.{get_or-replicate, length-replicate}
-use Rattle.std.proofs.Math.ListN.{get_or-eq_default}
-use Rattle.std.proofs.Math.Nat.{mod-eq_of_lt, mul-le-mul_right}
-use Rattle.band_paths.specs.Edges.{channels_of}
-use Rattle.search_model.specs.Samples.{Filterbank}
-use Rattle.search_model.specs.Paths.{middle}
-use Rattle.search_model.specs.Subbands.{node_sum}
-use Rattle.search_model.specs.SubbandLaws.{TimeShifts, NothingBefore}
-use Rattle.subband_plan.specs.Nodes.{split_of}
-use Rattle.subband_plan.specs.NodeLaws.{AskedRowsAreThere}
-use Rattle.fdmt_carry.specs.Tables.{Tables, AreTables, node_of, node_count, all_rows, start_of, held_at, place_at, next_of}
-use Rattle.fdmt_carry.specs.Making.{lower_of}
-use Rattle.fdmt_carry.specs.Reading.{IsWhole, ArePlain}
-use Rattle.fdmt_carry.proofs.Bounds.{SumLaws, sums_bounded}
-use Rattle.fdmt_carry.proofs.Known.{parts_known}
-use Rattle.fdmt_carry.proofs.Law.{value_now, nothing_value}
-use Rattle.fdmt_carry.proofs.Stands.{Stands}
+-- What is read of rows that were made.
+use Rattle.std.proofs.Common.{◌≡◌, ℕ, suc, ◌+◌, ◌-◌, ◌%◌, ◌^◌, ◌<◌, ◌≤◌, true, false, Bool, List, Some, length, slice_index, arith, ap, sym, ◌∙◌, subst, refl}
+use Rattle.std.proofs.lemmas.Bool.{eq-eqb}
+use Rattle.search_model.specs.Laws.{SplitsFit}
+use Rattle.row_model.specs.declared.Rows.{Rows}
+use Rattle.row_model.specs.Sums.{Sums, AddUp, is_narrow}
+use Rattle.row_schedule.specs.declared.builder.Order.{Order}
+use Rattle.row_schedule.specs.Orders.{holds, order_at}
+use Rattle.row_schedule.specs.Running.{Stores, Running, stores}
+use Rattle.row_schedule.specs.Schedules.{Scheduled}
+use Rattle.subband_plan.specs.declared.nodes.Node.{Node}
+use Rattle.subband_plan.specs.Nodes.{HasRow, root, nodes_of, node_at}
+use Rattle.subband_plan.specs.NodeLaws.{PlansAreLaid}
+use Rattle.subband_plan.specs.RowLaws.{RowsAreNumbered}
+use Rattle.subband_plan.specs.Rows.{IsRow}
+use Rattle.subband_plan.specs.Values.{BandRowsArePathSums, RowsAddUp, RowsAreBounded}
+use Rattle.fdmt_carry.specs.Orders.{band_row, in_own_slot, place_of, start_of}
+use Rattle.fdmt_carry.specs.Tables.{Tables, AreTables, node_count, stop_at, table_sums}
+use Rattle.fdmt_carry.specs.Making.{ReadsBand, ReadsNode}
+use Rattle.fdmt_carry.proofs.Bounds.{sum_is_plain, sum_of_node}
+use Rattle.fdmt_carry.proofs.Narrow.{not_true}
+use Rattle.fdmt_carry.proofs.Starts.{kept_row}
 
--- the first node and all below it are all nodes
-pub whole_known : (t : Tables) → AreTables t → IsWhole t
-whole_known t is =
-    let count = is.laid.count in
-    let few = is.laid.band.few in
-    let lo : (node_of t 0).lo ≡ 0 = ap (λ n. n.lo) is.head in
-    let hi : (node_of t 0).hi ≡ channels_of t.plan.edges = ap (λ n. n.hi) is.head in
-    let starts : start_of t 0 ≡ 0 = is.rows.starts.first in
-    let rows : start_of t (node_count t) ≡ all_rows t = sym is.rows.count ∙ sym is.rows.tails.entries in
+-- the row of an order of a schedule is read, wherever it stands
+abbrev pub ReadsRow : Rows → Scheduled → ℕ → ℕ → List ℕ → List ℕ → Type 0
+ReadsRow rows s order spectra wide row = (x : ℕ → ℕ → ℕ) (y : Sums) (u j k : ℕ) (st : Stores) →
+    AddUp rows.sources.items x y → st.wide ≡ wide → Running rows s y u spectra j st →
+    holds s.orders j (order_at s.orders order).slot ≡ Some (order_at s.orders order).row → k < spectra →
+    slice_index row k ≡ y (order_at s.orders order).row (u + k) 0 % 2 ^ 32
+
+pub node_read : RowsAddUp → RowsAreBounded → PlansAreLaid → SplitsFit → (t : Tables) (narrow : List Bool)
+    (k d r order spectra : ℕ) (wide row : List ℕ) → AreTables t narrow → k < node_count t → start_of t.rows k ≤ r →
+    r < start_of t.rows (k + 1) → IsRow t.rows k d r → order ≡ place_of t.rows k r →
+    ReadsRow t.rows.rows t.plain order spectra wide row → ReadsNode t k d spectra wide row
+node_read adds bounded laid fit t narrow k d r order spectra wide row is node from to row_is order_is reads f m u i st
+    fits stream same stands lt =
+    let y = table_sums t f in
+    let orders = t.plain.orders in
+    let there = row_is.there in
+    let at : order_at orders order ≡ in_own_slot r =
+    ap (λ n. order_at orders n) order_is ∙ is.plain.orders.each k r node from to in
+    let held : holds orders (length orders) (order_at orders order).slot ≡ Some (order_at orders order).row =
+    subst (λ (o : Order). holds orders (length orders) o.slot ≡ Some o.row) (sym at) (is.plain.orders.own r there) in
+    reads f.value y u (length orders) i (stores st.narrow st.wide stands.kept_narrow st.kept_wide)
+    (adds t.plan t.rows f is.plan is.rows stream.channels) same stands.made held lt
+    ∙ ap (λ (o : Order). y o.row (u + i) 0 % 2 ^ 32) at
+    ∙ sum_is_plain fit bounded t.plan t.rows f m r (u + i) is.plan (laid t.plan is.plan).0 is.rows stream fits there
+    ∙ sum_of_node t.plan t.rows f k d r (u + i) row_is
+
+-- a slot has the row that was made in it last
+held_last : (orders : List Order) (j n : ℕ) → suc n ≡ j →
+    holds orders j (order_at orders n).slot ≡ Some (order_at orders n).row
+unfolding holds
+held_last orders j n is = subst (λ j. holds orders j (order_at orders n).slot ≡ Some (order_at orders n).row) is
+    (rw (eq-eqb (order_at orders n).slot (order_at orders n).slot refl) refl)
+
+-- the row of the whole band of delay d, and where a pass stops after it
+pub record IsShown (t : Tables) (d : ℕ) : Type 0 where
+  pub has : HasRow (node_at (nodes_of t.plan) 0) d
+  pub row : IsRow t.rows 0 d (band_row t.plan t.rows d)
+  pub some : 0 < stop_at t (d + 1)
+  pub rise : stop_at t d < stop_at t (d + 1)
+  pub within : stop_at t (d + 1) ≤ length t.passing.orders
+  pub order : (order_at t.passing.orders (stop_at t (d + 1) - 1)).row ≡ band_row t.plan t.rows d
+
+pub is_shown : RowsAreNumbered → PlansAreLaid → (t : Tables) (narrow : List Bool) (d : ℕ) → AreTables t narrow →
+    HasRow (root t.plan) d → IsShown t d
+is_shown numbered laid t narrow d is has =
+    let laws = laid t.plan is.plan in
+    let count = laws.0.count in
+    let few = laws.0.band.few in
+    let from = has.least in
+    let to = has.most in
+    let there : HasRow (node_at (nodes_of t.plan) 0) d = subst (λ (n : Node). HasRow n d) (sym laws.1) has in
+    let row = kept_row numbered t.plan t.rows (nodes_of t.plan) 0 d refl laws.0 is.rows (omega arith) there in
+    let stop = is.stops.each (d - t.plan.first) (omega arith) in
+    let next : d - t.plan.first + 1 ≡ d + 1 - t.plan.first = omega arith in
+    let delay : t.plan.first + (d - t.plan.first) ≡ d = omega arith in
+    let rise : stop_at t d < stop_at t (d + 1) =
+    subst (λ n. slice_index t.stops (d - t.plan.first) < slice_index t.stops n) next stop.rise in
     record {
+      has = there;
+      row = row.row;
       some = omega arith;
-      next = omega arith;
-      first = ap (place_at t) starts ∙ is.placed.first;
-      first_held = ap (held_at t) starts ∙ is.held.first;
-      last = ap (place_at t) rows;
-      last_held = ap (held_at t) rows;
-      band = is.head;
+      rise = rise;
+      within = subst (λ n. slice_index t.stops n ≤ length t.passing.orders) next stop.within;
+      order = ap (λ n. (order_at t.passing.orders (slice_index t.stops n - 1)).row) (sym next)
+          ∙ stop.shown ∙ ap (λ e. band_row t.plan t.rows e) delay;
     }
 
--- node j is node k or one below it: it has no other channels than that, and no later row
-pub record IsUnder (t : Tables) (k j : ℕ) : Type 0 where
-  pub from : (node_of t k).lo ≤ (node_of t j).lo
-  pub to : (node_of t j).hi ≤ (node_of t k).hi
-  pub last : (node_of t j).last_row ≤ (node_of t k).last_row
+-- it has 32 bits
+pub shown_wide : (t : Tables) (narrow : List Bool) (d : ℕ) → AreTables t narrow → IsShown t d →
+    is_narrow t.passing.narrow (order_at t.passing.orders (stop_at t (d + 1) - 1)).row ≡ false
+shown_wide t narrow d is shown = not_true _ (λ yes.
+    let row_narrow : is_narrow narrow (band_row t.plan t.rows d) ≡ true =
+    subst (λ (r : ℕ). is_narrow narrow r ≡ true) shown.order
+    (subst (λ (bits : List Bool). is_narrow bits (order_at t.passing.orders (stop_at t (d + 1) - 1)).row ≡ true)
+    is.narrow_is yes) in
+    is.parts (band_row t.plan t.rows d) row_narrow shown.row.node)
 
-under_to : AskedRowsAreThere → (t : Tables) → AreTables t → (size k j : ℕ) → k < node_count t →
-    (node_of t k).hi ≤ (node_of t k).lo + size → k ≤ j → j < next_of t k → IsUnder t k j
-under_to asked t is zero k j node few ge lt = let some = (is.laid.each k node).branch.some in absurd (omega arith)
-under_to asked t is (suc size) k j node few ge lt = elim (cases_lt k j) [
-  | inr here ↦
-      let same : j ≡ k = omega arith in
-      rw same (record { from = omega arith; to = omega arith; last = omega arith })
-  | inl after ↦ elim (cases_lt (node_of t k).hi ((node_of t k).lo + 2)) [
-    | inl one ↦ absurd (omega arith)
-    | inr two ↦
-        let n = node_of t k in
-        let low : ℕ = lower_of t k in
-        let lays = is.laid.each k node in
-        let parts = parts_known t is k (record { node = node; two = two }) in
-        let rows = lays.branch.rows in
-        let part = (asked t.plan.edges n n.last_row is.laid.band lays.branch two
-        (record { least = rows; most = omega arith })).part in
-        let up = lays.upper two in
-        let down = lays.lower two in
-        let upper_lo : (node_of t (k + 1)).lo ≡ n.lo = ap (λ m. m.lo) up in
-        let upper_hi : (node_of t (k + 1)).hi ≡ middle n.lo n.hi = ap (λ m. m.hi) up in
-        let lower_lo : (node_of t low).lo ≡ middle n.lo n.hi = ap (λ m. m.lo) down in
-        let lower_hi : (node_of t low).hi ≡ n.hi = ap (λ m. m.hi) down in
-        let upper_last : (node_of t (k + 1)).last_row ≡ split_of t.plan.edges n n.last_row = ap (λ m. m.last_row) up in
-        let lower_last : (node_of t low).last_row ≡ n.last_row - split_of t.plan.edges n n.last_row =
-        ap (λ m. m.last_row) down in
-        let above = parts.above in
-        let below = parts.below in
-        let upper_end = parts.upper_end in
-        let lower_end = parts.lower_end in
-        elim (cases_lt j low) [
-          | inl in_upper ↦
-              let under = under_to asked t is size (k + 1) j above (omega arith) (omega arith) (omega arith) in
-              let from = under.from in
-              let to = under.to in
-              let last = under.last in
-              record { from = omega arith; to = omega arith; last = omega arith }
-          | inr in_lower ↦
-              let under = under_to asked t is size low j below (omega arith) in_lower (omega arith) in
-              let from = under.from in
-              let to = under.to in
-              let last = under.last in
-              record { from = omega arith; to = omega arith; last = omega arith }
-        ]
-  ]
-]
-
-pub node_under : AskedRowsAreThere → (t : Tables) → AreTables t → (k j : ℕ) → k < node_count t → k ≤ j →
-    j < next_of t k → IsUnder t k j
-node_under asked t is k j node ge lt = under_to asked t is ((node_of t k).hi) k j node (omega arith) ge lt
-
-pub rows_below : AskedRowsAreThere → (t : Tables) → AreTables t → (k : ℕ) → k < node_count t →
-    (node_of t k).last_row ≤ t.plan.last
-rows_below asked t is k node =
-    let whole = whole_known t is in
-    let some = whole.some in
-    let next = whole.next in
-    let last : (node_of t 0).last_row ≡ t.plan.last = ap (λ n. n.last_row) is.head in
-    let under = (node_under asked t is 0 k some (omega arith) (omega arith)).last in
-    omega arith
-
--- where the sums of the band fit, a value is the sum itself
-pub values_plain : SumLaws → TimeShifts → AskedRowsAreThere → (t : Tables) → AreTables t → ArePlain t
-values_plain laws shifts asked t is f m fits small k d u i node has =
-    let n = node_of t k in
-    let lays = is.laid.each k node in
-    let within = lays.branch.within in
-    let some = lays.branch.some in
-    let most = has.most in
-    let last = rows_below asked t is k node in
-    let bound = sums_bounded laws f t.plan.edges (channels_of t.plan.edges) m n.lo n.hi d (u + i) 0 is.laid.band some
-    (omega arith) small in
-    let cells : n.hi - n.lo + d ≤ channels_of t.plan.edges + t.plan.last = omega arith in
-    let more = mul-le-mul_right m cells in
-    let least : m * (n.hi - n.lo + d) ≤ m * (channels_of t.plan.edges + t.plan.last) = omega arith in
-    let under : node_sum f t.plan.edges n.lo n.hi d (u + i) 0 < 2 ^ 32 = omega arith in
-    value_now shifts t f u k d i ∙ mod-eq_of_lt under
-
--- zeros stand for nothing fed
-pub zeros_stand : NothingBefore → (t : Tables) → AreTables t → (f : Filterbank) (at : ℕ → ℕ) (to n : ℕ) →
-    to ≤ node_count t → Stands t f 0 at 0 0 to (replicate n 0)
-zeros_stand nothing t is f at to n within k ge lt d has i p small e =
-    zeros n p ∙ sym (nothing_value nothing t is f k d i (omega arith) (omega arith))
-  where
-    zeros : (n p : ℕ) → slice_index (replicate n 0) p ≡ 0
-    zeros n p = elim (cases_lt p n) [
-      | inl inside ↦ get_or-replicate n p 0 0 inside
-      | inr past ↦ get_or-eq_default (replicate n 0) 0 (rw length-replicate past)
-    ]
+pub band_read : RowsAddUp → RowsAreBounded → BandRowsArePathSums → PlansAreLaid → SplitsFit → (t : Tables)
+    (narrow : List Bool) (d order spectra : ℕ) (wide row : List ℕ) → AreTables t narrow → HasRow (root t.plan) d →
+    IsShown t d → order ≡ stop_at t (d + 1) - 1 → ReadsRow t.rows.rows t.passing order spectra wide row →
+    ReadsBand t d spectra wide row
+band_read adds bounded paths laid fit t narrow d order spectra wide row is has shown order_is reads f m u k st
+    fits stream same passing lt =
+    let y = table_sums t f in
+    let orders = t.passing.orders in
+    let r : ℕ = band_row t.plan t.rows d in
+    let some = shown.some in
+    let row_is : (order_at orders order).row ≡ r = ap (λ n. (order_at orders n).row) order_is ∙ shown.order in
+    reads f.value y u (stop_at t (d + 1)) k st (adds t.plan t.rows f is.plan is.rows stream.channels) same passing
+    (held_last orders (stop_at t (d + 1)) order (omega arith)) lt
+    ∙ ap (λ n. y n (u + k) 0 % 2 ^ 32) row_is
+    ∙ sum_is_plain fit bounded t.plan t.rows f m r (u + k) is.plan (laid t.plan is.plan).0 is.rows stream fits
+    shown.row.there
+    ∙ paths t.plan t.rows f d (u + k) is.plan is.rows stream.channels has

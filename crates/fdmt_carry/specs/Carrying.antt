@@ -1,44 +1,50 @@
 -- What contracts see of a carry, and the streams of samples that it stands for.
 -- Source: Zackay & Ofek, ApJ 835:11, 2017, section 2 (the dispersion transform, table by table);
 -- that a stream is fed chunk by chunk is this project's choice.
-use Rattle.std.specs.Prelude.{◌≡◌, ℕ, ◌+◌, ◌-◌, ◌*◌, ◌^◌, ◌≤◌, ◌<◌, true, false, Bool, List, slice_index}
+use Rattle.std.specs.Prelude.{◌≡◌, ℕ, ◌+◌, ◌-◌, ◌*◌, ◌^◌, ◌≤◌, ◌<◌, true, false, Bool, List, length, slice_index}
 use Rattle.band_paths.specs.Edges.{channels_of}
+use Rattle.row_schedule.specs.Running.{Stores, HaveRoom}
 use Rattle.search_model.specs.Samples.{Filterbank}
 use Rattle.subband_plan.specs.Nodes.{BandPlan}
-use Rattle.fdmt_carry.specs.declared.lead.TheConstants.{LEAD, NARROW_LEAD}
-use Rattle.fdmt_carry.specs.Tables.{Tables, node_count, all_rows, held_at, place_at, AreKept, TablesStand}
+use Rattle.fdmt_carry.specs.Orders.{AreLow}
+use Rattle.fdmt_carry.specs.Tables.{Tables, AreKept, TablesStand, IsPassing}
 
--- Tables that were fed `fed` spectra in all and `last` of them by the last call; `has_tables` tells
--- whether that made the tables of all nodes, which then stand. `tables` says where the rows
--- are; `kept` has what is kept of them for the next call, `values` what the last call made.
+-- Tables that took `fed` spectra in all and `last` of them by the last call; `has_tables` tells
+-- whether that made the tables of all nodes, which then stand. While a pass goes on, its `last`
+-- spectra come after those that were fed, and `next` is the delay of the row of the whole band that
+-- is made next.
 pub record Carrying : Type 0 where
   pub tables : Tables
   pub max_sample : ℕ
   pub fed : ℕ
   pub last : ℕ
   pub has_tables : Bool
-  pub kept : List ℕ
-  pub values : List ℕ
+  pub is_passing : Bool
+  pub next : ℕ
+  pub stores : Stores
 
-abbrev pub carrying : Tables → ℕ → ℕ → ℕ → Bool → List ℕ → List ℕ → Carrying
-carrying tables max_sample fed last has_tables kept values = record {
+abbrev pub carrying : Tables → ℕ → ℕ → ℕ → Bool → Bool → ℕ → Stores → Carrying
+carrying tables max_sample fed last has_tables is_passing next stores = record {
   tables = tables;
   max_sample = max_sample;
   fed = fed;
   last = last;
   has_tables = has_tables;
-  kept = kept;
-  values = values;
+  is_passing = is_passing;
+  next = next;
+  stores = stores;
 }
 
 -- opened over a plan, and fed nothing
-pub record IsOpened (c : Carrying) (plan : BandPlan) (chunk max_sample : ℕ) : Type 0 where
+pub record IsOpened (c : Carrying) (plan : BandPlan) (chunk most max_sample : ℕ) : Type 0 where
   pub plan_is : c.tables.plan ≡ plan
   pub chunk_is : c.tables.chunk ≡ chunk
+  pub most_is : c.tables.most ≡ most
   pub max_sample_is : c.max_sample ≡ max_sample
   pub nothing_fed : c.fed ≡ 0
   pub nothing_last : c.last ≡ 0
   pub no_tables : c.has_tables ≡ false
+  pub not_passing : c.is_passing ≡ false
 
 -- so many spectra were fed
 pub record IsFed (before after : Carrying) (spectra : ℕ) : Type 0 where
@@ -46,6 +52,27 @@ pub record IsFed (before after : Carrying) (spectra : ℕ) : Type 0 where
   pub max_sample : after.max_sample ≡ before.max_sample
   pub fed : after.fed ≡ before.fed + spectra
   pub last : after.last ≡ spectra
+  pub not_passing : after.is_passing ≡ false
+
+-- a pass over so many spectra has begun
+pub record IsBegun (before after : Carrying) (spectra : ℕ) : Type 0 where
+  pub tables : after.tables ≡ before.tables
+  pub max_sample : after.max_sample ≡ before.max_sample
+  pub fed : after.fed ≡ before.fed
+  pub last : after.last ≡ spectra
+  pub no_tables : after.has_tables ≡ false
+  pub passing : after.is_passing ≡ true
+  pub next : after.next ≡ before.tables.plan.first
+
+-- a pass has made one row more
+pub record IsRowOn (before after : Carrying) : Type 0 where
+  pub tables : after.tables ≡ before.tables
+  pub max_sample : after.max_sample ≡ before.max_sample
+  pub fed : after.fed ≡ before.fed
+  pub last : after.last ≡ before.last
+  pub has_tables : after.has_tables ≡ before.has_tables
+  pub passing : after.is_passing ≡ true
+  pub next : after.next ≡ before.next + 1
 
 -- an endless stream of samples of the band, none above `max_sample`
 pub record IsStream (plan : BandPlan) (max_sample : ℕ) (f : Filterbank) : Type 0 where
@@ -57,21 +84,35 @@ abbrev pub AreNext : Carrying → Filterbank → List ℕ → ℕ → Type 0
 AreNext c f rows spectra = (channel i : ℕ) → channel < f.channels → i < spectra →
     slice_index rows (channel * c.tables.chunk + i) ≡ f.value channel (c.fed + i)
 
+-- Samples are there for so many spectra, those of two channels a chunk apart. The last channel's may
+-- be no more, so that samples can be lent from some spectrum on.
+abbrev pub AreThere : Carrying → List ℕ → ℕ → Type 0
+AreThere c samples spectra = channels_of c.tables.plan.edges * c.tables.chunk
+    ≤ length samples + (c.tables.chunk - spectra)
+
 -- The carry was fed the first spectra of a stream: `c.fed` of them, whatever the others are. What
--- is kept is of these, the rows of the whole band are those of the last call, and so are the rows
--- of all nodes where their tables stand.
+-- is kept is of these, and so are the rows of all nodes where their tables stand.
 pub record StandsForSamples (c : Carrying) (f : Filterbank) : Type 0 where
   pub stream : IsStream c.tables.plan c.max_sample f
   pub before : c.last ≤ c.fed
-  pub kept : AreKept c.tables f c.fed 0 (node_count c.tables) c.kept
-  pub band : TablesStand c.tables f (c.fed - c.last) c.last 0 1 c.values
-  pub nodes : c.has_tables ≡ true →
-      TablesStand c.tables f (c.fed - c.last) c.last 0 (node_count c.tables) c.values
+  pub kept : AreKept c.tables f c.fed c.stores
+  pub nodes : c.has_tables ≡ true → TablesStand c.tables f (c.fed - c.last) c.last c.stores
 
--- what holds of a carry that has so many values, with those in front
-pub record IsSound (c : Carrying) (kept values narrow : ℕ) : Type 0 where
+-- The same amid a pass over its next spectra: the rows of the whole band of the delays before
+-- `c.next` were made.
+pub record StandsMidway (c : Carrying) (f : Filterbank) : Type 0 where
+  pub stream : IsStream c.tables.plan c.max_sample f
+  pub running : IsPassing c.tables f c.fed c.last c.next c.stores
+
+-- what holds of a carry
+pub record IsSound (c : Carrying) : Type 0 where
   pub fits : c.max_sample * (channels_of c.tables.plan.edges + c.tables.plan.last) < 2 ^ 32
+  pub low : AreLow c.tables.plan c.tables.rows c.tables.passing.narrow c.max_sample
   pub short : c.last ≤ c.tables.chunk
-  pub kept_room : kept ≡ LEAD + held_at c.tables (all_rows c.tables)
-  pub values_room : values ≡ LEAD + place_at c.tables (all_rows c.tables)
-  pub narrow_room : NARROW_LEAD ≤ narrow
+  pub few_made : c.has_tables ≡ true → c.last ≤ c.tables.most
+  pub few : c.is_passing ≡ true → c.fed + c.last ≤ 2 ^ 48
+  pub plain_room : HaveRoom c.tables.plain c.stores
+  pub passing_room : HaveRoom c.tables.passing c.stores
+  pub alone : c.is_passing ≡ true → c.has_tables ≡ false
+  pub from : c.is_passing ≡ true → c.tables.plan.first ≤ c.next
+  pub to : c.is_passing ≡ true → c.next ≤ c.tables.plan.last + 1

@@ -1,8 +1,6 @@
+pub mod Orders
+pub mod Plain
 pub mod Tables
-pub mod Making
-pub mod Narrow
-pub mod Reading
-pub mod Values
+pub mod Passing
 pub mod Carrying
-pub mod Samples
-pub mod Steps
+pub mod Making

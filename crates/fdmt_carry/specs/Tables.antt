@@ -1,26 +1,43 @@
--- Where the rows of all tables stand, and what they list.
+-- The tables of a plan, and the two schedules that make their rows.
 -- Source: Zackay & Ofek, ApJ 835:11, 2017, section 2 (the partial sums of the transform); that
 -- values are kept from chunk to chunk is this project's choice.
-use Rattle.std.specs.Prelude.{◌≡◌, ℕ, ◌+◌, ◌-◌, ◌*◌, ◌%◌, ◌^◌, ◌≤◌, ◌<◌, Bool, List, length, slice_index, if◌then◌else◌}
-use Rattle.dada_model.specs.Bounds.{most_delay}
+use Rattle.std.specs.Prelude.{◌≡◌, ℕ, ◌-◌, ◌≤◌, false, Bool, List, length, replicate, slice_index}
 use Rattle.band_paths.specs.Edges.{channels_of}
+use Rattle.row_model.specs.Sums.{Sums}
+use Rattle.row_schedule.specs.Samples.{AreNext}
+use Rattle.row_schedule.specs.Schedules.{Scheduled}
+use Rattle.row_schedule.specs.Follows.{Follows}
+use Rattle.row_schedule.specs.Running.{Stores, Kept, Running, stores}
 use Rattle.search_model.specs.Samples.{Filterbank}
-use Rattle.search_model.specs.Subbands.{node_sum}
 use Rattle.subband_plan.specs.declared.nodes.Node.{Node}
-use Rattle.subband_plan.specs.declared.rows.Rows.{Rows}
-use Rattle.subband_plan.specs.Nodes.{BandPlan, IsPlan, HasKept, root, nodes_of, node_at}
-use Rattle.subband_plan.specs.NodeLaws.{AreLaid}
-use Rattle.subband_plan.specs.RowLaws.{AreNumbered, AreFew}
-use Rattle.subband_plan.specs.Rows.{AreRows, row_of}
+use Rattle.subband_plan.specs.declared.rows.PlanRows.{PlanRows}
+use Rattle.subband_plan.specs.Nodes.{BandPlan, IsPlan, nodes_of, node_at}
+use Rattle.subband_plan.specs.Rows.{ArePlanRows, all_rows}
+use Rattle.subband_plan.specs.Values.{row_sum}
+use Rattle.fdmt_carry.specs.Orders.{ArePlain, AreParts, AreStops}
 
--- the tables of a plan, for up to `chunk` spectra at a time
+-- The tables of a plan, for up to `chunk` spectra at a time. The schedule `plain` makes the rows of
+-- all nodes so that they stand, of up to `most` spectra; `passing` makes each row of the whole band,
+-- and has made it at the stop that comes after it.
 pub record Tables : Type 0 where
   pub plan : BandPlan
-  pub rows : Rows
   pub chunk : ℕ
+  pub most : ℕ
+  pub rows : PlanRows
+  pub plain : Scheduled
+  pub passing : Scheduled
+  pub stops : List ℕ
 
-abbrev pub tables : BandPlan → Rows → ℕ → Tables
-tables plan rows chunk = record { plan = plan; rows = rows; chunk = chunk }
+abbrev pub tables : BandPlan → ℕ → ℕ → PlanRows → Scheduled → Scheduled → List ℕ → Tables
+tables plan chunk most rows plain passing stops = record {
+  plan = plan;
+  chunk = chunk;
+  most = most;
+  rows = rows;
+  plain = plain;
+  passing = passing;
+  stops = stops;
+}
 
 -- node k
 abbrev pub node_of : Tables → ℕ → Node
@@ -30,111 +47,58 @@ node_of t k = node_at (nodes_of t.plan) k
 abbrev pub node_count : Tables → ℕ
 node_count t = length (nodes_of t.plan)
 
--- how many values are kept of row r
-abbrev pub tail_of : Tables → ℕ → ℕ
-tail_of t r = slice_index t.rows.tails.items r
+-- the sums of the rows over a stream
+abbrev pub table_sums : Tables → Filterbank → Sums
+table_sums t f = row_sum t.plan t.rows f
 
--- the number of the first row of node k
-abbrev pub start_of : Tables → ℕ → ℕ
-start_of t k = slice_index t.rows.starts.items k
+-- a schedule for the rows of a plan, and up to `most` spectra, of which the samples of two channels
+-- are `chunk` places apart
+pub record IsScheduled (p : BandPlan) (rows : PlanRows) (chunk most : ℕ) (s : Scheduled) :
+    Type 0 where
+  pub follows : Follows rows.rows s
+  pub channels : s.channels ≡ channels_of p.edges
+  pub chunk_is : s.chunk ≡ chunk
+  pub most_is : s.most ≡ most
 
--- the number of the row of delay d of node k
-abbrev pub row_number : Tables → ℕ → ℕ → ℕ
-row_number t k d = row_of t.rows.starts.items k (node_of t k) d
+-- it makes them in the plain order, in 32 bits
+pub record IsPlain (p : BandPlan) (rows : PlanRows) (chunk most : ℕ) (s : Scheduled) : Type 0 where
+  pub runs : IsScheduled p rows chunk most s
+  pub narrow : s.narrow ≡ replicate (all_rows rows) false
+  pub orders : ArePlain p rows s.orders
 
--- the node after node k and those below it
-abbrev pub next_of : Tables → ℕ → ℕ
-next_of t k = k + (2 * ((node_of t k).hi - (node_of t k).lo) - 1)
-
--- how many rows there are
-abbrev pub all_rows : Tables → ℕ
-all_rows t = length t.rows.tails.items
-
--- where the values begin that are kept of row r
-abbrev pub held_at : Tables → ℕ → ℕ
-held_at t r = slice_index t.rows.held.items r
-
--- where row r begins: each row has the values that are kept of it, and `chunk` after these
-unfoldable pub place_at : Tables → ℕ → ℕ
-place_at t r = r * t.chunk + held_at t r
-
--- where the rows of node k begin, and where what is kept of them does
-abbrev pub place_of : Tables → ℕ → ℕ
-place_of t k = place_at t (start_of t k)
-
-abbrev pub hold_of : Tables → ℕ → ℕ
-hold_of t k = held_at t (start_of t k)
-
--- how many values a row has of which so many are kept, row by row, and that they stand one after
--- another
-pub record ArePlaced (t : Tables) (at : ℕ → ℕ) (more : ℕ) : Type 0 where
-  pub first : at 0 ≡ 0
-  pub next : (r : ℕ) → r < all_rows t → at (r + 1) ≡ at r + (tail_of t r + more)
-  pub rise : (q r : ℕ) → q ≤ r → r ≤ all_rows t → at q ≤ at r
-  pub fit : (r : ℕ) → r ≤ all_rows t → at r ≤ 2 ^ 43
-
--- what holds of tables; all follows from the first four
-pub record AreTables (t : Tables) : Type 0 where
+-- what holds of tables; `narrow` says which rows have 16 bits in a pass
+pub record AreTables (t : Tables) (narrow : List Bool) : Type 0 where
   pub plan : IsPlan t.plan
-  pub rows : AreRows t.plan t.rows
-  pub some : 1 ≤ t.chunk
-  pub most : t.chunk ≤ 65536
-  pub laid : AreLaid t.plan.edges (nodes_of t.plan)
-  pub head : node_of t 0 ≡ root t.plan
-  pub numbered : AreNumbered t.plan.edges (nodes_of t.plan) t.rows.starts.items
-  pub few : AreFew t.rows
-  pub placed : ArePlaced t (place_at t) t.chunk
-  pub held : ArePlaced t (held_at t) 0
+  pub rows : ArePlanRows t.plan t.rows
+  pub short : t.chunk ≤ 65536
+  pub within : t.most ≤ t.chunk
+  pub plain : IsPlain t.plan t.rows t.chunk t.most t.plain
+  pub passing : IsScheduled t.plan t.rows t.chunk t.chunk t.passing
+  pub narrow_is : t.passing.narrow ≡ narrow
+  pub parts : AreParts t.rows narrow
+  pub stops : AreStops t.plan t.rows t.passing.orders t.stops
 
--- row r is one of node k, and stands where the rows of the node stand
-pub record IsRow (t : Tables) (k r : ℕ) : Type 0 where
-  pub below : r < all_rows t
-  pub from : place_of t k ≤ place_at t r
-  pub next : place_at t (r + 1) ≡ place_at t r + (tail_of t r + t.chunk)
-  pub to : place_at t (r + 1) ≤ place_of t (k + 1)
-  pub fit : place_of t (k + 1) ≤ 2 ^ 43
-  pub kept_from : hold_of t k ≤ held_at t r
-  pub kept_next : held_at t (r + 1) ≡ held_at t r + tail_of t r
-  pub kept_to : held_at t (r + 1) ≤ hold_of t (k + 1)
-  pub short : tail_of t r ≤ most_delay
+-- the samples of the next spectra, from spectrum u on
+abbrev pub AreSamples : Tables → Filterbank → ℕ → ℕ → List ℕ → Type 0
+AreSamples t f u spectra samples =
+    AreNext f.value (channels_of t.plan.edges) t.chunk u spectra samples
 
--- Value i of the row of delay d of node k, where the values after those that are kept are sums that
--- end at spectrum u and later: in 32 bits, the sum over the node along the path of d that ends at
--- spectrum u + i, less the kept ones.
-unfoldable pub row_value : Tables → Filterbank → ℕ → ℕ → ℕ → ℕ → ℕ
-row_value t f u k d i =
-    let n = node_of t k in
-    node_sum f t.plan.edges n.lo n.hi d (u + i) (tail_of t (row_number t k d)) % 2 ^ 32
+-- how many orders of a pass come before the row of delay d of the whole band is made
+abbrev pub stop_at : Tables → ℕ → ℕ
+stop_at t d = slice_index t.stops (d - t.plan.first)
 
--- A list has the row of delay d of node k: `more` values after those that are kept of it. Place p
--- of the list is place base + p of all rows, of which row r begins at `at r`.
-abbrev pub ListsRow : Tables → Filterbank → ℕ → (ℕ → ℕ) → ℕ → ℕ → ℕ → ℕ → List ℕ → Type 0
-ListsRow t f u at more k d base xs = (i p : ℕ) → i < tail_of t (row_number t k d) + more →
-    base + p ≡ at (row_number t k d) + i → slice_index xs p ≡ row_value t f u k d i
+-- before the sums that end at spectrum u, this is kept of all rows
+abbrev pub AreKept : Tables → Filterbank → ℕ → Stores → Type 0
+AreKept t f u st = Kept t.rows.rows t.passing.narrow (table_sums t f) u st
 
--- it has all rows of node k
-abbrev pub ListsNode : Tables → Filterbank → ℕ → (ℕ → ℕ) → ℕ → ℕ → ℕ → List ℕ → Type 0
-ListsNode t f u at more k base xs = (d : ℕ) → HasKept (node_of t k) d →
-    ListsRow t f u at more k d base xs
+-- The rows of all nodes stand: they were made, with the sums that end at so many spectra from
+-- spectrum u on. What is kept in 16 bits was changed since then.
+pub record TablesStand (t : Tables) (f : Filterbank) (u spectra : ℕ) (st : Stores) : Type 0 where
+  pub kept_narrow : List ℕ
+  pub made : Running t.rows.rows t.plain (table_sums t f) u spectra (length t.plain.orders)
+      (stores st.narrow st.wide kept_narrow st.kept_wide)
 
--- Before the sums that end at spectrum u, the list has what is kept of the rows of the nodes from
--- `from` up to `to`, of which the first begins where the list does.
-abbrev pub AreKept : Tables → Filterbank → ℕ → ℕ → ℕ → List ℕ → Type 0
-AreKept t f u from to xs = (k : ℕ) → from ≤ k → k < to →
-    ListsNode t f u (held_at t) 0 k (hold_of t from) xs
-
--- the list has their rows, with so many sums each
-abbrev pub TablesStand : Tables → Filterbank → ℕ → ℕ → ℕ → ℕ → List ℕ → Type 0
-TablesStand t f u spectra from to xs = (k : ℕ) → from ≤ k → k < to →
-    ListsNode t f u (place_at t) spectra k (place_of t from) xs
-
--- `rows` has the next spectra of a stream, from spectrum u on
-pub record HasNext (t : Tables) (f : Filterbank) (u spectra : ℕ) (rows : List ℕ) : Type 0 where
-  pub channels : f.channels ≡ channels_of t.plan.edges
-  pub fits : (c s : ℕ) → f.value c s < 2 ^ 32
-  pub samples : (c i : ℕ) → c < f.channels → i < spectra →
-      slice_index rows (c * t.chunk + i) ≡ f.value c (u + i)
-
--- the node after those whose tables stand where node k is made: with all below it, or alone
-abbrev pub stop_of : Tables → Bool → ℕ → ℕ
-stop_of t whole k = if whole then next_of t k else k + 1
+-- a pass has come to the row of delay d of the whole band
+abbrev pub IsPassing : Tables → Filterbank → ℕ → ℕ → ℕ → Stores → Type 0
+IsPassing t f u spectra d st =
+    Running t.rows.rows t.passing (table_sums t f) u spectra (stop_at t d) st

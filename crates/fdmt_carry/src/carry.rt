@@ -1,26 +1,28 @@
 // Tables that are carried from chunk to chunk.
-ghost use Rattle.std.specs.Prelude.{◌≡◌, ℕ, ◌+◌, ◌-◌, ◌*◌, ◌^◌, ◌<◌, ◌≤◌, true, false, Bool, List, drop, length, slice_index, replicate, IfOk};
+ghost use Rattle.std.specs.Prelude.{◌≡◌, ℕ, ◌+◌, ◌-◌, ◌*◌, ◌^◌, ◌<◌, ◌≤◌, true, false, length, slice_index, replicate, IfOk};
 ghost use Rattle.band_paths.specs.Edges.{channels_of};
+ghost use Rattle.row_schedule.specs.Running.{stores};
+ghost use Rattle.row_schedule.specs.Samples.{values_of};
 ghost use Rattle.search_model.specs.Samples.{Filterbank};
 ghost use Rattle.search_model.specs.Sums.{path_sum};
 ghost use Rattle.search_model.specs.Subbands.{node_sum};
 ghost use Rattle.subband_plan.specs.Nodes.{HasRow, root};
-ghost use Rattle.fdmt_carry.specs.declared.lead.TheConstants.{LEAD};
 ghost use Rattle.fdmt_carry.specs.Tables.{node_of, node_count};
-ghost use Rattle.fdmt_carry.specs.Samples.{values_of};
-ghost use Rattle.fdmt_carry.specs.Carrying.{Carrying, IsOpened, IsFed, IsStream, AreNext, StandsForSamples, IsSound, carrying};
+ghost use Rattle.fdmt_carry.specs.Carrying.{Carrying, AreThere, IsOpened, IsFed, IsBegun, IsRowOn, IsStream, AreNext, StandsForSamples, StandsMidway, IsSound, carrying};
 
-use crate::lead::LEAD;
-use crate::samples::Samples;
 use crate::tables::Tables;
 use psr_base::Memory;
-use search_model::{nothing_before, whole_band_is_path_sum};
+use row_schedule::{Samples, nothing_kept, running_begins, running_ends};
+use search_model::whole_band_is_path_sum;
 use std::alloc::Global;
 use std::marker::Model;
-use subband_plan::Plan;
+use subband_plan::{Plan, plans_are_laid, rows_begin_empty};
 
 /// The tables of a plan over a stream of spectra that is fed chunk by chunk. Of each row are kept between two calls as
-/// many values as later spectra need, or some more. Some values in front of `kept`, `values` and `narrow` are not used.
+/// many values as later spectra need, or some more.
+///
+/// `feed` and `take` make the rows of all nodes, which then stand. A pass makes only those of the whole band, one after
+/// another by their delays: `begin`, `make_row` for each delay, with `made` to read the row, and `finish`.
 #[derive(Drop)]
 pub struct Carry {
     tables: Tables,
@@ -28,20 +30,22 @@ pub struct Carry {
     fed: u64,
     last: u32,
     has_tables: bool,
-    kept: Vec<u32>,
-    values: Vec<u32>,
+    is_passing: bool,
+    next: u32,
     narrow: Vec<u16>,
+    values: Vec<u32>,
+    kept_narrow: Vec<u16>,
+    kept: Vec<u32>,
 }
 
 impl Model for Carry {
     ghost Value = { Carrying };
 
-    ghost view = { λ c. carrying c.tables c.max_sample c.fed c.last c.has_tables
-        (drop LEAD c.kept.items) (drop LEAD c.values.items) };
+    ghost view = { λ c. carrying c.tables c.max_sample c.fed c.last c.has_tables c.is_passing c.next
+        (stores c.narrow.items c.values.items c.kept_narrow.items c.kept.items) };
 
     ghost invariant = { λ c. IsSound (carrying c.tables c.max_sample c.fed c.last c.has_tables
-        (drop LEAD c.kept.items) (drop LEAD c.values.items))
-        (length c.kept.items) (length c.values.items) (length c.narrow.items) };
+        c.is_passing c.next (stores c.narrow.items c.values.items c.kept_narrow.items c.kept.items)) };
 }
 
 impl Carry {
@@ -50,101 +54,204 @@ impl Carry {
         requires some { 1 ≤ chunk }
         requires most { chunk ≤ 65536 }
         requires fits { max_sample * (channels_of plan.edges + plan.last) < 2 ^ 32 }
-        ensures opened { IfOk result (λ c. IsOpened c plan chunk max_sample) }
+        ensures opened { IfOk result (λ c. IsOpened c plan chunk chunk max_sample) }
         ensures stands { IfOk result (λ c. (f : Filterbank) → IsStream plan max_sample f
             → StandsForSamples c f) }
     {
-        nothing_before();
-        let tables = Tables::of(alloc, plan, chunk)?;
-        tables.hold();
-        tables.whole_of();
+        Carry::open_passing(alloc, plan, chunk, chunk, max_sample)
+    }
+
+    /// Takes the memory for passes over up to `chunk` spectra of samples up to `max_sample`, and for calls that make the
+    /// tables of all nodes of up to `most` spectra.
+    pub fn open_passing(
+        alloc: Global,
+        plan: Plan,
+        chunk: u32,
+        most: u32,
+        max_sample: u32,
+    ) -> Result<Carry, Memory>
+        requires some { 1 ≤ chunk }
+        requires short { chunk ≤ 65536 }
+        requires within { most ≤ chunk }
+        requires fits { max_sample * (channels_of plan.edges + plan.last) < 2 ^ 32 }
+        ensures opened { IfOk result (λ c. IsOpened c plan chunk most max_sample) }
+        ensures stands { IfOk result (λ c. (f : Filterbank) → IsStream plan max_sample f
+            → StandsForSamples c f) }
+    {
+        nothing_kept();
+        rows_begin_empty();
+        let tables = Tables::of(alloc, plan, chunk, most, max_sample)?;
+        let narrow = vec![in alloc; 0; tables.narrow_size()]?;
+        let values = vec![in alloc; 0; tables.wide_size()]?;
+        let kept_narrow = narrow_zeros(alloc, tables.kept_size())?;
         let kept = zeros(alloc, tables.kept_size())?;
-        let values = zeros(alloc, tables.size())?;
-        let narrow = vec![in alloc; 0; tables.narrow_size(max_sample)]?;
+        tables.hold();
         Ok(Carry {
             tables,
             max_sample,
             fed: 0,
             last: 0,
             has_tables: false,
-            kept,
-            values,
+            is_passing: false,
+            next: 0,
             narrow,
+            values,
+            kept_narrow,
+            kept,
         })
     }
 
     /// Takes the next spectra: row `c` of `rows` begins at `c * chunk`, with their samples in channel `c`, the highest
-    /// frequency first. The tables of all nodes stand after it.
+    /// frequency first. The tables of all nodes stand after it. Where the carry was opened by `open`, the spectra may be
+    /// as many as a chunk.
     pub fn feed(&mut self, rows: &[u32], spectra: u32)
         requires rows { length rows.now
             ≡ channels_of self.old.tables.plan.edges * self.old.tables.chunk }
-        requires short { spectra ≤ self.old.tables.chunk }
+        requires short { spectra ≤ self.old.tables.most }
         requires few { self.old.fed + spectra ≤ 2 ^ 48 }
+        requires whole { self.old.is_passing ≡ false }
         ensures fed { IsFed self.old self.new spectra }
         ensures tables { self.new.has_tables ≡ true }
         ensures stands { (f : Filterbank) → StandsForSamples self.old f
             → AreNext self.old f rows.now spectra → StandsForSamples self.new f }
     {
-        self.take(Samples::Words(rows), spectra, true);
+        self.take(Samples::Words(rows), spectra);
     }
 
-    /// Takes the next spectra as `feed` does, but only the rows of the whole band stand after it.
-    pub fn pass(&mut self, rows: &[u32], spectra: u32)
-        requires rows { length rows.now
-            ≡ channels_of self.old.tables.plan.edges * self.old.tables.chunk }
-        requires short { spectra ≤ self.old.tables.chunk }
+    /// Takes the next spectra as `feed` does: the samples of channel `c`, the highest frequency first, begin at
+    /// `c * chunk`.
+    pub fn take(&mut self, samples: Samples<'_>, spectra: u32)
+        requires rows { AreThere self.old (values_of samples) spectra }
+        requires short { spectra ≤ self.old.tables.most }
         requires few { self.old.fed + spectra ≤ 2 ^ 48 }
+        requires whole { self.old.is_passing ≡ false }
         ensures fed { IsFed self.old self.new spectra }
-        ensures tables { self.new.has_tables ≡ false }
-        ensures stands { (f : Filterbank) → StandsForSamples self.old f
-            → AreNext self.old f rows.now spectra → StandsForSamples self.new f }
-    {
-        self.take(Samples::Words(rows), spectra, false);
-    }
-
-    /// Takes the next spectra: the samples of channel `c`, the highest frequency first, begin at `c * chunk`.
-    /// `with_tables` says whether the tables of all nodes stand after it, or only the rows of the whole band.
-    pub fn take(&mut self, samples: Samples<'_>, spectra: u32, with_tables: bool)
-        requires rows { length (values_of samples)
-            ≡ channels_of self.old.tables.plan.edges * self.old.tables.chunk }
-        requires short { spectra ≤ self.old.tables.chunk }
-        requires few { self.old.fed + spectra ≤ 2 ^ 48 }
-        ensures fed { IsFed self.old self.new spectra }
-        ensures tables { self.new.has_tables ≡ with_tables }
+        ensures tables { self.new.has_tables ≡ true }
         ensures stands { (f : Filterbank) → StandsForSamples self.old f
             → AreNext self.old f (values_of samples.entry) spectra → StandsForSamples self.new f }
     {
         self.tables.hold();
-        self.tables.whole_of();
-        let values = self.values.as_mut_slice();
-        let kept = self.kept.as_mut_slice();
-        let narrow = self.narrow.as_mut_slice();
-        self.tables.fill_all(
-            values,
-            kept,
+        self.tables.fill(
+            self.narrow.as_mut_slice(),
+            self.values.as_mut_slice(),
+            self.kept_narrow.as_mut_slice(),
+            self.kept.as_mut_slice(),
             samples,
             spectra as usize,
-            with_tables,
-            self.max_sample,
-            narrow,
         );
         self.fed += u64::from(spectra);
         self.last = spectra;
-        self.has_tables = with_tables;
+        self.has_tables = true;
     }
 
-    /// How many spectra were taken in all.
+    /// Begins a pass over the next spectra, so many.
+    pub fn begin(&mut self, spectra: u32)
+        requires short { spectra ≤ self.old.tables.chunk }
+        requires few { self.old.fed + spectra ≤ 2 ^ 48 }
+        requires whole { self.old.is_passing ≡ false }
+        ensures begun { IsBegun self.old self.new spectra }
+        ensures stands { (f : Filterbank) → StandsForSamples self.old f
+            → StandsMidway self.new f }
+    {
+        running_begins();
+        self.tables.hold();
+        let (first, _) = self.tables.delays();
+        self.next = first;
+        self.last = spectra;
+        self.has_tables = false;
+        self.is_passing = true;
+    }
+
+    /// Makes the row of the whole band of the next delay, from the samples of the spectra that the pass goes over: those
+    /// of channel `c`, the highest frequency first, begin at `c * chunk`.
+    pub fn make_row(&mut self, samples: Samples<'_>)
+        requires rows { AreThere self.old (values_of samples) self.old.last }
+        requires passing { self.old.is_passing ≡ true }
+        requires more { self.old.next ≤ self.old.tables.plan.last }
+        ensures row_on { IsRowOn self.old self.new }
+        ensures stands { (f : Filterbank) → StandsMidway self.old f
+            → AreNext self.old f (values_of samples.entry) self.old.last
+            → StandsMidway self.new f }
+    {
+        self.tables.hold();
+        self.tables.make_row(
+            self.next,
+            self.narrow.as_mut_slice(),
+            self.values.as_mut_slice(),
+            self.kept_narrow.as_mut_slice(),
+            self.kept.as_mut_slice(),
+            samples,
+            self.last as usize,
+        );
+        self.next += 1;
+    }
+
+    /// The row that was made last: the path sums of its delay that end at the spectra of the pass.
+    pub fn made(&self) -> &[u32]
+        requires passing { self.now.is_passing ≡ true }
+        requires some { self.now.tables.plan.first < self.now.next }
+        ensures long { length result.now ≡ self.now.last }
+        ensures sums { (f : Filterbank) (k : ℕ) → StandsMidway self.now f → k < self.now.last
+            → slice_index result.now k
+            ≡ path_sum f self.now.tables.plan.edges (self.now.fed + k) (self.now.next - 1) }
+    {
+        self.tables
+            .made(self.next - 1, self.values.as_slice(), self.last as usize)
+    }
+
+    /// Ends the pass, all rows of which were made.
+    pub fn finish(&mut self)
+        requires passing { self.old.is_passing ≡ true }
+        requires all { self.old.next ≡ self.old.tables.plan.last + 1 }
+        ensures fed { IsFed self.old self.new self.old.last }
+        ensures tables { self.new.has_tables ≡ false }
+        ensures stands { (f : Filterbank) → StandsMidway self.old f → StandsForSamples self.new f }
+    {
+        running_ends();
+        self.tables.hold();
+        self.fed += u64::from(self.last);
+        self.is_passing = false;
+    }
+
+    /// A whole pass over the next spectra: only what is kept stands after it.
+    pub fn pass(&mut self, samples: Samples<'_>, spectra: u32)
+        requires rows { AreThere self.old (values_of samples) spectra }
+        requires short { spectra ≤ self.old.tables.chunk }
+        requires few { self.old.fed + spectra ≤ 2 ^ 48 }
+        requires whole { self.old.is_passing ≡ false }
+        ensures fed { IsFed self.old self.new spectra }
+        ensures tables { self.new.has_tables ≡ false }
+        ensures stands { (f : Filterbank) → StandsForSamples self.old f
+            → AreNext self.old f (values_of samples.entry) spectra → StandsForSamples self.new f }
+    {
+        self.begin(spectra);
+        let (first, last) = self.tables.delays();
+        for d in first..last + 1 {
+            prove!(self.next == d);
+            self.make_row(samples);
+        }
+        self.finish();
+    }
+
+    /// How many spectra were taken in all; those of a pass once it has ended.
     pub fn fed(&self) -> u64
         ensures { result ≡ self.now.fed }
     {
         self.fed
     }
 
-    /// Whether the last call that took spectra was to make the tables of all nodes, so that these stand.
+    /// Whether the tables of all nodes stand.
     pub fn has_tables(&self) -> bool
         ensures { result ≡ self.now.has_tables }
     {
         self.has_tables
+    }
+
+    /// Of how many spectra a call can make the tables of all nodes at most.
+    pub fn most(&self) -> u32
+        ensures { result ≡ self.now.tables.most }
+    {
+        self.tables.most()
     }
 
     /// The plan that it was opened with.
@@ -154,24 +261,24 @@ impl Carry {
         self.tables.plan()
     }
 
-    /// The path sums of delay `d` that end at the spectra of the last call.
+    /// The path sums of delay `d` that end at the spectra of the last call, which made all tables.
     pub fn row(&self, d: u32) -> &[u32]
-        requires { HasRow (root self.now.tables.plan) d }
+        requires tables { self.now.has_tables ≡ true }
+        requires row { HasRow (root self.now.tables.plan) d }
         ensures long { length result.now ≡ self.now.last }
         ensures sums { (f : Filterbank) (k : ℕ) → StandsForSamples self.now f → k < self.now.last
             → slice_index result.now k
             ≡ path_sum f self.now.tables.plan.edges (self.now.fed - self.now.last + k) d }
     {
-        self.tables.hold();
-        self.tables.whole_of();
-        self.tables.plain();
         whole_band_is_path_sum();
-        let place = self.tables.place(0, d);
-        part(self.values.as_slice(), LEAD + place, self.last as usize)
+        plans_are_laid();
+        self.tables.hold();
+        self.table(0, d)
     }
 
-    /// The path sum of delay `d` that ends at the `k`-th spectrum of the last call.
+    /// The path sum of delay `d` that ends at the `k`-th spectrum of the last call, which made all tables.
     pub fn sum(&self, d: u32, k: u32) -> u32
+        requires tables { self.now.has_tables ≡ true }
         requires row { HasRow (root self.now.tables.plan) d }
         requires spectrum { k < self.now.last }
         ensures { (f : Filterbank) → StandsForSamples self.now f → result
@@ -191,11 +298,8 @@ impl Carry {
             ≡ node_sum f self.now.tables.plan.edges (node_of self.now.tables k).lo
             (node_of self.now.tables k).hi d (self.now.fed - self.now.last + i) 0 }
     {
-        self.tables.hold();
-        self.tables.whole_of();
-        self.tables.plain();
-        let place = self.tables.place(k, d);
-        part(self.values.as_slice(), LEAD + place, self.last as usize)
+        self.tables
+            .table(k, d, self.values.as_slice(), self.last as usize)
     }
 }
 
@@ -206,12 +310,9 @@ fn zeros(alloc: Global, count: usize) -> Result<Vec<u32>, Memory>
     Ok(vec![in alloc; 0; count]?)
 }
 
-// So many values from a place on.
-fn part(values: &[u32], place: usize, count: usize) -> &[u32]
-    requires { place + count ≤ length values.now }
-    ensures long { length result.now ≡ count }
-    ensures values { (k : ℕ) → k < count
-        → slice_index result.now k ≡ slice_index values.now (place + k) }
+// So many zeros of 16 bits.
+fn narrow_zeros(alloc: Global, count: usize) -> Result<Vec<u16>, Memory>
+    ensures { IfOk result (λ v. v.items ≡ replicate count 0) }
 {
-    &values[place..place + count]
+    Ok(vec![in alloc; 0; count]?)
 }

@@ -3,11 +3,13 @@
 //! Source: Zackay & Ofek, ApJ 835:11, 2017.
 #![tactic(auto)]
 
+mod building;
 mod carry;
-mod lead;
-mod rows;
-mod samples;
+mod draft;
+mod numbers;
+mod passing;
+mod plain;
 mod tables;
 
 pub use carry::Carry;
-pub use samples::Samples;
+pub use row_schedule::Samples;

@@ -1,417 +1,257 @@
-// The tables of a plan: where their rows stand, and what is known of them.
-ghost use Rattle.std.specs.Prelude.{true, false, ◌≡◌, ℕ, ◌+◌, ◌-◌, ◌*◌, ◌<◌, ◌≤◌, IfOk};
-ghost use Rattle.subband_plan.specs.Nodes.{HasKept, split_of};
-ghost use Rattle.fdmt_carry.specs.Tables.{Tables as TablesOf, AreTables, IsRow, node_of, node_count, all_rows, held_at, place_at, tail_of, start_of, row_number, place_of, hold_of, next_of, stop_of, tables as tables_of};
-ghost use Rattle.fdmt_carry.specs.Making.{IsPair, IsSingle, IsWide, StepsAt, IsMerge, IsRunOn, IsPart, AreParts, lower_of};
-ghost use Rattle.fdmt_carry.specs.Reading.{IsWhole, ArePlain};
-ghost use Rattle.fdmt_carry.specs.Steps.{IsStep, MakesRow, AreSteps, made_of};
+// The tables of a plan, which are made by two schedules.
+ghost use Rattle.std.specs.Prelude.{◌≡◌, ◌+◌, ◌-◌, ◌*◌, ◌≤◌, ◌<◌, length, IfOk};
+ghost use Rattle.band_paths.specs.Edges.{channels_of};
+ghost use Rattle.row_schedule.specs.Running.{HaveRoom, stores};
+ghost use Rattle.row_schedule.specs.Samples.{values_of};
+ghost use Rattle.subband_plan.specs.Nodes.{IsPlan, HasRow, root};
+ghost use Rattle.fdmt_carry.specs.Orders.{AreLow};
+ghost use Rattle.fdmt_carry.specs.Tables.{AreTables, node_of, node_count, stop_at};
+ghost use Rattle.fdmt_carry.specs.Making.{Fills, MakesRow, ReadsBand, ReadsNode};
 
-mod filling;
-mod narrow;
-mod nodes;
-mod steps;
-mod widening;
-
-use self::steps::{Step, all_steps};
-use crate::lead::LEAD;
+use crate::numbers::{place_in_order, row_number, whole_band};
+use crate::passing::Passing;
+use crate::plain::plain_schedule;
 use psr_base::Memory;
-use search_model::{
-    halves_add, nothing_before, one_channel_adds, one_channel_is_its_sample, splits_fit,
-    splits_step, time_shifts,
-};
+use row_schedule::{Samples, Schedule, narrow_kept, running_begins, running_ends, widen_kept};
+use search_model::splits_fit;
 use std::alloc::Global;
 use std::marker::Model;
 use subband_plan::{
-    Merge, Node, Plan, Rows, asked_rows_are_there, plans_are_laid, rows_are_few, rows_are_numbered,
+    Plan, PlanRows, band_rows_are_path_sums, plans_are_laid, rows_add_up, rows_are_bounded,
+    rows_are_numbered,
 };
 
-/// The tables of a plan, for up to `chunk` spectra at a time. Where all stand, the rows stand one after another, each
-/// behind what is kept of it. How each row is made is reckoned once.
+/// The tables of a plan.
 #[derive(Drop)]
 pub struct Tables {
     plan: Plan,
-    rows: Rows,
     chunk: u32,
-    steps: Vec<Step>,
+    most: u32,
+    rows: PlanRows,
+    plain: Schedule,
+    passing: Passing,
 }
 
 impl Model for Tables {
-    ghost Value = { TablesOf };
+    ghost use Rattle.fdmt_carry.specs.Tables.{Tables, AreTables, tables};
 
-    ghost view = { λ t. tables_of t.plan t.rows t.chunk };
+    ghost Value = { Tables };
 
-    ghost invariant = { λ t. AreTables (tables_of t.plan t.rows t.chunk)
-        × AreSteps (tables_of t.plan t.rows t.chunk) (all_rows (tables_of t.plan t.rows t.chunk))
-        t.steps.items };
+    ghost view = { λ t. tables t.plan t.chunk t.most t.rows t.plain t.passing.schedule
+        t.passing.stops.items };
+
+    ghost invariant = { λ t. AreTables (tables t.plan t.chunk t.most t.rows t.plain t.passing.schedule
+        t.passing.stops.items) t.passing.narrow.items };
 }
 
 impl Tables {
-    /// The tables of a plan.
-    pub fn of(alloc: Global, plan: Plan, chunk: u32) -> Result<Tables, Memory>
-        requires some { 1 ≤ chunk }
-        requires most { chunk ≤ 65536 }
+    /// The tables of a plan, for up to `chunk` spectra at a time, and up to `most` where the rows of all nodes are made,
+    /// of samples up to `max_sample`.
+    pub fn of(
+        alloc: Global,
+        plan: Plan,
+        chunk: u32,
+        most: u32,
+        max_sample: u32,
+    ) -> Result<Tables, Memory>
+        requires short { chunk ≤ 65536 }
+        requires within { most ≤ chunk }
         ensures plan { IfOk result (λ t. t.plan ≡ plan) }
         ensures chunk { IfOk result (λ t. t.chunk ≡ chunk) }
+        ensures most { IfOk result (λ t. t.most ≡ most) }
+        ensures low { IfOk result (λ t. AreLow t.plan t.rows t.passing.narrow max_sample) }
     {
-        plans_are_laid();
-        rows_are_numbered();
-        rows_are_few();
-        let rows = Rows::of(alloc, &plan)?;
-        let steps = all_steps(alloc, &plan, &rows, chunk)?;
+        let rows = PlanRows::of(alloc, &plan)?;
+        let plain = plain_schedule(alloc, &plan, &rows, chunk, most)?;
+        let passing = Passing::of(alloc, &plan, &rows, chunk, max_sample)?;
+        let _ = plan.edges();
         Ok(Tables {
             plan,
-            rows,
             chunk,
-            steps,
+            most,
+            rows,
+            plain,
+            passing,
         })
     }
 
+    /// What holds of tables. It does nothing.
+    pub fn hold(&self)
+        ensures { AreTables self.now self.now.passing.narrow }
+    {
+        let _ = &self.plan;
+    }
+
+    /// The plan.
     pub fn plan(&self) -> &Plan
         ensures { result.now ≡ self.now.plan }
     {
         &self.plan
     }
 
-    /// What holds of tables; it does nothing.
-    pub fn hold(&self)
-        ensures { AreTables self.now }
+    /// Of how many spectra the rows of all nodes are made at most.
+    pub fn most(&self) -> u32
+        ensures { result ≡ self.now.most }
     {
-        let _chunk = self.chunk;
+        self.most
     }
 
-    fn nodes(&self) -> usize
-        ensures { result ≡ node_count self.now }
+    /// The first and the last delay of the whole band.
+    pub fn delays(&self) -> (u32, u32)
+        ensures first { result.0 ≡ self.now.plan.first }
+        ensures last { result.1 ≡ self.now.plan.last }
+        ensures plan { IsPlan self.now.plan }
     {
-        self.plan.nodes()
+        let band = whole_band(&self.plan);
+        (band.first_row, band.last_row)
     }
 
-    fn node(&self, k: usize) -> Node
-        requires { k < node_count self.now }
-        ensures { result ≡ node_of self.now k }
+    // How many orders of a pass come before the row of delay `d` of the whole band is made.
+    fn stop(&self, d: u32) -> usize
+        requires from { self.now.plan.first ≤ d }
+        requires to { d ≤ self.now.plan.last + 1 }
+        ensures { result ≡ stop_at self.now d }
     {
-        self.plan.node(k)
+        let (first, _) = self.delays();
+        self.passing.stops[(d - first) as usize]
     }
 
-    fn chunk(&self) -> usize
-        ensures { result ≡ self.now.chunk }
+    /// How many values of 16 bits there are to be in which rows are made.
+    pub fn narrow_size(&self) -> usize
+        ensures plain { self.now.plain.narrow_size ≤ result }
+        ensures passing { self.now.passing.narrow_size ≤ result }
     {
-        self.chunk as usize
+        self.plain
+            .narrow_size()
+            .max(self.passing.schedule.narrow_size())
     }
 
-    // Whether node `k` is a single channel.
-    fn is_single(&self, k: usize) -> bool
-        requires { k < node_count self.now }
-        ensures one { result ≡ true → IsSingle self.now k }
-        ensures two { result ≡ false → IsPair self.now k }
+    /// How many values of 32 bits there are to be in which rows are made.
+    pub fn wide_size(&self) -> usize
+        ensures plain { self.now.plain.wide_size ≤ result }
+        ensures passing { self.now.passing.wide_size ≤ result }
     {
-        self.hold();
-        let node = self.node(k);
-        node.hi - node.lo < 2
+        self.plain
+            .wide_size()
+            .max(self.passing.schedule.wide_size())
     }
 
-    // Whether both halves of node `k` have two channels or more, where their tables are not to stand.
-    fn is_wide(&self, k: usize, whole: bool) -> bool
-        requires { k < node_count self.now }
-        ensures alone { result ≡ true → whole ≡ false }
-        ensures wide { result ≡ true → IsWide self.now k }
-    {
-        if whole {
-            return false;
-        }
-        self.hold();
-        let node = self.node(k);
-        node.hi - node.lo >= 4
-    }
-
-    // The lower half of node `k`.
-    fn lower(&self, k: usize) -> usize
-        requires { k < node_count self.now }
-        ensures { result ≡ lower_of self.now k }
-    {
-        self.hold();
-        self.node(k).lower_number(k)
-    }
-
-    /// The first node is the whole band; it does nothing.
-    pub fn whole_of(&self)
-        ensures { IsWhole self.now }
-    {
-        self.hold();
-    }
-
-    /// Where no sum over the band passes 32 bits, the values are the sums; it does nothing.
-    pub fn plain(&self)
-        ensures { ArePlain self.now }
-    {
-        self.hold();
-        halves_add();
-        one_channel_adds();
-        one_channel_is_its_sample();
-        nothing_before();
-        splits_fit();
-        time_shifts();
-        asked_rows_are_there();
-    }
-
-    // Where node `k` ends, and where it ends with all nodes below it; it does nothing.
-    fn part_of(&self, k: usize)
-        requires { k < node_count self.now }
-        ensures { IsPart self.now k }
-    {
-        self.hold();
-    }
-
-    // Where the halves of node `k` stand; it does nothing.
-    fn parts_of(&self, k: usize)
-        requires { IsPair self.now k }
-        ensures { AreParts self.now k }
-    {
-        self.hold();
-    }
-
-    // The number of the first row of node `k`.
-    fn start(&self, k: usize) -> usize
-        requires { k ≤ node_count self.now }
-        ensures value { result ≡ start_of self.now k }
-        ensures within { start_of self.now k ≤ all_rows self.now }
-    {
-        self.hold();
-        self.rows.starts[k]
-    }
-
-    // How many values are kept of row `r`.
-    fn tail(&self, r: usize) -> usize
-        requires { r < all_rows self.now }
-        ensures { result ≡ tail_of self.now r }
-    {
-        self.rows.tails[r] as usize
-    }
-
-    // Where these begin.
-    fn held(&self, r: usize) -> usize
-        requires { r ≤ all_rows self.now }
-        ensures { result ≡ held_at self.now r }
-    {
-        self.rows.held[r]
-    }
-
-    // Where row `r` begins: each has what is kept of it, and a chunk.
-    #[tactic(auto, unfolding(crate::specs::Tables::place_at))]
-    fn place_at(&self, r: usize) -> usize
-        requires { r ≤ all_rows self.now }
-        ensures { result ≡ place_at self.now r }
-    {
-        r * self.chunk as usize + self.held(r)
-    }
-
-    /// How many values all rows have, and those in front of them.
-    pub fn size(&self) -> usize
-        ensures { result ≡ LEAD + place_at self.now (all_rows self.now) }
-    {
-        self.hold();
-        LEAD + self.place_at(self.rows.tails.len())
-    }
-
-    /// How many values are kept of all rows, and those in front of them.
+    /// How many values there are to be of what is kept, of 16 and of 32 bits.
     pub fn kept_size(&self) -> usize
-        ensures { result ≡ LEAD + held_at self.now (all_rows self.now) }
+        ensures plain { self.now.plain.kept_size ≤ result }
+        ensures passing { self.now.passing.kept_size ≤ result }
     {
+        self.plain
+            .kept_size()
+            .max(self.passing.schedule.kept_size())
+    }
+
+    /// Makes the rows of all nodes, with the sums that end at the next spectra.
+    pub fn fill(
+        &self,
+        narrow: &mut [u16],
+        wide: &mut [u32],
+        kept_narrow: &mut [u16],
+        kept: &mut [u32],
+        samples: Samples<'_>,
+        spectra: usize,
+    )
+        requires plain_room { HaveRoom self.now.plain
+            (stores narrow.old wide.old kept_narrow.old kept.old) }
+        requires passing_room { HaveRoom self.now.passing
+            (stores narrow.old wide.old kept_narrow.old kept.old) }
+        requires samples { channels_of self.now.plan.edges * self.now.chunk
+            ≤ length (values_of samples) + (self.now.chunk - spectra) }
+        requires short { spectra ≤ self.now.most }
+        ensures { Fills self.now spectra (values_of samples.entry)
+            (stores narrow.old wide.old kept_narrow.old kept.old)
+            (stores narrow.new wide.new kept_narrow.new kept.new) }
+    {
+        rows_add_up();
+        rows_are_bounded();
+        running_begins();
+        running_ends();
+        let widths = self.passing.narrow.as_slice();
+        widen_kept(&self.rows.rows, widths, kept_narrow, kept);
+        self.plain.run(
+            0,
+            self.plain.orders(),
+            narrow,
+            wide,
+            kept_narrow,
+            kept,
+            samples,
+            spectra,
+        );
+        narrow_kept(&self.rows.rows, widths, kept, kept_narrow);
+    }
+
+    /// Makes what comes before the row of delay `d` of the whole band, and this row.
+    pub fn make_row(
+        &self,
+        d: u32,
+        narrow: &mut [u16],
+        wide: &mut [u32],
+        kept_narrow: &mut [u16],
+        kept: &mut [u32],
+        samples: Samples<'_>,
+        spectra: usize,
+    )
+        requires row { HasRow (root self.now.plan) d }
+        requires room { HaveRoom self.now.passing
+            (stores narrow.old wide.old kept_narrow.old kept.old) }
+        requires samples { channels_of self.now.plan.edges * self.now.chunk
+            ≤ length (values_of samples) + (self.now.chunk - spectra) }
+        requires short { spectra ≤ self.now.chunk }
+        ensures { MakesRow self.now d spectra (values_of samples.entry)
+            (stores narrow.old wide.old kept_narrow.old kept.old)
+            (stores narrow.new wide.new kept_narrow.new kept.new) }
+    {
+        rows_add_up();
+        rows_are_bounded();
+        plans_are_laid();
+        rows_are_numbered();
         self.hold();
-        LEAD + self.held(self.rows.tails.len())
+        let (from, to) = (self.stop(d), self.stop(d + 1));
+        self.passing.schedule.run(from, to, narrow, wide, kept_narrow, kept, samples, spectra);
     }
 
-    // The number of the row of delay `d` of node `k`.
-    fn number(&self, k: usize, d: u32) -> usize
-        requires node { k < node_count self.now }
-        requires row { HasKept (node_of self.now k) d }
-        ensures value { result ≡ row_number self.now k d }
-        ensures row { IsRow self.now k result }
+    /// The row of delay `d` of the whole band, which was made last.
+    pub fn made<'a>(&self, d: u32, wide: &'a [u32], spectra: usize) -> &'a [u32]
+        requires row { HasRow (root self.now.plan) d }
+        requires room { self.now.passing.wide_size ≤ length wide.now }
+        requires short { spectra ≤ self.now.chunk }
+        ensures long { length result.now ≡ spectra }
+        ensures sums { ReadsBand self.now d spectra wide.now result.now }
     {
-        self.hold();
-        self.start(k) + (d - self.node(k).least_row()) as usize
-    }
-
-    /// Where the sums of the row of delay `d` of node `k` begin.
-    pub fn place(&self, k: usize, d: u32) -> usize
-        requires node { k < node_count self.now }
-        requires row { HasKept (node_of self.now k) d }
-        ensures value { result ≡ place_at self.now (row_number self.now k d)
-            + tail_of self.now (row_number self.now k d) }
-        ensures room { result + self.now.chunk ≤ place_at self.now (all_rows self.now) }
-    {
-        self.hold();
-        let r = self.number(k, d);
-        self.place_at(r) + self.tail(r)
-    }
-
-    // The node after node `k` and those below it.
-    fn next(&self, k: usize) -> usize
-        requires { k < node_count self.now }
-        ensures value { result ≡ next_of self.now k }
-        ensures above { k < result }
-        ensures within { result ≤ node_count self.now }
-    {
-        self.hold();
-        let node = self.node(k);
-        k + (2 * (node.hi - node.lo) as usize - 1)
-    }
-
-    // The node after those whose tables stand where node `k` is made: with all below it, or alone.
-    fn stop(&self, k: usize, whole: bool) -> usize
-        requires { k < node_count self.now }
-        ensures value { result ≡ stop_of self.now whole k }
-        ensures above { k < result }
-        ensures within { result ≤ node_count self.now }
-        ensures end { place_of self.now result ≤ place_of self.now (next_of self.now k) }
-        ensures start { place_of self.now (k + 1) ≤ place_of self.now result }
-    {
-        self.hold();
-        self.part_of(k);
-        if whole { self.next(k) } else { k + 1 }
-    }
-
-    // How many values the rows of the nodes from `from` up to `to` have.
-    fn span(&self, from: usize, to: usize) -> usize
-        requires order { from ≤ to }
-        requires node { to ≤ node_count self.now }
-        ensures { place_of self.now from + result ≡ place_of self.now to }
-    {
-        self.hold();
-        self.place_at(self.start(to)) - self.place_at(self.start(from))
-    }
-
-    // How many values are kept of the rows of the nodes from `from` up to `to`.
-    fn kept_span(&self, from: usize, to: usize) -> usize
-        requires order { from ≤ to }
-        requires node { to ≤ node_count self.now }
-        ensures { hold_of self.now from + result ≡ hold_of self.now to }
-    {
-        self.hold();
-        self.held(self.start(to)) - self.held(self.start(from))
-    }
-
-    // How many values the rows of the lower half of node `k` have.
-    fn lower_span(&self, k: usize) -> usize
-        requires { IsPair self.now k }
-        ensures { place_of self.now (lower_of self.now k) + result
-            ≡ place_of self.now (lower_of self.now k + 1) }
-    {
-        self.hold();
-        self.parts_of(k);
-        let low = self.lower(k);
-        self.span(low, low + 1)
-    }
-
-    // Where row `r` stands, which is that of delay `d` of node `k`; it does nothing.
-    fn row_of(&self, k: usize, d: u32, r: usize)
-        requires node { k < node_count self.now }
-        requires row { HasKept (node_of self.now k) d }
-        requires number { r ≡ row_number self.now k d }
-        ensures { IsRow self.now k r }
-    {
-        self.hold();
-    }
-
-    // What row `r` is made of.
-    fn merge_at(&self, r: usize) -> Merge
-        requires { r < all_rows self.now }
-        ensures { result ≡ made_of self.now r }
-    {
-        self.rows.merges[r]
-    }
-
-    // What row `r` is made of, which is that of delay `d` of node `k`.
-    fn merge_of(&self, k: usize, d: u32, r: usize) -> Merge
-        requires node { IsPair self.now k }
-        requires row { HasKept (node_of self.now k) d }
-        requires number { r ≡ row_number self.now k d }
-        ensures { IsMerge self.now k d result }
-    {
-        self.row_of(k, d, r);
-        self.pair_of(k, d, r);
-        self.merge_at(r)
-    }
-
-    // What that is like; it does nothing.
-    fn pair_of(&self, k: usize, d: u32, r: usize)
-        requires node { IsPair self.now k }
-        requires row { HasKept (node_of self.now k) d }
-        requires number { r ≡ row_number self.now k d }
-        ensures { IsMerge self.now k d (made_of self.now r) }
-    {
-        self.hold();
-    }
-
-    // What row `r` is made of, which is that of delay `d` of a single channel; it does nothing.
-    fn run_of(&self, k: usize, d: u32, r: usize)
-        requires node { IsSingle self.now k }
-        requires later { 1 ≤ d }
-        requires row { HasKept (node_of self.now k) d }
-        requires number { r ≡ row_number self.now k d }
-        ensures { IsRunOn self.now k d r (made_of self.now r) }
-    {
-        self.hold();
-    }
-
-    // How row `r` is made, which is that of delay `d` of node `k`.
-    fn step_at(&self, k: usize, d: u32, r: usize) -> Step
-        requires node { k < node_count self.now }
-        requires row { HasKept (node_of self.now k) d }
-        requires number { r ≡ row_number self.now k d }
-        ensures { MakesRow self.now k r result }
-    {
-        self.row_of(k, d, r);
-        self.steps[r]
-    }
-
-    // How it is made from rows of the halves of the node.
-    fn pair_step(&self, k: usize, d: u32, r: usize) -> Step
-        requires node { IsPair self.now k }
-        requires row { HasKept (node_of self.now k) d }
-        requires number { r ≡ row_number self.now k d }
-        ensures step { IsStep self.now k (k + 1) (lower_of self.now k) r result }
-        ensures row { IsRow self.now k r }
-        ensures made { IsMerge self.now k d (made_of self.now r) }
-    {
-        self.row_of(k, d, r);
-        self.pair_of(k, d, r);
-        self.step_at(k, d, r)
-    }
-
-    // How it is made from others of a single channel.
-    fn run_step(&self, k: usize, d: u32, r: usize) -> Step
-        requires node { IsSingle self.now k }
-        requires later { 1 ≤ d }
-        requires row { HasKept (node_of self.now k) d }
-        requires number { r ≡ row_number self.now k d }
-        ensures step { IsStep self.now k k k r result }
-        ensures row { IsRow self.now k r }
-        ensures made { IsRunOn self.now k d r (made_of self.now r) }
-    {
-        self.row_of(k, d, r);
-        self.run_of(k, d, r);
-        self.step_at(k, d, r)
-    }
-
-    // How the delays of node `k` are split; it does nothing.
-    fn steps_of(&self, k: usize)
-        requires { IsPair self.now k }
-        ensures { (d : ℕ) → StepsAt self.now k d }
-    {
-        self.hold();
+        rows_add_up();
+        rows_are_bounded();
+        band_rows_are_path_sums();
+        plans_are_laid();
         splits_fit();
-        splits_step();
+        rows_are_numbered();
+        self.hold();
+        let stop = self.stop(d + 1);
+        self.passing
+            .schedule
+            .row(&self.rows.rows, wide, stop - 1, spectra)
     }
 
-    // The delay of the row of the upper half that the row of delay `d` of node `k` is made of.
-    fn upper_delay(&self, k: usize, d: u32, merge: Merge) -> u32
-        requires node { IsPair self.now k }
-        requires merge { IsMerge self.now k d merge }
-        ensures value { result ≡ split_of self.now.plan.edges (node_of self.now k) d }
-        ensures kept { HasKept (node_of self.now (k + 1)) result }
-        ensures number { merge.upper ≡ row_number self.now (k + 1) result }
+    /// The row of delay `d` of node `k`, which was made with those of all nodes.
+    pub fn table<'a>(&self, k: usize, d: u32, wide: &'a [u32], spectra: usize) -> &'a [u32]
+        requires node { k < node_count self.now }
+        requires row { HasRow (node_of self.now k) d }
+        requires room { self.now.plain.wide_size ≤ length wide.now }
+        requires short { spectra ≤ self.now.most }
+        ensures long { length result.now ≡ spectra }
+        ensures sums { ReadsNode self.now k d spectra wide.now result.now }
     {
-        self.steps_of(k);
-        d - merge.late
+        rows_add_up();
+        rows_are_bounded();
+        plans_are_laid();
+        splits_fit();
+        let r = row_number(&self.plan, &self.rows, k, d);
+        let order = place_in_order(&self.plan, &self.rows, k, r);
+        self.plain.row(&self.rows.rows, wide, order, spectra)
     }
 }

@@ -1,0 +1,24 @@
+use Rattle.std.proofs.Common.{◌≡◌, ℕ, ◌+◌, true, false, Bool, subst, sym}
+use Rattle.row_schedule.specs.Running.{stores}
+use Rattle.fdmt_carry.specs.Carrying.{Carrying, StandsForSamples, StandsMidway, carrying}
+use Rattle.fdmt_carry.proofs.Carried.{ended_stands}
+use Rattle.fdmt_carry.proofs.carry.Carry.finish.Goals as goal
+
+pub returns-clause-stands : goal.returns-clause-stands
+returns-clause-stands c = λ f stands.
+    let s = c.self.inside in
+    let t = s.tables in
+    let st = stores s.narrow.items s.values.items s.kept_narrow.items s.kept.items in
+    let before : StandsMidway (carrying t s.max_sample s.fed s.last s.has_tables s.is_passing s.next st) f =
+    subst (λ (x : Carrying). StandsMidway x f) (sym c.self.view_is) stands in
+    let all : s.next ≡ t.plan.last + 1 =
+    subst (λ (x : Carrying). x.next ≡ x.tables.plan.last + 1) (sym c.self.view_is) c.requires.all in
+    let passing : s.is_passing ≡ true =
+    subst (λ (x : Carrying). x.is_passing ≡ true) (sym c.self.view_is) c.requires.passing in
+    let none : s.has_tables ≡ false = c.self.invariant.alone passing in
+    subst (λ (fed : ℕ). StandsForSamples (carrying t s.max_sample (s.fed + fed) s.last s.has_tables false s.next st) f)
+    (sym c.from.ensures)
+    (subst (λ (has : Bool). StandsForSamples (carrying t s.max_sample (s.fed + s.last) s.last has false s.next st) f)
+    (sym none)
+    (ended_stands c.running_ends.ensures t t.passing.narrow s.max_sample s.fed s.last s.next s.next s.has_tables
+    s.is_passing false st f c.hold.ensures all before))

@@ -1,0 +1,171 @@
+// The schedule that makes the rows of the whole band one after another.
+ghost use Rattle.std.specs.Prelude.{◌≡◌, ◌≢◌, ℕ, ◌+◌, ◌-◌, ◌*◌, ◌^◌, ◌≤◌, ◌<◌, true, length, IfOk, IfSome};
+ghost use Rattle.dada_model.specs.Bounds.{most_delay};
+ghost use Rattle.dada_model.specs.Edges.{most_channels};
+ghost use Rattle.subband_plan.specs.Rows.{ArePlanRows};
+ghost use Rattle.fdmt_carry.specs.Orders.{AreLow, AreParts, AreStops, IsStop};
+
+use crate::building::schedule_of;
+use crate::draft::Draft;
+use crate::numbers::{row_number, whole_band};
+use crate::plain::{all_wide, plain_schedule, plain_stops};
+use psr_base::Memory;
+use row_schedule::{Order, Schedule};
+use std::alloc::Global;
+use subband_plan::{Node, Plan, PlanRows};
+
+// A sum that is less than this has 16 bits.
+const NARROW_SUMS: u64 = 65536;
+
+/// The schedule of a pass, which rows it makes in 16 bits, and where it stops.
+#[derive(Drop)]
+pub struct Passing {
+    pub schedule: Schedule,
+    pub narrow: Vec<bool>,
+    pub stops: Vec<usize>,
+}
+
+impl Passing {
+    ghost use Rattle.fdmt_carry.specs.Passing.{IsPass};
+
+    /// The schedule of the rows of a plan over samples up to `max_sample`: the drafted one, or the plain one where that
+    /// can't be carried out or does not show the rows of the whole band by their delays.
+    pub fn of(
+        alloc: Global,
+        plan: &Plan,
+        rows: &PlanRows,
+        chunk: u32,
+        max_sample: u32,
+    ) -> Result<Passing, Memory>
+        requires rows { ArePlanRows plan.now rows.now }
+        requires short { chunk ≤ 65536 }
+        ensures { IfOk result (λ pass. IsPass plan.now rows.now chunk max_sample pass) }
+    {
+        let narrow = narrow_rows(alloc, plan, rows, max_sample)?;
+        let draft = Draft::of(alloc, plan.all_nodes(), rows, narrow.as_slice())?;
+        match Passing::drafted(alloc, plan, rows, chunk, narrow, draft)? {
+            Some(pass) => Ok(pass),
+            None => Passing::plain(alloc, plan, rows, chunk),
+        }
+    }
+
+    // The schedule of a draft.
+    fn drafted(
+        alloc: Global,
+        plan: &Plan,
+        rows: &PlanRows,
+        chunk: u32,
+        narrow: Vec<bool>,
+        draft: Draft,
+    ) -> Result<Option<Passing>, Memory>
+        requires rows { ArePlanRows plan.now rows.now }
+        requires short { chunk ≤ 65536 }
+        requires parts { AreParts rows.now narrow.items }
+        ensures { (m : ℕ) → AreLow plan.now rows.now narrow.items m → IfOk result
+            (λ made. IfSome made (λ pass. IsPass plan.now rows.now chunk m pass)) }
+    {
+        let Draft {
+            orders,
+            slots,
+            stops,
+        } = draft;
+        if !are_stops(plan, rows, orders.as_slice(), stops.as_slice()) {
+            return Ok(None);
+        }
+        let channels = (plan.edges().len() - 1) as u32;
+        let widths = Vec::from_slice(alloc, narrow.as_slice())?;
+        let made = schedule_of(
+            alloc,
+            &rows.rows,
+            widths,
+            slots,
+            orders.as_slice(),
+            channels,
+            chunk,
+            chunk,
+        )?;
+        match made {
+            Some(schedule) => Ok(Some(Passing {
+                schedule,
+                narrow,
+                stops,
+            })),
+            None => Ok(None),
+        }
+    }
+
+    // The plain schedule, which makes the rows of the whole band last.
+    fn plain(alloc: Global, plan: &Plan, rows: &PlanRows, chunk: u32) -> Result<Passing, Memory>
+        requires rows { ArePlanRows plan.now rows.now }
+        requires short { chunk ≤ 65536 }
+        ensures { (m : ℕ) → IfOk result (λ pass. IsPass plan.now rows.now chunk m pass) }
+    {
+        let schedule = plain_schedule(alloc, plan, rows, chunk, chunk)?;
+        Ok(Passing {
+            schedule,
+            narrow: all_wide(alloc, rows.rows.sources.len())?,
+            stops: plain_stops(alloc, plan, rows)?,
+        })
+    }
+}
+
+// Whether the row of a delay of node `k`, which is given, has 16 bits: where no sum of it passes them; those of the whole
+// band have 32.
+fn is_low(k: usize, node: Node, delay: u32, max_sample: u32) -> bool
+    requires order { node.lo ≤ node.hi }
+    requires channels { node.hi ≤ most_channels }
+    requires delays { delay ≤ most_delay }
+    ensures part { result ≡ true → 0 < k }
+    ensures low { result ≡ true → max_sample * (node.hi - node.lo + delay) < 2 ^ 16 }
+{
+    let cells = u64::from(node.hi - node.lo + delay);
+    k > 0 && u64::from(max_sample) * cells < NARROW_SUMS
+}
+
+// Which rows have 16 bits.
+fn narrow_rows(
+    alloc: Global,
+    plan: &Plan,
+    rows: &PlanRows,
+    max_sample: u32,
+) -> Result<Vec<bool>, Memory>
+    requires rows { ArePlanRows plan.now rows.now }
+    ensures low { IfOk result (λ narrow. AreLow plan.now rows.now narrow.items max_sample) }
+    ensures parts { IfOk result (λ narrow. AreParts rows.now narrow.items) }
+{
+    let nodes = plan.all_nodes();
+    let mut narrow = Vec::with_capacity(alloc, rows.nodes.len())?;
+    for r in 0..rows.nodes.len() {
+        let k = rows.nodes[r] as usize;
+        narrow.push(is_low(k, nodes[k], rows.delays[r], max_sample))?;
+    }
+    Ok(narrow)
+}
+
+// Whether an order that makes row `r` is the last one before stop `i + 1`.
+fn is_stop(orders: &[Order], stops: &[usize], i: usize, r: usize) -> bool
+    requires { i + 1 < length stops.now }
+    ensures { result ≡ true → IsStop orders.now stops.now i r }
+{
+    let (from, to) = (stops[i], stops[i + 1]);
+    from < to && to <= orders.len() && orders[to - 1].row as usize == r
+}
+
+// Whether these are the stops of all rows of the whole band.
+fn are_stops(plan: &Plan, rows: &PlanRows, orders: &[Order], stops: &[usize]) -> bool
+    requires rows { ArePlanRows plan.now rows.now }
+    ensures { result ≡ true → AreStops plan.now rows.now orders.now stops.now }
+{
+    let band = whole_band(plan);
+    let count = (band.last_row - band.first_row) as usize + 1;
+    if stops.len() != count + 1 || stops[0] != 0 || stops[count] != orders.len() {
+        return false;
+    }
+    for d in band.first_row..band.last_row + 1 {
+        let i = (d - band.first_row) as usize;
+        if !is_stop(orders, stops, i, row_number(plan, rows, 0, d)) {
+            return false;
+        }
+    }
+    true
+}
