@@ -1,8 +1,8 @@
 -- What a feed leaves, and what boxes read of it.
-use Rattle.std.proofs.Common.{◌≡◌, ℕ, ◌+◌, ◌-◌, ◌*◌, ◌^◌, ◌<◌, ◌≤◌, ◌≢◌, inl, inr, List, length, slice_index, sum, take, drop, set, replicate, ◌++◌, ◌∙◌, sym, ap, subst, arith, length-append, length-take, length-set, append_assoc}
+use Rattle.std.proofs.Common.{◌≡◌, ℕ, ◌+◌, ◌-◌, ◌*◌, ◌^◌, ◌<◌, ◌≤◌, inl, inr, List, length, slice_index, sum, take, drop, replicate, ◌++◌, ◌∙◌, sym, ap, subst, arith, length-append, length-take, append_assoc}
 use Rattle.std.specs.List.{All}
-use Rattle.std.proofs.lemmas.Bool.{cases_lt, cases_eq}
-use Rattle.std.proofs.lemmas.List.{take-take, drop-drop, drop-take, drop-append-le, length-replicate, get_or_past, get_or-drop, get_or-set_same, get_or-set_other}
+use Rattle.std.proofs.lemmas.Bool.{cases_lt}
+use Rattle.std.proofs.lemmas.List.{drop_all, take-take, drop-drop, drop-take, drop-append-le, length-replicate, get_or_past}
 use Rattle.std.proofs.lemmas.List.Elements.{All-from_get_or}
 use Rattle.std.proofs.lemmas.List.Sums.{sum_by-le}
 use Rattle.std.proofs.lemmas.Nat.{pow_below}
@@ -68,50 +68,54 @@ all_up_to bound xs all k = elim (cases_lt k (length xs)) [
   | inr h ↦ subst (λ (x : ℕ). x ≤ bound) (sym (get_or_past xs k 0 h)) (omega arith)
 ]
 
-pub set_up_to : (bound : ℕ) (xs : List ℕ) (at x : ℕ) → x ≤ bound → AreUpTo bound xs → AreUpTo bound (set xs at x)
-set_up_to bound xs at x le all k = elim (cases_lt k (length xs)) [
-  | inl h ↦ elim (cases_eq k at) [
-    | inl same ↦
-        let P : ℕ → Type 0 = λ i. slice_index (set xs at x) i ≤ bound in
-        let inside : at < length xs = omega arith in
-        subst P (sym same) (subst (λ (y : ℕ). y ≤ bound) (sym (get_or-set_same xs at x 0 inside)) le)
-    | inr other ↦ subst (λ (y : ℕ). y ≤ bound) (sym (get_or-set_other xs at k x 0 other)) (all k)
-  ]
-  | inr h ↦
-      let long = length-set xs at x in
-      subst (λ (y : ℕ). y ≤ bound) (sym (get_or_past (set xs at x) k 0 (omega (arith, long)))) (omega arith)
-]
+-- where no value is needed before a feed, none is kept
+pub none_kept : (row xs : List ℕ) (reach : ℕ) → reach ≡ 0 → Keeps row reach 0 xs
+none_kept row xs reach none =
+    subst (λ (r : ℕ). Keeps row r 0 xs) (sym none)
+    (record { some = omega arith; last = sym (drop_all (length xs - 0) xs (omega arith)) })
 
-pub fed_own : (old given new kept fed feed xs : List ℕ) (stride at reach before : ℕ)
-    → given ≡ old → kept ≡ new → at < length fed → before ≡ slice_index fed at
-    → take (reach + length feed) (row_at new stride at) ≡ take reach (drop before (row_at given stride at)) ++ feed
-    → Keeps (row_at old stride at) reach (slice_index fed at) xs
-    → Keeps (row_at kept stride at) reach (slice_index (set fed at (length feed)) at) (xs ++ feed)
-fed_own old given new kept fed feed xs stride at reach before same_old same_new inside is_before is keeps =
-    let count : length feed ≡ slice_index (set fed at (length feed)) at =
-    sym (get_or-set_same fed at (length feed) 0 inside) in
-    let own : take (reach + length feed) (row_at new stride at) ≡ take reach (drop (slice_index fed at)
-    (row_at old stride at)) ++ feed =
-    is
-    ∙ ap (λ ys. take reach (drop before (row_at ys stride at)) ++ feed) same_old
-    ∙ ap (λ n. take reach (drop n (row_at old stride at)) ++ feed) is_before in
-    let P : List ℕ → Type 0 = λ ys. Keeps (row_at ys stride at) reach (length feed) (xs ++ feed) in
-    let Q : ℕ → Type 0 = λ n. Keeps (row_at kept stride at) reach n (xs ++ feed) in
-    subst Q count (subst P (sym same_new) (feeds (row_at old stride at) (row_at new stride at) feed xs reach
-    (slice_index fed at) keeps own))
+-- the line of a feed
+pub line_keeps : (tails line tail feed xs : List ℕ) (reach at : ℕ)
+    → Keeps (row_at tails reach at) reach 0 xs → tail ≡ row_at tails reach at
+    → take (reach + length feed) line ≡ tail ++ feed
+    → Keeps line reach (length feed) (xs ++ feed)
+line_keeps tails line tail feed xs reach at keeps is_tail is =
+    let whole : tail ≡ take reach (drop 0 (row_at tails reach at)) =
+    is_tail ∙ sym (take-take reach reach (drop (at * reach) tails) (omega arith)) in
+    feeds (row_at tails reach at) line feed xs reach 0 keeps (is ∙ ap (λ ys. ys ++ feed) whole)
 
-pub fed_other : (old given new kept fed xs : List ℕ) (stride at e reach n : ℕ)
-    → given ≡ old → kept ≡ new → e ≢ at
-    → row_at new stride e ≡ row_at given stride e
-    → Keeps (row_at old stride e) reach (slice_index fed e) xs
-    → Keeps (row_at kept stride e) reach (slice_index (set fed at n) e) xs
-fed_other old given new kept fed xs stride at e reach n same_old same_new other same keeps =
-    let row : row_at old stride e ≡ row_at kept stride e =
-    sym (ap (λ ys. row_at ys stride e) same_old) ∙ sym same ∙ sym (ap (λ ys. row_at ys stride e) same_new) in
-    let count : slice_index fed e ≡ slice_index (set fed at n) e = sym (get_or-set_other fed at e n 0 other) in
-    let P : List ℕ → Type 0 = λ ys. Keeps ys reach (slice_index fed e) xs in
-    let Q : ℕ → Type 0 = λ n. Keeps (row_at kept stride e) reach n xs in
-    subst Q count (subst P row keeps)
+-- and its last values, for the next feed
+pub tail_keeps : (line row xs : List ℕ) (reach n : ℕ) → Keeps line reach n xs
+    → take reach row ≡ take reach (drop n line) → Keeps row reach 0 xs
+tail_keeps line row xs reach n keeps is =
+    let all = replicate reach 0 ++ xs in
+    let some : n ≤ length xs = keeps.some in
+    record {
+      some = omega arith;
+      last =
+          ap (λ m. take m row) (let e : reach + 0 ≡ reach = omega arith in e)
+          ∙ is
+          ∙ sym (drop-take n reach line)
+          ∙ ap (λ m. drop n (take m line)) (let e : n + reach ≡ reach + n = omega arith in e)
+          ∙ ap (λ ys. drop n ys) keeps.last
+          ∙ drop-drop n (length xs - n) all
+          ∙ ap (λ m. drop m all) (let e : length xs - n + n ≡ length xs - 0 = omega arith in e);
+    }
+
+-- a line that was written to the front of a row
+pub copied_keeps : (line row values xs : List ℕ) (reach n : ℕ) → Keeps line reach n xs
+    → values ≡ take (reach + n) line → length values ≡ reach + n → take (length values) row ≡ values
+    → Keeps row reach n xs
+copied_keeps line row values xs reach n keeps is long written = record {
+  some = keeps.some;
+  last = ap (λ m. take m row) (sym long) ∙ written ∙ is ∙ keeps.last;
+}
+
+-- a row that was not written
+pub same_row : (old given new kept : List ℕ) (stride e : ℕ) → given ≡ old → kept ≡ new
+    → row_at new stride e ≡ row_at given stride e → row_at old stride e ≡ row_at kept stride e
+same_row old given new kept stride e same_old same_new same =
+    sym (ap (λ ys. row_at ys stride e) same_old) ∙ sym same ∙ sym (ap (λ ys. row_at ys stride e) same_new)
 
 -- a narrower width has a lower level
 pub level_le : (m levels widest : ℕ) → 2 ^ m ≤ widest → 2 ^ levels ≡ widest → m ≤ levels
@@ -120,26 +124,19 @@ level_le m levels widest narrow is = elim (cases_lt levels m) [
   | inr h ↦ h
 ]
 
-pub fed_bounds : (bounds new kept table fed values : List ℕ) (stride at reach n levels widest m : ℕ)
-    → bounds ≡ new → kept ≡ table → at < length fed → reach + n ≤ stride
-    → values ≡ take (reach + n) (drop (at * stride) table) → length values ≡ reach + n
+pub line_bounds : (bounds new line values : List ℕ) (reach n levels widest m : ℕ)
+    → bounds ≡ new → values ≡ take (reach + n) line → length values ≡ reach + n
     → 2 ^ levels ≡ widest → 2 ^ m ≤ widest
     → AreBounds new levels values (length values)
-    → AreBounds bounds m (row_at kept stride at) (reach + slice_index (set fed at n) at)
-fed_bounds bounds new kept table fed values stride at reach n levels widest m same_bounds same_kept inside short
-    is_values long is_widest narrow are m' i some le room =
-    let count : slice_index (set fed at n) at ≡ n = get_or-set_same fed at n 0 inside in
+    → AreBounds bounds m line (reach + n)
+line_bounds bounds new line values reach n levels widest m same is long is_widest narrow are m' i some le room =
     let lower = level_le m levels widest narrow is_widest in
-    let part = drop (at * stride) table in
-    let fits : i + 2 ^ m' ≤ reach + n = omega (arith, room, count) in
-    let sum_is : sum_from values i (2 ^ m') ≡ sum_from (row_at kept stride at) i (2 ^ m') =
-    ap (λ xs. sum_from xs i (2 ^ m')) is_values
-    ∙ ap (λ xs. sum xs) (inner_part (reach + n) i (2 ^ m') part fits)
-    ∙ ap (λ xs. sum xs) (sym (inner_part stride i (2 ^ m') part (omega arith)))
-    ∙ ap (λ xs. sum_from (row_at xs stride at) i (2 ^ m')) (sym same_kept) in
+    let sum_is : sum_from values i (2 ^ m') ≡ sum_from line i (2 ^ m') =
+    ap (λ xs. sum_from xs i (2 ^ m')) is
+    ∙ ap (λ xs. sum xs) (inner_part (reach + n) i (2 ^ m') line room) in
     subst (λ (x : ℕ). x ≤ slice_index bounds m') sum_is
-    (subst (λ (xs : List ℕ). sum_from values i (2 ^ m') ≤ slice_index xs m') (sym same_bounds)
-    (are m' i some (omega (arith, le, lower)) (omega (arith, fits, long))))
+    (subst (λ (xs : List ℕ). sum_from values i (2 ^ m') ≤ slice_index xs m') (sym same)
+    (are m' i some (omega (arith, le, lower)) (omega (arith, room, long))))
 
 pub box_read : (table xs : List ℕ) (stride at reach n k w : ℕ)
     → Keeps (row_at table stride at) reach n xs → k < n → w ≤ reach + 1 → reach + n ≤ stride
@@ -152,16 +149,12 @@ box_read table xs stride at reach n k w keeps lt narrow short =
     ∙ ap (λ ys. sum ys) (sym (inner_part stride start w (drop (at * stride) table) (omega arith)))
     ∙ box_is_ending (row_at table stride at) xs reach n k w keeps lt narrow
 
-pub bound_read : (bounds kept xs : List ℕ) (stride at reach n k w level : ℕ)
-    → 2 ^ level ≡ w → 1 ≤ level → AreBounds bounds level (row_at kept stride at) (reach + n)
-    → Keeps (row_at kept stride at) reach n xs → k < n → w ≤ reach + 1
+pub bound_read : (bounds line xs : List ℕ) (reach n k w level : ℕ)
+    → 2 ^ level ≡ w → 1 ≤ level → AreBounds bounds level line (reach + n)
+    → Keeps line reach n xs → k < n → w ≤ reach + 1
     → sum_ending xs (length xs - n + k) w ≤ slice_index bounds level
-bound_read bounds kept xs stride at reach n k w level power some are keeps lt narrow =
+bound_read bounds line xs reach n k w level power some are keeps lt narrow =
     let start : ℕ = reach + 1 - w + k in
     subst (λ (x : ℕ). x ≤ slice_index bounds level)
-    (ap (λ m. sum_from (row_at kept stride at) start m) power
-    ∙ box_is_ending (row_at kept stride at) xs reach n k w keeps lt narrow)
+    (ap (λ m. sum_from line start m) power ∙ box_is_ending line xs reach n k w keeps lt narrow)
     (are level start some (omega arith) (omega (arith, power)))
-
-pub drop_small : (bound n : ℕ) (xs : List ℕ) → AreUpTo bound xs → AreUpTo bound (drop n xs)
-drop_small bound n xs small k = subst (λ (x : ℕ). x ≤ bound) (sym (get_or-drop n xs k 0)) (small (n + k))

@@ -1,5 +1,5 @@
 -- A list of which a part was written.
-use Rattle.std.proofs.Common.{◌≡◌, ℕ, ◌+◌, ◌-◌, ◌*◌, ◌<◌, ◌≤◌, ◌≢◌, inl, inr, List, length, slice_index, get_or, take, drop, ◌++◌, ◌∙◌, sym, ap, subst, arith, length-drop, length-take, min}
+use Rattle.std.proofs.Common.{◌≡◌, ℕ, ◌+◌, ◌-◌, ◌*◌, ◌<◌, ◌≤◌, ◌≢◌, inl, inr, refl, List, length, slice_index, get_or, take, drop, ◌++◌, ◌∙◌, sym, ap, subst, arith, length-drop, length-take, min}
 use Rattle.std.proofs.lemmas.Bool.{cases_lt}
 use Rattle.std.proofs.lemmas.Nat.{mul-add-lt}
 use Rattle.std.proofs.Math.Nat.{mul-le-mul_right}
@@ -65,6 +65,16 @@ part_small bound a n xs small k = elim (cases_lt k n) [
     length-take-le' : (n : ℕ) (xs : List ℕ) → length (take n xs) ≤ n
     length-take-le' n xs = simp length-take (omega arith)
 
+pub drop_small : (bound n : ℕ) (xs : List ℕ) → AreUpTo bound xs → AreUpTo bound (drop n xs)
+drop_small bound n xs small k = subst (λ (x : ℕ). x ≤ bound) (sym (get_or-drop n xs k 0)) (small (n + k))
+
+pub append_small : (bound : ℕ) (xs ys : List ℕ) → AreUpTo bound xs → AreUpTo bound ys → AreUpTo bound (xs ++ ys)
+append_small bound xs ys small_xs small_ys k = elim (cases_lt k (length xs)) [
+  | inl h ↦ subst (λ (x : ℕ). x ≤ bound) (sym (get_or_append_left xs ys 0 k h)) (small_xs k)
+  | inr h ↦ subst (λ (x : ℕ). x ≤ bound) (sym (get_or-append_right xs ys (length xs) k 0 refl h))
+      (small_ys (k - length xs))
+]
+
 -- two lists of one length with equal values
 pub same_values : (xs ys : List ℕ) → length xs ≡ length ys
     → ((k : ℕ) → k < length xs → slice_index xs k ≡ slice_index ys k) → xs ≡ ys
@@ -73,19 +83,19 @@ same_values xs ys long same = same_lists xs ys long
     get_or_default xs k d 0 h ∙ same k h ∙ get_or_default ys k 0 d (let lt : k < length ys = omega arith in lt))
 
 -- another row of a table in which a row was written
-pub other_row : (table row : List ℕ) (stride n at e : ℕ) → e ≢ at → n ≡ stride → (at + 1) * stride ≤ length table
-    → length row ≡ stride
+pub other_row : (table row : List ℕ) (stride n at e : ℕ) → e ≢ at → n ≤ stride → (at + 1) * stride ≤ length table
+    → length row ≡ n
     → row_at (put_mid (at * stride) n table row) stride e ≡ row_at table stride e
-other_row table row stride n at e other whole fits long =
+other_row table row stride n at e other short fits long =
     let put = put_mid (at * stride) n table row in
     let part : length (take n (drop (at * stride) table)) ≡ n = part_length (at * stride) n table (omega arith) in
     let same_length : length put ≡ length table =
-    same_len_mid (at * stride) n table row (long ∙ sym whole ∙ sym part) in
+    same_len_mid (at * stride) n table row (long ∙ sym part) in
     let lengths : length (row_at put stride e) ≡ length (row_at table stride e) =
     simp (length-take, length-drop) (ap (λ k. min stride (k - e * stride)) same_length) in
     same_values (row_at put stride e) (row_at table stride e) lengths
     (λ k h.
-    let short : length (take stride (drop (e * stride) put)) ≤ stride = simp length-take (omega arith) in
+    let part_is_short : length (take stride (drop (e * stride) put)) ≤ stride = simp length-take (omega arith) in
     let lt : k < stride = omega arith in
     part_at (e * stride) stride put k lt
     ∙ (elim (cases_lt e at) [
@@ -95,6 +105,6 @@ other_row table row stride n at e other whole fits long =
       | inr above ↦
           let more : at + 1 ≤ e = omega (arith, other) in
           let after : (at + 1) * stride ≤ e * stride = mul-le-mul_right stride more in
-          put_after (at * stride) n table row (e * stride + k) (omega arith) (omega arith) (long ∙ sym whole)
+          put_after (at * stride) n table row (e * stride + k) (omega arith) (omega arith) long
     ])
     ∙ sym (part_at (e * stride) stride table k lt))

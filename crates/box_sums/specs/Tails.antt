@@ -1,36 +1,43 @@
 -- What is kept of the rows that are fed.
 -- Source: this project's choice.
-use Rattle.std.specs.Prelude.{ℕ, ◌+◌, ◌-◌, ◌*◌, ◌≡◌, ◌≤◌, List, take, drop, slice_index}
+use Rattle.std.specs.Prelude.{ℕ, ◌+◌, ◌-◌, ◌*◌, ◌≡◌, ◌≤◌, List, take, drop}
 use Rattle.box_sums.specs.Rows.{Keeps}
 
--- what contracts see: the rows are those from `first` to `last`, a feed has at most `chunk` values of at most `bound`;
--- `fed` has how many values the last feed of each row had, `kept` what is kept of each row, one after another; `newest`
--- was fed last
+-- What contracts see: the rows are those from `first` to `last`, a feed has at most `chunk` values of at most `bound`.
+-- Boxes need up to `reach` values before a feed: `tails` has these for the next feed of each row, one row after
+-- another. `line` has them and the feed of the row `newest` that was fed last, with `fed` values, and `kept` the lines
+-- of the rows that were kept.
 pub record RowTails : Type 0 where
   pub first : ℕ
   pub last : ℕ
   pub chunk : ℕ
   pub widest : ℕ
   pub bound : ℕ
-  pub fed : List ℕ
-  pub kept : List ℕ
+  pub reach : ℕ
+  pub tails : List ℕ
   pub newest : ℕ
+  pub fed : ℕ
+  pub line : List ℕ
+  pub kept : List ℕ
 
 -- row `at` of a table of rows of `stride` values
 abbrev pub row_at : List ℕ → ℕ → ℕ → List ℕ
 row_at table stride at = take stride (drop (at * stride) table)
 
--- how many values the last feed of row d had
-abbrev pub last_feed : RowTails → ℕ → ℕ
-last_feed b d = slice_index b.fed (d - b.first)
-
--- what is kept of row d
-abbrev pub kept_of : RowTails → ℕ → List ℕ
-kept_of b d = row_at b.kept (b.widest - 1 + b.chunk) (d - b.first)
-
 -- xs are the values that were fed of row d
 abbrev pub StandsForRow : RowTails → ℕ → List ℕ → Type 0
-StandsForRow b d xs = Keeps (kept_of b d) (b.widest - 1) (last_feed b d) xs
+StandsForRow b d xs = Keeps (row_at b.tails b.reach (d - b.first)) b.reach 0 xs
+
+-- row d was fed last, with the last n of the values xs
+pub record IsNewest (b : RowTails) (d n : ℕ) (xs : List ℕ) : Type 0 where
+  pub row : b.newest ≡ d
+  pub count : b.fed ≡ n
+  pub line : Keeps b.line b.reach n xs
+
+-- row d was kept when it was fed with the last n of the values xs
+pub record IsKept (b : RowTails) (d n : ℕ) (xs : List ℕ) : Type 0 where
+  pub short : n ≤ b.chunk
+  pub line : Keeps (row_at b.kept (b.reach + b.chunk) (d - b.first)) b.reach n xs
 
 -- d is one of the rows
 pub record KeepsRow (b : RowTails) (d : ℕ) : Type 0 where
@@ -45,7 +52,7 @@ pub record AreAlike (b c : RowTails) : Type 0 where
   pub widest : b.widest ≡ c.widest
   pub bound : b.bound ≡ c.bound
 
--- opened with these, and nothing is fed
+-- opened with these
 pub record IsOpened (b : RowTails) (first last chunk widest bound : ℕ) : Type 0 where
   pub first_is : b.first ≡ first
   pub last_is : b.last ≡ last

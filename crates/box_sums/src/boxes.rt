@@ -1,13 +1,13 @@
 // Rows that are fed, and boxes over them.
-ghost use Rattle.std.specs.Prelude.{◌≡◌, ℕ, ◌+◌, ◌-◌, ◌*◌, ◌^◌, ◌<◌, ◌≤◌, ◌≢◌, ◌++◌, List, [], length, sum, slice_index, take, drop, replicate, IfOk};
+ghost use Rattle.std.specs.Prelude.{◌≡◌, ℕ, ◌+◌, ◌-◌, ◌*◌, ◌^◌, ◌<◌, ◌≤◌, ◌≢◌, ◌++◌, List, [], length, sum, take, drop, replicate, IfOk};
 ghost use Rattle.std.specs.List.{All};
 ghost use Rattle.dada_model.specs.Bounds.{most_delay};
 ghost use Rattle.search_model.specs.Search.{longest_chunk};
-ghost use Rattle.box_sums.specs.Tails.{RowTails, StandsForRow, KeepsRow, AreAlike, IsOpened, last_feed};
+ghost use Rattle.box_sums.specs.Tails.{RowTails, StandsForRow, IsNewest, IsKept, KeepsRow, AreAlike, IsOpened};
 ghost use Rattle.box_sums.specs.Rows.{IsWidth, SumsAddValues, sum_ending};
 ghost use Rattle.box_sums.specs.Tables.{TablesAreSound};
 
-use crate::keep::keep_row;
+use crate::keep::{join, write_row};
 use crate::sums::fill_boxes;
 use psr_base::Memory;
 use std::alloc::Global;
@@ -15,6 +15,9 @@ use std::marker::Model;
 
 /// How many widths a box can have.
 const LEVELS: usize = 6;
+
+/// How many values are copied in a step.
+const LANES: usize = 16;
 
 /// Rows that are fed in pieces, with the sums of the values that end at each place of the last feed. `boxes` is where
 /// those of the row that was fed last are added up, and `greatest` has the greatest of each width.
@@ -25,9 +28,12 @@ pub struct Boxes {
     chunk: u32,
     widest: u32,
     bound: u32,
-    fed: Vec<u32>,
-    kept: Vec<u32>,
+    reach: usize,
+    tails: Vec<u32>,
     newest: u32,
+    fed: u32,
+    line: Vec<u32>,
+    kept: Vec<u32>,
     boxes: Vec<u32>,
     greatest: Vec<u32>,
 }
@@ -41,13 +47,27 @@ impl Model for Boxes {
       chunk = b.chunk;
       widest = b.widest;
       bound = b.bound;
-      fed = b.fed.items;
-      kept = b.kept.items;
+      reach = b.reach;
+      tails = b.tails.items;
       newest = b.newest;
+      fed = b.fed;
+      line = b.line.items;
+      kept = b.kept.items;
     } };
 
-    ghost invariant = { λ b. TablesAreSound b.first b.last b.chunk b.widest b.bound b.newest
-        b.fed.items b.kept.items b.boxes.items b.greatest.items };
+    ghost invariant = { λ b. TablesAreSound (record {
+      first = b.first;
+      last = b.last;
+      chunk = b.chunk;
+      widest = b.widest;
+      bound = b.bound;
+      reach = b.reach;
+      tails = b.tails.items;
+      newest = b.newest;
+      fed = b.fed;
+      line = b.line.items;
+      kept = b.kept.items;
+    }) b.boxes.items b.greatest.items };
 }
 
 impl Boxes {
@@ -68,10 +88,10 @@ impl Boxes {
         requires width { IsWidth widest }
         requires fits { bound * widest < 2 ^ 32 }
         ensures opened { IfOk result (λ b. IsOpened b first last chunk widest bound) }
-        ensures counts { IfOk result (λ b. (d : ℕ) → KeepsRow b d → last_feed b d ≡ 0) }
         ensures none { IfOk result (λ b. (d : ℕ) → KeepsRow b d → StandsForRow b d []) }
     {
-        let stride = widest as usize - 1 + chunk as usize;
+        let reach = in_whole_lanes(widest - 1);
+        let stride = reach + chunk as usize;
         let rows = (last - first) as usize + 1;
         Ok(Boxes {
             first,
@@ -79,10 +99,13 @@ impl Boxes {
             chunk,
             widest,
             bound,
-            fed: zeros(alloc, rows)?,
-            kept: zeros(alloc, rows * stride)?,
+            reach,
+            tails: zeros(alloc, rows * reach)?,
             newest: first,
-            boxes: zeros(alloc, LEVELS * stride)?,
+            fed: 0,
+            line: zeros(alloc, stride)?,
+            kept: zeros(alloc, rows * stride)?,
+            boxes: zeros(alloc, (LEVELS - 1) * stride)?,
             greatest: zeros(alloc, LEVELS)?,
         })
     }
@@ -93,58 +116,75 @@ impl Boxes {
         requires short { length row.now ≤ self.old.chunk }
         requires small { All (λ x. x ≤ self.old.bound) row.now }
         ensures alike { AreAlike self.new self.old }
-        ensures newest { self.new.newest ≡ d }
-        ensures count { last_feed self.new d ≡ length row.now }
-        ensures counts { (e : ℕ) → KeepsRow self.old e → e ≢ d
-            → last_feed self.new e ≡ last_feed self.old e }
         ensures own { (xs : List ℕ) → StandsForRow self.old d xs
             → StandsForRow self.new d (xs ++ row.now) }
+        ensures last { self.new.newest ≡ d }
+        ensures newest { (xs : List ℕ) → (1 < self.old.widest → StandsForRow self.old d xs)
+            → IsNewest self.new d (length row.now) (xs ++ row.now) }
         ensures others { (e : ℕ) (xs : List ℕ) → KeepsRow self.old e → e ≢ d
             → StandsForRow self.old e xs → StandsForRow self.new e xs }
+        ensures kept { (e n : ℕ) (xs : List ℕ) → IsKept self.old e n xs → IsKept self.new e n xs }
     {
         let at = (d - self.first) as usize;
-        let reach = self.widest as usize - 1;
-        let stride = reach + self.chunk as usize;
-        let before = self.fed[at] as usize;
-        keep_row(self.kept.as_mut_slice(), stride, at, reach, before, row);
-        self.fed[at] = row.len() as u32;
-        let values = front_of(self.kept.as_slice(), at * stride, reach + row.len());
+        let tail = front_of(self.tails.as_slice(), at * self.reach, self.reach);
+        join(self.line.as_mut_slice(), tail, row);
+        let last = front_of(self.line.as_slice(), row.len(), self.reach);
+        write_row(self.tails.as_mut_slice(), self.reach, at, last);
         fill_boxes(
             self.boxes.as_mut_slice(),
             self.greatest.as_mut_slice(),
-            stride,
+            self.reach + self.chunk as usize,
             level_of(self.widest),
-            values,
+            front_of(self.line.as_slice(), 0, self.reach + row.len()),
         );
         self.newest = d;
+        self.fed = row.len() as u32;
     }
 
-    /// The sum of the `w` values of row `d` that end at the `k`-th value of its last feed. Values before the
-    /// first count 0.
+    /// Keeps the row that was fed last, so that its boxes can be asked for until it is kept again.
+    pub fn keep_newest(&mut self)
+        ensures same { self.new ≡ record self.old { kept = self.new.kept } }
+        ensures alike { AreAlike self.new self.old }
+        ensures own { (d n : ℕ) (xs : List ℕ) → IsNewest self.old d n xs
+            → IsKept self.new d n xs }
+        ensures others { (e n : ℕ) (xs : List ℕ) → KeepsRow self.old e → e ≢ self.old.newest
+            → IsKept self.old e n xs → IsKept self.new e n xs }
+    {
+        let at = (self.newest - self.first) as usize;
+        let line = front_of(self.line.as_slice(), 0, self.reach + self.fed as usize);
+        write_row(
+            self.kept.as_mut_slice(),
+            self.reach + self.chunk as usize,
+            at,
+            line,
+        );
+    }
+
+    /// The sum of the `w` values of row `d` that end at the `k`-th of the values that it was fed with when it was kept.
+    /// Values before the first count 0.
     pub fn sum(&self, d: u32, k: u32, w: u32) -> u32
         requires row { KeepsRow self.now d }
-        requires place { k < last_feed self.now d }
+        requires place { k < self.now.chunk }
         requires width { IsWidth w }
         requires narrow { w ≤ self.now.widest }
-        ensures { (xs : List ℕ) → StandsForRow self.now d xs
-            → result ≡ sum_ending xs (length xs - last_feed self.now d + k) w }
+        ensures { (n : ℕ) (xs : List ℕ) → IsKept self.now d n xs → k < n
+            → result ≡ sum_ending xs (length xs - n + k) w }
     {
         let at = (d - self.first) as usize;
-        let reach = self.widest as usize - 1;
-        let stride = reach + self.chunk as usize;
-        let place = at * stride + (reach + 1 - w as usize) + k as usize;
+        let stride = self.reach + self.chunk as usize;
+        let place = at * stride + (self.reach + 1 - w as usize) + k as usize;
         add_all(front_of(self.kept.as_slice(), place, w as usize))
     }
 
     /// A bound for the row that was fed last: no sum of `w` values that ends at a value of its last feed is greater. As
-    /// it is made, it is the greatest sum of `w` neighbours among the values that are kept, which no clause says.
+    /// it is made, it is the greatest sum of `w` neighbours among these values and those that are kept before them,
+    /// which no clause says.
     pub fn bound_of_newest(&self, w: u32) -> u32
         requires width { IsWidth w }
         requires wide { 2 ≤ w }
         requires narrow { w ≤ self.now.widest }
-        ensures { (xs : List ℕ) (k : ℕ) → StandsForRow self.now self.now.newest xs
-            → k < last_feed self.now self.now.newest
-            → sum_ending xs (length xs - last_feed self.now self.now.newest + k) w ≤ result }
+        ensures { (d n k : ℕ) (xs : List ℕ) → IsNewest self.now d n xs → k < n
+            → sum_ending xs (length xs - n + k) w ≤ result }
     {
         self.greatest[level_of(w)]
     }
@@ -160,6 +200,16 @@ fn zeros(alloc: Global, count: usize) -> Result<Vec<u32>, Memory>
     ensures { IfOk result (λ v. v.items ≡ replicate count 0) }
 {
     Ok(vec![in alloc; 0; count]?)
+}
+
+// So many values, or up to 15 more, so that they are whole lanes.
+fn in_whole_lanes(count: u32) -> usize
+    requires { count < 32 }
+    ensures enough { count ≤ result }
+    ensures near { result ≤ 32 }
+    ensures none { count ≡ 0 → result ≡ 0 }
+{
+    (count as usize).div_ceil(LANES) * LANES
 }
 
 // The level of the boxes of a width.

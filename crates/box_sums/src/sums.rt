@@ -16,9 +16,9 @@ fn add_neighbours(out: &mut [u32], row: &[u32], width: usize, count: usize) -> u
     add_rows_greatest(&mut out[..count], &row[..count], &row[width..width + count])
 }
 
-// Makes a level of boxes twice as wide as those of the level below, `width` wide, and gives the greatest.
+// Makes the next row of boxes, twice as wide as those of row `level`, which are `width` wide, and gives the greatest.
 fn double(boxes: &mut [u32], stride: usize, level: usize, width: usize, count: usize) -> u32
-    requires few { level ≤ 5 }
+    requires few { level ≤ 3 }
     requires room { (level + 2) * stride ≤ length boxes.old }
     requires inside { width + count ≤ stride }
     ensures doubled { (i : ℕ) → i < count → slice_index boxes.new ((level + 1) * stride + i)
@@ -33,27 +33,29 @@ fn double(boxes: &mut [u32], stride: usize, level: usize, width: usize, count: u
     add_neighbours(high, &low[level * stride..], width, count)
 }
 
-/// Writes the boxes of a row, on level m the sums of 2^m neighbours, and the greatest of each level from the first
-/// on.
+/// Writes the boxes of a line, in row m the sums of 2^(m+1) neighbours, and the greatest of each width.
 pub fn fill_boxes(
     boxes: &mut [u32],
     greatest: &mut [u32],
     stride: usize,
     levels: usize,
-    row: &[u32],
+    line: &[u32],
 )
     requires few { levels ≤ 5 }
-    requires room { (levels + 1) * stride ≤ length boxes.old }
+    requires room { levels * stride ≤ length boxes.old }
     requires places { length greatest.old ≡ 6 }
-    requires short { length row.now ≤ stride }
-    requires wide { 2 ^ levels ≤ length row.now + 1 }
-    requires fits { (i : ℕ) → sum_from row.now i (2 ^ levels) < 2 ^ 32 }
-    ensures { AreBounds greatest.new levels row.now (length row.now) }
+    requires short { length line.now ≤ stride }
+    requires wide { 2 ^ levels ≤ length line.now + 1 }
+    requires fits { (i : ℕ) → sum_from line.now i (2 ^ levels) < 2 ^ 32 }
+    ensures { AreBounds greatest.new levels line.now (length line.now) }
 {
-    boxes[..row.len()].copy_from_slice(row);
-    let mut width = 1;
-    for level in 0..levels {
-        greatest[level + 1] = double(boxes, stride, level, width, row.len() + 1 - 2 * width);
+    if levels == 0 {
+        return;
+    }
+    greatest[1] = add_neighbours(boxes, line, 1, line.len() - 1);
+    let mut width = 2;
+    for level in 0..levels - 1 {
+        greatest[level + 2] = double(boxes, stride, level, width, line.len() + 1 - 2 * width);
         width *= 2;
     }
 }

@@ -1,6 +1,6 @@
 // Boxes over rows that are fed in pieces.
 ghost use Rattle.std.specs.Prelude.{◌≡◌, ◌≤◌, length};
-ghost use Rattle.box_sums.specs.Tails.{KeepsRow, last_feed};
+ghost use Rattle.box_sums.specs.Tails.{KeepsRow};
 ghost use Rattle.box_sums.specs.Rows.{IsWidth};
 
 use crate::values::values;
@@ -13,13 +13,26 @@ use std::test::Fail;
 fn last_values_are_added(rt: HostRuntime) -> Result<(), Memory> {
     let mut boxes = Boxes::open(rt.alloc(), 1, 1, 3, 2, 100)?;
     boxes.feed_row(1, &[0, 30, 20]);
+    boxes.keep_newest();
     assert_eq!(rt; boxes.sum(1, 2, 2), 50);
     assert_eq!(rt; boxes.sum(1, 0, 2), 0);
     assert_eq!(rt; boxes.bound_of_newest(2), 50);
     boxes.feed_row(1, &[7]);
+    assert_eq!(rt; boxes.sum(1, 2, 2), 50);
+    boxes.keep_newest();
     assert_eq!(rt; boxes.sum(1, 0, 2), 27);
     assert_eq!(rt; boxes.sum(1, 0, 1), 7);
-    assert_eq!(rt; boxes.bound_of_newest(2), 27);
+    Ok(())
+}
+
+#[test]
+fn single_values_are_kept(rt: HostRuntime) -> Result<(), Memory> {
+    let mut boxes = Boxes::open(rt.alloc(), 4, 5, 3, 1, 100)?;
+    boxes.feed_row(5, &[3, 100]);
+    boxes.keep_newest();
+    boxes.feed_row(4, &[9]);
+    assert_eq!(rt; boxes.sum(5, 0, 1), 3);
+    assert_eq!(rt; boxes.sum(5, 1, 1), 100);
     Ok(())
 }
 
@@ -34,12 +47,11 @@ fn sum_of_last(values: &[u32], w: usize) -> u32 {
     sum
 }
 
-// The boxes of a width, of which the last feed of row `d` has `count`.
+// The boxes of a width, of which the last feed of row `d`, which was kept, has `count`.
 fn check_width(rt: &impl Abort, boxes: &Boxes, d: u32, w: u32, all: &[u32], count: usize)
     requires row { KeepsRow boxes.now d }
-    requires newest { d ≡ boxes.now.newest }
-    requires fed { last_feed boxes.now d ≡ count }
     requires few { count ≤ 16 }
+    requires chunk { boxes.now.chunk ≡ 16 }
     requires given { count ≤ length all.now }
     requires widest { boxes.now.widest ≡ 32 }
     requires width { IsWidth w }
@@ -70,6 +82,7 @@ fn rows_are_fed_in_pieces(rt: HostRuntime) -> Result<(), Fail> {
         boxes.feed_row(4, other.as_slice());
         let piece = values(rt.alloc(), count, 1000, count as u32)?;
         boxes.feed_row(5, piece.as_slice());
+        boxes.keep_newest();
         all.extend_from_slice(piece.as_slice())?;
         for w in [1_u32, 2, 4, 8, 16, 32] {
             check_width(&rt, &boxes, 5, w, all.as_slice(), count);

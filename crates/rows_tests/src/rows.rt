@@ -2,7 +2,10 @@
 ghost use Rattle.std.specs.Prelude.{◌≡◌, ◌≤◌, length};
 
 use crate::values::{bytes, values};
-use fdmt_rows::{add_rows, add_to_row, greatest, running, widen};
+use fdmt_rows::{
+    add_mixed_rows, add_rows, add_to_row, copy_narrow_row, copy_row, greatest, narrow_row, running,
+    widen,
+};
 use std::process::Abort;
 use std::test::Fail;
 
@@ -58,6 +61,24 @@ fn bytes_are_widened(rt: HostRuntime) -> Result<(), Fail> {
         for k in 0..count {
             assert_eq!(rt; out[k], u32::from(bytes[k]), "byte {k} of {count}");
         }
+    }
+    Ok(())
+}
+
+#[test]
+fn rows_of_both_widths_are_added(rt: HostRuntime) -> Result<(), Fail> {
+    for count in 0..71_usize {
+        let a = values(rt.alloc(), count, 0x7fff_ffff, 1)?;
+        let b = values(rt.alloc(), count, 0xffff, 2)?;
+        let mut narrow = vec![in rt.alloc(); 0_u16; count]?;
+        let mut copy = vec![in rt.alloc(); 0_u16; count]?;
+        let mut out = values(rt.alloc(), count, 9, 3)?;
+        let mut same = values(rt.alloc(), count, 9, 3)?;
+        narrow_row(narrow.as_mut_slice(), b.as_slice());
+        copy_narrow_row(copy.as_mut_slice(), narrow.as_slice());
+        copy_row(same.as_mut_slice(), a.as_slice());
+        add_mixed_rows(out.as_mut_slice(), same.as_slice(), copy.as_slice());
+        check_sums(&rt, out.as_slice(), a.as_slice(), b.as_slice());
     }
     Ok(())
 }
