@@ -1,5 +1,5 @@
 -- A chunk: from what stands before it to what stands after it.
-use Rattle.std.proofs.Common.{◌≡◌, ℕ, ◌+◌, ◌-◌, ◌*◌, ◌≤◌, List, [], sym, ◌∙◌, ap, subst, arith}
+use Rattle.std.proofs.Common.{◌≡◌, ℕ, ◌+◌, ◌-◌, ◌*◌, ◌≤◌, All, List, [], sym, ◌∙◌, ap, subst, arith}
 use Rattle.std.specs.List.{range_with_len, flat_map}
 use Rattle.std.proofs.Math.Nat.{mul-le-mul_left}
 use Rattle.fdmt_carry.specs.Carrying.{Carrying}
@@ -8,7 +8,7 @@ use Rattle.search_model.specs.declared.candidate.Candidate.{Candidate}
 use Rattle.search_model.specs.Samples.{Filterbank}
 use Rattle.search_engine.specs.FoldSearch.{Fronts, HasDelay, KeepsFrontOf}
 use Rattle.search_engine.specs.Thresholds.{pulses_of_hits}
-use Rattle.search_engine.specs.PulseSearch.{PulseState, SearchAlike, RowsStandFor}
+use Rattle.search_engine.specs.PulseSearch.{PulseState, SearchAlike, RowsStandFor, HitIsKept}
 use Rattle.search_engine.specs.Pulses.{pulses_of_delay, pulses_of_end, pulses_of_ends}
 use Rattle.search_engine.specs.Sums.{HaveTaken, sums_of, sums_from_delay, pulses_of_plan}
 use Rattle.subband_plan.specs.Nodes.{BandPlan}
@@ -28,6 +28,7 @@ started y p q g m n first is at fold_at rows fronts =
       folds_from = λ e h from. fronts e h;
       hits = λ k below. sym (ap (λ i. flat_map (λ d. pulses_of_delay y p.search p.channels (m + k) d)
           (range_with_len p.first i)) none);
+      kept = λ i h inside. absurd (omega arith);
     } in
     let P : PulseState → Type 0 = λ r. HaveTaken y r g m n first in
     subst P (sym is) start
@@ -56,6 +57,11 @@ pub all_fronts : (y : ℕ → ℕ → ℕ) (p : PulseState) (g : Fronts) (m n en
 all_fronts y p g m n end u have at sum = λ d h.
     let P : ℕ → Type 0 = λ k. KeepsFrontOf g d (sums_from_delay y d k) in
     subst P sum (have.folds_below d h (let below = h.below in omega arith))
+
+-- boxes can be asked for over the rows of all hits
+pub all_kept : (y : ℕ → ℕ → ℕ) (p : PulseState) (g : Fronts) (m n end : ℕ) → HaveTaken y p g m n end →
+    All (HitIsKept y p.boxes m n) p.hits
+all_kept y p g m n end have = λ i h inside. (have.kept i h inside).kept
 
 -- the pulses of the hits are those of all delays
 pub all_pulses : (y : ℕ → ℕ → ℕ) (p : PulseState) (g : Fronts) (m n end : ℕ) → HaveTaken y p g m n end →

@@ -11,6 +11,7 @@ pub mod Halvings
 pub mod WidthCounts
 pub mod WidthLists
 pub mod Opening
+pub mod Hits
 pub mod Pieces
 pub mod PlanFits
 pub mod PulseLists
@@ -22,3 +23,5 @@ pub mod Sizes
 pub mod Terms
 pub mod Within
 pub mod Worked
+pub mod Passing
+mod Lasting

@@ -1,10 +1,9 @@
 -- The box of a hit, as a pulse.
-use Rattle.std.proofs.Common.{◌≡◌, ℕ, ◌+◌, ◌-◌, ◌*◌, ◌<◌, ◌≤◌, ◌^◌, false, cond, List, [], ◌∷◌, Some, length, nat_le, sym, ◌∙◌, ap, subst, arith}
+use Rattle.std.proofs.Common.{◌≡◌, ℕ, ◌+◌, ◌-◌, ◌*◌, ◌<◌, ◌≤◌, ◌^◌, false, cond, [], ◌∷◌, Some, length, nat_le, sym, ◌∙◌, ap, arith}
 use Rattle.std.proofs.lemmas.Bool.{le-leb}
 use Rattle.std.proofs.lemmas.Bool.Decides.{nat_tests}
 use Rattle.std.proofs.lemmas.List.FromFn.{length-map-range_with_len}
 use Rattle.box_sums.specs.Rows.{SumsAddValues, sum_ending}
-use Rattle.box_sums.specs.Tails.{RowTails, StandsForRow, last_feed}
 use Rattle.detect_rule.specs.Noise.{StandOutFrom}
 use Rattle.search_model.specs.declared.search.Search.{Search}
 use Rattle.search_model.specs.declared.candidate.Candidate.TheVariants.{Pulse}
@@ -15,32 +14,13 @@ use Rattle.search_engine.specs.Pulses.{first_sums, box_of, pulse_of}
 use Rattle.search_engine.proofs.Boxes.{box_is, no_pulse, is_silent}
 
 -- the sum that ends at the k-th of the last n sums of a row is a box
-ending_is_box : SumsAddValues → (y : ℕ → ℕ → ℕ) (d start n k w : ℕ) (b : RowTails) → last_feed b d ≡ n →
-    k < last_feed b d →
-    sum_ending (first_sums y d (start + n)) (length (first_sums y d (start + n)) - last_feed b d + k) w
-    ≡ box_of y d (start + k) w
-ending_is_box adds y d start n k w b fed inside =
+pub ending_is_box : SumsAddValues → (y : ℕ → ℕ → ℕ) (d start n k w : ℕ) → k < n →
+    sum_ending (first_sums y d (start + n)) (length (first_sums y d (start + n)) - n + k) w ≡ box_of y d (start + k) w
+ending_is_box adds y d start n k w inside =
     let long = length-map-range_with_len (y d) 0 (start + n) in
-    let place : length (first_sums y d (start + n)) - last_feed b d + k ≡ start + k = omega arith in
+    let place : length (first_sums y d (start + n)) - n + k ≡ start + k = omega arith in
     ap (λ u. sum_ending (first_sums y d (start + n)) u w) place
     ∙ box_is adds y d (start + n) (start + k) w (omega arith)
-
--- what a row of boxes answers at the k-th of the last n spectra
-pub sum_is_box : SumsAddValues → (y : ℕ → ℕ → ℕ) (d start n k w sum : ℕ) (b : RowTails) → last_feed b d ≡ n →
-    k < last_feed b d → StandsForRow b d (first_sums y d (start + n)) →
-    ((xs : List ℕ) → StandsForRow b d xs → sum ≡ sum_ending xs (length xs - last_feed b d + k) w) →
-    sum ≡ box_of y d (start + k) w
-sum_is_box adds y d start n k w sum b fed inside stands is =
-    is (first_sums y d (start + n)) stands ∙ ending_is_box adds y d start n k w b fed inside
-
--- no box that ends there is above a bound of its sums
-pub box_is_below : SumsAddValues → (y : ℕ → ℕ → ℕ) (d start n k w most : ℕ) (b : RowTails) → last_feed b d ≡ n →
-    k < last_feed b d → StandsForRow b d (first_sums y d (start + n)) →
-    ((xs : List ℕ) → StandsForRow b d xs → sum_ending xs (length xs - last_feed b d + k) w ≤ most) →
-    box_of y d (start + k) w ≤ most
-box_is_below adds y d start n k w most b fed inside stands bound =
-    subst (λ (sum : ℕ). sum ≤ most) (ending_is_box adds y d start n k w b fed inside)
-    (bound (first_sums y d (start + n)) stands)
 
 -- a box that begins before the delay is not judged
 pub early_box : (y : ℕ → ℕ → ℕ) (s : Search) (n u d w : ℕ) → u + 1 < d + w → pulse_of y s n u d w ≡ []

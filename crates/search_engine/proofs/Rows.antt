@@ -1,5 +1,5 @@
 -- A row more.
-use Rattle.std.proofs.Common.{◌≡◌, ◌≢◌, ℕ, ◌+◌, ◌-◌, ◌<◌, ◌++◌, inl, inr, List, length, map, drop, get_or, sym, ◌∙◌, ap, subst, arith, length-append, length-drop}
+use Rattle.std.proofs.Common.{◌≡◌, ◌≢◌, ℕ, ◌+◌, ◌-◌, ◌<◌, ◌++◌, All, inl, inr, List, length, map, drop, get_or, sym, ◌∙◌, ap, subst, arith, length-append, length-drop}
 use Rattle.std.specs.List.{range_with_len, flat_map}
 use Rattle.std.proofs.lemmas.Bool.{cases_lt}
 use Rattle.std.proofs.lemmas.List.{get_or_append_left, get_or-append_right, get_or-drop}
@@ -8,7 +8,7 @@ use Rattle.std.proofs.lemmas.Grind.{same_number_lists}
 use Rattle.search_model.specs.declared.search.Search.{Search}
 use Rattle.search_engine.specs.FoldSearch.{Fronts, HasDelay, FoldsAlike, KeepsFrontOf}
 use Rattle.search_engine.specs.Thresholds.{pulses_of_hits}
-use Rattle.search_engine.specs.PulseSearch.{PulseState, SearchesDelay, SearchAlike, WideRowHas, WideRowFed, IsTakenRow}
+use Rattle.search_engine.specs.PulseSearch.{PulseState, SearchesDelay, SearchAlike, WideRowHas, IsHitBelow}
 use Rattle.search_engine.specs.Pulses.{first_sums, IsRowOf, pulses_of_delay, pulses_of_end}
 use Rattle.search_engine.specs.Sums.{sums_from_delay, HaveTaken}
 use Rattle.search_engine.proofs.Ranges.{flat_more}
@@ -54,15 +54,17 @@ later_sums_more y d m row is =
 pub taken_more : (y : ℕ → ℕ → ℕ) (p p' : PulseState) (g g' : Fronts) (m d : ℕ) (row part : List ℕ) →
     SearchAlike p' p → FoldsAlike g' g → SearchesDelay p d → HasDelay g d → part ≡ drop (d - m) row →
     IsRowOf y d m row →
-    WideRowFed p'.boxes d (length row) → ((xs : List ℕ) → WideRowHas p.boxes d xs → WideRowHas p'.boxes d (xs ++ row)) →
+    ((xs : List ℕ) → WideRowHas p.boxes d xs → WideRowHas p'.boxes d (xs ++ row)) →
     ((e : ℕ) (xs : List ℕ) → SearchesDelay p e → e ≢ d → WideRowHas p.boxes e xs → WideRowHas p'.boxes e xs) →
     ((xs : List ℕ) → KeepsFrontOf g d xs → KeepsFrontOf g' d (xs ++ part)) →
     ((e : ℕ) (xs : List ℕ) → HasDelay g e → e ≢ d → KeepsFrontOf g e xs → KeepsFrontOf g' e xs) →
-    ((k : ℕ) → IsTakenRow y p'.boxes d m row → k < length row →
+    ((k : ℕ) → WideRowHas p.boxes d (first_sums y d m) → k < length row →
     pulses_of_hits y p.search p.channels (m + k) p'.hits
     ≡ pulses_of_hits y p.search p.channels (m + k) p.hits ++ pulses_of_delay y p.search p.channels (m + k) d) →
+    (WideRowHas p.boxes d (first_sums y d m) → All (IsHitBelow y p.boxes m (length row) d) p.hits →
+    All (IsHitBelow y p'.boxes m (length row) (d + 1)) p'.hits) →
     HaveTaken y p g m (length row) d → HaveTaken y p' g' m (length row) (d + 1)
-taken_more y p p' g g' m d row part alike same has fold is_part is last own others fown fothers hits before =
+taken_more y p p' g g' m d row part alike same has fold is_part is own others fown fothers hits kept before =
     let n = length row in
     let first = alike.first_is in
     let end = alike.end_is in
@@ -80,9 +82,9 @@ taken_more y p p' g g' m d row part alike same has fold is_part is last own othe
       below = (let b =
           h.below in omega (arith, b, fend));
     } in
+    let had : WideRowHas p.boxes d (first_sums y d m) = before.rows_from d has (omega arith) in
     let mine : WideRowHas p'.boxes d (first_sums y d (m + n)) =
-    subst (WideRowHas p'.boxes d) (sums_more y d m row is)
-    (own (first_sums y d m) (before.rows_from d has (omega arith))) in
+    subst (WideRowHas p'.boxes d) (sums_more y d m row is) (own (first_sums y d m) had) in
     let my_fold : KeepsFrontOf g' d (sums_from_delay y d (m + n)) =
     subst (KeepsFrontOf g' d) (ap (λ xs. sums_from_delay y d m ++ xs) is_part ∙ later_sums_more y d m row is)
     (fown (sums_from_delay y d m) (before.folds_from d fold (omega arith))) in
@@ -108,7 +110,7 @@ taken_more y p p' g g' m d row part alike same has fold is_part is last own othe
           let above = has.above in
           let all : pulses_of_hits y p.search p.channels u p'.hits
           ≡ pulses_of_end y p.search p.channels p.first (d + 1) u =
-          hits k (record { values = is; fed = mine; last = last }) below
+          hits k had below
           ∙ ap (λ xs. xs ++ pulses_of_delay y p.search p.channels u d) (before.hits k below)
           ∙ sym (flat_more (λ i. pulses_of_delay y p.search p.channels u i) p.first (d - p.first) d (omega arith))
           ∙ ap (λ j. flat_map (λ i. pulses_of_delay y p.search p.channels u i) (range_with_len p.first j))
@@ -120,4 +122,5 @@ taken_more y p p' g g' m d row part alike same has fold is_part is last own othe
           let F : ℕ → Type 0 = λ i. pulses_of_hits y p'.search p'.channels u p'.hits
           ≡ pulses_of_end y p'.search p'.channels i (d + 1) u in
           subst F (sym first) (subst N (sym alike.channels_is) (subst S (sym alike.search_is) all));
+      kept = kept had before.kept;
     }

@@ -69,13 +69,14 @@ folds_are fall o e f s =
     ∙ ap (λ b. within_delays first b (folds f (edges o) (plain_cells o.channels) e.search)) last
 
 -- the ends of so many spectra more
-pub ends_join : (y : ℕ → ℕ → ℕ) (s : Search) (n first end m k : ℕ) →
-    pulses_of_ends y s n first end 0 m ++ pulses_of_ends y s n first end m k ≡ pulses_of_ends y s n first end 0 (m + k)
-ends_join y s n first end m k =
+pub ends_join : (y : ℕ → ℕ → ℕ) (s : Search) (n first end start m k j : ℕ) → start + m ≡ j →
+    pulses_of_ends y s n first end start m ++ pulses_of_ends y s n first end j k
+    ≡ pulses_of_ends y s n first end start (m + k)
+ends_join y s n first end start m k j at =
     let g : ℕ → List Candidate = λ u. pulses_of_end y s n first end u in
-    let start : 0 + m ≡ m = omega arith in
-    sym (ap (flat_map g) (range_join 0 m k) ∙ flat_map-append g (range_with_len 0 m) (range_with_len (0 + m) k)
-    ∙ ap (λ a. flat_map g (range_with_len 0 m) ++ flat_map g (range_with_len a k)) start)
+    sym (ap (flat_map g) (range_join start m k)
+    ∙ flat_map-append g (range_with_len start m) (range_with_len (start + m) k)
+    ∙ ap (λ a. flat_map g (range_with_len start m) ++ flat_map g (range_with_len a k)) at)
 
 -- the book has the pulses of the spectra that were searched
 pub book_more : EdgesFall → (o : Observation) (e : EngineState) (f : Filterbank) (b : BookContents) (u r : ℕ) →
@@ -88,7 +89,7 @@ book_more fall o e f b u r s is adds =
     ∙ ap (λ xs. book_of e.search.max_candidates (pulses_so_far o e.search e.shard f u ++ xs))
     (pulses_are fall o e f u r s)
     ∙ ap (λ xs. book_of e.search.max_candidates xs) (ends_join (sums_of f (edges o)) e.search o.channels
-    (shard_start e.search e.shard) (shard_start e.search (e.shard + 1)) u r)
+    (shard_start e.search e.shard) (shard_start e.search (e.shard + 1)) 0 u r u (omega arith))
 
 -- and with the folds it has the shard's part of all candidates
 pub book_of_all : LatePathSums → EdgesFall → (o : Observation) (e : EngineState) (bytes : List ℕ) (b c : BookContents) →

@@ -34,7 +34,7 @@ most_fed = 2 ^ 48 + 2 ^ 28
 
 -- how many spectra are searched at a time
 abbrev pub chunk_of : Search → ℕ
-chunk_of s = min s.chunk 240
+chunk_of s = min s.chunk 608
 
 -- a stream of samples that begins with the first u spectra of an observation's data bytes
 pub record BeginsWith (o : Observation) (bytes : List ℕ) (u : ℕ) (f : Filterbank) : Type 0 where

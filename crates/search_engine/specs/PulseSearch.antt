@@ -1,7 +1,7 @@
 -- What contracts see of the search for pulses.
 -- Source: this project's choice.
-use Rattle.std.specs.Prelude.{◌≡◌, ℕ, ◌+◌, ◌-◌, ◌*◌, ◌≤◌, ◌<◌, All, List, length}
-use Rattle.box_sums.specs.Tails.{RowTails, StandsForRow, last_feed}
+use Rattle.std.specs.Prelude.{◌≡◌, ℕ, ◌+◌, ◌-◌, ◌*◌, ◌≤◌, ◌<◌, ◌++◌, All, List, length}
+use Rattle.box_sums.specs.Tails.{RowTails, StandsForRow, IsNewest, IsKept}
 use Rattle.box_sums.specs.Rows.{IsWidth}
 use Rattle.search_model.specs.declared.search.Search.{Search}
 use Rattle.search_model.specs.Search.{SettingsInRange}
@@ -59,23 +59,29 @@ SearchAlike p q = SearchesFor p q.search q.channels q.first q.end q.boxes.chunk 
 abbrev pub WideRowHas : RowTails → ℕ → List ℕ → Type 0
 WideRowHas b d xs = 1 < b.widest → StandsForRow b d xs
 
--- and the last feed of row d had n values
-abbrev pub WideRowFed : RowTails → ℕ → ℕ → Type 0
-WideRowFed b d n = 1 < b.widest → last_feed b d ≡ n
-
 -- the row of delay d that was taken last has the sums of a stream that end at spectrum m and after it
 pub record IsTakenRow (y : ℕ → ℕ → ℕ) (b : RowTails) (d m : ℕ) (row : List ℕ) : Type 0 where
   pub values : IsRowOf y d m row
-  pub fed : WideRowHas b d (first_sums y d (m + length row))
-  pub last : WideRowFed b d (length row)
+  pub newest : 1 < b.widest → IsNewest b d (length row) (first_sums y d (m + length row))
 
 -- each row was fed with the sums of a stream that end at the first m spectra
 abbrev pub RowsStandFor : (ℕ → ℕ → ℕ) → PulseState → ℕ → Type 0
 RowsStandFor y p m = (d : ℕ) → SearchesDelay p d → WideRowHas p.boxes d (first_sums y d m)
 
--- the row of each delay below d had n values in its last feed
-abbrev pub AreFed : PulseState → ℕ → ℕ → Type 0
-AreFed p d n = (e : ℕ) → SearchesDelay p e → e < d → WideRowFed p.boxes e n
+-- boxes can be asked for over the row of a hit, whose last n sums end at spectrum m and after it
+abbrev pub HitIsKept : (ℕ → ℕ → ℕ) → RowTails → ℕ → ℕ → Hit → Type 0
+HitIsKept y b m n hit = IsKept b hit.delay n (first_sums y hit.delay (m + n))
+
+-- and it is of a delay below d
+pub record IsHitBelow (y : ℕ → ℕ → ℕ) (b : RowTails) (m n d : ℕ) (hit : Hit) : Type 0 where
+  pub delay : hit.delay < d
+  pub kept : HitIsKept y b m n hit
+
+-- only hits of delay d were added
+pub record AddsHitsOf (d : ℕ) (old new : List Hit) : Type 0 where
+  pub more : List Hit
+  pub grown : new ≡ old ++ more
+  pub own : All (λ hit. hit.delay ≡ d) more
 
 -- thresholds can judge the boxes of a row
 pub record CanJudge (b : RowTails) (first d : ℕ) (thresholds : BoxThresholds) : Type 0 where

@@ -1,6 +1,6 @@
 -- What contracts see of the search of a shard's path sums.
 -- Source: this project's choice.
-use Rattle.std.specs.Prelude.{◌≡◌, ℕ, ◌+◌, ◌-◌, ◌*◌, ◌≤◌, ◌<◌, List, map}
+use Rattle.std.specs.Prelude.{◌≡◌, ℕ, ◌+◌, ◌-◌, ◌*◌, ◌≤◌, ◌<◌, true, All, List, map}
 use Rattle.std.specs.List.{range_with_len}
 use Rattle.band_paths.specs.Edges.{channels_of}
 use Rattle.subband_plan.specs.Nodes.{BandPlan}
@@ -15,7 +15,7 @@ use Rattle.search_model.specs.Sums.{path_sum}
 use Rattle.dada_model.specs.Edges.{AreEdges}
 use Rattle.search_engine.specs.FoldSearch.{Fronts, HasDelay, FoldsFor, KeepsFrontOf}
 use Rattle.search_engine.specs.Thresholds.{pulses_of_hits}
-use Rattle.search_engine.specs.PulseSearch.{PulseState, SearchesDelay, SearchesFor, WideRowHas, RowsStandFor}
+use Rattle.search_engine.specs.PulseSearch.{PulseState, SearchesDelay, SearchesFor, WideRowHas, RowsStandFor, IsHitBelow}
 use Rattle.search_engine.specs.Pulses.{first_sums, pulses_of_end, pulses_of_ends}
 
 -- a carry over the delays of a shard, and the searches for pulses and for folds in its rows
@@ -36,11 +36,6 @@ sums_from_delay y d m = map (λ i. y d (d + i)) (range_with_len 0 (m - d))
 abbrev pub sum_bound : Carrying → Search → ℕ
 sum_bound c s = c.max_sample * (channels_of c.tables.plan.edges + s.max_delay)
 
--- the carry has a row for each delay of the search
-pub record HasRows (c : Carrying) (p : PulseState) : Type 0 where
-  pub first : c.tables.plan.first ≤ p.first
-  pub last : p.end ≤ c.tables.plan.last + 1
-
 -- the parts search the same delays, over as many channels, in as large chunks
 pub record FitTogether (s : ShardState) : Type 0 where
   pub band : AreEdges (channels_of s.carry.tables.plan.edges) s.carry.tables.plan.edges
@@ -54,7 +49,7 @@ pub record FitTogether (s : ShardState) : Type 0 where
       s.carry.tables.plan.first (s.carry.tables.plan.last + 1) (sum_bound s.carry s.pulses.search)
 
 -- The parts were fed the sums of a stream: for the delays below d, n more than those that end at the first m spectra.
--- The hits are those of these n spectra, for the delays below d.
+-- The hits are those of these n spectra, for the delays below d, and their rows are kept.
 pub record HaveTaken (y : ℕ → ℕ → ℕ) (p : PulseState) (g : Fronts) (m n d : ℕ) : Type 0 where
   pub rows_below : (e : ℕ) → SearchesDelay p e → e < d
       → WideRowHas p.boxes e (first_sums y e (m + n))
@@ -63,6 +58,7 @@ pub record HaveTaken (y : ℕ → ℕ → ℕ) (p : PulseState) (g : Fronts) (m 
   pub folds_from : (e : ℕ) → HasDelay g e → d ≤ e → KeepsFrontOf g e (sums_from_delay y e m)
   pub hits : (k : ℕ) → k < n → pulses_of_hits y p.search p.channels (m + k) p.hits
       ≡ pulses_of_end y p.search p.channels p.first d (m + k)
+  pub kept : All (IsHitBelow y p.boxes m n d) p.hits
 
 -- all parts were fed the first spectra of a stream
 pub record StandsForStream (s : ShardState) (f : Filterbank) : Type 0 where
@@ -81,6 +77,21 @@ pub record ContinuesStream (c : Carrying) (rows : List ℕ) (spectra : ℕ) : Ty
   pub stream : Filterbank
   pub stands : carry.StandsForSamples c stream
   pub next : AreNext c stream rows spectra
+
+-- the same of a carry amid a pass over these rows
+pub record PassesStream (c : Carrying) (rows : List ℕ) : Type 0 where
+  pub stream : Filterbank
+  pub stands : carry.StandsMidway c stream
+  pub next : AreNext c stream rows c.last
+
+-- the pass goes on, and has made the rows of the delays below d
+pub record IsPassedTo (before after : Carrying) (d : ℕ) : Type 0 where
+  pub tables : after.tables ≡ before.tables
+  pub max_sample : after.max_sample ≡ before.max_sample
+  pub fed : after.fed ≡ before.fed
+  pub last : after.last ≡ before.last
+  pub passing : after.is_passing ≡ true
+  pub next : after.next ≡ d
 
 -- both search for the same
 pub record SumsAlike (s t : ShardState) : Type 0 where

@@ -4,7 +4,7 @@ ghost use Rattle.dada_model.specs.Observation.{Observation as Described};
 ghost use Rattle.search_model.specs.Search.{SettingsInRange, shard_start as shard_start_of};
 ghost use Rattle.search_model.specs.Plan.{plan_refusal};
 ghost use Rattle.search_engine.specs.Plan.{Explains};
-ghost use Rattle.fdmt_carry.specs.Samples.{values_of};
+ghost use Rattle.row_schedule.specs.Samples.{values_of};
 ghost use Rattle.spectra_rows.specs.Unpacking.{StandsForBytes, unpacked, whole_spectra};
 ghost use Rattle.search_engine.specs.Engine.{EngineState, EngineIsSound, IsOpenedSums, StandsForData, HasSearched, IsOpenedEngine, IsOpenedUnpacker, SameShard, most_fed};
 
@@ -12,9 +12,10 @@ use crate::fault::PlanFault;
 use crate::plan::check_plan;
 use crate::shard::ShardSearch;
 use candidate_book::Book;
-use fdmt_carry::{Carry, Samples};
+use fdmt_carry::Carry;
 use obs_plan::Observation;
 use psr_base::Memory;
+use row_schedule::Samples;
 use search_model::Search;
 use spectra_rows::Unpacker;
 use std::alloc::Global;
@@ -23,8 +24,9 @@ use std::marker::Model;
 use dada_model::edges_fall;
 use search_model::{late_path_sums, samples_of_bytes};
 
-/// The most spectra that are searched at a time. Rows of so many values are an odd number of lines of the cache apart.
-const MOST_CHUNK: u32 = 240;
+/// The most spectra that are searched at a time. Rows of so many values of 16 bits are an odd number of lines of the
+/// cache apart.
+const MOST_CHUNK: u32 = 608;
 
 /// The search of one shard of an observation: data bytes are fed in pieces that are cut anywhere, and the candidates of
 /// the shard's delays are kept in a book. All memory is taken by `open`.
@@ -84,8 +86,8 @@ impl Engine {
         edges_fall();
         let chunk = search.chunk.min(MOST_CHUNK);
         let unpacker = open_unpacker(alloc, observation, chunk)?;
-        let sums = open_sums(alloc, observation, search, shard, chunk)?;
         let book = Book::open(alloc, search.max_candidates)?;
+        let sums = open_sums(alloc, observation, search, shard, chunk)?;
         Ok(Engine {
             search: *search,
             shard,
@@ -128,7 +130,7 @@ impl Engine {
         late_path_sums();
         let spectra = self.unpacker.spectra();
         self.sums
-            .take(samples(&self.unpacker), spectra, true, &mut self.book);
+            .take(samples(&self.unpacker), spectra, &mut self.book);
         self.unpacker.taken();
         self.sums.end(&mut self.book);
         self.has_ended = true;
@@ -195,7 +197,7 @@ impl Engine {
         self.fed += count as u64;
         if self.unpacker.spectra() == self.chunk {
             let rows = samples(&self.unpacker);
-            self.sums.take(rows, self.chunk, false, &mut self.book);
+            self.sums.pass(rows, self.chunk, &mut self.book);
             self.unpacker.taken();
         }
         count

@@ -2,22 +2,17 @@
 ghost use Rattle.std.specs.Prelude.{◌≡◌, ◌≢◌, ℕ, ◌+◌, ◌-◌, ◌*◌, ◌^◌, ◌≤◌, ◌<◌, ◌++◌, [], All, List, IfOk, length, vec_len, vec_capacity, option_to_list, map};
 ghost use Rattle.std.specs.List.{flat_map, range_with_len};
 ghost use Rattle.box_sums.specs.Rows.{IsWidth};
-ghost use Rattle.box_sums.specs.Tails.{KeepsRow, AreAlike};
-ghost use Rattle.fdmt_carry.specs.Carrying.{StandsForSamples};
-ghost use Rattle.search_model.specs.Samples.{Filterbank};
-ghost use Rattle.subband_plan.specs.Nodes.{HasRow, root};
+ghost use Rattle.box_sums.specs.Tails.{KeepsRow, AreAlike, IsNewest, IsKept};
 ghost use Rattle.search_model.specs.Search.{SettingsInRange};
 ghost use Rattle.search_engine.specs.Judging.{Adds};
 ghost use Rattle.search_engine.specs.Thresholds.{IsHit, AreThresholds, pulses_of_hits, pulse_of_hit};
-ghost use Rattle.search_engine.specs.PulseSearch.{PulseState, PulsesAreSound, SearchesDelay, SearchesFor, SearchAlike, RowsStandFor, AreFed, CanJudge, WideRowHas, WideRowFed, IsTakenRow};
+ghost use Rattle.search_engine.specs.PulseSearch.{PulseState, PulsesAreSound, SearchesDelay, SearchesFor, SearchAlike, RowsStandFor, CanJudge, WideRowHas, IsTakenRow, HitIsKept, IsHitBelow, AddsHitsOf};
 ghost use Rattle.search_model.specs.declared.search.Search.{Search};
-ghost use Rattle.search_engine.specs.Pulses.{first_sums, box_of, pulse_of, pulses_of_delay};
-ghost use Rattle.search_engine.specs.Sums.{HasRows, sums_of};
+ghost use Rattle.search_engine.specs.Pulses.{first_sums, IsRowOf, pulse_of, pulses_of_delay};
 
 use crate::thresholds::{BoxThresholds, Hit};
 use box_sums::Boxes;
 use candidate_book::Book;
-use fdmt_carry::Carry;
 use psr_base::Memory;
 use search_model::{Candidate, Search};
 use std::alloc::Global;
@@ -113,19 +108,21 @@ impl PulseSearch {
         requires room { length self.old.hits + 6 ≤ 6 * (self.old.end - self.old.first) }
         ensures alike { SearchAlike self.new self.old }
         ensures few { length self.new.hits ≤ length self.old.hits + 6 }
-        ensures count { WideRowFed self.new.boxes d (length row.now) }
-        ensures counts { (e n : ℕ) → SearchesDelay self.old e → e ≢ d
-            → WideRowFed self.old.boxes e n → WideRowFed self.new.boxes e n }
         ensures own { (xs : List ℕ) → WideRowHas self.old.boxes d xs
             → WideRowHas self.new.boxes d (xs ++ row.now) }
         ensures others { (e : ℕ) (xs : List ℕ) → SearchesDelay self.old e → e ≢ d
             → WideRowHas self.old.boxes e xs → WideRowHas self.new.boxes e xs }
-        ensures hits { (y : ℕ → ℕ → ℕ) (m k : ℕ)
-            → IsTakenRow y self.new.boxes d m row.now → k < length row.now
+        ensures hits { (y : ℕ → ℕ → ℕ) (m k : ℕ) → IsRowOf y d m row.now
+            → WideRowHas self.old.boxes d (first_sums y d m) → k < length row.now
             → pulses_of_hits y self.old.search self.old.channels (m + k) self.new.hits
             ≡ pulses_of_hits y self.old.search self.old.channels (m + k) self.old.hits
             ++ pulses_of_delay y self.old.search self.old.channels (m + k) d }
+        ensures kept { (y : ℕ → ℕ → ℕ) (m : ℕ) → IsRowOf y d m row.now
+            → WideRowHas self.old.boxes d (first_sums y d m)
+            → All (IsHitBelow y self.old.boxes m (length row.now) d) self.old.hits
+            → All (IsHitBelow y self.new.boxes m (length row.now) (d + 1)) self.new.hits }
     {
+        let before = self.hits.len();
         feed_boxes(&mut self.boxes, self.search.widest, d, row);
         note_hits(
             &mut self.hits,
@@ -135,68 +132,59 @@ impl PulseSearch {
             self.first,
             d,
         );
+        if self.hits.len() > before {
+            keep_row(&mut self.boxes, self.search.widest, d, row);
+        }
     }
 
-    /// Adds the detected boxes of the hits that end at the last spectra of a carry, of which the first is `start`, to a
-    /// book: by end, then in the order in which the hits were noted.
-    pub(crate) fn report(&self, carry: &Carry, start: u64, spectra: u32, book: &mut Book)
-        requires rows { HasRows carry.now self.now }
-        requires last { spectra ≡ carry.now.last }
-        requires start { start + spectra ≡ carry.now.fed }
-        requires fed { AreFed self.now self.now.end carry.now.last }
+    /// Adds the detected boxes of the hits that end at the spectra that were taken last, of which the first is `start`,
+    /// to a book: by end, then in the order in which the hits were noted.
+    pub(crate) fn report(&self, start: u64, spectra: u32, book: &mut Book)
+        requires short { spectra ≤ self.now.boxes.chunk }
         requires early { start + spectra < 2 ^ 62 }
         requires room { book.old.count + spectra * length self.now.hits < 2 ^ 63 }
         ensures count { book.new.count ≤ book.old.count + spectra * length self.now.hits }
-        ensures pulses { (f : Filterbank) → StandsForSamples carry.now f
-            → let y = sums_of f carry.now.tables.plan.edges in
-            RowsStandFor y self.now carry.now.fed
+        ensures pulses { (y : ℕ → ℕ → ℕ)
+            → All (HitIsKept y self.now.boxes start spectra) self.now.hits
             → Adds book.old book.new (flat_map
             (λ u. pulses_of_hits y self.now.search self.now.channels u self.now.hits)
             (range_with_len start spectra)) }
     {
         for k in 0..spectra {
-            self.report_end(carry, start, k, book);
+            self.report_end(start, k, book);
         }
     }
 
     // Adds those that end at the k-th of these spectra.
-    fn report_end(&self, carry: &Carry, start: u64, k: u32, book: &mut Book)
-        requires rows { HasRows carry.now self.now }
-        requires spectrum { k < carry.now.last }
-        requires start { start + carry.now.last ≡ carry.now.fed }
-        requires fed { AreFed self.now self.now.end carry.now.last }
+    fn report_end(&self, start: u64, k: u32, book: &mut Book)
+        requires spectrum { k < self.now.boxes.chunk }
         requires early { start + k < 2 ^ 62 }
         requires room { book.old.count + length self.now.hits < 2 ^ 63 }
         ensures count { book.new.count ≤ book.old.count + length self.now.hits }
-        ensures pulses { (f : Filterbank) → StandsForSamples carry.now f
-            → let y = sums_of f carry.now.tables.plan.edges in
-            RowsStandFor y self.now carry.now.fed
+        ensures pulses { (y : ℕ → ℕ → ℕ) (n : ℕ) → k < n
+            → All (HitIsKept y self.now.boxes start n) self.now.hits
             → Adds book.old book.new
             (pulses_of_hits y self.now.search self.now.channels (start + k) self.now.hits) }
     {
         for at in 0..self.hits.len() {
             let hit = self.hits[at];
-            self.report_hit(carry, &hit, start, k, book);
+            self.report_hit(&hit, start, k, book);
         }
     }
 
     // Adds the box of a hit, if it begins at the delay or later and is detected.
-    fn report_hit(&self, carry: &Carry, hit: &Hit, start: u64, k: u32, book: &mut Book)
+    fn report_hit(&self, hit: &Hit, start: u64, k: u32, book: &mut Book)
         requires hit { IsHit self.now.search self.now.channels self.now.first self.now.end hit.now }
-        requires rows { HasRows carry.now self.now }
-        requires spectrum { k < carry.now.last }
-        requires start { start + carry.now.last ≡ carry.now.fed }
-        requires fed { WideRowFed self.now.boxes hit.now.delay carry.now.last }
+        requires spectrum { k < self.now.boxes.chunk }
         requires early { start + k < 2 ^ 62 }
         requires room { book.old.count < 2 ^ 63 }
         ensures count { book.new.count ≤ book.old.count + 1 }
-        ensures pulse { (f : Filterbank) → StandsForSamples carry.now f
-            → let y = sums_of f carry.now.tables.plan.edges in
-            WideRowHas self.now.boxes hit.now.delay (first_sums y hit.now.delay carry.now.fed)
+        ensures pulse { (y : ℕ → ℕ → ℕ) (n : ℕ) → k < n → HitIsKept y self.now.boxes start n hit.now
             → Adds book.old book.new
             (pulse_of_hit y self.now.search self.now.channels (start + k) hit.now) }
     {
         tests_detection();
+        sums_add_values();
         let Hit {
             delay,
             width,
@@ -206,7 +194,7 @@ impl PulseSearch {
         if u64::from(delay) + u64::from(width) > end + 1 {
             return;
         }
-        let sum = box_at(&self.boxes, carry, delay, k, width);
+        let sum = self.boxes.sum(delay, k, width);
         if sum >= least {
             book.add(Candidate::Pulse {
                 end,
@@ -225,38 +213,41 @@ fn feed_boxes(boxes: &mut Boxes, widest: u32, d: u32, row: &[u32])
     requires short { length row.now ≤ boxes.old.chunk }
     requires small { All (λ x. x ≤ boxes.old.bound) row.now }
     ensures alike { AreAlike boxes.new boxes.old }
-    ensures newest { 1 < boxes.new.widest → d ≡ boxes.new.newest }
-    ensures count { WideRowFed boxes.new d (length row.now) }
-    ensures counts { (e n : ℕ) → KeepsRow boxes.old e → e ≢ d
-        → WideRowFed boxes.old e n → WideRowFed boxes.new e n }
+    ensures last { 1 < boxes.new.widest → boxes.new.newest ≡ d }
     ensures own { (xs : List ℕ) → WideRowHas boxes.old d xs
         → WideRowHas boxes.new d (xs ++ row.now) }
+    ensures newest { (xs : List ℕ) → WideRowHas boxes.old d xs → 1 < boxes.new.widest
+        → IsNewest boxes.new d (length row.now) (xs ++ row.now) }
     ensures others { (e : ℕ) (xs : List ℕ) → KeepsRow boxes.old e → e ≢ d
         → WideRowHas boxes.old e xs → WideRowHas boxes.new e xs }
+    ensures kept { (e n : ℕ) (xs : List ℕ) → IsKept boxes.old e n xs → IsKept boxes.new e n xs }
 {
     if widest > 1 {
         boxes.feed_row(d, row);
     }
 }
 
-// The box of a width that ends at the k-th of the last spectra of a carry. One of one sum is the sum.
-fn box_at(boxes: &Boxes, carry: &Carry, d: u32, k: u32, width: u32) -> u32
-    requires row { HasRow (root carry.now.tables.plan) d }
-    requires keeps { KeepsRow boxes.now d }
-    requires spectrum { k < carry.now.last }
-    requires fed { WideRowFed boxes.now d carry.now.last }
-    requires width { IsWidth width }
-    requires narrow { width ≤ boxes.now.widest }
-    ensures { (f : Filterbank) → StandsForSamples carry.now f
-        → let y = sums_of f carry.now.tables.plan.edges in
-        WideRowHas boxes.now d (first_sums y d carry.now.fed)
-        → result ≡ box_of y d (carry.now.fed - carry.now.last + k) width }
+// Keeps row `d`, which was taken last. Boxes of one sum are fed only then.
+fn keep_row(boxes: &mut Boxes, widest: u32, d: u32, row: &[u32])
+    requires widest { widest ≡ boxes.old.widest }
+    requires row { KeepsRow boxes.old d }
+    requires short { length row.now ≤ boxes.old.chunk }
+    requires small { All (λ x. x ≤ boxes.old.bound) row.now }
+    requires last { 1 < boxes.old.widest → boxes.old.newest ≡ d }
+    ensures alike { AreAlike boxes.new boxes.old }
+    ensures rows { (e : ℕ) (xs : List ℕ) → WideRowHas boxes.old e xs → WideRowHas boxes.new e xs }
+    ensures own { (xs : List ℕ)
+        → (1 < boxes.old.widest → IsNewest boxes.old d (length row.now) (xs ++ row.now))
+        → IsKept boxes.new d (length row.now) (xs ++ row.now) }
+    ensures others { (e n : ℕ) (xs : List ℕ) → KeepsRow boxes.old e → e ≢ d
+        → IsKept boxes.old e n xs → IsKept boxes.new e n xs }
 {
-    if width < 2 {
-        return carry.sum(d, k);
+    if widest > 1 {
+        boxes.keep_newest();
+        return;
     }
-    sums_add_values();
-    boxes.sum(d, k, width)
+    boxes.feed_row(d, row);
+    boxes.keep_newest();
 }
 
 // Notes the widths at which a box over row `d`, which was taken last, is detected.
@@ -269,13 +260,13 @@ fn note_hits(
     d: u32,
 )
     requires above { first ≤ d }
-    requires newest { 1 < boxes.now.widest → d ≡ boxes.now.newest }
     requires by_width { All (CanJudge boxes.now first d) by_width.now }
     requires room { vec_len hits.old + length by_width.now ≤ vec_capacity hits.old }
     ensures capacity { vec_capacity hits.new ≡ vec_capacity hits.old }
     ensures few { length hits.new.items ≤ length hits.old.items + length by_width.now }
     ensures hits { (s : Search) (n end : ℕ) → All (AreThresholds s n first end) by_width.now
         → All (IsHit s n first end) hits.old.items → All (IsHit s n first end) hits.new.items }
+    ensures own { AddsHitsOf d hits.old.items hits.new.items }
     ensures pulses { (s : Search) (n end m k : ℕ) (y : ℕ → ℕ → ℕ)
         → All (AreThresholds s n first end) by_width.now
         → IsTakenRow y boxes.now d m row.now → k < length row.now

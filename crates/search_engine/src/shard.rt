@@ -1,8 +1,8 @@
 // The search of a shard's path sums, chunk by chunk.
-ghost use Rattle.std.specs.Prelude.{◌≡◌, ℕ, ◌+◌, ◌-◌, ◌*◌, ◌^◌, ◌≤◌, ◌<◌, [], All, Bool, IfOk, IsTrue, List, length, drop};
+ghost use Rattle.std.specs.Prelude.{◌≡◌, ℕ, ◌+◌, ◌-◌, ◌*◌, ◌^◌, ◌≤◌, ◌<◌, [], true, false, All, IfOk, IsTrue, List, length, drop};
 ghost use Rattle.band_paths.specs.Edges.{channels_of};
-ghost use Rattle.fdmt_carry.specs.Carrying.{AreNext, IsStream, StandsForSamples};
-ghost use Rattle.fdmt_carry.specs.Samples.{values_of};
+ghost use Rattle.fdmt_carry.specs.Carrying.{AreNext, AreThere, IsOpened, IsStream, StandsForSamples, StandsMidway};
+ghost use Rattle.row_schedule.specs.Samples.{values_of};
 ghost use Rattle.search_model.specs.Samples.{Filterbank};
 ghost use Rattle.search_model.specs.Search.{SettingsInRange, folds_are_on};
 ghost use Rattle.dada_model.specs.Edges.{AreEdges};
@@ -10,21 +10,25 @@ ghost use Rattle.subband_plan.specs.Plans.{band_plan};
 ghost use Rattle.search_engine.specs.Counts.{most_pulses_at_end, most_folds};
 ghost use Rattle.search_engine.specs.FoldSearch.{IsDelayRange, FoldsFit, HasDelay, FoldsAlike};
 ghost use Rattle.search_engine.specs.Judging.{Adds};
-ghost use Rattle.search_engine.specs.PulseSearch.{SearchesDelay, SearchAlike, AreFed};
+ghost use Rattle.search_engine.specs.PulseSearch.{SearchesDelay, SearchAlike};
 ghost use Rattle.search_engine.specs.Pulses.{IsRowOf};
-ghost use Rattle.search_engine.specs.Sums.{ShardState, FitTogether, StandsForStream, HasStream, ContinuesStream, HaveTaken, SumsAlike, sums_of, pulses_of_plan, folds_of_plan};
+ghost use Rattle.search_engine.specs.Sums.{ShardState, FitTogether, StandsForStream, HasStream, ContinuesStream, PassesStream, IsPassedTo, HaveTaken, SumsAlike, sums_of, pulses_of_plan, folds_of_plan};
 
 use crate::fold_search::FoldSearch;
 use crate::pulse_search::PulseSearch;
 use candidate_book::Book;
-use fdmt_carry::{Carry, Samples};
+use fdmt_carry::Carry;
 use psr_base::Memory;
+use row_schedule::Samples;
 use search_model::Search;
 // A law: it does nothing when it runs, and the proofs use what it ensures.
 use search_model::sums_are_bounded;
 use std::alloc::Global;
 use std::marker::Model;
 use subband_plan::Plan;
+
+/// Of how many spectra the tables of all nodes are made at the end, at most. They would take much memory for a chunk.
+const MOST_TABLES: u32 = 16;
 
 /// The path sums of a shard's delays, and the search for pulses and folds in them.
 #[derive(Drop)]
@@ -45,7 +49,8 @@ impl Model for ShardSearch {
       carry = s.carry;
       pulses = s.pulses;
       folds = s.folds;
-    }) × (s.first ≡ s.pulses.first) × (s.end ≡ s.pulses.end) };
+    }) × (s.first ≡ s.pulses.first) × (s.end ≡ s.pulses.end)
+        × (s.carry.is_passing ≡ false) };
 }
 
 impl ShardSearch {
@@ -83,10 +88,10 @@ impl ShardSearch {
     {
         let channels = (edges.len() - 1) as u32;
         let bound = max_sample * (channels + search.max_delay);
-        let plan = Plan::open(alloc, edges, first, end - 1)?;
-        let carry = Carry::open(alloc, plan, chunk, max_sample)?;
         let pulses = PulseSearch::open(alloc, search, channels, first, end, chunk, bound)?;
         let folds = FoldSearch::open(alloc, search, channels, first, end, bound)?;
+        let plan = Plan::open(alloc, edges, first, end - 1)?;
+        let carry = open_carry(alloc, plan, chunk, max_sample)?;
         Ok(ShardSearch {
             carry,
             pulses,
@@ -96,15 +101,9 @@ impl ShardSearch {
         })
     }
 
-    /// Takes the next spectra, as a carry takes them, and adds the pulses that end at them to a book. The tables of all
-    /// nodes stand after it where they are asked for.
-    pub(crate) fn take(
-        &mut self,
-        samples: Samples<'_>,
-        spectra: u32,
-        with_tables: bool,
-        book: &mut Book,
-    )
+    /// Takes the next spectra, whose samples of channel `c` begin at `c` times the chunk, and adds the pulses that end at
+    /// them to a book. The row of each delay is searched as it is made.
+    pub(crate) fn pass(&mut self, samples: Samples<'_>, spectra: u32, book: &mut Book)
         requires rows { length (values_of samples)
             ≡ channels_of self.old.carry.tables.plan.edges * self.old.carry.tables.chunk }
         requires short { spectra ≤ self.old.carry.tables.chunk }
@@ -113,7 +112,45 @@ impl ShardSearch {
         requires room { book.old.count + most_pulses_at_end * spectra < 2 ^ 63 }
         ensures alike { SumsAlike self.new self.old }
         ensures fed { self.new.carry.fed ≡ self.old.carry.fed + spectra }
-        ensures tables { self.new.carry.has_tables ≡ with_tables }
+        ensures count { book.new.count ≤ book.old.count + most_pulses_at_end * spectra }
+        ensures carried { (f : Filterbank) → StandsForSamples self.old.carry f
+            → AreNext self.old.carry f (values_of samples.entry) spectra
+            → StandsForSamples self.new.carry f }
+        ensures stands { (f : Filterbank) → StandsForStream self.old f
+            → AreNext self.old.carry f (values_of samples.entry) spectra
+            → StandsForStream self.new f }
+        ensures pulses { (f : Filterbank) → StandsForStream self.old f
+            → AreNext self.old.carry f (values_of samples.entry) spectra → Adds book.old book.new
+            (pulses_of_plan f self.old.carry.tables.plan self.old.pulses.search
+            self.old.carry.fed spectra) }
+    {
+        let start = self.carry.fed();
+        self.carry.begin(spectra);
+        self.pulses.begin();
+        pass_rows(
+            &mut self.pulses,
+            &mut self.folds,
+            &mut self.carry,
+            samples,
+            start,
+            self.first,
+            self.end,
+        );
+        self.carry.finish();
+        self.pulses.report(start, spectra, book);
+    }
+
+    // Takes the next spectra, so few, as `pass` does, but makes the tables of all nodes first, which stand after it.
+    fn take_tables(&mut self, samples: Samples<'_>, spectra: u32, book: &mut Book)
+        requires rows { AreThere self.old.carry (values_of samples) spectra }
+        requires most { spectra ≤ self.old.carry.tables.most }
+        requires short { spectra ≤ self.old.carry.tables.chunk }
+        requires few { self.old.carry.fed + spectra ≤ 2 ^ 48 }
+        requires stream { ContinuesStream self.old.carry (values_of samples) spectra }
+        requires room { book.old.count + most_pulses_at_end * spectra < 2 ^ 63 }
+        ensures alike { SumsAlike self.new self.old }
+        ensures fed { self.new.carry.fed ≡ self.old.carry.fed + spectra }
+        ensures tables { self.new.carry.has_tables ≡ true }
         ensures count { book.new.count ≤ book.old.count + most_pulses_at_end * spectra }
         ensures stands { (f : Filterbank) → StandsForStream self.old f
             → AreNext self.old.carry f (values_of samples.entry) spectra
@@ -124,7 +161,7 @@ impl ShardSearch {
             self.old.carry.fed spectra) }
     {
         let start = self.carry.fed();
-        self.carry.take(samples, spectra, with_tables);
+        self.carry.take(samples, spectra);
         self.pulses.begin();
         take_rows(
             &mut self.pulses,
@@ -134,7 +171,34 @@ impl ShardSearch {
             self.first,
             self.end,
         );
-        self.pulses.report(&self.carry, start, spectra, book);
+        self.pulses.report(start, spectra, book);
+    }
+
+    /// Takes the next spectra as `pass` does, but the last of them, as many as there is room for, with the tables of all
+    /// nodes, which stand after it.
+    pub(crate) fn take(&mut self, samples: Samples<'_>, spectra: u32, book: &mut Book)
+        requires rows { length (values_of samples)
+            ≡ channels_of self.old.carry.tables.plan.edges * self.old.carry.tables.chunk }
+        requires short { spectra ≤ self.old.carry.tables.chunk }
+        requires few { self.old.carry.fed + spectra ≤ 2 ^ 48 }
+        requires stream { ContinuesStream self.old.carry (values_of samples) spectra }
+        requires room { book.old.count + most_pulses_at_end * spectra < 2 ^ 63 }
+        ensures alike { SumsAlike self.new self.old }
+        ensures fed { self.new.carry.fed ≡ self.old.carry.fed + spectra }
+        ensures tables { self.new.carry.has_tables ≡ true }
+        ensures count { book.new.count ≤ book.old.count + most_pulses_at_end * spectra }
+        ensures stands { (f : Filterbank) → StandsForStream self.old f
+            → AreNext self.old.carry f (values_of samples.entry) spectra
+            → StandsForStream self.new f }
+        ensures pulses { (f : Filterbank) → StandsForStream self.old f
+            → AreNext self.old.carry f (values_of samples.entry) spectra → Adds book.old book.new
+            (pulses_of_plan f self.old.carry.tables.plan self.old.pulses.search
+            self.old.carry.fed spectra) }
+    {
+        let last = spectra.min(self.carry.most());
+        let before = spectra - last;
+        self.pass(samples, before, book);
+        self.take_tables(samples.skip(before as usize), last, book);
     }
 
     /// Adds the folds of all that was taken to a book.
@@ -165,7 +229,67 @@ impl ShardSearch {
     }
 }
 
-// Takes the rows of all delays, whose sums end at spectrum `start` and after it.
+// The carry of a plan, with room for the tables of all nodes of a few spectra alone.
+fn open_carry(alloc: Global, plan: Plan, chunk: u32, max_sample: u32) -> Result<Carry, Memory>
+    requires some { 1 ≤ chunk }
+    requires short { chunk ≤ 65536 }
+    requires fits { max_sample * (channels_of plan.edges + plan.last) < 2 ^ 32 }
+    ensures opened { IfOk result (λ c. IsOpened c plan chunk c.tables.most max_sample) }
+    ensures stands { IfOk result (λ c. (f : Filterbank) → IsStream plan max_sample f
+        → StandsForSamples c f) }
+{
+    let most = chunk.min(MOST_TABLES);
+    Carry::open_passing(alloc, plan, chunk, most, max_sample)
+}
+
+// Makes the rows of all delays in a pass, and takes each; their sums end at spectrum `start` and after it.
+fn pass_rows(
+    pulses: &mut PulseSearch,
+    folds: &mut FoldSearch,
+    carry: &mut Carry,
+    samples: Samples<'_>,
+    start: u64,
+    first: u32,
+    end: u32,
+)
+    requires first { pulses.old.first ≡ first }
+    requires end { pulses.old.end ≡ end }
+    requires order { first ≤ end }
+    requires fit { FitTogether (record {
+      carry = carry.old;
+      pulses = pulses.old;
+      folds = folds.old;
+    }) }
+    requires passing { carry.old.is_passing ≡ true }
+    requires next { carry.old.next ≡ first }
+    requires short { carry.old.last ≤ carry.old.tables.chunk }
+    requires start { start ≡ carry.old.fed }
+    requires rows { length (values_of samples)
+        ≡ channels_of carry.old.tables.plan.edges * carry.old.tables.chunk }
+    requires stream { PassesStream carry.old (values_of samples) }
+    requires none { pulses.old.hits ≡ [] }
+    ensures carry { IsPassedTo carry.old carry.new end }
+    ensures pulses { SearchAlike pulses.new pulses.old }
+    ensures folds { FoldsAlike folds.new folds.old }
+    ensures few { length pulses.new.hits ≤ 6 * (end - first) }
+    ensures stands { (f : Filterbank) → StandsMidway carry.old f
+        → AreNext carry.old f (values_of samples.entry) carry.old.last
+        → StandsMidway carry.new f }
+    ensures taken { (f : Filterbank) → StandsMidway carry.old f
+        → AreNext carry.old f (values_of samples.entry) carry.old.last
+        → HaveTaken (sums_of f carry.old.tables.plan.edges) pulses.old folds.old start
+        carry.old.last first
+        → HaveTaken (sums_of f carry.old.tables.plan.edges) pulses.new folds.new start
+        carry.old.last end }
+{
+    sums_are_bounded();
+    for d in first..end {
+        carry.make_row(samples);
+        take_row(pulses, folds, carry.made(), start, d);
+    }
+}
+
+// Takes the rows of all delays of a carry, whose sums end at spectrum `start` and after it.
 fn take_rows(
     pulses: &mut PulseSearch,
     folds: &mut FoldSearch,
@@ -182,6 +306,7 @@ fn take_rows(
       pulses = pulses.old;
       folds = folds.old;
     }) }
+    requires tables { carry.now.has_tables ≡ true }
     requires short { carry.now.last ≤ carry.now.tables.chunk }
     requires start { start + carry.now.last ≡ carry.now.fed }
     requires stream { HasStream carry.now }
@@ -189,8 +314,7 @@ fn take_rows(
     ensures pulses { SearchAlike pulses.new pulses.old }
     ensures folds { FoldsAlike folds.new folds.old }
     ensures few { length pulses.new.hits ≤ 6 * (end - first) }
-    ensures fed { AreFed pulses.new end carry.now.last }
-    ensures stands { (f : Filterbank) → StandsForSamples carry.now f
+    ensures taken { (f : Filterbank) → StandsForSamples carry.now f
         → HaveTaken (sums_of f carry.now.tables.plan.edges) pulses.old folds.old start
         carry.now.last first
         → HaveTaken (sums_of f carry.now.tables.plan.edges) pulses.new folds.new start
@@ -213,9 +337,7 @@ fn take_row(pulses: &mut PulseSearch, folds: &mut FoldSearch, row: &[u32], start
     ensures pulses { SearchAlike pulses.new pulses.old }
     ensures folds { FoldsAlike folds.new folds.old }
     ensures few { length pulses.new.hits ≤ length pulses.old.hits + 6 }
-    ensures fed { AreFed pulses.old d (length row.now)
-        → AreFed pulses.new (d + 1) (length row.now) }
-    ensures stands { (y : ℕ → ℕ → ℕ) → IsRowOf y d start row.now
+    ensures taken { (y : ℕ → ℕ → ℕ) → IsRowOf y d start row.now
         → HaveTaken y pulses.old folds.old start (length row.now) d
         → HaveTaken y pulses.new folds.new start (length row.now) (d + 1) }
 {

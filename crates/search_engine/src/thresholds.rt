@@ -99,9 +99,9 @@ impl BoxThresholds {
     pub(crate) fn hit(&self, boxes: &Boxes, row: &[u32], first: u32, d: u32) -> Option<Hit>
         requires above { first ≤ d }
         requires below { d < first + length self.now.least_sums.items }
-        requires newest { 1 < boxes.now.widest → d ≡ boxes.now.newest }
         requires width { IsWidth self.now.width }
         requires narrow { self.now.width ≤ boxes.now.widest }
+        ensures own { IfSome result (λ hit. hit.delay ≡ d) }
         ensures hit { (s : Search) (n end : ℕ) → AreThresholds s n first end self.now
             → IfSome result (IsHit s n first end) }
         ensures pulses { (s : Search) (n end m k : ℕ) (y : ℕ → ℕ → ℕ)
@@ -111,7 +111,7 @@ impl BoxThresholds {
             ≡ pulse_of y s n (m + k) d self.now.width }
     {
         tests_detection();
-        let most = greatest_box(boxes, row, d, self.width);
+        let most = greatest_box(boxes, row, self.width);
         let least = self.least_sums[(d - first) as usize]?;
         if most >= least {
             Some(Hit {
@@ -125,13 +125,12 @@ impl BoxThresholds {
     }
 }
 
-// No box of a width that ends at one of the sums of row `d`, which was taken last, is greater. A box of one sum is that
+// No box of a width that ends at one of the sums of a row, which was taken last, is greater. A box of one sum is that
 // sum.
-fn greatest_box(boxes: &Boxes, row: &[u32], d: u32, width: u32) -> u32
-    requires newest { 1 < boxes.now.widest → d ≡ boxes.now.newest }
+fn greatest_box(boxes: &Boxes, row: &[u32], width: u32) -> u32
     requires width { IsWidth width }
     requires narrow { width ≤ boxes.now.widest }
-    ensures { (y : ℕ → ℕ → ℕ) (m k : ℕ) → IsTakenRow y boxes.now d m row.now → k < length row.now
+    ensures { (y : ℕ → ℕ → ℕ) (d m k : ℕ) → IsTakenRow y boxes.now d m row.now → k < length row.now
         → box_of y d (m + k) width ≤ result }
 {
     if width < 2 {

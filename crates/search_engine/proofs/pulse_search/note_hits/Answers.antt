@@ -6,7 +6,9 @@ use Rattle.std.proofs.lemmas.List.Elements.{All-get_or}
 use Rattle.search_engine.specs.declared.thresholds.Hit.{Hit}
 use Rattle.search_engine.specs.declared.thresholds.BoxThresholds.{BoxThresholds}
 use Rattle.search_engine.specs.Thresholds.{IsHit, AreThresholds, pulses_of_hits, pulse_of_hit}
+use Rattle.search_engine.specs.PulseSearch.{AddsHitsOf}
 use Rattle.search_engine.specs.Pulses.{pulse_of}
+use Rattle.search_engine.proofs.Hits.{one_noted}
 use Rattle.search_engine.proofs.Pieces.{noted_more, all_noted}
 use Rattle.search_engine.proofs.pulse_search.note_hits.Goals as goal
 
@@ -32,6 +34,8 @@ loop-thresholds-preserved c =
       hits = λ s n end all start. subst (All (IsHit s n a.first end)) (sym c.note.ensures.items)
           (all_noted (IsHit s n a.first end) c.loop-thresholds.hits.items c.hit.result (before.hits s n end all start)
           (c.hit.ensures.hit s n end (P (AreThresholds s n a.first end) all)));
+      own = subst (AddsHitsOf a.d a.hits.now.items) (sym c.note.ensures.items)
+          (one_noted a.d a.hits.now.items c.loop-thresholds.hits.items c.hit.result before.own c.hit.ensures.own);
       pulses = λ s n end m k y all stands below.
           noted_more (λ hit. pulse_of_hit y s n (m + k) hit) (λ (l : BoxThresholds). pulse_of y s n (m + k) a.d l.width)
           a.hits.now.items c.loop-thresholds.hits.items c.note.new.hits.items c.hit.result a.by_width.now i thresholds

@@ -2,7 +2,7 @@ use Rattle.std.proofs.Common.{◌≡◌, ◌+◌, ◌<◌, ◌≤◌, ◌++◌, 
 use Rattle.std.specs.List.{flat_map}
 use Rattle.search_model.specs.declared.search.Search.{Search}
 use Rattle.search_engine.specs.Thresholds.{IsHit, AreThresholds, pulses_of_hits}
-use Rattle.search_engine.specs.PulseSearch.{IsTakenRow}
+use Rattle.search_engine.specs.PulseSearch.{IsTakenRow, AddsHitsOf}
 use Rattle.search_engine.specs.Pulses.{pulse_of}
 use Rattle.search_engine.proofs.pulse_search.note_hits.Given as goal
 
@@ -13,6 +13,7 @@ invariant-loop-thresholds l = record {
   few : length l.hits.items ≤ length l.fn.hits.items + l.thresholds-index;
   hits : (s : Search) (n end : ℕ) → All (AreThresholds s n l.first end) l.by_width
       → All (IsHit s n l.first end) l.fn.hits.items → All (IsHit s n l.first end) l.hits.items;
+  own : AddsHitsOf l.d l.fn.hits.items l.hits.items;
   pulses : (s : Search) (n end m k : ℕ) (y : ℕ → ℕ → ℕ) → All (AreThresholds s n l.first end) l.by_width
       → IsTakenRow y l.boxes l.d m l.row → k < length l.row
       → pulses_of_hits y s n (m + k) l.hits.items ≡ pulses_of_hits y s n (m + k) l.fn.hits.items

@@ -2,7 +2,7 @@ use Rattle.std.proofs.Common.{◌-◌, ◌*◌, ◌≤◌, length}
 use Rattle.fdmt_carry.specs.Carrying.{StandsForSamples}
 use Rattle.search_model.specs.Samples.{Filterbank}
 use Rattle.search_engine.specs.FoldSearch.{FoldsAlike}
-use Rattle.search_engine.specs.PulseSearch.{SearchAlike, AreFed}
+use Rattle.search_engine.specs.PulseSearch.{SearchAlike}
 use Rattle.search_engine.specs.Sums.{HaveTaken, sums_of}
 use Rattle.search_engine.proofs.shard.take_rows.Given as goal
 
@@ -12,8 +12,7 @@ invariant-loop-d l = record {
   pulses : SearchAlike l.pulses l.fn.pulses;
   folds : FoldsAlike l.folds l.fn.folds;
   few : length l.pulses.hits ≤ 6 * (l.d - l.first);
-  fed : AreFed l.pulses l.d l.carry.last;
-  stands : (f : Filterbank) → StandsForSamples l.carry f
+  taken : (f : Filterbank) → StandsForSamples l.carry f
       → HaveTaken (sums_of f l.carry.tables.plan.edges) l.fn.pulses l.fn.folds l.start l.carry.last l.first
       → HaveTaken (sums_of f l.carry.tables.plan.edges) l.pulses l.folds l.start l.carry.last l.d;
 }

@@ -3,7 +3,7 @@ use Rattle.candidate_book.specs.Book.{book_of}
 use Rattle.fdmt_carry.specs.Carrying as carry
 use Rattle.fdmt_carry.specs.Tables.{Tables}
 use Rattle.search_model.specs.declared.search.Search.{Search}
-use Rattle.fdmt_carry.specs.Samples.{values_of}
+use Rattle.row_schedule.specs.Samples.{values_of}
 use Rattle.search_model.specs.Samples.{Filterbank}
 use Rattle.search_model.specs.Observed.{filterbank_of}
 use Rattle.spectra_rows.specs.Unpacking.{Unpacking}

@@ -2,7 +2,7 @@ use Rattle.std.proofs.Common.{◌≡◌, ℕ, ◌+◌, ◌<◌, ◌++◌, All, L
 use Rattle.std.proofs.lemmas.List.Elements.{All-from_get_or}
 use Rattle.spectra_rows.specs.Unpacking.{Unpacking, spectrum_bytes}
 use Rattle.candidate_book.specs.Book.{book_of}
-use Rattle.fdmt_carry.specs.Samples.{values_of}
+use Rattle.row_schedule.specs.Samples.{values_of}
 use Rattle.search_engine.specs.Engine.{EngineState, BeginsWith, StandsForData}
 use Rattle.search_engine.proofs.Feeding.{piece_holds, begins_old, begins_less, rows_long, next_spectra, goes_on, few_spectra, searched_holds, size_is}
 use Rattle.search_engine.proofs.Searched.{book_more, pulses_so_far}
@@ -12,8 +12,8 @@ use Rattle.search_engine.proofs.engine.Engine.take_piece.Goals as goal
 bytes_are : (bytes : List ℕ) → ((i : ℕ) → Fits w8 (get_or bytes i 0)) → All (λ b. b < 256) bytes
 bytes_are bytes fits = All-from_get_or (λ b. b < 256) bytes 0 (λ i _. let fit = fits i in omega (arith, fit))
 
-pub take-requires-clause-rows : goal.take-requires-clause-rows
-take-requires-clause-rows c =
+pub pass-requires-clause-rows : goal.pass-requires-clause-rows
+pass-requires-clause-rows c =
     let w = c.self.invariant.0 in
     let most = c.requires.few in
     let fed = ap (λ (e : EngineState). e.fed) c.self.view_is in
@@ -23,8 +23,8 @@ take-requires-clause-rows c =
     (λ p. c.push-count.ensures.pieces w.bytes _ p) numbers (omega (arith, most, fed)) in
     rows_long c.edges_fall.ensures w.observation _ _ holds.searches c.samples-rows.ensures.long
 
-pub take-requires-clause-few : goal.take-requires-clause-few
-take-requires-clause-few c =
+pub pass-requires-clause-few : goal.pass-requires-clause-few
+pass-requires-clause-few c =
     let w = c.self.invariant.0 in
     let most = c.requires.few in
     let fed = ap (λ (e : EngineState). e.fed) c.self.view_is in
@@ -37,8 +37,8 @@ take-requires-clause-few c =
     let few = few_spectra w.observation _ _ c.self.inside.chunk holds (omega (arith, whole, full)) in
     omega (arith, few)
 
-pub take-requires-clause-stream : goal.take-requires-clause-stream
-take-requires-clause-stream c =
+pub pass-requires-clause-stream : goal.pass-requires-clause-stream
+pass-requires-clause-stream c =
     let w = c.self.invariant.0 in
     let most = c.requires.few in
     let fed = ap (λ (e : EngineState). e.fed) c.self.view_is in
@@ -51,8 +51,8 @@ take-requires-clause-stream c =
     goes_on c.samples_of_bytes.ensures w.observation _ (values_of c.samples-rows.result) _ c.self.inside.chunk holds
     (omega (arith, whole, full)) (λ k t. c.samples-rows.ensures.samples _ _ k t holds.pending)
 
-pub take-requires-clause-room : goal.take-requires-clause-room
-take-requires-clause-room c =
+pub pass-requires-clause-room : goal.pass-requires-clause-room
+pass-requires-clause-room c =
     let w = c.self.invariant.0 in
     let most = c.requires.few in
     let fed = ap (λ (e : EngineState). e.fed) c.self.view_is in
@@ -85,17 +85,17 @@ invariant_of-self c =
         observation = w.observation;
         bytes = w.bytes ++ take c.push-count.result c.args.bytes.now;
         taken = record {
-          holds = searched_holds w.observation _ (values_of c.samples-rows.result) _ c.taken.new.self c.take.new.self
-              c.take.new.book c.self.inside.has_ended c.self.inside.chunk holds c.taken.ensures.part (sym full ∙ whole)
-              (c.taken.ensures.given_up _ _) c.take.ensures.alike c.take.ensures.fed
-              (λ k t. c.samples-rows.ensures.samples _ _ k t holds.pending) c.take.ensures.stands;
+          holds = searched_holds w.observation _ (values_of c.samples-rows.result) _ c.taken.new.self c.pass.new.self
+              c.pass.new.book c.self.inside.has_ended c.self.inside.chunk holds c.taken.ensures.part (sym full ∙ whole)
+              (c.taken.ensures.given_up _ _) c.pass.ensures.alike c.pass.ensures.fed
+              (λ k t. c.samples-rows.ensures.samples _ _ k t holds.pending) c.pass.ensures.stands;
           part = none_left c.push-count.new.self c.taken.new.self c.taken.ensures.part (omega (arith, some, size))
               (omega (arith, chunk, least));
         };
         room = λ running.
             let room = w.room running in
-            let count = c.take.ensures.count in
-            let total = c.take.ensures.fed in
+            let count = c.pass.ensures.count in
+            let total = c.pass.ensures.fed in
             omega (arith, room, count, total);
       },
       c.self.invariant.1 ∙ sym (ap (λ (u : Unpacking). u.chunk) c.push-count.ensures.holds)
@@ -159,24 +159,24 @@ returns-then-spectra-self-clause-stands c = λ o before stands.
     let u = c.self.inside.sums.carry.fed in
     record {
       taken = record {
-        holds = searched_holds o all (values_of c.samples-rows.result) _ c.taken.new.self c.take.new.self
-            c.take.new.book c.self.inside.has_ended r holds c.taken.ensures.part (sym full ∙ whole)
-            (c.taken.ensures.given_up _ _) c.take.ensures.alike c.take.ensures.fed
-            (λ k t. c.samples-rows.ensures.samples _ _ k t holds.pending) c.take.ensures.stands;
+        holds = searched_holds o all (values_of c.samples-rows.result) _ c.taken.new.self c.pass.new.self
+            c.pass.new.book c.self.inside.has_ended r holds c.taken.ensures.part (sym full ∙ whole)
+            (c.taken.ensures.given_up _ _) c.pass.ensures.alike c.pass.ensures.fed
+            (λ k t. c.samples-rows.ensures.samples _ _ k t holds.pending) c.pass.ensures.stands;
         part = none_left c.push-count.new.self c.taken.new.self c.taken.ensures.part (omega (arith, some, size))
             (omega (arith, chunk, least));
       };
       book = λ f begins.
           let B : ℕ → Type 0 = λ n. BeginsWith o all n f in
-          let later = subst B c.take.ensures.fed begins in
+          let later = subst B c.pass.ensures.fed begins in
           let Q : ℕ → Type 0 =
-          λ n. c.take.new.book ≡ book_of c.self.inside.search.max_candidates
+          λ n. c.pass.new.book ≡ book_of c.self.inside.search.max_candidates
           (pulses_so_far o c.self.inside.search c.self.inside.shard f n) in
-          subst Q (sym c.take.ensures.fed)
-          (book_more c.edges_fall.ensures o _ f c.take.new.book u r holds.searches
+          subst Q (sym c.pass.ensures.fed)
+          (book_more c.edges_fall.ensures o _ f c.pass.new.book u r holds.searches
           (old.book f (begins_old c.samples_of_bytes.ensures o before _ _ (u + r) f old.taken.holds
           (omega arith) later))
-          (c.take.ensures.pulses f (holds.sums f (begins_less o all u (u + r) f (omega arith) later))
+          (c.pass.ensures.pulses f (holds.sums f (begins_less o all u (u + r) f (omega arith) later))
           (next_spectra o all (values_of c.samples-rows.result) _ r holds (omega (arith, whole, full))
           (λ k t. c.samples-rows.ensures.samples _ _ k t holds.pending) f later)));
     }

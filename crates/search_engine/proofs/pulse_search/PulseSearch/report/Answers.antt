@@ -1,7 +1,6 @@
 use Rattle.std.proofs.Common.{◌≡◌, subst, arith, refl}
 use Rattle.std.specs.List.{range_with_len, flat_map}
 use Rattle.search_engine.specs.Judging.{Adds}
-use Rattle.search_engine.specs.Sums.{sums_of}
 use Rattle.search_engine.specs.Thresholds.{pulses_of_hits}
 use Rattle.search_engine.proofs.Adding.{adds_more}
 use Rattle.search_engine.proofs.pulse_search.PulseSearch.report.Goals as goal
@@ -14,19 +13,17 @@ loop-k-preserved c =
     let many = before.count in
     record {
       count = omega (arith, few, many);
-      pulses = λ f carried stands.
-          let y = sums_of f c.args.carry.now.tables.plan.edges in
+      pulses = λ y kept.
           adds_more c.args.book.now c.loop-k.book c.report_end.new.book
           (λ u. pulses_of_hits y s.search s.channels u s.hits) c.args.start c.loop-k.k _ refl
-          (before.pulses f carried stands) (c.report_end.ensures.pulses f carried stands);
+          (before.pulses y kept) (c.report_end.ensures.pulses y c.args.spectra (omega arith) kept);
     }
 
 pub returns-clause-pulses : goal.returns-clause-pulses
-returns-clause-pulses c = λ f carried stands.
-    let y = sums_of f c.args.carry.now.tables.plan.edges in
+returns-clause-pulses c = λ y kept.
     let s = c.args.self.now in
     let end : c.loop-k.k ≡ c.args.spectra =
     (let past = c.loop-k-test.false in let to = c.loop-k.auto.k-end in omega arith) in
     subst (λ n. Adds c.args.book.now c.loop-k.book
     (flat_map (λ u. pulses_of_hits y s.search s.channels u s.hits) (range_with_len c.args.start n))) end
-    (c.loop-k.invariant.pulses f carried stands)
+    (c.loop-k.invariant.pulses y kept)

@@ -1,22 +1,13 @@
-use Rattle.std.proofs.Common.{◌≡◌, ℕ, ◌+◌, ◌<◌, List, length, vec_len, get_or, subst, sym, ap, arith, rules}
+use Rattle.std.proofs.Common.{◌≡◌, ◌+◌, ◌<◌, List, length, vec_len, get_or, subst, sym, ap, arith, rules}
 use Rattle.std.proofs.lemmas.List.{take_all}
 use Rattle.std.proofs.lemmas.List.Elements.{All-get_or}
-use Rattle.search_model.specs.declared.search.Search.{Search}
 use Rattle.search_engine.specs.declared.thresholds.Hit.{Hit}
 use Rattle.search_engine.specs.Judging.{Adds}
-use Rattle.search_engine.specs.Thresholds.{IsHit, pulses_of_hits, pulse_of_hit}
-use Rattle.search_engine.specs.PulseSearch.{PulseState, SearchesDelay}
-use Rattle.search_engine.specs.Sums.{sums_of}
+use Rattle.search_engine.specs.Thresholds.{pulses_of_hits, pulse_of_hit}
+use Rattle.search_engine.specs.PulseSearch.{PulseState, HitIsKept}
 use Rattle.search_engine.proofs.Adding.{adds_both, adds_same}
 use Rattle.search_engine.proofs.Pieces.{flat_take_more}
 use Rattle.search_engine.proofs.pulse_search.PulseSearch.report_end.Goals as goal
-
-own_delay : (s : Search) (n first end : ℕ) (p : PulseState) (hit : Hit) → first ≡ p.first → end ≡ p.end →
-    IsHit s n first end hit → SearchesDelay p hit.delay
-own_delay s n first end p hit ef ee is = record {
-  above = (let a = is.above in omega arith);
-  below = (let b = is.below in omega arith);
-}
 
 pub loop-at-preserved : goal.loop-at-preserved
 loop-at-preserved c =
@@ -31,25 +22,20 @@ loop-at-preserved c =
     c.len-at-end.ensures in omega arith) in
     let inside : at < length s.hits = subst (λ (xs : List Hit). at < length xs) seen within in
     let is : hit ≡ get_or s.hits at hit = subst (λ (xs : List Hit). hit ≡ get_or xs at hit) seen c.index.ensures in
-    let first = ap (λ (p : PulseState). p.first) c.self.view_is in
-    let end = ap (λ (p : PulseState). p.end) c.self.view_is in
-    let hit_is = subst (IsHit f.search f.channels f.first f.end) (sym c.index.ensures)
-    (All-get_or (IsHit f.search f.channels f.first f.end) f.hits.items at hit within c.self.invariant.hits) in
     record {
       count = let more = c.report_hit.ensures.count in let few = before.count in omega (arith, more, few);
-      pulses = λ f2 carried stands.
-          let y = sums_of f2 c.args.carry.now.tables.plan.edges in
+      pulses = λ y n below kept.
           let u = c.args.start + c.args.k in
           let piece = λ (h : Hit). pulse_of_hit y s.search s.channels u h in
-          let delay = own_delay f.search f.channels f.first f.end s hit first end hit_is in
+          let mine = subst (HitIsKept y s.boxes c.args.start n) (sym is)
+          (All-get_or (HitIsKept y s.boxes c.args.start n) s.hits at hit inside kept) in
           adds_same c.args.book.now c.report_hit.new.book _ _ (sym (flat_take_more piece s.hits at hit inside is))
-          (adds_both c.args.book.now c.loop-at.book c.report_hit.new.book _ _ (before.pulses f2 carried stands)
-          (c.report_hit.ensures.pulse f2 carried (stands hit.delay delay)));
+          (adds_both c.args.book.now c.loop-at.book c.report_hit.new.book _ _ (before.pulses y n below kept)
+          (c.report_hit.ensures.pulse y n below mine));
     }
 
 pub returns-clause-pulses : goal.returns-clause-pulses
-returns-clause-pulses c = λ f2 carried stands.
-    let y = sums_of f2 c.args.carry.now.tables.plan.edges in
+returns-clause-pulses c = λ y n below kept.
     let s = c.args.self.now in
     let f = c.self.inside in
     let past = c.loop-at-test.false in
@@ -58,4 +44,4 @@ returns-clause-pulses c = λ f2 carried stands.
     let count = c.len-at-end.ensures in
     subst (λ (xs : List Hit). Adds c.args.book.now c.loop-at.book
     (pulses_of_hits y s.search s.channels (c.args.start + c.args.k) xs))
-    (take_all c.loop-at.at s.hits (omega arith)) (c.loop-at.invariant.pulses f2 carried stands)
+    (take_all c.loop-at.at s.hits (omega arith)) (c.loop-at.invariant.pulses y n below kept)

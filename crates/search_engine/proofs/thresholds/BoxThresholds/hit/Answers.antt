@@ -14,7 +14,7 @@ returns-in_err-least-clause-pulses c = λ s n end m k y is taken inside.
     c.index.ensures in
     rw c.from_residual.ensures
     (sym (quiet_box c.tests_detection.ensures y s n (m + k) a.d a.self.now.width c.greatest_box-most.result
-    c.index.result.now out (c.greatest_box-most.ensures y m k taken inside) c.greatest_box-most.type_inv
+    c.index.result.now out (c.greatest_box-most.ensures y a.d m k taken inside) c.greatest_box-most.type_inv
     (λ x e. no_number c.index.result.now x c.greatest_box-most.result c.in_err-least.was e)))
 
 pub returns-then-most-least-clause-hit : goal.returns-then-most-least-clause-hit
@@ -38,7 +38,7 @@ returns-else-most-least-clause-pulses c = λ s n end m k y is taken inside.
     let out = least_at s n a.first end a.d a.self.now c.index.result.now is c.requires.above c.requires.below
     c.index.ensures in
     sym (quiet_box c.tests_detection.ensures y s n (m + k) a.d a.self.now.width c.greatest_box-most.result
-    c.index.result.now out (c.greatest_box-most.ensures y m k taken inside) c.greatest_box-most.type_inv
+    c.index.result.now out (c.greatest_box-most.ensures y a.d m k taken inside) c.greatest_box-most.type_inv
     (λ x e. subst (λ z. c.greatest_box-most.result < z) (let same : Some c.in_ok-least.least ≡ Some x =
     sym c.in_ok-least.was
     ∙ e in cc) c.if-most-least.false))

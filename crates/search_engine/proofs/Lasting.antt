@@ -1,0 +1,47 @@
+-- A chunk that is taken in two parts.
+use Rattle.std.proofs.Common.{◌≡◌, ℕ, ◌+◌, ◌*◌, ◌≤◌, List, ◌++◌, drop, slice_index, sym, ◌∙◌, ap, arith}
+use Rattle.std.proofs.lemmas.List.{get_or-drop}
+use Rattle.fdmt_carry.specs.Carrying.{Carrying, AreNext}
+use Rattle.fdmt_carry.specs.Tables.{Tables}
+use Rattle.band_paths.specs.Edges.{channels_of}
+use Rattle.candidate_book.specs.Book.{BookContents}
+use Rattle.search_model.specs.declared.search.Search.{Search}
+use Rattle.search_model.specs.Samples.{Filterbank}
+use Rattle.subband_plan.specs.Nodes.{BandPlan}
+use Rattle.search_engine.specs.Judging.{Adds}
+use Rattle.search_engine.specs.Sums.{ShardState, SumsAlike, pulses_of_plan, sums_of}
+use Rattle.search_engine.proofs.Adding.{adds_both, adds_same}
+use Rattle.search_engine.proofs.Searched.{ends_join}
+
+-- the first spectra are the next ones
+pub first_next : (c : Carrying) (f : Filterbank) (rows : List ℕ) (m n : ℕ) → m ≤ n → AreNext c f rows n →
+    AreNext c f rows m
+first_next c f rows m n le next channel i within early = next channel i within (omega arith)
+
+-- and after them the others are
+pub last_next : (c mid : Carrying) (f : Filterbank) (rows : List ℕ) (m n k : ℕ) → m + k ≡ n →
+    mid.tables ≡ c.tables → mid.fed ≡ c.fed + m → AreNext c f rows n → AreNext mid f (drop m rows) k
+last_next c mid f rows m n k all tables fed next channel i within early =
+    get_or-drop m rows (channel * mid.tables.chunk + i) 0
+    ∙ ap (λ (t : Tables). slice_index rows (m + (channel * t.chunk + i))) tables
+    ∙ ap (slice_index rows) (let e : m + (channel * c.tables.chunk + i) ≡ channel * c.tables.chunk + (m + i) =
+    omega arith in e)
+    ∙ next channel (m + i) within (omega arith)
+    ∙ ap (f.value channel) (let e : c.fed + (m + i) ≡ mid.fed + i = omega arith in e)
+
+-- the pulses of both parts are those of the chunk
+pub both_add : (f : Filterbank) (old mid : ShardState) (m n k : ℕ) (a b c : BookContents) → m + k ≡ n →
+    SumsAlike mid old → mid.carry.fed ≡ old.carry.fed + m →
+    Adds a b (pulses_of_plan f old.carry.tables.plan old.pulses.search old.carry.fed m) →
+    Adds b c (pulses_of_plan f mid.carry.tables.plan mid.pulses.search mid.carry.fed k) →
+    Adds a c (pulses_of_plan f old.carry.tables.plan old.pulses.search old.carry.fed n)
+both_add f old mid m n k a b c all alike fed first second =
+    let p = old.carry.tables.plan in
+    let s = old.pulses.search in
+    let u = old.carry.fed in
+    let same = ap (λ (t : Tables). pulses_of_plan f t.plan mid.pulses.search mid.carry.fed k) alike.tables
+    ∙ ap (λ (t : Search). pulses_of_plan f p t mid.carry.fed k) alike.search in
+    adds_same a c (pulses_of_plan f p s u m ++ pulses_of_plan f p s mid.carry.fed k) (pulses_of_plan f p s u n)
+    (ends_join (sums_of f p.edges) s (channels_of p.edges) p.first (p.last + 1) u m k mid.carry.fed (sym fed)
+    ∙ ap (pulses_of_plan f p s u) all)
+    (adds_both a b c _ _ first (adds_same b c _ _ same second))
