@@ -1,5 +1,5 @@
 //! The two rings that threads share by reference.
-ghost use Rattle.std.specs.Prelude.{◌≡◌, ◌≤◌, All, EachIndex, IfOk, IsSomeAnd, length, true, slice_get, Some};
+ghost use Rattle.std.specs.Prelude.{◌≡◌, ◌≤◌, All, EachIndex, IfOk, OnErr, IsSomeAnd, length, take, true, slice_get, Some};
 ghost use Rattle.ring_ends.specs.Passes.{ring_shape};
 ghost use Rattle.dada_hdu.specs.Shapes.{header_shape};
 ghost use Rattle.dada_hdu.specs.Pairs.{Pairs, PairsEach};
@@ -137,6 +137,29 @@ impl Hdu {
         ensures header { pass.new.header ≡ pass.old.header }
     {
         self.blocks.write(&mut pass.blocks, bytes, mark)
+    }
+
+    /// Seals the first `used` bytes of the space as the next block of the data ring, and answers its number. No byte is
+    /// copied: the space and that of the block change places.
+    pub fn write_space(
+        &self,
+        pass: &mut HduWriter,
+        space: &mut Vec<u8>,
+        used: usize,
+        mark: Mark,
+    ) -> Result<u64, WriteStop>
+        requires ring { WritesBoth self.now pass.old }
+        requires room { length space.old.items ≡ (data_shape self.now).size }
+        requires within { used ≤ (data_shape self.now).size }
+        requires fits { FitsMark (data_shape self.now).size mark (take used space.old.items) }
+        ensures ring { WritesBoth self.now pass.new }
+        ensures blocks { WriteAnswers pass.old.blocks (entry mark (take used space.old.items)) result
+            pass.new.blocks }
+        ensures header { pass.new.header ≡ pass.old.header }
+        ensures space { length space.new.items ≡ length space.old.items }
+        ensures kept { OnErr result (space.new ≡ space.old) }
+    {
+        self.blocks.write_space(&mut pass.blocks, space, used, mark)
     }
 
     /// Whether the data ring has room for a block at this moment. The pass stays as it is, and no look is counted.

@@ -41,17 +41,6 @@ same_lists s told headers headers' blocks blocks' e f was =
 pub full_keeps : (w w' : WriterView) (i c : ℕ) → IsFull w i c w' → w'.sealed ≡ w.sealed
 full_keeps w w' i c full = ap (λ (v : WriterView). v.sealed) full.in_turn.rest
 
--- where the data ring was full
-pub blocks_full : (s : Stream) (told : Told) (pass pass' : HduWriter) (i c : ℕ) → s.end ≡ None →
-    IsFull (writer_knows pass.blocks) i c (writer_knows pass'.blocks) → pass'.header ≡ pass.header →
-    IsRunning s told (sealed_headers pass) (sealed_blocks pass) →
-    IsFeeding s told (sealed_headers pass') (sealed_blocks pass')
-blocks_full s told pass pass' i c is full header was =
-    feeds_running s told (sealed_headers pass') (sealed_blocks pass') is
-    (same_lists s told (sealed_headers pass) (sealed_headers pass') (sealed_blocks pass) (sealed_blocks pass')
-    (ap (λ (p : WriterPass). (writer_knows p).sealed) header)
-    (full_keeps (writer_knows pass.blocks) (writer_knows pass'.blocks) i c full) was)
-
 -- where the header ring was
 pub headers_full : (s : Stream) (told : Told) (pass pass' : HduWriter) (i c : ℕ) → s.end ≡ None →
     IsFull (writer_knows pass.header) i c (writer_knows pass'.header) → pass'.blocks ≡ pass.blocks →
@@ -100,3 +89,19 @@ runs_on old new told headers headers' blocks blocks' source due same was stream 
           new.source).headers)) (sym due);
       stream = stream;
     }
+
+-- where the data ring was full, the same stream goes on
+pub blocks_full : (old new : Stream) (told : Told) (pass pass' : HduWriter) (i c : ℕ) → new.source ≡ old.source →
+    new.block ≡ old.block → new.held ≡ old.held → new.due ≡ old.due → new.header_due ≡ old.header_due →
+    new.end ≡ None → IsFull (writer_knows pass.blocks) i c (writer_knows pass'.blocks) → pass'.header ≡ pass.header →
+    IsRunning old told (sealed_headers pass) (sealed_blocks pass) →
+    IsFeeding new told (sealed_headers pass') (sealed_blocks pass')
+blocks_full old new told pass pass' i c source block held due header_due is full header was =
+    let same = full_keeps (writer_knows pass.blocks) (writer_knows pass'.blocks) i c full in
+    let P : List Entry → Type 0 = λ b. IsStream new told b in
+    feeds_running new told (sealed_headers pass') (sealed_blocks pass') is
+    (runs_on old new told (sealed_headers pass) (sealed_headers pass') (sealed_blocks pass) (sealed_blocks pass') source
+    header_due (ap (λ (p : WriterPass). (writer_knows p).sealed) header) was
+    (subst P (sym same)
+    (stream_is new old.source told old.block.items old.held old.due (sealed_blocks pass) source
+    (ap (λ v. v.items) block) held due was.stream)))

@@ -1,5 +1,5 @@
 -- What a feeder stands for once a block is sealed.
-use Rattle.std.proofs.Common.{◌≡◌, ℕ, suc, ◌+◌, ◌-◌, ◌*◌, ◌<◌, ◌≤◌, List, [], ◌∷◌, ◌++◌, Some, None, length, take, drop, get_or, map, refl, sym, ap, ◌∙◌, append_assoc, arith}
+use Rattle.std.proofs.Common.{◌≡◌, ℕ, suc, ◌+◌, ◌-◌, ◌*◌, ◌<◌, ◌≤◌, List, [], ◌∷◌, ◌++◌, Some, None, length, take, drop, get_or, map, refl, sym, ap, ◌∙◌, subst, Option, append_assoc, arith}
 use Rattle.std.specs.Prelude.{slice_get}
 use Rattle.std.proofs.lemmas.List.{append-nil, take_all, take_at, drop_all, take_more, map-append, get_or_past}
 use Rattle.std.proofs.lemmas.Option.{get_or_from_slice_get}
@@ -16,13 +16,14 @@ use Rattle.stream_model.specs.Walk.{FileStream, WalkStop, begin_of, walk_data, w
 use Rattle.stream_model.specs.WalkLaws.{NoStopIsWhole}
 use Rattle.disk_feeder.specs.declared.answers.FeedEnd.{FeedEnd}
 use Rattle.disk_feeder.specs.declared.answers.FeedEnd.TheVariants.{Whole, ReadFault, BadHeader, Gap, TooLong}
+use Rattle.disk_feeder.specs.declared.due.Due.{Due}
 use Rattle.disk_feeder.specs.declared.due.Due.TheVariants.{Full, Last, Stopped}
 use Rattle.disk_feeder.specs.declared.place.Place.{Place}
 use Rattle.disk_feeder.specs.Ends.{end_of}
 use Rattle.disk_feeder.specs.Plan.{Plan, stream_of, AreTold, begin_at}
 use Rattle.disk_feeder.specs.Reading.{HasRead, EndsReading}
 use Rattle.disk_feeder.specs.Sources.{IsEarly}
-use Rattle.disk_feeder.specs.Filling.{IsFilled}
+use Rattle.disk_feeder.specs.Filling.{IsFilled, DueIs}
 use Rattle.disk_feeder.specs.Feeding.{header_entries, IsWalkEnd, EndIs, SealedAs, IsEnded}
 use Rattle.disk_feeder.proofs.Fulls.{quotient_is, within_is}
 
@@ -54,6 +55,24 @@ full_sealed plan told at block held blocks blocks' some f is =
       count = omega arith;
       kept = sym (drop_all (suc f.fulls * size) f.current (omega arith));
       next = (has, some);
+    }
+
+-- a block that holds nothing is any of its size
+pub emptied : (plan : Plan) (told : Told) (at : Place) (block block' : List ℕ) (due : Option Due)
+    (blocks : List Entry) → length block' ≡ length block → IsFilled plan told at block 0 due blocks →
+    IsFilled plan told at block' 0 due blocks
+emptied plan told at block block' due blocks same f =
+    let P : ℕ → Type 0 = λ n. f.fulls * n + 0 ≡ length f.current in
+    let Q : ℕ → Type 0 = λ n. DueIs plan told at f.before f.current n 0 due in
+    record {
+      before = f.before;
+      current = f.current;
+      fulls = f.fulls;
+      sealed = f.sealed
+          ∙ ap (λ (n : ℕ). whole_stream n f.before ++ full_entries n f.current f.fulls) (sym same);
+      count = subst P (sym same) f.count;
+      kept = f.kept ∙ ap (λ (n : ℕ). drop (f.fulls * n) f.current) (sym same);
+      next = subst Q (sym same) f.next;
     }
 
 -- ---- the rest of a transfer

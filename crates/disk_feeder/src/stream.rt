@@ -261,7 +261,8 @@ impl<'a> Stream<'a> {
         ensures feeds { Feeds self.old pass.old self.new pass.new }
         ensures answer { TurnAnswers pass.old pass.new self.new.end result }
     {
-        match write_block(hdu, pass, self.block.as_slice(), Mark::More) {
+        let size = self.block.len();
+        match write_block(hdu, pass, &mut self.block, size, Mark::More) {
             Ok(()) => {
                 self.empty();
                 FeedTurn::Moved
@@ -288,7 +289,7 @@ impl<'a> Stream<'a> {
     {
         streams_grow();
         no_stop_is_whole();
-        match write_block(hdu, pass, &self.block[..self.held], Mark::End) {
+        match write_block(hdu, pass, &mut self.block, self.held, Mark::End) {
             Ok(()) => {
                 self.source.next_transfer();
                 self.empty();
@@ -322,6 +323,7 @@ impl<'a> Stream<'a> {
     // Seals that the stream ends early.
     fn seal_cut(&mut self, hdu: &Hdu, pass: &mut HduWriter, end: FeedEnd) -> FeedTurn
         requires ring { WritesBoth hdu.now pass.old }
+        requires size { (data_shape hdu.now).size ≡ length self.old.block.items }
         requires room { HasRoom hdu.now pass.old }
         requires due { self.old.due ≡ Some (Due.Stopped end) }
         requires running { self.old.end ≡ None }
@@ -331,7 +333,7 @@ impl<'a> Stream<'a> {
         ensures feeds { Feeds self.old pass.old self.new pass.new }
         ensures answer { TurnAnswers pass.old pass.new self.new.end result }
     {
-        match write_block(hdu, pass, &[], Mark::Cut) {
+        match write_block(hdu, pass, &mut self.block, 0, Mark::Cut) {
             Ok(()) => {
                 self.end = Some(end);
                 FeedTurn::Ended(end)

@@ -1,5 +1,5 @@
 //! Blocks that are sealed, or find no room.
-ghost use Rattle.std.specs.Prelude.{◌≡◌, ◌++◌, [], ◌∷◌, OnOk, IfErr};
+ghost use Rattle.std.specs.Prelude.{◌≡◌, ◌≤◌, ◌++◌, [], ◌∷◌, length, take, OnOk, OnErr, IfErr};
 ghost use Rattle.ring_ends.specs.Answers.{FitsMark};
 ghost use Rattle.dada_hdu.specs.Answers.{entry, header_entry};
 ghost use Rattle.dada_hdu.specs.Passes.{WritesBoth, data_shape};
@@ -15,24 +15,30 @@ pub(crate) struct LateReader {
     pub(crate) cleared: u64,
 }
 
-/// Seals a block of data, or says which reader had cleared too few blocks, and how many.
+/// Seals the first `used` bytes of the space as a block of data, or says which reader had cleared too few blocks, and
+/// how many. The space and that of the block change places.
 pub(crate) fn write_block(
     hdu: &Hdu,
     pass: &mut HduWriter,
-    bytes: &[u8],
+    space: &mut Vec<u8>,
+    used: usize,
     mark: Mark,
 ) -> Result<(), LateReader>
     requires ring { WritesBoth hdu.now pass.old }
-    requires fits { FitsMark (data_shape hdu.now).size mark bytes.now }
+    requires size { (data_shape hdu.now).size ≡ length space.old.items }
+    requires within { used ≤ length space.old.items }
+    requires fits { FitsMark (data_shape hdu.now).size mark (take used space.old.items) }
     requires room { HasRoom hdu.now pass.old }
     ensures ring { WritesBoth hdu.now pass.new }
-    ensures sealed { OnOk result
-        (sealed_blocks pass.new ≡ sealed_blocks pass.old ++ entry mark bytes.now ∷ []) }
+    ensures sealed { OnOk result (sealed_blocks pass.new
+        ≡ sealed_blocks pass.old ++ entry mark (take used space.old.items) ∷ []) }
     ensures full { IfErr result (λ late.
         FindsFull pass.old.blocks late.reader late.cleared pass.new.blocks) }
     ensures header { pass.new.header ≡ pass.old.header }
+    ensures space { length space.new.items ≡ length space.old.items }
+    ensures kept { OnErr result (space.new ≡ space.old) }
 {
-    match hdu.write(pass, bytes, mark) {
+    match hdu.write_space(pass, space, used, mark) {
         Ok(_number) => Ok(()),
         Err(WriteStop::Full { reader, cleared }) => Err(LateReader { reader, cleared }),
         Err(WriteStop::Spent { .. }) => unreachable!(),

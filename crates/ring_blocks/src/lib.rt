@@ -5,6 +5,7 @@ ghost use Rattle.std.specs.Prelude.{◌≡◌, ℕ, ◌<◌, ◌≤◌, ◌^◌,
 
 use std::alloc::{AllocError, Global};
 use std::collections::LinkedList;
+use std::mem;
 use thiserror::Error;
 
 #[cfg(test)]
@@ -71,6 +72,21 @@ impl Block {
     {
         put_front(self.buffer.as_mut_slice(), bytes);
         self.used = bytes.len() as u32;
+        self.mark = mark;
+    }
+
+    /// The block then holds the first `used` bytes of the space, with this mark. No byte is copied: the block's space
+    /// and this one change places.
+    pub fn exchange(&mut self, space: &mut Vec<u8>, used: usize, mark: Mark)
+        requires room { length space.old.items ≡ room_of self.old }
+        requires within { used ≤ room_of self.old }
+        ensures filled { entry_of self.new
+            ≡ record { mark = mark; bytes = take used space.old.items } }
+        ensures room { room_of self.new ≡ room_of self.old }
+        ensures space { length space.new.items ≡ length space.old.items }
+    {
+        mem::swap(&mut self.buffer, space);
+        self.used = used as u32;
         self.mark = mark;
     }
 

@@ -1,4 +1,4 @@
-// A block is filled and copied.
+// A block is filled, by a copy or by an exchange, and copied.
 use crate::{Block, Mark};
 use std::test::Fail;
 
@@ -20,5 +20,18 @@ fn a_block_is_filled_again_and_again(rt: HostRuntime) -> Result<(), Fail> {
         assert!(rt; block.copy_to(&mut into) as usize == bytes.len());
         assert!(rt; into == after);
     }
+    Ok(())
+}
+
+#[test]
+fn a_block_and_a_space_change_places(rt: HostRuntime) -> Result<(), Fail> {
+    let mut block = Block::open(rt.alloc(), 4)?;
+    let mut space = vec![in rt.alloc(); b'a'; 4]?;
+    let mut into = [9u8; 4];
+    assert!(rt; space.len() == 4);
+    block.exchange(&mut space, 3, Mark::End);
+    assert!(rt; block.used() == 3 && block.mark() == Mark::End);
+    assert!(rt; block.copy_to(&mut into) == 3 && into == *b"aaa\x09");
+    assert!(rt; space.as_slice() == [0; 4].as_slice());
     Ok(())
 }

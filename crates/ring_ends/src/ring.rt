@@ -1,5 +1,5 @@
 //! The ring that its threads share by reference.
-ghost use Rattle.std.specs.Prelude.{◌≡◌, All, IsSomeAnd, ℕ, ◌+◌, ◌<◌, ◌≤◌, true, false, length, slice_index, IfOk, MatchOption, MatchResult, OnOk, OnErr, EachIndex, IsTrue, ◌↔◌, ◌/◌, ◌%◌, ◌-◌, nat_le, if◌then◌else◌};
+ghost use Rattle.std.specs.Prelude.{◌≡◌, All, IsSomeAnd, ℕ, ◌+◌, ◌<◌, ◌≤◌, true, false, length, take, slice_index, IfOk, MatchOption, MatchResult, OnOk, OnErr, EachIndex, IsTrue, ◌↔◌, ◌/◌, ◌%◌, ◌-◌, nat_le, if◌then◌else◌};
 
 use crate::answers::{ReadStop, Taken, WriteStop};
 use crate::passes::{ReaderPass, RetiredPass, WriterPass};
@@ -69,15 +69,43 @@ impl Ring {
             (record { mark = mark; bytes = bytes.now }) n (writer_knows pass.new))
             (λ stop. IsWriteStop (writer_knows pass.old) stop (writer_knows pass.new)) }
     {
-        let limit = self.words.shape().max_blocks;
-        if pass.sealed() == limit {
-            return Err(WriteStop::Spent { limit });
+        match self.find_room(pass) {
+            Ok(()) => {
+                self.words.writer_take(&mut pass.seat);
+                Ok(self.words.seal(&mut pass.seat, bytes, mark))
+            }
+            Err(stop) => Err(stop),
         }
-        if let Some((reader, cleared)) = self.first_late(pass) {
-            return Err(WriteStop::Full { reader, cleared });
+    }
+
+    /// Seals the first `used` bytes of the space as the next block, and answers its number. No byte is copied: the
+    /// space and that of the block change places.
+    pub fn write_space(
+        &self,
+        pass: &mut WriterPass,
+        space: &mut Vec<u8>,
+        used: usize,
+        mark: Mark,
+    ) -> Result<u64, WriteStop>
+        requires ring { WritesTo self.now pass.old }
+        requires room { length space.old.items ≡ (ring_shape self.now).size }
+        requires within { used ≤ (ring_shape self.now).size }
+        requires fits { FitsMark (ring_shape self.now).size mark (take used space.old.items) }
+        ensures ring { WritesTo self.now pass.new }
+        ensures cases { MatchResult result
+            (λ n. IsWritten (writer_knows pass.old)
+            (record { mark = mark; bytes = take used space.old.items }) n (writer_knows pass.new))
+            (λ stop. IsWriteStop (writer_knows pass.old) stop (writer_knows pass.new)) }
+        ensures space { length space.new.items ≡ length space.old.items }
+        ensures kept { OnErr result (space.new ≡ space.old) }
+    {
+        match self.find_room(pass) {
+            Ok(()) => {
+                self.words.writer_take(&mut pass.seat);
+                Ok(self.words.seal_space(&mut pass.seat, space, used, mark))
+            }
+            Err(stop) => Err(stop),
         }
-        self.words.writer_take(&mut pass.seat);
-        Ok(self.words.seal(&mut pass.seat, bytes, mark))
     }
 
     /// Whether each reader has cleared the block in the buffer of the next at this moment. The pass stays as it is, and
@@ -151,6 +179,25 @@ impl Ring {
         } = pass;
         self.words.retire(&mut seat);
         RetiredPass { seat }
+    }
+
+    // Whether the next block can be sealed, or why not.
+    fn find_room(&self, pass: &mut WriterPass) -> Result<(), WriteStop>
+        requires { WritesTo self.now pass.old }
+        ensures ring { WritesTo self.now pass.new }
+        ensures cases { MatchResult result
+            (λ _. (length (writer_knows pass.old).sealed < (ring_shape self.now).max_blocks)
+            × SawAllPast (writer_knows pass.old) (writer_knows pass.new))
+            (λ stop. IsWriteStop (writer_knows pass.old) stop (writer_knows pass.new)) }
+    {
+        let limit = self.words.shape().max_blocks;
+        if pass.sealed() == limit {
+            return Err(WriteStop::Spent { limit });
+        }
+        match self.first_late(pass) {
+            Some((reader, cleared)) => Err(WriteStop::Full { reader, cleared }),
+            None => Ok(()),
+        }
     }
 
     // Looks at each reader in turn, up to the first that has not cleared the block in the buffer of the next, with the

@@ -6,5 +6,6 @@ pub mod WriterSteps
 pub mod ReaderSteps
 pub mod SeatSteps
 pub mod Moves
+pub mod Sealing
 pub mod Holding
 pub mod Opening

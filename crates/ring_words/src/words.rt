@@ -1,5 +1,5 @@
 //! The table of the ring, and its steps.
-ghost use Rattle.std.specs.Prelude.{◌≡◌, ◌+◌, ◌-◌, ◌*◌, ◌%◌, ◌^◌, ◌<◌, IfOk, All, length};
+ghost use Rattle.std.specs.Prelude.{◌≡◌, ◌+◌, ◌-◌, ◌*◌, ◌%◌, ◌^◌, ◌<◌, IfOk, All, length, take};
 ghost use Rattle.ring_blocks.specs.Contents.{room_of};
 ghost use Rattle.ring_words.specs.Shape.{IsRing};
 
@@ -164,6 +164,38 @@ impl Words {
             .seat
             .slot_mut(&self.table.shared, slot)
             .fill(bytes, mark);
+        self.table
+            .shared
+            .store::<Seal>(&mut writer.seat, slot, home_word(number));
+        writer.sealed = number + 1;
+        number
+    }
+
+    /// Seals the block that the writer holds, with the first `used` bytes of the space, and answers its number. No byte
+    /// is copied: the block's space and this one change places.
+    pub fn seal_space(
+        &self,
+        writer: &mut WriterSeat,
+        space: &mut Vec<u8>,
+        used: usize,
+        mark: Mark,
+    ) -> u64
+        requires seat { Writes self.now writer.old }
+        requires out { (writer_view writer.old).out ≡ true }
+        requires room { length space.old.items ≡ (shape_of self.now).size }
+        requires within { used ≤ (shape_of self.now).size }
+        ensures seat { Writes self.now writer.new }
+        ensures sealed { SealedEntry (writer_view writer.old)
+            (record { mark = mark; bytes = take used space.old.items }) result
+            (writer_view writer.new) }
+        ensures space { length space.new.items ≡ length space.old.items }
+    {
+        let number = writer.sealed;
+        let slot = self.slot_of(number);
+        writer
+            .seat
+            .slot_mut(&self.table.shared, slot)
+            .exchange(space, used, mark);
         self.table
             .shared
             .store::<Seal>(&mut writer.seat, slot, home_word(number));

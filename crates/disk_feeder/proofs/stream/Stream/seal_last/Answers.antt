@@ -1,10 +1,8 @@
-use Rattle.std.proofs.Common.{◌≡◌, ℕ, ◌+◌, ◌<◌, List, [], ◌∷◌, ◌++◌, None, Some, Bool, length, take, sym, ap, ◌∙◌, subst}
+use Rattle.std.proofs.Common.{refl, ◌≡◌, ℕ, ◌+◌, ◌<◌, List, None, Some, Bool, length, take, sym, ap, ◌∙◌, subst}
 use Rattle.psr_base.specs.Told.{Told}
 use Rattle.ring_ends.specs.declared.passes.WriterPass.{WriterPass}
 use Rattle.ring_ends.specs.Passes.{writer_knows}
 use Rattle.ring_blocks.specs.declared.Entry.{Entry}
-use Rattle.ring_blocks.specs.declared.Mark.TheVariants.{End}
-use Rattle.dada_hdu.specs.Answers.{entry}
 use Rattle.stream_model.specs.WalkLaws.{NoStopIsWhole}
 use Rattle.disk_feeder.specs.declared.answers.FeedEnd.{FeedEnd}
 use Rattle.disk_feeder.specs.declared.answers.FeedTurn.{FeedTurn}
@@ -76,8 +74,7 @@ returns-in-Ok-clause-feeds c = λ told was.
     let last = last_sealed c.streams_grow.ensures plan told at next.place old.block.items held (sealed_blocks pass)
     (sealed_blocks pass') (with_due old told (Some Last) (sealed_blocks pass) c.requires.due was.stream)
     (c.next_transfer.ensures.read told)
-    (c.in-Ok.ensures.sealed ∙ ap (λ (xs : List ℕ). sealed_blocks pass ++ entry End (take held xs) ∷ [])
-    c.deref.ensures.value) in
+    c.in-Ok.ensures.sealed in
     let size = length old.block.items in
     let source : mid.source ≡ next = c.empty.ensures.source in
     let same : plan_of next ≡ plan = c.next_transfer.ensures.plan in
@@ -89,7 +86,7 @@ returns-in-Ok-clause-feeds c = λ told was.
     let T : Source → Type 0 = λ x. AreAccepted (plan_of x) in
     go_on c.no_stop_is_whole.ensures mid new told (sealed_headers pass') (sealed_blocks pass') c.after_transfer.result
     (record {
-      sealed = subst R (sym (ap (λ v. length v.items) c.empty.ensures.block))
+      sealed = subst R (sym (ap (λ v. length v.items) c.empty.ensures.block ∙ c.write_block.ensures.space))
           (subst Q (sym source) (subst P (sym same) last));
       accepted = subst T (sym source) (subst S (sym same) was.accepted);
       headers_are =
@@ -105,5 +102,5 @@ returns-in-Ok-clause-feeds c = λ told was.
 
 pub returns-in-Err-clause-feeds : goal.returns-in-Err-clause-feeds
 returns-in-Err-clause-feeds c = λ told was.
-    blocks_full c.args.self.now told c.args.pass.now c.write_block.new.pass _ _ c.requires.running
-    c.in-Err.ensures.full c.write_block.ensures.header was
+    blocks_full c.args.self.now _ told c.args.pass.now c.write_block.new.pass _ _ refl c.in-Err.ensures.kept refl refl
+    refl c.requires.running c.in-Err.ensures.full c.write_block.ensures.header was

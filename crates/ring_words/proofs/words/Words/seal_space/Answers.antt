@@ -1,0 +1,23 @@
+use Rattle.std.proofs.Common.{length, ap, ◌∙◌, arith}
+use Rattle.std.proofs.lemmas.List.{length-take-le}
+use Rattle.ring_blocks.specs.declared.Entry.{Entry}
+use Rattle.ring_words.proofs.Sealing.{at_hand, hand_room, may_seal}
+use Rattle.ring_words.proofs.words.Words.seal_space.Goals as goal
+
+pub slot_mut-requires : goal.slot_mut-requires
+slot_mut-requires c = let h = at_hand c.args.self.now c.args.writer.now c.slot_of-slot.result c.requires.seat.1
+    c.requires.out c.slot_of-slot.ensures in (c.requires.seat.0, (h.0, h.1))
+
+pub store-requires : goal.store-requires
+store-requires c = let t = c.args.self.now in let w = c.args.writer.now in let wide = t.wide in
+    let two = t.ring.two_buffers in let slot = c.slot_of-slot.ensures in let out = c.requires.out in
+    let within = c.requires.within in let whole = c.requires.room in
+    let taken = length-take-le c.args.used c.args.space.now.items (omega arith) in
+    let filled = ap (λ (e : Entry). length e.bytes) c.exchange.ensures.filled in
+    let room = c.exchange.ensures.room
+    ∙ hand_room t w c.slot_of-slot.result c.requires.seat.1 out slot c.slot_mut.result.now c.slot_mut.ensures.value in (
+      c.requires.seat.0,
+      omega arith,
+      may_seal t w c.slot_of-slot.result c.requires.seat.1 out slot c.exchange.new.self c.home_word.result room
+          (omega arith) c.home_word.ensures,
+    )
