@@ -1,5 +1,0 @@
-use Rattle.subband_plan.proofs.Numbers.{numbered}
-use Rattle.subband_plan.proofs.rows.rows_are_numbered.Goals as goal
-
-pub returns : goal.returns
-returns c = numbered c.asked_rows_are_there.ensures
