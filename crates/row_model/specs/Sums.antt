@@ -23,9 +23,9 @@ pub record AddUp (sources : List Source) (x : ℕ → ℕ → ℕ) (y : Sums) : 
 abbrev pub is_narrow : List Bool → ℕ → Bool
 is_narrow narrow r = slice_index_or narrow r false
 
--- no value of these rows passes 16 bits
-abbrev pub Fit : List Bool → Sums → Type 0
-Fit narrow y = (r u late : ℕ) → is_narrow narrow r ≡ true → y r u late < 2 ^ 16
+-- no value of these rows that ends before spectrum e passes 16 bits
+abbrev pub Fit : List Bool → Sums → ℕ → Type 0
+Fit narrow y e = (r u late : ℕ) → is_narrow narrow r ≡ true → u < e + late → y r u late < 2 ^ 16
 
 -- Value i of row r, in 32 bits, where the values that end at spectrum u and after it stand behind
 -- those that are kept.

@@ -76,7 +76,7 @@ pub record OneMore (rows : Rows) (s : Scheduled) (x : ℕ → ℕ → ℕ) (y : 
     (old new : Stores) : Type 0 where
   pub follows : Follows rows s
   pub adds : AddUp rows.sources.items x y
-  pub fits : Fit s.narrow y
+  pub fits : Fit s.narrow y (u + spectra)
   pub next : AreNext x s.channels s.chunk u spectra samples
   pub number : j < length s.orders
   pub short : spectra ≤ s.most
@@ -196,7 +196,7 @@ module _ (rows : Rows) (s : Scheduled) (x : ℕ → ℕ → ℕ) (y : Sums) (u s
           let sample : slice_index samples (step.upper + i) ≡ x c (u + i) =
           ap (λ p. slice_index samples (p + i)) copy.from ∙ o.next c i there lt in
           rw (copy.copies_it, sample, is_step.width)
-          (sampled_value rows s.narrow x y u (row_at s.orders j) i c o.adds o.fits e)
+          (sampled_value rows s.narrow x y u (row_at s.orders j) i c (u + spectra) o.adds o.fits (omega arith) e)
       by_source (Sum m) e =
           let sum = is_step.sum m e in
           let merge = o.follows.rows_are.merge (row_at s.orders j) m e in
@@ -210,7 +210,8 @@ module _ (rows : Rows) (s : Scheduled) (x : ℕ → ℕ → ℕ) (y : Sums) (u s
           let below = added_value m.lower 0 step.lower i (tail_of rows m.lower + i) (lower_narrow step.kind) lower_at
           sum.lower_width (omega arith) lt in
           rw (sum.adds, above, below, is_step.width)
-          (summed_value rows s.narrow x y u (row_at s.orders j) i k m o.adds o.fits e e' enough)
+          (summed_value rows s.narrow x y u (row_at s.orders j) i k (u + spectra) m o.adds o.fits
+          (omega arith) e e' enough)
 
   -- the slot has the row
   slot_made : SlotHas rows s y u spectra new (slot_at s.orders j) (row_at s.orders j)
@@ -319,7 +320,7 @@ widened rows narrow none y u a b kept_narrow old new off moved kept r lt i small
 
 -- and in 16 bits
 pub narrowed : (rows : Rows) (narrow none : List Bool) (y : Sums) (u : ℕ) (a b kept_wide old new : List ℕ) →
-    ((r : ℕ) → is_narrow none r ≡ false) → Fit narrow y →
+    ((r : ℕ) → is_narrow none r ≡ false) → Fit narrow y u →
     AreNarrowed rows narrow (row_count rows) kept_wide old new →
     Kept rows none y u (stores a b old kept_wide) → Kept rows narrow y u (stores a b new kept_wide)
 unfolding value_of
@@ -335,7 +336,7 @@ narrowed rows narrow none y u a b kept_wide old new off fits moved kept r lt i s
         slice_index (kept_of v (stores a b new kept_wide)) (hold_of rows v r + i) ≡ value_of y rows.tails.items u r i
     by_width false _ = was
     by_width true on =
-        let fit = fits r (u + i) (tail_of rows r) on in
+        let fit = fits r (u + i) (tail_of rows r) on (omega arith) in
         let whole : y r (u + i) (tail_of rows r) % 2 ^ 32 ≡ y r (u + i) (tail_of rows r) = mod-eq_of_lt (omega arith) in
         let low : y r (u + i) (tail_of rows r) % 2 ^ 16 ≡ y r (u + i) (tail_of rows r) = mod-eq_of_lt fit in
         moved.moved r i lt small on

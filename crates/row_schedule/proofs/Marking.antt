@@ -61,7 +61,8 @@ found_not_made b marks found r are is = by_made (is_made b.orders (length b.orde
         let there = found_of b.orders (length b.orders) m.number are.once (omega arith) m.before in
         let row = m.row_is in
         let found_is = are.found_are r in
-        let same : slot_of b.orders (length b.orders) (row_at b.orders m.number) ≡ slot_of b.orders (length b.orders) r =
+        let same :
+        slot_of b.orders (length b.orders) (row_at b.orders m.number) ≡ slot_of b.orders (length b.orders) r =
         ap (slot_of b.orders (length b.orders)) row in
         absurd cc
 

@@ -9,7 +9,8 @@ use Rattle.row_schedule.specs.Layout.{tail_of}
 use Rattle.row_schedule.specs.Making.{in_bits}
 
 -- what n spectra later are the first values are now those from n on
-pub value_later : (y : Sums) (tails : List ℕ) (u n r i : ℕ) → value_of y tails (u + n) r i ≡ value_of y tails u r (n + i)
+pub value_later : (y : Sums) (tails : List ℕ) (u n r i : ℕ) →
+    value_of y tails (u + n) r i ≡ value_of y tails u r (n + i)
 unfolding value_of
 value_later y tails u n r i =
     ap (λ v. y r v (slice_index tails r) % 2 ^ 32) (let e : u + n + i ≡ u + (n + i) = omega arith in e)
@@ -55,27 +56,27 @@ sample_in_bits true a fits =
     one ∙ sym whole
 
 -- a value of a row is the sum of a value of each of two rows
-pub summed_value : (rows : Rows) (narrow : List Bool) (x : ℕ → ℕ → ℕ) (y : Sums) (u r i k : ℕ) (m : Merge) →
-    AddUp rows.sources.items x y → Fit narrow y → slice_get rows.sources.items r ≡ Some (Sum m) →
+pub summed_value : (rows : Rows) (narrow : List Bool) (x : ℕ → ℕ → ℕ) (y : Sums) (u r i k e : ℕ) (m : Merge) →
+    AddUp rows.sources.items x y → Fit narrow y e → u + i < e → slice_get rows.sources.items r ≡ Some (Sum m) →
     k + m.late ≡ tail_of rows m.upper + i → m.late ≤ tail_of rows m.upper →
     in_bits (is_narrow narrow r) (value_of y rows.tails.items u m.upper k
     + value_of y rows.tails.items u m.lower (tail_of rows m.lower + i))
     ≡ value_of y rows.tails.items u r (tail_of rows r + i)
-summed_value rows narrow x y u r i k m adds fits is e le =
+summed_value rows narrow x y u r i k end m adds fits before is e le =
     let above = value_at rows x y u m.upper i k m.late adds e le in
     let below = value_now rows x y u m.lower i adds in
     let same : 0 + m.late ≡ m.late = omega arith in
     let sum : y r (u + i) 0 ≡ y m.upper (u + i) m.late + y m.lower (u + i) 0 =
     adds.sums r (u + i) 0 m is ∙ ap (λ l. y m.upper (u + i) l + y m.lower (u + i) 0) same in
     rw (above, below) (sum_in_bits (is_narrow narrow r) (y m.upper (u + i) m.late) (y m.lower (u + i) 0)
-    (λ on. let fit = fits r (u + i) 0 on in omega arith)
+    (λ on. let fit = fits r (u + i) 0 on (omega arith) in omega arith)
     ∙ ap (λ v. v % 2 ^ 32) (sym sum) ∙ sym (value_now rows x y u r i adds))
 
 -- or a sample
-pub sampled_value : (rows : Rows) (narrow : List Bool) (x : ℕ → ℕ → ℕ) (y : Sums) (u r i c : ℕ) →
-    AddUp rows.sources.items x y → Fit narrow y → slice_get rows.sources.items r ≡ Some (Channel c) →
+pub sampled_value : (rows : Rows) (narrow : List Bool) (x : ℕ → ℕ → ℕ) (y : Sums) (u r i c e : ℕ) →
+    AddUp rows.sources.items x y → Fit narrow y e → u + i < e → slice_get rows.sources.items r ≡ Some (Channel c) →
     in_bits (is_narrow narrow r) (x c (u + i)) ≡ value_of y rows.tails.items u r (tail_of rows r + i)
-sampled_value rows narrow x y u r i c adds fits is =
+sampled_value rows narrow x y u r i c end adds fits before is =
     let sample = adds.samples r c (u + i) is in
-    sample_in_bits (is_narrow narrow r) (x c (u + i)) (λ on. let fit = fits r (u + i) 0 on in omega arith)
+    sample_in_bits (is_narrow narrow r) (x c (u + i)) (λ on. let fit = fits r (u + i) 0 on (omega arith) in omega arith)
     ∙ ap (λ v. v % 2 ^ 32) (sym sample) ∙ sym (value_now rows x y u r i adds)

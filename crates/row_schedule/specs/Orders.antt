@@ -1,5 +1,5 @@
--- In which order rows are made, and where. A row is made in a slot; a slot is used again for other
--- rows, and has the one that was made in it last.
+-- In which order rows are made, and where. A row is made in a slot; a slot can be used again for
+-- other rows, and has the one that was made in it last.
 -- Source: this project's choice.
 use Rattle.std.specs.Prelude.{◌≡◌, ◌≢◌, ℕ, ◌<◌, true, false, Bool, List, Option, None, Some, zero, suc, nat_eq, length, slice_get, slice_index_or, if◌then◌else◌}
 use Rattle.row_model.specs.declared.Merge.{Merge}

@@ -110,7 +110,7 @@ pub fn narrow_kept(rows: &Rows, narrow: &[bool], kept_wide: &[u32], kept_narrow:
     requires narrow_room { kept_room rows.now ≤ length kept_narrow.old }
     requires wide_room { kept_room rows.now ≤ length kept_wide.now }
     ensures { (none : List Bool) (y : Sums) (u : ℕ) (a b : List ℕ)
-        → ((r : ℕ) → is_narrow none r ≡ false) → Fit narrow.now y
+        → ((r : ℕ) → is_narrow none r ≡ false) → Fit narrow.now y u
         → Kept rows.now none y u (stores a b kept_narrow.old kept_wide.now)
         → Kept rows.now narrow.now y u (stores a b kept_narrow.new kept_wide.now) }
 {

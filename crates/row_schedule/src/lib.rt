@@ -1,8 +1,8 @@
 //! Rows of sums that are made chunk by chunk, in an order and in places that were assembled once.
 //!
-//! A row is made in a slot: what is kept of it comes first, and behind it its values of the next spectra. A slot is used
-//! again for other rows. `Builder` takes an order of rows only where it can be carried out after those before it, and
-//! `Schedule` carries all out.
+//! A row is made in a slot: what is kept of it comes first, and behind it its values of the next spectra. A slot can be
+//! used again for other rows. `Builder` takes an order of rows only where it can be carried out after those before
+//! it, and `Schedule` carries all out.
 #![tactic(auto)]
 
 mod builder;

@@ -3,7 +3,7 @@ ghost use Rattle.std.specs.Prelude.{◌≡◌, ℕ, ◌+◌, ◌%◌, ◌^◌, �
 ghost use Rattle.fdmt_rows.specs.Rows.{Narrows};
 ghost use Rattle.row_schedule.specs.Samples.{values_of};
 
-use fdmt_rows::{narrow_row, widen, widen_to_narrow};
+use fdmt_rows::{greatest, narrow_row, widen, widen_to_narrow};
 
 /// Samples that are lent, as values of 32 bits or as bytes.
 #[derive(Clone, Copy)]
@@ -23,6 +23,16 @@ impl<'a> Samples<'a> {
         match self {
             Samples::Words(words) => Samples::Words(&words[count..]),
             Samples::Bytes(bytes) => Samples::Bytes(&bytes[count..]),
+        }
+    }
+
+    /// A bound of them: none is greater.
+    pub fn bound(self) -> u32
+        ensures { (k : ℕ) → slice_index (values_of self.entry) k ≤ result }
+    {
+        match self {
+            Samples::Words(words) => greatest(words),
+            Samples::Bytes(bytes) => u32::from(greatest_byte(bytes)),
         }
     }
 
@@ -58,4 +68,15 @@ impl<'a> Samples<'a> {
             Samples::Bytes(bytes) => widen_to_narrow(out, bytes),
         }
     }
+}
+
+// A byte that none of these is greater than.
+fn greatest_byte(bytes: &[u8]) -> u8
+    ensures { (k : ℕ) → slice_index bytes.now k ≤ result }
+{
+    let mut most = 0;
+    for byte in bytes {
+        most = most.max(*byte);
+    }
+    most
 }

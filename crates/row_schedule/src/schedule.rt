@@ -69,6 +69,13 @@ impl Schedule {
         self.kept_size
     }
 
+    /// Which rows have 16 bits.
+    pub fn narrow(&self) -> &[bool]
+        ensures { result.now ≡ self.now.narrow }
+    {
+        self.narrow.as_slice()
+    }
+
     /// How many rows are made.
     pub fn orders(&self) -> usize
         ensures { result ≡ length self.now.orders }
@@ -134,8 +141,8 @@ impl Schedule {
     }
 
     /// Carries out the orders from `from` on, up to `to`, over the next spectra: the samples of channel `c`, the
-    /// highest frequency first, begin at `c` times the chunk. Those of the last channel may be no more than the spectra,
-    /// so the samples can be lent from some spectrum on.
+    /// highest frequency first, begin at `c` times the chunk. Those of the last channel may be no more than the
+    /// spectra, so the samples can be lent from some spectrum on.
     pub fn run(
         &self,
         from: usize,
@@ -155,7 +162,7 @@ impl Schedule {
         requires samples { self.now.channels * self.now.chunk
             ≤ length (values_of samples) + (self.now.chunk - spectra) }
         ensures { (rows : Rows) (x : ℕ → ℕ → ℕ) (y : Sums) (u : ℕ) → Follows rows self.now
-            → AddUp rows.sources.items x y → Fit self.now.narrow y
+            → AddUp rows.sources.items x y → Fit self.now.narrow y (u + spectra)
             → AreNext x self.now.channels self.now.chunk u spectra (values_of samples.entry)
             → Running rows self.now y u spectra from
             (stores narrow.old wide.old kept_narrow.old kept_wide.old)

@@ -20,7 +20,7 @@ use Rattle.subband_plan.specs.Nodes.{BandPlan, HasKept, HasRow, split_of, root, 
 use Rattle.subband_plan.specs.NodeLaws.{AreLaid, lower_number}
 use Rattle.subband_plan.specs.Rows.{ArePlanRows, all_rows, node_of, delay_of, row_at, source_at, sum_of}
 use Rattle.subband_plan.specs.RowLaws.{AreNumbered}
-use Rattle.subband_plan.specs.Values.{row_sum, cells_of}
+use Rattle.subband_plan.specs.Values.{AreAtMost, row_sum, cells_of}
 use Rattle.subband_plan.proofs.Bounds.{SumLaws, sums_bounded}
 use Rattle.subband_plan.proofs.Growing.{ArePairs, channel_grows, halves_sum, pair_sums, pair_first, pair_grows, pair_stays}
 use Rattle.subband_plan.proofs.Numbers.{halves_kept, halves_there, small_kept}
@@ -183,15 +183,15 @@ node_there p rows laid are r = elim (cases_lt r (all_rows rows)) [
       omega arith
 ]
 
-pub bounded : SumLaws → (p : BandPlan) (rows : PlanRows) (f : Filterbank) (m : ℕ) → AreLaid p.edges (nodes_of p) →
-    ArePlanRows p rows → ((c t : ℕ) → f.value c t ≤ m) → (r u late : ℕ) →
+pub bounded : SumLaws → (p : BandPlan) (rows : PlanRows) (f : Filterbank) (e m : ℕ) → AreLaid p.edges (nodes_of p) →
+    ArePlanRows p rows → f.channels ≡ channels_of p.edges → AreAtMost f e m → (r u late : ℕ) → u < e + late →
     row_sum p rows f r u late ≤ m * cells_of p rows r
-bounded laws p rows f m laid are small r u late =
+bounded laws p rows f e m laid are channels small r u late early =
     let n = node_at (nodes_of p) (node_of rows r) in
     let branch = (laid.each (node_of rows r) (node_there p rows laid are r)).branch in
     let within = branch.within in
-    rw (own_value p rows f r u late) (sums_bounded laws f p.edges (channels_of p.edges) m n.lo n.hi (delay_of rows r)
-    u late laid.band branch.some (omega arith) small)
+    rw (own_value p rows f r u late) (sums_bounded laws f p.edges (channels_of p.edges) e m n.lo n.hi (delay_of rows r)
+    u late laid.band branch.some (omega arith) (λ c t lt before. small c t (omega arith) before) early)
 
 pub begins_empty : NothingBefore → (p : BandPlan) (rows : PlanRows) (f : Filterbank) → AreLaid p.edges (nodes_of p) →
     ArePlanRows p rows → (r u late : ℕ) → u < late → row_sum p rows f r u late ≡ 0

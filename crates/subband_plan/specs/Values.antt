@@ -31,11 +31,15 @@ RowsAddUp = (p : BandPlan) (rows : PlanRows) (f : Filterbank) → IsPlan p → A
 abbrev pub cells_of : BandPlan → PlanRows → ℕ → ℕ
 cells_of p rows r = (part_of p rows r).hi - (part_of p rows r).lo + delay_of rows r
 
--- where no sample is above m
+-- no sample of the spectra before spectrum e is above m
+abbrev pub AreAtMost : Filterbank → ℕ → ℕ → Type 0
+AreAtMost f e m = (c t : ℕ) → c < f.channels → t < e → f.value c t ≤ m
+
+-- then a value that ends before spectrum e is at most m for each of its cells
 abbrev pub RowsAreBounded : Type 0
-RowsAreBounded = (p : BandPlan) (rows : PlanRows) (f : Filterbank) (m : ℕ) → IsPlan p →
-    ArePlanRows p rows → ((c t : ℕ) → f.value c t ≤ m) →
-    (r u late : ℕ) → row_sum p rows f r u late ≤ m * cells_of p rows r
+RowsAreBounded = (p : BandPlan) (rows : PlanRows) (f : Filterbank) (e m : ℕ) → IsPlan p →
+    ArePlanRows p rows → f.channels ≡ channels_of p.edges → AreAtMost f e m →
+    (r u late : ℕ) → u < e + late → row_sum p rows f r u late ≤ m * cells_of p rows r
 
 -- before the first spectrum there is nothing
 abbrev pub RowsBeginEmpty : Type 0

@@ -13,8 +13,8 @@ use psr_base::Memory;
 use row_model::{Rows, Source};
 use std::alloc::Global;
 
-// How many values of 16 bits a vector has, and of 32 bits a cache line. Tails are rounded up to multiples of it: rows
-// with chunks of such multiples then begin at whole vectors of their table, and tails are copied in whole vectors.
+// How many values of 16 bits a vector has, and of 32 bits a cache line. Tails are rounded up to multiples of it: with
+// chunks of such multiples, rows then begin at whole vectors of their slots, and tails are copied in whole vectors.
 const LANES: u32 = 16;
 
 /// The rows of all tables of a plan. They are numbered node by node, and those of a node by their delays; the rows of

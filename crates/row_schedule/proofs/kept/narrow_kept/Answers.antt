@@ -18,6 +18,7 @@ returns c = λ none y u a b off fits kept.
     let is = c.len-r-end.ensures in
     let len : vec_len c.args.rows.now.sources ≡ length c.args.rows.now.sources.items = search rules in
     let count : c.loop-r.r ≡ row_count c.args.rows.now = omega arith in
-    let moved = subst (λ r. AreNarrowed c.args.rows.now c.args.narrow.now r c.args.kept_wide.now c.args.kept_narrow.now c.loop-r.kept_narrow)
+    let moved = subst (λ r. AreNarrowed c.args.rows.now c.args.narrow.now r c.args.kept_wide.now
+    c.args.kept_narrow.now c.loop-r.kept_narrow)
     count c.loop-r.invariant in
     narrowed c.args.rows.now c.args.narrow.now none y u a b _ _ _ off fits moved kept

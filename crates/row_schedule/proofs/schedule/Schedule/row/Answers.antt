@@ -15,6 +15,8 @@ returns-clause-values c = λ x y u j k st adds wide_is running has lt.
     let place_is = c.place.ensures ∙ ap (λ (o : Order). slice_index s.places o.slot) order in
     let tail_is = c.tail.ensures.value ∙ ap (λ (o : Order). tail_of rows o.row) order in
     part_at at (at + c.args.spectra - at) c.args.wide.now k (omega arith)
-    ∙ ap (λ p. slice_index c.args.wide.now (p + k)) (let e : at ≡ slice_index s.places (order_at s.orders c.args.order).slot + tail_of rows (order_at s.orders c.args.order).row = omega arith in e)
+    ∙ ap (λ p. slice_index c.args.wide.now (p + k)) (let e :
+    at ≡ slice_index s.places (order_at s.orders c.args.order).slot + tail_of rows (order_at s.orders c.args.order).row
+    = omega arith in e)
     ∙ row_read rows s x y u c.args.spectra c.args.order j k st c.args.wide.now c.requires.follows c.requires.order
     c.requires.width adds wide_is running has lt

@@ -1,4 +1,4 @@
-use Rattle.std.proofs.Common.{ℕ}
+use Rattle.std.proofs.Common.{ℕ, ◌+◌}
 use Rattle.row_model.specs.declared.Rows.{Rows}
 use Rattle.row_model.specs.Sums.{Sums, AddUp, Fit}
 use Rattle.row_schedule.specs.Samples.{AreNext, values_of}
@@ -8,7 +8,7 @@ use Rattle.row_schedule.proofs.schedule.Schedule.run.Given as goal
 
 abbrev pub invariant-loop-j : goal.invariant-loop-j
 invariant-loop-j l = (rows : Rows) (x : ℕ → ℕ → ℕ) (y : Sums) (u : ℕ) → Follows rows l.self →
-    AddUp rows.sources.items x y → Fit l.self.narrow y →
+    AddUp rows.sources.items x y → Fit l.self.narrow y (u + l.spectra) →
     AreNext x l.self.channels l.self.chunk u l.spectra (values_of l.samples) →
     Running rows l.self y u l.spectra l.from
     (stores l.fn.narrow l.fn.wide l.fn.kept_narrow l.fn.kept_wide) →
