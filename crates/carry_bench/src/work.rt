@@ -103,7 +103,7 @@ fn pass(carry: &mut Carry, samples: &[u8], chunk: u32) -> u32
     ensures { IsReady carry.new chunk (length samples.now) }
 {
     let samples = Samples::Bytes(samples);
-    carry.begin(chunk);
+    carry.begin(samples, chunk);
     for d in 0..LAST + 1 {
         carry.make_row(samples);
     }

@@ -192,7 +192,7 @@ fn pass(
     };
     let start = carry.fed() as usize;
     let mut wrong = Ok(0);
-    carry.begin(count);
+    carry.begin(samples, count);
     for d in shape.first..shape.last + 1 {
         carry.make_row(samples);
         wrong = both(wrong, direct.wrong(alloc, band, d, start, carry.made()));

@@ -18,7 +18,7 @@ fn the_sample_bytes(rt: HostRuntime) -> Result<(), Memory> {
     assert_eq!(rt; table_of(&carry, 2, 0), [0, 20].as_slice());
     assert_eq!(rt; table_of(&carry, 2, 1), [0, 20].as_slice());
     assert_eq!(rt; carry.has_tables(), true);
-    carry.begin(1);
+    carry.begin(Samples::Words(&[0, 7, 0, 7]), 1);
     carry.make_row(Samples::Words(&[0, 7, 0, 7]));
     assert_eq!(rt; carry.made(), [0].as_slice());
     carry.make_row(Samples::Words(&[0, 7, 0, 7]));
@@ -29,5 +29,27 @@ fn the_sample_bytes(rt: HostRuntime) -> Result<(), Memory> {
     carry.feed(&[0, 7, 0, 7], 1);
     assert_eq!(rt; carry.sum(1, 0), 3);
     assert_eq!(rt; carry.fed(), 5);
+    Ok(())
+}
+
+#[test]
+fn samples_that_16_bits_do_not_hold(rt: HostRuntime) -> Result<(), Memory> {
+    let edges = [1_500_000, 1_400_000, 1_300_000, 1_200_000, 1_100_000];
+    let plan = Plan::open(rt.alloc(), &edges, 0, 1)?;
+    let mut carry = Carry::open(rt.alloc(), plan, 1, 100_000)?;
+    for (samples, sum) in [
+        ([1, 2, 3, 4], 10),
+        ([60_000, 50_000, 1, 2], 110_003),
+        ([5, 6, 7, 8], 26),
+    ] {
+        carry.begin(Samples::Words(&samples), 1);
+        carry.make_row(Samples::Words(&samples));
+        assert_eq!(rt; carry.made(), [sum].as_slice());
+        carry.make_row(Samples::Words(&samples));
+        carry.finish();
+    }
+    carry.feed(&[0, 0, 0, 0], 1);
+    assert_eq!(rt; carry.sum(0, 0), 0);
+    assert_eq!(rt; carry.fed(), 4);
     Ok(())
 }

@@ -39,7 +39,8 @@ tree_ends : SplitsFit → (depth : ℕ) (edges : List ℕ) (n : Node) (c most : 
 unfolding tree split_of
 tree_ends fit zero edges n c most band within ends = only most n ends
 tree_ends fit (suc depth) edges n c most band within ends = elim (cases_lt n.hi (n.lo + 2)) [
-  | inl one ↦ subst (λ (nodes : List Node). All (EndsBy most) nodes) (sym (tree_of_one depth edges n one)) (only most n ends)
+  | inl one ↦ subst (λ (nodes : List Node). All (EndsBy most) nodes) (sym (tree_of_one depth edges n one))
+      (only most n ends)
   | inr two ↦
       let part : split_of edges n n.last_row ≤ n.last_row = fit.fits _ _ _ n.last_row
       (band.falls (middle n.lo n.hi) n.hi (omega arith) within)
@@ -69,7 +70,8 @@ pub sum_is_plain : SplitsFit → RowsAreBounded → (p : BandPlan) (rows : PlanR
     m * (channels_of p.edges + p.last) < 2 ^ 32 → r < all_rows rows →
     row_sum p rows f r u 0 % 2 ^ 32 ≡ row_sum p rows f r u 0
 sum_is_plain fit bounded p rows f m r u plan laid is stream fits there =
-    let bound = bounded p rows f m plan is stream.small r u 0 in
+    let bound = bounded p rows f (u + 1) m plan is stream.channels (λ c t within early. stream.small c t) r u 0
+    (omega arith) in
     let cells = cells_fit fit p rows r laid is there in
     let most = mul-le-mul_left m cells in
     mod-eq_of_lt (omega arith)

@@ -1,14 +1,15 @@
 -- What a carry stands for, from call to call.
-use Rattle.std.proofs.Common.{◌≡◌, ℕ, ◌+◌, ◌-◌, true, false, Bool, List, length, replicate, slice_index, arith, ap, sym, ◌∙◌, subst, refl}
-use Rattle.std.proofs.lemmas.Bool.{false≢true}
+use Rattle.std.proofs.Common.{◌≡◌, ℕ, ◌+◌, ◌-◌, ◌*◌, true, false, List, length, replicate, slice_index, arith, ap, sym, ◌∙◌, subst, refl, inl, inr}
+use Rattle.std.proofs.lemmas.Bool.{cases_lt, false≢true}
 use Rattle.search_model.specs.Samples.{Filterbank}
 use Rattle.row_schedule.specs.Running.{Stores, Running, stores}
 use Rattle.row_schedule.specs.Laws.{NothingKept, RunningBegins, RunningEnds}
-use Rattle.subband_plan.specs.Values.{RowsBeginEmpty}
-use Rattle.fdmt_carry.specs.Orders.{AreLow}
-use Rattle.fdmt_carry.specs.Tables.{Tables, AreTables, AreKept, TablesStand, stop_at, table_sums}
-use Rattle.fdmt_carry.specs.Carrying.{Carrying, IsStream, AreNext, StandsForSamples, StandsMidway, carrying}
-use Rattle.fdmt_carry.specs.Making.{AreTaken, Fills, MakesRow}
+use Rattle.subband_plan.specs.Values.{AreAtMost, RowsBeginEmpty}
+use Rattle.fdmt_carry.specs.declared.passing.Passing.{Passing}
+use Rattle.fdmt_carry.specs.Tables.{Tables, AreTables, TablesStand, table_sums}
+use Rattle.fdmt_carry.specs.Passing.{AreKept, IsPassOf, stop_at}
+use Rattle.fdmt_carry.specs.Carrying.{Carrying, IsStream, IsBegun, IsFed, IsRowOn, IsSettled, AreNext, StandsForSamples, StandsMidway, carrying}
+use Rattle.fdmt_carry.specs.Making.{AreTaken, Fills, KeepsFor, MakesRow}
 
 pub same_stores : {a a' b b' c c' d d' : List ℕ} → a ≡ a' → b ≡ b' → c ≡ c' → d ≡ d' →
     stores a b c d ≡ stores a' b' c' d'
@@ -17,90 +18,178 @@ same_stores {a} {a'} {b} {b'} {c} {c'} {d} {d'} first second third fourth =
     ∙ ap (λ (x : List ℕ). stores a' b' x d) third ∙ ap (λ (x : List ℕ). stores a' b' c' x) fourth
 
 -- opened, it stands for each stream
-pub opened_stands : NothingKept → RowsBeginEmpty → (t : Tables) (narrow : List Bool) (max_sample n m : ℕ)
-    (a b kept_narrow kept : List ℕ) (f : Filterbank) → AreTables t narrow → kept_narrow ≡ replicate n 0 →
+pub opened_stands : NothingKept → RowsBeginEmpty → (t : Tables) (pass : Passing) (limit max_sample n m : ℕ)
+    (a b kept_narrow kept : List ℕ) (f : Filterbank) → AreTables t → kept_narrow ≡ replicate n 0 →
     kept ≡ replicate m 0 → IsStream t.plan max_sample f →
-    StandsForSamples (carrying t max_sample 0 0 false false 0 (stores a b kept_narrow kept)) f
+    StandsForSamples (carrying t pass limit max_sample 0 0 false false 0 (stores a b kept_narrow kept)) f
 unfolding NothingKept
-opened_stands nothing empty t narrow max_sample n m a b kept_narrow kept f is narrow_zeros zeros stream = record {
+opened_stands nothing empty t pass limit max_sample n m a b kept_narrow kept f is narrow_zeros zeros stream = record {
   stream = stream;
+  small = λ channel u within early. absurd (omega arith);
   before = omega arith;
-  kept = subst (λ (st : Stores). AreKept t f 0 st) (same_stores {a = a} {b = b} refl refl (sym narrow_zeros) (sym zeros))
-      (nothing t.rows.rows t.passing.narrow (table_sums t f) a b n m (empty t.plan t.rows f is.plan is.rows));
+  kept = subst (λ (st : Stores). AreKept t pass f 0 st)
+      (same_stores {a = a} {b = b} refl refl (sym narrow_zeros) (sym zeros))
+      (nothing t.rows.rows pass.schedule.narrow (table_sums t f) a b n m (empty t.plan t.rows f is.plan is.rows));
   nodes = λ has. absurd (false≢true has);
 }
 
--- the next spectra of a stream
-pub next_taken : (t : Tables) (max_sample fed last spectra next : ℕ) (has passing : Bool) (st : Stores)
-    (samples : List ℕ) (f : Filterbank) → AreLow t.plan t.rows t.passing.narrow max_sample →
-    IsStream t.plan max_sample f → AreNext (carrying t max_sample fed last has passing next st) f samples spectra →
-    AreTaken t f max_sample fed spectra samples
-next_taken t max_sample fed last spectra next has passing st samples f low stream are_next = record {
-  stream = stream;
-  low = low;
-  samples_are = λ c i channel lt. are_next c i (let e = stream.channels in omega arith) lt;
+-- no sample of the next spectra of a stream is above the limit
+pub next_small : (c after : Carrying) (samples : List ℕ) (spectra : ℕ) (f : Filterbank) → IsSettled c after samples →
+    StandsForSamples after f → AreNext c f samples spectra → AreAtMost f (after.fed + spectra) after.limit
+next_small c after samples spectra f settled stands next channel t within early =
+    let fed = settled.fed in
+    let most = stands.stream.small channel t in
+    elim settled.within [
+      | inl all ↦ omega arith
+      | inr small ↦ elim (cases_lt t after.fed) [
+        | inl before ↦ stands.small channel t within before
+        | inr now ↦
+            let at : c.fed + (t - c.fed) ≡ t = omega arith in
+            let is = next channel (t - c.fed) within (omega arith) in
+            let value : f.value channel (c.fed + (t - c.fed)) ≡ f.value channel t = ap (λ u. f.value channel u) at in
+            let bound = small (channel * c.tables.chunk + (t - c.fed)) in
+            omega (arith, is, value, bound)
+      ]
+    ]
+
+-- they are taken
+next_taken : (c : Carrying) (spectra : ℕ) (samples : List ℕ) (f : Filterbank) → IsPassOf c.tables c.limit c.pass →
+    IsStream c.tables.plan c.max_sample f → AreAtMost f (c.fed + spectra) c.limit → AreNext c f samples spectra →
+    AreTaken c.tables c.pass f c.limit c.fed spectra samples
+next_taken c spectra samples f is stream small next = record {
+  fit = record { pass_is = is; channels = stream.channels; small = small };
+  samples_are = λ channel i within lt. next channel i (let e = stream.channels in omega arith) lt;
 }
 
 -- with the tables of all nodes
-pub taken_stands : (t : Tables) (max_sample fed last spectra next next' : ℕ) (has passing passing' : Bool)
-    (old new : Stores) (samples : List ℕ) (f : Filterbank) → AreLow t.plan t.rows t.passing.narrow max_sample →
-    Fills t spectra samples old new → StandsForSamples (carrying t max_sample fed last has passing next old) f →
-    AreNext (carrying t max_sample fed last has passing next old) f samples spectra →
-    StandsForSamples (carrying t max_sample (fed + spectra) spectra true passing' next' new) f
-taken_stands t max_sample fed last spectra next next' has passing passing' old new samples f low fills stands are_next =
-    let taken = next_taken t max_sample fed last spectra next has passing old samples f low stands.stream are_next in
-    let filled = fills f max_sample fed taken stands.kept in
-    let now : fed ≡ fed + spectra - spectra = omega arith in
+pub taken_stands : (c : Carrying) (spectra : ℕ) (new : Stores) (samples : List ℕ) (f : Filterbank) →
+    IsPassOf c.tables c.limit c.pass → Fills c.tables c.pass spectra samples c.stores new → StandsForSamples c f →
+    AreNext c f samples spectra → AreAtMost f (c.fed + spectra) c.limit →
+    StandsForSamples (record c { fed = c.fed + spectra; last = spectra; has_tables = true; stores = new }) f
+taken_stands c spectra new samples f is fills stands next small =
+    let taken = next_taken c spectra samples f is stands.stream small next in
+    let filled = fills f c.limit c.fed taken stands.kept in
+    let now : c.fed ≡ c.fed + spectra - spectra = omega arith in
     record {
       stream = stands.stream;
+      small = small;
       before = omega arith;
       kept = filled.kept;
-      nodes = λ _. subst (λ (u : ℕ). TablesStand t f u spectra new) now filled.stands;
+      nodes = λ _. subst (λ (u : ℕ). TablesStand c.tables f u spectra new) now filled.stands;
     }
 
+-- by another pass
+pub settled_stands : (c : Carrying) (next : Passing) (a b kept_narrow kept narrowed widened : List ℕ)
+    (f : Filterbank) → IsPassOf c.tables c.max_sample next →
+    KeepsFor c.tables c.pass next kept_narrow kept narrowed widened →
+    StandsForSamples (record c { stores = stores a b kept_narrow kept }) f →
+    StandsForSamples (record c {
+      pass = next;
+      limit = c.max_sample;
+      has_tables = false;
+      stores = stores a b narrowed widened;
+    }) f
+settled_stands c next a b kept_narrow kept narrowed widened f is keeps stands = record {
+  stream = stands.stream;
+  small = λ channel t within early. stands.stream.small channel t;
+  before = stands.before;
+  kept = keeps f c.max_sample c.fed a b (record {
+    pass_is = is;
+    channels = stands.stream.channels;
+    small = λ channel t within early. stands.stream.small channel t;
+  }) stands.kept;
+  nodes = λ has. absurd (false≢true has);
+}
+
+-- without tables
+pub bare_stands : (c : Carrying) (f : Filterbank) → StandsForSamples c f →
+    StandsForSamples (record c { has_tables = false }) f
+bare_stands c f stands = record {
+  stream = stands.stream;
+  small = stands.small;
+  before = stands.before;
+  kept = stands.kept;
+  nodes = λ has. absurd (false≢true has);
+}
+
 -- a pass begins
-pub begun_stands : RunningBegins → (t : Tables) (narrow : List Bool) (max_sample fed last spectra next first : ℕ)
-    (has passing has' passing' : Bool) (st : Stores) (f : Filterbank) → AreTables t narrow → first ≡ t.plan.first →
-    StandsForSamples (carrying t max_sample fed last has passing next st) f →
-    StandsMidway (carrying t max_sample fed spectra has' passing' first st) f
+pub begun_stands : RunningBegins → (c : Carrying) (spectra first : ℕ) (f : Filterbank) → AreTables c.tables →
+    IsPassOf c.tables c.limit c.pass → first ≡ c.tables.plan.first → StandsForSamples c f →
+    AreAtMost f (c.fed + spectra) c.limit →
+    StandsMidway (record c { last = spectra; has_tables = false; is_passing = true; next = first }) f
 unfolding RunningBegins
-begun_stands begins t narrow max_sample fed last spectra next first has passing has' passing' st f is first_is stands =
-    let stop : 0 ≡ stop_at t first =
-    sym is.stops.first ∙ ap (λ (i : ℕ). slice_index t.stops i) (let e : 0 ≡ first - t.plan.first = omega arith in e) in
+begun_stands begins c spectra first f is pass first_is stands small =
+    let t = c.tables in
+    let stop : 0 ≡ stop_at t c.pass first =
+    sym pass.stops.first
+    ∙ ap (λ (i : ℕ). slice_index c.pass.stops.items i) (let e : 0 ≡ first - t.plan.first = omega arith in e) in
     record {
       stream = stands.stream;
-      running = subst (λ (j : ℕ). Running t.rows.rows t.passing (table_sums t f) fed spectra j st) stop
-          (begins t.rows.rows t.passing (table_sums t f) fed spectra st stands.kept);
+      small = small;
+      running = subst (λ (j : ℕ). Running t.rows.rows c.pass.schedule (table_sums t f) c.fed spectra j c.stores) stop
+          (begins t.rows.rows c.pass.schedule (table_sums t f) c.fed spectra c.stores stands.kept);
     }
 
 -- makes a row
-pub row_stands : (t : Tables) (max_sample fed last next : ℕ) (has passing : Bool) (old new : Stores)
-    (samples : List ℕ) (f : Filterbank) → AreLow t.plan t.rows t.passing.narrow max_sample →
-    MakesRow t next last samples old new → StandsMidway (carrying t max_sample fed last has passing next old) f →
-    AreNext (carrying t max_sample fed last has passing next old) f samples last →
-    StandsMidway (carrying t max_sample fed last has passing (next + 1) new) f
-row_stands t max_sample fed last next has passing old new samples f low makes stands are_next =
-    let taken = next_taken t max_sample fed last last next has passing old samples f low stands.stream are_next in
-    record { stream = stands.stream; running = makes f max_sample fed taken stands.running }
+pub row_stands : (c : Carrying) (new : Stores) (samples : List ℕ) (f : Filterbank) → IsPassOf c.tables c.limit c.pass →
+    MakesRow c.tables c.pass c.next c.last samples c.stores new → StandsMidway c f → AreNext c f samples c.last →
+    StandsMidway (record c { next = c.next + 1; stores = new }) f
+row_stands c new samples f is makes stands next =
+    let taken = next_taken c c.last samples f is stands.stream stands.small next in
+    record { stream = stands.stream; small = stands.small; running = makes f c.limit c.fed taken stands.running }
 
 -- and ends
-pub ended_stands : RunningEnds → (t : Tables) (narrow : List Bool) (max_sample fed last next next' : ℕ)
-    (has passing passing' : Bool) (st : Stores) (f : Filterbank) → AreTables t narrow → next ≡ t.plan.last + 1 →
-    StandsMidway (carrying t max_sample fed last has passing next st) f →
-    StandsForSamples (carrying t max_sample (fed + last) last false passing' next' st) f
+pub ended_stands : RunningEnds → (c : Carrying) (f : Filterbank) → AreTables c.tables →
+    IsPassOf c.tables c.limit c.pass → c.next ≡ c.tables.plan.last + 1 → StandsMidway c f →
+    StandsForSamples (record c { fed = c.fed + c.last; has_tables = false; is_passing = false }) f
 unfolding RunningEnds
-ended_stands ends t narrow max_sample fed last next next' has passing passing' st f is all stands =
+ended_stands ends c f is pass all stands =
+    let t = c.tables in
     let order = is.plan.order in
-    let stop : stop_at t next ≡ length t.passing.orders =
-    ap (λ (i : ℕ). slice_index t.stops i) (let e : next - t.plan.first ≡ t.plan.last - t.plan.first + 1 = omega arith in e)
-    ∙ is.stops.last in
+    let stop : stop_at t c.pass c.next ≡ length c.pass.schedule.orders =
+    ap (λ (i : ℕ). slice_index c.pass.stops.items i)
+    (let e : c.next - t.plan.first ≡ t.plan.last - t.plan.first + 1 = omega arith in e)
+    ∙ pass.stops.last in
     record {
       stream = stands.stream;
+      small = stands.small;
       before = omega arith;
-      kept = ends t.rows.rows t.passing (table_sums t f) fed last st is.passing.follows
-          (subst (λ (j : ℕ). Running t.rows.rows t.passing (table_sums t f) fed last j st) stop stands.running);
+      kept = ends t.rows.rows c.pass.schedule (table_sums t f) c.fed c.last c.stores pass.runs.follows
+          (subst (λ (j : ℕ). Running t.rows.rows c.pass.schedule (table_sums t f) c.fed c.last j c.stores) stop
+          stands.running);
       nodes = λ has. absurd (false≢true has);
     }
+
+-- what a call leaves of a carry that was settled first
+pub settled_begun : (c mid new : Carrying) (samples : List ℕ) (spectra : ℕ) → IsSettled c mid samples →
+    IsBegun mid new spectra → IsBegun c new spectra
+settled_begun c mid new samples spectra settled begun = record {
+  tables = begun.tables ∙ settled.tables;
+  max_sample = begun.max_sample ∙ settled.max_sample;
+  fed = begun.fed ∙ settled.fed;
+  last = begun.last;
+  no_tables = begun.no_tables;
+  passing = begun.passing;
+  next = begun.next ∙ ap (λ (t : Tables). t.plan.first) settled.tables;
+}
+
+pub settled_fed : (c mid new : Carrying) (samples : List ℕ) (spectra : ℕ) → IsSettled c mid samples →
+    IsFed mid new spectra → IsFed c new spectra
+settled_fed c mid new samples spectra settled fed = record {
+  tables = fed.tables ∙ settled.tables;
+  max_sample = fed.max_sample ∙ settled.max_sample;
+  fed = fed.fed ∙ ap (λ n. n + spectra) settled.fed;
+  last = fed.last;
+  not_passing = fed.not_passing;
+}
+
+-- the samples are those of its next spectra too
+pub settled_next : (c mid : Carrying) (samples : List ℕ) (spectra : ℕ) (f : Filterbank) → IsSettled c mid samples →
+    AreNext c f samples spectra → AreNext mid f samples spectra
+settled_next c mid samples spectra f settled next channel i within lt =
+    ap (λ (t : Tables). slice_index samples (channel * t.chunk + i)) settled.tables
+    ∙ next channel i within lt
+    ∙ ap (λ u. f.value channel (u + i)) (sym settled.fed)
 
 -- a pass from its begin on, which has come to the row of delay d
 pub record GoesOn (before now : Carrying) (samples : List ℕ) (d : ℕ) : Type 0 where
@@ -111,3 +200,27 @@ pub record GoesOn (before now : Carrying) (samples : List ℕ) (d : ℕ) : Type 
   pub passing : now.is_passing ≡ true
   pub next : now.next ≡ d
   pub stands : (f : Filterbank) → StandsMidway before f → AreNext before f samples before.last → StandsMidway now f
+
+pub goes_more : (before now new : Carrying) (samples : List ℕ) (d : ℕ) → GoesOn before now samples d →
+    IsRowOn now new → ((f : Filterbank) → StandsMidway now f → AreNext now f samples now.last → StandsMidway new f) →
+    GoesOn before new samples (d + 1)
+goes_more before now new samples d goes row makes = record {
+  tables = row.tables ∙ goes.tables;
+  max_sample = row.max_sample ∙ goes.max_sample;
+  fed = row.fed ∙ goes.fed;
+  last = row.last ∙ goes.last;
+  passing = row.passing;
+  next = row.next ∙ ap (λ n. n + 1) goes.next;
+  stands = λ f midway next. makes f (goes.stands f midway next) (λ channel i within lt.
+      ap (λ (t : Tables). slice_index samples (channel * t.chunk + i)) goes.tables
+      ∙ next channel i within (let e = goes.last in omega arith)
+      ∙ ap (λ u. f.value channel (u + i)) (sym goes.fed));
+}
+
+-- the samples are those of the next spectra when a pass begins
+pub begun_next : (c new : Carrying) (samples : List ℕ) (spectra : ℕ) (f : Filterbank) → IsBegun c new spectra →
+    AreNext c f samples spectra → AreNext new f samples new.last
+begun_next c new samples spectra f begun next channel i within lt =
+    ap (λ (t : Tables). slice_index samples (channel * t.chunk + i)) begun.tables
+    ∙ next channel i within (let e = begun.last in omega arith)
+    ∙ ap (λ u. f.value channel (u + i)) (sym begun.fed)

@@ -8,3 +8,4 @@ pub mod Bounds
 pub mod Reading
 pub mod Running
 pub mod Carried
+pub mod Rooms

@@ -1,5 +1,5 @@
 -- Rows of 16 bits.
-use Rattle.std.proofs.Common.{◌≡◌, ℕ, ◌+◌, ◌-◌, ◌*◌, ◌^◌, ◌<◌, ◌≤◌, true, false, Bool, List, [], ◌∷◌, ◌++◌, length, slice_index_or, replicate, arith, ap, sym, ◌∙◌, subst, refl, inl, inr}
+use Rattle.std.proofs.Common.{◌≡◌, ℕ, ◌+◌, ◌-◌, ◌*◌, ◌^◌, ◌<◌, true, false, Bool, List, [], ◌∷◌, ◌++◌, length, slice_index_or, replicate, arith, ap, sym, ◌∙◌, subst, refl, inl, inr}
 use Rattle.std.proofs.Math.ListN.{get_or-append, get_or-eq_default}
 use Rattle.std.proofs.Math.Seq.{get_or-append_seam}
 use Rattle.std.proofs.lemmas.List.{length_push, get_or-replicate, length-replicate}
@@ -8,7 +8,7 @@ use Rattle.row_model.specs.Sums.{is_narrow}
 use Rattle.subband_plan.specs.declared.nodes.Node.{Node}
 use Rattle.subband_plan.specs.declared.rows.PlanRows.{PlanRows}
 use Rattle.subband_plan.specs.Nodes.{BandPlan, nodes_of, node_at}
-use Rattle.subband_plan.specs.Rows.{ArePlanRows, all_rows, node_of, delay_of}
+use Rattle.subband_plan.specs.Rows.{node_of, delay_of}
 use Rattle.fdmt_carry.specs.Orders.{AreLow, AreParts, AreWide}
 
 pub not_true : (b : Bool) → (b ≡ true → ⊥) → b ≡ false

@@ -215,7 +215,8 @@ row_more numbered come p rows k r orders plan laid is node from to within made =
               (before.each k' s node' from' to' (done_or_last rows k r s done (λ e. other.1 (sym e))))
         ];
         in_order = λ narrow slots wide wide_slots room.
-            in_order_more rows.rows narrow slots orders (in_own_slot r) (before.in_order narrow slots wide wide_slots room)
+            in_order_more rows.rows narrow slots orders (in_own_slot r)
+            (before.in_order narrow slots wide wide_slots room)
             (row_ready come p rows k r orders narrow slots plan is of wide wide_slots room before);
       };
     }

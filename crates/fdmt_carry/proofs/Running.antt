@@ -10,29 +10,30 @@ use Rattle.row_schedule.specs.Follows.{Follows}
 use Rattle.row_schedule.specs.Running.{Stores, Kept, Running, stores}
 use Rattle.row_schedule.specs.Laws.{RunningBegins, RunningEnds}
 use Rattle.subband_plan.specs.Values.{RowsAddUp, RowsAreBounded}
-use Rattle.fdmt_carry.specs.Orders.{AreLow, AreWide}
-use Rattle.fdmt_carry.specs.Tables.{Tables, AreTables, AreSamples, IsScheduled, stop_at, table_sums}
-use Rattle.fdmt_carry.specs.Carrying.{IsStream}
-use Rattle.fdmt_carry.specs.Making.{Fills, MakesRow}
+use Rattle.fdmt_carry.specs.declared.passing.Passing.{Passing}
+use Rattle.fdmt_carry.specs.Orders.{AreWide}
+use Rattle.fdmt_carry.specs.Tables.{Tables, AreTables, AreSamples, IsScheduled, table_sums}
+use Rattle.fdmt_carry.specs.Passing.{stop_at}
+use Rattle.fdmt_carry.specs.Making.{AreFit, Fills, KeepsFor, MakesRow}
 use Rattle.fdmt_carry.proofs.Narrow.{none_narrow}
 
 -- what a schedule does between two orders
 abbrev pub Ran : Scheduled → ℕ → ℕ → ℕ → List ℕ → Stores → Stores → Type 0
 Ran s spectra from to samples old new = (rows : Rows) (x : ℕ → ℕ → ℕ) (y : Sums) (u : ℕ) → Follows rows s →
-    AddUp rows.sources.items x y → Fit s.narrow y → AreNext x s.channels s.chunk u spectra samples →
+    AddUp rows.sources.items x y → Fit s.narrow y (u + spectra) → AreNext x s.channels s.chunk u spectra samples →
     Running rows s y u spectra from old → Running rows s y u spectra to new
 
 -- the sums of rows of 16 bits fit
-sums_fit : RowsAreBounded → (t : Tables) (narrow : List Bool) (f : Filterbank) (m : ℕ) → AreTables t narrow →
-    IsStream t.plan m f → AreLow t.plan t.rows t.passing.narrow m → Fit t.passing.narrow (table_sums t f)
-sums_fit bounded t narrow f m is stream low r u late has =
-    let most = bounded t.plan t.rows f m is.plan is.rows stream.small r u late in
-    let fits = low r has in
+sums_fit : RowsAreBounded → (t : Tables) (pass : Passing) (f : Filterbank) (m e : ℕ) → AreTables t →
+    AreFit t pass f m e → Fit pass.schedule.narrow (table_sums t f) e
+sums_fit bounded t pass f m e is fit r u late has early =
+    let most = bounded t.plan t.rows f e m is.plan is.rows fit.channels fit.small r u late early in
+    let fits = fit.pass_is.low r has in
     omega arith
 
 -- and where there are none
-wide_fit : (narrow : List Bool) (y : Sums) → AreWide narrow → Fit narrow y
-wide_fit narrow y wide r u late has = absurd (false≢true (sym (wide r) ∙ has))
+wide_fit : (narrow : List Bool) (y : Sums) (e : ℕ) → AreWide narrow → Fit narrow y e
+wide_fit narrow y e wide r u late has early = absurd (false≢true (sym (wide r) ∙ has))
 
 samples_next : (t : Tables) (s : Scheduled) (f : Filterbank) (most u spectra : ℕ) (samples : List ℕ) →
     IsScheduled t.plan t.rows t.chunk most s → AreSamples t f u spectra samples →
@@ -42,17 +43,18 @@ samples_next t s f most u spectra samples is next =
     (subst (λ (channels : ℕ). AreNext f.value channels t.chunk u spectra samples) (sym is.channels) next)
 
 -- a row of the whole band
-pub row_made : RowsAddUp → RowsAreBounded → (t : Tables) (narrow : List Bool) (d spectra from to : ℕ)
-    (samples : List ℕ) (old new : Stores) → AreTables t narrow → from ≡ stop_at t d → to ≡ stop_at t (d + 1) →
-    Ran t.passing spectra from to samples old new → MakesRow t d spectra samples old new
-row_made adds bounded t narrow d spectra from to samples old new is from_is to_is ran f m u taken passing =
+pub row_made : RowsAddUp → RowsAreBounded → (t : Tables) (pass : Passing) (d spectra from to : ℕ)
+    (samples : List ℕ) (old new : Stores) → AreTables t → from ≡ stop_at t pass d → to ≡ stop_at t pass (d + 1) →
+    Ran pass.schedule spectra from to samples old new → MakesRow t pass d spectra samples old new
+row_made adds bounded t pass d spectra from to samples old new is from_is to_is ran f m u taken passing =
     let y = table_sums t f in
-    let before : Running t.rows.rows t.passing y u spectra from old =
-    subst (λ (j : ℕ). Running t.rows.rows t.passing y u spectra j old) (sym from_is) passing in
-    subst (λ (j : ℕ). Running t.rows.rows t.passing y u spectra j new) to_is
-    (ran t.rows.rows f.value y u is.passing.follows (adds t.plan t.rows f is.plan is.rows taken.stream.channels)
-    (sums_fit bounded t narrow f m is taken.stream taken.low)
-    (samples_next t t.passing f t.chunk u spectra samples is.passing taken.samples_are) before)
+    let runs = taken.fit.pass_is.runs in
+    let before : Running t.rows.rows pass.schedule y u spectra from old =
+    subst (λ (j : ℕ). Running t.rows.rows pass.schedule y u spectra j old) (sym from_is) passing in
+    subst (λ (j : ℕ). Running t.rows.rows pass.schedule y u spectra j new) to_is
+    (ran t.rows.rows f.value y u runs.follows (adds t.plan t.rows f is.plan is.rows taken.fit.channels)
+    (sums_fit bounded t pass f m (u + spectra) is taken.fit)
+    (samples_next t pass.schedule f t.chunk u spectra samples runs taken.samples_are) before)
 
 -- what is kept in 16 bits, written in 32 bits, and back
 abbrev pub Widens : Rows → List Bool → List ℕ → List ℕ → List ℕ → Type 0
@@ -62,8 +64,19 @@ Widens rows narrow kept_narrow old new = (none : List Bool) (y : Sums) (u : ℕ)
 
 abbrev pub Narrows : Rows → List Bool → List ℕ → List ℕ → List ℕ → Type 0
 Narrows rows narrow kept_wide old new = (none : List Bool) (y : Sums) (u : ℕ) (a b : List ℕ) →
-    ((r : ℕ) → is_narrow none r ≡ false) → Fit narrow y → Kept rows none y u (stores a b old kept_wide) →
+    ((r : ℕ) → is_narrow none r ≡ false) → Fit narrow y u → Kept rows none y u (stores a b old kept_wide) →
     Kept rows narrow y u (stores a b new kept_wide)
+
+-- what is kept for one pass, written for another
+pub kept_for : RowsAreBounded → (t : Tables) (pass next : Passing) (kept_narrow kept widened narrowed : List ℕ) →
+    AreTables t → Widens t.rows.rows pass.schedule.narrow kept_narrow kept widened →
+    Narrows t.rows.rows next.schedule.narrow widened kept_narrow narrowed →
+    KeepsFor t pass next kept_narrow kept narrowed widened
+kept_for bounded t pass next kept_narrow kept widened narrowed is widens narrows f m u a b fit before =
+    let y = table_sums t f in
+    let none = t.plain.narrow in
+    let wide = none_narrow _ none is.plain.narrow in
+    narrows none y u a b wide (sums_fit bounded t next f m u is fit) (widens none y u a b wide before)
 
 -- the lists before a call that makes the tables of all nodes, after what is kept was widened, after all orders, and
 -- after what is kept was narrowed
@@ -79,34 +92,29 @@ pub record Lists : Type 0 where
   pub ran_kept : List ℕ
   pub narrowed : List ℕ
 
-pub filled : RowsAddUp → RowsAreBounded → RunningBegins → RunningEnds → (t : Tables) (narrow : List Bool)
-    (spectra : ℕ) (samples : List ℕ) (x : Lists) → AreTables t narrow →
-    Widens t.rows.rows narrow x.kept_narrow x.kept x.widened →
+pub filled : RowsAddUp → RowsAreBounded → RunningBegins → RunningEnds → (t : Tables) (pass : Passing)
+    (spectra : ℕ) (samples : List ℕ) (x : Lists) → AreTables t →
+    Widens t.rows.rows pass.schedule.narrow x.kept_narrow x.kept x.widened →
     Ran t.plain spectra 0 (length t.plain.orders) samples (stores x.narrow x.wide x.kept_narrow x.widened)
     (stores x.ran_narrow x.ran_wide x.ran_kept_narrow x.ran_kept) →
-    Narrows t.rows.rows narrow x.ran_kept x.ran_kept_narrow x.narrowed →
-    Fills t spectra samples (stores x.narrow x.wide x.kept_narrow x.kept)
+    Narrows t.rows.rows pass.schedule.narrow x.ran_kept x.ran_kept_narrow x.narrowed →
+    Fills t pass spectra samples (stores x.narrow x.wide x.kept_narrow x.kept)
     (stores x.ran_narrow x.ran_wide x.narrowed x.ran_kept)
 unfolding RunningBegins RunningEnds
-filled adds bounded begins ends t narrow spectra samples x is widens ran narrows f m u taken kept =
+filled adds bounded begins ends t pass spectra samples x is widens ran narrows f m u taken kept =
     let y = table_sums t f in
     let rows = t.rows.rows in
     let s = t.plain in
     let wide = none_narrow _ s.narrow is.plain.narrow in
-    let before : Kept rows narrow y u (stores x.narrow x.wide x.kept_narrow x.kept) =
-    subst (λ (bits : List Bool). Kept rows bits y u (stores x.narrow x.wide x.kept_narrow x.kept)) is.narrow_is kept in
-    let widened = widens s.narrow y u x.narrow x.wide wide before in
+    let widened = widens s.narrow y u x.narrow x.wide wide kept in
     let running = ran rows f.value y u is.plain.runs.follows
-    (adds t.plan t.rows f is.plan is.rows taken.stream.channels) (wide_fit s.narrow y wide)
+    (adds t.plan t.rows f is.plan is.rows taken.fit.channels) (wide_fit s.narrow y (u + spectra) wide)
     (samples_next t s f t.most u spectra samples is.plain.runs taken.samples_are)
     (begins rows s y u spectra (stores x.narrow x.wide x.kept_narrow x.widened) widened) in
     let after = ends rows s y u spectra (stores x.ran_narrow x.ran_wide x.ran_kept_narrow x.ran_kept)
     is.plain.runs.follows running in
-    let fit : Fit narrow y = subst (λ (bits : List Bool). Fit bits y) is.narrow_is
-    (sums_fit bounded t narrow f m is taken.stream taken.low) in
-    let back = narrows s.narrow y (u + spectra) x.ran_narrow x.ran_wide wide fit after in
     record {
-      kept = subst (λ (bits : List Bool). Kept rows bits y (u + spectra) (stores x.ran_narrow x.ran_wide x.narrowed x.ran_kept))
-          (sym is.narrow_is) back;
+      kept = narrows s.narrow y (u + spectra) x.ran_narrow x.ran_wide wide
+          (sums_fit bounded t pass f m (u + spectra) is taken.fit) after;
       stands = record { kept_narrow = x.ran_kept_narrow; made = running };
     }

@@ -73,7 +73,8 @@ pub band_place : RowsAreNumbered → (p : BandPlan) (rows : PlanRows) (d : ℕ) 
     place_of rows 0 (band_row p rows d) + 1 + (p.last - d) ≡ all_rows rows
 unfolding place_of
 band_place numbered p rows d band some laid is from to =
-    let has : HasRow (node_at (nodes_of p) 0) d = subst (λ (n : Node). HasRow n d) (sym band) (record { least = from; most = to }) in
+    let has : HasRow (node_at (nodes_of p) 0) d =
+    subst (λ (n : Node). HasRow n d) (sym band) (record { least = from; most = to }) in
     let least = (kept_row numbered p rows (nodes_of p) 0 d refl laid is some has).least in
     let next = is.starts.next 0 some in
     let last : (node_at (nodes_of p) 0).last_row ≡ p.last = ap (λ (n : Node). n.last_row) band in
@@ -115,8 +116,10 @@ plain_stops_are numbered p rows orders stops plan band some laid is all plain =
             ];
             within = omega arith;
             shown =
-                let at : slice_index stops (i + 1) - 1 ≡ place_of rows 0 (band_row p rows (p.first + i)) = omega arith in
-                ap (λ n. (order_at orders n).row) at ∙ ap (λ (o : Order). o.row) (row_at_place (p.first + i) (omega arith) (omega arith));
+                let at : slice_index stops (i + 1) - 1 ≡ place_of rows 0 (band_row p rows (p.first + i)) =
+                omega arith in
+                ap (λ n. (order_at orders n).row) at
+                ∙ ap (λ (o : Order). o.row) (row_at_place (p.first + i) (omega arith) (omega arith));
           };
     }
   where
@@ -127,6 +130,7 @@ plain_stops_are numbered p rows orders stops plan band some laid is all plain =
     row_at_place : (d : ℕ) → p.first ≤ d → d ≤ p.last →
         order_at orders (place_of rows 0 (band_row p rows d)) ≡ in_own_slot (band_row p rows d)
     row_at_place d from to =
-        let has : HasRow (node_at (nodes_of p) 0) d = subst (λ (n : Node). HasRow n d) (sym band) (record { least = from; most = to }) in
+        let has : HasRow (node_at (nodes_of p) 0) d =
+        subst (λ (n : Node). HasRow n d) (sym band) (record { least = from; most = to }) in
         let row = kept_row numbered p rows (nodes_of p) 0 d refl laid is some has in
         plain.each 0 (band_row p rows d) some (omega arith) row.to

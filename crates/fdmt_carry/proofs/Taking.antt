@@ -32,6 +32,7 @@ not_refused rows narrow slots orders i b taken lt is exact refused in_order =
     let now : IsReady rows narrow slots (take i orders) (length (take i orders)) (order_at orders i) =
     subst (λ (n : ℕ). IsReady rows narrow slots (take i orders) n (order_at orders i)) (sym size) here in
     let there : IsReady rows b.narrow b.slots b.orders (length b.orders) (order_at orders i) =
-    subst (λ (x : Building). IsReady rows x.narrow x.slots x.orders (length x.orders) (order_at orders i)) (sym is) now in
+    subst (λ (x : Building). IsReady rows x.narrow x.slots x.orders (length x.orders) (order_at orders i))
+    (sym is) now in
     let yes : IsTrue taken = exact there in
     false≢true (sym refused ∙ yes)

@@ -1,20 +1,24 @@
 -- What contracts see of a carry, and the streams of samples that it stands for.
 -- Source: Zackay & Ofek, ApJ 835:11, 2017, section 2 (the dispersion transform, table by table);
 -- that a stream is fed chunk by chunk is this project's choice.
-use Rattle.std.specs.Prelude.{◌≡◌, ℕ, ◌+◌, ◌-◌, ◌*◌, ◌^◌, ◌≤◌, ◌<◌, true, false, Bool, List, length, slice_index}
+use Rattle.std.specs.Prelude.{◌≡◌, ◌≢◌, ℕ, ◌+◌, ◌-◌, ◌*◌, ◌^◌, ◌≤◌, ◌<◌, ◌⊎◌, true, false, Bool, List, Option, None, IfSome, length, slice_index}
 use Rattle.band_paths.specs.Edges.{channels_of}
 use Rattle.row_schedule.specs.Running.{Stores, HaveRoom}
 use Rattle.search_model.specs.Samples.{Filterbank}
 use Rattle.subband_plan.specs.Nodes.{BandPlan}
-use Rattle.fdmt_carry.specs.Orders.{AreLow}
-use Rattle.fdmt_carry.specs.Tables.{Tables, AreKept, TablesStand, IsPassing}
+use Rattle.subband_plan.specs.Values.{AreAtMost}
+use Rattle.fdmt_carry.specs.declared.passing.Passing.{Passing}
+use Rattle.fdmt_carry.specs.Tables.{Tables, TablesStand}
+use Rattle.fdmt_carry.specs.Passing.{AreKept, IsPassing, IsPassOf}
 
 -- Tables that took `fed` spectra in all and `last` of them by the last call; `has_tables` tells
 -- whether that made the tables of all nodes, which then stand. While a pass goes on, its `last`
 -- spectra come after those that were fed, and `next` is the delay of the row of the whole band that
--- is made next.
+-- is made next. Passes go by `pass`, which is for samples up to `limit`: none so far is greater.
 pub record Carrying : Type 0 where
   pub tables : Tables
+  pub pass : Passing
+  pub limit : ℕ
   pub max_sample : ℕ
   pub fed : ℕ
   pub last : ℕ
@@ -23,9 +27,11 @@ pub record Carrying : Type 0 where
   pub next : ℕ
   pub stores : Stores
 
-abbrev pub carrying : Tables → ℕ → ℕ → ℕ → Bool → Bool → ℕ → Stores → Carrying
-carrying tables max_sample fed last has_tables is_passing next stores = record {
+abbrev pub carrying : Tables → Passing → ℕ → ℕ → ℕ → ℕ → Bool → Bool → ℕ → Stores → Carrying
+carrying tables pass limit max_sample fed last has_tables is_passing next stores = record {
   tables = tables;
+  pass = pass;
+  limit = limit;
   max_sample = max_sample;
   fed = fed;
   last = last;
@@ -94,25 +100,46 @@ AreThere c samples spectra = channels_of c.tables.plan.edges * c.tables.chunk
 -- is kept is of these, and so are the rows of all nodes where their tables stand.
 pub record StandsForSamples (c : Carrying) (f : Filterbank) : Type 0 where
   pub stream : IsStream c.tables.plan c.max_sample f
+  pub small : AreAtMost f c.fed c.limit
   pub before : c.last ≤ c.fed
-  pub kept : AreKept c.tables f c.fed c.stores
+  pub kept : AreKept c.tables c.pass f c.fed c.stores
   pub nodes : c.has_tables ≡ true → TablesStand c.tables f (c.fed - c.last) c.last c.stores
 
 -- The same amid a pass over its next spectra: the rows of the whole band of the delays before
 -- `c.next` were made.
 pub record StandsMidway (c : Carrying) (f : Filterbank) : Type 0 where
   pub stream : IsStream c.tables.plan c.max_sample f
-  pub running : IsPassing c.tables f c.fed c.last c.next c.stores
+  pub small : AreAtMost f (c.fed + c.last) c.limit
+  pub running : IsPassing c.tables c.pass f c.fed c.last c.next c.stores
+
+-- no next sample is above the limit, or none can be
+abbrev pub AreWithinLimit : Carrying → List ℕ → Type 0
+AreWithinLimit c samples = (c.max_sample ≤ c.limit) ⊎ ((k : ℕ) → slice_index samples k ≤ c.limit)
+
+-- a carry goes on by a pass that is for the next samples
+pub record IsSettled (before after : Carrying) (samples : List ℕ) : Type 0 where
+  pub tables : after.tables ≡ before.tables
+  pub max_sample : after.max_sample ≡ before.max_sample
+  pub fed : after.fed ≡ before.fed
+  pub last : after.last ≡ before.last
+  pub not_passing : after.is_passing ≡ false
+  pub within : AreWithinLimit after samples
 
 -- what holds of a carry
 pub record IsSound (c : Carrying) : Type 0 where
   pub fits : c.max_sample * (channels_of c.tables.plan.edges + c.tables.plan.last) < 2 ^ 32
-  pub low : AreLow c.tables.plan c.tables.rows c.tables.passing.narrow c.max_sample
+  pub pass_is : IsPassOf c.tables c.limit c.pass
   pub short : c.last ≤ c.tables.chunk
   pub few_made : c.has_tables ≡ true → c.last ≤ c.tables.most
   pub few : c.is_passing ≡ true → c.fed + c.last ≤ 2 ^ 48
   pub plain_room : HaveRoom c.tables.plain c.stores
-  pub passing_room : HaveRoom c.tables.passing c.stores
+  pub pass_room : HaveRoom c.pass.schedule c.stores
   pub alone : c.is_passing ≡ true → c.has_tables ≡ false
   pub from : c.is_passing ≡ true → c.tables.plan.first ≤ c.next
   pub to : c.is_passing ≡ true → c.next ≤ c.tables.plan.last + 1
+
+-- a pass for all samples is there as long as the one in use is for smaller ones alone
+pub record HasSpare (c : Carrying) (spare : Option Passing) : Type 0 where
+  pub some : c.limit < c.max_sample → spare ≢ None
+  pub pass_is : IfSome spare (λ pass. IsPassOf c.tables c.max_sample pass)
+  pub room : IfSome spare (λ pass. HaveRoom pass.schedule c.stores)

@@ -2,5 +2,6 @@ pub mod Orders
 pub mod Plain
 pub mod Tables
 pub mod Passing
+pub mod Sizes
 pub mod Carrying
 pub mod Making

@@ -1,47 +1,74 @@
 -- What calls on tables leave, and what is read of them.
 -- Source: this project's choice.
-use Rattle.std.specs.Prelude.{◌≡◌, ℕ, ◌+◌, ◌*◌, ◌^◌, ◌<◌, List, slice_index}
+use Rattle.std.specs.Prelude.{◌≡◌, ℕ, ◌+◌, ◌*◌, ◌^◌, ◌<◌, false, List, length, slice_index}
 use Rattle.band_paths.specs.Edges.{channels_of}
-use Rattle.row_schedule.specs.Running.{Stores}
+use Rattle.row_model.specs.Sums.{is_narrow}
+use Rattle.row_schedule.specs.Orders.{order_at}
+use Rattle.row_schedule.specs.Running.{Stores, stores}
 use Rattle.search_model.specs.Samples.{Filterbank}
 use Rattle.search_model.specs.Sums.{path_sum}
 use Rattle.search_model.specs.Subbands.{node_sum}
-use Rattle.fdmt_carry.specs.Orders.{AreLow}
-use Rattle.fdmt_carry.specs.Tables.{Tables, AreSamples, AreKept, TablesStand, IsPassing, node_of}
+use Rattle.subband_plan.specs.Rows.{IsRow}
+use Rattle.subband_plan.specs.Values.{AreAtMost}
+use Rattle.fdmt_carry.specs.declared.passing.Passing.{Passing}
+use Rattle.fdmt_carry.specs.Orders.{band_row}
+use Rattle.fdmt_carry.specs.Tables.{Tables, AreSamples, TablesStand, node_of}
+use Rattle.fdmt_carry.specs.Passing.{AreKept, IsPassing, IsPassOf, stop_at}
 use Rattle.fdmt_carry.specs.Carrying.{IsStream}
 
--- the samples of the next spectra of a stream, from spectrum u on, none above m; the sums of rows
--- of 16 bits fit
-pub record AreTaken (t : Tables) (f : Filterbank) (m u spectra : ℕ) (samples : List ℕ) :
-    Type 0 where
-  pub stream : IsStream t.plan m f
-  pub low : AreLow t.plan t.rows t.passing.narrow m
+-- A pass is made for samples up to m, and no sample of a stream before spectrum e is greater.
+pub record AreFit (t : Tables) (pass : Passing) (f : Filterbank) (m e : ℕ) : Type 0 where
+  pub pass_is : IsPassOf t m pass
+  pub channels : f.channels ≡ channels_of t.plan.edges
+  pub small : AreAtMost f e m
+
+-- the samples of the next spectra of a stream, from spectrum u on, fit a pass
+pub record AreTaken (t : Tables) (pass : Passing) (f : Filterbank) (m u spectra : ℕ)
+    (samples : List ℕ) : Type 0 where
+  pub fit : AreFit t pass f m (u + spectra)
   pub samples_are : AreSamples t f u spectra samples
 
 -- the tables of all nodes stand, and what is kept is of the next spectra too
-pub record AreFilled (t : Tables) (f : Filterbank) (u spectra : ℕ) (st : Stores) : Type 0 where
-  pub kept : AreKept t f (u + spectra) st
+pub record AreFilled (t : Tables) (pass : Passing) (f : Filterbank) (u spectra : ℕ) (st : Stores) :
+    Type 0 where
+  pub kept : AreKept t pass f (u + spectra) st
   pub stands : TablesStand t f u spectra st
 
 -- the next spectra were taken
-abbrev pub Fills : Tables → ℕ → List ℕ → Stores → Stores → Type 0
-Fills t spectra samples old new = (f : Filterbank) (m u : ℕ) →
-    AreTaken t f m u spectra samples → AreKept t f u old → AreFilled t f u spectra new
+abbrev pub Fills : Tables → Passing → ℕ → List ℕ → Stores → Stores → Type 0
+Fills t pass spectra samples old new = (f : Filterbank) (m u : ℕ) →
+    AreTaken t pass f m u spectra samples → AreKept t pass f u old →
+    AreFilled t pass f u spectra new
 
 -- a pass has made the row of delay d of the whole band
-abbrev pub MakesRow : Tables → ℕ → ℕ → List ℕ → Stores → Stores → Type 0
-MakesRow t d spectra samples old new = (f : Filterbank) (m u : ℕ) →
-    AreTaken t f m u spectra samples → IsPassing t f u spectra d old →
-    IsPassing t f u spectra (d + 1) new
+abbrev pub MakesRow : Tables → Passing → ℕ → ℕ → List ℕ → Stores → Stores → Type 0
+MakesRow t pass d spectra samples old new = (f : Filterbank) (m u : ℕ) →
+    AreTaken t pass f m u spectra samples → IsPassing t pass f u spectra d old →
+    IsPassing t pass f u spectra (d + 1) new
+
+-- what was kept for one pass is kept for another
+abbrev pub KeepsFor : Tables → Passing → Passing → List ℕ → List ℕ → List ℕ → List ℕ → Type 0
+KeepsFor t pass next narrow wide narrow' wide' = (f : Filterbank) (m u : ℕ) (a b : List ℕ) →
+    AreFit t next f m u → AreKept t pass f u (stores a b narrow wide) →
+    AreKept t next f u (stores a b narrow' wide')
 
 -- where no sample is above m, no sum passes 32 bits
 abbrev pub SumsFit : Tables → ℕ → Type 0
 SumsFit t m = m * (channels_of t.plan.edges + t.plan.last) < 2 ^ 32
 
+-- An order of a pass makes the row of delay d of the whole band, in 32 bits, and is the last one before
+-- the stop that comes after it.
+pub record ShowsRow (t : Tables) (pass : Passing) (d order : ℕ) : Type 0 where
+  pub within : order < length pass.schedule.orders
+  pub stop : stop_at t pass (d + 1) ≡ order + 1
+  pub row : (order_at pass.schedule.orders order).row ≡ band_row t.plan t.rows d
+  pub is_row : IsRow t.rows 0 d (band_row t.plan t.rows d)
+  pub width : is_narrow pass.schedule.narrow (order_at pass.schedule.orders order).row ≡ false
+
 -- a row is that of delay d of the whole band, which a pass made last
-abbrev pub ReadsBand : Tables → ℕ → ℕ → List ℕ → List ℕ → Type 0
-ReadsBand t d spectra wide row = (f : Filterbank) (m u k : ℕ) (st : Stores) → SumsFit t m →
-    IsStream t.plan m f → st.wide ≡ wide → IsPassing t f u spectra (d + 1) st → k < spectra →
+abbrev pub ReadsBand : Tables → Passing → ℕ → ℕ → List ℕ → List ℕ → Type 0
+ReadsBand t pass d spectra wide row = (f : Filterbank) (m u k : ℕ) (st : Stores) → SumsFit t m →
+    IsStream t.plan m f → st.wide ≡ wide → IsPassing t pass f u spectra (d + 1) st → k < spectra →
     slice_index row k ≡ path_sum f t.plan.edges (u + k) d
 
 -- a row is that of delay d of node k

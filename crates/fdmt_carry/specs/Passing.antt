@@ -1,16 +1,35 @@
--- The schedule of a pass.
+-- Passes: schedules that make the rows of the whole band one after another.
 -- Source: this project's choice.
-use Rattle.std.specs.Prelude.{◌≡◌, ℕ}
+use Rattle.std.specs.Prelude.{ℕ, ◌-◌, slice_index}
+use Rattle.row_schedule.specs.Running.{Stores, Kept, Running}
+use Rattle.search_model.specs.Samples.{Filterbank}
 use Rattle.subband_plan.specs.declared.rows.PlanRows.{PlanRows}
 use Rattle.subband_plan.specs.Nodes.{BandPlan}
 use Rattle.fdmt_carry.specs.declared.passing.Passing.{Passing}
 use Rattle.fdmt_carry.specs.Orders.{AreLow, AreParts, AreStops}
-use Rattle.fdmt_carry.specs.Tables.{IsScheduled}
+use Rattle.fdmt_carry.specs.Tables.{IsScheduled, Tables, table_sums}
 
--- it makes the rows of a plan for so many spectra, of samples that are not above m
+-- A pass makes the rows of a plan, of up to `chunk` spectra, while no sample is above m. It has made a
+-- row of the whole band at the stop that comes after it.
 pub record IsPass (p : BandPlan) (rows : PlanRows) (chunk m : ℕ) (pass : Passing) : Type 0 where
   pub runs : IsScheduled p rows chunk chunk pass.schedule
-  pub narrow_is : pass.schedule.narrow ≡ pass.narrow.items
-  pub parts : AreParts rows pass.narrow.items
-  pub low : AreLow p rows pass.narrow.items m
+  pub parts : AreParts rows pass.schedule.narrow
+  pub low : AreLow p rows pass.schedule.narrow m
   pub stops : AreStops p rows pass.schedule.orders pass.stops.items
+
+-- one for these tables
+abbrev pub IsPassOf : Tables → ℕ → Passing → Type 0
+IsPassOf t m pass = IsPass t.plan t.rows t.chunk m pass
+
+-- how many of its orders come before the row of delay d of the whole band is made
+abbrev pub stop_at : Tables → Passing → ℕ → ℕ
+stop_at t pass d = slice_index pass.stops.items (d - t.plan.first)
+
+-- before the sums that end at spectrum u, this is kept of all rows for a pass
+abbrev pub AreKept : Tables → Passing → Filterbank → ℕ → Stores → Type 0
+AreKept t pass f u st = Kept t.rows.rows pass.schedule.narrow (table_sums t f) u st
+
+-- a pass has come to the row of delay d of the whole band
+abbrev pub IsPassing : Tables → Passing → Filterbank → ℕ → ℕ → ℕ → Stores → Type 0
+IsPassing t pass f u spectra d st =
+    Running t.rows.rows pass.schedule (table_sums t f) u spectra (stop_at t pass d) st

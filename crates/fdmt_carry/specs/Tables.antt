@@ -1,42 +1,37 @@
--- The tables of a plan, and the two schedules that make their rows.
+-- The tables of a plan, and the schedule that makes the rows of all nodes.
 -- Source: Zackay & Ofek, ApJ 835:11, 2017, section 2 (the partial sums of the transform); that
 -- values are kept from chunk to chunk is this project's choice.
-use Rattle.std.specs.Prelude.{◌≡◌, ℕ, ◌-◌, ◌≤◌, false, Bool, List, length, replicate, slice_index}
+use Rattle.std.specs.Prelude.{◌≡◌, ℕ, ◌≤◌, false, List, length, replicate}
 use Rattle.band_paths.specs.Edges.{channels_of}
 use Rattle.row_model.specs.Sums.{Sums}
 use Rattle.row_schedule.specs.Samples.{AreNext}
 use Rattle.row_schedule.specs.Schedules.{Scheduled}
 use Rattle.row_schedule.specs.Follows.{Follows}
-use Rattle.row_schedule.specs.Running.{Stores, Kept, Running, stores}
+use Rattle.row_schedule.specs.Running.{Stores, Running, stores}
 use Rattle.search_model.specs.Samples.{Filterbank}
 use Rattle.subband_plan.specs.declared.nodes.Node.{Node}
 use Rattle.subband_plan.specs.declared.rows.PlanRows.{PlanRows}
 use Rattle.subband_plan.specs.Nodes.{BandPlan, IsPlan, nodes_of, node_at}
 use Rattle.subband_plan.specs.Rows.{ArePlanRows, all_rows}
 use Rattle.subband_plan.specs.Values.{row_sum}
-use Rattle.fdmt_carry.specs.Orders.{ArePlain, AreParts, AreStops}
+use Rattle.fdmt_carry.specs.Orders.{ArePlain}
 
 -- The tables of a plan, for up to `chunk` spectra at a time. The schedule `plain` makes the rows of
--- all nodes so that they stand, of up to `most` spectra; `passing` makes each row of the whole band,
--- and has made it at the stop that comes after it.
+-- all nodes so that they stand, of up to `most` spectra.
 pub record Tables : Type 0 where
   pub plan : BandPlan
   pub chunk : ℕ
   pub most : ℕ
   pub rows : PlanRows
   pub plain : Scheduled
-  pub passing : Scheduled
-  pub stops : List ℕ
 
-abbrev pub tables : BandPlan → ℕ → ℕ → PlanRows → Scheduled → Scheduled → List ℕ → Tables
-tables plan chunk most rows plain passing stops = record {
+abbrev pub tables : BandPlan → ℕ → ℕ → PlanRows → Scheduled → Tables
+tables plan chunk most rows plain = record {
   plan = plan;
   chunk = chunk;
   most = most;
   rows = rows;
   plain = plain;
-  passing = passing;
-  stops = stops;
 }
 
 -- node k
@@ -66,30 +61,18 @@ pub record IsPlain (p : BandPlan) (rows : PlanRows) (chunk most : ℕ) (s : Sche
   pub narrow : s.narrow ≡ replicate (all_rows rows) false
   pub orders : ArePlain p rows s.orders
 
--- what holds of tables; `narrow` says which rows have 16 bits in a pass
-pub record AreTables (t : Tables) (narrow : List Bool) : Type 0 where
+-- what holds of tables
+pub record AreTables (t : Tables) : Type 0 where
   pub plan : IsPlan t.plan
   pub rows : ArePlanRows t.plan t.rows
   pub short : t.chunk ≤ 65536
   pub within : t.most ≤ t.chunk
   pub plain : IsPlain t.plan t.rows t.chunk t.most t.plain
-  pub passing : IsScheduled t.plan t.rows t.chunk t.chunk t.passing
-  pub narrow_is : t.passing.narrow ≡ narrow
-  pub parts : AreParts t.rows narrow
-  pub stops : AreStops t.plan t.rows t.passing.orders t.stops
 
 -- the samples of the next spectra, from spectrum u on
 abbrev pub AreSamples : Tables → Filterbank → ℕ → ℕ → List ℕ → Type 0
 AreSamples t f u spectra samples =
     AreNext f.value (channels_of t.plan.edges) t.chunk u spectra samples
-
--- how many orders of a pass come before the row of delay d of the whole band is made
-abbrev pub stop_at : Tables → ℕ → ℕ
-stop_at t d = slice_index t.stops (d - t.plan.first)
-
--- before the sums that end at spectrum u, this is kept of all rows
-abbrev pub AreKept : Tables → Filterbank → ℕ → Stores → Type 0
-AreKept t f u st = Kept t.rows.rows t.passing.narrow (table_sums t f) u st
 
 -- The rows of all nodes stand: they were made, with the sums that end at so many spectra from
 -- spectrum u on. What is kept in 16 bits was changed since then.
@@ -97,8 +80,3 @@ pub record TablesStand (t : Tables) (f : Filterbank) (u spectra : ℕ) (st : Sto
   pub kept_narrow : List ℕ
   pub made : Running t.rows.rows t.plain (table_sums t f) u spectra (length t.plain.orders)
       (stores st.narrow st.wide kept_narrow st.kept_wide)
-
--- a pass has come to the row of delay d of the whole band
-abbrev pub IsPassing : Tables → Filterbank → ℕ → ℕ → ℕ → Stores → Type 0
-IsPassing t f u spectra d st =
-    Running t.rows.rows t.passing (table_sums t f) u spectra (stop_at t d) st

@@ -1,5 +1,5 @@
 // Tables that are carried from chunk to chunk.
-ghost use Rattle.std.specs.Prelude.{◌≡◌, ℕ, ◌+◌, ◌-◌, ◌*◌, ◌^◌, ◌<◌, ◌≤◌, true, false, length, slice_index, replicate, IfOk};
+ghost use Rattle.std.specs.Prelude.{◌≡◌, ◌≢◌, ℕ, ◌+◌, ◌-◌, ◌*◌, ◌^◌, ◌<◌, ◌≤◌, true, false, List, length, slice_index, replicate, None, IfOk, IfSome};
 ghost use Rattle.band_paths.specs.Edges.{channels_of};
 ghost use Rattle.row_schedule.specs.Running.{stores};
 ghost use Rattle.row_schedule.specs.Samples.{values_of};
@@ -7,15 +7,20 @@ ghost use Rattle.search_model.specs.Samples.{Filterbank};
 ghost use Rattle.search_model.specs.Sums.{path_sum};
 ghost use Rattle.search_model.specs.Subbands.{node_sum};
 ghost use Rattle.subband_plan.specs.Nodes.{HasRow, root};
+ghost use Rattle.subband_plan.specs.Values.{AreAtMost};
 ghost use Rattle.fdmt_carry.specs.Tables.{node_of, node_count};
-ghost use Rattle.fdmt_carry.specs.Carrying.{Carrying, AreThere, IsOpened, IsFed, IsBegun, IsRowOn, IsStream, AreNext, StandsForSamples, StandsMidway, IsSound, carrying};
+ghost use Rattle.fdmt_carry.specs.Passing.{IsPassOf};
+ghost use Rattle.fdmt_carry.specs.Carrying.{Carrying, AreThere, IsOpened, IsFed, IsBegun, IsRowOn, IsStream, AreNext, IsSettled, StandsForSamples, StandsMidway, IsSound, HasSpare, carrying};
 
+use crate::passing::Passing;
+use crate::sizes::{sizes_of, spare_sizes};
 use crate::tables::Tables;
 use psr_base::Memory;
 use row_schedule::{Samples, nothing_kept, running_begins, running_ends};
 use search_model::whole_band_is_path_sum;
 use std::alloc::Global;
 use std::marker::Model;
+use std::mem;
 use subband_plan::{Plan, plans_are_laid, rows_begin_empty};
 
 /// The tables of a plan over a stream of spectra that is fed chunk by chunk. Of each row are kept between two calls as
@@ -23,9 +28,15 @@ use subband_plan::{Plan, plans_are_laid, rows_begin_empty};
 ///
 /// `feed` and `take` make the rows of all nodes, which then stand. A pass makes only those of the whole band, one after
 /// another by their delays: `begin`, `make_row` for each delay, with `made` to read the row, and `finish`.
+///
+/// A pass for small samples serves until a greater one comes, and then one for all samples. Which rows have 16 bits, no
+/// clause says.
 #[derive(Drop)]
 pub struct Carry {
     tables: Tables,
+    pass: Passing,
+    limit: u32,
+    spare: Option<Passing>,
     max_sample: u32,
     fed: u64,
     last: u32,
@@ -41,11 +52,16 @@ pub struct Carry {
 impl Model for Carry {
     ghost Value = { Carrying };
 
-    ghost view = { λ c. carrying c.tables c.max_sample c.fed c.last c.has_tables c.is_passing c.next
+    ghost view = { λ c. carrying c.tables c.pass c.limit c.max_sample c.fed c.last c.has_tables
+        c.is_passing c.next
         (stores c.narrow.items c.values.items c.kept_narrow.items c.kept.items) };
 
-    ghost invariant = { λ c. IsSound (carrying c.tables c.max_sample c.fed c.last c.has_tables
-        c.is_passing c.next (stores c.narrow.items c.values.items c.kept_narrow.items c.kept.items)) };
+    ghost invariant = { λ c. IsSound (carrying c.tables c.pass c.limit c.max_sample c.fed c.last
+        c.has_tables c.is_passing c.next
+        (stores c.narrow.items c.values.items c.kept_narrow.items c.kept.items))
+        × HasSpare (carrying c.tables c.pass c.limit c.max_sample c.fed c.last c.has_tables
+        c.is_passing c.next
+        (stores c.narrow.items c.values.items c.kept_narrow.items c.kept.items)) c.spare };
 }
 
 impl Carry {
@@ -61,8 +77,8 @@ impl Carry {
         Carry::open_passing(alloc, plan, chunk, chunk, max_sample)
     }
 
-    /// Takes the memory for passes over up to `chunk` spectra of samples up to `max_sample`, and for calls that make the
-    /// tables of all nodes of up to `most` spectra.
+    /// Takes the memory for passes over up to `chunk` spectra of samples up to `max_sample`, and for calls that make
+    /// the tables of all nodes of up to `most` spectra.
     pub fn open_passing(
         alloc: Global,
         plan: Plan,
@@ -80,14 +96,22 @@ impl Carry {
     {
         nothing_kept();
         rows_begin_empty();
-        let tables = Tables::of(alloc, plan, chunk, most, max_sample)?;
-        let narrow = vec![in alloc; 0; tables.narrow_size()]?;
-        let values = vec![in alloc; 0; tables.wide_size()]?;
-        let kept_narrow = narrow_zeros(alloc, tables.kept_size())?;
-        let kept = zeros(alloc, tables.kept_size())?;
+        let tables = Tables::of(alloc, plan, chunk, most)?;
+        let limit = tables.narrow_limit().min(max_sample);
+        let pass = tables.passing(alloc, limit)?;
+        let spare = spare_pass(alloc, &tables, limit, max_sample)?;
+        let both = sizes_of(tables.plain()).most(sizes_of(&pass.schedule));
+        let sizes = both.most(spare_sizes(&spare));
+        let narrow = narrow_zeros(alloc, sizes.narrow)?;
+        let values = zeros(alloc, sizes.wide)?;
+        let kept_narrow = narrow_zeros(alloc, sizes.kept)?;
+        let kept = zeros(alloc, sizes.kept)?;
         tables.hold();
         Ok(Carry {
             tables,
+            pass,
+            limit,
+            spare,
             max_sample,
             fed: 0,
             last: 0,
@@ -102,8 +126,8 @@ impl Carry {
     }
 
     /// Takes the next spectra: row `c` of `rows` begins at `c * chunk`, with their samples in channel `c`, the highest
-    /// frequency first. The tables of all nodes stand after it. Where the carry was opened by `open`, the spectra may be
-    /// as many as a chunk.
+    /// frequency first. The tables of all nodes stand after it. Where the carry was opened by `open`, the spectra may
+    /// be as many as a chunk.
     pub fn feed(&mut self, rows: &[u32], spectra: u32)
         requires rows { length rows.now
             ≡ channels_of self.old.tables.plan.edges * self.old.tables.chunk }
@@ -130,8 +154,25 @@ impl Carry {
         ensures stands { (f : Filterbank) → StandsForSamples self.old f
             → AreNext self.old f (values_of samples.entry) spectra → StandsForSamples self.new f }
     {
+        self.settle(samples);
+        self.fill(samples, spectra);
+    }
+
+    // Takes the next spectra, where no sample is above the limit.
+    fn fill(&mut self, samples: Samples<'_>, spectra: u32)
+        requires rows { AreThere self.old (values_of samples) spectra }
+        requires short { spectra ≤ self.old.tables.most }
+        requires few { self.old.fed + spectra ≤ 2 ^ 48 }
+        requires whole { self.old.is_passing ≡ false }
+        ensures fed { IsFed self.old self.new spectra }
+        ensures tables { self.new.has_tables ≡ true }
+        ensures stands { (f : Filterbank) → StandsForSamples self.old f
+            → AreNext self.old f (values_of samples.entry) spectra
+            → AreAtMost f (self.old.fed + spectra) self.old.limit → StandsForSamples self.new f }
+    {
         self.tables.hold();
         self.tables.fill(
+            &self.pass,
             self.narrow.as_mut_slice(),
             self.values.as_mut_slice(),
             self.kept_narrow.as_mut_slice(),
@@ -144,14 +185,53 @@ impl Carry {
         self.has_tables = true;
     }
 
-    /// Begins a pass over the next spectra, so many.
-    pub fn begin(&mut self, spectra: u32)
+    /// Begins a pass over the next spectra, so many: the samples of channel `c`, the highest frequency first, begin at
+    /// `c * chunk`. They are only looked at here; each `make_row` takes them.
+    pub fn begin(&mut self, samples: Samples<'_>, spectra: u32)
         requires short { spectra ≤ self.old.tables.chunk }
         requires few { self.old.fed + spectra ≤ 2 ^ 48 }
         requires whole { self.old.is_passing ≡ false }
         ensures begun { IsBegun self.old self.new spectra }
         ensures stands { (f : Filterbank) → StandsForSamples self.old f
-            → StandsMidway self.new f }
+            → AreNext self.old f (values_of samples.entry) spectra → StandsMidway self.new f }
+    {
+        self.settle(samples);
+        self.start(spectra);
+    }
+
+    // Goes over to the pass for all samples where one of these is above the limit. No tables stand after it.
+    fn settle(&mut self, samples: Samples<'_>)
+        requires whole { self.old.is_passing ≡ false }
+        ensures settled { IsSettled self.old self.new (values_of samples.entry) }
+        ensures stands { (f : Filterbank) → StandsForSamples self.old f
+            → StandsForSamples self.new f }
+    {
+        self.has_tables = false;
+        if self.limit >= self.max_sample || samples.bound() <= self.limit {
+            return;
+        }
+        let Some(spare) = mem::replace(&mut self.spare, None) else {
+            unreachable!();
+        };
+        self.tables.hold();
+        self.tables.keep_for(
+            &self.pass,
+            &spare,
+            self.kept_narrow.as_mut_slice(),
+            self.kept.as_mut_slice(),
+        );
+        self.pass = spare;
+        self.limit = self.max_sample;
+    }
+
+    // Begins a pass over so many spectra, where no sample is above the limit.
+    fn start(&mut self, spectra: u32)
+        requires short { spectra ≤ self.old.tables.chunk }
+        requires few { self.old.fed + spectra ≤ 2 ^ 48 }
+        requires whole { self.old.is_passing ≡ false }
+        ensures begun { IsBegun self.old self.new spectra }
+        ensures stands { (f : Filterbank) → StandsForSamples self.old f
+            → AreAtMost f (self.old.fed + spectra) self.old.limit → StandsMidway self.new f }
     {
         running_begins();
         self.tables.hold();
@@ -162,8 +242,8 @@ impl Carry {
         self.is_passing = true;
     }
 
-    /// Makes the row of the whole band of the next delay, from the samples of the spectra that the pass goes over: those
-    /// of channel `c`, the highest frequency first, begin at `c * chunk`.
+    /// Makes the row of the whole band of the next delay, from the samples of the spectra that the pass goes over:
+    /// those of channel `c`, the highest frequency first, begin at `c * chunk`.
     pub fn make_row(&mut self, samples: Samples<'_>)
         requires rows { AreThere self.old (values_of samples) self.old.last }
         requires passing { self.old.is_passing ≡ true }
@@ -175,6 +255,7 @@ impl Carry {
     {
         self.tables.hold();
         self.tables.make_row(
+            &self.pass,
             self.next,
             self.narrow.as_mut_slice(),
             self.values.as_mut_slice(),
@@ -195,8 +276,12 @@ impl Carry {
             → slice_index result.now k
             ≡ path_sum f self.now.tables.plan.edges (self.now.fed + k) (self.now.next - 1) }
     {
-        self.tables
-            .made(self.next - 1, self.values.as_slice(), self.last as usize)
+        self.tables.made(
+            &self.pass,
+            self.next - 1,
+            self.values.as_slice(),
+            self.last as usize,
+        )
     }
 
     /// Ends the pass, all rows of which were made.
@@ -224,7 +309,7 @@ impl Carry {
         ensures stands { (f : Filterbank) → StandsForSamples self.old f
             → AreNext self.old f (values_of samples.entry) spectra → StandsForSamples self.new f }
     {
-        self.begin(spectra);
+        self.begin(samples, spectra);
         let (first, last) = self.tables.delays();
         for d in first..last + 1 {
             prove!(self.next == d);
@@ -301,6 +386,22 @@ impl Carry {
         self.tables
             .table(k, d, self.values.as_slice(), self.last as usize)
     }
+}
+
+// A pass for samples up to `max_sample`, where that is above the limit of another one.
+fn spare_pass(
+    alloc: Global,
+    tables: &Tables,
+    limit: u32,
+    max_sample: u32,
+) -> Result<Option<Passing>, Memory>
+    ensures some { limit < max_sample → IfOk result (λ spare. spare ≢ None) }
+    ensures pass { IfOk result (λ spare. IfSome spare (IsPassOf tables.now max_sample)) }
+{
+    if limit >= max_sample {
+        return Ok(None);
+    }
+    Ok(Some(tables.passing(alloc, max_sample)?))
 }
 
 // So many zeros.

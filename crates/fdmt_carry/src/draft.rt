@@ -1,9 +1,9 @@
 // An order of rows for which few slots are in use at a time. Nothing rests on it: whoever takes it checks it.
 //
-// The nodes at two depths, and those of one and two channels, have a slot for each of their rows, which are made when the
-// node is opened; then the slots of the nodes below it are given back. Each other node has one slot for each width of its
-// rows, in which a row is made when it is asked for: from one delay to the next, one half of it goes on by one row. So the
-// rows of the whole band are made one after another.
+// The nodes at two depths, and those of one and two channels, have a slot for each of their rows, which are made when
+// the node is opened; then the slots of the nodes below it are given back. Each other node has one slot for each
+// width of its rows, in which a row is made when it is asked for: from one delay to the next, one half of it goes on
+// by one row. So the rows of the whole band are made one after another.
 use psr_base::Memory;
 use row_model::Source;
 use row_schedule::Order;
@@ -19,8 +19,8 @@ const TABLE_DEPTHS: [u32; 2] = [4, 7];
 // How often a band of 4096 channels is halved.
 const DEEPEST: u32 = 12;
 
-/// An order of rows, whether each slot is for rows of 16 bits, and how many orders there are before the first row of the
-/// whole band is begun, once it is made, and so on.
+/// An order of rows, whether each slot is for rows of 16 bits, and how many orders there are before the first row of
+/// the whole band is begun, once it is made, and so on.
 #[derive(Drop)]
 pub struct Draft {
     pub orders: Vec<Order>,
@@ -122,8 +122,8 @@ impl Drafting {
         self.draft
     }
 
-    // Gives slots to the rows of node `k`, opens the nodes below it, and makes its rows where each has a slot. Rows past
-    // delay 0 of a single channel are there only where they are asked for.
+    // Gives slots to the rows of node `k`, opens the nodes below it, and makes its rows where each has a slot. Rows
+    // past delay 0 of a single channel are there only where they are asked for.
     fn open_node(
         &mut self,
         tree: &Tree<'_>,

@@ -9,6 +9,7 @@ mod draft;
 mod numbers;
 mod passing;
 mod plain;
+mod sizes;
 mod tables;
 
 pub use carry::Carry;

@@ -8,40 +8,39 @@ ghost use Rattle.fdmt_carry.specs.Orders.{AreLow, AreParts, AreStops, IsStop};
 use crate::building::schedule_of;
 use crate::draft::Draft;
 use crate::numbers::{row_number, whole_band};
-use crate::plain::{all_wide, plain_schedule, plain_stops};
+use crate::plain::{plain_schedule, plain_stops};
 use psr_base::Memory;
 use row_schedule::{Order, Schedule};
 use std::alloc::Global;
 use subband_plan::{Node, Plan, PlanRows};
 
 // A sum that is less than this has 16 bits.
-const NARROW_SUMS: u64 = 65536;
+const NARROW_SUMS: u32 = 65536;
 
-/// The schedule of a pass, which rows it makes in 16 bits, and where it stops.
+/// The schedule of a pass, and where it stops.
 #[derive(Drop)]
 pub struct Passing {
     pub schedule: Schedule,
-    pub narrow: Vec<bool>,
     pub stops: Vec<usize>,
 }
 
 impl Passing {
     ghost use Rattle.fdmt_carry.specs.Passing.{IsPass};
 
-    /// The schedule of the rows of a plan over samples up to `max_sample`: the drafted one, or the plain one where that
-    /// can't be carried out or does not show the rows of the whole band by their delays.
+    /// The schedule of the rows of a plan over samples up to `limit`: the drafted one, or the plain one where that
+    /// can't be carried out or does not show the rows of the whole band by their delays. Which it is, no clause says.
     pub fn of(
         alloc: Global,
         plan: &Plan,
         rows: &PlanRows,
         chunk: u32,
-        max_sample: u32,
+        limit: u32,
     ) -> Result<Passing, Memory>
         requires rows { ArePlanRows plan.now rows.now }
         requires short { chunk ≤ 65536 }
-        ensures { IfOk result (λ pass. IsPass plan.now rows.now chunk max_sample pass) }
+        ensures { IfOk result (λ pass. IsPass plan.now rows.now chunk limit pass) }
     {
-        let narrow = narrow_rows(alloc, plan, rows, max_sample)?;
+        let narrow = narrow_rows(alloc, plan, rows, limit)?;
         let draft = Draft::of(alloc, plan.all_nodes(), rows, narrow.as_slice())?;
         match Passing::drafted(alloc, plan, rows, chunk, narrow, draft)? {
             Some(pass) => Ok(pass),
@@ -73,11 +72,10 @@ impl Passing {
             return Ok(None);
         }
         let channels = (plan.edges().len() - 1) as u32;
-        let widths = Vec::from_slice(alloc, narrow.as_slice())?;
         let made = schedule_of(
             alloc,
             &rows.rows,
-            widths,
+            narrow,
             slots,
             orders.as_slice(),
             channels,
@@ -85,11 +83,7 @@ impl Passing {
             chunk,
         )?;
         match made {
-            Some(schedule) => Ok(Some(Passing {
-                schedule,
-                narrow,
-                stops,
-            })),
+            Some(schedule) => Ok(Some(Passing { schedule, stops })),
             None => Ok(None),
         }
     }
@@ -103,41 +97,47 @@ impl Passing {
         let schedule = plain_schedule(alloc, plan, rows, chunk, chunk)?;
         Ok(Passing {
             schedule,
-            narrow: all_wide(alloc, rows.rows.sources.len())?,
             stops: plain_stops(alloc, plan, rows)?,
         })
     }
 }
 
-// Whether the row of a delay of node `k`, which is given, has 16 bits: where no sum of it passes them; those of the whole
-// band have 32.
-fn is_low(k: usize, node: Node, delay: u32, max_sample: u32) -> bool
+// Whether the row of a delay of node `k`, which is given, has 16 bits: where no sum of it passes them; those of the
+// whole band have 32.
+fn is_low(k: usize, node: Node, delay: u32, limit: u32) -> bool
     requires order { node.lo ≤ node.hi }
     requires channels { node.hi ≤ most_channels }
     requires delays { delay ≤ most_delay }
     ensures part { result ≡ true → 0 < k }
-    ensures low { result ≡ true → max_sample * (node.hi - node.lo + delay) < 2 ^ 16 }
+    ensures low { result ≡ true → limit * (node.hi - node.lo + delay) < 2 ^ 16 }
 {
     let cells = u64::from(node.hi - node.lo + delay);
-    k > 0 && u64::from(max_sample) * cells < NARROW_SUMS
+    k > 0 && u64::from(limit) * cells < u64::from(NARROW_SUMS)
+}
+
+/// A limit of samples up to which the sums of all rows but those of the whole band have 16 bits. Nothing rests on it: a
+/// pass for samples up to any limit has the widths that these need.
+pub fn narrow_limit(plan: &Plan) -> u32 {
+    let nodes = plan.all_nodes();
+    let mut cells = 1;
+    for k in 1..nodes.len() {
+        let channels = nodes[k].hi.saturating_sub(nodes[k].lo);
+        cells = channels.saturating_add(nodes[k].last_row).max(cells);
+    }
+    (NARROW_SUMS - 1).checked_div(cells).unwrap_or(0)
 }
 
 // Which rows have 16 bits.
-fn narrow_rows(
-    alloc: Global,
-    plan: &Plan,
-    rows: &PlanRows,
-    max_sample: u32,
-) -> Result<Vec<bool>, Memory>
+fn narrow_rows(alloc: Global, plan: &Plan, rows: &PlanRows, limit: u32) -> Result<Vec<bool>, Memory>
     requires rows { ArePlanRows plan.now rows.now }
-    ensures low { IfOk result (λ narrow. AreLow plan.now rows.now narrow.items max_sample) }
+    ensures low { IfOk result (λ narrow. AreLow plan.now rows.now narrow.items limit) }
     ensures parts { IfOk result (λ narrow. AreParts rows.now narrow.items) }
 {
     let nodes = plan.all_nodes();
     let mut narrow = Vec::with_capacity(alloc, rows.nodes.len())?;
     for r in 0..rows.nodes.len() {
         let k = rows.nodes[r] as usize;
-        narrow.push(is_low(k, nodes[k], rows.delays[r], max_sample))?;
+        narrow.push(is_low(k, nodes[k], rows.delays[r], limit))?;
     }
     Ok(narrow)
 }

@@ -50,8 +50,8 @@ fn plain_orders(alloc: Global, plan: &Plan, rows: &PlanRows) -> Result<Vec<Order
     Ok(orders)
 }
 
-/// That none of so many rows has 16 bits.
-pub fn all_wide(alloc: Global, count: usize) -> Result<Vec<bool>, Memory>
+// That none of so many rows has 16 bits.
+fn all_wide(alloc: Global, count: usize) -> Result<Vec<bool>, Memory>
     ensures items { IfOk result (λ narrow. narrow.items ≡ replicate count false) }
 {
     Ok(vec![in alloc; false; count]?)

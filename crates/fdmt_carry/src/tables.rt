@@ -1,15 +1,15 @@
-// The tables of a plan, which are made by two schedules.
-ghost use Rattle.std.specs.Prelude.{◌≡◌, ◌+◌, ◌-◌, ◌*◌, ◌≤◌, ◌<◌, length, IfOk};
+// The tables of a plan: rows of all nodes, and passes over them.
+ghost use Rattle.std.specs.Prelude.{◌≡◌, ℕ, ◌+◌, ◌-◌, ◌*◌, ◌≤◌, ◌<◌, length, IfOk};
 ghost use Rattle.band_paths.specs.Edges.{channels_of};
 ghost use Rattle.row_schedule.specs.Running.{HaveRoom, stores};
 ghost use Rattle.row_schedule.specs.Samples.{values_of};
 ghost use Rattle.subband_plan.specs.Nodes.{IsPlan, HasRow, root};
-ghost use Rattle.fdmt_carry.specs.Orders.{AreLow};
-ghost use Rattle.fdmt_carry.specs.Tables.{AreTables, node_of, node_count, stop_at};
-ghost use Rattle.fdmt_carry.specs.Making.{Fills, MakesRow, ReadsBand, ReadsNode};
+ghost use Rattle.fdmt_carry.specs.Tables.{AreTables, node_of, node_count};
+ghost use Rattle.fdmt_carry.specs.Passing.{IsPassOf, stop_at};
+ghost use Rattle.fdmt_carry.specs.Making.{Fills, KeepsFor, MakesRow, ReadsBand, ReadsNode, ShowsRow};
 
 use crate::numbers::{place_in_order, row_number, whole_band};
-use crate::passing::Passing;
+use crate::passing::{Passing, narrow_limit};
 use crate::plain::plain_schedule;
 use psr_base::Memory;
 use row_schedule::{Samples, Schedule, narrow_kept, running_begins, running_ends, widen_kept};
@@ -29,7 +29,6 @@ pub struct Tables {
     most: u32,
     rows: PlanRows,
     plain: Schedule,
-    passing: Passing,
 }
 
 impl Model for Tables {
@@ -37,33 +36,23 @@ impl Model for Tables {
 
     ghost Value = { Tables };
 
-    ghost view = { λ t. tables t.plan t.chunk t.most t.rows t.plain t.passing.schedule
-        t.passing.stops.items };
+    ghost view = { λ t. tables t.plan t.chunk t.most t.rows t.plain };
 
-    ghost invariant = { λ t. AreTables (tables t.plan t.chunk t.most t.rows t.plain t.passing.schedule
-        t.passing.stops.items) t.passing.narrow.items };
+    ghost invariant = { λ t. AreTables (tables t.plan t.chunk t.most t.rows t.plain) };
 }
 
 impl Tables {
-    /// The tables of a plan, for up to `chunk` spectra at a time, and up to `most` where the rows of all nodes are made,
-    /// of samples up to `max_sample`.
-    pub fn of(
-        alloc: Global,
-        plan: Plan,
-        chunk: u32,
-        most: u32,
-        max_sample: u32,
-    ) -> Result<Tables, Memory>
+    /// The tables of a plan, for up to `chunk` spectra at a time, and up to `most` where the rows of all nodes are
+    /// made.
+    pub fn of(alloc: Global, plan: Plan, chunk: u32, most: u32) -> Result<Tables, Memory>
         requires short { chunk ≤ 65536 }
         requires within { most ≤ chunk }
         ensures plan { IfOk result (λ t. t.plan ≡ plan) }
         ensures chunk { IfOk result (λ t. t.chunk ≡ chunk) }
         ensures most { IfOk result (λ t. t.most ≡ most) }
-        ensures low { IfOk result (λ t. AreLow t.plan t.rows t.passing.narrow max_sample) }
     {
         let rows = PlanRows::of(alloc, &plan)?;
         let plain = plain_schedule(alloc, &plan, &rows, chunk, most)?;
-        let passing = Passing::of(alloc, &plan, &rows, chunk, max_sample)?;
         let _ = plan.edges();
         Ok(Tables {
             plan,
@@ -71,13 +60,24 @@ impl Tables {
             most,
             rows,
             plain,
-            passing,
         })
+    }
+
+    /// A pass for samples up to `limit`.
+    pub fn passing(&self, alloc: Global, limit: u32) -> Result<Passing, Memory>
+        ensures { IfOk result (λ pass. IsPassOf self.now limit pass) }
+    {
+        Passing::of(alloc, &self.plan, &self.rows, self.chunk, limit)
+    }
+
+    /// A limit of samples for which a pass is fast.
+    pub fn narrow_limit(&self) -> u32 {
+        narrow_limit(&self.plan)
     }
 
     /// What holds of tables. It does nothing.
     pub fn hold(&self)
-        ensures { AreTables self.now self.now.passing.narrow }
+        ensures { AreTables self.now }
     {
         let _ = &self.plan;
     }
@@ -87,6 +87,13 @@ impl Tables {
         ensures { result.now ≡ self.now.plan }
     {
         &self.plan
+    }
+
+    /// The schedule of the rows of all nodes.
+    pub fn plain(&self) -> &Schedule
+        ensures { result.now ≡ self.now.plain }
+    {
+        &self.plain
     }
 
     /// Of how many spectra the rows of all nodes are made at most.
@@ -107,48 +114,32 @@ impl Tables {
     }
 
     // How many orders of a pass come before the row of delay `d` of the whole band is made.
-    fn stop(&self, d: u32) -> usize
+    fn stop(&self, pass: &Passing, d: u32) -> usize
+        requires pass { (m : ℕ) × IsPassOf self.now m pass.now }
         requires from { self.now.plan.first ≤ d }
         requires to { d ≤ self.now.plan.last + 1 }
-        ensures { result ≡ stop_at self.now d }
+        ensures { result ≡ stop_at self.now pass.now d }
     {
         let (first, _) = self.delays();
-        self.passing.stops[(d - first) as usize]
+        pass.stops[(d - first) as usize]
     }
 
-    /// How many values of 16 bits there are to be in which rows are made.
-    pub fn narrow_size(&self) -> usize
-        ensures plain { self.now.plain.narrow_size ≤ result }
-        ensures passing { self.now.passing.narrow_size ≤ result }
+    // The order of a pass that makes the row of delay `d` of the whole band.
+    fn shown(&self, pass: &Passing, d: u32) -> usize
+        requires pass { (m : ℕ) × IsPassOf self.now m pass.now }
+        requires row { HasRow (root self.now.plan) d }
+        ensures { ShowsRow self.now pass.now d result }
     {
-        self.plain
-            .narrow_size()
-            .max(self.passing.schedule.narrow_size())
+        plans_are_laid();
+        rows_are_numbered();
+        self.hold();
+        self.stop(pass, d + 1) - 1
     }
 
-    /// How many values of 32 bits there are to be in which rows are made.
-    pub fn wide_size(&self) -> usize
-        ensures plain { self.now.plain.wide_size ≤ result }
-        ensures passing { self.now.passing.wide_size ≤ result }
-    {
-        self.plain
-            .wide_size()
-            .max(self.passing.schedule.wide_size())
-    }
-
-    /// How many values there are to be of what is kept, of 16 and of 32 bits.
-    pub fn kept_size(&self) -> usize
-        ensures plain { self.now.plain.kept_size ≤ result }
-        ensures passing { self.now.passing.kept_size ≤ result }
-    {
-        self.plain
-            .kept_size()
-            .max(self.passing.schedule.kept_size())
-    }
-
-    /// Makes the rows of all nodes, with the sums that end at the next spectra.
+    /// Makes the rows of all nodes, with the sums that end at the next spectra, and keeps what a pass goes on by.
     pub fn fill(
         &self,
+        pass: &Passing,
         narrow: &mut [u16],
         wide: &mut [u32],
         kept_narrow: &mut [u16],
@@ -156,14 +147,15 @@ impl Tables {
         samples: Samples<'_>,
         spectra: usize,
     )
+        requires pass { (m : ℕ) × IsPassOf self.now m pass.now }
         requires plain_room { HaveRoom self.now.plain
             (stores narrow.old wide.old kept_narrow.old kept.old) }
-        requires passing_room { HaveRoom self.now.passing
+        requires pass_room { HaveRoom pass.now.schedule
             (stores narrow.old wide.old kept_narrow.old kept.old) }
         requires samples { channels_of self.now.plan.edges * self.now.chunk
             ≤ length (values_of samples) + (self.now.chunk - spectra) }
         requires short { spectra ≤ self.now.most }
-        ensures { Fills self.now spectra (values_of samples.entry)
+        ensures { Fills self.now pass.now spectra (values_of samples.entry)
             (stores narrow.old wide.old kept_narrow.old kept.old)
             (stores narrow.new wide.new kept_narrow.new kept.new) }
     {
@@ -171,7 +163,7 @@ impl Tables {
         rows_are_bounded();
         running_begins();
         running_ends();
-        let widths = self.passing.narrow.as_slice();
+        let widths = pass.schedule.narrow();
         widen_kept(&self.rows.rows, widths, kept_narrow, kept);
         self.plain.run(
             0,
@@ -186,9 +178,29 @@ impl Tables {
         narrow_kept(&self.rows.rows, widths, kept, kept_narrow);
     }
 
-    /// Makes what comes before the row of delay `d` of the whole band, and this row.
+    /// Keeps what was kept for a pass as another one goes on by it.
+    pub fn keep_for(
+        &self,
+        pass: &Passing,
+        next: &Passing,
+        kept_narrow: &mut [u16],
+        kept: &mut [u32],
+    )
+        requires narrow_room { next.now.schedule.kept_size ≤ length kept_narrow.old }
+        requires wide_room { next.now.schedule.kept_size ≤ length kept.old }
+        requires next { (m : ℕ) × IsPassOf self.now m next.now }
+        ensures { KeepsFor self.now pass.now next.now kept_narrow.old kept.old kept_narrow.new
+            kept.new }
+    {
+        rows_are_bounded();
+        widen_kept(&self.rows.rows, pass.schedule.narrow(), kept_narrow, kept);
+        narrow_kept(&self.rows.rows, next.schedule.narrow(), kept, kept_narrow);
+    }
+
+    /// Makes what comes before the row of delay `d` of the whole band in a pass, and this row.
     pub fn make_row(
         &self,
+        pass: &Passing,
         d: u32,
         narrow: &mut [u16],
         wide: &mut [u32],
@@ -197,13 +209,14 @@ impl Tables {
         samples: Samples<'_>,
         spectra: usize,
     )
+        requires pass { (m : ℕ) × IsPassOf self.now m pass.now }
         requires row { HasRow (root self.now.plan) d }
-        requires room { HaveRoom self.now.passing
+        requires room { HaveRoom pass.now.schedule
             (stores narrow.old wide.old kept_narrow.old kept.old) }
         requires samples { channels_of self.now.plan.edges * self.now.chunk
             ≤ length (values_of samples) + (self.now.chunk - spectra) }
         requires short { spectra ≤ self.now.chunk }
-        ensures { MakesRow self.now d spectra (values_of samples.entry)
+        ensures { MakesRow self.now pass.now d spectra (values_of samples.entry)
             (stores narrow.old wide.old kept_narrow.old kept.old)
             (stores narrow.new wide.new kept_narrow.new kept.new) }
     {
@@ -212,29 +225,27 @@ impl Tables {
         plans_are_laid();
         rows_are_numbered();
         self.hold();
-        let (from, to) = (self.stop(d), self.stop(d + 1));
-        self.passing.schedule.run(from, to, narrow, wide, kept_narrow, kept, samples, spectra);
+        let (from, to) = (self.stop(pass, d), self.stop(pass, d + 1));
+        pass.schedule.run(from, to, narrow, wide, kept_narrow, kept, samples, spectra);
     }
 
-    /// The row of delay `d` of the whole band, which was made last.
-    pub fn made<'a>(&self, d: u32, wide: &'a [u32], spectra: usize) -> &'a [u32]
+    /// The row of delay `d` of the whole band, which a pass made last.
+    pub fn made<'a>(&self, pass: &Passing, d: u32, wide: &'a [u32], spectra: usize) -> &'a [u32]
+        requires pass { (m : ℕ) × IsPassOf self.now m pass.now }
         requires row { HasRow (root self.now.plan) d }
-        requires room { self.now.passing.wide_size ≤ length wide.now }
+        requires room { pass.now.schedule.wide_size ≤ length wide.now }
         requires short { spectra ≤ self.now.chunk }
         ensures long { length result.now ≡ spectra }
-        ensures sums { ReadsBand self.now d spectra wide.now result.now }
+        ensures sums { ReadsBand self.now pass.now d spectra wide.now result.now }
     {
         rows_add_up();
         rows_are_bounded();
         band_rows_are_path_sums();
         plans_are_laid();
         splits_fit();
-        rows_are_numbered();
         self.hold();
-        let stop = self.stop(d + 1);
-        self.passing
-            .schedule
-            .row(&self.rows.rows, wide, stop - 1, spectra)
+        let order = self.shown(pass, d);
+        pass.schedule.row(&self.rows.rows, wide, order, spectra)
     }
 
     /// The row of delay `d` of node `k`, which was made with those of all nodes.

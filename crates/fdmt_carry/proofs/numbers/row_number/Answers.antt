@@ -27,7 +27,8 @@ returns-clause-row c =
     let d : ℕ = c.args.d in
     let row = kept_row c.rows_are_numbered.ensures p rows c.all_nodes.result.now k d c.all_nodes.ensures.value
     c.all_nodes.ensures.laid c.requires.rows c.requires.node c.requires.row in
-    let there : k < length rows.starts.items = let e = c.requires.rows.starts.entries in let n = c.requires.node in omega arith in
+    let there : k < length rows.starts.items =
+    let e = c.requires.rows.starts.entries in let n = c.requires.node in omega arith in
     let number = number_is p rows k d c.index.result.now c.least_row.result
     (get_or_read rows.starts.items k c.index.result.now there c.index.ensures 0)
     (c.least_row.ensures ∙ ap (λ (nodes : List Node). least_row (node_at nodes k)) c.all_nodes.ensures.value) in
@@ -41,7 +42,8 @@ returns-clause-to c =
     let d : ℕ = c.args.d in
     let row = kept_row c.rows_are_numbered.ensures p rows c.all_nodes.result.now k d c.all_nodes.ensures.value
     c.all_nodes.ensures.laid c.requires.rows c.requires.node c.requires.row in
-    let there : k < length rows.starts.items = let e = c.requires.rows.starts.entries in let n = c.requires.node in omega arith in
+    let there : k < length rows.starts.items =
+    let e = c.requires.rows.starts.entries in let n = c.requires.node in omega arith in
     let number = number_is p rows k d c.index.result.now c.least_row.result
     (get_or_read rows.starts.items k c.index.result.now there c.index.ensures 0)
     (c.least_row.ensures ∙ ap (λ (nodes : List Node). least_row (node_at nodes k)) c.all_nodes.ensures.value) in

@@ -7,10 +7,11 @@ pub loop-r-preserved : goal.loop-r-preserved
 loop-r-preserved c =
     let p = c.args.plan.now in
     let rows = c.args.rows.now in
-    let m : ℕ = c.args.max_sample in
+    let m : ℕ = c.args.limit in
     let r : ℕ = c.loop-r.r in
     let number = get_or_read rows.nodes.items r c.index.result.now (omega arith) c.index.ensures 0 in
-    let delay = get_or_read rows.delays.items r c.index-in-loop-r.result.now (omega arith) c.index-in-loop-r.ensures 0 in
+    let delay =
+    get_or_read rows.delays.items r c.index-in-loop-r.result.now (omega arith) c.index-in-loop-r.ensures 0 in
     let more = low_more p rows m r c.loop-r.narrow.items c.is_low.result c.loop-r.invariant
     (λ yes. low_row p rows m r c.index.result.now c.index-in-loop-r.result.now c.all_nodes-nodes.result.now
     c.all_nodes-nodes.ensures.value number delay (c.is_low.ensures.part yes) (c.is_low.ensures.low yes)) in
@@ -18,4 +19,4 @@ loop-r-preserved c =
 
 pub returns-clause-low : goal.returns-clause-low
 returns-clause-low c =
-    are_low c.args.plan.now c.args.rows.now c.args.max_sample c.loop-r.r c.loop-r.narrow.items c.loop-r.invariant
+    are_low c.args.plan.now c.args.rows.now c.args.limit c.loop-r.r c.loop-r.narrow.items c.loop-r.invariant

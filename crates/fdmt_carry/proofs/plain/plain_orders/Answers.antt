@@ -17,12 +17,15 @@ loop-done-init c =
 pub order_node-requires-clause-made : goal.order_node-requires-clause-made
 order_node-requires-clause-made c =
     let lt = c.loop-done-test.true in
-    let next : c.nodes-count.result - c.loop-done.done ≡ c.nodes-count.result - 1 - c.loop-done.done + 1 = omega arith in
-    subst (λ (n : ℕ). NodesAreMade c.args.plan.now c.args.rows.now n c.loop-done.orders.items) next c.loop-done.invariant
+    let next : c.nodes-count.result - c.loop-done.done ≡ c.nodes-count.result - 1 - c.loop-done.done + 1 =
+    omega arith in
+    subst (λ (n : ℕ). NodesAreMade c.args.plan.now c.args.rows.now n c.loop-done.orders.items) next
+    c.loop-done.invariant
 
 pub loop-done-preserved : goal.loop-done-preserved
 loop-done-preserved c =
-    let next : c.nodes-count.result - 1 - c.loop-done.done ≡ c.nodes-count.result - (c.loop-done.done + 1) = omega arith in
+    let next : c.nodes-count.result - 1 - c.loop-done.done ≡ c.nodes-count.result - (c.loop-done.done + 1) =
+    omega arith in
     subst (λ (n : ℕ). NodesAreMade c.args.plan.now c.args.rows.now n c.order_node.new.orders.items) next
     c.in_ok-order_node.ensures
 

@@ -7,7 +7,8 @@ pub loop-d-init : goal.loop-d-init
 loop-d-init c =
     let p = c.args.plan.now in
     let rows = c.args.rows.now in
-    let first : c.whole_band-band.result.first_row ≡ p.first = ap (λ (n : Node). n.first_row) c.whole_band-band.ensures.band in
+    let first : c.whole_band-band.result.first_row ≡ p.first =
+    ap (λ (n : Node). n.first_row) c.whole_band-band.ensures.band in
     let items : c.push.new.self.items ≡ 0 ∷ [] =
     c.in_ok-push.ensures.items ∙ ap (λ (xs : List ℕ). xs ++ 0 ∷ []) c.in_ok-stops.ensures.items in
     subst (λ (stops : List ℕ). ArePlainStops p rows p.first c.whole_band-band.result.first_row stops) (sym items)
@@ -17,7 +18,8 @@ pub loop-d-preserved : goal.loop-d-preserved
 loop-d-preserved c =
     let p = c.args.plan.now in
     let rows = c.args.rows.now in
-    let first : c.whole_band-band.result.first_row ≡ p.first = ap (λ (n : Node). n.first_row) c.whole_band-band.ensures.band in
+    let first : c.whole_band-band.result.first_row ≡ p.first =
+    ap (λ (n : Node). n.first_row) c.whole_band-band.ensures.band in
     let from = c.loop-d.auto.d in
     let least : p.first ≤ c.loop-d.d = omega arith in
     subst (λ (stops : List ℕ). ArePlainStops p rows p.first (c.loop-d.d + 1) stops) (sym c.in_ok-push-2.ensures.items)

@@ -9,16 +9,15 @@ returns-clause-stands c = λ f stands.
     let s = c.self.inside in
     let t = s.tables in
     let st = stores s.narrow.items s.values.items s.kept_narrow.items s.kept.items in
-    let before : StandsMidway (carrying t s.max_sample s.fed s.last s.has_tables s.is_passing s.next st) f =
-    subst (λ (x : Carrying). StandsMidway x f) (sym c.self.view_is) stands in
+    let inside : Carrying = carrying t s.pass s.limit s.max_sample s.fed s.last s.has_tables s.is_passing s.next st in
+    let before : StandsMidway inside f = subst (λ (x : Carrying). StandsMidway x f) (sym c.self.view_is) stands in
     let all : s.next ≡ t.plan.last + 1 =
     subst (λ (x : Carrying). x.next ≡ x.tables.plan.last + 1) (sym c.self.view_is) c.requires.all in
     let passing : s.is_passing ≡ true =
     subst (λ (x : Carrying). x.is_passing ≡ true) (sym c.self.view_is) c.requires.passing in
-    let none : s.has_tables ≡ false = c.self.invariant.alone passing in
-    subst (λ (fed : ℕ). StandsForSamples (carrying t s.max_sample (s.fed + fed) s.last s.has_tables false s.next st) f)
-    (sym c.from.ensures)
-    (subst (λ (has : Bool). StandsForSamples (carrying t s.max_sample (s.fed + s.last) s.last has false s.next st) f)
-    (sym none)
-    (ended_stands c.running_ends.ensures t t.passing.narrow s.max_sample s.fed s.last s.next s.next s.has_tables
-    s.is_passing false st f c.hold.ensures all before))
+    let none : s.has_tables ≡ false = c.self.invariant.0.alone passing in
+    let ended : ℕ → Bool → Carrying = λ fed has. carrying t s.pass s.limit s.max_sample (s.fed + fed) s.last has false
+    s.next st in
+    subst (λ (fed : ℕ). StandsForSamples (ended fed s.has_tables) f) (sym c.from.ensures)
+    (subst (λ (has : Bool). StandsForSamples (ended s.last has) f) (sym none)
+    (ended_stands c.running_ends.ensures inside f c.hold.ensures c.self.invariant.0.pass_is all before))
