@@ -1,10 +1,12 @@
 -- Cells of rows that are written a part at a time.
-use Rattle.std.proofs.Common.{◌≡◌, ℕ, refl, ◌+◌, ◌-◌, ◌*◌, ◌<◌, ◌≤◌, ◌≢◌, ◌⊎◌, inl, inr, Bool, true, false, List, length, slice_index, get_or, set, ◌∙◌, sym, ap, subst, arith, get_or-set_other, get_or-set_same}
+use Rattle.std.proofs.Common.{◌≡◌, ℕ, refl, ◌+◌, ◌-◌, ◌*◌, ◌<◌, ◌≤◌, ◌≢◌, ◌⊎◌, inl, inr, Bool, true, false, List, [], ◌++◌, take, drop, length, slice_index, get_or, set, ◌∙◌, sym, ap, subst, arith, get_or-set_other, get_or-set_same}
 use Rattle.std.proofs.lemmas.Bool.{cases_lt}
-use Rattle.std.proofs.Math.Nat.{mul-le-mul_right}
+use borrow.Rule.Slice.PartMut.{put_mid, post_of, same_len_mid}
+use Rattle.std.proofs.lemmas.List.{append-nil, drop_all, length-drop, take_all, take_at, length-take-le, get_or-take, get_or-drop, get_or_append_left, get_or-append_right}
+use Rattle.std.proofs.Math.Nat.{mul-le-mul_left, mul-le-mul_right}
 use Rattle.std.specs.Simd.Lanes.{put_chunk}
 use Rattle.std.proofs.lemmas.Simd.{get_or-put_chunk_below, get_or-put_chunk_at, get_or-put_chunk_above}
-use Rattle.spectra_rows.specs.Cells.{WritesCells, AreUnpacked, cell, channel_place}
+use Rattle.spectra_rows.specs.Cells.{WritesCells, Unpacks, cell, channel_place}
 
 -- ---- rows
 
@@ -68,33 +70,48 @@ module _ (channels : ℕ) (is_falling : Bool) (chunk p from n : ℕ) (old new : 
       | inl g ↦ other_row fits only q t (inr g) small
       | inr g ↦ other_row fits only q t (inl g) small
     ];
-    earlier = λ q t there before. elim (cases_lt q p) [
+    beside = λ q t there small side. elim (cases_lt q p) [
       | inl lt ↦ elim (places_apart channels is_falling q p there here lt) [
-        | inl g ↦ other_row fits only q t (inr g) (omega arith)
-        | inr g ↦ other_row fits only q t (inl g) (omega arith)
+        | inl g ↦ other_row fits only q t (inr g) small
+        | inr g ↦ other_row fits only q t (inl g) small
       ]
       | inr ge ↦ elim (cases_lt p q) [
-        | inl lt ↦ other_row fits only q t (places_apart channels is_falling p q here there lt) (omega arith)
+        | inl lt ↦ other_row fits only q t (places_apart channels is_falling p q here there lt) small
         | inr le ↦
             let e : p ≡ q = omega arith in
             let P : ℕ → Type 0 = λ i. slice_index new (row i * chunk + t) ≡ slice_index old (row i * chunk + t) in
-            subst P e (only.below (row p * chunk + t) (omega arith))
+            subst P e (elim side [
+              | inl before ↦ only.below (row p * chunk + t) (omega arith)
+              | inr after ↦ only.above (row p * chunk + t) (omega arith)
+            ])
       ]
     ];
   }
 
 -- a place of a row lies within the rows
 pub row_fits : (channels : ℕ) (is_falling : Bool) (chunk p from n room : ℕ) → p < channels → from + n ≤ chunk
-    → channels * chunk ≤ room → channel_place channels is_falling p * chunk + from + n ≤ room
+    → channels * chunk + (from + n) ≤ room + chunk → channel_place channels is_falling p * chunk + from + n ≤ room
 row_fits channels is_falling chunk p from n room here fits all =
     let apart = rows_apart (channel_place channels is_falling p) channels chunk
     (place_below channels is_falling p here) in
     omega arith
 
+-- a sample lies no further in its spectra than its cell in the rows
+pub sample_within : (channels chunk p t room : ℕ) → p < channels → t < chunk
+    → channels * chunk + (t + 1) ≤ room + chunk → t * channels + p < room
+sample_within channels chunk p t room here low all =
+    let m : ℕ = channels - 1 in
+    let count : channels ≡ m + 1 = omega arith in
+    let next : t + 1 ≤ chunk = omega arith in
+    let part : m * (t + 1) ≤ m * chunk = mul-le-mul_left m next in
+    let rows : channels * chunk ≡ (m + 1) * chunk = ap (λ n. n * chunk) count in
+    let samples : t * channels ≡ t * (m + 1) = ap (λ n. t * n) count in
+    omega arith
+
 -- a byte of each of n spectra, stored as lanes
 pub lanes_stored : (channels : ℕ) (is_falling : Bool) (chunk p r from n : ℕ) (xs ys lanes : List ℕ) → p < channels
-    → r ≡ channel_place channels is_falling p → from + n ≤ chunk → channels * chunk ≤ length xs → length lanes ≡ n
-    → ys ≡ put_chunk (r * chunk + from) xs lanes
+    → r ≡ channel_place channels is_falling p → from + n ≤ chunk
+    → channels * chunk + (from + n) ≤ length xs + chunk → length lanes ≡ n → ys ≡ put_chunk (r * chunk + from) xs lanes
     → WritesCells xs ys (channel_place channels is_falling) channels chunk p (p + 1) from (from + n)
     (λ q t. slice_index lanes (t - from))
 lanes_stored channels is_falling chunk p r from n xs ys lanes here row fits room long is =
@@ -117,7 +134,8 @@ lanes_stored channels is_falling chunk p r from n xs ys lanes here row fits room
 
 -- one value that is stored
 pub value_stored : (channels : ℕ) (is_falling : Bool) (chunk p r t : ℕ) (xs ys : List ℕ) (value : ℕ → ℕ → ℕ)
-    → p < channels → r ≡ channel_place channels is_falling p → t < chunk → channels * chunk ≤ length xs
+    → p < channels → r ≡ channel_place channels is_falling p → t < chunk
+    → channels * chunk + (t + 1) ≤ length xs + chunk
     → ys ≡ set xs (r * chunk + t) (value p t)
     → WritesCells xs ys (channel_place channels is_falling) channels chunk p (p + 1) t (t + 1) value
 value_stored channels is_falling chunk p r t xs ys value here row low room stored =
@@ -147,14 +165,14 @@ module _ (row : ℕ → ℕ) (channels chunk : ℕ) (value : ℕ → ℕ → ℕ
   no_place xs lo from to = record {
     written = λ p t low high after before. absurd (omega arith);
     lower = λ p t lt small. refl;
-    earlier = λ p t here before. refl;
+    beside = λ p t here small side. refl;
   }
 
   pub no_spectrum : (xs : List ℕ) (lo hi from : ℕ) → WritesCells xs xs row channels chunk lo hi from from value
   no_spectrum xs lo hi from = record {
     written = λ p t low high after before. absurd (omega arith);
     lower = λ p t lt small. refl;
-    earlier = λ p t here before. refl;
+    beside = λ p t here small side. refl;
   }
 
   pub same_values : (old new : List ℕ) (lo hi from to : ℕ) (step : ℕ → ℕ → ℕ)
@@ -164,7 +182,7 @@ module _ (row : ℕ → ℕ) (channels chunk : ℕ) (value : ℕ → ℕ → ℕ
   same_values old new lo hi from to step part same = record {
     written = λ p t low high after before. part.written p t low high after before ∙ same p t low high after before;
     lower = part.lower;
-    earlier = part.earlier;
+    beside = part.beside;
   }
 
   pub more_places : (old mid new : List ℕ) (lo m hi from to : ℕ) → lo ≤ m → to ≤ chunk
@@ -177,35 +195,109 @@ module _ (row : ℕ → ℕ) (channels chunk : ℕ) (value : ℕ → ℕ → ℕ
       | inr ge ↦ second.written p t ge high after before
     ];
     lower = λ p t lt small. second.lower p t (omega arith) small ∙ first.lower p t lt small;
-    earlier = λ p t here before. second.earlier p t here before ∙ first.earlier p t here before;
+    beside = λ p t here small side. second.beside p t here small side ∙ first.beside p t here small side;
   }
 
-  pub more_spectra : (old mid new : List ℕ) (lo hi from m to : ℕ) → hi ≤ channels → from ≤ m
-      → WritesCells old mid row channels chunk lo hi from m value
+  pub more_spectra : (old mid new : List ℕ) (lo hi from m to : ℕ) → hi ≤ channels → from ≤ m → m ≤ to
+      → to ≤ chunk → WritesCells old mid row channels chunk lo hi from m value
       → WritesCells mid new row channels chunk lo hi m to value
       → WritesCells old new row channels chunk lo hi from to value
-  more_spectra old mid new lo hi from m to inside order first second = record {
+  more_spectra old mid new lo hi from m to inside order up fits first second = record {
     written = λ p t low high after before. elim (cases_lt t m) [
-      | inl lt ↦ second.earlier p t (omega arith) lt ∙ first.written p t low high after lt
+      | inl lt ↦ second.beside p t (omega arith) (omega arith) (inl lt) ∙ first.written p t low high after lt
       | inr ge ↦ second.written p t low high ge before
     ];
     lower = λ p t lt small. second.lower p t lt small ∙ first.lower p t lt small;
-    earlier = λ p t here before. second.earlier p t here (omega arith) ∙ first.earlier p t here before;
+    beside = λ p t here small side. elim side [
+      | inl before ↦ second.beside p t here small (inl (omega arith)) ∙ first.beside p t here small (inl before)
+      | inr after ↦ second.beside p t here small (inr after) ∙ first.beside p t here small (inr (omega arith))
+    ];
   }
 
--- cells of all places
-pub all_places : (channels : ℕ) (is_falling : Bool) (nbit npol chunk : ℕ) (bytes old new : List ℕ) (from to : ℕ)
-    → WritesCells old new (channel_place channels is_falling) channels chunk 0 channels from to
+-- ---- rows that begin further on
+
+module _ (xs ys zs : List ℕ) (ready : ℕ) (fits : ready ≤ length xs)
+    (is : zs ≡ put_mid ready (length xs - ready) xs ys) where
+  long : length (take ready xs) ≡ ready
+  long = length-take-le ready xs fits
+
+  before_value : (k : ℕ) → k < ready → slice_index zs k ≡ slice_index xs k
+  before_value k low =
+      ap (λ (l : List ℕ). slice_index l k) is
+      ∙ get_or_append_left (take ready xs) _ 0 k (let l : k < length (take ready xs) = omega (arith, long) in l)
+      ∙ get_or-take ready xs k 0 low
+
+  behind_value : length ys ≡ length xs - ready → (k : ℕ) → slice_index zs (ready + k) ≡ slice_index ys k
+  behind_value same k =
+      let none : post_of ready (length xs - ready) xs ≡ [] =
+      drop_all (length xs - ready) (drop ready xs)
+      (let l : length (drop ready xs) ≤ length xs - ready = omega (arith, length-drop ready xs) in l) in
+      ap (λ (l : List ℕ). slice_index l (ready + k)) is
+      ∙ ap (λ (l : List ℕ). slice_index (take ready xs ++ l) (ready + k))
+      (ap (λ (l : List ℕ). ys ++ l) none ∙ append-nil ys)
+      ∙ get_or-append_right (take ready xs) ys ready (ready + k) 0 long (omega arith)
+      ∙ ap (λ i. slice_index ys i) (let e : ready + k - ready ≡ k = omega arith in e)
+
+pub unpacked_behind : (channels : ℕ) (is_falling : Bool) (nbit npol chunk : ℕ) (bytes xs ys new : List ℕ)
+    (ready count : ℕ) → ready + count ≤ chunk → ready ≤ length xs → length ys ≡ length xs - ready
+    → new ≡ put_mid ready (length xs - ready) xs ys
+    → WritesCells (take (length xs - ready) (drop ready xs)) ys (channel_place channels is_falling) channels chunk
+    0 channels 0 count
     (cell channels nbit npol bytes)
-    → AreUnpacked channels is_falling nbit npol chunk bytes old from
-    → AreUnpacked channels is_falling nbit npol chunk bytes new to
-all_places channels is_falling nbit npol chunk bytes old new from to part before = λ c t here low.
-    let p : ℕ = channel_place channels is_falling c in
-    let below : p < channels = place_below channels is_falling c here in
-    let P : ℕ → Type 0 = λ i. slice_index new (i * chunk + t) ≡ cell channels nbit npol bytes p t in
-    subst P (place_again channels is_falling c here) (elim (cases_lt t from) [
-      | inl lt ↦ part.earlier p t below lt
-          ∙ subst (λ (i : ℕ). slice_index old (i * chunk + t) ≡ cell channels nbit npol bytes p t)
-          (sym (place_again channels is_falling c here)) (before c t here lt)
-      | inr ge ↦ part.written p t (omega arith) below ge low
-    ])
+    → Unpacks channels is_falling nbit npol chunk bytes xs new ready count
+unpacked_behind channels is_falling nbit npol chunk bytes xs ys new ready count fits room same is cells = record {
+  before = λ c t here low. elim (cases_lt 0 c) [
+    | inl some ↦
+        let d : ℕ = c - 1 in
+        let p : ℕ = channel_place channels is_falling d in
+        let s : ℕ = chunk - ready + t in
+        let inside : d < channels = omega arith in
+        let below : p < channels = place_below channels is_falling d inside in
+        let step : (d + 1) * chunk ≡ c * chunk = ap (λ i. i * chunk) (omega arith) in
+        let at : ready + (d * chunk + s) ≡ c * chunk + t = omega arith in
+        let P : ℕ → Type 0 = λ i. slice_index ys (i * chunk + s)
+        ≡ slice_index (take (length xs - ready) (drop ready xs)) (i * chunk + s) in
+        let all : take (length xs - ready) (drop ready xs) ≡ drop ready xs =
+        take_all (length xs - ready) (drop ready xs)
+        (let l : length (drop ready xs) ≤ length xs - ready = omega (arith, length-drop ready xs) in l) in
+        let kept : P d = subst P (place_again channels is_falling d inside)
+        (cells.beside p s below (omega arith) (inr (omega arith))) in
+        ap (λ i. slice_index new i) (sym at)
+        ∙ behind_value xs ys new ready room is same (d * chunk + s)
+        ∙ kept
+        ∙ ap (λ (l : List ℕ). slice_index l (d * chunk + s)) all
+        ∙ get_or-drop ready xs (d * chunk + s) 0
+        ∙ ap (λ i. slice_index xs i) at
+    | inr none ↦
+        let first : c * chunk ≡ 0 * chunk = ap (λ i. i * chunk) (let e : c ≡ 0 = omega arith in e) in
+        before_value xs ys new ready room is (c * chunk + t) (omega arith)
+  ];
+  behind = λ c t here low.
+      let p : ℕ = channel_place channels is_falling c in
+      let at : c * chunk + (ready + t) ≡ ready + (c * chunk + t) = omega arith in
+      let P : ℕ → Type 0 = λ i. slice_index ys (i * chunk + t) ≡ cell channels nbit npol bytes p t in
+      ap (λ i. slice_index new i) at
+      ∙ behind_value xs ys new ready room is same (c * chunk + t)
+      ∙ subst P (place_again channels is_falling c here)
+      (cells.written p t (omega arith) (place_below channels is_falling c here) (omega arith) low);
+}
+
+-- the same of rows that a vector lends
+pub unpacked_in : (channels : ℕ) (is_falling : Bool) (nbit npol chunk : ℕ) (bytes items xs ys rest : List ℕ)
+    (len ready count : ℕ) → ready + count ≤ chunk → ready ≤ length xs
+    → length ys ≡ length (take (length xs - ready) (drop ready xs)) → length xs ≡ len → xs ≡ items
+    → WritesCells (take (length xs - ready) (drop ready xs)) ys (channel_place channels is_falling) channels chunk
+    0 channels 0 count (cell channels nbit npol bytes)
+    → Unpacks channels is_falling nbit npol chunk bytes items
+    (take len (put_mid ready (length xs - ready) xs ys ++ rest)) ready count
+unpacked_in channels is_falling nbit npol chunk bytes items xs ys rest len ready count fits room same total is cells =
+    let tail = length-drop ready xs in
+    let other : length (take (length xs - ready) (drop ready xs)) ≡ length xs - ready =
+    length-take-le (length xs - ready) (drop ready xs) (omega arith) in
+    let mid : length ys ≡ length xs - ready = same ∙ other in
+    let all : length (put_mid ready (length xs - ready) xs ys) ≡ len =
+    same_len_mid ready (length xs - ready) xs ys same ∙ total in
+    subst (λ (old : List ℕ). Unpacks channels is_falling nbit npol chunk bytes old
+    (take len (put_mid ready (length xs - ready) xs ys ++ rest)) ready count) is
+    (unpacked_behind channels is_falling nbit npol chunk bytes xs ys _ ready count fits room mid
+    (take_at (put_mid ready (length xs - ready) xs ys) rest len all) cells)

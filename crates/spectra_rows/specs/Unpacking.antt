@@ -1,10 +1,11 @@
 -- What contracts see of an unpacker, and the data bytes that it stands for.
 -- Source: this project's choice.
-use Rattle.std.specs.Prelude.{ℕ, ◌*◌, ◌/◌, ◌≡◌, ◌≤◌, ◌⊎◌, ◌++◌, Bool, true, false, List, [], length, drop}
+use Rattle.std.specs.Prelude.{ℕ, ◌+◌, ◌*◌, ◌≡◌, ◌<◌, ◌⊎◌, ◌++◌, Bool, true, false, List, [], length, drop, replicate, slice_index}
 use Rattle.search_model.specs.Samples.{Filterbank, sample_bytes, samples_of, filterbank}
 
--- Spectra of so many channels; `pending` has the bytes of the spectra that are not given up, and of a part of a
--- spectrum behind them. At most `chunk` spectra are held. The rows are of bytes, or of samples of 32 bits.
+-- Spectra of so many channels, of which at most `chunk` are held: `whole` spectra as samples in
+-- `rows`, a row of `chunk` places for each channel, and behind them the bytes of a part of a
+-- spectrum. The rows are of bytes, or of samples of 32 bits.
 pub record Unpacking : Type 0 where
   pub channels : ℕ
   pub is_falling : Bool
@@ -12,15 +13,17 @@ pub record Unpacking : Type 0 where
   pub npol : ℕ
   pub chunk : ℕ
   pub in_bytes : Bool
-  pub pending : List ℕ
+  pub whole : ℕ
+  pub part : List ℕ
+  pub rows : List ℕ
 
 -- how many bytes a spectrum has
 abbrev pub spectrum_bytes : Unpacking → ℕ
 spectrum_bytes u = u.channels * sample_bytes u.nbit u.npol
 
--- how many whole spectra are held
-abbrev pub whole_spectra : Unpacking → ℕ
-whole_spectra u = length u.pending / spectrum_bytes u
+-- how many bytes are held
+abbrev pub held_bytes : Unpacking → ℕ
+held_bytes u = u.whole * spectrum_bytes u + length u.part
 
 -- data bytes, as a filterbank
 abbrev pub unpacked : Unpacking → List ℕ → Filterbank
@@ -28,16 +31,27 @@ unpacked u bytes = filterbank u.channels u.is_falling (samples_of u.nbit u.npol 
 
 -- these bytes were taken since the opening, and the first `gone` of their spectra given up
 pub record StandsForBytes (u : Unpacking) (bytes : List ℕ) (gone : ℕ) : Type 0 where
-  pub given_up : gone * spectrum_bytes u ≤ length bytes
-  pub kept : u.pending ≡ drop (gone * spectrum_bytes u) bytes
+  pub size : length bytes ≡ (gone + u.whole) * spectrum_bytes u + length u.part
+  pub short : length u.part < spectrum_bytes u
+  pub part : u.part ≡ drop ((gone + u.whole) * spectrum_bytes u) bytes
+  pub rows : (c t : ℕ) → c < u.channels → t < u.whole
+      → slice_index u.rows (c * u.chunk + t) ≡ (unpacked u bytes).value c (gone + t)
 
--- with further bytes
-abbrev pub with_bytes : Unpacking → List ℕ → Unpacking
-with_bytes u bytes = record u { pending = u.pending ++ bytes }
+-- both were opened for such spectra, and for rows of one kind
+pub record OpenedAlike (u v : Unpacking) : Type 0 where
+  pub channels : u.channels ≡ v.channels
+  pub is_falling : u.is_falling ≡ v.is_falling
+  pub nbit : u.nbit ≡ v.nbit
+  pub npol : u.npol ≡ v.npol
+  pub chunk : u.chunk ≡ v.chunk
+  pub in_bytes : u.in_bytes ≡ v.in_bytes
 
--- without its whole spectra
-abbrev pub without_spectra : Unpacking → Unpacking
-without_spectra u = record u { pending = drop (whole_spectra u * spectrum_bytes u) u.pending }
+-- v is u with a piece of bytes behind all that was taken
+pub record Takes (u v : Unpacking) (piece : List ℕ) : Type 0 where
+  pub alike : OpenedAlike v u
+  pub held : held_bytes v ≡ held_bytes u + length piece
+  pub pieces : (before : List ℕ) (gone : ℕ) → StandsForBytes u before gone
+      → StandsForBytes v (before ++ piece) gone
 
 -- opened for such spectra, with no byte pushed
 abbrev pub unpacking_of : ℕ → Bool → ℕ → ℕ → ℕ → Unpacking
@@ -48,7 +62,9 @@ unpacking_of channels is_falling nbit npol chunk = record {
   npol = npol;
   chunk = chunk;
   in_bytes = false;
-  pending = [];
+  whole = 0;
+  part = [];
+  rows = replicate (channels * chunk) 0;
 }
 
 -- opened for spectra of bytes, of which the rows are rows of bytes

@@ -1,8 +1,8 @@
 // Rows as they are kept: of samples of 32 bits, or of bytes.
-ghost use Rattle.std.specs.Prelude.{◌≡◌, ◌*◌, ◌≤◌, length};
+ghost use Rattle.std.specs.Prelude.{◌≡◌, ◌+◌, ◌*◌, ◌<◌, ◌≤◌, length};
 ghost use Rattle.search_model.specs.Samples.{sample_bytes};
 ghost use Rattle.spectra_rows.specs.Unpacking.{Keeps};
-ghost use Rattle.spectra_rows.specs.Cells.{AreUnpacked};
+ghost use Rattle.spectra_rows.specs.Cells.{Unpacks};
 
 use crate::layout::Layout;
 use crate::rows::unpack;
@@ -52,24 +52,24 @@ impl Rows {
         }
     }
 
-    /// Writes the spectra `from` to `to`, where those before are written.
-    pub fn unpack(&mut self, bytes: &[u8], layout: Layout, from: usize, to: usize)
-        requires order { from ≤ to }
-        requires chunk { to ≤ layout.chunk }
+    /// Writes the first `count` spectra of the bytes behind the first `ready` places of the rows.
+    pub fn unpack(&mut self, bytes: &[u8], layout: Layout, ready: usize, count: usize)
+        requires chunk { ready + count ≤ layout.chunk }
+        requires some { 0 < layout.channels }
         requires kept { Keeps (are_bytes self.old) layout.nbit layout.npol }
-        requires bytes { to * (layout.channels * sample_bytes layout.nbit layout.npol)
+        requires bytes { count * (layout.channels * sample_bytes layout.nbit layout.npol)
             ≤ length bytes.now }
         requires room { layout.channels * layout.chunk ≤ length (samples_kept self.old) }
         ensures kind { are_bytes self.new ≡ are_bytes self.old }
         ensures long { length (samples_kept self.new) ≡ length (samples_kept self.old) }
-        ensures unpacked { AreUnpacked layout.channels layout.is_falling layout.nbit layout.npol
-            layout.chunk bytes.now (samples_kept self.old) from
-            → AreUnpacked layout.channels layout.is_falling layout.nbit layout.npol layout.chunk
-            bytes.now (samples_kept self.new) to }
+        ensures unpacked { Unpacks layout.channels layout.is_falling layout.nbit layout.npol
+            layout.chunk bytes.now (samples_kept self.old) (samples_kept self.new) ready count }
     {
         match self {
-            Rows::Words(words) => unpack(words.as_mut_slice(), bytes, layout, from, to),
-            Rows::Bytes(samples) => unpack(samples.as_mut_slice(), bytes, layout, from, to),
+            Rows::Words(words) => unpack(&mut words.as_mut_slice()[ready..], bytes, layout, count),
+            Rows::Bytes(samples) => {
+                unpack(&mut samples.as_mut_slice()[ready..], bytes, layout, count)
+            }
         }
     }
 }

@@ -1,7 +1,7 @@
 // Spectra into rows. So few channels are turned at a time that their rows stay in the nearest cache.
 ghost use Rattle.std.specs.Prelude.{◌≡◌, ℕ, ◌+◌, ◌-◌, ◌*◌, ◌<◌, ◌≤◌, length, slice_index};
 ghost use Rattle.search_model.specs.Samples.{sample_bytes};
-ghost use Rattle.spectra_rows.specs.Cells.{AreUnpacked, WritesCells, cell, channel_place};
+ghost use Rattle.spectra_rows.specs.Cells.{WritesCells, cell, channel_place};
 
 use crate::layout::Layout;
 use crate::row_sample::RowSample;
@@ -34,7 +34,8 @@ fn write_values<T: RowSample>(
     requires wide { length values ≡ SPECTRA }
     requires place { place < layout.channels }
     requires chunk { from + SPECTRA ≤ layout.chunk }
-    requires room { layout.channels * layout.chunk ≤ length rows.old }
+    requires room { layout.channels * layout.chunk + (from + SPECTRA)
+        ≤ length rows.old + layout.chunk }
     ensures { WritesCells (T.numbers rows.old) (T.numbers rows.new)
         (channel_place layout.channels layout.is_falling)
         layout.channels layout.chunk place (place + 1) from (from + SPECTRA)
@@ -49,7 +50,8 @@ fn write_values<T: RowSample>(
 fn write_pair<T: RowSample>(rows: &mut [T], pair: u8x16, layout: Layout, place: usize, from: usize)
     requires place { place + 2 ≤ layout.channels }
     requires chunk { from + SPECTRA ≤ layout.chunk }
-    requires room { layout.channels * layout.chunk ≤ length rows.old }
+    requires room { layout.channels * layout.chunk + (from + SPECTRA)
+        ≤ length rows.old + layout.chunk }
     ensures { WritesCells (T.numbers rows.old) (T.numbers rows.new)
         (channel_place layout.channels layout.is_falling)
         layout.channels layout.chunk place (place + 2) from (from + SPECTRA)
@@ -64,7 +66,8 @@ fn write_tile<T: RowSample>(rows: &mut [T], bytes: &[u8], layout: Layout, place:
     requires place { place + CHANNELS ≤ layout.channels }
     requires chunk { from + SPECTRA ≤ layout.chunk }
     requires bytes { (from + SPECTRA) * layout.channels ≤ length bytes.now }
-    requires room { layout.channels * layout.chunk ≤ length rows.old }
+    requires room { layout.channels * layout.chunk + (from + SPECTRA)
+        ≤ length rows.old + layout.chunk }
     ensures { WritesCells (T.numbers rows.old) (T.numbers rows.new)
         (channel_place layout.channels layout.is_falling)
         layout.channels layout.chunk place (place + CHANNELS) from (from + SPECTRA)
@@ -89,7 +92,8 @@ fn write_tiles<T: RowSample>(
     requires order { from ≤ to }
     requires chunk { to ≤ layout.chunk }
     requires bytes { to * layout.channels ≤ length bytes.now }
-    requires room { layout.channels * layout.chunk ≤ length rows.old }
+    requires room { layout.channels * layout.chunk + to
+        ≤ length rows.old + layout.chunk }
     ensures above { from ≤ result }
     ensures within { result ≤ to }
     ensures written { WritesCells (T.numbers rows.old) (T.numbers rows.new)
@@ -122,7 +126,8 @@ fn begin_channels<T: RowSample>(
     requires kept { T.keeps layout.nbit layout.npol }
     requires bytes { to * (layout.channels * sample_bytes layout.nbit layout.npol)
         ≤ length bytes.now }
-    requires room { layout.channels * layout.chunk ≤ length rows.old }
+    requires room { layout.channels * layout.chunk + to
+        ≤ length rows.old + layout.chunk }
     ensures above { from ≤ result }
     ensures within { result ≤ to }
     ensures written { WritesCells (T.numbers rows.old) (T.numbers rows.new)
@@ -153,7 +158,8 @@ fn write_spectrum<T: RowSample>(
     requires kept { T.keeps layout.nbit layout.npol }
     requires bytes { (spectrum + 1) * (layout.channels * sample_bytes layout.nbit layout.npol)
         ≤ length bytes.now }
-    requires room { layout.channels * layout.chunk ≤ length rows.old }
+    requires room { layout.channels * layout.chunk + (spectrum + 1)
+        ≤ length rows.old + layout.chunk }
     ensures { WritesCells (T.numbers rows.old) (T.numbers rows.new)
         (channel_place layout.channels layout.is_falling)
         layout.channels layout.chunk place end spectrum (spectrum + 1)
@@ -182,7 +188,8 @@ fn write_spectra<T: RowSample>(
     requires kept { T.keeps layout.nbit layout.npol }
     requires bytes { to * (layout.channels * sample_bytes layout.nbit layout.npol)
         ≤ length bytes.now }
-    requires room { layout.channels * layout.chunk ≤ length rows.old }
+    requires room { layout.channels * layout.chunk + to
+        ≤ length rows.old + layout.chunk }
     ensures { WritesCells (T.numbers rows.old) (T.numbers rows.new)
         (channel_place layout.channels layout.is_falling)
         layout.channels layout.chunk place end from to
@@ -210,7 +217,8 @@ fn write_channels<T: RowSample>(
     requires kept { T.keeps layout.nbit layout.npol }
     requires bytes { to * (layout.channels * sample_bytes layout.nbit layout.npol)
         ≤ length bytes.now }
-    requires room { layout.channels * layout.chunk ≤ length rows.old }
+    requires room { layout.channels * layout.chunk + to
+        ≤ length rows.old + layout.chunk }
     ensures { WritesCells (T.numbers rows.old) (T.numbers rows.new)
         (channel_place layout.channels layout.is_falling)
         layout.channels layout.chunk place end from to
@@ -220,23 +228,22 @@ fn write_channels<T: RowSample>(
     write_spectra(rows, bytes, layout, place, end, done, to);
 }
 
-/// Writes the spectra `from` to `to` into all rows, where those before are written.
-pub fn unpack<T: RowSample>(rows: &mut [T], bytes: &[u8], layout: Layout, from: usize, to: usize)
-    requires order { from ≤ to }
-    requires chunk { to ≤ layout.chunk }
+/// Writes the first `count` spectra of the bytes into all rows.
+pub fn unpack<T: RowSample>(rows: &mut [T], bytes: &[u8], layout: Layout, count: usize)
+    requires chunk { count ≤ layout.chunk }
     requires kept { T.keeps layout.nbit layout.npol }
-    requires bytes { to * (layout.channels * sample_bytes layout.nbit layout.npol)
+    requires bytes { count * (layout.channels * sample_bytes layout.nbit layout.npol)
         ≤ length bytes.now }
-    requires room { layout.channels * layout.chunk ≤ length rows.old }
-    ensures { AreUnpacked layout.channels layout.is_falling layout.nbit layout.npol layout.chunk
-        bytes.now (T.numbers rows.old) from
-        → AreUnpacked layout.channels layout.is_falling layout.nbit layout.npol layout.chunk
-        bytes.now (T.numbers rows.new) to }
+    requires room { layout.channels * layout.chunk + count ≤ length rows.old + layout.chunk }
+    ensures { WritesCells (T.numbers rows.old) (T.numbers rows.new)
+        (channel_place layout.channels layout.is_falling)
+        layout.channels layout.chunk 0 layout.channels 0 count
+        (cell layout.channels layout.nbit layout.npol bytes.now) }
 {
     let mut place = 0;
     while place < layout.channels {
         let end = place + CHANNELS.min(layout.channels - place);
-        write_channels(rows, bytes, layout, place, end, from, to);
+        write_channels(rows, bytes, layout, place, end, 0, count);
         place = end;
     }
 }

@@ -1,23 +1,31 @@
 // Bytes that are pushed, as rows.
 ghost use Rattle.std.specs.Prelude.{◌≡◌, ℕ, ◌+◌, ◌-◌, ◌*◌, ◌<◌, ◌≤◌, ◌⊎◌, ◌++◌, true, false, List, [], length, take, min, slice_index, IfOk};
-ghost use Rattle.spectra_rows.specs.Unpacking.{AreValues, Keeps, Unpacking, StandsForBytes, byte_unpacking_of, spectrum_bytes, whole_spectra, unpacked, unpacking_of, with_bytes, without_spectra};
+ghost use Rattle.spectra_rows.specs.Unpacking.{AreValues, Keeps, OpenedAlike, StandsForBytes, Takes, Unpacking, byte_unpacking_of, held_bytes, spectrum_bytes, unpacked, unpacking_of};
 ghost use Rattle.spectra_rows.specs.Cells.{RowsAreSound};
 ghost use Rattle.spectra_rows.specs.Kept.{are_bytes, samples_kept};
 
-use crate::held::{give_up, hold};
+use crate::held::hold;
 use crate::kept::Rows;
 use crate::layout::Layout;
+use crate::tile::SPECTRA;
 use psr_base::Memory;
 use std::alloc::Global;
 use std::marker::Model;
 
-/// Data bytes that are pushed in pieces, as rows of samples of up to a chunk of spectra.
+// About how many bytes are unpacked at a time. Each channel's are read one spectrum behind the other, so that more
+// would lie too far apart to be fetched before they are asked for.
+const GROUP: usize = 131072;
+
+/// Data bytes that are pushed in pieces, as rows of samples of up to a chunk of spectra. Whole spectra become samples
+/// straight from what is pushed; only the bytes of a part of a spectrum are kept.
 #[derive(Drop)]
 pub struct Unpacker {
     layout: Layout,
     spectrum: usize,
+    // room for the bytes of a spectrum, of which so many are those of a part
     held: Vec<u8>,
     filled: usize,
+    // how many spectra the rows have
     ready: usize,
     rows: Rows,
 }
@@ -32,12 +40,22 @@ impl Model for Unpacker {
       npol = u.layout.npol;
       chunk = u.layout.chunk;
       in_bytes = are_bytes u.rows;
-      pending = take u.filled u.held.items;
+      whole = u.ready;
+      part = take u.filled u.held.items;
+      rows = samples_kept u.rows;
     } };
 
-    ghost invariant = { λ u. RowsAreSound u.layout.channels u.layout.is_falling u.layout.nbit
-        u.layout.npol u.layout.chunk (are_bytes u.rows) u.spectrum u.filled u.ready u.held.items
+    ghost invariant = { λ u. RowsAreSound u.layout.channels u.layout.nbit u.layout.npol
+        u.layout.chunk (are_bytes u.rows) u.spectrum u.filled u.ready u.held.items
         (samples_kept u.rows) };
+}
+
+// How many spectra of so many bytes are unpacked at a time: those of whole tiles.
+fn group_of(spectrum: usize) -> usize
+    requires { 0 < spectrum }
+    ensures { 0 < result }
+{
+    (GROUP / spectrum / SPECTRA).max(1) * SPECTRA
 }
 
 // An unpacker with no byte, over rows with room for a chunk of spectra.
@@ -50,14 +68,17 @@ fn over_rows(alloc: Global, layout: Layout, rows: Rows) -> Result<Unpacker, Memo
     requires kept { Keeps (are_bytes rows) layout.nbit layout.npol }
     requires room { length (samples_kept rows) ≡ layout.channels * layout.chunk }
     ensures opened { IfOk result (λ u. u ≡ record (unpacking_of layout.channels layout.is_falling
-        layout.nbit layout.npol layout.chunk) { in_bytes = are_bytes rows }) }
+        layout.nbit layout.npol layout.chunk) {
+          in_bytes = are_bytes rows;
+          rows = samples_kept rows;
+        }) }
     ensures nothing { IfOk result (λ u. StandsForBytes u [] 0) }
 {
     let spectrum = layout.channels * (layout.npol as usize * (layout.nbit as usize / 8));
     Ok(Unpacker {
         layout,
         spectrum,
-        held: vec![in alloc; 0; layout.chunk * spectrum]?,
+        held: vec![in alloc; 0; spectrum]?,
         filled: 0,
         ready: 0,
         rows,
@@ -124,24 +145,124 @@ impl Unpacker {
     /// of a spectrum is kept.
     pub fn push(&mut self, bytes: &[u8]) -> usize
         ensures count { result ≡ min (self.old.chunk * spectrum_bytes self.old
-            - length self.old.pending) (length bytes.now) }
-        ensures holds { self.new ≡ with_bytes self.old (take result bytes.now) }
+            - held_bytes self.old) (length bytes.now) }
+        ensures alike { OpenedAlike self.new self.old }
+        ensures held { held_bytes self.new ≡ held_bytes self.old + result }
         ensures pieces { (before : List ℕ) (gone : ℕ) → StandsForBytes self.old before gone
             → StandsForBytes self.new (before ++ take result bytes.now) gone }
     {
-        let count = (self.held.len() - self.filled).min(bytes.len());
-        hold(self.held.as_mut_slice(), self.filled, &bytes[..count]);
-        self.filled += count;
-        let ready = self.filled / self.spectrum;
-        self.rows
-            .unpack(self.held.as_slice(), self.layout, self.ready, ready);
-        self.ready = ready;
+        let room = self.layout.chunk * self.spectrum - (self.ready * self.spectrum + self.filled);
+        let count = room.min(bytes.len());
+        self.take(&bytes[..count]);
         count
+    }
+
+    // Takes bytes for which there is room.
+    fn take(&mut self, bytes: &[u8])
+        requires { held_bytes self.old + length bytes.now
+            ≤ self.old.chunk * spectrum_bytes self.old }
+        ensures { Takes self.old self.new bytes.now }
+    {
+        let first = self.take_into_part(bytes);
+        let rest = &bytes[first..];
+        let count = self.take_spectra(rest);
+        self.keep_part(&rest[count..]);
+    }
+
+    // Takes bytes as far as they belong to the spectrum of which a part is held.
+    fn take_into_part(&mut self, bytes: &[u8]) -> usize
+        requires { held_bytes self.old + length bytes.now
+            ≤ self.old.chunk * spectrum_bytes self.old }
+        ensures within { result ≤ length bytes.now }
+        ensures takes { Takes self.old self.new (take result bytes.now) }
+        ensures end { result < length bytes.now → self.new.part ≡ [] }
+    {
+        if self.filled == 0 {
+            return 0;
+        }
+        let missing = self.spectrum - self.filled;
+        if bytes.len() < missing {
+            self.keep_part(bytes);
+            bytes.len()
+        } else {
+            self.complete_part(&bytes[..missing]);
+            missing
+        }
+    }
+
+    // Takes the bytes that are missing in the spectrum of which a part is held.
+    fn complete_part(&mut self, bytes: &[u8])
+        requires room { self.old.whole < self.old.chunk }
+        requires missing { length self.old.part + length bytes.now ≡ spectrum_bytes self.old }
+        ensures takes { Takes self.old self.new bytes.now }
+        ensures part { self.new.part ≡ [] }
+    {
+        hold(self.held.as_mut_slice(), self.filled, bytes);
+        self.rows
+            .unpack(self.held.as_slice(), self.layout, self.ready, 1);
+        self.ready += 1;
+        self.filled = 0;
+    }
+
+    // Takes whole spectra straight from the bytes, where no part of one is held before them.
+    fn take_spectra(&mut self, bytes: &[u8]) -> usize
+        requires room { held_bytes self.old + length bytes.now
+            ≤ self.old.chunk * spectrum_bytes self.old }
+        requires part { 0 < length bytes.now → self.old.part ≡ [] }
+        ensures within { result ≤ length bytes.now }
+        ensures takes { Takes self.old self.new (take result bytes.now) }
+        ensures rest { length bytes.now < result + spectrum_bytes self.old }
+        ensures part { 0 < length bytes.now → self.new.part ≡ [] }
+    {
+        let spectrum = self.spectrum_bytes();
+        let mut done = 0;
+        while bytes.len() - done >= spectrum {
+            done += self.take_group(&bytes[done..]);
+        }
+        done
+    }
+
+    // How many bytes a spectrum has.
+    fn spectrum_bytes(&self) -> usize
+        ensures size { result ≡ spectrum_bytes self.now }
+        ensures some { 0 < result }
+    {
+        self.spectrum
+    }
+
+    // Takes as many whole spectra as are unpacked at a time.
+    fn take_group(&mut self, bytes: &[u8]) -> usize
+        requires room { held_bytes self.old + length bytes.now
+            ≤ self.old.chunk * spectrum_bytes self.old }
+        requires whole { spectrum_bytes self.old ≤ length bytes.now }
+        requires part { self.old.part ≡ [] }
+        ensures some { 0 < result }
+        ensures within { result ≤ length bytes.now }
+        ensures takes { Takes self.old self.new (take result bytes.now) }
+        ensures part { self.new.part ≡ [] }
+    {
+        let most = group_of(self.spectrum);
+        let count = most.min(bytes.len() / self.spectrum);
+        self.rows.unpack(bytes, self.layout, self.ready, count);
+        self.ready += count;
+        count * self.spectrum
+    }
+
+    // Keeps bytes that make no spectrum whole.
+    fn keep_part(&mut self, bytes: &[u8])
+        requires room { held_bytes self.old + length bytes.now
+            ≤ self.old.chunk * spectrum_bytes self.old }
+        requires short { 0 < length bytes.now
+            → length self.old.part + length bytes.now < spectrum_bytes self.old }
+        ensures { Takes self.old self.new bytes.now }
+    {
+        hold(self.held.as_mut_slice(), self.filled, bytes);
+        self.filled += bytes.len();
     }
 
     /// How many whole spectra are held: those that were pushed and not given up.
     pub fn spectra(&self) -> u32
-        ensures whole { result ≡ whole_spectra self.now }
+        ensures whole { result ≡ self.now.whole }
         ensures room { result ≤ self.now.chunk }
         ensures counts { (bytes : List ℕ) (gone : ℕ) → StandsForBytes self.now bytes gone
             → (unpacked self.now bytes).spectra ≡ gone + result }
@@ -162,7 +283,7 @@ impl Unpacker {
         requires { self.now.in_bytes ≡ false }
         ensures long { length result.now ≡ self.now.channels * self.now.chunk }
         ensures samples { (bytes : List ℕ) (gone c t : ℕ) → StandsForBytes self.now bytes gone
-            → c < self.now.channels → t < whole_spectra self.now
+            → c < self.now.channels → t < self.now.whole
             → slice_index result.now (c * self.now.chunk + t)
             ≡ (unpacked self.now bytes).value c (gone + t) }
     {
@@ -174,7 +295,7 @@ impl Unpacker {
         requires { self.now.in_bytes ≡ true }
         ensures long { length result.now ≡ self.now.channels * self.now.chunk }
         ensures samples { (bytes : List ℕ) (gone c t : ℕ) → StandsForBytes self.now bytes gone
-            → c < self.now.channels → t < whole_spectra self.now
+            → c < self.now.channels → t < self.now.whole
             → slice_index result.now (c * self.now.chunk + t)
             ≡ (unpacked self.now bytes).value c (gone + t) }
     {
@@ -183,13 +304,10 @@ impl Unpacker {
 
     /// Gives up the whole spectra that are held. A part of a spectrum is kept.
     pub fn taken(&mut self)
-        ensures part { self.new ≡ without_spectra self.old }
+        ensures part { self.new ≡ record self.old { whole = 0 } }
         ensures given_up { (bytes : List ℕ) (gone : ℕ) → StandsForBytes self.old bytes gone
-            → StandsForBytes self.new bytes (gone + whole_spectra self.old) }
+            → StandsForBytes self.new bytes (gone + self.old.whole) }
     {
-        let start = self.ready * self.spectrum;
-        give_up(self.held.as_mut_slice(), start, self.filled);
-        self.filled -= start;
         self.ready = 0;
     }
 }

@@ -7,7 +7,7 @@ invariant-loop-place g l = record {
   inside : l.place ≤ l.layout.channels;
   written : WritesCells (g.T.RowSample.numbers l.fn.rows) (g.T.RowSample.numbers l.rows)
       (channel_place l.layout.channels l.layout.is_falling)
-      l.layout.channels l.layout.chunk 0 l.place l.from l.to
+      l.layout.channels l.layout.chunk 0 l.place 0 l.count
       (cell l.layout.channels l.layout.nbit l.layout.npol l.bytes);
 }
 

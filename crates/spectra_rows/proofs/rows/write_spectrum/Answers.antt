@@ -1,6 +1,6 @@
-use Rattle.std.proofs.Common.{ℕ, ◌+◌, arith}
+use Rattle.std.proofs.Common.{ℕ, ◌+◌, length, arith}
 use Rattle.spectra_rows.specs.Cells.{cell, channel_place}
-use Rattle.spectra_rows.proofs.Parts.{value_stored, more_places}
+use Rattle.spectra_rows.proofs.Parts.{value_stored, more_places, sample_within}
 use Rattle.spectra_rows.proofs.rows.write_spectrum.Goals as goal
 
 pub loop-p-preserved : goal.loop-p-preserved
@@ -17,3 +17,17 @@ loop-p-preserved g c =
     (value_stored l.channels l.is_falling l.chunk p c.row_of.result t (numbers c.loop-p.rows)
     (numbers c.put.new.rows) value (omega arith) c.row_of.ensures.row c.requires.chunk (omega (arith, long))
     c.put.ensures)
+
+pub overflow_add-spectrum : goal.overflow_add-spectrum
+overflow_add-spectrum g c =
+    let l = c.args.layout in
+    let within = sample_within l.channels l.chunk c.loop-p.p c.args.spectrum (length c.args.rows.now) (omega arith)
+    c.requires.chunk c.requires.room in
+    omega (arith, within)
+
+pub overflow_mul-spectrum : goal.overflow_mul-spectrum
+overflow_mul-spectrum g c =
+    let l = c.args.layout in
+    let within = sample_within l.channels l.chunk c.loop-p.p c.args.spectrum (length c.args.rows.now) (omega arith)
+    c.requires.chunk c.requires.room in
+    omega (arith, within)
