@@ -11,12 +11,12 @@ use Rattle.fdmt_carry.specs.Tables.{Tables}
 use Rattle.search_model.specs.Observed.{filterbank_of}
 use Rattle.search_model.specs.SampleLaws.{SamplesOfBytes}
 use Rattle.search_model.specs.Samples.{Filterbank, filterbank, samples_of}
-use Rattle.spectra_rows.specs.Unpacking.{Unpacking, StandsForBytes, spectrum_bytes, whole_spectra, unpacked, with_bytes, without_spectra}
+use Rattle.spectra_rows.specs.Unpacking.{OpenedAlike, Unpacking, StandsForBytes, spectrum_bytes, unpacked}
 use Rattle.subband_plan.specs.Nodes.{BandPlan}
 use Rattle.search_engine.specs.Engine.{EngineState, Searches, HoldsData, BeginsWith, most_fed}
 use Rattle.search_engine.specs.Sums.{ShardState, StandsForStream, ContinuesStream, SumsAlike}
 use Rattle.search_engine.proofs.Data.{begins_before, data_begin}
-use Rattle.search_engine.proofs.Sizes.{size_of, size_some, whole_are, held_fit}
+use Rattle.search_engine.proofs.Sizes.{size_of, size_some, whole_are, given_fit, held_fit}
 
 -- the unpacker's spectra are those of the observation
 pub size_is : (o : Observation) (e : EngineState) → Searches o e → spectrum_bytes e.unpacker ≡ size_of o
@@ -43,20 +43,20 @@ channels_are fall o e s =
 
 -- the search is of the same observation with another unpacker that is opened alike
 pub searches_with : (o : Observation) (e : EngineState) (u : Unpacking) (fed : ℕ) → Searches o e →
-    u.channels ≡ e.unpacker.channels → u.is_falling ≡ e.unpacker.is_falling → u.nbit ≡ e.unpacker.nbit →
-    u.npol ≡ e.unpacker.npol → u.chunk ≡ e.unpacker.chunk → Searches o (record e { fed = fed; unpacker = u })
-searches_with o e u fed s channels falling nbit npol chunk = record {
+    OpenedAlike u e.unpacker → Searches o (record e { fed = fed; unpacker = u })
+searches_with o e u fed s alike = record {
   bounds = s.bounds;
   range = s.range;
   shard = s.shard;
   accepted = s.accepted;
-  channels = channels ∙ s.channels;
-  is_falling = falling ∙ s.is_falling;
-  nbit = nbit ∙ s.nbit;
-  npol = npol ∙ s.npol;
-  chunk = chunk ∙ s.chunk;
+  channels = alike.channels ∙ s.channels;
+  is_falling = alike.is_falling ∙ s.is_falling;
+  nbit = alike.nbit ∙ s.nbit;
+  npol = alike.npol ∙ s.npol;
+  chunk = alike.chunk ∙ s.chunk;
   plan = s.plan;
   rows = s.rows;
+  most = s.most;
   max_sample = s.max_sample;
   search = s.search;
 }
@@ -64,40 +64,38 @@ searches_with o e u fed s channels falling nbit npol chunk = record {
 -- ---- bytes are pushed
 
 pub pushed_holds : SamplesOfBytes → (o : Observation) (before piece : List ℕ) (e : EngineState) (u : Unpacking)
-    (n : ℕ) → HoldsData o before e → u ≡ with_bytes e.unpacker piece → length piece ≡ n →
+    (n : ℕ) → HoldsData o before e → OpenedAlike u e.unpacker → length piece ≡ n →
     (StandsForBytes e.unpacker before e.sums.carry.fed → StandsForBytes u (before ++ piece) e.sums.carry.fed) →
     All (λ byte. byte < 256) piece → e.fed + n ≤ most_fed →
     HoldsData o (before ++ piece) (record e { fed = e.fed + n; unpacker = u })
-pushed_holds law o before piece e u n holds is long pieces numbers most =
+pushed_holds law o before piece e u n holds alike long pieces numbers most =
     let s = holds.searches in
-    let gone = holds.pending.given_up in
+    let gone = given_fit e.unpacker before e.sums.carry.fed holds.held in
     let size = size_is o e s in
     let P : ℕ → Type 0 = λ k. e.sums.carry.fed * k ≤ length before in
     let whole = whole_are o s.bounds before e.sums.carry.fed (subst P size gone) in
     let count = holds.count in
     let both = length-append before piece in
     record {
-      searches = searches_with o e u (e.fed + n) s (ap (λ (v : Unpacking). v.channels) is)
-          (ap (λ (v : Unpacking). v.is_falling) is) (ap (λ (v : Unpacking). v.nbit) is)
-          (ap (λ (v : Unpacking). v.npol) is) (ap (λ (v : Unpacking). v.chunk) is);
+      searches = searches_with o e u (e.fed + n) s alike;
       numbers = All-append (λ byte. byte < 256) before piece holds.numbers numbers;
       count = omega (arith, count, both, long);
       most = most;
-      pending = pieces holds.pending;
+      held = pieces holds.held;
       sums = λ f begins. holds.sums f (begins_before law o before piece e.sums.carry.fed e.sums.carry.fed f s.bounds
           (let l : e.sums.carry.fed ≤ e.sums.carry.fed = omega arith in l) whole begins);
     }
 
 -- the same of bytes of which n are taken
 pub piece_holds : SamplesOfBytes → (o : Observation) (before bytes : List ℕ) (e : EngineState) (u : Unpacking)
-    (n room : ℕ) → HoldsData o before e → n ≡ min room (length bytes) → u ≡ with_bytes e.unpacker (take n bytes) →
+    (n room : ℕ) → HoldsData o before e → n ≡ min room (length bytes) → OpenedAlike u e.unpacker →
     (StandsForBytes e.unpacker before e.sums.carry.fed →
     StandsForBytes u (before ++ take n bytes) e.sums.carry.fed) →
     All (λ byte. byte < 256) bytes → e.fed + length bytes ≤ most_fed →
     HoldsData o (before ++ take n bytes) (record e { fed = e.fed + n; unpacker = u })
-piece_holds law o before bytes e u n room holds count is pieces numbers most =
+piece_holds law o before bytes e u n room holds count alike pieces numbers most =
     let within : n ≤ length bytes = omega (arith, count) in
-    pushed_holds law o before (take n bytes) e u n holds is (length-take-le n bytes within) pieces
+    pushed_holds law o before (take n bytes) e u n holds alike (length-take-le n bytes within) pieces
     (All-take (λ byte. byte < 256) n bytes numbers) (omega (arith, most, within))
 
 -- a stream that begins with more data begins with those before
@@ -108,7 +106,8 @@ begins_old law o before piece e v f holds less begins =
     let s = holds.searches in
     let P : ℕ → Type 0 = λ k. e.sums.carry.fed * k ≤ length before in
     begins_before law o before piece e.sums.carry.fed v f s.bounds less
-    (whole_are o s.bounds before e.sums.carry.fed (subst P (size_is o e s) holds.pending.given_up)) begins
+    (whole_are o s.bounds before e.sums.carry.fed (subst P (size_is o e s)
+    (given_fit e.unpacker before e.sums.carry.fed holds.held))) begins
 
 -- ---- the spectra that are held are searched
 
@@ -129,8 +128,8 @@ begins_less o bytes u v f less begins = record {
 }
 
 pub next_spectra : (o : Observation) (bytes rows : List ℕ) (e : EngineState) (r : ℕ) → HoldsData o bytes e →
-    r ≤ whole_spectra e.unpacker →
-    ((c t : ℕ) → c < e.unpacker.channels → t < whole_spectra e.unpacker →
+    r ≤ e.unpacker.whole →
+    ((c t : ℕ) → c < e.unpacker.channels → t < e.unpacker.whole →
     slice_index rows (c * e.unpacker.chunk + t) ≡ (unpacked e.unpacker bytes).value c (e.sums.carry.fed + t)) →
     (f : Filterbank) → BeginsWith o bytes (e.sums.carry.fed + r) f → AreNext e.sums.carry f rows r
 next_spectra o bytes rows e r holds few samples f begins = λ channel i within early.
@@ -144,8 +143,8 @@ next_spectra o bytes rows e r holds few samples f begins = λ channel i within e
     ∙ sym (begins.same channel (e.sums.carry.fed + i) (omega (arith, channels, within)) (omega (arith, early)))
 
 pub goes_on : SamplesOfBytes → (o : Observation) (bytes rows : List ℕ) (e : EngineState) (r : ℕ) →
-    HoldsData o bytes e → r ≤ whole_spectra e.unpacker →
-    ((c t : ℕ) → c < e.unpacker.channels → t < whole_spectra e.unpacker →
+    HoldsData o bytes e → r ≤ e.unpacker.whole →
+    ((c t : ℕ) → c < e.unpacker.channels → t < e.unpacker.whole →
     slice_index rows (c * e.unpacker.chunk + t) ≡ (unpacked e.unpacker bytes).value c (e.sums.carry.fed + t)) →
     ContinuesStream e.sums.carry rows r
 goes_on law o bytes rows e r holds few samples =
@@ -160,34 +159,34 @@ goes_on law o bytes rows e r holds few samples =
 
 -- there are few spectra in all
 pub few_spectra : (o : Observation) (bytes : List ℕ) (e : EngineState) (r : ℕ) → HoldsData o bytes e →
-    r ≤ whole_spectra e.unpacker → e.sums.carry.fed + r ≤ 2 ^ 47 + 2 ^ 27
+    r ≤ e.unpacker.whole → e.sums.carry.fed + r ≤ 2 ^ 47 + 2 ^ 27
 few_spectra o bytes e r holds few =
     let s = holds.searches in
-    let fits = held_fit e.unpacker bytes e.sums.carry.fed holds.pending in
+    let fits = held_fit e.unpacker bytes e.sums.carry.fed holds.held in
     let some = size_some o s.bounds in
     let size = size_is o e s in
     let count = holds.count in
     let most = holds.most in
-    let all : ℕ = e.sums.carry.fed + whole_spectra e.unpacker in
+    let all : ℕ = e.sums.carry.fed + e.unpacker.whole in
     let twice : all * 2 ≤ all * spectrum_bytes e.unpacker =
     mul-le-mul_left all (let l : 2 ≤ spectrum_bytes e.unpacker = omega (arith, some, size) in l) in
     omega (arith, fits, count, most, twice, few)
 
 pub searched_holds : (o : Observation) (bytes rows : List ℕ) (e : EngineState) (u : Unpacking) (t : ShardState)
-    (b : BookContents) (h : Bool) (r : ℕ) → HoldsData o bytes e → u ≡ without_spectra e.unpacker →
-    r ≡ whole_spectra e.unpacker →
+    (b : BookContents) (h : Bool) (r : ℕ) → HoldsData o bytes e → u ≡ record e.unpacker { whole = 0 } →
+    r ≡ e.unpacker.whole →
     (StandsForBytes e.unpacker bytes e.sums.carry.fed →
-    StandsForBytes u bytes (e.sums.carry.fed + whole_spectra e.unpacker)) →
+    StandsForBytes u bytes (e.sums.carry.fed + e.unpacker.whole)) →
     SumsAlike t e.sums → t.carry.fed ≡ e.sums.carry.fed + r →
-    ((c i : ℕ) → c < e.unpacker.channels → i < whole_spectra e.unpacker →
+    ((c i : ℕ) → c < e.unpacker.channels → i < e.unpacker.whole →
     slice_index rows (c * e.unpacker.chunk + i) ≡ (unpacked e.unpacker bytes).value c (e.sums.carry.fed + i)) →
     ((f : Filterbank) → StandsForStream e.sums f → AreNext e.sums.carry f rows r → StandsForStream t f) →
     HoldsData o bytes (record e { has_ended = h; unpacker = u; sums = t; book = b })
 searched_holds o bytes rows e u t b h r holds is whole given alike fed samples stands =
     let s = holds.searches in
-    let few : r ≤ whole_spectra e.unpacker = omega (arith, whole) in
+    let few : r ≤ e.unpacker.whole = omega (arith, whole) in
     let P : ℕ → Type 0 = λ n. StandsForBytes u bytes n in
-    let total : e.sums.carry.fed + whole_spectra e.unpacker ≡ t.carry.fed = omega (arith, fed, whole) in
+    let total : e.sums.carry.fed + e.unpacker.whole ≡ t.carry.fed = omega (arith, fed, whole) in
     record {
       searches = record {
         bounds = s.bounds;
@@ -201,13 +200,14 @@ searched_holds o bytes rows e u t b h r holds is whole given alike fed samples s
         chunk = ap (λ (v : Unpacking). v.chunk) is ∙ s.chunk;
         plan = ap (λ (x : Tables). x.plan) alike.tables ∙ s.plan;
         rows = ap (λ (x : Tables). x.chunk) alike.tables ∙ s.rows;
+        most = ap (λ (x : Tables). x.most) alike.tables ∙ s.most;
         max_sample = alike.max_sample ∙ s.max_sample;
         search = alike.search ∙ s.search;
       };
       numbers = holds.numbers;
       count = holds.count;
       most = holds.most;
-      pending = subst P total (given holds.pending);
+      held = subst P total (given holds.held);
       sums = λ f begins.
           let B : ℕ → Type 0 = λ n. BeginsWith o bytes n f in
           let later = subst B fed begins in

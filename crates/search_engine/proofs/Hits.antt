@@ -87,7 +87,8 @@ pub row_pulses : (y : ℕ → ℕ → ℕ) (s : Search) (n first end u d : ℕ) 
     pulses_of_hits y p.search p.channels u new
     ≡ pulses_of_hits y p.search p.channels u p.hits ++ pulses_of_delay y p.search p.channels u d
 row_pulses y s n first end u d old new by_width lent p judges same noted search channels hits =
-    let S : Search → Type 0 = λ t. pulses_of_hits y t n u new ≡ pulses_of_hits y t n u old ++ pulses_of_delay y t n u d in
+    let S : Search → Type 0 =
+    λ t. pulses_of_hits y t n u new ≡ pulses_of_hits y t n u old ++ pulses_of_delay y t n u d in
     let N : ℕ → Type 0 = λ i. pulses_of_hits y p.search i u new
     ≡ pulses_of_hits y p.search i u old ++ pulses_of_delay y p.search i u d in
     let H : List Hit → Type 0 = λ xs. pulses_of_hits y p.search p.channels u new

@@ -25,3 +25,5 @@ pub mod Within
 pub mod Worked
 pub mod Passing
 mod Lasting
+mod Taking
+mod WholeChunks

@@ -1,5 +1,6 @@
 -- An engine that was opened, and fed nothing.
-use Rattle.std.proofs.Common.{◌≡◌, ◌∙◌, ℕ, ◌+◌, ◌<◌, false, None, [], refl, sym, ap, subst, arith}
+use Rattle.std.proofs.Common.{◌≡◌, ◌∙◌, ℕ, ◌+◌, ◌%◌, ◌<◌, false, None, [], min, refl, sym, ap, subst, arith}
+use Rattle.std.proofs.Math.Nat.{zero-mod}
 use Rattle.std.proofs.lemmas.List.Elements.{All-nil}
 use Rattle.dada_model.specs.Bounds.{ObservationInRange}
 use Rattle.dada_model.specs.Edges.{AreEdges}
@@ -8,7 +9,8 @@ use Rattle.search_model.specs.declared.search.Search.{Search}
 use Rattle.search_model.specs.Plan.{plan_refusal}
 use Rattle.search_model.specs.Search.{SettingsInRange, shard_start}
 use Rattle.candidate_book.specs.Book.{BookContents, book_of}
-use Rattle.spectra_rows.specs.Unpacking.{Unpacking, StandsForBytes, whole_spectra}
+use Rattle.spectra_rows.specs.Unpacking.{Unpacking, StandsForBytes}
+use Rattle.search_engine.specs.Counts.{most_tables}
 use Rattle.search_engine.specs.Pulses.{pulses_of_ends}
 use Rattle.search_engine.specs.Sums.{ShardState, sums_of}
 use Rattle.search_engine.specs.Engine.{EngineState, Searches, HoldsData, HasTaken, StandsForData, EngineIsSound, IsOpenedSums, IsOpenedUnpacker, chunk_of}
@@ -55,16 +57,17 @@ module _ (o : Observation) (s : Search) (k chunk : ℕ) (u : Unpacking) (sums : 
     chunk = ap (λ (u : Unpacking). u.chunk) p.unpacker ∙ p.chunk_is;
     plan = p.path_sums.plan;
     rows = p.path_sums.rows ∙ p.chunk_is;
+    most = p.path_sums.most ∙ ap (λ n. min n most_tables) p.chunk_is;
     max_sample = p.path_sums.greatest;
     search = p.path_sums.search_is;
   }
 
   -- no spectrum is held
-  opened_part : whole_spectra u < u.chunk
+  opened_part : u.whole < u.chunk
   opened_part =
       let some = p.range.parts.least_chunk in
       let chunk_is = p.chunk_is in
-      let P : Unpacking → Type 0 = λ u. whole_spectra u < u.chunk in
+      let P : Unpacking → Type 0 = λ u. u.whole < u.chunk in
       subst P (sym p.unpacker) (omega arith)
 
   opened_holds : HoldsData o [] (opened_state s k u sums book)
@@ -73,7 +76,7 @@ module _ (o : Observation) (s : Search) (k chunk : ℕ) (u : Unpacking) (sums : 
     numbers = All-nil (λ (byte : ℕ). byte < 256);
     count = refl;
     most = omega arith;
-    pending = (let P : ℕ → Type 0 = λ n. StandsForBytes u [] n in subst P (sym p.path_sums.nothing_fed) p.nothing);
+    held = (let P : ℕ → Type 0 = λ n. StandsForBytes u [] n in subst P (sym p.path_sums.nothing_fed) p.nothing);
     sums = λ f begins.
         let count = p.band.count in
         let channels = begins.channels in
@@ -86,6 +89,7 @@ module _ (o : Observation) (s : Search) (k chunk : ℕ) (u : Unpacking) (sums : 
   pub opened_stands : StandsForData o [] (opened_state s k u sums book)
   opened_stands = record {
     taken = opened_taken;
+    chunks = ap (λ n. n % chunk_of s) p.path_sums.nothing_fed ∙ zero-mod (chunk_of s);
     book = λ f begins. p.empty ∙ ap (λ n. book_of s.max_candidates (pulses_of_ends (sums_of f (edges o)) s o.channels
         (shard_start s k) (shard_start s (k + 1)) 0 n)) (sym p.path_sums.nothing_fed);
   }

@@ -1,13 +1,13 @@
 -- How many spectra some bytes have.
-use Rattle.std.proofs.Common.{◌≡◌, ℕ, ◌+◌, ◌*◌, ◌/◌, ◌<◌, ◌≤◌, List, length, drop, sym, ap, subst, arith, length-drop}
-use Rattle.std.proofs.Math.Nat.{mul-le-mul, mul-le-mul_right, div-mul-le_self, div-eq_of_lt, lt-div-mul-add}
+use Rattle.std.proofs.Common.{◌≡◌, ℕ, ◌+◌, ◌*◌, ◌/◌, ◌<◌, ◌≤◌, List, length, sym, subst, arith}
+use Rattle.std.proofs.Math.Nat.{mul-le-mul, mul-le-mul_right}
 use Rattle.std.proofs.lemmas.Nat.{le-div}
 use Rattle.std.proofs.lemmas.List.FromFn.{length-map-range_with_len}
 use Rattle.dada_model.specs.Bounds.{ObservationInRange}
 use Rattle.dada_model.specs.Observation.{Observation}
 use Rattle.search_model.specs.Observed.{filterbank_of}
 use Rattle.search_model.specs.Samples.{sample_at, sample_bytes, samples_of}
-use Rattle.spectra_rows.specs.Unpacking.{Unpacking, StandsForBytes, spectrum_bytes, whole_spectra, without_spectra}
+use Rattle.spectra_rows.specs.Unpacking.{Unpacking, StandsForBytes, held_bytes, spectrum_bytes}
 
 -- how many bytes a spectrum of an observation has
 abbrev pub size_of : Observation → ℕ
@@ -38,31 +38,24 @@ whole_are o range bytes g fits =
     le-div g (length (samples_of o.nbit o.npol bytes)) o.channels (omega (arith, few))
     (subst (λ n. g * o.channels ≤ n) (sym count) samples)
 
--- the spectra that were given up and those that are held are among the bytes
+-- the spectra that were given up are among the bytes
+pub given_fit : (u : Unpacking) (bytes : List ℕ) (gone : ℕ) → StandsForBytes u bytes gone →
+    gone * spectrum_bytes u ≤ length bytes
+given_fit u bytes gone stands = let size = stands.size in omega (arith, size)
+
+-- and so are those that are held
 pub held_fit : (u : Unpacking) (bytes : List ℕ) (gone : ℕ) → StandsForBytes u bytes gone →
-    (gone + whole_spectra u) * spectrum_bytes u ≤ length bytes
-held_fit u bytes gone stands =
-    let held = div-mul-le_self (length u.pending) (spectrum_bytes u) in
-    let long = ap (λ (xs : List ℕ). length xs) stands.kept in
-    let rest = length-drop (gone * spectrum_bytes u) bytes in
-    let given = stands.given_up in
-    omega (arith, held, long, rest, given)
+    (gone + u.whole) * spectrum_bytes u ≤ length bytes
+held_fit u bytes gone stands = let size = stands.size in omega (arith, size)
 
 -- where fewer spectra than a chunk are held there is room for a byte
-pub room_left : (pending size chunk : ℕ) → 0 < size → pending / size < chunk → pending < chunk * size
-room_left pending size chunk some short =
-    let next = lt-div-mul-add {a = pending} some in
-    let all : (pending / size + 1) * size ≤ chunk * size = mul-le-mul_right size
-    (let l : pending / size + 1 ≤ chunk = omega arith in l) in
-    omega (arith, next, all)
+pub room_left : (u : Unpacking) → length u.part < spectrum_bytes u → u.whole < u.chunk →
+    held_bytes u < u.chunk * spectrum_bytes u
+room_left u part short =
+    let all : (u.whole + 1) * spectrum_bytes u ≤ u.chunk * spectrum_bytes u = mul-le-mul_right (spectrum_bytes u)
+    (let l : u.whole + 1 ≤ u.chunk = omega arith in l) in
+    omega (arith, all, part)
 
 -- no whole spectrum is left where all were given up
-pub none_left : (u v : Unpacking) → v ≡ without_spectra u → 0 < spectrum_bytes u → 1 ≤ u.chunk →
-    whole_spectra v < v.chunk
-none_left u v is some chunk =
-    let size : ℕ = spectrum_bytes u in
-    let rest = length-drop (whole_spectra u * size) u.pending in
-    let next = lt-div-mul-add {a = length u.pending} some in
-    let short : length (drop (whole_spectra u * size) u.pending) < size = omega (arith, rest, next) in
-    let none : length (drop (whole_spectra u * size) u.pending) / size ≡ 0 = div-eq_of_lt short in
-    subst (λ (w : Unpacking). whole_spectra w < w.chunk) (sym is) (omega (arith, none))
+pub none_left : (u v : Unpacking) → v ≡ record u { whole = 0 } → 1 ≤ u.chunk → v.whole < v.chunk
+none_left u v is chunk = subst (λ (w : Unpacking). w.whole < w.chunk) (sym is) (omega (arith, chunk))

@@ -1,4 +1,4 @@
--- How many candidates there can be at most.
+-- How many candidates there can be at most, and tables of how many spectra.
 -- Source: this project's choice.
 use Rattle.std.specs.Prelude.{ℕ, ◌*◌, ◌^◌}
 
@@ -17,3 +17,7 @@ most_folds_of_delay = 2 ^ 42
 -- folds of the delays, of which there are fewer than 2 ^ 14
 abbrev pub most_folds : ℕ
 most_folds = 2 ^ 56
+
+-- spectra of which the tables of all nodes are made at the end, at most
+abbrev pub most_tables : ℕ
+most_tables = 16

@@ -1,6 +1,6 @@
 -- What contracts see of an engine, and the data bytes that it stands for.
 -- Source: this project's choice.
-use Rattle.std.specs.Prelude.{◌≡◌, ℕ, ◌+◌, ◌-◌, ◌*◌, ◌^◌, ◌≤◌, ◌<◌, All, Bool, true, false, List, None, length, min}
+use Rattle.std.specs.Prelude.{◌≡◌, ℕ, ◌+◌, ◌-◌, ◌*◌, ◌%◌, ◌^◌, ◌≤◌, ◌<◌, All, Bool, true, false, List, None, length, min}
 use Rattle.dada_model.specs.Bounds.{ObservationInRange}
 use Rattle.dada_model.specs.Observation.{Observation, edges, max_sample}
 use Rattle.search_model.specs.declared.search.Search.{Search}
@@ -10,11 +10,11 @@ use Rattle.search_model.specs.Candidates.{shard_part}
 use Rattle.search_model.specs.Observed.{filterbank_of, candidates_of}
 use Rattle.search_model.specs.Plan.{plan_refusal}
 use Rattle.candidate_book.specs.Book.{BookContents, book_of}
-use Rattle.spectra_rows.specs.Unpacking.{Unpacking, StandsForBytes, unpacking_of, whole_spectra}
+use Rattle.spectra_rows.specs.Unpacking.{Unpacking, StandsForBytes, unpacking_of}
 use Rattle.subband_plan.specs.Plans.{band_plan}
 use Rattle.fdmt_carry.specs.Carrying as carry
 use Rattle.fdmt_carry.specs.Carrying.{IsStream}
-use Rattle.search_engine.specs.Counts.{most_pulses_at_end}
+use Rattle.search_engine.specs.Counts.{most_pulses_at_end, most_tables}
 use Rattle.search_engine.specs.Pulses.{pulses_of_ends}
 use Rattle.search_engine.specs.Sums.{ShardState, StandsForStream, sums_of}
 
@@ -56,6 +56,7 @@ pub record Searches (o : Observation) (e : EngineState) : Type 0 where
   pub plan : e.sums.carry.tables.plan
       ≡ band_plan (edges o) (shard_start e.search e.shard) (shard_start e.search (e.shard + 1) - 1)
   pub rows : e.sums.carry.tables.chunk ≡ chunk_of e.search
+  pub most : e.sums.carry.tables.most ≡ min (chunk_of e.search) most_tables
   pub max_sample : e.sums.carry.max_sample ≡ max_sample o
   pub search : e.sums.pulses.search ≡ e.search
 
@@ -65,18 +66,19 @@ pub record HoldsData (o : Observation) (bytes : List ℕ) (e : EngineState) : Ty
   pub numbers : All (λ byte. byte < 256) bytes
   pub count : length bytes ≡ e.fed
   pub most : e.fed ≤ most_fed
-  pub pending : StandsForBytes e.unpacker bytes e.sums.carry.fed
+  pub held : StandsForBytes e.unpacker bytes e.sums.carry.fed
   pub sums : (f : Filterbank) → BeginsWith o bytes e.sums.carry.fed f → StandsForStream e.sums f
 
 -- and all full chunks of them were searched
 pub record HasTaken (o : Observation) (bytes : List ℕ) (e : EngineState) : Type 0 where
   pub holds : HoldsData o bytes e
-  pub part : whole_spectra e.unpacker < e.unpacker.chunk
+  pub part : e.unpacker.whole < e.unpacker.chunk
 
--- the engine was fed these data bytes of an observation, and its book has the pulses that end at the spectra that were
--- searched
+-- the engine was fed these data bytes of an observation: whole chunks of them were searched, and its book has the
+-- pulses that end at these spectra
 pub record StandsForData (o : Observation) (bytes : List ℕ) (e : EngineState) : Type 0 where
   pub taken : HasTaken o bytes e
+  pub chunks : e.sums.carry.fed % chunk_of e.search ≡ 0
   pub book : (f : Filterbank) → BeginsWith o bytes e.sums.carry.fed f
       → e.book ≡ book_of e.search.max_candidates
       (pulses_of_ends (sums_of f (edges o)) e.search o.channels (shard_start e.search e.shard)
@@ -102,7 +104,8 @@ pub record SameShard (e f : EngineState) : Type 0 where
   pub shard : e.shard ≡ f.shard
 
 -- The engine has searched these data bytes of an observation: its book has the shard's part of the candidate list, and
--- its carry stands for all whole spectra over the shard's delays, with all tables.
+-- its carry stands for all whole spectra over the shard's delays. The tables of all nodes stand for the last of these
+-- alone, as many as come after the last whole chunk, but at most `most_tables`.
 pub record HasSearched (o : Observation) (bytes : List ℕ) (e : EngineState) : Type 0 where
   pub book : e.book ≡ book_of e.search.max_candidates
       (shard_part e.search e.shard (candidates_of o e.search bytes))
@@ -111,6 +114,8 @@ pub record HasSearched (o : Observation) (bytes : List ℕ) (e : EngineState) : 
       ≡ band_plan (edges o) (shard_start e.search e.shard) (shard_start e.search (e.shard + 1) - 1)
   pub carry : carry.StandsForSamples e.sums.carry (filterbank_of o bytes)
   pub tables : e.sums.carry.has_tables ≡ true
+  pub last : e.sums.carry.last
+      ≡ min ((filterbank_of o bytes).spectra % chunk_of e.search) most_tables
 
 -- an unpacker of an observation's data bytes, with no byte, whether its rows are of bytes or not
 abbrev pub IsOpenedUnpacker : Observation → ℕ → Unpacking → Type 0
@@ -123,6 +128,7 @@ pub record IsOpenedSums (o : Observation) (search : Search) (k chunk : ℕ) (s :
   pub plan : s.carry.tables.plan
       ≡ band_plan (edges o) (shard_start search k) (shard_start search (k + 1) - 1)
   pub rows : s.carry.tables.chunk ≡ chunk
+  pub most : s.carry.tables.most ≡ min chunk most_tables
   pub greatest : s.carry.max_sample ≡ max_sample o
   pub search_is : s.pulses.search ≡ search
   pub nothing_fed : s.carry.fed ≡ 0

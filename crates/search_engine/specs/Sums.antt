@@ -13,6 +13,9 @@ use Rattle.search_model.specs.Samples.{Filterbank}
 use Rattle.search_model.specs.Search.{SettingsInRange}
 use Rattle.search_model.specs.Sums.{path_sum}
 use Rattle.dada_model.specs.Edges.{AreEdges}
+use Rattle.candidate_book.specs.Book.{BookContents}
+use Rattle.search_engine.specs.Counts.{most_pulses_at_end}
+use Rattle.search_engine.specs.Judging.{Adds}
 use Rattle.search_engine.specs.FoldSearch.{Fronts, HasDelay, FoldsFor, KeepsFrontOf}
 use Rattle.search_engine.specs.Thresholds.{pulses_of_hits}
 use Rattle.search_engine.specs.PulseSearch.{PulseState, SearchesDelay, SearchesFor, WideRowHas, RowsStandFor, IsHitBelow}
@@ -108,3 +111,19 @@ pulses_of_plan f p s start count =
 abbrev pub folds_of_plan : Filterbank → BandPlan → Search → List Candidate
 folds_of_plan f p s =
     within_delays p.first (p.last + 1) (folds f p.edges (plain_cells (channels_of p.edges)) s)
+
+-- The next spectra were taken, and the pulses that end at them added to a book: for each stream whose first spectra
+-- were taken before, and that goes on with these rows, they are taken after it.
+pub record HasTakenNext
+    (old new : ShardState) (rows : List ℕ) (spectra : ℕ) (before after : BookContents)
+    : Type 0 where
+  pub alike : SumsAlike new old
+  pub fed : new.carry.fed ≡ old.carry.fed + spectra
+  pub count : after.count ≤ before.count + most_pulses_at_end * spectra
+  pub carried : (f : Filterbank) → carry.StandsForSamples old.carry f
+      → AreNext old.carry f rows spectra → carry.StandsForSamples new.carry f
+  pub stands : (f : Filterbank) → StandsForStream old f → AreNext old.carry f rows spectra
+      → StandsForStream new f
+  pub pulses : (f : Filterbank) → StandsForStream old f → AreNext old.carry f rows spectra
+      → Adds before after
+      (pulses_of_plan f old.carry.tables.plan old.pulses.search old.carry.fed spectra)

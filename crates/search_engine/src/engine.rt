@@ -5,7 +5,7 @@ ghost use Rattle.search_model.specs.Search.{SettingsInRange, shard_start as shar
 ghost use Rattle.search_model.specs.Plan.{plan_refusal};
 ghost use Rattle.search_engine.specs.Plan.{Explains};
 ghost use Rattle.row_schedule.specs.Samples.{values_of};
-ghost use Rattle.spectra_rows.specs.Unpacking.{StandsForBytes, unpacked, whole_spectra};
+ghost use Rattle.spectra_rows.specs.Unpacking.{StandsForBytes, unpacked};
 ghost use Rattle.search_engine.specs.Engine.{EngineState, EngineIsSound, IsOpenedSums, StandsForData, HasSearched, IsOpenedEngine, IsOpenedUnpacker, SameShard, most_fed};
 
 use crate::fault::PlanFault;
@@ -171,7 +171,8 @@ impl Engine {
         self.book
     }
 
-    /// The path sums of the shard's delays: after `end`, over all whole spectra, with the tables of all nodes.
+    /// The path sums of the shard's delays: after `end`, over all whole spectra. The tables of all nodes stand for the
+    /// last of these alone: as many as come after the last whole chunk, but at most 16.
     pub fn carry(&self) -> &Carry
         ensures { result.now ≡ self.now.sums.carry }
     {
@@ -249,7 +250,7 @@ fn open_unpacker(alloc: Global, observation: &Observation, chunk: u32) -> Result
 fn samples(unpacker: &Unpacker) -> Samples<'_>
     ensures long { length (values_of result) ≡ unpacker.now.channels * unpacker.now.chunk }
     ensures samples { (bytes : List ℕ) (gone c t : ℕ) → StandsForBytes unpacker.now bytes gone
-        → c < unpacker.now.channels → t < whole_spectra unpacker.now
+        → c < unpacker.now.channels → t < unpacker.now.whole
         → slice_index (values_of result) (c * unpacker.now.chunk + t)
         ≡ (unpacked unpacker.now bytes).value c (gone + t) }
 {

@@ -1,5 +1,5 @@
 // The search of a shard's path sums, chunk by chunk.
-ghost use Rattle.std.specs.Prelude.{◌≡◌, ℕ, ◌+◌, ◌-◌, ◌*◌, ◌^◌, ◌≤◌, ◌<◌, [], true, false, All, IfOk, IsTrue, List, length, drop};
+ghost use Rattle.std.specs.Prelude.{◌≡◌, ℕ, ◌+◌, ◌-◌, ◌*◌, ◌^◌, ◌≤◌, ◌<◌, [], true, false, All, IfOk, IsTrue, List, length, drop, min};
 ghost use Rattle.band_paths.specs.Edges.{channels_of};
 ghost use Rattle.fdmt_carry.specs.Carrying.{AreNext, AreThere, IsOpened, IsStream, StandsForSamples, StandsMidway};
 ghost use Rattle.row_schedule.specs.Samples.{values_of};
@@ -7,12 +7,12 @@ ghost use Rattle.search_model.specs.Samples.{Filterbank};
 ghost use Rattle.search_model.specs.Search.{SettingsInRange, folds_are_on};
 ghost use Rattle.dada_model.specs.Edges.{AreEdges};
 ghost use Rattle.subband_plan.specs.Plans.{band_plan};
-ghost use Rattle.search_engine.specs.Counts.{most_pulses_at_end, most_folds};
+ghost use Rattle.search_engine.specs.Counts.{most_pulses_at_end, most_folds, most_tables};
 ghost use Rattle.search_engine.specs.FoldSearch.{IsDelayRange, FoldsFit, HasDelay, FoldsAlike};
 ghost use Rattle.search_engine.specs.Judging.{Adds};
 ghost use Rattle.search_engine.specs.PulseSearch.{SearchesDelay, SearchAlike};
 ghost use Rattle.search_engine.specs.Pulses.{IsRowOf};
-ghost use Rattle.search_engine.specs.Sums.{ShardState, FitTogether, StandsForStream, HasStream, ContinuesStream, PassesStream, IsPassedTo, HaveTaken, SumsAlike, sums_of, pulses_of_plan, folds_of_plan};
+ghost use Rattle.search_engine.specs.Sums.{ShardState, FitTogether, StandsForStream, HasStream, ContinuesStream, PassesStream, IsPassedTo, HaveTaken, HasTakenNext, sums_of, folds_of_plan};
 
 use crate::fold_search::FoldSearch;
 use crate::pulse_search::PulseSearch;
@@ -79,6 +79,7 @@ impl ShardSearch {
         ensures plan { IfOk result (λ s. s.carry.tables.plan
             ≡ band_plan edges.now first (end - 1)) }
         ensures chunk { IfOk result (λ s. s.carry.tables.chunk ≡ chunk) }
+        ensures most { IfOk result (λ s. s.carry.tables.most ≡ min chunk most_tables) }
         ensures max_sample { IfOk result (λ s. s.carry.max_sample ≡ max_sample) }
         ensures search { IfOk result (λ s. s.pulses.search ≡ search.now) }
         ensures nothing { IfOk result (λ s. s.carry.fed ≡ 0) }
@@ -101,8 +102,8 @@ impl ShardSearch {
         })
     }
 
-    /// Takes the next spectra, whose samples of channel `c` begin at `c` times the chunk, and adds the pulses that end at
-    /// them to a book. The row of each delay is searched as it is made.
+    /// Takes the next spectra, whose samples of channel `c` begin at `c` times the chunk, and adds the pulses that end
+    /// at them to a book. The row of each delay is searched as it is made.
     pub(crate) fn pass(&mut self, samples: Samples<'_>, spectra: u32, book: &mut Book)
         requires rows { length (values_of samples)
             ≡ channels_of self.old.carry.tables.plan.edges * self.old.carry.tables.chunk }
@@ -110,22 +111,11 @@ impl ShardSearch {
         requires few { self.old.carry.fed + spectra ≤ 2 ^ 48 }
         requires stream { ContinuesStream self.old.carry (values_of samples) spectra }
         requires room { book.old.count + most_pulses_at_end * spectra < 2 ^ 63 }
-        ensures alike { SumsAlike self.new self.old }
-        ensures fed { self.new.carry.fed ≡ self.old.carry.fed + spectra }
-        ensures count { book.new.count ≤ book.old.count + most_pulses_at_end * spectra }
-        ensures carried { (f : Filterbank) → StandsForSamples self.old.carry f
-            → AreNext self.old.carry f (values_of samples.entry) spectra
-            → StandsForSamples self.new.carry f }
-        ensures stands { (f : Filterbank) → StandsForStream self.old f
-            → AreNext self.old.carry f (values_of samples.entry) spectra
-            → StandsForStream self.new f }
-        ensures pulses { (f : Filterbank) → StandsForStream self.old f
-            → AreNext self.old.carry f (values_of samples.entry) spectra → Adds book.old book.new
-            (pulses_of_plan f self.old.carry.tables.plan self.old.pulses.search
-            self.old.carry.fed spectra) }
+        ensures { HasTakenNext self.old self.new (values_of samples.entry) spectra book.old
+            book.new }
     {
         let start = self.carry.fed();
-        self.carry.begin(spectra);
+        self.carry.begin(samples, spectra);
         self.pulses.begin();
         pass_rows(
             &mut self.pulses,
@@ -148,17 +138,10 @@ impl ShardSearch {
         requires few { self.old.carry.fed + spectra ≤ 2 ^ 48 }
         requires stream { ContinuesStream self.old.carry (values_of samples) spectra }
         requires room { book.old.count + most_pulses_at_end * spectra < 2 ^ 63 }
-        ensures alike { SumsAlike self.new self.old }
-        ensures fed { self.new.carry.fed ≡ self.old.carry.fed + spectra }
+        ensures taken { HasTakenNext self.old self.new (values_of samples.entry) spectra book.old
+            book.new }
         ensures tables { self.new.carry.has_tables ≡ true }
-        ensures count { book.new.count ≤ book.old.count + most_pulses_at_end * spectra }
-        ensures stands { (f : Filterbank) → StandsForStream self.old f
-            → AreNext self.old.carry f (values_of samples.entry) spectra
-            → StandsForStream self.new f }
-        ensures pulses { (f : Filterbank) → StandsForStream self.old f
-            → AreNext self.old.carry f (values_of samples.entry) spectra → Adds book.old book.new
-            (pulses_of_plan f self.old.carry.tables.plan self.old.pulses.search
-            self.old.carry.fed spectra) }
+        ensures last { self.new.carry.last ≡ spectra }
     {
         let start = self.carry.fed();
         self.carry.take(samples, spectra);
@@ -174,8 +157,8 @@ impl ShardSearch {
         self.pulses.report(start, spectra, book);
     }
 
-    /// Takes the next spectra as `pass` does, but the last of them, as many as there is room for, with the tables of all
-    /// nodes, which stand after it.
+    /// Takes the next spectra as `pass` does, but the last of them, as many as there is room for, with the tables of
+    /// all nodes, which stand after it.
     pub(crate) fn take(&mut self, samples: Samples<'_>, spectra: u32, book: &mut Book)
         requires rows { length (values_of samples)
             ≡ channels_of self.old.carry.tables.plan.edges * self.old.carry.tables.chunk }
@@ -183,17 +166,10 @@ impl ShardSearch {
         requires few { self.old.carry.fed + spectra ≤ 2 ^ 48 }
         requires stream { ContinuesStream self.old.carry (values_of samples) spectra }
         requires room { book.old.count + most_pulses_at_end * spectra < 2 ^ 63 }
-        ensures alike { SumsAlike self.new self.old }
-        ensures fed { self.new.carry.fed ≡ self.old.carry.fed + spectra }
+        ensures taken { HasTakenNext self.old self.new (values_of samples.entry) spectra book.old
+            book.new }
         ensures tables { self.new.carry.has_tables ≡ true }
-        ensures count { book.new.count ≤ book.old.count + most_pulses_at_end * spectra }
-        ensures stands { (f : Filterbank) → StandsForStream self.old f
-            → AreNext self.old.carry f (values_of samples.entry) spectra
-            → StandsForStream self.new f }
-        ensures pulses { (f : Filterbank) → StandsForStream self.old f
-            → AreNext self.old.carry f (values_of samples.entry) spectra → Adds book.old book.new
-            (pulses_of_plan f self.old.carry.tables.plan self.old.pulses.search
-            self.old.carry.fed spectra) }
+        ensures last { self.new.carry.last ≡ min spectra self.old.carry.tables.most }
     {
         let last = spectra.min(self.carry.most());
         let before = spectra - last;
@@ -234,7 +210,7 @@ fn open_carry(alloc: Global, plan: Plan, chunk: u32, max_sample: u32) -> Result<
     requires some { 1 ≤ chunk }
     requires short { chunk ≤ 65536 }
     requires fits { max_sample * (channels_of plan.edges + plan.last) < 2 ^ 32 }
-    ensures opened { IfOk result (λ c. IsOpened c plan chunk c.tables.most max_sample) }
+    ensures opened { IfOk result (λ c. IsOpened c plan chunk (min chunk most_tables) max_sample) }
     ensures stands { IfOk result (λ c. (f : Filterbank) → IsStream plan max_sample f
         → StandsForSamples c f) }
 {

@@ -4,12 +4,13 @@ use Rattle.std.proofs.Common.{◌≡◌, ◌∙◌, ℕ, ◌+◌, ◌*◌, ◌^�
 use Rattle.band_paths.specs.Edges.{channels_of}
 use Rattle.dada_model.specs.Edges.{AreEdges}
 use Rattle.search_model.specs.Search.{shard_start}
-use Rattle.std.specs.Prelude.{IfOk}
+use Rattle.std.specs.Prelude.{IfOk, min}
 use Rattle.dada_model.specs.Observation.{Observation, edges, max_sample}
 use Rattle.fdmt_carry.specs.Carrying.{IsStream}
 use Rattle.search_model.specs.Samples.{Filterbank}
 use Rattle.subband_plan.specs.Nodes.{BandPlan}
 use Rattle.subband_plan.specs.Plans.{band_plan}
+use Rattle.search_engine.specs.Counts.{most_tables}
 use Rattle.search_engine.specs.Engine.{IsOpenedSums}
 use Rattle.search_engine.specs.FoldSearch.{IsDelayRange, FoldsFit}
 use Rattle.search_engine.specs.Sums.{ShardState, StandsForStream}
@@ -51,17 +52,19 @@ open-requires-clause-folds_fit c = λ on.
 opened_sums : {E : Type 0} (r : Result ShardState E) (o : Observation) (s : Search) (k chunk : ℕ) (es : List ℕ)
     (first end greatest : ℕ) → es ≡ edges o → first ≡ shard_start s k → end ≡ shard_start s (k + 1) →
     greatest ≡ max_sample o → IfOk r (λ x. x.carry.tables.plan ≡ band_plan es first (end - 1)) →
-    IfOk r (λ x. x.carry.tables.chunk ≡ chunk) → IfOk r (λ x. x.carry.max_sample ≡ greatest) →
+    IfOk r (λ x. x.carry.tables.chunk ≡ chunk) → IfOk r (λ x. x.carry.tables.most ≡ min chunk most_tables) →
+    IfOk r (λ x. x.carry.max_sample ≡ greatest) →
     IfOk r (λ x. x.pulses.search ≡ s) → IfOk r (λ x. x.carry.fed ≡ 0) →
     IfOk r (λ x. (f : Filterbank) → IsStream (band_plan es first (end - 1)) greatest f → StandsForStream x f) →
     IfOk r (IsOpenedSums o s k chunk)
-opened_sums (Ok x) o s k chunk es first end greatest ee ef en eg plan rows most search nothing stands =
+opened_sums (Ok x) o s k chunk es first end greatest ee ef en eg plan rows tables most search nothing stands =
     let same : band_plan es first (end - 1) ≡ band_plan (edges o) (shard_start s k) (shard_start s (k + 1) - 1) =
     ap (λ e. band_plan e first (end - 1)) ee ∙ ap (λ a. band_plan (edges o) a (end - 1)) ef
     ∙ ap (λ b. band_plan (edges o) (shard_start s k) (b - 1)) en in
     record {
       plan = plan ∙ same;
       rows = rows;
+      most = tables;
       greatest = most ∙ eg;
       search_is = search;
       nothing_fed = nothing;
@@ -71,12 +74,12 @@ opened_sums (Ok x) o s k chunk es first end greatest ee ef en eg plan rows most 
           λ n. IsStream (band_plan (edges o) (shard_start s k) (shard_start s (k + 1) - 1)) n f in
           stands f (subst P (sym same) (subst G (sym eg) stream));
     }
-opened_sums (Err e) o s k chunk es first end greatest ee ef en eg plan rows most search nothing stands = plan
+opened_sums (Err e) o s k chunk es first end greatest ee ef en eg plan rows tables most search nothing stands = plan
 
 pub returns : goal.returns
 returns c =
     let e = c.open.ensures in
     opened_sums c.open.result c.args.observation.now c.args.search.now c.args.shard c.args.chunk c.edges.result.now
     c.shard_start-first.result c.shard_start-end.result c.max_sample.result c.edges.ensures.value
-    c.shard_start-first.ensures c.shard_start-end.ensures c.max_sample.ensures e.plan e.chunk e.max_sample e.search
-    e.nothing e.stands
+    c.shard_start-first.ensures c.shard_start-end.ensures c.max_sample.ensures e.plan e.chunk e.most e.max_sample
+    e.search e.nothing e.stands

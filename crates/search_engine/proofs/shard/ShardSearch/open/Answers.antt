@@ -19,8 +19,8 @@ opened_fit : (s : Search) (edges : List ℕ) (first end chunk most max_sample ch
     bound ≡ max_sample * (channels + s.max_delay) → plan ≡ band_plan edges first (end - 1) →
     IsOpened c plan chunk most max_sample → SearchesFor p s channels first end chunk bound →
     FoldsFor g s channels first end bound → FitTogether (record { carry = c; pulses = p; folds = g })
-opened_fit s edges first end chunk most max_sample channels bound plan c p g band range delays some count is_bound is carry
-    pulses folds =
+opened_fit s edges first end chunk most max_sample channels bound plan c p g band range delays some count is_bound is
+    carry pulses folds =
     let plan_is : c.tables.plan ≡ band_plan edges first (end - 1) = carry.plan_is ∙ is in
     let edges_are : c.tables.plan.edges ≡ edges = ap (λ (q : BandPlan). q.edges) plan_is in
     let first_is : c.tables.plan.first ≡ first = ap (λ (q : BandPlan). q.first) plan_is in
