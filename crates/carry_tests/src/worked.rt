@@ -37,19 +37,14 @@ fn samples_that_16_bits_do_not_hold(rt: HostRuntime) -> Result<(), Memory> {
     let edges = [1_500_000, 1_400_000, 1_300_000, 1_200_000, 1_100_000];
     let plan = Plan::open(rt.alloc(), &edges, 0, 1)?;
     let mut carry = Carry::open(rt.alloc(), plan, 1, 100_000)?;
-    for (samples, sum) in [
-        ([1, 2, 3, 4], 10),
-        ([60_000, 50_000, 1, 2], 110_003),
-        ([5, 6, 7, 8], 26),
-    ] {
-        carry.begin(Samples::Words(&samples), 1);
-        carry.make_row(Samples::Words(&samples));
-        assert_eq!(rt; carry.made(), [sum].as_slice());
-        carry.make_row(Samples::Words(&samples));
-        carry.finish();
-    }
-    carry.feed(&[0, 0, 0, 0], 1);
-    assert_eq!(rt; carry.sum(0, 0), 0);
-    assert_eq!(rt; carry.fed(), 4);
+    carry.pass(Samples::Words(&[1, 2, 3, 4]), 1);
+    carry.begin(Samples::Words(&[60_000, 50_000, 1, 2]), 1);
+    carry.make_row(Samples::Words(&[60_000, 50_000, 1, 2]));
+    assert_eq!(rt; carry.made(), [110_003].as_slice());
+    carry.make_row(Samples::Words(&[60_000, 50_000, 1, 2]));
+    carry.finish();
+    carry.feed(&[5, 6, 7, 8], 1);
+    assert_eq!(rt; carry.sum(0, 0), 26);
+    assert_eq!(rt; carry.fed(), 3);
     Ok(())
 }
