@@ -5,3 +5,4 @@ pub mod Lanes
 pub mod Starting
 pub mod Staging
 pub mod Stopping
+mod Opened

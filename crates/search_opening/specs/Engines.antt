@@ -1,12 +1,21 @@
 -- The engines of all shards, one for each transfer.
 -- Source: this project's choice.
-use Rattle.std.specs.Prelude.{◌≡◌, ℕ, ◌<◌, List, [], length, slice_get, Option, Some}
+use Rattle.std.specs.Prelude.{◌≡◌, ℕ, ◌<◌, ◌≤◌, List, [], length, slice_get, Option, Some, All, IsSome}
 use Rattle.dada_model.specs.Observation.{Observation}
+use Rattle.search_model.specs.Search.{SettingsInRange}
 use Rattle.search_model.specs.declared.search.Search.{Search}
 use Rattle.search_engine.specs.Engine.{EngineState, IsOpenedEngine, StandsForData}
 use Rattle.search_session.specs.declared.lane.Lane.{Lane}
 use Rattle.search_session.specs.Lanes.{HasEngine}
 use Rattle.search_session.specs.Books.{HasLane}
+use Rattle.search_opening.specs.Plans.{PlansFit}
+
+-- there are few transfers, each with its observation, and the search of each fits
+pub record CanBeSearched (s : Search) (observations : List (Option Observation)) : Type 0 where
+  pub few : length observations ≤ 8
+  pub there : All IsSome observations
+  pub fit : PlansFit s observations
+  pub range : SettingsInRange s
 
 -- the engine searches the shard of an observation, and was fed nothing
 pub record IsEngineFor (s : Search) (shard : ℕ) (o : Observation) (e : EngineState) : Type 0 where

@@ -1,10 +1,10 @@
 // The engines of all shards.
-ghost use Rattle.std.specs.Prelude.{◌≡◌, ◌≤◌, ◌<◌, None, Some, All, IsSome, IfOk, IfSome, length};
+ghost use Rattle.std.specs.Prelude.{◌≡◌, ◌≤◌, ◌<◌, ◌↔◌, None, Some, All, IsSome, IsTrue, IfOk, IfSome, ℕ, length, slice_index_or};
 ghost use Rattle.dada_model.specs.Observation.{Observation as Described};
 ghost use Rattle.search_model.specs.Search.{SettingsInRange};
 ghost use Rattle.search_model.specs.Plan.{plan_refusal};
 ghost use Rattle.search_opening.specs.Plans.{PlansFit};
-ghost use Rattle.search_opening.specs.Engines.{IsEngineFor, AreEnginesFor, AreOpenedLanes};
+ghost use Rattle.search_opening.specs.Engines.{CanBeSearched, IsEngineFor, AreEnginesFor, AreOpenedLanes};
 
 use crate::first::MOST_TRANSFERS;
 use arrayvec::ArrayVec;
@@ -14,6 +14,7 @@ use search_engine::{Engine, PlanFault};
 use search_model::Search;
 use search_session::Lane;
 use std::alloc::Global;
+use std::thread::{Threads, for_each_mut};
 
 // The engine of a shard of an observation.
 fn open_engine(
@@ -47,10 +48,7 @@ fn open_engines(
     search: &Search,
     shard: u32,
 ) -> Result<ArrayVec<Option<Engine>, MOST_TRANSFERS>, Memory>
-    requires few { length observations.now ≤ 8 }
-    requires there { All IsSome observations.now }
-    requires fit { PlansFit search.now observations.now }
-    requires range { SettingsInRange search.now }
+    requires searched { CanBeSearched search.now observations.now }
     requires shard { shard < search.now.shards }
     ensures { IfOk result (λ engines.
         AreEnginesFor search.now shard observations.now engines.items) }
@@ -63,23 +61,105 @@ fn open_engines(
     Ok(engines)
 }
 
-/// Takes the memory for a search whose plans fit: a lane for each shard, which has an engine for each transfer, in
-/// order.
-pub fn open_lanes(
+// The lane of a shard, which has an engine for each transfer, in order, or none where there was no memory.
+fn open_lane(
     alloc: Global,
     observations: &[Option<Observation>],
     search: &Search,
+    shard: u32,
+) -> Option<Lane>
+    requires searched { CanBeSearched search.now observations.now }
+    requires shard { shard < search.now.shards }
+    ensures { IfSome result (λ lane.
+        AreEnginesFor search.now shard observations.now lane.engines.items) }
+{
+    match open_engines(alloc, observations, search, shard) {
+        Ok(engines) => Some(Lane { engines }),
+        Err(_memory) => None,
+    }
+}
+
+// So many slots without a lane.
+fn no_lanes(shards: u32) -> ArrayVec<Option<Lane>, 7>
+    requires { shards ≤ 7 }
+    ensures { length result.items ≡ shards }
+{
+    let mut lanes = ArrayVec::new();
+    for _shard in 0..shards {
+        lanes.push(None);
+    }
+    lanes
+}
+
+// Whether each slot has a lane.
+fn are_opened(lanes: &[Option<Lane>]) -> bool
+    ensures { IsTrue result ↔ All IsSome lanes.now }
+{
+    for place in 0..lanes.len() {
+        if lanes[place].is_none() {
+            return false;
+        }
+    }
+    true
+}
+
+// Opens the lane of each shard in its slot, where there is memory. So many threads at most do so beside each other.
+fn fill_lanes<R: Threads + Sync>(
+    rt: &R,
+    alloc: Global,
+    observations: &[Option<Observation>],
+    search: &Search,
+    threads: u32,
+    lanes: &mut [Option<Lane>],
+)
+    requires searched { CanBeSearched search.now observations.now }
+    requires threads { 1 ≤ threads }
+    requires count { length lanes.old ≡ search.now.shards }
+    ensures count { length lanes.new ≡ length lanes.old }
+    ensures lanes { (shard : ℕ) → shard < length lanes.old
+        → IfSome (slice_index_or lanes.new shard None) (λ lane.
+        AreEnginesFor search.now shard observations.now lane.engines.items) }
+{
+    for_each_mut(
+        rt,
+        lanes,
+        threads as usize,
+        &|shard: usize, lane: &mut Option<Lane>|
+            requires { CanBeSearched search.now observations.now × (shard < search.now.shards) }
+            ensures { IfSome lane.new (λ l.
+                AreEnginesFor search.entry.now shard observations.entry.now l.engines.items) }
+        { *lane = open_lane(alloc, observations, search, shard as u32) },
+    );
+}
+
+/// Takes the memory for a search whose plans fit: a lane for each shard, which has an engine for each transfer, in
+/// order. So many threads at most open them beside each other.
+pub fn open_lanes<R: Threads + Sync>(
+    rt: &R,
+    alloc: Global,
+    observations: &[Option<Observation>],
+    search: &Search,
+    threads: u32,
 ) -> Result<ArrayVec<Option<Lane>, 7>, Memory>
     requires few { length observations.now ≤ 8 }
     requires there { All IsSome observations.now }
     requires fit { PlansFit search.now observations.now }
     requires range { SettingsInRange search.now }
+    requires threads { 1 ≤ threads }
     ensures { IfOk result (λ lanes. AreOpenedLanes search.now observations.now lanes.items) }
 {
-    let mut lanes = ArrayVec::new();
-    for shard in 0..search.shards {
-        let engines = open_engines(alloc, observations, search, shard)?;
-        lanes.push(Some(Lane { engines }));
+    let mut lanes = no_lanes(search.shards);
+    fill_lanes(
+        rt,
+        alloc,
+        observations,
+        search,
+        threads,
+        lanes.as_mut_slice(),
+    );
+    if are_opened(lanes.as_slice()) {
+        Ok(lanes)
+    } else {
+        Err(Memory)
     }
-    Ok(lanes)
 }

@@ -19,6 +19,7 @@ use run_stop::Stop;
 use search_opening::{accept_all, begin_feed, first_offsets};
 use search_words::Settings;
 use std::alloc::Global;
+use std::thread::Threads;
 
 /// A run of which all is opened.
 pub(crate) struct Opened<'a, I, F> {
@@ -27,7 +28,8 @@ pub(crate) struct Opened<'a, I, F> {
 }
 
 // Judges what the first headers say, and takes all memory.
-fn open_begun<'a, I: Inputs, F: Files>(
+fn open_begun<'a, I: Inputs, F: Files, R: Threads + Sync>(
+    rt: &R,
     alloc: Global,
     searches: bool,
     settings: &Settings,
@@ -60,6 +62,7 @@ fn open_begun<'a, I: Inputs, F: Files>(
     }
     *offsets = first_offsets(observations.as_slice());
     match Spaces::take(
+        rt,
         alloc,
         searches,
         settings,
@@ -80,7 +83,8 @@ fn open_begun<'a, I: Inputs, F: Files>(
 
 /// Reads the first headers, judges what they say, and takes all memory. `offsets` will hold where the data of each
 /// transfer begin.
-pub(crate) fn open_run<'a, I: Inputs, F: Files>(
+pub(crate) fn open_run<'a, I: Inputs, F: Files, R: Threads + Sync>(
+    rt: &R,
     alloc: Global,
     searches: bool,
     settings: &Settings,
@@ -107,7 +111,9 @@ pub(crate) fn open_run<'a, I: Inputs, F: Files>(
         (LeavesData (I.told feeder.new.inputs.now)) }
 {
     match begin_feed(alloc, feeder, settings.starts.as_slice()) {
-        Ok(observations) => { open_begun(alloc, searches, settings, feeder, observations, offsets) }
+        Ok(observations) => {
+            open_begun(rt, alloc, searches, settings, feeder, observations, offsets)
+        }
         Err(stop) => Err(stop),
     }
 }

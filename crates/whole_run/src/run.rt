@@ -84,7 +84,7 @@ fn within<'a, I: Inputs + Send, F: Files + Send, G: Gate + Sync, R: Threads + Wa
         }
     };
     let mut feeder = Feeder::over(inputs, space);
-    match open_run(alloc, searches, settings, &mut feeder, offsets) {
+    match open_run(rt, alloc, searches, settings, &mut feeder, offsets) {
         Ok(opened) => {
             let Lent {
                 inputs,

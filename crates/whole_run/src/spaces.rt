@@ -19,9 +19,12 @@ use search_opening::{StageSpace, open_lanes, run_shape};
 use search_session::Lane;
 use search_words::Settings;
 use std::alloc::Global;
+use std::thread::Threads;
 
-// A lane for each shard of a search, or none where files are recorded alone.
-fn take_lanes(
+// A lane for each shard of a search, or none where files are recorded alone. As many threads as the session will have
+// open them beside each other.
+fn take_lanes<R: Threads + Sync>(
+    rt: &R,
     alloc: Global,
     searches: bool,
     settings: &Settings,
@@ -31,11 +34,12 @@ fn take_lanes(
     requires there { All IsSome observations.now }
     requires fit { searches ≡ true → PlansFit settings.now.search observations.now }
     requires range { SettingsInRange settings.now.search }
+    requires hands { 1 ≤ settings.now.hands }
     ensures { IfOk result (λ lanes. AreLanesOf (task_of searches) (settings_seen settings.now)
         observations.now lanes.items) }
 {
     if searches {
-        open_lanes(alloc, observations, &settings.search)
+        open_lanes(rt, alloc, observations, &settings.search, settings.hands)
     } else {
         Ok(ArrayVec::new())
     }
@@ -111,7 +115,8 @@ impl<'a, I: Inputs, F: Files> Spaces<'a, I, F> {
     ghost use Rattle.whole_run.specs.Openings.{AreSpaces};
 
     /// Takes all space of a run under this first header. Transfer k begins at `offsets[k]`.
-    pub(crate) fn take(
+    pub(crate) fn take<R: Threads + Sync>(
+        rt: &R,
         alloc: Global,
         searches: bool,
         settings: &Settings,
@@ -129,7 +134,7 @@ impl<'a, I: Inputs, F: Files> Spaces<'a, I, F> {
         ensures { IfOk result (AreSpaces (task_of searches) (settings_seen settings.now)
             observations.now header.now offsets.now) }
     {
-        let lanes = take_lanes(alloc, searches, settings, observations)?;
+        let lanes = take_lanes(rt, alloc, searches, settings, observations)?;
         let stage = take_stage(alloc, settings, lanes, header)?;
         let recorder = take_recorder(alloc, settings, offsets)?;
         Ok(Spaces { stage, recorder })

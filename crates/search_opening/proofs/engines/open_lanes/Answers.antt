@@ -1,19 +1,14 @@
-use Rattle.std.proofs.Common.{◌≡◌, Some, refl, subst, arith}
-use Rattle.search_opening.proofs.Built.{AreBuilt, one_built}
-use Rattle.search_opening.proofs.Lanes.{HasLaneFor, lanes_for}
+use Rattle.std.proofs.Common.{◌<◌, All, IsSome, List, Option, length, sym, ap, subst, ◌∙◌}
+use Rattle.search_session.specs.declared.lane.Lane.{Lane}
+use Rattle.search_opening.proofs.Opened.{opened}
 use Rattle.search_opening.proofs.engines.open_lanes.Goals as goal
 
-pub loop-shard-preserved : goal.loop-shard-preserved
-loop-shard-preserved c = record {
-  built = one_built (HasLaneFor c.args.search.now c.args.observations.now) c.loop-shard.shard c.loop-shard.lanes.items
-      c.push.new.self.items (Some (record { engines = c.in_ok-engines.engines })) c.loop-shard.invariant.built
-      (record { engines = c.in_ok-engines.engines }, refl, c.in_ok-engines.ensures) c.push.ensures.items;
-}
-
-pub returns : goal.returns
-returns c =
-    let all : c.loop-shard.shard ≡ c.args.search.now.shards =
-    omega (arith, c.loop-shard-test.false, c.loop-shard.auto.shard-end) in
-    let P = HasLaneFor c.args.search.now c.args.observations.now in
-    lanes_for c.args.search.now c.args.observations.now c.args.search.now.shards c.loop-shard.lanes.items
-    (subst (λ n. AreBuilt P n c.loop-shard.lanes.items) all c.loop-shard.invariant.built)
+pub returns-then-are_opened : goal.returns-then-are_opened
+returns-then-are_opened g c =
+    let value = c.as_mut_slice.ensures.value in
+    opened c.args.search.now c.args.observations.now c.no_lanes-lanes.result.items c.fill_lanes.new.lanes
+    c.no_lanes-lanes.ensures (c.fill_lanes.ensures.count ∙ ap length value)
+    (λ shard within. c.fill_lanes.ensures.lanes shard
+    (subst (λ (xs : List (Option Lane)). shard < length xs) (sym value) within))
+    (subst (λ (xs : List (Option Lane)). All IsSome xs) c.as_slice.ensures.value
+    (c.are_opened.ensures.0 c.if-are_opened.true))

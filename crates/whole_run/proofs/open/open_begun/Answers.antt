@@ -26,7 +26,7 @@ first_offsets-requires-clause-there g c =
     all_there c.requires.observed.said c.as_slice-2.result.now (c.as_slice-2.ensures.value ∙ c.requires.observed.here)
 
 pub take-requires-clause-there : goal.take-requires-clause-there
-take-requires-clause-there g c =
+take-requires-clause-there g c = λ lifetimes lives.
     all_there c.requires.observed.said c.as_slice-3.result.now (c.as_slice-3.ensures.value ∙ c.requires.observed.here)
 
 pub returns-in-Ok-take-clause-opened : goal.returns-in-Ok-take-clause-opened

@@ -7,7 +7,7 @@ use Rattle.whole_run.proofs.Wording.{is_fed, is_recorded, still_held, hold_still
 use Rattle.whole_run.proofs.run.within.Goals as goal
 
 pub open_run-requires-clause-plan : goal.open_run-requires-clause-plan
-open_run-requires-clause-plan g c =
+open_run-requires-clause-plan g c = λ lifetimes lives.
     let s = c.args.settings.now in
     let Starts : List ℕ → Type 0 = λ starts.
     HasPlan c.over-feeder.result (map string_bytes s.names.items) starts s.size s.max_bytes in
@@ -17,7 +17,7 @@ open_run-requires-clause-plan g c =
     (subst Names c.as_slice.ensures.value (c.over-feeder.ensures.opened _ _ _ _ c.in-Ok.ensures).0)
 
 pub open_run-requires-clause-fresh : goal.open_run-requires-clause-fresh
-open_run-requires-clause-fresh g c = (c.over-feeder.ensures.opened _ _ _ _ c.in-Ok.ensures).1
+open_run-requires-clause-fresh g c = λ lifetimes lives. (c.over-feeder.ensures.opened _ _ _ _ c.in-Ok.ensures).1
 
 pub returns-in-Ok-open_run-clause-serves : goal.returns-in-Ok-open_run-clause-serves
 returns-in-Ok-open_run-clause-serves g c = λ calm holds.
