@@ -1,11 +1,10 @@
--- Engines and lanes that are opened one after another.
+-- Engines that are opened one after another.
 use Rattle.std.proofs.Common.{◌≡◌, ℕ, List, length, get_or, slice_get, Option, Some, refl, ap, ◌∙◌}
 use Rattle.std.proofs.lemmas.Option.{slice_get_within, get_or_from_slice_get}
 use Rattle.dada_model.specs.Observation.{Observation}
 use Rattle.search_model.specs.declared.search.Search.{Search}
 use Rattle.search_engine.specs.Engine.{EngineState}
-use Rattle.search_session.specs.declared.lane.Lane.{Lane}
-use Rattle.search_opening.specs.Engines.{IsEngineFor, AreEnginesFor, AreLanesTo}
+use Rattle.search_opening.specs.Engines.{IsEngineFor, AreEnginesFor}
 use Rattle.search_opening.proofs.Built.{AreBuilt}
 
 module _ (s : Search) (shard : ℕ) (observations : List (Option Observation)) where
@@ -28,20 +27,4 @@ module _ (s : Search) (shard : ℕ) (observations : List (Option Observation)) w
         let slot = built.each k (slice_get_within observations k (Some o) there) in
         let found = slot.2 o there in
         (found.0, slot.1 ∙ ap (λ (x : Option EngineState). Some x) found.1, found.2);
-  }
-
-module _ (s : Search) (observations : List (Option Observation)) where
-  -- the slot of a shard has a lane of its engines
-  abbrev pub HasLaneFor : ℕ → Option Lane → Type 0
-  HasLaneFor shard slot =
-      (lane : Lane) × (slot ≡ Some lane) × AreEnginesFor s shard observations lane.engines.items
-
-  pub lanes_for : (shards : ℕ) (lanes : List (Option Lane)) → AreBuilt HasLaneFor shards lanes →
-      AreLanesTo s observations shards lanes
-  lanes_for shards lanes built = record {
-    count = built.count;
-    each = λ shard within.
-        let slot = built.each shard within in
-        let lane = slot.2 in
-        (lane.0, slot.1 ∙ ap (λ (x : Option Lane). Some x) lane.1, lane.2);
   }

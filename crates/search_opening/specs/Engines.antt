@@ -10,7 +10,7 @@ use Rattle.search_session.specs.Lanes.{HasEngine}
 use Rattle.search_session.specs.Books.{HasLane}
 use Rattle.search_opening.specs.Plans.{PlansFit}
 
--- there are few transfers, each with its observation, and the search of each fits
+-- there are few transfers, each with its observation, and the search of each fits and is in range
 pub record CanBeSearched (s : Search) (observations : List (Option Observation)) : Type 0 where
   pub few : length observations ≤ 8
   pub there : All IsSome observations

@@ -3,7 +3,6 @@ ghost use Rattle.std.specs.Prelude.{◌≡◌, ◌≤◌, ◌<◌, ◌↔◌, No
 ghost use Rattle.dada_model.specs.Observation.{Observation as Described};
 ghost use Rattle.search_model.specs.Search.{SettingsInRange};
 ghost use Rattle.search_model.specs.Plan.{plan_refusal};
-ghost use Rattle.search_opening.specs.Plans.{PlansFit};
 ghost use Rattle.search_opening.specs.Engines.{CanBeSearched, IsEngineFor, AreEnginesFor, AreOpenedLanes};
 
 use crate::first::MOST_TRANSFERS;
@@ -79,7 +78,7 @@ fn open_lane(
     }
 }
 
-// So many slots without a lane.
+// So many slots.
 fn no_lanes(shards: u32) -> ArrayVec<Option<Lane>, 7>
     requires { shards ≤ 7 }
     ensures { length result.items ≡ shards }
@@ -141,10 +140,7 @@ pub fn open_lanes<R: Threads + Sync>(
     search: &Search,
     threads: u32,
 ) -> Result<ArrayVec<Option<Lane>, 7>, Memory>
-    requires few { length observations.now ≤ 8 }
-    requires there { All IsSome observations.now }
-    requires fit { PlansFit search.now observations.now }
-    requires range { SettingsInRange search.now }
+    requires searched { CanBeSearched search.now observations.now }
     requires threads { 1 ≤ threads }
     ensures { IfOk result (λ lanes. AreOpenedLanes search.now observations.now lanes.items) }
 {

@@ -21,8 +21,8 @@ use search_words::Settings;
 use std::alloc::Global;
 use std::thread::Threads;
 
-// A lane for each shard of a search, or none where files are recorded alone. As many threads as the session will have
-// open them beside each other.
+// A lane for each shard of a search, or none where files are recorded alone. At most as many threads as the session has
+// hands open them beside each other.
 fn take_lanes<R: Threads + Sync>(
     rt: &R,
     alloc: Global,
