@@ -6,6 +6,7 @@ use Rattle.ring_blocks.specs.declared.Entry.{Entry}
 use Rattle.ring_blocks.specs.declared.Mark.{Mark}
 use Rattle.ring_blocks.specs.declared.Mark.TheVariants.{End}
 use Rattle.ring_words.specs.Plays.{ReaderSettled}
+use Rattle.ring_words.specs.Steps.{CopiesTo}
 use Rattle.ring_words.specs.Views.{after_clear}
 use Rattle.ring_ends.specs.declared.passes.WriterPass.{WriterPass}
 use Rattle.ring_ends.specs.declared.passes.ReaderPass.{ReaderPass}
@@ -13,7 +14,7 @@ use Rattle.ring_ends.specs.declared.passes.DetachedReader.{DetachedReader}
 use Rattle.ring_ends.specs.declared.answers.WriteStop.{WriteStop}
 use Rattle.ring_ends.specs.declared.answers.ReadStop.{ReadStop}
 use Rattle.ring_ends.specs.declared.answers.Taken.{Taken}
-use Rattle.ring_ends.specs.Answers.{IsWritten, IsWriteStop, IsRead, IsReadStop}
+use Rattle.ring_ends.specs.Answers.{IsWritten, IsWriteStop, IsHanded, IsReadStop}
 use Rattle.ring_ends.specs.Passes.{writer_knows, reader_knows, detached_knows, is_read, ring_of_reader, ring_of_detached}
 
 abbrev pub entry : Mark → List ℕ → Entry
@@ -29,15 +30,25 @@ WriteAnswers old block result new = MatchResult result
     (λ n. IsWritten (writer_knows old) block n (writer_knows new))
     (λ stop. IsWriteStop (writer_knows old) stop (writer_knows new))
 
--- the next block was copied to the front of `into`, which is `into'` then; or none was, and why
-pub record ReadAnswers (old : ReaderPass) (into : List ℕ) (result : Result Taken ReadStop)
-    (new : ReaderPass) (into' : List ℕ) : Type 0 where
+-- What takes bytes was `x`, and is `x'` then: it took those of the next block, as `Takes` says; or none, and why.
+pub record HandAnswers {X : Type 0} (Takes : X → Entry → X → Type 0) (old : ReaderPass) (x : X)
+    (result : Result Taken ReadStop) (new : ReaderPass) (x' : X) : Type 0 where
   pub cases : MatchResult result
-      (λ taken. IsRead (reader_knows old) into taken (reader_knows new) into')
+      (λ taken. IsHanded Takes (reader_knows old) x taken (reader_knows new) x')
       (λ stop. IsReadStop (reader_knows old) stop (reader_knows new))
   pub settled : ReaderSettled (reader_knows new)
   pub has_read : OnOk result (is_read new ≡ true)
-  pub kept : OnErr result ((is_read new ≡ is_read old) × (into' ≡ into))
+  pub kept : OnErr result ((is_read new ≡ is_read old) × (x' ≡ x))
+
+-- the next block was copied to the front of `into`, which is `into'` then; or none was, and why
+abbrev pub ReadAnswers : ReaderPass → List ℕ → Result Taken ReadStop → ReaderPass → List ℕ → Type 0
+ReadAnswers old into result new into' = HandAnswers CopiesTo old into result new into'
+
+-- a part of the taker took the next block; or none was taken, and why
+abbrev pub LendAnswers : {X : Type 0} → (X → ℕ → Entry → X → Type 0) → ℕ → ReaderPass → X →
+    Result Taken ReadStop → ReaderPass → X → Type 0
+LendAnswers took part old taker result new taker' =
+    HandAnswers (λ x. took x part) old taker result new taker'
 
 -- the block that was read is cleared, and n blocks are in all
 pub record ClearAnswers (old : ReaderPass) (n : ℕ) (new : ReaderPass) : Type 0 where

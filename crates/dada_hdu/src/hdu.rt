@@ -1,5 +1,5 @@
 //! The two rings that threads share by reference.
-ghost use Rattle.std.specs.Prelude.{◌≡◌, ◌≤◌, All, EachIndex, IfOk, OnErr, IsSomeAnd, length, take, true, slice_get, Some};
+ghost use Rattle.std.specs.Prelude.{◌≡◌, ◌≤◌, All, EachIndex, IfOk, OnErr, IsSomeAnd, length, take, true, slice_get, Some, ◌<◌};
 ghost use Rattle.ring_ends.specs.Passes.{ring_shape};
 ghost use Rattle.dada_hdu.specs.Shapes.{header_shape};
 ghost use Rattle.dada_hdu.specs.Pairs.{Pairs, PairsEach};
@@ -10,7 +10,7 @@ use arrayvec::ArrayVec;
 use dada_header::Header;
 use dada_model::headers_are_text;
 use psr_base::Memory;
-use ring_ends::{Mark, ReadStop, ReaderPass, Ring, RingShape, Taken, WriteStop};
+use ring_ends::{BlockTaker, Mark, ReadStop, ReaderPass, Ring, RingShape, Taken, WriteStop};
 use std::alloc::Global;
 
 /// A header ring of 2 buffers of 65537 bytes, and a data ring. Both have the same readers, and carry as many blocks.
@@ -48,12 +48,13 @@ fn readers_of(
 
 impl Hdu {
     ghost use Rattle.dada_model.specs.Fields.{header_bytes};
+    ghost use Rattle.ring_blocks.specs.declared.Entry.{Entry};
     ghost use Rattle.ring_words.specs.Shape.{IsRing};
     ghost use Rattle.ring_words.specs.Views.{after_retire};
     ghost use Rattle.ring_ends.specs.Passes.{reader_knows, retired_knows, is_read};
     ghost use Rattle.ring_ends.specs.Answers.{FitsMark};
     ghost use Rattle.dada_hdu.specs.Passes.{header_ring, data_ring, data_shape, WritesBoth, ReadsBoth, RetiredFromBoth, IsFreshWriter, HasFreshReader};
-    ghost use Rattle.dada_hdu.specs.Answers.{entry, header_entry, WriteAnswers, ReadAnswers, ClearAnswers};
+    ghost use Rattle.dada_hdu.specs.Answers.{entry, header_entry, WriteAnswers, ReadAnswers, LendAnswers, ClearAnswers};
 
     /// Opens a data ring of this shape, and a header ring beside it. The reader at place i has number i in both.
     pub fn open(
@@ -177,6 +178,26 @@ impl Hdu {
         ensures header { pass.new.header ≡ pass.old.header }
     {
         self.blocks.read(&mut pass.blocks, into)
+    }
+
+    /// Lends the block of data that comes after those that the reader cleared to a part of a taker, which takes its
+    /// bytes where they lie. Until it is cleared, the same block is lent again.
+    pub fn read_to<T: BlockTaker>(
+        &self,
+        pass: &mut HduReader,
+        taker: &mut T,
+        part: usize,
+    ) -> Result<Taken, ReadStop>
+        requires ring { ReadsBoth self.now pass.old }
+        requires ready { (entry : Entry)
+            → length (reader_knows pass.old.blocks).cleared < (data_shape self.now).max_blocks
+            → length entry.bytes ≤ (data_shape self.now).size → T.can_take taker.old part entry }
+        ensures ring { ReadsBoth self.now pass.new }
+        ensures blocks { LendAnswers T.took part pass.old.blocks taker.old result pass.new.blocks
+            taker.new }
+        ensures header { pass.new.header ≡ pass.old.header }
+    {
+        self.blocks.read_to(&mut pass.blocks, taker, part)
     }
 
     /// Counts the block of data that was read as cleared, and answers the new count.

@@ -17,5 +17,5 @@ pub use hdu::Hdu;
 pub use laws::order_is_enough;
 pub use passes::{HduDetached, HduReader, HduRetired, HduWriter};
 pub use psr_base::Memory;
-pub use ring_ends::{Mark, ReadStop, RingShape, ShapeFault, Taken, WriteStop};
+pub use ring_ends::{BlockTaker, Mark, ReadStop, RingShape, ShapeFault, Taken, WriteStop};
 pub use shapes::HEADER_SPACE;

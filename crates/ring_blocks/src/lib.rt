@@ -39,6 +39,23 @@ pub struct Entry {
     pub bytes: LinkedList<u8>,
 }
 
+/// What takes the bytes of a block where they lie, so that they are not copied. It may have parts, of which one takes a
+/// block.
+pub trait BlockTaker {
+    ghost use Rattle.ring_blocks.specs.declared.Entry.{Entry};
+
+    // whether a part can take a block
+    ghost can_take: { Self → ℕ → Entry → Type 0 };
+
+    // what it is once a part took a block
+    ghost took: { Self → ℕ → Entry → Self → Type 0 };
+
+    /// Takes the bytes of a block, and its mark, for a part.
+    fn take(&mut self, part: usize, bytes: &[u8], mark: Mark)
+        requires { can_take self.old part (record { mark = mark; bytes = bytes.now }) }
+        ensures { took self.old part (record { mark = mark; bytes = bytes.now }) self.new };
+}
+
 /// A space for bytes, taken once, which is filled again and again.
 #[derive(Drop)]
 pub struct Block {
@@ -97,6 +114,17 @@ impl Block {
         ensures copied { into.new ≡ (entry_of self.now).bytes ++ drop result into.old }
     {
         put_front(into, &self.buffer.as_slice()[..self.used as usize]);
+        self.used
+    }
+
+    /// Lends its bytes, and its mark, to a part of a taker, and answers how many bytes there are.
+    pub fn lend<T: BlockTaker>(&self, taker: &mut T, part: usize) -> u32
+        requires { T.can_take taker.old part (entry_of self.now) }
+        ensures count { result ≡ length (entry_of self.now).bytes }
+        ensures took { T.took taker.old part (entry_of self.now) taker.new }
+    {
+        let bytes = &self.buffer.as_slice()[..self.used as usize];
+        taker.take(part, bytes, self.mark);
         self.used
     }
 

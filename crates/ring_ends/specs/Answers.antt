@@ -1,13 +1,13 @@
 -- What a write and a read answer, and why.
 -- Source: PSRDADA manual (ring buffers of a writer and its readers); the answers are this project's choice.
-use Rattle.std.specs.Prelude.{◌≡◌, ◌≢◌, ℕ, ◌+◌, ◌/◌, ◌%◌, ◌<◌, ◌≤◌, List, ◌++◌, drop, length, slice_index, Some}
+use Rattle.std.specs.Prelude.{◌≡◌, ◌≢◌, ℕ, ◌+◌, ◌/◌, ◌%◌, ◌<◌, ◌≤◌, List, length, slice_index, Some}
 use Rattle.ring_blocks.specs.declared.Entry.{Entry}
 use Rattle.ring_blocks.specs.declared.Mark.{Mark}
 use Rattle.ring_blocks.specs.declared.Mark.TheVariants.{More, End, Cut}
 use Rattle.ring_words.specs.declared.views.ReaderView.{ReaderView}
 use Rattle.ring_words.specs.declared.views.WriterView.{WriterView}
 use Rattle.ring_words.specs.Views.{after_seal, after_hit, after_miss, after_give}
-use Rattle.ring_words.specs.Steps.{home_word}
+use Rattle.ring_words.specs.Steps.{home_word, CopiesTo}
 use Rattle.ring_ends.specs.declared.answers.WriteStop.{WriteStop}
 use Rattle.ring_ends.specs.declared.answers.WriteStop.TheVariants.{Full, Spent}
 use Rattle.ring_ends.specs.declared.answers.ReadStop.{ReadStop}
@@ -59,9 +59,10 @@ abbrev pub IsWriteStop : WriterView → WriteStop → WriterView → Type 0
 IsWriteStop w (Full i c) w' = IsFull w i c w'
 IsWriteStop w (Spent limit) w' = (limit ≡ w.shape.max_blocks) × (length w.sealed ≡ limit) × (w' ≡ w)
 
--- The reader copied the block that comes after those it cleared to the front of `into`, which it then has as `into'`
-pub record IsRead (r : ReaderView) (into : List ℕ) (t : Taken) (r' : ReaderView)
-    (into' : List ℕ) : Type 0 where
+-- What takes bytes was `x`. It took those of the block that comes after those that the reader cleared, as `Takes` says,
+-- and is `x'` then.
+pub record IsHanded {X : Type 0} (Takes : X → Entry → X → Type 0) (r : ReaderView) (x : X)
+    (t : Taken) (r' : ReaderView) (x' : X) : Type 0 where
   pub entry : Entry
   pub rest : r' ≡ after_give (after_hit r (home_word (length r.cleared)) entry)
   pub again : (e : Entry) → r.got ≡ Some e → e ≡ entry
@@ -70,7 +71,16 @@ pub record IsRead (r : ReaderView) (into : List ℕ) (t : Taken) (r' : ReaderVie
   pub used : t.used ≡ length entry.bytes
   pub fits : t.used ≤ r.shape.size
   pub mark : t.mark ≡ entry.mark
-  pub bytes : into' ≡ entry.bytes ++ drop (length entry.bytes) into
+  pub bytes : Takes x entry x'
+
+-- the reader copied the block to the front of `into`, which is `into'` then
+abbrev pub IsRead : ReaderView → List ℕ → Taken → ReaderView → List ℕ → Type 0
+IsRead r into t r' into' = IsHanded CopiesTo r into t r' into'
+
+-- a part of the taker took the block
+abbrev pub IsLent : {X : Type 0} → (X → ℕ → Entry → X → Type 0) → ℕ → ReaderView → X → Taken →
+    ReaderView → X → Type 0
+IsLent took part r taker t r' taker' = IsHanded (λ x. took x part) r taker t r' taker'
 
 -- Why a read took nothing: its try found a word, whose first part is 1 more than the number of the block in that
 -- buffer, and 0 where there is none, and whose

@@ -18,6 +18,6 @@ pub use finished::Finished;
 pub use laws::order_is_enough;
 pub use passes::{DetachedReader, EndedReader, ReaderPass, RetiredPass, WriterPass};
 pub use ring::Ring;
-pub use ring_blocks::Mark;
+pub use ring_blocks::{BlockTaker, Mark};
 pub use ring_core::Memory;
 pub use ring_words::{RingShape, ShapeFault};

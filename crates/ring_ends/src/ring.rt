@@ -4,7 +4,7 @@ ghost use Rattle.std.specs.Prelude.{◌≡◌, All, IsSomeAnd, ℕ, ◌+◌, ◌
 use crate::answers::{ReadStop, Taken, WriteStop};
 use crate::passes::{ReaderPass, RetiredPass, WriterPass};
 use arrayvec::ArrayVec;
-use ring_blocks::Mark;
+use ring_blocks::{BlockTaker, Mark};
 use ring_core::Memory;
 use ring_words::{RingShape, Words};
 use std::alloc::Global;
@@ -19,8 +19,9 @@ impl Ring {
     ghost use Rattle.ring_words.specs.Views.{after_clear, after_retire, seated_writer};
     ghost use Rattle.ring_words.specs.Plays.{ReaderSettled};
     ghost use Rattle.ring_words.specs.Shape.{IsRing};
+    ghost use Rattle.ring_blocks.specs.declared.Entry.{Entry};
     ghost use Rattle.ring_ends.specs.Passes.{ring_shape, writer_knows, reader_knows, is_read, retired_knows, WritesTo, ReadsFrom, RetiredFrom, HasFreshPass};
-    ghost use Rattle.ring_ends.specs.Answers.{FitsMark, IsWritten, IsWriteStop, IsRead, IsReadStop, SawAllPast, IsFull};
+    ghost use Rattle.ring_ends.specs.Answers.{FitsMark, IsWritten, IsWriteStop, IsRead, IsLent, IsReadStop, SawAllPast, IsFull};
 
     /// Opens a ring. The pass at place i is that of reader i.
     pub fn open(
@@ -139,6 +140,39 @@ impl Ring {
         match self.words.reader_take(&mut pass.seat) {
             Ok(()) => {
                 let (used, mark) = self.words.give(&mut pass.seat, into);
+                pass.has_read = true;
+                Ok(Taken { block, used, mark })
+            }
+            Err(word) => Err(stop_of(block, word)),
+        }
+    }
+
+    /// Lends the block that comes after those that the reader cleared to a part of a taker, which takes its bytes where
+    /// they lie. Until it is cleared, the same block is lent again.
+    pub fn read_to<T: BlockTaker>(
+        &self,
+        pass: &mut ReaderPass,
+        taker: &mut T,
+        part: usize,
+    ) -> Result<Taken, ReadStop>
+        requires ring { ReadsFrom self.now pass.old }
+        requires ready { (entry : Entry)
+            → length (reader_knows pass.old).cleared < (ring_shape self.now).max_blocks
+            → length entry.bytes ≤ (ring_shape self.now).size → T.can_take taker.old part entry }
+        ensures ring { ReadsFrom self.now pass.new }
+        ensures cases { MatchResult result
+            (λ taken. IsLent T.took part (reader_knows pass.old) taker.old
+            taken (reader_knows pass.new) taker.new)
+            (λ stop. IsReadStop (reader_knows pass.old) stop (reader_knows pass.new)) }
+        ensures settled { ReaderSettled (reader_knows pass.new) }
+        ensures has_read { OnOk result (is_read pass.new ≡ true) }
+        ensures kept { OnErr result
+            ((is_read pass.new ≡ is_read pass.old) × (taker.new ≡ taker.old)) }
+    {
+        let block = pass.cleared();
+        match self.words.reader_take(&mut pass.seat) {
+            Ok(()) => {
+                let (used, mark) = self.words.lend(&mut pass.seat, taker, part);
                 pass.has_read = true;
                 Ok(Taken { block, used, mark })
             }

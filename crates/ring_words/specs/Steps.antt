@@ -52,14 +52,29 @@ pub record MissedBlock (r : ReaderView) (n : ℕ) (r' : ReaderView) : Type 0 whe
   pub view : r' ≡ after_miss r n
   pub event : IsReaderEvent r (Event.ReaderTake r.number) (miss_answer r n) r'
 
--- the bytes in front are those of the block that the reader got, and the answers are its length and mark
-pub record CopiedBlock (r : ReaderView) (into into' : List ℕ) (used : ℕ)
-    (mark : Mark) : Type 0 where
+-- What takes bytes was `x`. It took those of the block that the reader got, as `Takes` says, and is `x'` then. The
+-- answers are the block's length and mark.
+pub record HandedBlock {X : Type 0} (Takes : X → Entry → X → Type 0) (r : ReaderView) (x x' : X)
+    (used : ℕ) (mark : Mark) : Type 0 where
   pub entry : Entry
   pub got : r.got ≡ Some entry
-  pub bytes : into' ≡ entry.bytes ++ drop (length entry.bytes) into
+  pub bytes : Takes x entry x'
   pub used_is : used ≡ length entry.bytes
   pub mark_is : mark ≡ entry.mark
+
+-- the bytes in front are those of the block
+abbrev pub CopiesTo : List ℕ → Entry → List ℕ → Type 0
+CopiesTo into entry into' = into' ≡ entry.bytes ++ drop (length entry.bytes) into
+
+-- the block was copied
+abbrev pub CopiedBlock : ReaderView → List ℕ → List ℕ → ℕ → Mark → Type 0
+CopiedBlock r into into' used mark = HandedBlock CopiesTo r into into' used mark
+
+-- the block was lent to a part of a taker
+abbrev pub LentBlock : {X : Type 0} → (X → ℕ → Entry → X → Type 0) → ℕ → ReaderView → X → X →
+    ℕ → Mark → Type 0
+LentBlock took part r taker taker' used mark =
+    HandedBlock (λ x. took x part) r taker taker' used mark
 
 -- the reader gave the buffer back
 pub record GaveBuffer (r r' : ReaderView) : Type 0 where

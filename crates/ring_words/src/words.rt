@@ -9,7 +9,7 @@ use crate::shape::RingShape;
 use crate::views::{RingRule, View};
 use arrayvec::ArrayVec;
 use atomic_table::Table;
-use ring_blocks::{Block, Mark};
+use ring_blocks::{Block, BlockTaker, Mark};
 use ring_core::Memory;
 use std::alloc::{AllocError, Global};
 
@@ -32,8 +32,9 @@ pub struct Words {
 
 impl Words {
     ghost use Rattle.std.specs.Prelude.{ℕ, ◌≤◌, Some, true, false, slice_index, EachIndex, OnOk, IfErr, IsSome};
+    ghost use Rattle.std.specs.Option.{ForSome};
     ghost use Rattle.ring_words.specs.Views.{fresh_reader, fresh_writer, seated_writer, parked_at, after_split, after_join};
-    ghost use Rattle.ring_words.specs.Steps.{SeesRoom, SawCount, TookBuffer, SealedEntry, TookBlock, MissedBlock, CopiedBlock, GaveBuffer, ClearedBlock, RetiredReader};
+    ghost use Rattle.ring_words.specs.Steps.{SeesRoom, SawCount, TookBuffer, SealedEntry, TookBlock, MissedBlock, CopiedBlock, LentBlock, GaveBuffer, ClearedBlock, RetiredReader};
     ghost use Rattle.ring_words.specs.Seats.{shape_of, writer_view, reader_view, Writes, Reads, IsFreshReader, HasFreshReader};
 
     /// Lays out a ring with every block at home. The seat at place i is that of reader i.
@@ -246,6 +247,32 @@ impl Words {
         let slot = self.slot_of(reader.cleared);
         let block = reader.seat.slot_mut(&self.table.shared, slot);
         let used = block.copy_to(into);
+        let mark = block.mark();
+        self.table
+            .shared
+            .store::<Give>(&mut reader.seat, slot, home_word(reader.cleared));
+        (used, mark)
+    }
+
+    /// Lends the block that the reader holds to a part of a taker, and gives its buffer back. It answers how many bytes
+    /// there are, and the mark.
+    pub fn lend<T: BlockTaker>(
+        &self,
+        reader: &mut ReaderSeat,
+        taker: &mut T,
+        part: usize,
+    ) -> (u32, Mark)
+        requires seat { Reads self.now reader.old }
+        requires out { (reader_view reader.old).out ≡ true }
+        requires ready { ForSome (reader_view reader.old).got (T.can_take taker.old part) }
+        ensures seat { Reads self.now reader.new }
+        ensures gave { GaveBuffer (reader_view reader.old) (reader_view reader.new) }
+        ensures lent { LentBlock T.took part (reader_view reader.old) taker.old taker.new result.0
+            result.1 }
+    {
+        let slot = self.slot_of(reader.cleared);
+        let block = reader.seat.slot_mut(&self.table.shared, slot);
+        let used = block.lend(taker, part);
         let mark = block.mark();
         self.table
             .shared
