@@ -176,7 +176,7 @@ impl Ring {
                 pass.has_read = true;
                 Ok(Taken { block, used, mark })
             }
-            Err(word) => Err(stop_of(block, word)),
+            Err(found) => Err(stop_of(block, found)),
         }
     }
 
