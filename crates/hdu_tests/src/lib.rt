@@ -4,6 +4,8 @@
 #[cfg(test)]
 mod both;
 #[cfg(test)]
+mod lending;
+#[cfg(test)]
 mod threads;
 #[cfg(test)]
 mod turns;
