@@ -8,4 +8,5 @@ pub mod SeatSteps
 pub mod Moves
 pub mod Sealing
 pub mod Holding
+pub mod Giving
 pub mod Opening
