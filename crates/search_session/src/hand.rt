@@ -8,7 +8,7 @@ use crate::feed::FeedActor;
 use crate::gate::Gate;
 use crate::record::RecordActor;
 use crate::shard::ShardActor;
-use crate::waiting::AtWork;
+use crate::waiting::Watch;
 use arrayvec::ArrayVec;
 use dada_hdu::Hdu;
 use psr_base::{Files, Inputs};
@@ -20,13 +20,10 @@ const FEEDER: u32 = 0;
 /// The number by which a gate knows the recorder.
 const RECORDER: u32 = 8;
 
-/// How often a hand looks for a block or for room while other hands are at work. Each look lets other threads run, and
-/// takes about half a microsecond where none wants to: together they are longer than a turn of a shard should be.
+/// How often a hand looks for a block or for room, unless it finds before that all hands wait in vain. Each look lets
+/// other threads run, and takes about half a microsecond where none wants to: together they are longer than a turn of a
+/// shard should be.
 const LOOKS: u32 = 1_000_000;
-
-/// How often in a row it looks while no other hand is at work. Another one may have found its block or its room and not
-/// have told so yet, for which some tens of microseconds are enough; what nobody changes is not waited for.
-const LAST_LOOKS: u32 = 100;
 
 /// The actors that one thread drives. Each shard is `Some`.
 #[derive(Drop)]
@@ -201,8 +198,15 @@ impl<'a, I: Inputs, F: Files> Hand<'a, I, F> {
     }
 
     // So many turns of each actor, fewer of one that ends. Before each but the first it waits for what others are about
-    // to seal or to clear, until it waited in vain.
-    pub(crate) fn drive<G: Gate>(&mut self, hdu: &Hdu, turns: u32, gate: &G, at_work: &AtWork)
+    // to seal or to clear, until it waited in vain. The hand stands at this place of its round.
+    pub(crate) fn drive<G: Gate>(
+        &mut self,
+        hdu: &Hdu,
+        turns: u32,
+        gate: &G,
+        place: usize,
+        watch: &Watch,
+    )
         requires { HandOn I.told I.is_open F.is_open hdu.now self.old }
         ensures on { HandOn I.told I.is_open F.is_open hdu.now self.new }
         ensures moved { HandMoved I.told I.is_calm I.faults F.seen turns self.old self.new }
@@ -210,11 +214,11 @@ impl<'a, I: Inputs, F: Files> Hand<'a, I, F> {
         let mut waits = true;
         for turn in 0..turns {
             if waits && turn > 0 {
-                waits = self.has_ended() || self.waits_for_work(hdu, at_work);
+                waits = self.has_ended() || self.waits_for_work(hdu, place, watch);
             }
             self.turn(hdu, gate);
         }
-        at_work.leave();
+        watch.end(place);
     }
 
     // Whether a turn of an actor would write or read a block at this moment.
@@ -226,35 +230,30 @@ impl<'a, I: Inputs, F: Files> Hand<'a, I, F> {
             || self.recorder_could_move(hdu)
     }
 
-    // Waits until an actor could move, while other hands are at work. It answers whether one could.
-    fn waits_for_work(&self, hdu: &Hdu, at_work: &AtWork) -> bool
+    // Waits until an actor could move, unless all hands wait in vain. It answers whether one could.
+    fn waits_for_work(&self, hdu: &Hdu, place: usize, watch: &Watch) -> bool
         requires { HandOn I.told I.is_open F.is_open hdu.now self.now }
     {
         if self.could_move(hdu) {
             return true;
         }
-        at_work.leave();
-        let found = self.looks_for_work(hdu, at_work);
-        at_work.come_back();
+        watch.leave();
+        let found = self.looks_for_work(hdu, place, watch);
+        watch.come_back();
         found
     }
 
     // The looks of a hand that is not at work.
-    fn looks_for_work(&self, hdu: &Hdu, at_work: &AtWork) -> bool
+    fn looks_for_work(&self, hdu: &Hdu, place: usize, watch: &Watch) -> bool
         requires { HandOn I.told I.is_open F.is_open hdu.now self.now }
     {
-        let mut last_looks = 0u32;
+        let mut note = None;
         for _look in 0..LOOKS {
             thread::yield_now();
             if self.could_move(hdu) {
                 return true;
             }
-            last_looks = if at_work.is_nobody() {
-                last_looks.saturating_add(1)
-            } else {
-                0
-            };
-            if last_looks == LAST_LOOKS {
+            if watch.is_in_vain(place, &mut note) {
                 return false;
             }
         }

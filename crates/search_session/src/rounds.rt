@@ -4,13 +4,13 @@ ghost use Rattle.search_session.specs.Hands.{HandOn, HandMoved, HandRetired, Han
 
 use crate::gate::Gate;
 use crate::hand::Hand;
-use crate::waiting::AtWork;
+use crate::waiting::Watch;
 use dada_hdu::Hdu;
 use psr_base::{Files, Inputs};
 use std::thread::{Threads, for_each_mut};
 
 /// Drives each hand in a thread of its own: each of its actors takes so many turns, fewer only where it ends. No turn
-/// waits; between its turns a hand waits while others are at work and none of its actors could move.
+/// waits; between its turns a hand none of whose actors could move waits, until all hands wait for each other.
 pub fn round<'a, I: Inputs + Send, F: Files + Send, G: Gate + Sync, R: Threads + Sync>(
     rt: &R,
     hands: &mut [Hand<'a, I, F>],
@@ -24,16 +24,16 @@ pub fn round<'a, I: Inputs + Send, F: Files + Send, G: Gate + Sync, R: Threads +
         hands.old hands.new }
 {
     let threads = hands.len().max(1);
-    let at_work = AtWork::new(hands.len());
+    let watch = Watch::new(hands.len());
     for_each_mut(
         rt,
         hands,
         threads,
-        &|_place: usize, hand: &mut Hand<'_, I, F>|
+        &|place: usize, hand: &mut Hand<'_, I, F>|
             requires { HandOn I.told I.is_open F.is_open hdu.now hand.old }
             ensures { HandOn I.told I.is_open F.is_open hdu.entry.now hand.new
                 × HandMoved I.told I.is_calm I.faults F.seen turns hand.old hand.new }
-        { hand.drive(hdu, turns, gate, &at_work) },
+        { hand.drive(hdu, turns, gate, place, &watch) },
     );
 }
 

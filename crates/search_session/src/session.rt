@@ -1,5 +1,5 @@
 //! A session: rounds until all have ended.
-ghost use Rattle.std.specs.Prelude.{◌≡◌, ℕ, ◌+◌, ◌*◌, ◌<◌, ◌≤◌, All, IfSome, Some, None, length, slice_get};
+ghost use Rattle.std.specs.Prelude.{◌≡◌, ℕ, ◌+◌, ◌*◌, ◌<◌, ◌≤◌, All, IfSome, Some, None, length, min, slice_get};
 ghost use Rattle.dada_hdu.specs.Passes.{data_shape, number_of};
 ghost use Rattle.ring_ends.specs.Ended.{sealed_at_end};
 ghost use Rattle.disk_feeder.specs.Feeder.{FeederFaultless};
@@ -33,13 +33,23 @@ use dada_recorder::recordings_end;
 use disk_feeder::{feeders_end, headers_are_first};
 use stream_model::{bytes_are_joined, ends_are_counted, streams_have_transfers};
 
-/// Each round has so many times the turns of the one before it. At the end of a round the ring runs empty and new
+/// The first round has so many times the turns that a session is given.
+const FIRST: u32 = 16;
+
+/// Each later round has so many times the turns of the one before it. At the end of a round the ring runs empty and new
 /// threads begin, which takes some milliseconds.
 const GROWTH: u32 = 8;
 
 /// From so many turns on rounds grow no longer: their ends cost little by then. A hand that waited in vain takes the
 /// rest of its turns without a wait, and at about a look's time each it is soon through.
 const LONG_ROUND: u32 = 32_768;
+
+// The turns of the first round of a session that is given so many.
+fn first_round(turns: u32) -> u32
+    ensures { result ≡ min u32.MAX (FIRST * turns) }
+{
+    turns.saturating_mul(FIRST)
+}
 
 // The turns of the round after one of so many.
 fn next_round(turns: u32) -> u32
@@ -114,9 +124,10 @@ fn end_session<'a, I: Inputs, F: Files>(
     finish(hdu, feeder, shards, recorder)
 }
 
-/// Drives a stage to its end: rounds follow one another until all have ended. The first has so many turns, and each
-/// later one eight times as many as the one before it, until one has 32768 or more; no clause says how many, since no
-/// result rests on it. After each the writer is freed of the shards that ended, and of the recorder where it ended.
+/// Drives a stage to its end: rounds follow one another until all have ended. The first has sixteen times so many
+/// turns, and each later one eight times as many as the one before it, until one has 32768 or more; no clause says how
+/// many, since no result rests on it. After each the writer is freed of the shards that ended, and of the recorder where
+/// it ended.
 pub fn run_session<'a, I: Inputs + Send, F: Files + Send, G: Gate + Sync, R: Threads + Wait + Sync>(
     rt: &R,
     stage: Stage<'a, I, F>,
@@ -138,6 +149,6 @@ pub fn run_session<'a, I: Inputs + Send, F: Files + Send, G: Gate + Sync, R: Thr
     streams_have_transfers();
     let shards = stage.lanes.len();
     let (hdu, mut hands) = staff(stage);
-    run_rounds(rt, hands.as_mut_slice(), &hdu, turns, gate);
+    run_rounds(rt, hands.as_mut_slice(), &hdu, first_round(turns), gate);
     end_session(hdu, hands.as_mut_slice(), shards)
 }

@@ -1,32 +1,141 @@
-//! Which hands of a round wait for each other.
-use std::sync::atomic::{AtomicUsize, Ordering};
+//! Which hands of a round wait for each other in vain. No contract speaks of it, since no result rests on who waits.
+use std::array;
+use std::sync::atomic::{AtomicBool, AtomicU64, AtomicUsize, Ordering};
 
-/// How many hands of a round are at work: they take turns, and neither wait nor are done.
+/// The most hands of a session: one for each actor.
+const HANDS: usize = 9;
+
+/// Stands for the looks of a hand that took all its turns.
+const DONE: u64 = u64::MAX;
+
+/// So many looks in vain after a moment show that there was nothing to find at it: the first of them may have begun
+/// before that moment, the second did not.
+const LOOKS_SINCE: u64 = 2;
+
+/// What the hands of a round tell each other: how many are at work, which neither wait nor are done; how often one came
+/// back to work; how often each looked in vain, or that it is done; whether it was found that all wait in vain.
 #[derive(Drop)]
-pub(crate) struct AtWork {
-    hands: AtomicUsize,
+pub(crate) struct Watch {
+    at_work: AtomicUsize,
+    returns: AtomicU64,
+    looks: [AtomicU64; HANDS],
+    stuck: AtomicBool,
 }
 
-impl AtWork {
-    /// So many.
-    pub(crate) fn new(hands: usize) -> AtWork {
-        AtWork {
-            hands: AtomicUsize::new(hands),
+/// What a hand saw of the others at a moment when none was at work.
+#[derive(Clone, Copy, Drop)]
+pub(crate) struct Note {
+    returns: u64,
+    looks: [u64; HANDS],
+}
+
+// The looks of a place before the first turn. Where there is no hand, it is done.
+fn first_looks(place: usize, hands: usize) -> AtomicU64 {
+    AtomicU64::new(if place < hands { 0 } else { DONE })
+}
+
+// Whether a hand is done, or had nothing to find when its looks were noted.
+fn found_nothing(noted: u64, looks: u64) -> bool {
+    looks == DONE || looks.saturating_sub(noted) >= LOOKS_SINCE
+}
+
+impl Watch {
+    /// So many hands, all of them at work.
+    pub(crate) fn new(hands: usize) -> Watch {
+        Watch {
+            at_work: AtomicUsize::new(hands),
+            returns: AtomicU64::new(0),
+            looks: array::from_fn(|place| first_looks(place, hands)),
+            stuck: AtomicBool::new(false),
         }
     }
 
-    /// One fewer.
+    /// A hand begins to wait.
     pub(crate) fn leave(&self) {
-        self.hands.fetch_sub(1, Ordering::SeqCst);
+        self.at_work.fetch_sub(1, Ordering::SeqCst);
     }
 
-    /// One more.
+    /// A hand waits no longer. It is at work before its return is counted: so no note has the new count and misses it.
     pub(crate) fn come_back(&self) {
-        self.hands.fetch_add(1, Ordering::SeqCst);
+        self.at_work.fetch_add(1, Ordering::SeqCst);
+        self.returns.fetch_add(1, Ordering::SeqCst);
     }
 
-    /// Whether there is none.
-    pub(crate) fn is_nobody(&self) -> bool {
-        self.hands.load(Ordering::SeqCst) == 0
+    /// The hand at a place is done.
+    pub(crate) fn end(&self, place: usize) {
+        if let Some(looks) = self.looks.get(place) {
+            looks.store(DONE, Ordering::SeqCst);
+        }
+        self.leave();
+    }
+
+    /// Counts a look in vain of the hand at a place. It answers whether all wait in vain: whether none was at work
+    /// since the hand's note, and each other one found nothing since. Where one was at work, the hand notes anew.
+    pub(crate) fn is_in_vain(&self, place: usize, note: &mut Option<Note>) -> bool {
+        self.count_look(place);
+        if self.stuck.load(Ordering::SeqCst) {
+            return true;
+        }
+        let Some(noted) = *note else {
+            *note = self.note();
+            return false;
+        };
+        // The looks come first: who came back before them, and looks in vain again, is seen by its return.
+        let found_nothing = self.others_found_nothing(place, &noted);
+        if !self.is_quiet_since(&noted) {
+            *note = self.note();
+            return false;
+        }
+        if found_nothing {
+            self.stuck.store(true, Ordering::SeqCst);
+        }
+        found_nothing
+    }
+
+    // One look more of the hand at a place.
+    fn count_look(&self, place: usize) {
+        if let Some(looks) = self.looks.get(place) {
+            looks.fetch_add(1, Ordering::SeqCst);
+        }
+    }
+
+    // The looks of the hand at a place.
+    fn looks_of(&self, place: usize) -> u64 {
+        match self.looks.get(place) {
+            Some(looks) => looks.load(Ordering::SeqCst),
+            None => DONE,
+        }
+    }
+
+    // Whether no hand is at work.
+    fn is_nobody_at_work(&self) -> bool {
+        self.at_work.load(Ordering::SeqCst) == 0
+    }
+
+    // A note, unless a hand is at work.
+    fn note(&self) -> Option<Note> {
+        let returns = self.returns.load(Ordering::SeqCst);
+        if !self.is_nobody_at_work() {
+            return None;
+        }
+        Some(Note {
+            returns,
+            looks: array::from_fn(|place| self.looks_of(place)),
+        })
+    }
+
+    // Whether no hand was at work since a note.
+    fn is_quiet_since(&self, note: &Note) -> bool {
+        self.is_nobody_at_work() && self.returns.load(Ordering::SeqCst) == note.returns
+    }
+
+    // Whether each hand but that at a place is done, or had nothing to find at a note.
+    fn others_found_nothing(&self, place: usize, note: &Note) -> bool {
+        for other in 0..HANDS {
+            if other != place && !found_nothing(note.looks[other], self.looks_of(other)) {
+                return false;
+            }
+        }
+        true
     }
 }
