@@ -194,3 +194,13 @@ follow_more xs ys zs a b c first second = record {
         },
       );
 }
+
+-- ---- written in place
+
+-- the same lists of engines and mark
+pub fed_as : (old old' new new' : List (Option EngineState)) (k : ℕ) (bytes : List ℕ) (b b' : Bool) →
+    old ≡ old' → b ≡ b' → new ≡ new' → WasFedAt old k bytes b new → WasFedAt old' k bytes b' new'
+fed_as old old' new new' k bytes b b' is_old is_b is_new fed =
+    subst (λ (l : List (Option EngineState)). WasFedAt l k bytes b' new') is_old
+    (subst (λ (c : Bool). WasFedAt old k bytes c new') is_b
+    (subst (λ (l : List (Option EngineState)). WasFedAt old k bytes b l) is_new fed))

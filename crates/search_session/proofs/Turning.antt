@@ -177,13 +177,11 @@ module _ (hdu : Hdu) (x y : ShardActor) (reader reader' : HduReader) (was : x.pa
 
 -- ---- a block that was read and is cleared
 
--- the reader before it was read
-pub within_was : (x : ShardActor) (reader reader' : HduReader) (m : ℕ) → x.pass ≡ Here reader →
-    HasTried (reader_knows reader.blocks) (reader_knows reader'.blocks) → length (blocks_cleared reader') < m →
-    length (shard_cleared x) < m
-within_was x reader reader' m was tried within =
-    subst (λ (l : List Entry). length l < m)
-    (tried.cleared ∙ sym (ap (λ (p : HduEnded). (ended_knows (data_end p)).cleared) was)) within
+-- the reader of a shard that takes one block more
+pub within_was : (x : ShardActor) (reader : HduReader) (m : ℕ) → x.pass ≡ Here reader →
+    length (blocks_cleared reader) < m → length (shard_cleared x) < m
+within_was x reader m was within =
+    subst (λ (l : List Entry). length l < m) (sym (ap (λ (p : HduEnded). (ended_knows (data_end p)).cleared) was)) within
 
 one_cleared : (r r' : ReaderView) (e : Entry) → r' ≡ after_clear r → r.got ≡ Some e → r'.cleared ≡ r.cleared ++ e ∷ []
 one_cleared r r' e is got = ap (λ (v : ReaderView). v.cleared) is
@@ -236,21 +234,24 @@ has_cleared old mid new e n tried header got cleared still =
       );
     }
 
--- the same lists of engines, bytes and mark
-pub fed_as : (old old' new new' : List (Option EngineState)) (k : ℕ) (bytes bytes' : List ℕ) (b b' : Bool) →
-    old ≡ old' → bytes ≡ bytes' → b ≡ b' → new ≡ new' → WasFedAt old k bytes b new → WasFedAt old' k bytes' b' new'
-fed_as old old' new new' k bytes bytes' b b' is_old is_bytes is_b is_new fed =
-    subst (λ (l : List (Option EngineState)). WasFedAt l k bytes' b' new') is_old
-    (subst (λ (l : List ℕ). WasFedAt old k l b' new') is_bytes
-    (subst (λ (c : Bool). WasFedAt old k bytes c new') is_b
-    (subst (λ (l : List (Option EngineState)). WasFedAt old k bytes b l) is_new fed)))
-
 pub ended_as : (r : Bool) (a a' d : ℕ) (m m' : Mark) → r ≡ (nat_le a d || is_cut m) → a ≡ a' → m ≡ m' →
     r ≡ (nat_le a' d || is_cut m')
 ended_as r a a' d m m' is count mark = is ∙ (ap (λ (n : ℕ). nat_le n d || is_cut m) count
     ∙ ap (λ (k : Mark). nat_le a' d || is_cut k) mark)
 
 -- ---- the engine that is fed
+
+-- the transfer that goes on is one of those searched
+pub done_below : (hdu : Hdu) (x : ShardActor) → ShardOn hdu x → x.ended ≡ false →
+    x.done < length x.part.engines.items
+done_below hdu x on running =
+    let less = few_ended (length x.part.engines.items) (shard_cleared x) (sym on.over ∙ running) in
+    let done = on.done in
+    omega arith
+
+pub one_most : (b : Bool) → (if b then 1 else 0) ≤ 1
+one_most true = omega arith
+one_most false = omega arith
 
 most_more : (n m z a b c : ℕ) → a ≤ n * z → b ≤ z → n < m → m * z ≤ c → a + b ≤ c
 most_more n m z a b c fed fits within few =

@@ -1,8 +1,11 @@
 -- What the engines of a shard were fed.
 -- Source: this project's choice.
-use Rattle.std.specs.Prelude.{◌≡◌, ◌≢◌, ℕ, ◌+◌, Bool, true, false, List, ◌++◌, length, slice_get, Option, Some}
+use Rattle.std.specs.Prelude.{◌≡◌, ◌≢◌, ℕ, ◌+◌, ◌≤◌, Bool, true, false, List, ◌++◌, length, slice_get, Option, Some}
 use Rattle.dada_model.specs.Observation.{Observation}
-use Rattle.search_engine.specs.Engine.{EngineState, StandsForData, HasSearched, SameShard}
+use Rattle.ring_blocks.specs.declared.Entry.{Entry}
+use Rattle.stream_model.specs.Blocks.{is_end}
+use Rattle.search_engine.specs.Engine.{EngineState, StandsForData, HasSearched, SameShard, most_fed}
+use Rattle.search_session.specs.declared.lane.Lane.{Lane}
 
 -- the engine of a transfer
 abbrev pub HasEngine : List (Option EngineState) → ℕ → EngineState → Type 0
@@ -31,3 +34,15 @@ pub record WasFedAt (old : List (Option EngineState)) (transfer : ℕ) (bytes : 
   pub others : (k : ℕ) → k ≢ transfer → slice_get new k ≡ slice_get old k
   pub this : (e : EngineState) → HasEngine old transfer e →
       (f : EngineState) × HasEngine new transfer f × WasFed e bytes is_last f
+
+-- ---- a block
+
+-- the engine of a transfer has not ended, and has room for a block
+abbrev pub CanFeed : Lane → ℕ → Entry → Type 0
+CanFeed lane transfer block = (e : EngineState) × HasEngine lane.engines.items transfer e
+    × (e.has_ended ≡ false) × (e.fed + length block.bytes ≤ most_fed)
+
+-- it was fed the block
+abbrev pub WasFedBlock : Lane → ℕ → Entry → Lane → Type 0
+WasFedBlock old transfer block new =
+    WasFedAt old.engines.items transfer block.bytes (is_end block.mark) new.engines.items

@@ -1,6 +1,6 @@
 -- What a shard has read, and what its turns did.
 -- Source: this project's choice.
-use Rattle.std.specs.Prelude.{◌≡◌, ℕ, ◌+◌, ◌*◌, ◌<◌, ◌≤◌, ◌^◌, min, ⊤, true, false, nat_lt, List, length, take, vec_len, Option, Some}
+use Rattle.std.specs.Prelude.{◌≡◌, ℕ, ◌+◌, ◌*◌, ◌<◌, ◌≤◌, ◌^◌, min, ⊤, true, false, nat_lt, List, length, vec_len, Option, Some}
 use Rattle.dada_model.specs.Observation.{Observation}
 use Rattle.ring_core.specs.Machine.{greatest}
 use Rattle.ring_blocks.specs.declared.Entry.{Entry}
@@ -15,8 +15,9 @@ use Rattle.dada_hdu.specs.declared.ended.HduEnded.TheVariants.{Here, Away, Retir
 use Rattle.dada_hdu.specs.Passes.{data_shape, data_end, number_of, tries_of, EndedFromBoth}
 use Rattle.stream_model.specs.Blocks.{ended_transfers, is_over, transfer_bytes}
 use Rattle.search_engine.specs.Engine.{EngineState, SameShard, most_fed}
+use Rattle.search_session.specs.declared.lane.Lane.{Lane}
 use Rattle.search_session.specs.declared.shard.ShardActor.{ShardActor}
-use Rattle.search_session.specs.Lanes.{HasEngine, Stands}
+use Rattle.search_session.specs.Lanes.{HasEngine, Stands, WasFedBlock}
 use Rattle.search_session.specs.Reads.{ReadsNext, Reads}
 
 -- ---- engines and the blocks that were cleared
@@ -66,18 +67,14 @@ pub record HasTried (old new : ReaderView) : Type 0 where
   pub tries : new.tries ≡ old.tries + 1
   pub cleared : new.cleared ≡ old.cleared
 
--- a block of data was read to the front of the space
-pub record HasBlock (size max_blocks : ℕ) (reader : HduReader) (space : List ℕ) (taken : Taken)
-    (block : Entry) :
-    Type 0 where
+-- the reader got a block of data, which was fed to the engine of a transfer
+pub record HasFed (size : ℕ) (reader : HduReader) (lane : Lane) (transfer : ℕ) (taken : Taken)
+    (block : Entry) (lane' : Lane) : Type 0 where
   pub got : (reader_knows reader.blocks).got ≡ Some block
   pub read : is_read reader.blocks ≡ true
   pub mark : taken.mark ≡ block.mark
-  pub used : taken.used ≡ length block.bytes
-  pub fits : taken.used ≤ size
-  pub room : taken.used ≤ length space
-  pub bytes : take taken.used space ≡ block.bytes
-  pub within : length (blocks_cleared reader) < max_blocks
+  pub fits : length block.bytes ≤ size
+  pub fed : WasFedBlock lane transfer block lane'
 
 -- ---- a shard
 

@@ -1,11 +1,13 @@
 //! Reads of the two rings.
-ghost use Rattle.std.specs.Prelude.{◌≡◌, ◌≤◌, length, None, IfSome};
+ghost use Rattle.std.specs.Prelude.{◌≡◌, ◌<◌, ◌≤◌, length, None, IfSome};
 ghost use Rattle.ring_ends.specs.Passes.{reader_knows};
 ghost use Rattle.dada_hdu.specs.Passes.{data_shape, ReadsBoth, EndedFromBoth};
+ghost use Rattle.search_session.specs.Lanes.{CanFeed};
 ghost use Rattle.search_session.specs.Reads.{TriesNext, HasRested};
-ghost use Rattle.search_session.specs.Shards.{HasTried, HasBlock, IsHereOrRetired, IsRetired};
+ghost use Rattle.search_session.specs.Shards.{blocks_cleared, HasTried, HasFed, IsHereOrRetired, IsRetired};
 ghost use Rattle.ring_blocks.specs.declared.Entry.{Entry};
 
+use crate::lane::Lane;
 use dada_hdu::{Hdu, HduEnded, HduReader, Taken};
 use std::thread;
 
@@ -26,21 +28,27 @@ pub(crate) fn pass_header(hdu: &Hdu, reader: &mut HduReader, space: &mut [u8])
     }
 }
 
-// Reads the next block of data to the front of the space. Where there is none it lets other threads run.
-pub(crate) fn read_block(hdu: &Hdu, reader: &mut HduReader, space: &mut [u8]) -> Option<Taken>
+// Feeds the next block of data to the engine of a transfer. Where there is none it lets other threads run.
+pub(crate) fn feed_block(
+    hdu: &Hdu,
+    reader: &mut HduReader,
+    lane: &mut Lane,
+    transfer: usize,
+) -> Option<Taken>
     requires reads { ReadsBoth hdu.now reader.old }
-    requires room { (data_shape hdu.now).size ≤ length space.old }
+    requires ready { (block : Entry)
+        → length (blocks_cleared reader.old) < (data_shape hdu.now).max_blocks
+        → length block.bytes ≤ (data_shape hdu.now).size → CanFeed lane.old transfer block }
     ensures reads { ReadsBoth hdu.now reader.new }
     ensures tried { HasTried (reader_knows reader.old.blocks) (reader_knows reader.new.blocks) }
     ensures header { reader.new.header ≡ reader.old.header }
-    ensures room { length space.new ≡ length space.old }
     ensures none { result ≡ None
         → (reader_knows reader.new.blocks).got ≡ (reader_knows reader.old.blocks).got }
+    ensures idle { result ≡ None → lane.new ≡ lane.old }
     ensures block { IfSome result (λ taken. (block : Entry)
-        × HasBlock (data_shape hdu.now).size (data_shape hdu.now).max_blocks reader.new
-        space.new taken block) }
+        × HasFed (data_shape hdu.now).size reader.new lane.old transfer taken block lane.new) }
 {
-    match hdu.read(reader, space) {
+    match hdu.read_to(reader, lane, transfer) {
         Ok(taken) => Some(taken),
         Err(_stop) => {
             thread::yield_now();

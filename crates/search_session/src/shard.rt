@@ -2,14 +2,14 @@
 ghost use Rattle.std.specs.Prelude.{◌≡◌, false, true, if◌then◌else◌, nat_le, ◌||◌};
 ghost use Rattle.stream_model.specs.Blocks.{is_end, is_cut};
 
-use crate::lane::{Lane, feed_engine};
-use crate::reading::{has_next, pass_header, read_block, retire};
+use crate::lane::Lane;
+use crate::reading::{feed_block, has_next, pass_header, retire};
 use dada_hdu::{Hdu, HduEnded, Mark};
 // Laws: they do nothing when they run, and the proofs use what they ensure.
 use stream_model::{ends_are_counted, entries_are_of_transfers};
 
-/// The shard of a search: one engine for each transfer, a reader of both rings, and the space that it reads to. `done`
-/// counts the engines that ended.
+/// The shard of a search: one engine for each transfer, a reader of both rings, and the space that it reads headers to.
+/// `done` counts the engines that ended.
 #[derive(Drop)]
 pub struct ShardActor {
     pub part: Lane,
@@ -18,16 +18,6 @@ pub struct ShardActor {
     pub turns: u64,
     pub done: u32,
     pub ended: bool,
-}
-
-// Whether a transfer ends with this mark.
-fn ends_transfer(mark: Mark) -> bool
-    ensures { result ≡ is_end mark }
-{
-    match mark {
-        Mark::End => true,
-        Mark::More | Mark::Cut => false,
-    }
 }
 
 // How many transfers end with this mark.
@@ -54,8 +44,8 @@ impl ShardActor {
     ghost use Rattle.search_session.specs.Reads.{header_is_next};
     ghost use Rattle.search_session.specs.Shards.{shard_cleared, IsRetired, KeepsEngines, ShardOn, ShardMoved, ShardStepped};
 
-    /// Takes one turn. Before the data of each transfer it reads a header and clears it; else it reads a block of data,
-    /// feeds it to the engine of its transfer, which ends after the last block, and clears it. A read that finds
+    /// Takes one turn. Before the data of each transfer it reads a header and clears it; else it feeds a block of data,
+    /// where it lies, to the engine of its transfer, which ends after the last block, and clears it. A read that finds
     /// nothing lets other threads run.
     #[tactic(auto, using(crate::proofs::Moves::shard_turned))]
     pub fn turn(&mut self, hdu: &Hdu)
@@ -98,23 +88,16 @@ impl ShardActor {
     {
         ends_are_counted();
         entries_are_of_transfers();
+        let transfers = self.part.engines.len();
         let HduEnded::Here(reader) = &mut self.pass else {
             unreachable!()
         };
-        let Some(taken) = read_block(hdu, reader, self.space.as_mut_slice()) else {
-            return
+        let Some(taken) = feed_block(hdu, reader, &mut self.part, self.done as usize) else {
+            return;
         };
-        let is_last = ends_transfer(taken.mark);
-        let bytes = &self.space.as_slice()[..taken.used as usize];
-        feed_engine(
-            self.part.engines.as_mut_slice(),
-            self.done as usize,
-            bytes,
-            is_last,
-        );
         hdu.clear(reader);
         self.done += ended_with(taken.mark);
-        self.ended = ends_stream(taken.mark, self.done as usize, self.part.engines.len());
+        self.ended = ends_stream(taken.mark, self.done as usize, transfers);
     }
 
     // Whether a turn would read a block at this moment.
