@@ -12,7 +12,7 @@ use Rattle.disk_feeder.specs.Feeding.{header_entries}
 use Rattle.dada_recorder.specs.declared.recorder.Recorder.{Recorder}
 use Rattle.search_session.specs.declared.lane.Lane.{Lane}
 use Rattle.search_session.specs.Books.{HasLane}
-use Rattle.search_session.specs.Stages.{IsUnfed, HasRoomFor, IsEmptyHand, IsFreshRecorder, recorder_count}
+use Rattle.search_session.specs.Stages.{IsUnfed, IsEmptyHand, IsFreshRecorder, recorder_count}
 use Rattle.search_opening.specs.declared.space.StageSpace.{StageSpace}
 use Rattle.search_opening.specs.Rings.{AreOpened}
 
@@ -30,8 +30,7 @@ pub record IsSpaceOf {I F : Type 0} (lanes : ArrayVec (Option Lane)) (shape : Ri
   pub rings : AreOpened shape header space.hdu space.writer space.readers.items
   pub lanes_are : space.lanes ≡ lanes
   pub spaces_count : length space.spaces.items ≡ length lanes.items
-  pub spaces : All
-      (λ slot. IsSomeAnd slot (λ bytes. HasRoomFor space.hdu (vec_len bytes))) space.spaces.items
+  pub spaces : All (λ slot. IsSomeAnd slot (λ bytes. 65537 ≤ vec_len bytes)) space.spaces.items
   pub some_hand : 0 < hands_in space
   pub empty : All IsEmptyHand space.hands.items
 

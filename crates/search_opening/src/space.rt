@@ -1,11 +1,11 @@
 // The space of a stage, and the stage that is made of it.
 ghost use Rattle.std.specs.Prelude.{◌≡◌, ◌≤◌, ◌<◌, All, IfOk, IsSomeAnd, length, vec_len};
 ghost use Rattle.ring_words.specs.Shape.{IsRing};
-ghost use Rattle.search_session.specs.Stages.{HasRoomFor, StageOn, IsEmptyHand};
+ghost use Rattle.search_session.specs.Stages.{StageOn, IsEmptyHand};
 
 use crate::rings::open_rings;
 use arrayvec::ArrayVec;
-use dada_hdu::{Hdu, HduReader, HduWriter};
+use dada_hdu::{HEADER_SPACE, Hdu, HduReader, HduWriter};
 use dada_header::Header;
 use dada_recorder::Recorder;
 use disk_feeder::Feeder;
@@ -14,30 +14,23 @@ use ring_words::RingShape;
 use search_session::{Hand, Lane, Stage};
 use std::alloc::Global;
 
-/// The least space of a shard, in bytes: one byte more than the longest header.
-const LEAST_SPACE: usize = 65537;
-
-// Space for a block of either ring.
-fn open_space(alloc: Global, hdu: &Hdu) -> Result<Vec<u8>, Memory>
-    ensures { IfOk result (λ space. HasRoomFor hdu.now (vec_len space)) }
+// Space for a block of the header ring.
+fn open_space(alloc: Global) -> Result<Vec<u8>, Memory>
+    ensures { IfOk result (λ space. 65537 ≤ vec_len space) }
 {
-    Ok(vec![in alloc; 0u8; LEAST_SPACE.max(hdu.shape().size as usize)]?)
+    Ok(vec![in alloc; 0u8; HEADER_SPACE as usize]?)
 }
 
 // So many such spaces.
-fn open_spaces(
-    alloc: Global,
-    hdu: &Hdu,
-    count: usize,
-) -> Result<ArrayVec<Option<Vec<u8>>, 7>, Memory>
+fn open_spaces(alloc: Global, count: usize) -> Result<ArrayVec<Option<Vec<u8>>, 7>, Memory>
     requires { count ≤ 7 }
     ensures count { IfOk result (λ spaces. length spaces.items ≡ count) }
     ensures room { IfOk result (λ spaces.
-        All (λ slot. IsSomeAnd slot (λ space. HasRoomFor hdu.now (vec_len space))) spaces.items) }
+        All (λ slot. IsSomeAnd slot (λ space. 65537 ≤ vec_len space)) spaces.items) }
 {
     let mut spaces = ArrayVec::new();
     for _space in 0..count {
-        spaces.push(Some(open_space(alloc, hdu)?));
+        spaces.push(Some(open_space(alloc)?));
     }
     Ok(spaces)
 }
@@ -87,7 +80,7 @@ impl<'a, I: Inputs, F: Files> StageSpace<'a, I, F> {
         ensures hands { IfOk result (λ space. hands_in space ≡ hands) }
     {
         let (hdu, writer, readers) = open_rings(alloc, shape, header)?;
-        let spaces = open_spaces(alloc, &hdu, lanes.len())?;
+        let spaces = open_spaces(alloc, lanes.len())?;
         let hands = open_hands(alloc, hands)?;
         Ok(StageSpace {
             hdu,

@@ -87,14 +87,12 @@ module _ (hdu : Hdu) (x y : ShardActor) (reader reader' : HduReader) (was : x.pa
       ShardOn hdu y
   on_still reads same part space turns done ended on =
       let header_room = on.header_room in
-      let block_room = on.block_room in
       let count = on.count in
       record {
         reads = subst (λ (p : HduEnded). EndedFromBoth hdu p) (sym now) reads;
         here = λ running. (reader', now);
         stays = subst (λ (p : HduEnded). IsHereOrRetired p) (sym now) tt;
         header_room = omega arith;
-        block_room = omega arith;
         few = on.few;
         done = done ∙ (on.done ∙ ap ended_transfers (sym (cleared_same same)));
         over = ended ∙ (on.over
@@ -137,7 +135,6 @@ module _ (hdu : Hdu) (x y : ShardActor) (reader reader' : HduReader) (was : x.pa
           y.ended ≡ (nat_le (length y.part.engines.items) y.done || is_cut e.mark) → ShardOn hdu y
       on_fed reads space turns running done ended =
           let header_room = on.header_room in
-          let block_room = on.block_room in
           let count = on.count in
           let off : is_over (length y.part.engines.items) (shard_cleared x) ≡ false =
           ap (λ (n : ℕ). is_over n (shard_cleared x)) fed.count ∙ (sym on.over ∙ running) in
@@ -149,7 +146,6 @@ module _ (hdu : Hdu) (x y : ShardActor) (reader reader' : HduReader) (was : x.pa
             here = λ running. (reader', now);
             stays = subst (λ (p : HduEnded). IsHereOrRetired p) (sym now) tt;
             header_room = omega arith;
-            block_room = omega arith;
             few = on.few;
             done = done_is ∙ ap ended_transfers (sym cleared_more);
             over = ended ∙ (sym (over_more counted (length y.part.engines.items) y.done (shard_cleared x) e off done_is)
@@ -336,14 +332,12 @@ module _ (hdu : Hdu) (x y : ShardActor) (same : HasRested x.pass y.pass) (part :
       y.ended ≡ x.ended → x.ended ≡ true → ShardOn hdu x → ShardOn hdu y
   on_retired reads retired space done ended over on =
       let header_room = on.header_room in
-      let block_room = on.block_room in
       let count = on.count in
       record {
         reads = reads;
         here = λ running. absurd (apart y.ended (ended ∙ over) running);
         stays = retired_stays y.pass retired;
         header_room = omega arith;
-        block_room = omega arith;
         few = on.few;
         done = done ∙ (on.done ∙ ap ended_transfers (sym cleared_still));
         over = ended ∙ (on.over

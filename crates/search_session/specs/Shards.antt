@@ -107,7 +107,6 @@ pub record ShardOn (hdu : Hdu) (x : ShardActor) : Type 0 where
   pub here : x.ended ≡ false → IsHere x.pass
   pub stays : IsHereOrRetired x.pass
   pub header_room : 65537 ≤ vec_len x.space
-  pub block_room : (data_shape hdu).size ≤ vec_len x.space
   pub few : (data_shape hdu).max_blocks * (data_shape hdu).size ≤ most_fed
   pub done : x.done ≡ ended_transfers (shard_cleared x)
   pub over : x.ended ≡ is_over (length x.part.engines.items) (shard_cleared x)

@@ -45,11 +45,6 @@ pub record IsUnfed (transfers : ℕ) (lane : Lane) : Type 0 where
   pub each : (k : ℕ) → k < transfers →
       (e : EngineState) × HasEngine lane.engines.items k e × (e.fed ≡ 0) × (e.has_ended ≡ false)
 
--- a space of so many bytes serves both rings
-pub record HasRoomFor (hdu : Hdu) (bytes : ℕ) : Type 0 where
-  pub header : 65537 ≤ bytes
-  pub block : (data_shape hdu).size ≤ bytes
-
 -- a recorder of blocks of these rings, which has recorded nothing
 pub record IsFreshRecorder {F : Type 0} (files_open : F → Type 0) (hdu : Hdu) (r : Recorder F) :
     Type 0 where
@@ -93,8 +88,7 @@ pub record StageOn {I F : Type 0} (told : I → Told) (is_open : I → Type 0) (
       (lane : Lane) × (slice_get stage.lanes.items s ≡ Some (Some lane)) × IsUnfed
       (transfers_of stage) lane
   pub spaces_count : length stage.spaces.items ≡ length stage.lanes.items
-  pub spaces : All
-      (λ slot. IsSomeAnd slot (λ space. HasRoomFor stage.hdu (vec_len space))) stage.spaces.items
+  pub spaces : All (λ slot. IsSomeAnd slot (λ space. 65537 ≤ vec_len space)) stage.spaces.items
   pub recorder : IfSome stage.recorder (IsFreshRecorder files_open stage.hdu)
   pub few : (data_shape stage.hdu).max_blocks * (data_shape stage.hdu).size ≤ most_fed
   pub some_hand : 0 < length stage.hands.items

@@ -5,7 +5,7 @@ ghost use Rattle.search_engine.specs.Engine.{most_fed};
 ghost use Rattle.search_session.specs.Shards.{ShardOn};
 ghost use Rattle.search_session.specs.Hands.{HandOn};
 ghost use Rattle.search_session.specs.Records.{RecordOn};
-ghost use Rattle.search_session.specs.Stages.{IsUnread, IsUnfed, HasRoomFor, IsEmptyHand, IsFreshRecorder, IsShardOf, IsRecorderOf, IsFirstReader, TakesShard, TakesFeeder, TakesRecorder, PartsOn, AreStaffed, StageOn, HasFeeder, HasShard, RecorderPlaced, RecorderWorks, AreOfLanes, feeder_of};
+ghost use Rattle.search_session.specs.Stages.{IsUnread, IsUnfed, IsEmptyHand, IsFreshRecorder, IsShardOf, IsRecorderOf, IsFirstReader, TakesShard, TakesFeeder, TakesRecorder, PartsOn, AreStaffed, StageOn, HasFeeder, HasShard, RecorderPlaced, RecorderWorks, AreOfLanes, feeder_of};
 
 use crate::feed::FeedActor;
 use crate::hand::Hand;
@@ -24,7 +24,7 @@ fn shard_of(hdu: &Hdu, lane: Lane, reader: HduReader, space: Vec<u8>, number: u3
     requires few { (data_shape hdu.now).max_blocks * (data_shape hdu.now).size ≤ most_fed }
     requires reader { IsUnread hdu.now number reader }
     requires lane { (transfers : _) × (0 < transfers) × IsUnfed transfers lane }
-    requires space { HasRoomFor hdu.now (vec_len space) }
+    requires space { 65537 ≤ vec_len space }
     ensures on { ShardOn hdu.now result }
     ensures new { IsShardOf lane number result }
 {
@@ -117,8 +117,7 @@ fn place_shards<I: Inputs, F: Files>(
     requires parts { (transfers : _) × PartsOn hdu.now transfers lanes.items readers.old.items }
     requires count { length lanes.items ≤ length readers.old.items }
     requires spaces_count { length spaces.items ≡ length lanes.items }
-    requires spaces { All (λ slot. IsSomeAnd slot (λ space. HasRoomFor hdu.now (vec_len space)))
-        spaces.items }
+    requires spaces { All (λ slot. IsSomeAnd slot (λ space. 65537 ≤ vec_len space)) spaces.items }
     requires some { 0 < length hands.old }
     requires empty { All IsEmptyHand hands.old }
     ensures staffed { AreStaffed I.told I.is_open F.is_open hdu.now lanes.items
