@@ -1,9 +1,11 @@
 // Books and observations that are made for tests and measurements.
+use arrayvec::ArrayVec;
 use candidate_book::{Book, Candidate};
 use dada_header::Header;
 use obs_plan::Observation;
 use psr_base::Memory;
 use std::alloc::Global;
+use transfer_text::MOST_SHARDS;
 
 const HEADER: &str = "HDR_SIZE 4096
 NCHAN 2
@@ -55,4 +57,54 @@ pub fn seven_books(alloc: Global, count: u32) -> Result<Vec<Option<Book>>, Memor
         books.push(Some(book_of(alloc, count, list.as_slice())?))?;
     }
     Ok(books)
+}
+
+fn pulse(end: u64, delay: u32, width: u32, sum: u32) -> Candidate {
+    Candidate::Pulse {
+        end,
+        delay,
+        width,
+        sum,
+    }
+}
+
+fn fold(delay: u32, period: u32, trial: u32, phase: u32, sum: u32) -> Candidate {
+    Candidate::Fold {
+        delay,
+        period,
+        halvings: 1,
+        trial,
+        phase,
+        sum,
+    }
+}
+
+/// Candidates of even delays.
+pub fn even() -> [Candidate; 4] {
+    [
+        pulse(4, 2, 1, 50),
+        pulse(9, 0, 2, 90),
+        pulse(9, 2, 1, 41),
+        fold(0, 7, 1, 6, 120),
+    ]
+}
+
+// Candidates of odd delays.
+fn odd() -> [Candidate; 4] {
+    [
+        pulse(4, 1, 1, 40),
+        pulse(9, 1, 2, 81),
+        pulse(9, 1, 4, 160),
+        fold(1, 2, 0, 0, 99),
+    ]
+}
+
+/// The books of two transfers: of even and odd delays, and of nothing.
+pub fn two_transfers(alloc: Global) -> Result<[ArrayVec<Option<Book>, MOST_SHARDS>; 2], Memory> {
+    let mut first = ArrayVec::new();
+    first.push(Some(book_of(alloc, 4, &even())?));
+    first.push(Some(book_of(alloc, 4, &odd())?));
+    let mut second = ArrayVec::new();
+    second.push(Some(book_of(alloc, 4, &[])?));
+    Ok([first, second])
 }
