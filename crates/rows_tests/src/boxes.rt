@@ -6,22 +6,24 @@ ghost use Rattle.box_sums.specs.Rows.{IsWidth};
 use crate::values::values;
 use box_sums::Boxes;
 use psr_base::Memory;
-use std::process::Abort;
-use std::test::Fail;
+use std::alloc::Global;
 
 #[test]
 fn last_values_are_added(rt: HostRuntime) -> Result<(), Memory> {
     let mut boxes = Boxes::open(rt.alloc(), 1, 1, 3, 2, 100)?;
     boxes.feed_row(1, &[0, 30, 20]);
     boxes.keep_newest();
-    assert_eq!(rt; boxes.sum(1, 2, 2), 50);
-    assert_eq!(rt; boxes.sum(1, 0, 2), 0);
-    assert_eq!(rt; boxes.bound_of_newest(2), 50);
+    let first = [
+        boxes.sum(1, 2, 2),
+        boxes.sum(1, 0, 2),
+        boxes.bound_of_newest(2),
+    ];
     boxes.feed_row(1, &[7]);
-    assert_eq!(rt; boxes.sum(1, 2, 2), 50);
+    let fed = boxes.sum(1, 2, 2);
     boxes.keep_newest();
-    assert_eq!(rt; boxes.sum(1, 0, 2), 27);
-    assert_eq!(rt; boxes.sum(1, 0, 1), 7);
+    let second = [fed, boxes.sum(1, 0, 2), boxes.sum(1, 0, 1)];
+    let are = first.as_slice() == [50_u32, 0, 50].as_slice();
+    assert!(rt; are && second.as_slice() == [50_u32, 27, 7].as_slice());
     Ok(())
 }
 
@@ -31,8 +33,7 @@ fn single_values_are_kept(rt: HostRuntime) -> Result<(), Memory> {
     boxes.feed_row(5, &[3, 100]);
     boxes.keep_newest();
     boxes.feed_row(4, &[9]);
-    assert_eq!(rt; boxes.sum(5, 0, 1), 3);
-    assert_eq!(rt; boxes.sum(5, 1, 1), 100);
+    assert!(rt; boxes.sum(5, 0, 1) == 3 && boxes.sum(5, 1, 1) == 100);
     Ok(())
 }
 
@@ -47,8 +48,8 @@ fn sum_of_last(values: &[u32], w: usize) -> u32 {
     sum
 }
 
-// The boxes of a width, of which the last feed of row `d`, which was kept, has `count`.
-fn check_width(rt: &impl Abort, boxes: &Boxes, d: u32, w: u32, all: &[u32], count: usize)
+// Whether the boxes of a width are right, of which the last feed of row `d`, which was kept, has `count`.
+fn are_right(boxes: &Boxes, d: u32, w: u32, all: &[u32], count: usize) -> bool
     requires row { KeepsRow boxes.now d }
     requires few { count ≤ 16 }
     requires chunk { boxes.now.chunk ≡ 16 }
@@ -59,34 +60,52 @@ fn check_width(rt: &impl Abort, boxes: &Boxes, d: u32, w: u32, all: &[u32], coun
 {
     for k in 0..count {
         let wanted = sum_of_last(&all[..all.len() - count + k + 1], w as usize);
-        assert_eq!(rt;
-            boxes.sum(d, k as u32, w),
-            wanted,
-            "width {w} at {k} of {count}"
-        );
-        if w > 1 {
-            assert!(rt;
-                wanted <= boxes.bound_of_newest(w),
-                "width {w} at {k} of {count}"
-            );
+        if boxes.sum(d, k as u32, w) != wanted {
+            return false;
+        }
+        if w > 1 && wanted > boxes.bound_of_newest(w) {
+            return false;
         }
     }
+    true
 }
 
-#[test]
-fn rows_are_fed_in_pieces(rt: HostRuntime) -> Result<(), Fail> {
-    let mut boxes = Boxes::open(rt.alloc(), 3, 5, 16, 32, 1000)?;
-    let mut all = Vec::new(rt.alloc());
+// Whether the boxes of each width are.
+fn are_all_right(boxes: &Boxes, d: u32, all: &[u32], count: usize) -> bool
+    requires row { KeepsRow boxes.now d }
+    requires few { count ≤ 16 }
+    requires chunk { boxes.now.chunk ≡ 16 }
+    requires given { count ≤ length all.now }
+    requires widest { boxes.now.widest ≡ 32 }
+{
+    are_right(boxes, d, 1, all, count)
+        && are_right(boxes, d, 2, all, count)
+        && are_right(boxes, d, 4, all, count)
+        && are_right(boxes, d, 8, all, count)
+        && are_right(boxes, d, 16, all, count)
+        && are_right(boxes, d, 32, all, count)
+}
+
+// Whether the boxes of a row that is fed in pieces are right after each.
+fn are_fed(alloc: Global) -> Result<bool, Memory> {
+    let mut boxes = Boxes::open(alloc, 3, 5, 16, 32, 1000)?;
+    let mut all = Vec::new(alloc);
     for count in [5_usize, 16, 0, 1, 16, 3] {
-        let other = values(rt.alloc(), 9, 1000, 8)?;
+        let other = values(alloc, 9, 1000, 8)?;
         boxes.feed_row(4, other.as_slice());
-        let piece = values(rt.alloc(), count, 1000, count as u32)?;
+        let piece = values(alloc, count, 1000, count as u32)?;
         boxes.feed_row(5, piece.as_slice());
         boxes.keep_newest();
         all.extend_from_slice(piece.as_slice())?;
-        for w in [1_u32, 2, 4, 8, 16, 32] {
-            check_width(&rt, &boxes, 5, w, all.as_slice(), count);
+        if !are_all_right(&boxes, 5, all.as_slice(), count) {
+            return Ok(false);
         }
     }
+    Ok(true)
+}
+
+#[test]
+fn rows_are_fed_in_pieces(rt: HostRuntime) -> Result<(), Memory> {
+    assert!(rt; are_fed(rt.alloc())?);
     Ok(())
 }

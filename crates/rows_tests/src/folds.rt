@@ -8,47 +8,46 @@ use fast_fold::Folder;
 use fold_phase::{fold_sum, shift};
 use psr_base::Memory;
 use std::alloc::Global;
-use std::process::Abort;
-use std::test::Fail;
 
 #[test]
 fn rows_are_shifted_by_their_bits(rt: HostRuntime) {
-    for (trial, wanted) in [(1, [0, 0, 1, 1]), (3, [0, 1, 2, 3])] {
-        for row in 0..4 {
-            assert_eq!(rt;
-                shift(2, trial, row),
-                wanted[row as usize],
-                "row {row} of trial {trial}"
-            );
-        }
-    }
+    let first = [
+        shift(2, 1, 0),
+        shift(2, 1, 1),
+        shift(2, 1, 2),
+        shift(2, 1, 3),
+    ];
+    let third = [
+        shift(2, 3, 0),
+        shift(2, 3, 1),
+        shift(2, 3, 2),
+        shift(2, 3, 3),
+    ];
+    let are = first.as_slice() == [0, 0, 1, 1].as_slice();
+    assert!(rt; are && third.as_slice() == [0, 1, 2, 3].as_slice());
 }
 
 #[test]
 fn two_rows_are_folded(rt: HostRuntime) -> Result<(), Memory> {
     let series = [1_u32, 2, 3, 4];
-    for (trial, wanted) in [(0, [4, 6]), (1, [5, 5])] {
-        for phase in 0..2 {
-            assert_eq!(rt;
-                fold_sum(&series, 2, 1, trial, phase),
-                wanted[phase as usize],
-                "trial {trial}"
-            );
-        }
-    }
+    let first = [fold_sum(&series, 2, 1, 0, 0), fold_sum(&series, 2, 1, 0, 1)];
+    let second = [fold_sum(&series, 2, 1, 1, 0), fold_sum(&series, 2, 1, 1, 1)];
     let mut folder = Folder::open(rt.alloc(), 2, 1)?;
     folder.load(&series, 2, 1);
-    assert_eq!(rt; folder.profile(0, 0), [1_u32, 2].as_slice());
-    assert_eq!(rt; folder.profile(1, 0), [3_u32, 4].as_slice());
+    let are_loaded = folder.profile(0, 0) == [1_u32, 2].as_slice()
+        && folder.profile(1, 0) == [3_u32, 4].as_slice();
     folder.halve();
-    assert_eq!(rt; folder.level(), 1);
-    assert_eq!(rt; folder.profile(0, 0), [4_u32, 6].as_slice());
-    assert_eq!(rt; folder.profile(0, 1), [5_u32, 5].as_slice());
+    let are_halved = folder.level() == 1
+        && folder.profile(0, 0) == [4_u32, 6].as_slice()
+        && folder.profile(0, 1) == [5_u32, 5].as_slice();
+    assert!(rt; first.as_slice() == [4_u64, 6].as_slice());
+    assert!(rt; second.as_slice() == [5_u64, 5].as_slice());
+    assert!(rt; are_loaded && are_halved);
     Ok(())
 }
 
-// One profile against the sums of the definition; at level 0 against the row itself.
-fn check_profile(rt: &impl Abort, profile: &[u32], rows: &[u32], level: u32, trial: u32)
+// Whether a profile has the sums of the definition; at level 0 whether it is the row itself.
+fn is_profile(profile: &[u32], rows: &[u32], level: u32, trial: u32) -> bool
     requires short { length profile.now < 2 ^ 32 }
     requires some { 0 < length profile.now }
     requires few { level ≤ 6 }
@@ -61,16 +60,15 @@ fn check_profile(rt: &impl Abort, profile: &[u32], rows: &[u32], level: u32, tri
         } else {
             fold_sum(rows, profile.len() as u32, level, trial, phase as u32)
         };
-        assert_eq!(rt;
-            u64::from(profile[phase]),
-            wanted,
-            "level {level}, trial {trial}, phase {phase}"
-        );
+        if u64::from(profile[phase]) != wanted {
+            return false;
+        }
     }
+    true
 }
 
-// All profiles of a level.
-fn check_level(rt: &impl Abort, folder: &Folder, series: &[u32], p: u32, m: u32, level: u32)
+// Whether all profiles of a level have.
+fn is_level(folder: &Folder, series: &[u32], p: u32, m: u32, level: u32) -> bool
     requires at { IsAt folder.now p m level }
     requires phases { 1 ≤ p }
     requires some { 1 ≤ m }
@@ -83,23 +81,20 @@ fn check_level(rt: &impl Abort, folder: &Folder, series: &[u32], p: u32, m: u32,
     let size = rows * p as usize;
     for block in 0..1_u32 << (m - level) {
         let start = block as usize * size;
-        let part = series
-            .get(start..start + size)
-            .expect(rt, "the rows of the block");
+        let Some(part) = series.get(start..start + size) else {
+            return false;
+        };
         for trial in 0..1_u32 << level {
-            check_profile(rt, folder.profile(block, trial), part, level, trial);
+            if !is_profile(folder.profile(block, trial), part, level, trial) {
+                return false;
+            }
         }
     }
+    true
 }
 
-// All levels of a period.
-fn check_period(
-    rt: &impl Abort,
-    alloc: Global,
-    series: &[u32],
-    p: u32,
-    m: u32,
-) -> Result<(), Memory>
+// Whether all levels of a period have.
+fn are_levels(alloc: Global, series: &[u32], p: u32, m: u32) -> Result<bool, Memory>
     requires phases { 1 ≤ p }
     requires short { p ≤ 40 }
     requires some { 1 ≤ m }
@@ -109,20 +104,21 @@ fn check_period(
 {
     let mut folder = Folder::open(alloc, p, m)?;
     folder.load(series, p, m);
-    check_level(rt, &folder, series, p, m, 0);
+    let mut are = is_level(&folder, series, p, m, 0);
     for level in 0..m {
         folder.halve();
-        check_level(rt, &folder, series, p, m, level + 1);
+        are = is_level(&folder, series, p, m, level + 1) && are;
     }
-    Ok(())
+    Ok(are)
 }
 
 #[test]
-fn levels_are_folds(rt: HostRuntime) -> Result<(), Fail> {
+fn levels_are_folds(rt: HostRuntime) -> Result<(), Memory> {
     let series = values(rt.alloc(), 3000, 32, 7)?;
     for p in [2_u32, 7, 40] {
         for m in 1..7_u32 {
-            check_period(&rt, rt.alloc(), series.as_slice(), p, m)?;
+            let are = are_levels(rt.alloc(), series.as_slice(), p, m)?;
+            assert!(rt; are, "period {p}, {m} halvings");
         }
     }
     Ok(())

@@ -6,85 +6,83 @@ use fdmt_rows::{
     add_mixed_rows, add_rows, add_to_row, copy_narrow_row, copy_row, greatest, narrow_row, running,
     widen,
 };
-use std::process::Abort;
-use std::test::Fail;
+use psr_base::Memory;
+use std::alloc::Global;
 
-// The sums of two rows, and of a row that another was added to.
-fn check_sums(rt: &impl Abort, sum: &[u32], a: &[u32], b: &[u32])
+// Whether these are the sums of two rows.
+fn are_sums(sum: &[u32], a: &[u32], b: &[u32]) -> bool
     requires first { length a.now ≡ length sum.now }
     requires second { length b.now ≡ length sum.now }
 {
     for k in 0..sum.len() {
-        assert_eq!(rt;
-            sum[k],
-            a[k].wrapping_add(b[k]),
-            "value {k} of {}",
-            sum.len()
-        );
-    }
-}
-
-#[test]
-fn rows_are_added(rt: HostRuntime) -> Result<(), Fail> {
-    for count in 0..71_usize {
-        let a = values(rt.alloc(), count, 0x7fff_ffff, 1)?;
-        let b = values(rt.alloc(), count, 0x7fff_ffff, 2)?;
-        let mut out = values(rt.alloc(), count, 9, 3)?;
-        add_rows(out.as_mut_slice(), a.as_slice(), b.as_slice());
-        check_sums(&rt, out.as_slice(), a.as_slice(), b.as_slice());
-        let mut row = values(rt.alloc(), count, 0x7fff_ffff, 1)?;
-        add_to_row(row.as_mut_slice(), out.as_slice());
-        check_sums(&rt, row.as_slice(), a.as_slice(), out.as_slice());
-    }
-    Ok(())
-}
-
-#[test]
-fn greatest_values_are_found(rt: HostRuntime) -> Result<(), Fail> {
-    for count in 0..71_usize {
-        let row = values(rt.alloc(), count, 1000, 5)?;
-        let mut most = 0;
-        for value in row.as_slice() {
-            most = most.max(*value);
-        }
-        assert_eq!(rt; greatest(row.as_slice()), most, "of {count} values");
-    }
-    Ok(())
-}
-
-#[test]
-fn bytes_are_widened(rt: HostRuntime) -> Result<(), Fail> {
-    for count in 0..71_usize {
-        let bytes = bytes(rt.alloc(), count)?;
-        let mut out = values(rt.alloc(), count, 9, 3)?;
-        widen(out.as_mut_slice(), bytes.as_slice());
-        for k in 0..count {
-            assert_eq!(rt; out[k], u32::from(bytes[k]), "byte {k} of {count}");
+        if sum[k] != a[k].wrapping_add(b[k]) {
+            return false;
         }
     }
-    Ok(())
+    true
 }
 
-#[test]
-fn rows_of_both_widths_are_added(rt: HostRuntime) -> Result<(), Fail> {
-    for count in 0..71_usize {
-        let a = values(rt.alloc(), count, 0x7fff_ffff, 1)?;
-        let b = values(rt.alloc(), count, 0xffff, 2)?;
-        let mut narrow = vec![in rt.alloc(); 0_u16; count]?;
-        let mut copy = vec![in rt.alloc(); 0_u16; count]?;
-        let mut out = values(rt.alloc(), count, 9, 3)?;
-        let mut same = values(rt.alloc(), count, 9, 3)?;
-        narrow_row(narrow.as_mut_slice(), b.as_slice());
-        copy_narrow_row(copy.as_mut_slice(), narrow.as_slice());
-        copy_row(same.as_mut_slice(), a.as_slice());
-        add_mixed_rows(out.as_mut_slice(), same.as_slice(), copy.as_slice());
-        check_sums(&rt, out.as_slice(), a.as_slice(), b.as_slice());
+// Whether two rows are added, and a row to another.
+fn are_added(alloc: Global, count: usize) -> Result<bool, Memory> {
+    let a = values(alloc, count, 0x7fff_ffff, 1)?;
+    let b = values(alloc, count, 0x7fff_ffff, 2)?;
+    let mut out = values(alloc, count, 9, 3)?;
+    let mut row = values(alloc, count, 0x7fff_ffff, 1)?;
+    add_rows(out.as_mut_slice(), a.as_slice(), b.as_slice());
+    add_to_row(row.as_mut_slice(), out.as_slice());
+    Ok(
+        are_sums(out.as_slice(), a.as_slice(), b.as_slice())
+            && are_sums(row.as_slice(), a.as_slice(), out.as_slice()),
+    )
+}
+
+// Whether the greatest value is found.
+fn is_found(alloc: Global, count: usize) -> Result<bool, Memory> {
+    let row = values(alloc, count, 1000, 5)?;
+    let mut most = 0;
+    for value in row.as_slice() {
+        most = most.max(*value);
     }
-    Ok(())
+    Ok(greatest(row.as_slice()) == most)
 }
 
-// Each sum of neighbours, added one by one.
-fn check_running(rt: &impl Abort, sums: &[u32], x: &[u32])
+// Whether these are the bytes.
+fn are_bytes(row: &[u32], bytes: &[u8]) -> bool
+    requires { length row.now ≡ length bytes.now }
+{
+    for k in 0..row.len() {
+        if row[k] != u32::from(bytes[k]) {
+            return false;
+        }
+    }
+    true
+}
+
+// Whether bytes are widened.
+fn are_widened(alloc: Global, count: usize) -> Result<bool, Memory> {
+    let bytes = bytes(alloc, count)?;
+    let mut out = values(alloc, count, 9, 3)?;
+    widen(out.as_mut_slice(), bytes.as_slice());
+    Ok(are_bytes(out.as_slice(), bytes.as_slice()))
+}
+
+// Whether rows of both widths are copied and added.
+fn are_mixed(alloc: Global, count: usize) -> Result<bool, Memory> {
+    let a = values(alloc, count, 0x7fff_ffff, 1)?;
+    let b = values(alloc, count, 0xffff, 2)?;
+    let mut narrow = vec![in alloc; 0_u16; count]?;
+    let mut copy = vec![in alloc; 0_u16; count]?;
+    let mut out = values(alloc, count, 9, 3)?;
+    let mut same = values(alloc, count, 9, 3)?;
+    narrow_row(narrow.as_mut_slice(), b.as_slice());
+    copy_narrow_row(copy.as_mut_slice(), narrow.as_slice());
+    copy_row(same.as_mut_slice(), a.as_slice());
+    add_mixed_rows(out.as_mut_slice(), same.as_slice(), copy.as_slice());
+    Ok(are_sums(out.as_slice(), a.as_slice(), b.as_slice()))
+}
+
+// Whether these are sums of neighbours.
+fn are_running(sums: &[u32], x: &[u32]) -> bool
     requires { length sums.now ≤ length x.now }
 {
     let later = x.len() - sums.len();
@@ -93,18 +91,48 @@ fn check_running(rt: &impl Abort, sums: &[u32], x: &[u32])
         for value in &x[k..k + later + 1] {
             sum = sum.wrapping_add(*value);
         }
-        assert_eq!(rt; sums[k], sum, "sum {k} of {}", sums.len());
+        if sums[k] != sum {
+            return false;
+        }
     }
+    true
+}
+
+// Whether so many neighbours more than one are added.
+fn are_neighbours_added(alloc: Global, count: usize, later: usize) -> Result<bool, Memory>
+    requires few { count ≤ 100 }
+    requires more { later ≤ 100 }
+{
+    let x = values(alloc, count + later, 100, 4)?;
+    let mut sums = values(alloc, count, 9, 3)?;
+    running(sums.as_mut_slice(), x.as_slice());
+    Ok(are_running(sums.as_slice(), x.as_slice()))
 }
 
 #[test]
-fn neighbours_are_added(rt: HostRuntime) -> Result<(), Fail> {
+fn rows_of_each_length_are_added(rt: HostRuntime) -> Result<(), Memory> {
+    for count in 0..71_usize {
+        let are = are_added(rt.alloc(), count)? && are_mixed(rt.alloc(), count)?;
+        assert!(rt; are, "{count} values");
+    }
+    Ok(())
+}
+
+#[test]
+fn rows_of_each_length_are_looked_through(rt: HostRuntime) -> Result<(), Memory> {
+    for count in 0..71_usize {
+        let are = is_found(rt.alloc(), count)? && are_widened(rt.alloc(), count)?;
+        assert!(rt; are, "{count} values");
+    }
+    Ok(())
+}
+
+#[test]
+fn neighbours_are_added(rt: HostRuntime) -> Result<(), Memory> {
     for count in 0..71_usize {
         for later in 0..10_usize {
-            let x = values(rt.alloc(), count + later, 100, 4)?;
-            let mut sums = values(rt.alloc(), count, 9, 3)?;
-            running(sums.as_mut_slice(), x.as_slice());
-            check_running(&rt, sums.as_slice(), x.as_slice());
+            let are = are_neighbours_added(rt.alloc(), count, later)?;
+            assert!(rt; are, "{count} sums of {later} values and one");
         }
     }
     Ok(())

@@ -2,10 +2,11 @@
 ghost use Rattle.std.specs.Prelude.{◌≡◌, ◌^◌, ◌<◌, ◌≤◌, IfOk, vec_len};
 ghost use Rattle.std.specs.List.{All};
 
-use std::alloc::{AllocError, Global};
+use psr_base::Memory;
+use std::alloc::Global;
 
 /// So many values up to `most`, another list for each seed.
-pub fn values(alloc: Global, count: usize, most: u32, seed: u32) -> Result<Vec<u32>, AllocError>
+pub fn values(alloc: Global, count: usize, most: u32, seed: u32) -> Result<Vec<u32>, Memory>
     requires { most < 2 ^ 31 }
     ensures long { IfOk result (λ v. vec_len v ≡ count) }
     ensures small { IfOk result (λ v. All (λ x. x ≤ most) v.items) }
@@ -21,7 +22,7 @@ pub fn values(alloc: Global, count: usize, most: u32, seed: u32) -> Result<Vec<u
 }
 
 /// So many bytes.
-pub fn bytes(alloc: Global, count: usize) -> Result<Vec<u8>, AllocError>
+pub fn bytes(alloc: Global, count: usize) -> Result<Vec<u8>, Memory>
     ensures { IfOk result (λ v. vec_len v ≡ count) }
 {
     let mut bytes = Vec::new(alloc);

@@ -3,7 +3,7 @@ use Rattle.std.specs.List.{All}
 use Rattle.std.proofs.lemmas.List.Elements.{All-take, All-drop}
 use Rattle.std.proofs.lemmas.List.Sums.{sum_by-le}
 use Rattle.fdmt_rows.specs.Rows.{sum_from}
-use Rattle.rows_tests.proofs.rows.neighbours_are_added.Goals as goal
+use Rattle.rows_tests.proofs.rows.are_neighbours_added.Goals as goal
 
 -- a few small values have a small sum
 small_sum : (xs : List ℕ) (k n : ℕ) → All (λ x. x ≤ 100) xs → n ≤ 1000 → sum_from xs k n ≤ 100000
@@ -14,7 +14,7 @@ small_sum xs k n all few =
     omega (arith, total, short)
 
 pub running-requires-clause-fits : goal.running-requires-clause-fits
-running-requires-clause-fits g c = λ k lt.
+running-requires-clause-fits c = λ k lt.
     let x = c.as_slice.result.now in
     let small : All (λ x. x ≤ 100) x =
     subst (λ (xs : List ℕ). All (λ x. x ≤ 100) xs) (sym c.as_slice.ensures.value) c.in_ok-x.ensures.small in

@@ -1,8 +1,8 @@
 use Rattle.std.proofs.Common.{◌≡◌}
-use Rattle.rows_tests.proofs.boxes.rows_are_fed_in_pieces.Given as goal
+use Rattle.rows_tests.proofs.boxes.are_fed.Given as goal
 
 abbrev pub invariant-loop-count : goal.invariant-loop-count
-invariant-loop-count g l = record {
+invariant-loop-count l = record {
   first : l.boxes.first ≡ 3;
   last : l.boxes.last ≡ 5;
   chunk : l.boxes.chunk ≡ 16;
