@@ -2,250 +2,310 @@
 use dada_header::Header;
 use obs_plan::{Key, ObsFault, Observation};
 use std::alloc::Global;
-use std::test::Fail;
 
-/// A header that is accepted. Of two fields with a keyword the first counts, so lines before these replace them.
-const PLAIN: &[u8] = b"HDR_SIZE 4096
-NCHAN 2
-NBIT 8
-NPOL 1
-NDIM 1
-TSAMP 64
-FREQ 1400
-BW -200
-OBS_OFFSET 0
+// The lines of a header that is accepted. Of two fields with a keyword the first counts, so lines before these replace
+// them. A `;` ends a line, here and below, and that of a line before these stands at their head.
+const PLAIN: &str =
+    ";HDR_SIZE 4096;NCHAN 2;NBIT 8;NPOL 1;NDIM 1;TSAMP 64;FREQ 1400;BW -200;OBS_OFFSET 0;";
+
+// Lines that stand before the plain ones, and the first refusal.
+const REFUSED: &str = "
+NCHAN 1 | out_of_range NCHAN
+NCHAN 4097 | out_of_range NCHAN
+NCHAN -2 | out_of_range NCHAN
+NCHAN two | bad_number NCHAN
+NCHAN 0;NBIT x | out_of_range NCHAN
+NBIT 4;TSAMP 6.4e1 | out_of_profile NBIT
+NBIT 12 | out_of_profile NBIT
+NBIT 1000000000000000000000000000000 | out_of_profile NBIT
+NPOL 3 | out_of_profile NPOL
+NPOL 0.9 | out_of_profile NPOL
+NDIM 2;BW 0 | out_of_profile NDIM
+TSAMP 6.4e1 | bad_number TSAMP
+TSAMP 0.0009 | out_of_range TSAMP
+TSAMP 1073741.825 | out_of_range TSAMP
+FREQ 0.000999 | out_of_range FREQ
+FREQ 16000.000001 | out_of_range FREQ
+FREQ -1400 | out_of_range FREQ
+BW 0.0000009 | out_of_range BW
+BW 2799.998001 | out_of_range BW
+FREQ 16000;BW 1554.434 | out_of_range BW
+BW 1000000000000000000000000000000 | out_of_range BW
+BW -0.001999;OBS_OFFSET x | bad_number OBS_OFFSET
+OBS_OFFSET -1 | out_of_range OBS_OFFSET
+OBS_OFFSET 1000000000000001 | out_of_range OBS_OFFSET
+BW -0.001999 | too_narrow 1999 2
+BW 0.001999 | too_narrow 1999 2
+NCHAN 4096;BW 4.095999 | too_narrow 4095999 4096
+NCHAN 2 3;NCHAN;NBIT\t#;NBIT + | bad_number NBIT
 ";
 
-fn header(alloc: Global, text: &[u8]) -> Result<Header, Fail> {
-    let mut bytes = text.to_vec(alloc)?;
-    bytes.resize(4096, 0)?;
-    match Header::read(alloc, bytes.as_slice()) {
-        Ok(header) => Ok(header),
-        Err(_) => Err("a header".into()),
+// All lines of a header, and the first refusal, or `accepted`.
+const WHOLE: &str = "
+| missing NCHAN
+NBIT 4;nchan 2; | missing NCHAN
+NCHAN 2;TSAMP x; | missing NBIT
+NCHAN 2;NBIT 8; | missing TSAMP
+NCHAN 2;NBIT 8;TSAMP 64; | missing FREQ
+NCHAN 2;NBIT 8;TSAMP 64;FREQ 1400; | missing BW
+NCHAN 2;NBIT 8;TSAMP 64;FREQ 1400;BW -200; | accepted
+BW -200;FREQ 1400;TSAMP 64;NBIT 16.9;NCHAN 2.9 | accepted
+";
+
+// Lines that stand before the plain ones in a later header, and its offset or how it differs.
+const LATER: &str = "
+| 0
+OBS_OFFSET 4.9 | 4
+OBS_OFFSET 1000000000000000 | 1000000000000000
+TSAMP 64.0009;BW -0200.0000001 | 0
+NCHAN 3 | differs NCHAN
+NBIT 16;NCHAN 2 | differs NBIT
+NPOL 2 | differs NPOL
+NDIM x | differs NDIM
+TSAMP 64.001 | differs TSAMP
+FREQ 1400.000001;BW 200 | differs FREQ
+BW 200 | differs BW
+BW -1000000000000000000000000000000 | differs BW
+BW 200;OBS_OFFSET x | differs BW
+NCHAN;NCHAN 0 | differs NCHAN
+OBS_OFFSET x | bad_number OBS_OFFSET
+OBS_OFFSET -1 | out_of_range OBS_OFFSET
+OBS_OFFSET 1000000000000001 | out_of_range OBS_OFFSET
+OBS_OFFSET 1000000000000000000000000000000 | out_of_range OBS_OFFSET
+";
+
+// ---- headers
+
+// The header of lines, and of more that stand after them.
+fn header_of(alloc: Global, lines: &str, more: &str) -> Option<Header> {
+    let mut bytes = Vec::new(alloc);
+    for part in [lines, more] {
+        for byte in part.bytes() {
+            bytes.push(if byte == b';' { b'\n' } else { byte }).ok()?;
+        }
+    }
+    bytes.resize(4096, 0).ok()?;
+    Header::read(alloc, bytes.as_slice()).ok()
+}
+
+// The observation of lines before the plain ones.
+fn observation_of(alloc: Global, lines: &str) -> Option<Observation> {
+    let header = header_of(alloc, lines, PLAIN)?;
+    Observation::of(alloc, &header).ok()
+}
+
+fn key_of(name: &str) -> Option<Key> {
+    match name {
+        "NCHAN" => Some(Key::Nchan),
+        "NBIT" => Some(Key::Nbit),
+        "NPOL" => Some(Key::Npol),
+        "NDIM" => Some(Key::Ndim),
+        "TSAMP" => Some(Key::Tsamp),
+        "FREQ" => Some(Key::Freq),
+        "BW" => Some(Key::Bw),
+        "OBS_OFFSET" => Some(Key::ObsOffset),
+        _ => None,
     }
 }
 
-// The plain header with a line before it.
-fn header_with(alloc: Global, line: &[u8]) -> Result<Header, Fail> {
-    let mut text = line.to_vec(alloc)?;
-    text.push(b'\n')?;
-    text.extend_from_slice(PLAIN)?;
-    header(alloc, text.as_slice())
+// The width and the channels of `1999 2`.
+fn narrow_of(numbers: &str) -> Option<ObsFault> {
+    let (bw, nchan) = numbers.split_once(' ')?;
+    Some(ObsFault::TooNarrow {
+        bw: bw.parse::<u64>().ok()?,
+        nchan: nchan.parse::<u32>().ok()?,
+    })
 }
 
-fn observation(alloc: Global, header: &Header) -> Result<Observation, Fail> {
-    match Observation::of(alloc, header) {
-        Ok(observation) => Ok(observation),
-        Err(_) => Err("an observation".into()),
+// The refusal of a word, and a keyword or numbers.
+fn fault_of(text: &str) -> Option<ObsFault> {
+    let (word, rest) = text.split_once(' ')?;
+    if word == "too_narrow" {
+        return narrow_of(rest);
+    }
+    let key = key_of(rest)?;
+    match word {
+        "missing" => Some(ObsFault::Missing(key)),
+        "bad_number" => Some(ObsFault::BadNumber(key)),
+        "out_of_profile" => Some(ObsFault::OutOfProfile(key)),
+        "out_of_range" => Some(ObsFault::OutOfRange(key)),
+        "differs" => Some(ObsFault::Differs(key)),
+        _ => None,
     }
 }
 
-fn refusal(alloc: Global, header: &Header) -> Option<ObsFault> {
-    Observation::of(alloc, header).err()
+// ---- refusals
+
+// The two fields of a line.
+fn fields_of(line: &str) -> (&str, &str) {
+    let (lines, wanted) = line.split_once('|').unwrap_or((line, ""));
+    (lines.trim(), wanted.trim())
+}
+
+// Whether the header of a line, with more lines after it, is refused or accepted as it says.
+fn is_judged(alloc: Global, line: &str, more: &str) -> bool {
+    let (lines, wanted) = fields_of(line);
+    let Some(header) = header_of(alloc, lines, more) else {
+        return false;
+    };
+    match Observation::of(alloc, &header) {
+        Ok(_) => wanted == "accepted",
+        Err(fault) => fault_of(wanted) == Some(fault),
+    }
 }
 
 #[test]
-fn the_first_refusal_is_told(rt: HostRuntime) -> Result<(), Fail> {
-    let cases: [(&[u8], ObsFault); 28] = [
-        (b"NCHAN 1", ObsFault::OutOfRange(Key::Nchan)),
-        (b"NCHAN 4097", ObsFault::OutOfRange(Key::Nchan)),
-        (b"NCHAN -2", ObsFault::OutOfRange(Key::Nchan)),
-        (b"NCHAN two", ObsFault::BadNumber(Key::Nchan)),
-        (b"NCHAN 0\nNBIT x", ObsFault::OutOfRange(Key::Nchan)),
-        (b"NBIT 4\nTSAMP 6.4e1", ObsFault::OutOfProfile(Key::Nbit)),
-        (b"NBIT 12", ObsFault::OutOfProfile(Key::Nbit)),
-        (
-            b"NBIT 1000000000000000000000000000000",
-            ObsFault::OutOfProfile(Key::Nbit),
-        ),
-        (b"NPOL 3", ObsFault::OutOfProfile(Key::Npol)),
-        (b"NPOL 0.9", ObsFault::OutOfProfile(Key::Npol)),
-        (b"NDIM 2\nBW 0", ObsFault::OutOfProfile(Key::Ndim)),
-        (b"TSAMP 6.4e1", ObsFault::BadNumber(Key::Tsamp)),
-        (b"TSAMP 0.0009", ObsFault::OutOfRange(Key::Tsamp)),
-        (b"TSAMP 1073741.825", ObsFault::OutOfRange(Key::Tsamp)),
-        (b"FREQ 0.000999", ObsFault::OutOfRange(Key::Freq)),
-        (b"FREQ 16000.000001", ObsFault::OutOfRange(Key::Freq)),
-        (b"FREQ -1400", ObsFault::OutOfRange(Key::Freq)),
-        (b"BW 0.0000009", ObsFault::OutOfRange(Key::Bw)),
-        (b"BW 2799.998001", ObsFault::OutOfRange(Key::Bw)),
-        (b"FREQ 16000\nBW 1554.434", ObsFault::OutOfRange(Key::Bw)),
-        (
-            b"BW 1000000000000000000000000000000",
-            ObsFault::OutOfRange(Key::Bw),
-        ),
-        (
-            b"BW -0.001999\nOBS_OFFSET x",
-            ObsFault::BadNumber(Key::ObsOffset),
-        ),
-        (b"OBS_OFFSET -1", ObsFault::OutOfRange(Key::ObsOffset)),
-        (
-            b"OBS_OFFSET 1000000000000001",
-            ObsFault::OutOfRange(Key::ObsOffset),
-        ),
-        (b"BW -0.001999", ObsFault::TooNarrow { bw: 1999, nchan: 2 }),
-        (b"BW 0.001999", ObsFault::TooNarrow { bw: 1999, nchan: 2 }),
-        (
-            b"NCHAN 4096\nBW 4.095999",
-            ObsFault::TooNarrow {
-                bw: 4_095_999,
-                nchan: 4096,
-            },
-        ),
-        (
-            b"NCHAN 2 3\nNCHAN\nNBIT\t#\nNBIT +",
-            ObsFault::BadNumber(Key::Nbit),
-        ),
-    ];
-    for (lines, fault) in cases {
-        let header = header_with(rt.alloc(), lines)?;
-        assert_eq!(rt; refusal(rt.alloc(), &header), Some(fault), "{lines:?}");
+fn the_first_refusal_is_told(rt: HostRuntime) {
+    for line in REFUSED.lines() {
+        assert!(rt;
+            line.is_empty() || is_judged(rt.alloc(), line, PLAIN),
+            "{line}"
+        );
     }
-    Ok(())
 }
 
 #[test]
-fn a_keyword_is_missing(rt: HostRuntime) -> Result<(), Fail> {
-    let cases: [(&[u8], Option<ObsFault>); 8] = [
-        (b"", Some(ObsFault::Missing(Key::Nchan))),
-        (b"NBIT 4\nnchan 2\n", Some(ObsFault::Missing(Key::Nchan))),
-        (b"NCHAN 2\nTSAMP x\n", Some(ObsFault::Missing(Key::Nbit))),
-        (b"NCHAN 2\nNBIT 8\n", Some(ObsFault::Missing(Key::Tsamp))),
-        (
-            b"NCHAN 2\nNBIT 8\nTSAMP 64\n",
-            Some(ObsFault::Missing(Key::Freq)),
-        ),
-        (
-            b"NCHAN 2\nNBIT 8\nTSAMP 64\nFREQ 1400\n",
-            Some(ObsFault::Missing(Key::Bw)),
-        ),
-        (b"NCHAN 2\nNBIT 8\nTSAMP 64\nFREQ 1400\nBW -200\n", None),
-        (b"BW -200\nFREQ 1400\nTSAMP 64\nNBIT 16.9\nNCHAN 2.9", None),
-    ];
-    for (text, fault) in cases {
-        let header = header(rt.alloc(), text)?;
-        assert_eq!(rt; refusal(rt.alloc(), &header), fault, "{text:?}");
+fn a_keyword_is_missing(rt: HostRuntime) {
+    for line in WHOLE.lines() {
+        assert!(rt;
+            line.is_empty() || is_judged(rt.alloc(), line, ""),
+            "{line}"
+        );
     }
-    Ok(())
 }
 
-// The observation of the plain header with lines before it.
-fn observation_with(alloc: Global, lines: &[u8]) -> Result<Observation, Fail> {
-    let header = header_with(alloc, lines)?;
-    observation(alloc, &header)
+// Whether a later header has the offset, or differs, as is wanted.
+fn is_later(first: &Observation, later: &Header, wanted: &str) -> bool {
+    match first.profile().later_offset(later) {
+        Ok(offset) => wanted.parse::<u64>() == Ok(offset),
+        Err(fault) => fault_of(wanted) == Some(fault),
+    }
 }
 
-// The channels of a spectrum, and the bits and polarisations of a sample.
-fn shape_of(observation: &Observation) -> (u32, u32, u32) {
+// Whether the later header of a line has, with more lines after it.
+fn is_met(alloc: Global, line: &str, more: &str) -> bool {
+    let (lines, wanted) = fields_of(line);
+    let Some(first) = observation_of(alloc, "") else {
+        return false;
+    };
+    match header_of(alloc, lines, more) {
+        Some(later) => is_later(&first, &later, wanted),
+        None => false,
+    }
+}
+
+#[test]
+fn a_later_header_differs(rt: HostRuntime) {
+    for line in LATER.lines() {
+        assert!(rt;
+            line.is_empty() || is_met(rt.alloc(), line, PLAIN),
+            "{line}"
+        );
+    }
+    assert!(rt; is_met(rt.alloc(), "NCHAN 2;NBIT 8; | differs TSAMP", ""));
+}
+
+// ---- values
+
+const WIDE: &str = "NCHAN 1024.9;NBIT 16.9;NPOL 2;TSAMP 64.0009;FREQ 1382;BW -400;OBS_OFFSET 12";
+
+const RISING: &str = "BW 200;OBS_OFFSET -0.9";
+
+// The header, and an edge in kHz of a number, where there is one, or the dispersion measure in thousandths of a delay.
+const VALUES: &str = "
+wide edge 0 1582000
+wide edge 1024 1182000
+wide edge 1025 none
+rising edge 0 1500000
+rising edge 1 1400000
+rising edge 2 1300000
+rising edge 3 none
+wide dm 0 0
+wide dm 512 24975
+rising dm 1 104
+";
+
+// The words of a line. Those that it doesn't have are empty.
+fn words_of(line: &str) -> [&str; 4] {
+    let mut words = [""; 4];
+    for (i, word) in line.split_whitespace().enumerate() {
+        if i < words.len() {
+            words[i] = word;
+        }
+    }
+    words
+}
+
+// Whether an observation has the edge, or the dispersion measure, of a number.
+fn has(observation: &Observation, what: &str, number: u32, wanted: &str) -> bool {
+    if what == "dm" {
+        return wanted.parse::<u64>() == Ok(observation.dm(number.min(8192)));
+    }
+    match observation.edges().get(number as usize) {
+        Some(edge) => wanted.parse::<u32>() == Ok(*edge),
+        None => wanted == "none",
+    }
+}
+
+// Whether the observation of a line has the value that it says.
+fn has_value(alloc: Global, line: &str) -> bool {
+    let [name, what, number, wanted] = words_of(line);
+    let Ok(number) = number.parse::<u32>() else {
+        return false;
+    };
+    let lines = if name == "wide" { WIDE } else { RISING };
+    match observation_of(alloc, lines) {
+        Some(observation) => has(&observation, what, number, wanted),
+        None => false,
+    }
+}
+
+#[test]
+fn edges_and_delays_have_their_values(rt: HostRuntime) {
+    for line in VALUES.lines() {
+        assert!(rt; line.is_empty() || has_value(rt.alloc(), line), "{line}");
+    }
+}
+
+// The channels of a spectrum, the bits and polarisations of a sample, and its greatest value.
+fn shape_of(observation: &Observation) -> (u32, u32, u32, u32) {
     (
         observation.channels(),
         observation.nbit(),
         observation.npol(),
+        observation.max_sample(),
     )
 }
 
-// The time from one spectrum to the next, the bytes before the file's, and whether the band falls.
-fn place_of(observation: &Observation) -> (u64, u64, bool) {
+// The time from one spectrum to the next, the bytes before the file's, whether the band falls, and its width.
+fn place_of(observation: &Observation) -> (u64, u64, bool, i64) {
     (
         observation.tsamp_ns(),
         observation.obs_offset(),
         observation.falling(),
+        observation.profile().bw_hz,
     )
 }
 
-const WIDE: &[u8] =
-    b"NCHAN 1024.9\nNBIT 16.9\nNPOL 2\nTSAMP 64.0009\nFREQ 1382\nBW -400\nOBS_OFFSET 12";
-
-const RISING: &[u8] = b"BW 200\nOBS_OFFSET -0.9";
-
-#[test]
-fn numbers_are_read_in_their_units(rt: HostRuntime) -> Result<(), Fail> {
-    let cases = [
-        (WIDE, (1024, 16, 2), (64000, 12, true), 131070, -400_000_000),
-        (RISING, (2, 8, 1), (64000, 0, false), 255, 200_000_000),
-    ];
-    for (lines, shape, place, most, bw_hz) in cases {
-        let observation = observation_with(rt.alloc(), lines)?;
-        assert_eq!(rt; shape_of(&observation), shape, "{lines:?}");
-        assert_eq!(rt; place_of(&observation), place, "{lines:?}");
-        assert_eq!(rt; observation.max_sample(), most, "{lines:?}");
-        assert_eq!(rt; observation.profile().bw_hz, bw_hz, "{lines:?}");
+// Whether lines before the plain ones are read so.
+fn are_read(
+    alloc: Global,
+    lines: &str,
+    shape: (u32, u32, u32, u32),
+    place: (u64, u64, bool, i64),
+) -> bool {
+    match observation_of(alloc, lines) {
+        Some(observation) => shape_of(&observation) == shape && place_of(&observation) == place,
+        None => false,
     }
-    Ok(())
 }
 
 #[test]
-fn a_band_has_its_edges(rt: HostRuntime) -> Result<(), Fail> {
-    let cases = [
-        (WIDE, 0, Some(1582000)),
-        (WIDE, 1024, Some(1182000)),
-        (WIDE, 1025, None),
-        (RISING, 0, Some(1500000)),
-        (RISING, 1, Some(1400000)),
-        (RISING, 2, Some(1300000)),
-        (RISING, 3, None),
-    ];
-    for (lines, k, edge) in cases {
-        let observation = observation_with(rt.alloc(), lines)?;
-        assert_eq!(rt; observation.edges().get(k).copied(), edge, "{k}");
-    }
-    Ok(())
-}
-
-#[test]
-fn a_delay_has_its_dispersion_measure(rt: HostRuntime) -> Result<(), Fail> {
-    for (lines, delay, dm) in [(WIDE, 0, 0), (WIDE, 512, 24975), (RISING, 1, 104)] {
-        let observation = observation_with(rt.alloc(), lines)?;
-        assert_eq!(rt; observation.dm(delay.min(8192)), dm, "{delay}");
-    }
-    Ok(())
-}
-
-#[test]
-fn a_later_header_differs(rt: HostRuntime) -> Result<(), Fail> {
-    let plain = header_with(rt.alloc(), b"")?;
-    let profile = observation(rt.alloc(), &plain)?.profile();
-    assert_eq!(rt; profile.bw_hz, -200_000_000);
-    let cases: [(&[u8], Result<u64, ObsFault>); 18] = [
-        (b"", Ok(0)),
-        (b"OBS_OFFSET 4.9", Ok(4)),
-        (b"OBS_OFFSET 1000000000000000", Ok(1_000_000_000_000_000)),
-        (b"TSAMP 64.0009\nBW -0200.0000001", Ok(0)),
-        (b"NCHAN 3", Err(ObsFault::Differs(Key::Nchan))),
-        (b"NBIT 16\nNCHAN 2", Err(ObsFault::Differs(Key::Nbit))),
-        (b"NPOL 2", Err(ObsFault::Differs(Key::Npol))),
-        (b"NDIM x", Err(ObsFault::Differs(Key::Ndim))),
-        (b"TSAMP 64.001", Err(ObsFault::Differs(Key::Tsamp))),
-        (
-            b"FREQ 1400.000001\nBW 200",
-            Err(ObsFault::Differs(Key::Freq)),
-        ),
-        (b"BW 200", Err(ObsFault::Differs(Key::Bw))),
-        (
-            b"BW -1000000000000000000000000000000",
-            Err(ObsFault::Differs(Key::Bw)),
-        ),
-        (b"BW 200\nOBS_OFFSET x", Err(ObsFault::Differs(Key::Bw))),
-        (b"NCHAN\nNCHAN 0", Err(ObsFault::Differs(Key::Nchan))),
-        (b"OBS_OFFSET x", Err(ObsFault::BadNumber(Key::ObsOffset))),
-        (b"OBS_OFFSET -1", Err(ObsFault::OutOfRange(Key::ObsOffset))),
-        (
-            b"OBS_OFFSET 1000000000000001",
-            Err(ObsFault::OutOfRange(Key::ObsOffset)),
-        ),
-        (
-            b"OBS_OFFSET 1000000000000000000000000000000",
-            Err(ObsFault::OutOfRange(Key::ObsOffset)),
-        ),
-    ];
-    for (lines, expected) in cases {
-        let later = header_with(rt.alloc(), lines)?;
-        assert_eq!(rt; profile.later_offset(&later), expected, "{lines:?}");
-    }
-    let short = header(rt.alloc(), b"NCHAN 2\nNBIT 8\n")?;
-    assert_eq!(rt;
-        profile.later_offset(&short),
-        Err(ObsFault::Differs(Key::Tsamp))
-    );
-    Ok(())
+fn numbers_are_read_in_their_units(rt: HostRuntime) {
+    let plain = (64000, 0, true, -200_000_000);
+    let wide = (64000, 12, true, -400_000_000);
+    let rising = (64000, 0, false, 200_000_000);
+    assert!(rt; are_read(rt.alloc(), "", (2, 8, 1, 255), plain));
+    assert!(rt; are_read(rt.alloc(), WIDE, (1024, 16, 2, 131070), wide));
+    assert!(rt; are_read(rt.alloc(), RISING, (2, 8, 1, 255), rising));
 }
