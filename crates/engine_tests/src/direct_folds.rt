@@ -5,7 +5,6 @@ use crate::direct_sums::is_detected;
 use fold_phase::fold_sum;
 use psr_base::Memory;
 use search_model::{Candidate, Search};
-use std::process::Abort;
 
 /// Whether the series of a delay is folded.
 pub fn is_folded(search: &Search, delay: u32) -> bool {
@@ -32,7 +31,6 @@ fn most_halvings(most: u32, period: u32, room: usize) -> u32
 
 // The detected folds of a trial.
 fn list_trial(
-    rt: &impl Abort,
     list: &mut Vec<Candidate>,
     search: &Search,
     series: &[u32],
@@ -41,14 +39,17 @@ fn list_trial(
     trial: u32,
 ) -> Result<(), Memory> {
     let (delay, period, halvings) = of;
-    assert!(rt; 1 <= halvings && halvings <= 12 && trial < 1 << halvings);
-    assert!(rt; u64::from(period) << halvings <= series.len() as u64);
+    if halvings < 1 || halvings > 12 || trial >= 1 << halvings {
+        return Ok(());
+    }
+    if u64::from(period) << halvings > series.len() as u64 {
+        return Ok(());
+    }
     let cells = u64::from(cells) << halvings;
     for phase in 0..period {
         let sum = fold_sum(series, period, halvings, trial, phase);
-        assert!(rt; sum < 1 << 32);
-        let sum = sum as u32;
-        if is_detected(rt, search, sum, cells) {
+        let sum = u32::try_from(sum).unwrap_or(0);
+        if is_detected(search, sum, cells) {
             list.push(Candidate::Fold {
                 delay,
                 period,
@@ -64,20 +65,18 @@ fn list_trial(
 
 /// Lists the detected folds of a delay's series, where a path sum has so many cells.
 pub fn list_delay(
-    rt: &impl Abort,
     list: &mut Vec<Candidate>,
     search: &Search,
     series: &[u32],
     delay: u32,
     cells: u32,
 ) -> Result<(), Memory> {
-    assert!(rt; search.fold_max <= 1 << 20);
-    for period in search.fold_min..search.fold_max + 1 {
+    for period in search.fold_min..search.fold_max.min(1 << 20) + 1 {
         let halvings = most_halvings(search.fold_rows, period, series.len());
         if halvings > 0 {
             for trial in 0..1_u32 << halvings {
                 let of = (delay, period, halvings);
-                list_trial(rt, list, search, series, cells, of, trial)?;
+                list_trial(list, search, series, cells, of, trial)?;
             }
         }
     }

@@ -3,7 +3,6 @@ use detect_rule::Rule;
 use psr_base::Memory;
 use search_model::{Candidate, Search};
 use std::alloc::Global;
-use std::process::Abort;
 
 /// Bytes that are the samples of so many channels, spectrum by spectrum, and the edges of the channels in kHz; both
 /// from the highest frequency down.
@@ -154,10 +153,14 @@ fn box_sum(row: &Row, end: u32, width: u32) -> Option<u32> {
     Some(total)
 }
 
-/// Whether a sum of so many cells is detected.
-pub fn is_detected(rt: &impl Abort, search: &Search, sum: u32, cells: u64) -> bool {
-    assert!(rt; search.mean <= 200000000 && search.sd <= 200000000 && search.snr <= 100000);
-    assert!(rt; cells <= 1 << 26);
+/// Whether a sum of so many cells is detected. None is where a number lies out of its range.
+pub fn is_detected(search: &Search, sum: u32, cells: u64) -> bool {
+    if search.mean > 200000000 || search.sd > 200000000 || search.snr > 100000 {
+        return false;
+    }
+    if cells > 1 << 26 {
+        return false;
+    }
     let rule = Rule {
         mean: search.mean,
         sd: search.sd,
@@ -168,7 +171,6 @@ pub fn is_detected(rt: &impl Abort, search: &Search, sum: u32, cells: u64) -> bo
 
 // Lists the detected boxes of a row that end at a spectrum, by width.
 fn list_boxes(
-    rt: &impl Abort,
     list: &mut Vec<Candidate>,
     search: &Search,
     channels: u32,
@@ -178,7 +180,7 @@ fn list_boxes(
     for width in [1_u32, 2, 4, 8, 16, 32] {
         let cells = u64::from(width).saturating_mul(u64::from(channels) + u64::from(row.delay));
         if let Some(sum) = box_sum(row, end, width) {
-            if width <= search.widest && is_detected(rt, search, sum, cells) {
+            if width <= search.widest && is_detected(search, sum, cells) {
                 list.push(Candidate::Pulse {
                     end: u64::from(end),
                     delay: row.delay,
@@ -193,7 +195,6 @@ fn list_boxes(
 
 /// Lists the detected boxes: by end, then by delay, then by width.
 pub fn list_pulses(
-    rt: &impl Abort,
     list: &mut Vec<Candidate>,
     search: &Search,
     channels: u32,
@@ -202,7 +203,7 @@ pub fn list_pulses(
 ) -> Result<(), Memory> {
     for end in 0..spectra {
         for row in rows {
-            list_boxes(rt, list, search, channels, row, end)?;
+            list_boxes(list, search, channels, row, end)?;
         }
     }
     Ok(())
