@@ -1,12 +1,17 @@
-//! Tests of whole searches and recordings over objects in memory. There is nothing else here: a crate with tests is
-//! proved twice, so those that cross crates stand together. The runs stand in tables of text, a run on each line, since
-//! each constant in code costs the prover more than a line of text.
+//! Tests of the programs: what words say, whole searches and recordings over objects in memory, and observations that
+//! are made. There is nothing else here: a crate with tests is proved twice, so those that cross crates stand together.
+//! The runs stand in tables of text, a run on each line, since each constant in code costs the prover more than a line
+//! of text.
 #![tactic(auto)]
 
 #[cfg(test)]
 mod cases;
 #[cfg(test)]
 mod files;
+#[cfg(test)]
+mod made_bytes;
+#[cfg(test)]
+mod made_runs;
 #[cfg(test)]
 mod recordings;
 #[cfg(test)]
@@ -15,3 +20,5 @@ mod running;
 mod searches;
 #[cfg(test)]
 mod tests;
+#[cfg(test)]
+mod words;

@@ -244,11 +244,21 @@ pulse --widths 1 --size 5 --shards 2 --hands 4 --turns 1 | | 0 | PULSE 1 1 0.104
     | first 10 0 0 20, second 0 0
 pulse --widths 1 --size 3 --hands 9 --buffers 2 | | 0 | PULSE 1 1 0.104 1 30 3;END 1 0 3; | \
     | first 10 0 0 20, second 0 0
+pulse --widths 1 --size 4 --hands 1 --turns 1 | | 0 | PULSE 1 1 0.104 1 30 3;END 1 0 3; | \
+    | first 10 0 0 20, second 0 0
+pulse --widths 1 --size 1 --hands 2 --turns 64 | | 0 | PULSE 1 1 0.104 1 30 3;END 1 0 3; | \
+    | first 10 0 0 20, second 0 0
+pulse --widths 1 --size 5 --hands 3 --turns 3 | | 0 | PULSE 1 1 0.104 1 30 3;END 1 0 3; | \
+    | first 10 0 0 20, second 0 0
+pulse --widths 1 --size 6 --hands 9 --turns 2 | | 0 | PULSE 1 1 0.104 1 30 3;END 1 0 3; | \
+    | first 10 0 0 20, second 0 0
 pulse --widths 1 --size 4 | input 2 | 6 | | read fault; | first
 pulse --widths 1 --size 4 | input 3 | 6 | | read fault; | first 10 0 0 20
 pulse --widths 1 --size 4 | input 4 | 6 | | read fault; | first 10 0 0 20
 pulse --widths 1 --size 2 --hands 3 | input 4 | 6 | | read fault; | first 10 0 0 20
 pulse --widths 1 --hands 1 --size 1 --buffers 2 | file 0 | 11 | PULSE 1 1 0.104 1 30 3;END 1 0 3; \
+    | record fault; | | blocks 7
+pulse --widths 1 --hands 3 --size 1 --buffers 2 | file 0 | 11 | PULSE 1 1 0.104 1 30 3;END 1 0 3; \
     | record fault; | | blocks 7
 pulse shorter --widths 1 --size 4 | | 3 | | header of file 1 refused: Short 100; | first 10 0 0 20
 front far --widths 1 --size 3 | | 7 | | file 1 has OBS_OFFSET 12 where 4 was expected; | first 10 0 0

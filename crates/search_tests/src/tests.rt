@@ -59,15 +59,17 @@ fn do_meet<R: Threads + Wait + Sync>(
 #[test]
 fn hands_run_beside_each_other(rt: HostRuntime) -> Result<(), Fail> {
     let searching = "--mean 1 --sd 2 --max-delay 1 --hands 2 --size 4 --turns 1";
+    let recorded = "--mean 1 --sd 2 --max-delay 1 --hands 3 --size 4 --turns 1 --record";
     let recording = "--file-size 4 --max-bytes 1000 --hands 3 --turns 1";
-    assert!(rt;
-        do_meet(&rt, rt.alloc(), Search, searching, 1)?,
-        "a feeder and a shard"
-    );
-    assert!(rt;
-        do_meet(&rt, rt.alloc(), Record, recording, 8)?,
-        "a feeder and a recorder"
-    );
+    // The program, its words, and the actor that a feeder meets: a shard or a recorder.
+    let meetings = [
+        (Search, searching, 1),
+        (Search, recorded, 8),
+        (Record, recording, 8),
+    ];
+    for (program, words, actor) in meetings {
+        assert!(rt; do_meet(&rt, rt.alloc(), program, words, actor)?, "{words}");
+    }
     Ok(())
 }
 

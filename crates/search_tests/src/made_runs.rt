@@ -1,5 +1,5 @@
-// Whole runs, over files in memory and for real.
-use crate::bytes::bytes_of;
+// Whole runs that make an observation, over files in memory and for real.
+use crate::made_bytes::bytes_of;
 use psr_base::{Files, MemFiles, MemSink, Memory, RealFiles};
 use psr_make::{MakeSpec, run_make};
 use std::alloc::Global;
