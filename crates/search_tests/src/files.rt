@@ -10,6 +10,7 @@ const COMMON: &str = "HDR_SIZE 4096;NCHAN 2;NBIT 8;NPOL 1;NDIM 1;TSAMP 64;FREQ 1
 // its data, if not 4096 bytes; and up to how many bytes a comment fills its text.
 const FILES: &str = "
 pulse        | @UTC_START 2024-01-02-03:04:05;OBS_OFFSET 0; | 10 0 0 20 0 0
+later        | @UTC_START 2024-01-02-03:04:05;OBS_OFFSET 0; | 36*0 10 0 0 20
 next         | @UTC_START 2024-01-02-03:05:05;OBS_OFFSET 0; | 0 0
 empty        | @UTC_START 2024-01-02-03:04:05;OBS_OFFSET 0;
 short        | @UTC_START 2024-01-02-03:04:05;OBS_OFFSET 0; | | 4095

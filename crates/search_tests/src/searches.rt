@@ -105,7 +105,7 @@ at_two | | 0 | PULSE 1 1 0.104 1 30 3;END 1 0 3;
 ",
 };
 
-// Blocks, hands and shards change no text.
+// Blocks, hands and shards change no text. With one turn the first round has 16, and the file `later` has 41 blocks.
 const BLOCKS: Table = Table {
     program: Search,
     words: "--mean 1 --sd 2 --snr 7 --max-delay 1 --widths 1",
@@ -118,6 +118,8 @@ pulse --size 5 --buffers 2 --hands 3 | | 0 | PULSE 1 1 0.104 1 30 3;END 1 0 3; |
 pulse --size 1 --buffers 2 --hands 9 --turns 1 | | 0 | PULSE 1 1 0.104 1 30 3;END 1 0 3; | | | blocks 7
 pulse --size 2 --shards 2 --hands 3 --turns 2 | | 0 | PULSE 1 1 0.104 1 30 3;END 1 0 3; | | | blocks 4
 pulse --size 4 --shards 2 --hands 2 --chunk 1 | | 0 | PULSE 1 1 0.104 1 30 3;END 1 0 3; | | | blocks 2
+later --size 1 --turns 1 | | 0 | PULSE 19 1 0.104 1 30 3;END 1 0 20; | | | blocks 41
+later --size 1 --buffers 2 --shards 2 --hands 3 --turns 1 | | 0 | PULSE 19 1 0.104 1 30 3;END 1 0 20; | | | blocks 41
 pulse shorter --size 2 | | 3 | | header of file 1 refused: Short 100; | | blocks 4
 front back + next --size 1 --buffers 2 --hands 9 --turns 1 | | 0 \
     | OBS 0;PULSE 1 1 0.104 1 30 3;END 1 0 3;OBS 1;END 0 0 1; | | | blocks 10
