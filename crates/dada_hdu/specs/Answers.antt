@@ -31,7 +31,7 @@ WriteAnswers old block result new = MatchResult result
     (λ stop. IsWriteStop (writer_knows old) stop (writer_knows new))
 
 -- What takes bytes was `x`, and is `x'` then: it took those of the next block, as `Takes` says; or none, and why.
-pub record HandAnswers {X : Type 0} (Takes : X → Entry → X → Type 0) (old : ReaderPass) (x : X)
+pub record HandedAnswers {X : Type 0} (Takes : X → Entry → X → Type 0) (old : ReaderPass) (x : X)
     (result : Result Taken ReadStop) (new : ReaderPass) (x' : X) : Type 0 where
   pub cases : MatchResult result
       (λ taken. IsHanded Takes (reader_knows old) x taken (reader_knows new) x')
@@ -42,13 +42,13 @@ pub record HandAnswers {X : Type 0} (Takes : X → Entry → X → Type 0) (old 
 
 -- the next block was copied to the front of `into`, which is `into'` then; or none was, and why
 abbrev pub ReadAnswers : ReaderPass → List ℕ → Result Taken ReadStop → ReaderPass → List ℕ → Type 0
-ReadAnswers old into result new into' = HandAnswers CopiesTo old into result new into'
+ReadAnswers old into result new into' = HandedAnswers CopiesTo old into result new into'
 
 -- a part of the taker took the next block; or none was taken, and why
 abbrev pub LendAnswers : {X : Type 0} → (X → ℕ → Entry → X → Type 0) → ℕ → ReaderPass → X →
     Result Taken ReadStop → ReaderPass → X → Type 0
 LendAnswers took part old taker result new taker' =
-    HandAnswers (λ x. took x part) old taker result new taker'
+    HandedAnswers (λ x. took x part) old taker result new taker'
 
 -- the block that was read is cleared, and n blocks are in all
 pub record ClearAnswers (old : ReaderPass) (n : ℕ) (new : ReaderPass) : Type 0 where

@@ -1,5 +1,5 @@
 //! The two rings that threads share by reference.
-ghost use Rattle.std.specs.Prelude.{◌≡◌, ◌≤◌, All, EachIndex, IfOk, OnErr, IsSomeAnd, length, take, true, slice_get, Some, ◌<◌};
+ghost use Rattle.std.specs.Prelude.{◌≡◌, ◌≤◌, All, EachIndex, IfOk, OnErr, IsSomeAnd, length, take, true, slice_get, Some};
 ghost use Rattle.ring_ends.specs.Passes.{ring_shape};
 ghost use Rattle.dada_hdu.specs.Shapes.{header_shape};
 ghost use Rattle.dada_hdu.specs.Pairs.{Pairs, PairsEach};
@@ -48,11 +48,10 @@ fn readers_of(
 
 impl Hdu {
     ghost use Rattle.dada_model.specs.Fields.{header_bytes};
-    ghost use Rattle.ring_blocks.specs.declared.Entry.{Entry};
     ghost use Rattle.ring_words.specs.Shape.{IsRing};
     ghost use Rattle.ring_words.specs.Views.{after_retire};
     ghost use Rattle.ring_ends.specs.Passes.{reader_knows, retired_knows, is_read};
-    ghost use Rattle.ring_ends.specs.Answers.{FitsMark};
+    ghost use Rattle.ring_ends.specs.Answers.{FitsMark, CanTakeNext};
     ghost use Rattle.dada_hdu.specs.Passes.{header_ring, data_ring, data_shape, WritesBoth, ReadsBoth, RetiredFromBoth, IsFreshWriter, HasFreshReader};
     ghost use Rattle.dada_hdu.specs.Answers.{entry, header_entry, WriteAnswers, ReadAnswers, LendAnswers, ClearAnswers};
 
@@ -181,7 +180,8 @@ impl Hdu {
     }
 
     /// Lends the block of data that comes after those that the reader cleared to a part of a taker, which takes its
-    /// bytes where they lie. Until it is cleared, the same block is lent again.
+    /// bytes where they lie. Meanwhile the reader holds the buffer, and others that read the block find it busy. Until
+    /// it is cleared, the same block is lent again.
     pub fn read_to<T: BlockTaker>(
         &self,
         pass: &mut HduReader,
@@ -189,9 +189,8 @@ impl Hdu {
         part: usize,
     ) -> Result<Taken, ReadStop>
         requires ring { ReadsBoth self.now pass.old }
-        requires ready { (entry : Entry)
-            → length (reader_knows pass.old.blocks).cleared < (data_shape self.now).max_blocks
-            → length entry.bytes ≤ (data_shape self.now).size → T.can_take taker.old part entry }
+        requires ready { CanTakeNext (T.can_take taker.old part) (data_shape self.now)
+            (reader_knows pass.old.blocks) }
         ensures ring { ReadsBoth self.now pass.new }
         ensures blocks { LendAnswers T.took part pass.old.blocks taker.old result pass.new.blocks
             taker.new }

@@ -39,8 +39,7 @@ pub struct Entry {
     pub bytes: LinkedList<u8>,
 }
 
-/// What takes the bytes of a block where they lie, so that they are not copied. It may have parts, of which one takes a
-/// block.
+/// What takes the bytes of a block where they lie: the ring copies none. It may have parts, of which one takes a block.
 pub trait BlockTaker {
     ghost use Rattle.ring_blocks.specs.declared.Entry.{Entry};
 

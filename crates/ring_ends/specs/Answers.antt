@@ -4,6 +4,7 @@ use Rattle.std.specs.Prelude.{◌≡◌, ◌≢◌, ℕ, ◌+◌, ◌/◌, ◌%�
 use Rattle.ring_blocks.specs.declared.Entry.{Entry}
 use Rattle.ring_blocks.specs.declared.Mark.{Mark}
 use Rattle.ring_blocks.specs.declared.Mark.TheVariants.{More, End, Cut}
+use Rattle.ring_words.specs.declared.shape.RingShape.{RingShape}
 use Rattle.ring_words.specs.declared.views.ReaderView.{ReaderView}
 use Rattle.ring_words.specs.declared.views.WriterView.{WriterView}
 use Rattle.ring_words.specs.Views.{after_seal, after_hit, after_miss, after_give}
@@ -81,6 +82,11 @@ IsRead r into t r' into' = IsHanded CopiesTo r into t r' into'
 abbrev pub IsLent : {X : Type 0} → (X → ℕ → Entry → X → Type 0) → ℕ → ReaderView → X → Taken →
     ReaderView → X → Type 0
 IsLent took part r taker t r' taker' = IsHanded (λ x. took x part) r taker t r' taker'
+
+-- whatever block of the ring the reader gets next, it can be taken, as `Can` says
+abbrev pub CanTakeNext : (Entry → Type 0) → RingShape → ReaderView → Type 0
+CanTakeNext Can ring r =
+    (e : Entry) → length r.cleared < ring.max_blocks → length e.bytes ≤ ring.size → Can e
 
 -- Why a read took nothing: its try found a word, whose first part is 1 more than the number of the block in that
 -- buffer, and 0 where there is none, and whose

@@ -21,8 +21,8 @@ pub enum ReadStop {
     /// where there was none.
     #[error("block {block} is not there yet")]
     Empty { block: u64, seen: u64 },
-    /// Another reader was copying the block.
-    #[error("reader {reader} copies block {block}")]
+    /// Another reader held the block.
+    #[error("reader {reader} holds block {block}")]
     Busy { block: u64, reader: u32 },
 }
 

@@ -19,9 +19,8 @@ impl Ring {
     ghost use Rattle.ring_words.specs.Views.{after_clear, after_retire, seated_writer};
     ghost use Rattle.ring_words.specs.Plays.{ReaderSettled};
     ghost use Rattle.ring_words.specs.Shape.{IsRing};
-    ghost use Rattle.ring_blocks.specs.declared.Entry.{Entry};
     ghost use Rattle.ring_ends.specs.Passes.{ring_shape, writer_knows, reader_knows, is_read, retired_knows, WritesTo, ReadsFrom, RetiredFrom, HasFreshPass};
-    ghost use Rattle.ring_ends.specs.Answers.{FitsMark, IsWritten, IsWriteStop, IsRead, IsLent, IsReadStop, SawAllPast, IsFull};
+    ghost use Rattle.ring_ends.specs.Answers.{FitsMark, CanTakeNext, IsWritten, IsWriteStop, IsRead, IsLent, IsReadStop, SawAllPast, IsFull};
 
     /// Opens a ring. The pass at place i is that of reader i.
     pub fn open(
@@ -148,7 +147,8 @@ impl Ring {
     }
 
     /// Lends the block that comes after those that the reader cleared to a part of a taker, which takes its bytes where
-    /// they lie. Until it is cleared, the same block is lent again.
+    /// they lie. Meanwhile the reader holds the buffer, and others that read the block find it busy. Until it is
+    /// cleared, the same block is lent again.
     pub fn read_to<T: BlockTaker>(
         &self,
         pass: &mut ReaderPass,
@@ -156,9 +156,8 @@ impl Ring {
         part: usize,
     ) -> Result<Taken, ReadStop>
         requires ring { ReadsFrom self.now pass.old }
-        requires ready { (entry : Entry)
-            → length (reader_knows pass.old).cleared < (ring_shape self.now).max_blocks
-            → length entry.bytes ≤ (ring_shape self.now).size → T.can_take taker.old part entry }
+        requires ready { CanTakeNext (T.can_take taker.old part) (ring_shape self.now)
+            (reader_knows pass.old) }
         ensures ring { ReadsFrom self.now pass.new }
         ensures cases { MatchResult result
             (λ taken. IsLent T.took part (reader_knows pass.old) taker.old

@@ -36,9 +36,8 @@ pub(crate) fn feed_block(
     transfer: usize,
 ) -> Option<Taken>
     requires reads { ReadsBoth hdu.now reader.old }
-    requires ready { (block : Entry)
-        → length (blocks_cleared reader.old) < (data_shape hdu.now).max_blocks
-        → length block.bytes ≤ (data_shape hdu.now).size → CanFeed lane.old transfer block }
+    requires ready { CanTakeNext (CanFeed lane.old transfer) (data_shape hdu.now)
+        (reader_knows reader.old.blocks) }
     ensures reads { ReadsBoth hdu.now reader.new }
     ensures tried { HasTried (reader_knows reader.old.blocks) (reader_knows reader.new.blocks) }
     ensures header { reader.new.header ≡ reader.old.header }
