@@ -8,9 +8,6 @@ use std::collections::LinkedList;
 use std::mem;
 use thiserror::Error;
 
-#[cfg(test)]
-mod tests;
-
 /// There was no memory.
 #[derive(Clone, Copy, PartialEq, Eq, Debug, Error)]
 #[error("no memory")]

@@ -1,9 +1,9 @@
 -- Readers that are given in the order in which the ring was opened.
-use Rattle.std.proofs.Common.{◌≡◌, ℕ, zero, suc, ◌<◌, List, [], ◌∷◌, Option, None, Some, unwrap_or, sym, refl, ap, ◌∙◌, subst, arith}
+use Rattle.std.proofs.Common.{◌≡◌, ℕ, List, Option, None, Some, unwrap_or, sym, ap, ◌∙◌, subst, arith}
 use Rattle.std.proofs.lemmas.Option.{slice_get_within}
 use Rattle.ring_ends.specs.declared.ring.Ring.{Ring}
 use Rattle.ring_ends.specs.declared.passes.EndedReader.{EndedReader}
-use Rattle.ring_ends.specs.Passes.{ring_shape, ended_knows, EndedFrom}
+use Rattle.ring_ends.specs.Passes.{ended_knows}
 use Rattle.ring_ends.specs.Ended.{Gives, AllReaders, AreInOrder}
 
 module _ (ring : Ring) (readers : List (Option EndedReader)) (order : AreInOrder ring readers) where
@@ -19,16 +19,3 @@ module _ (ring : Ring) (readers : List (Option EndedReader)) (order : AreInOrder
     once = λ j k e f at_j at_k same. sym (number_at j e at_j) ∙ (same ∙ number_at k f at_k);
     all = λ i near. let count = order.count in let h = order.each i (omega arith) in (i, h.0, h.1, h.3);
   }
-
-pub three : (ring : Ring) (a b c : EndedReader) → (ring_shape ring).readers ≡ 3 →
-    EndedFrom ring a × ((ended_knows a).number ≡ 0) → EndedFrom ring b × ((ended_knows b).number ≡ 1) →
-    EndedFrom ring c × ((ended_knows c).number ≡ 2) → AllReaders ring (Some a ∷ Some b ∷ Some c ∷ [])
-three ring a b c count first second third =
-    in_order ring (Some a ∷ Some b ∷ Some c ∷ []) record { count = sym count; each = stands }
-  where
-    stands : (j : ℕ) → j < 3 → (e : EndedReader) × Gives (Some a ∷ Some b ∷ Some c ∷ []) j e × EndedFrom ring e
-        × ((ended_knows e).number ≡ j)
-    stands zero near = (a, refl, first.0, first.1)
-    stands (suc zero) near = (b, refl, second.0, second.1)
-    stands (suc (suc zero)) near = (c, refl, third.0, third.1)
-    stands (suc (suc (suc j))) near = absurd (omega arith)

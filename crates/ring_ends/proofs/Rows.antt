@@ -1,6 +1,5 @@
 -- Lists from which the first element is taken, again and again.
-use Rattle.std.proofs.Common.{◌≡◌, ℕ, zero, suc, ◌+◌, List, [], ◌∷◌, ◌++◌, length, get_or, drop, remove, Option, Some, None, slice_get, unwrap_or, sym, refl, ap, ◌∙◌, arith}
-use Rattle.std.proofs.lemmas.Option.{get_or_from_slice_get}
+use Rattle.std.proofs.Common.{◌≡◌, ℕ, zero, suc, ◌+◌, List, [], ◌∷◌, ◌++◌, length, get_or, drop, remove, Option, Some, None, slice_get, refl, ap, ◌∙◌, arith}
 
 module _ {A : Type 0} where
   pub drop_first : (l : List A) (n : ℕ) (a : A) → slice_get l n ≡ Some a → drop n l ≡ a ∷ drop (n + 1) l
@@ -31,9 +30,3 @@ module _ {A : Type 0} where
   at_end [] a (suc n) e = absurd (omega arith)
   at_end (x ∷ xs) a zero e = absurd (omega arith)
   at_end (x ∷ xs) a (suc n) e = at_end xs a n (omega arith)
-
-  -- what is read at place i
-  pub found : (l : List (Option A)) (i : ℕ) (a x : A) (r : Option A) → slice_get l i ≡ Some (Some a) →
-      r ≡ get_or l i r → r ≡ Some x → a ≡ x
-  found l i a x r at read is = ap (λ (o : Option A). unwrap_or o a)
-      (sym (get_or_from_slice_get l i (Some a) r at) ∙ (sym read ∙ is))

@@ -10,8 +10,6 @@ mod finished;
 mod laws;
 mod passes;
 mod ring;
-#[cfg(test)]
-mod tests;
 
 pub use answers::{ReadStop, Taken, WriteStop};
 pub use finished::Finished;

@@ -9,8 +9,6 @@ mod answers;
 mod lines;
 mod replay;
 mod stop;
-#[cfg(test)]
-mod tests;
 mod text;
 
 use crate::replay::replay;

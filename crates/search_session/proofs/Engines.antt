@@ -7,10 +7,11 @@ use mathlib.Core.Logic.{dite}
 use native.Mathlib.Decide.{ℕ_discrete, dec_le}
 use Rattle.dada_model.specs.Observation.{Observation}
 use Rattle.ring_blocks.specs.declared.Entry.{Entry}
+use Rattle.ring_blocks.specs.declared.Mark.{Mark}
 use Rattle.stream_model.specs.Blocks.{is_end, ended_transfers, transfer_bytes}
 use Rattle.stream_model.specs.BlockLaws.{EndsAreCounted, EntriesAreOfTransfers}
 use Rattle.search_engine.specs.Engine.{EngineState, StandsForData}
-use Rattle.search_session.specs.Lanes.{HasEngine, Stands, WasFed, WasFedAt}
+use Rattle.search_session.specs.Lanes.{HasEngine, Stands, WasFed, WasFedAt, CanFeedAt}
 use Rattle.search_session.specs.Shards.{StandsAt, IsEngineAt, AreEnginesAt, EngineFollows, EnginesFollow}
 
 -- ---- one block more
@@ -197,10 +198,50 @@ follow_more xs ys zs a b c first second = record {
 
 -- ---- written in place
 
--- the same lists of engines and mark
-pub fed_as : (old old' new new' : List (Option EngineState)) (k : ℕ) (bytes : List ℕ) (b b' : Bool) →
-    old ≡ old' → b ≡ b' → new ≡ new' → WasFedAt old k bytes b new → WasFedAt old' k bytes b' new'
-fed_as old old' new new' k bytes b b' is_old is_b is_new fed =
-    subst (λ (l : List (Option EngineState)). WasFedAt l k bytes b' new') is_old
-    (subst (λ (c : Bool). WasFedAt old k bytes c new') is_b
-    (subst (λ (l : List (Option EngineState)). WasFedAt old k bytes b l) is_new fed))
+-- the same lists of engines
+pub fed_as : (old old' new new' : List (Option EngineState)) (k : ℕ) (bytes : List ℕ) (b : Bool) →
+    old ≡ old' → new ≡ new' → WasFedAt old k bytes b new → WasFedAt old' k bytes b new'
+fed_as old old' new new' k bytes b is_old is_new fed =
+    subst (λ (l : List (Option EngineState)). WasFedAt l k bytes b new') is_old
+    (subst (λ (l : List (Option EngineState)). WasFedAt old k bytes b l) is_new fed)
+
+-- ---- fed first, and ended then
+
+-- an engine that was fed a block, and goes on, can be ended
+pub can_end : (old new : List (Option EngineState)) (k : ℕ) (bytes : List ℕ) → CanFeedAt old k bytes →
+    WasFedAt old k bytes false new → CanFeedAt new k []
+can_end old new k bytes can fed =
+    let f = fed.this can.0 can.1 in
+    let count = f.2.fed in
+    let most = can.3 in
+    (f.0, f.1, f.2.ended, omega arith)
+
+fed_and_ended : (e f g : EngineState) (bytes : List ℕ) (b : Bool) → WasFed e bytes false f → WasFed f [] b g →
+    WasFed e bytes b g
+fed_and_ended e f g bytes b fed ended =
+    let first = fed.fed in
+    let second = ended.fed in
+    record {
+      same = record { search = ended.same.search ∙ fed.same.search; shard = ended.same.shard ∙ fed.same.shard };
+      fed = omega arith;
+      ended = ended.ended;
+      stands = λ o before was. subst (λ (l : List ℕ). Stands b o l g) (append-nil (before ++ bytes))
+          (ended.stands o (before ++ bytes) (fed.stands o before was));
+    }
+
+-- both are one feed of the block
+pub fed_then_ended : (old mid new : List (Option EngineState)) (k : ℕ) (bytes : List ℕ) (b : Bool) →
+    WasFedAt old k bytes false mid → WasFedAt mid k [] b new → WasFedAt old k bytes b new
+fed_then_ended old mid new k bytes b fed ended = record {
+  count = ended.count ∙ fed.count;
+  others = λ j other. ended.others j other ∙ fed.others j other;
+  this = λ e there.
+      let f = fed.this e there in
+      let g = ended.this f.0 f.1 in
+      (g.0, g.1, fed_and_ended e f.0 g.0 bytes b f.2 g.2);
+}
+
+-- the same mark
+pub ended_at : (old new : List (Option EngineState)) (k : ℕ) (bytes : List ℕ) (m m' : Mark) → m ≡ m' →
+    WasFedAt old k bytes (is_end m) new → WasFedAt old k bytes (is_end m') new
+ended_at old new k bytes m m' is fed = subst (λ (x : Mark). WasFedAt old k bytes (is_end x) new) is fed

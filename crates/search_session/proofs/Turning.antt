@@ -177,7 +177,8 @@ module _ (hdu : Hdu) (x y : ShardActor) (reader reader' : HduReader) (was : x.pa
 pub within_was : (x : ShardActor) (reader : HduReader) (m : ℕ) → x.pass ≡ Here reader →
     length (blocks_cleared reader) < m → length (shard_cleared x) < m
 within_was x reader m was within =
-    subst (λ (l : List Entry). length l < m) (sym (ap (λ (p : HduEnded). (ended_knows (data_end p)).cleared) was)) within
+    subst (λ (l : List Entry). length l < m)
+    (sym (ap (λ (p : HduEnded). (ended_knows (data_end p)).cleared) was)) within
 
 one_cleared : (r r' : ReaderView) (e : Entry) → r' ≡ after_clear r → r.got ≡ Some e → r'.cleared ≡ r.cleared ++ e ∷ []
 one_cleared r r' e is got = ap (λ (v : ReaderView). v.cleared) is

@@ -3,7 +3,6 @@
 use Rattle.std.specs.Prelude.{◌≡◌, ◌≢◌, ℕ, ◌+◌, ◌≤◌, Bool, true, false, List, ◌++◌, length, slice_get, Option, Some}
 use Rattle.dada_model.specs.Observation.{Observation}
 use Rattle.ring_blocks.specs.declared.Entry.{Entry}
-use Rattle.stream_model.specs.Blocks.{is_end}
 use Rattle.search_engine.specs.Engine.{EngineState, StandsForData, HasSearched, SameShard, most_fed}
 use Rattle.search_session.specs.declared.lane.Lane.{Lane}
 
@@ -35,14 +34,18 @@ pub record WasFedAt (old : List (Option EngineState)) (transfer : ℕ) (bytes : 
   pub this : (e : EngineState) → HasEngine old transfer e →
       (f : EngineState) × HasEngine new transfer f × WasFed e bytes is_last f
 
+-- the engine of a transfer has not ended, and has room for these bytes
+abbrev pub CanFeedAt : List (Option EngineState) → ℕ → List ℕ → Type 0
+CanFeedAt engines transfer bytes = (e : EngineState) × HasEngine engines transfer e
+    × (e.has_ended ≡ false) × (e.fed + length bytes ≤ most_fed)
+
 -- ---- a block
 
--- the engine of a transfer has not ended, and has room for a block
+-- the engine of a transfer can be fed a block
 abbrev pub CanFeed : Lane → ℕ → Entry → Type 0
-CanFeed lane transfer block = (e : EngineState) × HasEngine lane.engines.items transfer e
-    × (e.has_ended ≡ false) × (e.fed + length block.bytes ≤ most_fed)
+CanFeed lane transfer block = CanFeedAt lane.engines.items transfer block.bytes
 
--- it was fed the block
+-- it was fed the block, and has not ended
 abbrev pub WasFedBlock : Lane → ℕ → Entry → Lane → Type 0
 WasFedBlock old transfer block new =
-    WasFedAt old.engines.items transfer block.bytes (is_end block.mark) new.engines.items
+    WasFedAt old.engines.items transfer block.bytes false new.engines.items

@@ -5,6 +5,7 @@ use Rattle.dada_model.specs.Observation.{Observation}
 use Rattle.ring_core.specs.Machine.{greatest}
 use Rattle.ring_blocks.specs.declared.Entry.{Entry}
 use Rattle.ring_words.specs.Ring.{Begins}
+use Rattle.ring_words.specs.declared.shape.RingShape.{RingShape}
 use Rattle.ring_words.specs.declared.views.ReaderView.{ReaderView}
 use Rattle.ring_ends.specs.Passes.{reader_knows, ended_knows, is_read}
 use Rattle.ring_ends.specs.declared.answers.Taken.{Taken}
@@ -67,13 +68,15 @@ pub record HasTried (old new : ReaderView) : Type 0 where
   pub tries : new.tries ≡ old.tries + 1
   pub cleared : new.cleared ≡ old.cleared
 
--- the reader got a block of data, which was fed to the engine of a transfer
-pub record HasFed (size : ℕ) (reader : HduReader) (lane : Lane) (transfer : ℕ) (taken : Taken)
-    (block : Entry) (lane' : Lane) : Type 0 where
+-- the reader of a ring of this shape, which had cleared these blocks, got a block of data, and the engine of a transfer
+-- was fed it
+pub record HasFed (ring : RingShape) (cleared : List Entry) (reader : HduReader) (lane : Lane)
+    (transfer : ℕ) (taken : Taken) (block : Entry) (lane' : Lane) : Type 0 where
   pub got : (reader_knows reader.blocks).got ≡ Some block
   pub read : is_read reader.blocks ≡ true
   pub mark : taken.mark ≡ block.mark
-  pub fits : length block.bytes ≤ size
+  pub within : length cleared < ring.max_blocks
+  pub fits : length block.bytes ≤ ring.size
   pub fed : WasFedBlock lane transfer block lane'
 
 -- ---- a shard

@@ -33,7 +33,7 @@ impl<'a, I: Inputs> FeedActor<'a, I> {
         }
     }
 
-    // Whether a turn would seal a block at this moment.
+    // Whether a turn may seal a block at this moment: the data ring has room for one.
     pub(crate) fn could_move(&self, hdu: &Hdu) -> bool {
         self.end.is_none() && hdu.has_room(&self.pass)
     }

@@ -146,7 +146,7 @@ fn shards_ended(slots: &[Option<ShardActor>]) -> bool
     true
 }
 
-// Whether a turn of the shard of a slot would read a block at this moment.
+// Whether a turn of the shard of a slot may read a block at this moment.
 fn shard_could_move(slot: &Option<ShardActor>, hdu: &Hdu) -> bool
     requires { IfSome slot.now (ShardOn hdu.now) }
 {
@@ -156,7 +156,7 @@ fn shard_could_move(slot: &Option<ShardActor>, hdu: &Hdu) -> bool
     }
 }
 
-// Whether a turn of some shard would.
+// Whether a turn of some shard may.
 fn shards_could_move(slots: &[Option<ShardActor>], hdu: &Hdu) -> bool
     requires { ShardsOn hdu.now slots.now }
 {
@@ -221,7 +221,7 @@ impl<'a, I: Inputs, F: Files> Hand<'a, I, F> {
         watch.end(place);
     }
 
-    // Whether a turn of an actor would write or read a block at this moment.
+    // Whether a turn of an actor may write or read a block at this moment.
     fn could_move(&self, hdu: &Hdu) -> bool
         requires { HandOn I.told I.is_open F.is_open hdu.now self.now }
     {
@@ -230,7 +230,7 @@ impl<'a, I: Inputs, F: Files> Hand<'a, I, F> {
             || self.recorder_could_move(hdu)
     }
 
-    // Waits until an actor could move, unless all hands wait in vain. It answers whether one could.
+    // Waits until an actor could move, unless all hands wait in vain. It answers whether an actor could move.
     fn waits_for_work(&self, hdu: &Hdu, place: usize, watch: &Watch) -> bool
         requires { HandOn I.told I.is_open F.is_open hdu.now self.now }
     {
@@ -298,7 +298,7 @@ impl<'a, I: Inputs, F: Files> Hand<'a, I, F> {
         self.feeder_ended() && self.recorder_ended() && shards_ended(self.shards.as_slice())
     }
 
-    // Whether a turn of the feeder would seal a block at this moment.
+    // Whether a turn of the feeder may seal a block at this moment.
     fn feeder_could_move(&self, hdu: &Hdu) -> bool {
         match &self.feeder {
             Some(feeder) => feeder.could_move(hdu),
@@ -306,7 +306,7 @@ impl<'a, I: Inputs, F: Files> Hand<'a, I, F> {
         }
     }
 
-    // Whether a turn of the recorder would read a block at this moment.
+    // Whether a turn of the recorder may read a block at this moment.
     fn recorder_could_move(&self, hdu: &Hdu) -> bool
         requires { HandOn I.told I.is_open F.is_open hdu.now self.now }
     {

@@ -1,8 +1,8 @@
 //! The engines of a shard.
-ghost use Rattle.std.specs.Prelude.{◌≡◌, ℕ, ◌+◌, ◌<◌, ◌≤◌, false, Some, length, slice_get};
+ghost use Rattle.std.specs.Prelude.{◌≡◌, ◌+◌, ◌≤◌, false, Some, [], length};
 ghost use Rattle.stream_model.specs.Blocks.{is_end};
 ghost use Rattle.search_engine.specs.Engine.{EngineState, most_fed};
-ghost use Rattle.search_session.specs.Lanes.{HasEngine, WasFed, WasFedAt};
+ghost use Rattle.search_session.specs.Lanes.{CanFeedAt, WasFed, WasFedAt};
 
 use arrayvec::ArrayVec;
 use dada_hdu::{BlockTaker, Mark};
@@ -30,8 +30,7 @@ fn feed_slot(slot: &mut Option<Engine>, bytes: &[u8], is_last: bool)
 
 // Feeds the engine of a transfer, and ends it after the last bytes.
 fn feed_engine(engines: &mut [Option<Engine>], transfer: usize, bytes: &[u8], is_last: bool)
-    requires there { (e : EngineState) × HasEngine engines.old transfer e
-        × (e.has_ended ≡ false) × (e.fed + length bytes.now ≤ most_fed) }
+    requires { CanFeedAt engines.old transfer bytes.now }
     ensures { WasFedAt engines.old transfer bytes.now is_last engines.new }
 {
     feed_slot(&mut engines[transfer], bytes, is_last);
@@ -47,7 +46,28 @@ fn ends_transfer(mark: Mark) -> bool
     }
 }
 
-/// The engine of a transfer is fed from a block where it lies.
+impl Lane {
+    // Feeds the engine of a transfer, and ends it after the last bytes.
+    fn feed(&mut self, transfer: usize, bytes: &[u8], is_last: bool)
+        requires { CanFeedAt self.old.engines.items transfer bytes.now }
+        ensures { WasFedAt self.old.engines.items transfer bytes.now is_last
+            self.new.engines.items }
+    {
+        feed_engine(self.engines.as_mut_slice(), transfer, bytes, is_last);
+    }
+
+    /// Ends the engine of a transfer that was fed a block with this mark, if it was the last.
+    pub(crate) fn end_after(&mut self, transfer: usize, mark: Mark)
+        requires { CanFeedAt self.old.engines.items transfer [] }
+        ensures { WasFedAt self.old.engines.items transfer [] (is_end mark)
+            self.new.engines.items }
+    {
+        self.feed(transfer, &[], ends_transfer(mark));
+    }
+}
+
+/// The engine of a transfer is fed from a block where it lies. It does not end, so that the block is given back before
+/// folds are searched.
 impl BlockTaker for Lane {
     ghost use Rattle.search_session.specs.Lanes.{CanFeed, WasFedBlock};
 
@@ -55,8 +75,7 @@ impl BlockTaker for Lane {
 
     ghost took = { WasFedBlock };
 
-    fn take(&mut self, part: usize, bytes: &[u8], mark: Mark) {
-        let is_last = ends_transfer(mark);
-        feed_engine(self.engines.as_mut_slice(), part, bytes, is_last);
+    fn take(&mut self, part: usize, bytes: &[u8], _mark: Mark) {
+        self.feed(part, bytes, false);
     }
 }

@@ -2,8 +2,9 @@
 //! other. There may be no shard, or no recorder.
 //!
 //! Actor 0 is the feeder, 1 to 7 are the shards in order, and 8 is the recorder; actor a works in hand a modulo the
-//! number of hands. No turn waits; between its turns a hand waits for the others, until all wait for each other. Rounds
-//! of turns follow one another, the first ones longer and longer, until all have ended. No call takes memory.
+//! number of hands. No turn waits. Between its turns a hand none of whose actors could move waits until one could,
+//! until it is found that all hands wait for each other, or until it has looked a million times. Rounds of turns follow
+//! one another, the first ones longer and longer, until all have ended. No call takes memory.
 #![tactic(auto)]
 
 mod books;

@@ -1,6 +1,7 @@
 //! Reads of the two rings.
-ghost use Rattle.std.specs.Prelude.{◌≡◌, ◌<◌, ◌≤◌, length, None, IfSome};
+ghost use Rattle.std.specs.Prelude.{◌≡◌, ◌≤◌, length, None, IfSome};
 ghost use Rattle.ring_ends.specs.Passes.{reader_knows};
+ghost use Rattle.ring_ends.specs.Answers.{CanTakeNext};
 ghost use Rattle.dada_hdu.specs.Passes.{data_shape, ReadsBoth, EndedFromBoth};
 ghost use Rattle.search_session.specs.Lanes.{CanFeed};
 ghost use Rattle.search_session.specs.Reads.{TriesNext, HasRested};
@@ -45,7 +46,8 @@ pub(crate) fn feed_block(
         → (reader_knows reader.new.blocks).got ≡ (reader_knows reader.old.blocks).got }
     ensures idle { result ≡ None → lane.new ≡ lane.old }
     ensures block { IfSome result (λ taken. (block : Entry)
-        × HasFed (data_shape hdu.now).size reader.new lane.old transfer taken block lane.new) }
+        × HasFed (data_shape hdu.now) (blocks_cleared reader.old) reader.new lane.old transfer
+        taken block lane.new) }
 {
     match hdu.read_to(reader, lane, transfer) {
         Ok(taken) => Some(taken),

@@ -38,7 +38,7 @@ impl<'a, F: Files> RecordActor<'a, F> {
         }
     }
 
-    // Whether a turn would read a block at this moment.
+    // Whether a turn may read a block at this moment: a next one lies in either ring.
     pub(crate) fn could_move(&self, hdu: &Hdu) -> bool
         requires { RecordOn F.is_open hdu.now self.now }
     {

@@ -10,7 +10,8 @@ use psr_base::{Files, Inputs};
 use std::thread::{Threads, for_each_mut};
 
 /// Drives each hand in a thread of its own: each of its actors takes so many turns, fewer only where it ends. No turn
-/// waits; between its turns a hand none of whose actors could move waits, until all hands wait for each other.
+/// waits. Between its turns a hand none of whose actors could move waits until one could, until it is found that all
+/// hands wait for each other, or until it has looked a million times.
 pub fn round<'a, I: Inputs + Send, F: Files + Send, G: Gate + Sync, R: Threads + Sync>(
     rt: &R,
     hands: &mut [Hand<'a, I, F>],

@@ -44,11 +44,14 @@ const GROWTH: u32 = 8;
 /// rest of its turns without a wait, and at about a look's time each it is soon through.
 const LONG_ROUND: u32 = 32_768;
 
+/// No round has more turns, however many a session is given.
+const MOST_TURNS: u32 = GROWTH * LONG_ROUND;
+
 // The turns of the first round of a session that is given so many.
 fn first_round(turns: u32) -> u32
-    ensures { result ≡ min u32.MAX (FIRST * turns) }
+    ensures { result ≡ min MOST_TURNS (FIRST * turns) }
 {
-    turns.saturating_mul(FIRST)
+    turns.saturating_mul(FIRST).min(MOST_TURNS)
 }
 
 // The turns of the round after one of so many.
@@ -125,9 +128,9 @@ fn end_session<'a, I: Inputs, F: Files>(
 }
 
 /// Drives a stage to its end: rounds follow one another until all have ended. The first has sixteen times so many
-/// turns, and each later one eight times as many as the one before it, until one has 32768 or more; no clause says how
-/// many, since no result rests on it. After each the writer is freed of the shards that ended, and of the recorder where
-/// it ended.
+/// turns, but at most 262144, and each later one eight times as many as the one before it, until one has 32768 or more;
+/// no clause says how many, since no result rests on it. After each the writer is freed of the shards that ended, and of
+/// the recorder where it ended.
 pub fn run_session<'a, I: Inputs + Send, F: Files + Send, G: Gate + Sync, R: Threads + Wait + Sync>(
     rt: &R,
     stage: Stage<'a, I, F>,

@@ -45,8 +45,8 @@ impl ShardActor {
     ghost use Rattle.search_session.specs.Shards.{shard_cleared, IsRetired, KeepsEngines, ShardOn, ShardMoved, ShardStepped};
 
     /// Takes one turn. Before the data of each transfer it reads a header and clears it; else it feeds a block of data,
-    /// where it lies, to the engine of its transfer, which ends after the last block, and clears it. A read that finds
-    /// nothing lets other threads run.
+    /// where it lies, to the engine of its transfer, clears it, and ends the engine after the last block. A read that
+    /// finds nothing lets other threads run.
     #[tactic(auto, using(crate::proofs::Moves::shard_turned))]
     pub fn turn(&mut self, hdu: &Hdu)
         requires on { ShardOn hdu.now self.old }
@@ -78,7 +78,8 @@ impl ShardActor {
         pass_header(hdu, reader, self.space.as_mut_slice());
     }
 
-    // Feeds the next block of data to the engine of its transfer.
+    // Feeds the next block of data to the engine of its transfer. The engine ends, and so searches its folds, once the
+    // block is cleared: other shards can take it meanwhile.
     fn take_block(&mut self, hdu: &Hdu)
         requires on { ShardOn hdu.now self.old }
         requires running { self.old.ended ≡ false }
@@ -89,18 +90,20 @@ impl ShardActor {
         ends_are_counted();
         entries_are_of_transfers();
         let transfers = self.part.engines.len();
+        let transfer = self.done as usize;
         let HduEnded::Here(reader) = &mut self.pass else {
             unreachable!()
         };
-        let Some(taken) = feed_block(hdu, reader, &mut self.part, self.done as usize) else {
+        let Some(taken) = feed_block(hdu, reader, &mut self.part, transfer) else {
             return;
         };
         hdu.clear(reader);
+        self.part.end_after(transfer, taken.mark);
         self.done += ended_with(taken.mark);
         self.ended = ends_stream(taken.mark, self.done as usize, transfers);
     }
 
-    // Whether a turn would read a block at this moment.
+    // Whether a turn may read a block at this moment: a next one lies in either ring.
     pub(crate) fn could_move(&self, hdu: &Hdu) -> bool
         requires { ShardOn hdu.now self.now }
     {

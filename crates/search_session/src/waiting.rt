@@ -69,8 +69,9 @@ impl Watch {
         self.leave();
     }
 
-    /// Counts a look in vain of the hand at a place. It answers whether all wait in vain: whether none was at work
-    /// since the hand's note, and each other one found nothing since. Where one was at work, the hand notes anew.
+    /// Counts a look in vain of the hand at a place. It answers whether all wait in vain: another hand found so, or
+    /// none was at work since this hand's note and each other one had nothing to find at it. Where one was at work, the
+    /// hand notes anew.
     pub(crate) fn is_in_vain(&self, place: usize, note: &mut Option<Note>) -> bool {
         self.count_look(place);
         if self.stuck.load(Ordering::SeqCst) {
@@ -81,15 +82,15 @@ impl Watch {
             return false;
         };
         // The looks come first: who came back before them, and looks in vain again, is seen by its return.
-        let found_nothing = self.others_found_nothing(place, &noted);
+        let others_wait = self.others_found_nothing(place, &noted);
         if !self.is_quiet_since(&noted) {
             *note = self.note();
             return false;
         }
-        if found_nothing {
+        if others_wait {
             self.stuck.store(true, Ordering::SeqCst);
         }
-        found_nothing
+        others_wait
     }
 
     // One look more of the hand at a place.
@@ -112,7 +113,7 @@ impl Watch {
         self.at_work.load(Ordering::SeqCst) == 0
     }
 
-    // A note, unless a hand is at work.
+    // A note, unless a hand is at work. The returns come first: who comes back after them is seen by its return.
     fn note(&self) -> Option<Note> {
         let returns = self.returns.load(Ordering::SeqCst);
         if !self.is_nobody_at_work() {

@@ -7,7 +7,7 @@ use Rattle.search_session.proofs.lane.feed_engine.Goals as goal
 
 pub feed_slot-requires : goal.feed_slot-requires
 feed_slot-requires c =
-    let h = c.requires.there in (
+    let h = c.requires in (
       h.0,
       get_or_from_slice_get c.args.engines.now c.args.transfer (Some h.0) c.index-engines-transfer.result h.1,
       h.2,

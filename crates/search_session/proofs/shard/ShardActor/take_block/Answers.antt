@@ -4,6 +4,7 @@ use Rattle.ring_blocks.specs.declared.Entry.{Entry}
 use Rattle.ring_blocks.specs.declared.Mark.{Mark}
 use Rattle.dada_hdu.specs.Passes.{data_shape}
 use Rattle.stream_model.specs.Blocks.{is_end}
+use Rattle.search_session.proofs.Engines.{can_end, fed_then_ended, ended_at}
 use Rattle.search_session.proofs.Turning.{on_still, stepped_still, within_was, done_below, one_most, takes_block, has_cleared, HasCleared, ended_as, on_fed, stepped_fed, found_none}
 use Rattle.search_session.proofs.shard.ShardActor.take_block.Goals as goal
 
@@ -26,6 +27,15 @@ returns-in_default-feed_block-clause-stepped c = stepped_still c.args.hdu.now c.
     (c.in_default-feed_block.ensures.none refl) c.in_default-feed_block.ensures.header)
     c.in_default-feed_block.ensures.tried.cleared (c.in_default-feed_block.ensures.idle refl) refl refl refl
 
+pub end_after-requires : goal.end_after-requires
+end_after-requires c =
+    let hdu = c.args.hdu.now in
+    let x = c.args.self.now in
+    let b = c.in-Some.ensures.block in
+    can_end x.part.engines.items c.feed_block.new.lane.engines.items x.done b.0.bytes
+    (takes_block hdu x (length b.0.bytes) c.requires.on c.requires.running b.1.fits
+    (within_was x c.in-Here.reader (data_shape hdu).max_blocks c.in-Here.is b.1.within)) b.1.fed
+
 pub overflow_add-self : goal.overflow_add-self
 overflow_add-self c =
     let below = done_below c.args.hdu.now c.args.self.now c.requires.on c.requires.running in
@@ -41,15 +51,19 @@ returns c =
     let cleared : HasCleared c.in-Here.reader c.clear.new.pass block =
     has_cleared c.in-Here.reader c.feed_block.new.reader c.clear.new.pass block c.clear.result c.in-Some.ensures.tried
     c.in-Some.ensures.header b.1.got c.clear.ensures.blocks c.clear.ensures.header in
+    let lanes = c.end_after.new.self.engines.items in
+    let fed = ended_at x.part.engines.items lanes x.done block.bytes c.in-Some.taken.mark block.mark b.1.mark
+    (fed_then_ended x.part.engines.items c.feed_block.new.lane.engines.items lanes x.done block.bytes
+    (is_end c.in-Some.taken.mark) b.1.fed c.end_after.ensures) in
     let done : x.done + c.ended_with.result ≡ x.done + (if is_end block.mark then 1 else 0) =
     ap (λ (n : ℕ). x.done + n) (c.ended_with.ensures ∙ ap (λ (m : Mark). if is_end m then 1 else 0) b.1.mark) in
     record {
       on = on_fed hdu x _ c.in-Here.reader c.clear.new.pass c.in-Here.is refl c.ends_are_counted.ensures
-          c.entries_are_of_transfers.ensures block cleared.more b.1.fits c.requires.on b.1.fed c.clear.ensures.ring refl
+          c.entries_are_of_transfers.ensures block cleared.more b.1.fits c.requires.on fed c.clear.ensures.ring refl
           refl c.requires.running done (ended_as c.ends_stream-self.result c.len-transfers.result
-          (length c.feed_block.new.lane.engines.items) (x.done + c.ended_with.result) c.in-Some.taken.mark block.mark
-          c.ends_stream-self.ensures (c.len-transfers.ensures.value ∙ sym b.1.fed.count) b.1.mark);
+          (length lanes) (x.done + c.ended_with.result) c.in-Some.taken.mark block.mark
+          c.ends_stream-self.ensures (c.len-transfers.ensures.value ∙ sym fed.count) b.1.mark);
       stepped = stepped_fed hdu x _ c.in-Here.reader c.clear.new.pass c.in-Here.is refl c.ends_are_counted.ensures
-          c.entries_are_of_transfers.ensures block cleared.more b.1.fits c.requires.on b.1.fed false c.requires.next
+          c.entries_are_of_transfers.ensures block cleared.more b.1.fits c.requires.on fed false c.requires.next
           cleared.read refl;
     }

@@ -1,22 +1,18 @@
 use Rattle.std.proofs.Common.{◌≡◌, List, ◌++◌, Option, length, take, drop, sym, ap, ◌∙◌, subst}
-use Rattle.stream_model.specs.Blocks.{is_end}
 use Rattle.search_engine.specs.Engine.{EngineState}
 use Rattle.search_session.specs.Lanes.{HasEngine}
 use Rattle.search_session.proofs.Rows.{all_written}
 use Rattle.search_session.proofs.Engines.{fed_as}
-use Rattle.search_session.proofs.lane.LaneBlockTaker.take.Goals as goal
+use Rattle.search_session.proofs.lane.Lane.feed.Goals as goal
 
 pub feed_engine-requires : goal.feed_engine-requires
 feed_engine-requires c =
-    let h = c.requires in
-    record {
-      there = (
-        h.0,
-        subst (λ (l : List (Option EngineState)). HasEngine l c.args.part h.0) (sym c.as_mut_slice.ensures.value) h.1,
-        h.2,
-        h.3,
-      );
-    }
+    let h = c.requires in (
+      h.0,
+      subst (λ (l : List (Option EngineState)). HasEngine l c.args.transfer h.0) (sym c.as_mut_slice.ensures.value) h.1,
+      h.2,
+      h.3,
+    )
 
 pub returns : goal.returns
 returns c =
@@ -24,6 +20,6 @@ returns c =
     let new = c.feed_engine.new.engines in
     let count : length new ≡ length old = c.feed_engine.ensures.count
     ∙ ap (λ (l : List (Option EngineState)). length l) c.as_mut_slice.ensures.value in
-    fed_as c.as_mut_slice.result.now old new (take (length old) (new ++ drop (length new) old)) c.args.part
-    c.args.bytes.now c.ends_transfer-is_last.result (is_end c.args.mark) c.as_mut_slice.ensures.value
-    c.ends_transfer-is_last.ensures (sym (all_written (length old) old new count)) c.feed_engine.ensures
+    fed_as c.as_mut_slice.result.now old new (take (length old) (new ++ drop (length new) old)) c.args.transfer
+    c.args.bytes.now c.args.is_last c.as_mut_slice.ensures.value (sym (all_written (length old) old new count))
+    c.feed_engine.ensures

@@ -1,7 +1,7 @@
 // Measures, turns on one thread, and threads.
 ghost use Rattle.std.specs.Prelude.{◌≡◌};
 
-use crate::{RingShape, ShapeFault};
+use ring_ends::{RingShape, ShapeFault};
 use std::test::Fail;
 
 mod duo;

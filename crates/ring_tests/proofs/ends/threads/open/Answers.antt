@@ -3,8 +3,8 @@ use Rattle.ring_words.specs.declared.shape.RingShape.{RingShape}
 use Rattle.ring_words.specs.declared.views.ReaderView.{ReaderView}
 use Rattle.ring_ends.specs.declared.passes.ReaderPass.{ReaderPass}
 use Rattle.ring_ends.specs.Passes.{reader_knows, ReadsFrom}
-use Rattle.ring_ends.proofs.Rows.{removed, left_over}
-use Rattle.ring_ends.proofs.tests.threads.open.Goals as goal
+use Rattle.ring_tests.proofs.Rows.{removed, left_over}
+use Rattle.ring_tests.proofs.ends.threads.open.Goals as goal
 
 pub invariant_of-result : goal.invariant_of-result
 invariant_of-result c = let opened = c.in-Ok.ensures in let count = opened.count in let three = c.requires.three in

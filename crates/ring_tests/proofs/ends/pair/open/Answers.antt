@@ -1,8 +1,8 @@
 use Rattle.std.proofs.Common.{subst, ap, ◌∙◌, arith}
 use Rattle.ring_words.specs.declared.shape.RingShape.{RingShape}
 use Rattle.ring_ends.specs.Passes.{ReadsFrom}
-use Rattle.ring_ends.proofs.Rows.{found}
-use Rattle.ring_ends.proofs.tests.pair.open.Goals as goal
+use Rattle.ring_tests.proofs.Rows.{found}
+use Rattle.ring_tests.proofs.ends.pair.open.Goals as goal
 
 pub invariant_of-result : goal.invariant_of-result
 invariant_of-result c = let opened = c.in-Ok.ensures in let count = opened.count in let one = c.requires.one in

@@ -4,7 +4,7 @@ ghost use Rattle.ring_words.specs.Shape.{IsRing};
 ghost use Rattle.ring_ends.specs.Passes.{ring_shape, reader_knows, WritesTo, ReadsFrom};
 
 use super::shape;
-use crate::{Mark, ReadStop, ReaderPass, Ring, RingShape, Taken, WriteStop, WriterPass};
+use ring_ends::{Mark, ReadStop, ReaderPass, Ring, RingShape, Taken, WriteStop, WriterPass};
 use std::alloc::Global;
 use std::test::Fail;
 

@@ -1,5 +1,5 @@
 // A block is filled, by a copy or by an exchange, and copied.
-use crate::{Block, Mark};
+use ring_blocks::{Block, Mark};
 use std::test::Fail;
 
 #[test]

@@ -1,6 +1,6 @@
 // Traces with their answers, and the faults of what a trace is read from and written to.
-use crate::run_trace;
 use psr_base::{MemInputs, MemSink, Memory};
+use ring_trace::run_trace;
 use std::alloc::Global;
 use std::test::Fail;
 

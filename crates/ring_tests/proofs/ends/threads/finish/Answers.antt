@@ -1,8 +1,8 @@
 use Rattle.std.proofs.Common.{List, [], ◌∷◌, ◌++◌, Option, Some, sym, subst, ap, ◌∙◌}
 use Rattle.ring_ends.specs.declared.passes.EndedReader.{EndedReader}
 use Rattle.ring_ends.specs.Ended.{AllReaders}
-use Rattle.ring_ends.proofs.Ordered.{three}
-use Rattle.ring_ends.proofs.tests.threads.finish.Goals as goal
+use Rattle.ring_tests.proofs.Readers.{three}
+use Rattle.ring_tests.proofs.ends.threads.finish.Goals as goal
 
 pub finish-requires-clause-readers : goal.finish-requires-clause-readers
 finish-requires-clause-readers c = let a = c.args in
@@ -11,4 +11,5 @@ finish-requires-clause-readers c = let a = c.args in
     (c.push.ensures.items ∙ ap (λ (l : List (Option EndedReader)).
     l ++ Some a.first ∷ []) c.new-readers.ensures)))) in
     subst (λ (l : List (Option EndedReader)). AllReaders a.ring l) (sym items)
-    (three a.ring a.first a.second a.third c.requires.three c.requires.first c.requires.second c.requires.third)
+    (c.order_is_enough.ensures a.ring _
+    (three a.ring a.first a.second a.third c.requires.three c.requires.first c.requires.second c.requires.third))

@@ -7,8 +7,11 @@ ghost use Rattle.ring_ends.specs.Passes.{ring_shape, writer_knows, reader_knows,
 
 use super::pair::Pair;
 use super::{pair, shape};
-use crate::{EndedReader, Finished, Mark, ReaderPass, RetiredPass, Ring, RingShape, WriterPass};
 use arrayvec::ArrayVec;
+use ring_ends::{
+    EndedReader, Finished, Mark, ReaderPass, RetiredPass, Ring, RingShape, WriterPass,
+    order_is_enough,
+};
 use std::alloc::Global;
 use std::test::Fail;
 use std::thread;
@@ -212,6 +215,7 @@ fn finish(
     requires third { EndedFrom ring third × ((ended_knows third).number ≡ 2) }
     ensures { (finished_shape result).readers ≡ 3 }
 {
+    order_is_enough();
     let mut readers = ArrayVec::new();
     readers.push(Some(first));
     readers.push(Some(second));

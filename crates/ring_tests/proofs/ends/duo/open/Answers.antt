@@ -2,8 +2,8 @@ use Rattle.std.proofs.Common.{◌≡◌, List, drop, Option, Some, unwrap_or, re
 use Rattle.ring_words.specs.declared.shape.RingShape.{RingShape}
 use Rattle.ring_ends.specs.declared.passes.ReaderPass.{ReaderPass}
 use Rattle.ring_ends.specs.Passes.{ReadsFrom}
-use Rattle.ring_ends.proofs.Rows.{removed, left_over}
-use Rattle.ring_ends.proofs.tests.duo.open.Goals as goal
+use Rattle.ring_tests.proofs.Rows.{removed, left_over}
+use Rattle.ring_tests.proofs.ends.duo.open.Goals as goal
 
 pub invariant_of-result : goal.invariant_of-result
 invariant_of-result c = let opened = c.in-Ok.ensures in let count = opened.count in let two = c.requires.two in
