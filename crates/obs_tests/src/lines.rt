@@ -1,7 +1,26 @@
-// Tables as text, a case on each line, whose fields `|` parts.
+// Tables as text, a case on each line.
 use std::alloc::{AllocError, Global};
 
-/// The fields of a line. Those that it doesn't have are empty.
+// A number that no call of a case has.
+const NEVER: u64 = 99;
+
+/// The words of a line. Those that it doesn't have are empty.
+pub(crate) fn words_of(line: &'static str) -> [&'static str; 5] {
+    let mut words = [""; 5];
+    for (i, word) in line.split_whitespace().enumerate() {
+        if i < words.len() {
+            words[i] = word;
+        }
+    }
+    words
+}
+
+/// The number of a call that fails, or that of none where no number stands there.
+pub(crate) fn call_of(number: &str) -> u64 {
+    number.parse::<u64>().unwrap_or(NEVER)
+}
+
+/// The fields of a line, which `|` parts. Those that it doesn't have are empty.
 pub(crate) fn fields_of(line: &'static str) -> [&'static str; 4] {
     let mut fields = [""; 4];
     for (i, field) in line.split('|').enumerate() {

@@ -1,4 +1,5 @@
 // Observations of headers, and the headers of later files.
+use crate::lines::words_of;
 use dada_header::Header;
 use obs_plan::{Key, ObsFault, Observation};
 use std::alloc::Global;
@@ -225,17 +226,6 @@ wide dm 512 24975
 rising dm 1 104
 ";
 
-// The words of a line. Those that it doesn't have are empty.
-fn words_of(line: &str) -> [&str; 4] {
-    let mut words = [""; 4];
-    for (i, word) in line.split_whitespace().enumerate() {
-        if i < words.len() {
-            words[i] = word;
-        }
-    }
-    words
-}
-
 // Whether an observation has the edge, or the dispersion measure, of a number.
 fn has(observation: &Observation, what: &str, number: u32, wanted: &str) -> bool {
     if what == "dm" {
@@ -248,8 +238,8 @@ fn has(observation: &Observation, what: &str, number: u32, wanted: &str) -> bool
 }
 
 // Whether the observation of a line has the value that it says.
-fn has_value(alloc: Global, line: &str) -> bool {
-    let [name, what, number, wanted] = words_of(line);
+fn has_value(alloc: Global, line: &'static str) -> bool {
+    let [name, what, number, wanted, ..] = words_of(line);
     let Ok(number) = number.parse::<u32>() else {
         return false;
     };
