@@ -1,5 +1,0 @@
-use Rattle.carry_bench.proofs.Passing.{GoesOn}
-use Rattle.carry_bench.proofs.work.pass.Given as goal
-
-abbrev pub invariant-loop-d : goal.invariant-loop-d
-invariant-loop-d l = GoesOn l.initial.carry l.carry l.d

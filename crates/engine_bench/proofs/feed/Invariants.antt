@@ -1,8 +1,0 @@
-use Rattle.std.proofs.Common.{◌≡◌, ◌*◌, ◌^◌, ◌≤◌, false}
-use Rattle.engine_bench.proofs.feed.Given as goal
-
-abbrev pub invariant-loop-turn : goal.invariant-loop-turn
-invariant-loop-turn l = record {
-  running : l.engine.has_ended ≡ false;
-  few : l.engine.fed ≤ l.turn * 2 ^ 18;
-}

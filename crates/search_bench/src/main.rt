@@ -1,0 +1,126 @@
+//! Measures the parts of a search, on one thread: tables, whole searches of a shard, rows and folds, unpacking.
+//!
+//! It does what its words ask for, and prints the time:
+//! - `carry feed CHUNK TIMES` and `carry pass CHUNK TIMES` take a chunk of so many spectra into tables so often;
+//! - `engine SPECTRA WIDEST PERIODS CHUNK` searches so many spectra, with boxes of up to WIDEST path sums and folds of
+//!   the periods from 2 up to PERIODS, in chunks of up to CHUNK spectra (256 with no CHUNK);
+//! - `rows LENGTH REPEATS` adds rows of so many values so often;
+//! - `fold PERIOD HALVINGS REPEATS` folds 2^HALVINGS rows of PERIOD values so often;
+//! - `unpack words REPEATS` and `unpack bytes REPEATS` make rows of 32 bits, or of bytes, so often.
+//!
+//! With no words it does a little of each. Other words are refused, with status 2.
+#![tactic(auto)]
+
+mod carry;
+mod engine;
+mod rows;
+mod unpack;
+
+use std::process::ExitCode;
+use std::rt::Clock;
+use std::{env, io};
+
+/// Something that is measured.
+#[derive(Clone, Copy)]
+enum Work {
+    Carry(carry::Work),
+    Engine(engine::Work),
+    Rows(rows::Work),
+    Unpack(unpack::Work),
+}
+
+/// What is done where there are no words.
+const FEW: [Work; 8] = [
+    Work::Carry(carry::Work {
+        way: carry::Way::Feed,
+        chunk: 16,
+        times: 3,
+    }),
+    Work::Carry(carry::Work {
+        way: carry::Way::Pass,
+        chunk: 16,
+        times: 3,
+    }),
+    Work::Engine(engine::Work {
+        spectra: 256,
+        widest: 1,
+        periods: 0,
+        chunk: 256,
+    }),
+    Work::Rows(rows::Work::Sums {
+        length: 100,
+        repeats: 3,
+    }),
+    Work::Rows(rows::Work::Fold {
+        period: 40,
+        halvings: 5,
+        repeats: 2,
+    }),
+    Work::Rows(rows::Work::Fold {
+        period: 7,
+        halvings: 6,
+        repeats: 2,
+    }),
+    Work::Unpack(unpack::Work {
+        into: unpack::Kind::Words,
+        repeats: 2,
+    }),
+    Work::Unpack(unpack::Work {
+        into: unpack::Kind::Bytes,
+        repeats: 2,
+    }),
+];
+
+/// Words that ask for nothing that is done here.
+const FAULTY_WORDS: u8 = 2;
+
+// What the words ask for, if they are such words.
+fn work_of(words: &[String]) -> Option<Work> {
+    let (what, words) = words.split_first()?;
+    match what.as_str() {
+        "carry" => Some(Work::Carry(carry::work_of(words)?)),
+        "engine" => Some(Work::Engine(engine::work_of(words)?)),
+        "rows" => Some(Work::Rows(rows::sums_of(words)?)),
+        "fold" => Some(Work::Rows(rows::fold_of(words)?)),
+        "unpack" => Some(Work::Unpack(unpack::work_of(words)?)),
+        _ => None,
+    }
+}
+
+// Does the work, and prints what came of it, and the time that it took where that is asked for.
+fn show<R: AllocGlobal + Print + Clock>(rt: &R, work: Work, timed: bool) -> io::Result<()> {
+    match work {
+        Work::Carry(work) => carry::show(rt, work, timed),
+        Work::Engine(work) => engine::show(rt, work, timed),
+        Work::Rows(work) => rows::show(rt, work, timed),
+        Work::Unpack(work) => unpack::show(rt, work, timed),
+    }
+}
+
+// Answers the words, and says the program's status.
+fn answer<R: AllocGlobal + Print + Clock>(rt: &R, words: &[String]) -> io::Result<u8> {
+    if words.is_empty() {
+        for work in FEW {
+            show(rt, work, false)?;
+        }
+        return Ok(0);
+    }
+    match work_of(words) {
+        Some(work) => {
+            show(rt, work, true)?;
+            Ok(0)
+        }
+        None => {
+            println!(rt;
+                "words: carry, engine, rows, fold or unpack, and what each says of its work"
+            )?;
+            Ok(FAULTY_WORDS)
+        }
+    }
+}
+
+fn main(rt: HostRuntime) -> io::Result<ExitCode> {
+    let words: Vec<String> = env::args(&rt)?.skip(1).collect(rt.alloc())?;
+    let status = answer(&rt, words.as_slice())?;
+    Ok(ExitCode::from(status))
+}

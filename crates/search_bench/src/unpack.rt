@@ -1,0 +1,82 @@
+//! Turns spectra of 1024 channels into rows, in chunks of 256 spectra.
+
+use psr_base::Memory;
+use spectra_rows::Unpacker;
+use std::alloc::Global;
+use std::io;
+use std::rt::Clock;
+use std::time::Instant;
+
+/// What rows are made of: words of 32 bits, or bytes.
+#[derive(Clone, Copy)]
+pub enum Kind {
+    Words,
+    Bytes,
+}
+
+/// A chunk that is unpacked so often.
+#[derive(Clone, Copy)]
+pub struct Work {
+    pub into: Kind,
+    pub repeats: u32,
+}
+
+/// What the words KIND REPEATS ask for, if they are such words.
+pub fn work_of(words: &[String]) -> Option<Work> {
+    let [kind, repeats] = words else {
+        return None;
+    };
+    Some(Work {
+        into: match kind.as_str() {
+            "words" => Kind::Words,
+            "bytes" => Kind::Bytes,
+            _ => return None,
+        },
+        repeats: repeats.as_str().parse().ok()?,
+    })
+}
+
+/// Does the work, and prints a sum of what was unpacked, and how long it took where it is timed.
+pub fn show<R: AllocGlobal + Print + Clock>(rt: &R, work: Work, timed: bool) -> io::Result<()> {
+    let start = Instant::now(rt)?;
+    match unpack_often(rt.alloc(), work) {
+        Ok(sum) => println!(rt; "a sum of {sum}")?,
+        Err(_) => println!(rt; "no memory")?,
+    }
+    if timed {
+        let nanos = start.elapsed(rt)?.as_nanos();
+        println!(rt; "{nanos} ns in all")?;
+    }
+    Ok(())
+}
+
+// Opens an unpacker into rows of such a kind.
+fn opened(alloc: Global, into: Kind) -> Result<Unpacker, Memory> {
+    match into {
+        Kind::Words => Unpacker::open(alloc, 1024, true, 8, 1, 256),
+        Kind::Bytes => Unpacker::open_bytes(alloc, 1024, true, 256),
+    }
+}
+
+// A value of the rows, or 0 past their end.
+fn value_at(unpacker: &Unpacker, at: usize) -> u32 {
+    if unpacker.in_bytes() {
+        u32::from(unpacker.byte_rows().get(at).copied().unwrap_or(0))
+    } else {
+        unpacker.rows().get(at).copied().unwrap_or(0)
+    }
+}
+
+// Unpacks a chunk so often, and gives a sum of what was unpacked.
+fn unpack_often(alloc: Global, work: Work) -> Result<u32, Memory> {
+    let bytes = vec![in alloc; 3_u8; 262144]?;
+    let mut unpacker = opened(alloc, work.into)?;
+    let mut sum = 0_u32;
+    for turn in 0..work.repeats {
+        let taken = unpacker.push(bytes.as_slice());
+        let at = taken.wrapping_add(turn as usize) & 0xFFFF;
+        sum = sum.wrapping_add(value_at(&unpacker, at));
+        unpacker.taken();
+    }
+    Ok(sum)
+}
