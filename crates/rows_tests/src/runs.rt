@@ -1,6 +1,6 @@
 // All sums of runs against direct ones.
 ghost use Rattle.std.specs.Prelude.{IfSome};
-ghost use Rattle.carry_tests.specs.Ready.{IsShape};
+ghost use Rattle.rows_tests.specs.Ready.{IsShape};
 
 use crate::fed::{Fed, Shape};
 use psr_base::Memory;

@@ -3,7 +3,7 @@ ghost use Rattle.std.specs.Prelude.{◌≡◌, ℕ, ◌+◌, ◌*◌, ◌^◌, �
 ghost use Rattle.dada_model.specs.Edges.{AreEdges};
 ghost use Rattle.row_schedule.specs.Samples.{values_of};
 ghost use Rattle.fdmt_carry.specs.Tables.{node_count};
-ghost use Rattle.carry_tests.specs.Ready.{IsReady, IsShape};
+ghost use Rattle.rows_tests.specs.Ready.{IsReady, IsShape};
 
 use crate::direct::{Stream, delays_of};
 use fdmt_carry::{Carry, Samples};
