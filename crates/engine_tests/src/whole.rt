@@ -178,7 +178,26 @@ fn agrees(
     Ok(counts && book.kept() == wanted.as_slice())
 }
 
-// Whether all shards of a search do, where the bytes are fed in pieces of these lengths.
+// Whether a shard of a search does, where the bytes are fed in pieces of these lengths.
+fn shard_agrees(
+    alloc: Global,
+    observation: &Observation,
+    search: &Search,
+    shard: u32,
+    bytes: &[u8],
+    lengths: &[usize],
+    direct: &[Candidate],
+) -> Result<bool, Memory>
+    requires range { SettingsInRange search.now }
+    requires shard { shard < search.now.shards }
+{
+    match searched(alloc, observation, search, shard, bytes, lengths) {
+        Ok(engine) => agrees(alloc, &engine, search, shard, direct),
+        Err(_) => Err(Memory),
+    }
+}
+
+// Whether all shards do.
 fn all_agree(
     alloc: Global,
     observation: &Observation,
@@ -190,10 +209,7 @@ fn all_agree(
     requires { SettingsInRange search.now }
 {
     for shard in 0..search.shards {
-        let Ok(engine) = searched(alloc, observation, search, shard, bytes, lengths) else {
-            return Err(Memory);
-        };
-        if !agrees(alloc, &engine, search, shard, direct)? {
+        if !shard_agrees(alloc, observation, search, shard, bytes, lengths, direct)? {
             return Ok(false);
         }
     }
@@ -274,6 +290,17 @@ fn all_candidates_are_the_direct_ones(rt: HostRuntime) -> Result<(), Memory> {
     Ok(())
 }
 
+// The folds among candidates.
+fn folds_among(alloc: Global, candidates: &[Candidate]) -> Option<Vec<Candidate>> {
+    let mut folds = Vec::new(alloc);
+    for candidate in candidates {
+        if matches!(candidate, Candidate::Fold { .. }) {
+            folds.push(*candidate).ok()?;
+        }
+    }
+    Some(folds)
+}
+
 // The folds of a search of one delay, in two channels, with periods from the least one up to 2.
 fn folds_of(
     alloc: Global,
@@ -295,14 +322,10 @@ fn folds_of(
     if !search.in_range() {
         return None;
     }
-    let engine = searched(alloc, observation, &search, 0, bytes, &[3]).ok()?;
-    let mut folds = Vec::new(alloc);
-    for candidate in engine.book().kept() {
-        if matches!(candidate, Candidate::Fold { .. }) {
-            folds.push(*candidate).ok()?;
-        }
+    match searched(alloc, observation, &search, 0, bytes, &[3]) {
+        Ok(engine) => folds_among(alloc, engine.book().kept()),
+        Err(_) => None,
     }
-    Some(folds)
 }
 
 // Whether these folds are found.
