@@ -5,6 +5,7 @@ ghost use Rattle.search_model.specs.Search.{SettingsInRange};
 use crate::direct_folds::{is_folded, list_delay};
 use crate::direct_sums::{Row, Samples, list_pulses, rows};
 use crate::made::{TWO_CHANNELS, fields_of, observation};
+use candidate_book::Book;
 use obs_plan::Observation;
 use psr_base::Memory;
 use search_engine::{Engine, PlanFault};
@@ -72,6 +73,13 @@ fn feed_cut(engine: &mut Engine, bytes: &[u8], lengths: &[usize]) {
     }
 }
 
+/// What a search found, and in how many spectra.
+#[derive(Drop)]
+struct Found {
+    book: Book,
+    spectra: u64,
+}
+
 // Searches bytes that are fed in pieces of these lengths.
 fn searched(
     alloc: Global,
@@ -80,7 +88,7 @@ fn searched(
     shard: u32,
     bytes: &[u8],
     lengths: &[usize],
-) -> Result<Engine, PlanFault>
+) -> Result<Found, PlanFault>
     requires range { SettingsInRange search.now }
     requires shard { shard < search.now.shards }
 {
@@ -89,7 +97,11 @@ fn searched(
     if !engine.has_ended() {
         engine.end();
     }
-    Ok(engine)
+    let spectra = engine.spectra();
+    Ok(Found {
+        book: engine.into_book(),
+        spectra,
+    })
 }
 
 // Lists the detected folds of all delays.
@@ -165,7 +177,7 @@ fn shard_start(search: &Search, shard: u32) -> u32 {
 // Whether a search of a shard found the direct candidates of its delays.
 fn agrees(
     alloc: Global,
-    engine: &Engine,
+    found: &Found,
     search: &Search,
     shard: u32,
     direct: &[Candidate],
@@ -173,8 +185,8 @@ fn agrees(
     let first = shard_start(search, shard);
     let end = shard_start(search, shard.wrapping_add(1));
     let wanted = of_delays(alloc, direct, first, end)?;
-    let book = engine.book();
-    let counts = engine.spectra() == u64::from(SPECTRA) && book.count() == wanted.len() as u64;
+    let book = &found.book;
+    let counts = found.spectra == u64::from(SPECTRA) && book.count() == wanted.len() as u64;
     Ok(counts && book.kept() == wanted.as_slice())
 }
 
@@ -192,7 +204,7 @@ fn shard_agrees(
     requires shard { shard < search.now.shards }
 {
     match searched(alloc, observation, search, shard, bytes, lengths) {
-        Ok(engine) => agrees(alloc, &engine, search, shard, direct),
+        Ok(found) => agrees(alloc, &found, search, shard, direct),
         Err(_) => Err(Memory),
     }
 }
@@ -323,7 +335,7 @@ fn folds_of(
         return None;
     }
     match searched(alloc, observation, &search, 0, bytes, &[3]) {
-        Ok(engine) => folds_among(alloc, engine.book().kept()),
+        Ok(found) => folds_among(alloc, found.book.kept()),
         Err(_) => None,
     }
 }
