@@ -5,6 +5,7 @@ ghost use Rattle.search_model.specs.Search.{SettingsInRange};
 use crate::direct_folds::{is_folded, list_delay};
 use crate::direct_sums::{Row, Samples, list_pulses, rows};
 use crate::made::{TWO_CHANNELS, fields_of, observation};
+use candidate_book::Book;
 use obs_plan::Observation;
 use psr_base::Memory;
 use search_engine::{Engine, PlanFault};
@@ -72,6 +73,13 @@ fn feed_cut(engine: &mut Engine, bytes: &[u8], lengths: &[usize]) {
     }
 }
 
+/// What a search found, and in how many spectra.
+#[derive(Drop)]
+struct Found {
+    book: Book,
+    spectra: u64,
+}
+
 // Searches bytes that are fed in pieces of these lengths.
 fn searched(
     alloc: Global,
@@ -80,7 +88,7 @@ fn searched(
     shard: u32,
     bytes: &[u8],
     lengths: &[usize],
-) -> Result<Engine, PlanFault>
+) -> Result<Found, PlanFault>
     requires range { SettingsInRange search.now }
     requires shard { shard < search.now.shards }
 {
@@ -89,7 +97,11 @@ fn searched(
     if !engine.has_ended() {
         engine.end();
     }
-    Ok(engine)
+    let spectra = engine.spectra();
+    Ok(Found {
+        book: engine.into_book(),
+        spectra,
+    })
 }
 
 // Lists the detected folds of all delays.
@@ -165,7 +177,7 @@ fn shard_start(search: &Search, shard: u32) -> u32 {
 // Whether a search of a shard found the direct candidates of its delays.
 fn agrees(
     alloc: Global,
-    engine: &Engine,
+    found: &Found,
     search: &Search,
     shard: u32,
     direct: &[Candidate],
@@ -173,12 +185,31 @@ fn agrees(
     let first = shard_start(search, shard);
     let end = shard_start(search, shard.wrapping_add(1));
     let wanted = of_delays(alloc, direct, first, end)?;
-    let book = engine.book();
-    let counts = engine.spectra() == u64::from(SPECTRA) && book.count() == wanted.len() as u64;
+    let book = &found.book;
+    let counts = found.spectra == u64::from(SPECTRA) && book.count() == wanted.len() as u64;
     Ok(counts && book.kept() == wanted.as_slice())
 }
 
-// Whether all shards of a search do, where the bytes are fed in pieces of these lengths.
+// Whether a shard of a search does, where the bytes are fed in pieces of these lengths.
+fn shard_agrees(
+    alloc: Global,
+    observation: &Observation,
+    search: &Search,
+    shard: u32,
+    bytes: &[u8],
+    lengths: &[usize],
+    direct: &[Candidate],
+) -> Result<bool, Memory>
+    requires range { SettingsInRange search.now }
+    requires shard { shard < search.now.shards }
+{
+    match searched(alloc, observation, search, shard, bytes, lengths) {
+        Ok(found) => agrees(alloc, &found, search, shard, direct),
+        Err(_) => Err(Memory),
+    }
+}
+
+// Whether all shards do.
 fn all_agree(
     alloc: Global,
     observation: &Observation,
@@ -190,10 +221,7 @@ fn all_agree(
     requires { SettingsInRange search.now }
 {
     for shard in 0..search.shards {
-        let Ok(engine) = searched(alloc, observation, search, shard, bytes, lengths) else {
-            return Err(Memory);
-        };
-        if !agrees(alloc, &engine, search, shard, direct)? {
+        if !shard_agrees(alloc, observation, search, shard, bytes, lengths, direct)? {
             return Ok(false);
         }
     }
@@ -274,6 +302,17 @@ fn all_candidates_are_the_direct_ones(rt: HostRuntime) -> Result<(), Memory> {
     Ok(())
 }
 
+// The folds among candidates.
+fn folds_among(alloc: Global, candidates: &[Candidate]) -> Option<Vec<Candidate>> {
+    let mut folds = Vec::new(alloc);
+    for candidate in candidates {
+        if matches!(candidate, Candidate::Fold { .. }) {
+            folds.push(*candidate).ok()?;
+        }
+    }
+    Some(folds)
+}
+
 // The folds of a search of one delay, in two channels, with periods from the least one up to 2.
 fn folds_of(
     alloc: Global,
@@ -295,14 +334,10 @@ fn folds_of(
     if !search.in_range() {
         return None;
     }
-    let engine = searched(alloc, observation, &search, 0, bytes, &[3]).ok()?;
-    let mut folds = Vec::new(alloc);
-    for candidate in engine.book().kept() {
-        if matches!(candidate, Candidate::Fold { .. }) {
-            folds.push(*candidate).ok()?;
-        }
+    match searched(alloc, observation, &search, 0, bytes, &[3]) {
+        Ok(found) => folds_among(alloc, found.book.kept()),
+        Err(_) => None,
     }
-    Some(folds)
 }
 
 // Whether these folds are found.

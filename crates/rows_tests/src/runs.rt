@@ -56,20 +56,27 @@ fn call(alloc: Global, fed: &mut Fed, word: &str) -> Result<Option<u64>, Memory>
     Ok(Some(fed.check(alloc, count, whole, in_bytes)?))
 }
 
-// How many sums a run makes that are wrong; nothing where its line is no run.
-fn run(alloc: Global, line: &str) -> Result<Option<u64>, Memory> {
-    let Some(shape) = shape_of(line) else {
-        return Ok(None);
-    };
-    let mut fed = Fed::new(alloc, shape, SPECTRA)?;
+// How many sums the calls of a line make that are wrong; nothing where its words are no calls.
+fn run_calls(alloc: Global, fed: &mut Fed, line: &str) -> Result<Option<u64>, Memory> {
     let mut wrong: u64 = 0;
     for word in line.split(' ').skip(4) {
-        let Some(more) = call(alloc, &mut fed, word)? else {
+        let Some(more) = call(alloc, fed, word)? else {
             return Ok(None);
         };
         wrong = wrong.wrapping_add(more);
     }
     Ok(Some(wrong))
+}
+
+// How many sums a run makes that are wrong; nothing where its line is no run.
+fn run(alloc: Global, line: &str) -> Result<Option<u64>, Memory> {
+    let Some(shape) = shape_of(line) else {
+        return Ok(None);
+    };
+    match Fed::new(alloc, shape, SPECTRA) {
+        Ok(mut fed) => run_calls(alloc, &mut fed, line),
+        Err(_) => Err(Memory),
+    }
 }
 
 #[test]

@@ -57,19 +57,10 @@ pub fn work_of(words: &[String]) -> Option<Work> {
 /// Does the work, and prints a sum that it made; where it is timed, also how many bytes the rows need, and how long the
 /// work took with all memory at hand.
 pub fn show<R: AllocGlobal + Print + Clock>(rt: &R, work: Work, timed: bool) -> io::Result<()> {
-    let mut bench = match Bench::open(rt.alloc(), work) {
-        Ok(bench) => bench,
-        Err(_) => return println!(rt; "no memory"),
-    };
-    let start = Instant::now(rt)?;
-    let sum = bench.run();
-    let nanos = start.elapsed(rt)?.as_nanos();
-    println!(rt; "a sum of {sum}")?;
-    if timed {
-        println!(rt; "rows and tails need {} bytes", bench.need())?;
-        println!(rt; "{nanos} ns in all")?;
+    match Bench::open(rt.alloc(), work) {
+        Ok(mut bench) => bench.show(rt, timed),
+        Err(_) => println!(rt; "no memory"),
     }
-    Ok(())
 }
 
 // Tables, with a chunk of samples.
@@ -96,6 +87,19 @@ impl Bench {
             samples,
             work,
         })
+    }
+
+    // Does the work, and prints a sum that it made, and the time and the space where that is asked for.
+    fn show<R: Print + Clock>(&mut self, rt: &R, timed: bool) -> io::Result<()> {
+        let start = Instant::now(rt)?;
+        let sum = self.run();
+        let nanos = start.elapsed(rt)?.as_nanos();
+        println!(rt; "a sum of {sum}")?;
+        if timed {
+            println!(rt; "rows and tails need {} bytes", self.need())?;
+            println!(rt; "{nanos} ns in all")?;
+        }
+        Ok(())
     }
 
     // Takes the chunk as often as it is asked for, and gives a sum of sums.
