@@ -2,7 +2,48 @@
 use psr_base::{MemInputs, MemSink, Memory};
 use ring_trace::run_trace;
 use std::alloc::Global;
-use std::test::Fail;
+
+// Traces, their statuses and the answers that were written, or `none`. A `;` ends a line.
+const TRACES: &str = "
+ | 3 | none
+; | 3 | none
+ring 2 2 8 | 0 | none
+ring 2 2 8;look 2 | 3 | none
+ring 2 1 1;take;seal 5;take; | 0 | taken 0;sealed 0;spent 1;
+ring 2 1 1;take | 0 | taken 0;
+ring 2  1 1;take | 3 | none
+ring 2 1 1 ;take | 3 | none
+ring 1 1 1; | 3 | none
+ring 65 1 1; | 3 | none
+ring 2 0 1; | 3 | none
+ring 2 9 1; | 3 | none
+ring 2 1 0; | 3 | none
+ring 64 8 1048576; | 0 | none
+ring 2 1 1048577; | 3 | none
+ring 2 1 1;take;;seal 5; | 3 | taken 0;
+ring 2 1 1;take;seal  5; | 3 | taken 0;
+ring 2 1 1;take;seal; | 3 | taken 0;
+ring 2 1 1;take;seal +5; | 3 | taken 0;
+ring 2 1 1;take;seal 00000000000000000005;read 0 | 0 | taken 0;sealed 0;got 0 5;
+ring 2 1 1;take;seal 000000000000000000005; | 3 | taken 0;
+ring 2 1 1;take;seal 18446744073709551615;read 0 | 0 | taken 0;sealed 0;got 0 18446744073709551615;
+ring 2 1 1;take;seal 18446744073709551616; | 3 | taken 0;
+ring 2 1 4;attach 0;detach 0;read 0;attach 0;read 0; | 0 | refused;detached;refused;attached 0;empty 0;
+";
+
+// The words of a program, how many bytes its trace has (0: a trace of two lines), the call of the inputs that fails, or
+// `none`, the room for answers, and the status.
+const FAULTS: &str = "
+ring_trace | 0 none 100 2
+ring_trace trace trace | 0 none 100 2
+ring_trace other | 0 none 100 6
+ring_trace trace | 0 0 100 6
+ring_trace trace | 0 2 100 6
+ring_trace trace | 1048576 none 100 3
+ring_trace trace | 1048577 none 100 8
+ring_trace trace | 0 none 8 0
+ring_trace trace | 0 none 7 10
+";
 
 #[derive(Drop)]
 struct Ran {
@@ -11,15 +52,9 @@ struct Ran {
 }
 
 // A run on a file `trace` in memory, whose calls in `fail` fail, with so much room for the answers.
-fn run_on(
-    alloc: Global,
-    words: &[&str],
-    file: &[u8],
-    fail: &[u64],
-    room: u64,
-) -> Result<Ran, Memory> {
+fn run_on(alloc: Global, words: &str, file: &[u8], fail: &[u64], room: u64) -> Result<Ran, Memory> {
     let mut names = Vec::new(alloc);
-    for word in words {
+    for word in words.split(' ') {
         names.push(String::from_str(alloc, word)?)?;
     }
     let mut inputs = MemInputs::open(alloc, fail)?;
@@ -30,91 +65,64 @@ fn run_on(
     Ok(Ran { status, answers })
 }
 
-#[test]
-fn traces_are_answered(rt: HostRuntime) -> Result<(), Fail> {
-    let cases = [
-        ("", 3, ""),
-        ("\n", 3, ""),
-        ("ring 2 2 8", 0, ""),
-        ("ring 2 2 8\nlook 2", 3, ""),
-        (
-            "ring 2 1 1\ntake\nseal 5\ntake\n",
-            0,
-            "taken 0\nsealed 0\nspent 1\n",
-        ),
-        ("ring 2 1 1\ntake", 0, "taken 0\n"),
-        ("ring 2  1 1\ntake", 3, ""),
-        ("ring 2 1 1 \ntake", 3, ""),
-        ("ring 1 1 1\n", 3, ""),
-        ("ring 65 1 1\n", 3, ""),
-        ("ring 2 0 1\n", 3, ""),
-        ("ring 2 9 1\n", 3, ""),
-        ("ring 2 1 0\n", 3, ""),
-        ("ring 64 8 1048576\n", 0, ""),
-        ("ring 2 1 1048577\n", 3, ""),
-        ("ring 2 1 1\ntake\n\nseal 5\n", 3, "taken 0\n"),
-        ("ring 2 1 1\ntake\nseal  5\n", 3, "taken 0\n"),
-        ("ring 2 1 1\ntake\nseal\n", 3, "taken 0\n"),
-        ("ring 2 1 1\ntake\nseal +5\n", 3, "taken 0\n"),
-        (
-            "ring 2 1 1\ntake\nseal 00000000000000000005\nread 0",
-            0,
-            "taken 0\nsealed 0\ngot 0 5\n",
-        ),
-        (
-            "ring 2 1 1\ntake\nseal 000000000000000000005\n",
-            3,
-            "taken 0\n",
-        ),
-        (
-            "ring 2 1 1\ntake\nseal 18446744073709551615\nread 0",
-            0,
-            "taken 0\nsealed 0\ngot 0 18446744073709551615\n",
-        ),
-        (
-            "ring 2 1 1\ntake\nseal 18446744073709551616\n",
-            3,
-            "taken 0\n",
-        ),
-        (
-            "ring 2 1 4\nattach 0\ndetach 0\nread 0\nattach 0\nread 0\n",
-            0,
-            "refused\ndetached\nrefused\nattached 0\nempty 0\n",
-        ),
-    ];
-    for (file, status, answers) in cases {
-        let ran = run_on(
-            rt.alloc(),
-            &["ring_trace", "trace"],
-            file.as_bytes(),
-            &[],
-            100,
-        )?;
-        assert_eq!(rt; ran.status, status, "{file}");
-        assert_eq!(rt; ran.answers.as_slice(), answers.as_bytes(), "{file}");
+// Lines of which each ends where a `;` stands.
+fn lines_of(alloc: Global, text: &str) -> Option<Vec<u8>> {
+    let mut bytes = Vec::new(alloc);
+    for byte in text.bytes() {
+        bytes.push(if byte == b';' { b'\n' } else { byte }).ok()?;
     }
-    Ok(())
+    Some(bytes)
+}
+
+// Whether the trace of a line is answered as it says.
+fn is_answered(alloc: Global, line: &str) -> Option<bool> {
+    let (file, rest) = line.split_once(" | ")?;
+    let (status, answers) = rest.split_once(" | ")?;
+    let file = lines_of(alloc, file)?;
+    let wanted = lines_of(alloc, if answers == "none" { "" } else { answers })?;
+    let ran = run_on(alloc, "ring_trace trace", file.as_slice(), &[], 100).ok()?;
+    Some(status.parse::<u8>() == Ok(ran.status) && ran.answers.as_slice() == wanted.as_slice())
 }
 
 #[test]
-fn faults_have_their_status(rt: HostRuntime) -> Result<(), Fail> {
-    let file = b"ring 2 1 1\ntake\n";
-    let most = vec![in rt.alloc(); b'x'; 1048576]?;
-    let more = vec![in rt.alloc(); b'x'; 1048577]?;
-    let cases: [(&[&str], &[u8], &[u64], u64, u8); 9] = [
-        (&["ring_trace"], file, &[], 100, 2),
-        (&["ring_trace", "trace", "trace"], file, &[], 100, 2),
-        (&["ring_trace", "other"], file, &[], 100, 6),
-        (&["ring_trace", "trace"], file, &[0], 100, 6),
-        (&["ring_trace", "trace"], file, &[2], 100, 6),
-        (&["ring_trace", "trace"], most.as_slice(), &[], 100, 3),
-        (&["ring_trace", "trace"], more.as_slice(), &[], 100, 8),
-        (&["ring_trace", "trace"], file, &[], 8, 0),
-        (&["ring_trace", "trace"], file, &[], 7, 10),
-    ];
-    for (words, file, fail, room, status) in cases {
-        let ran = run_on(rt.alloc(), words, file, fail, room)?;
-        assert_eq!(rt; ran.status, status);
+fn traces_are_answered(rt: HostRuntime) {
+    for line in TRACES.lines() {
+        assert!(rt;
+            line.is_empty() || is_answered(rt.alloc(), line) == Some(true),
+            "{line}"
+        );
     }
-    Ok(())
+}
+
+// The bytes of a trace of so many.
+fn trace_of(alloc: Global, size: usize) -> Option<Vec<u8>> {
+    if size == 0 {
+        return lines_of(alloc, "ring 2 1 1;take;");
+    }
+    vec![in alloc; b'x'; size].ok()
+}
+
+// Whether the run of a line ends with the status that it says.
+fn ends_so(alloc: Global, line: &str) -> Option<bool> {
+    let (words, rest) = line.split_once(" | ")?;
+    let mut numbers = rest.split(' ');
+    let file = trace_of(alloc, numbers.next()?.parse::<usize>().ok()?)?;
+    let fail = numbers.next()?.parse::<u64>();
+    let room = numbers.next()?.parse::<u64>().ok()?;
+    let status = numbers.next()?.parse::<u8>();
+    let ran = match fail {
+        Ok(call) => run_on(alloc, words, file.as_slice(), &[call], room),
+        Err(_) => run_on(alloc, words, file.as_slice(), &[], room),
+    };
+    Some(status == Ok(ran.ok()?.status))
+}
+
+#[test]
+fn faults_have_their_status(rt: HostRuntime) {
+    for line in FAULTS.lines() {
+        assert!(rt;
+            line.is_empty() || ends_so(rt.alloc(), line) == Some(true),
+            "{line}"
+        );
+    }
 }
