@@ -16,7 +16,7 @@ abbrev pub Stands : Bool → Observation → List ℕ → EngineState → Type 0
 Stands false o bytes e = StandsForData o bytes e
 Stands true o bytes e = HasSearched o bytes e
 
--- an engine was fed these bytes, and ended after the last ones
+-- an engine was fed these bytes, and ended then exactly where they are the last
 pub record WasFed (old : EngineState) (bytes : List ℕ) (is_last : Bool) (new : EngineState) :
     Type 0 where
   pub same : SameShard new old

@@ -68,8 +68,8 @@ pub record HasTried (old new : ReaderView) : Type 0 where
   pub tries : new.tries ≡ old.tries + 1
   pub cleared : new.cleared ≡ old.cleared
 
--- the reader of a ring of this shape, which had cleared these blocks, got a block of data, and the engine of a transfer
--- was fed it
+-- a reader had cleared these blocks, fewer than its ring, of this shape, may carry, and got a block of data; the engine
+-- of a transfer was fed it, and goes on whatever its mark
 pub record HasFed (ring : RingShape) (cleared : List Entry) (reader : HduReader) (lane : Lane)
     (transfer : ℕ) (taken : Taken) (block : Entry) (lane' : Lane) : Type 0 where
   pub got : (reader_knows reader.blocks).got ≡ Some block

@@ -56,7 +56,7 @@ impl Lane {
         feed_engine(self.engines.as_mut_slice(), transfer, bytes, is_last);
     }
 
-    /// Ends the engine of a transfer that was fed a block with this mark, if it was the last.
+    /// Ends the engine of a transfer where the block with this mark, which it was fed, is the transfer's last.
     pub(crate) fn end_after(&mut self, transfer: usize, mark: Mark)
         requires { CanFeedAt self.old.engines.items transfer [] }
         ensures { WasFedAt self.old.engines.items transfer [] (is_end mark)

@@ -3,8 +3,9 @@
 //!
 //! Actor 0 is the feeder, 1 to 7 are the shards in order, and 8 is the recorder; actor a works in hand a modulo the
 //! number of hands. No turn waits. Between its turns a hand none of whose actors could move waits until one could,
-//! until it is found that all hands wait for each other, or until it has looked a million times. Rounds of turns follow
-//! one another, the first ones longer and longer, until all have ended. No call takes memory.
+//! until it is found that all hands wait for each other, or until it has looked a million times; after a wait in vain
+//! it waits no more in that round. A hand that has ended does not wait. Rounds of turns follow one another, the first
+//! ones longer and longer, until all have ended. No call takes memory.
 #![tactic(auto)]
 
 mod books;

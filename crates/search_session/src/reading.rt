@@ -29,7 +29,8 @@ pub(crate) fn pass_header(hdu: &Hdu, reader: &mut HduReader, space: &mut [u8])
     }
 }
 
-// Feeds the next block of data to the engine of a transfer. Where there is none it lets other threads run.
+// Feeds the next block of data to the engine of a transfer, which does not end. Where no block can be had (none is
+// there, or another reader holds it) it lets other threads run.
 pub(crate) fn feed_block(
     hdu: &Hdu,
     reader: &mut HduReader,

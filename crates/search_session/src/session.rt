@@ -33,7 +33,7 @@ use dada_recorder::recordings_end;
 use disk_feeder::{feeders_end, headers_are_first};
 use stream_model::{bytes_are_joined, ends_are_counted, streams_have_transfers};
 
-/// The first round has so many times the turns that a session is given.
+/// The first round has so many times the turns that a session is given, up to `MOST_TURNS`.
 const FIRST: u32 = 16;
 
 /// Each later round has so many times the turns of the one before it. At the end of a round the ring runs empty and new
@@ -129,8 +129,8 @@ fn end_session<'a, I: Inputs, F: Files>(
 
 /// Drives a stage to its end: rounds follow one another until all have ended. The first has sixteen times so many
 /// turns, but at most 262144, and each later one eight times as many as the one before it, until one has 32768 or more;
-/// no clause says how many, since no result rests on it. After each the writer is freed of the shards that ended, and of
-/// the recorder where it ended.
+/// no clause of this call says how many, since no result rests on it. After each the writer is freed of the shards that
+/// ended, and of the recorder where it ended.
 pub fn run_session<'a, I: Inputs + Send, F: Files + Send, G: Gate + Sync, R: Threads + Wait + Sync>(
     rt: &R,
     stage: Stage<'a, I, F>,

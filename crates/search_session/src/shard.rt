@@ -78,8 +78,9 @@ impl ShardActor {
         pass_header(hdu, reader, self.space.as_mut_slice());
     }
 
-    // Feeds the next block of data to the engine of its transfer. The engine ends, and so searches its folds, once the
-    // block is cleared: other shards can take it meanwhile.
+    // Feeds the next block of data to the engine of its transfer. The engine ends, and so searches what is left and all
+    // folds, once the block is given back and cleared: meanwhile other shards can take it, and the writer its buffer.
+    // No clause asks for the clear first.
     fn take_block(&mut self, hdu: &Hdu)
         requires on { ShardOn hdu.now self.old }
         requires running { self.old.ended ≡ false }
