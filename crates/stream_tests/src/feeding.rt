@@ -317,37 +317,6 @@ fn feeder_of<'a, I: Inputs>(
     Feeder::over(inputs, space)
 }
 
-// Feeds what was begun: the observations are accepted, the first header is sealed, and turns are taken.
-fn feed_begun<I: Inputs>(
-    alloc: Global,
-    feeder: &mut Feeder<'_, I>,
-    hdu: &Hdu,
-    pass: &mut HduWriter,
-    reader: &mut HduReader,
-    transfers: usize,
-    fed: &mut Fed,
-) -> Result<(), Fail>
-    requires writes { WritesBoth hdu.now pass.old }
-    requires no_header { sealed_headers pass.old ≡ [] }
-    requires no_block { sealed_blocks pass.old ≡ [] }
-    requires reads { ReadsBoth hdu.now reader.old }
-    requires size { (data_shape hdu.now).size ≤ 65537 }
-    requires begun { IsBegun (I.told feeder.old.inputs.now) feeder.old }
-    requires count { length (header_at feeder.old) ≡ transfers }
-    requires some { 0 < transfers }
-    requires fits { FeederFits hdu.now feeder.old }
-    requires is_open { HasOpenFile feeder.old → I.is_open feeder.old.inputs.now }
-{
-    let mut space = vec![in alloc; 0u8; 65537]?;
-    if !accept_all(alloc, feeder, transfers)? {
-        return Err("an observation".into());
-    }
-    if !write_first(feeder, hdu, pass) {
-        return Err("the first header".into());
-    }
-    take_turns(feeder, hdu, pass, reader, space.as_mut_slice(), fed)
-}
-
 // Feeds the files of a case from inputs that hold them.
 fn feed_from<I: Inputs>(alloc: Global, inputs: &mut I, case: Case<'_>) -> Result<Fed, Fail> {
     if !is_fed(case) {
@@ -357,29 +326,41 @@ fn feed_from<I: Inputs>(alloc: Global, inputs: &mut I, case: Case<'_>) -> Result
     if shape.check().is_err() {
         return Err("a shape".into());
     }
-    let room = FeederSpace::take(alloc, case.names, case.starts, case.size, case.max_bytes)?;
-    let Some(rings) = open_rings(alloc, shape) else {
+    let Some(
+        Rings {
+            hdu,
+            mut pass,
+            mut reader,
+        },
+    ) = open_rings(alloc, shape)
+    else {
         return Err("rings".into());
     };
-    let Rings {
-        hdu,
-        mut pass,
-        mut reader,
-    } = rings;
+    let mut space = vec![in alloc; 0u8; 65537]?;
     let mut fed = Fed::new(alloc);
+    let room = FeederSpace::take(alloc, case.names, case.starts, case.size, case.max_bytes)?;
     let mut feeder = feeder_of(inputs, room, case);
     match feeder.begin() {
-        Ok(()) => feed_begun(
-            alloc,
-            &mut feeder,
-            &hdu,
-            &mut pass,
-            &mut reader,
-            case.starts.len(),
-            &mut fed,
-        )?,
-        Err(fault) => fed.begun = Err(fault),
+        Ok(()) => {}
+        Err(fault) => {
+            fed.begun = Err(fault);
+            return Ok(fed);
+        }
     }
+    if !accept_all(alloc, &mut feeder, case.starts.len())? {
+        return Err("an observation".into());
+    }
+    if !write_first(&feeder, &hdu, &mut pass) {
+        return Err("the first header".into());
+    }
+    take_turns(
+        &mut feeder,
+        &hdu,
+        &mut pass,
+        &mut reader,
+        space.as_mut_slice(),
+        &mut fed,
+    )?;
     give_back(feeder);
     Ok(fed)
 }
