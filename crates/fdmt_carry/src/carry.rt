@@ -12,8 +12,8 @@ ghost use Rattle.fdmt_carry.specs.Tables.{node_of, node_count};
 ghost use Rattle.fdmt_carry.specs.Passing.{IsPassOf};
 ghost use Rattle.fdmt_carry.specs.Carrying.{Carrying, AreThere, IsOpened, IsFed, IsBegun, IsRowOn, IsStream, AreNext, IsSettled, StandsForSamples, StandsMidway, IsSound, HasSpare, carrying};
 
+use crate::opening::{Lists, Passes};
 use crate::passing::Passing;
-use crate::sizes::{sizes_of, spare_sizes};
 use crate::tables::Tables;
 use psr_base::Memory;
 use row_schedule::{Samples, nothing_kept, running_begins, running_ends};
@@ -97,16 +97,16 @@ impl Carry {
         nothing_kept();
         rows_begin_empty();
         let tables = Tables::of(alloc, plan, chunk, most)?;
-        let limit = tables.narrow_limit().min(max_sample);
-        let pass = tables.passing(alloc, limit)?;
-        let spare = spare_pass(alloc, &tables, limit, max_sample)?;
-        let both = sizes_of(tables.plain()).most(sizes_of(&pass.schedule));
-        let sizes = both.most(spare_sizes(&spare));
-        let narrow = narrow_zeros(alloc, sizes.narrow)?;
-        let values = zeros(alloc, sizes.wide)?;
-        let kept_narrow = narrow_zeros(alloc, sizes.kept)?;
-        let kept = zeros(alloc, sizes.kept)?;
+        let passes = Passes::of(alloc, &tables, max_sample)?;
+        let lists = Lists::zeros(alloc, passes.sizes(tables.plain()))?;
         tables.hold();
+        let Passes { pass, limit, spare } = passes;
+        let Lists {
+            narrow,
+            values,
+            kept_narrow,
+            kept,
+        } = lists;
         Ok(Carry {
             tables,
             pass,
@@ -386,34 +386,4 @@ impl Carry {
         self.tables
             .table(k, d, self.values.as_slice(), self.last as usize)
     }
-}
-
-// A pass for samples up to `max_sample`, where that is above the limit of another one.
-fn spare_pass(
-    alloc: Global,
-    tables: &Tables,
-    limit: u32,
-    max_sample: u32,
-) -> Result<Option<Passing>, Memory>
-    ensures some { limit < max_sample → IfOk result (λ spare. spare ≢ None) }
-    ensures pass { IfOk result (λ spare. IfSome spare (IsPassOf tables.now max_sample)) }
-{
-    if limit >= max_sample {
-        return Ok(None);
-    }
-    Ok(Some(tables.passing(alloc, max_sample)?))
-}
-
-// So many zeros.
-fn zeros(alloc: Global, count: usize) -> Result<Vec<u32>, Memory>
-    ensures { IfOk result (λ v. v.items ≡ replicate count 0) }
-{
-    Ok(vec![in alloc; 0; count]?)
-}
-
-// So many zeros of 16 bits.
-fn narrow_zeros(alloc: Global, count: usize) -> Result<Vec<u16>, Memory>
-    ensures { IfOk result (λ v. v.items ≡ replicate count 0) }
-{
-    Ok(vec![in alloc; 0; count]?)
 }

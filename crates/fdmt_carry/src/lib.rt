@@ -7,6 +7,7 @@ mod building;
 mod carry;
 mod draft;
 mod numbers;
+mod opening;
 mod passing;
 mod plain;
 mod sizes;

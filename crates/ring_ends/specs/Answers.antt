@@ -83,14 +83,15 @@ abbrev pub IsLent : {X : Type 0} → (X → ℕ → Entry → X → Type 0) → 
     ReaderView → X → Type 0
 IsLent took part r taker t r' taker' = IsHanded (λ x. took x part) r taker t r' taker'
 
--- whatever block of the ring the reader gets next, it can be taken, as `Can` says
+-- unless the reader cleared as many blocks as the ring may carry, each block that fits a buffer can be taken, as
+-- `Can` says
 abbrev pub CanTakeNext : (Entry → Type 0) → RingShape → ReaderView → Type 0
 CanTakeNext Can ring r =
     (e : Entry) → length r.cleared < ring.max_blocks → length e.bytes ≤ ring.size → Can e
 
 -- Why a read took nothing: its try found a word, whose first part is 1 more than the number of the block in that
--- buffer, and 0 where there is none, and whose
--- last part tells who had it. Empty: the block is an older one. Busy: it is the wanted one, and another reader had it
+-- buffer, and 0 where there is none, and whose last part tells who had it. Empty: the block is an older one. Busy: it
+-- is the wanted one, and another reader had it
 pub record FoundOlder (r : ReaderView) (block seen : ℕ) (r' : ReaderView) : Type 0 where
   pub word : ℕ
   pub rest : r' ≡ after_miss r word

@@ -16,8 +16,10 @@ mod engine;
 mod rows;
 mod unpack;
 
+use psr_base::Memory;
 use std::process::ExitCode;
 use std::rt::Clock;
+use std::time::Instant;
 use std::{env, io};
 
 /// Something that is measured.
@@ -92,9 +94,33 @@ fn show<R: AllocGlobal + Print + Clock>(rt: &R, work: Work, timed: bool) -> io::
     match work {
         Work::Carry(work) => carry::show(rt, work, timed),
         Work::Engine(work) => engine::show(rt, work, timed),
-        Work::Rows(work) => rows::show(rt, work, timed),
-        Work::Unpack(work) => unpack::show(rt, work, timed),
+        Work::Rows(work) => {
+            let start = Instant::now(rt)?;
+            show_sum(rt, rows::do_work(rt.alloc(), work), start, timed)
+        }
+        Work::Unpack(work) => {
+            let start = Instant::now(rt)?;
+            show_sum(rt, unpack::do_work(rt.alloc(), work), start, timed)
+        }
     }
+}
+
+// Prints a sum that was made, and how long it took since the start where it is timed.
+fn show_sum<R: Print + Clock>(
+    rt: &R,
+    sum: Result<u32, Memory>,
+    start: Instant,
+    timed: bool,
+) -> io::Result<()> {
+    match sum {
+        Ok(sum) => println!(rt; "a sum of {sum}")?,
+        Err(_) => println!(rt; "no memory")?,
+    }
+    if timed {
+        let nanos = start.elapsed(rt)?.as_nanos();
+        println!(rt; "{nanos} ns in all")?;
+    }
+    Ok(())
 }
 
 // Answers the words, and says the program's status.

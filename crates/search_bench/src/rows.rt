@@ -8,9 +8,6 @@ use fast_fold::Folder;
 use fdmt_rows::{add_rows, greatest};
 use psr_base::Memory;
 use std::alloc::Global;
-use std::io;
-use std::rt::Clock;
-use std::time::Instant;
 
 // The longest row, the longest period and the most rows of a fold.
 const LONGEST: u32 = 1 << 16;
@@ -53,22 +50,8 @@ pub fn fold_of(words: &[String]) -> Option<Work> {
     })
 }
 
-/// Does the work, and prints the greatest value that was made, and how long it took where it is timed.
-pub fn show<R: AllocGlobal + Print + Clock>(rt: &R, work: Work, timed: bool) -> io::Result<()> {
-    let start = Instant::now(rt)?;
-    match do_work(rt.alloc(), work) {
-        Ok(sum) => println!(rt; "a sum of {sum}")?,
-        Err(_) => println!(rt; "no memory")?,
-    }
-    if timed {
-        let nanos = start.elapsed(rt)?.as_nanos();
-        println!(rt; "{nanos} ns in all")?;
-    }
-    Ok(())
-}
-
-// Does the work, and answers the greatest value that was made.
-fn do_work(alloc: Global, work: Work) -> Result<u32, Memory> {
+/// Does the work, and answers the greatest value that was made.
+pub fn do_work(alloc: Global, work: Work) -> Result<u32, Memory> {
     match work {
         Work::Sums { length, repeats } => add_often(alloc, length.min(LONGEST) as usize, repeats),
         Work::Fold {

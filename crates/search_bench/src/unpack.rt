@@ -3,9 +3,6 @@
 use psr_base::Memory;
 use spectra_rows::Unpacker;
 use std::alloc::Global;
-use std::io;
-use std::rt::Clock;
-use std::time::Instant;
 
 /// What rows are made of: words of 32 bits, or bytes.
 #[derive(Clone, Copy)]
@@ -36,20 +33,6 @@ pub fn work_of(words: &[String]) -> Option<Work> {
     })
 }
 
-/// Does the work, and prints a sum of what was unpacked, and how long it took where it is timed.
-pub fn show<R: AllocGlobal + Print + Clock>(rt: &R, work: Work, timed: bool) -> io::Result<()> {
-    let start = Instant::now(rt)?;
-    match unpack_often(rt.alloc(), work) {
-        Ok(sum) => println!(rt; "a sum of {sum}")?,
-        Err(_) => println!(rt; "no memory")?,
-    }
-    if timed {
-        let nanos = start.elapsed(rt)?.as_nanos();
-        println!(rt; "{nanos} ns in all")?;
-    }
-    Ok(())
-}
-
 // Opens an unpacker into rows of such a kind.
 fn opened(alloc: Global, into: Kind) -> Result<Unpacker, Memory> {
     match into {
@@ -67,8 +50,8 @@ fn value_at(unpacker: &Unpacker, at: usize) -> u32 {
     }
 }
 
-// Unpacks a chunk so often, and gives a sum of what was unpacked.
-fn unpack_often(alloc: Global, work: Work) -> Result<u32, Memory> {
+/// Unpacks a chunk as often as it is asked for, and answers a sum of what was unpacked.
+pub fn do_work(alloc: Global, work: Work) -> Result<u32, Memory> {
     let bytes = vec![in alloc; 3_u8; 262144]?;
     let mut unpacker = opened(alloc, work.into)?;
     let mut sum = 0_u32;
