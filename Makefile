@@ -35,8 +35,8 @@ demo: toolchain
 test: toolchain
 	@.ci/run
 
-# A program is built by running it once: psr_search on its sample, psr_record on a file that is too short, which it refuses
-# with status 3, ring_trace on its own sample, psr_demo on number 1, psr_make in a folder of its own.
+# A program is built by running it once: psr_search on its sample, psr_record on a file that is too short, which it
+# refuses with status 3, ring_trace on its own sample, psr_demo on number 1, psr_make in a folder of its own.
 install: toolchain
 	@cd crates/psr_search_main && rt run $(CPU) -- $(SEARCH) $(SAMPLE) >/dev/null
 	@cd crates/psr_record_main && { rt run $(CPU) -- data/short.dada >/dev/null 2>&1; [ $$? -eq 3 ]; }

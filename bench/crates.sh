@@ -73,7 +73,7 @@ lines() { # lines FOLDER..: how many lines their files have
 table() { # table [FILE]
     local crate
     cd "$(dirname "$0")/../crates" || exit 2
-    sed -nE 's/^([a-z0-9_]+)( staticlib)?:.*/\1/p' ../crates.txt | while read -r crate; do
+    sed -nE 's/^([a-z0-9_]+):.*/\1/p' ../crates.txt | while read -r crate; do
         echo "$crate $(lines "$crate/src" "$crate/specs") $(lines "$crate/proofs")" \
             "$(find "$crate/must-fail" -name '*.edit' 2>/dev/null | wc -l)"
     done | awk -v file="${1:-}" '

@@ -16,7 +16,7 @@ cd "$folder" || exit 2
 words=(--mean 16 --sd 2.828 --max-delay 32 --fold-min 60 --fold-max 68 --shards 2 --hands 2 --chunk 64 --size 1000
     --record --file-size 3000 --max-bytes 1000000 obs.dada)
 
-search() { # search N: the status of a run whose allocation N is refused, if it makes so many; then there is the file mark
+search() { # search N: the status where allocation N is refused, if there are so many; then there is the file mark
     rm -f mark 2024-*
     LD_PRELOAD=$folder/refused.so REFUSED=$1 REFUSED_MARK=$folder/mark "$psr_search" "${words[@]}" >text 2>line
 }

@@ -8,7 +8,7 @@ rt run --cpu="$cpu" >/dev/null
 program=$(mktemp)
 trap 'rm -f "$program"' EXIT
 gcc -O3 -march="$cpu" -pthread -o "$program" ../../bench/ring.c
-rate() { # rate WORDS.. WAY: blocks a second, over so many blocks that they take a second
+rate() { # rate WORDS..: blocks a second, over so many blocks that they take a second
     local blocks=500 answer millis
     while
         answer=$("$@" "$blocks")

@@ -1,6 +1,6 @@
 #!/usr/bin/env bash
-# How long it takes to add a row, and to fold rows by halves: here, and by the same loops in C. Each is the best of seven,
-# in turns.
+# How long it takes to add a row, and to fold rows by halves: here, and by the same loops in C. Each is the best of
+# seven, in turns.
 set -eu
 cd "$(dirname "$0")/../crates/search_bench"
 cpu=$(grep -qw avx2 /proc/cpuinfo && echo x86-64-v3 || echo x86-64)

@@ -1,12 +1,12 @@
 // Sums of samples along a delay path.
-ghost use Rattle.std.specs.Prelude.{◌≡◌, ℕ, ◌+◌, ◌-◌, ◌*◌, ◌/◌, ◌^◌, ◌<◌, ◌≤◌, length, slice_index, true, All, sum};
+ghost use Rattle.std.specs.Prelude.{◌≡◌, ℕ, ◌+◌, ◌-◌, ◌*◌, ◌/◌, ◌<◌, ◌≤◌, length, slice_index, true, All, sum};
 ghost use Rattle.search_model.specs.Samples.{filterbank, sample_before};
 ghost use Rattle.search_model.specs.Sums.{channel_cells, path_sum_along};
 ghost use Rattle.band_paths.specs.Edges.{AreDelays, most_sample};
 
 /// The sum of the samples on a path that ends at spectrum `u`, cell by cell. `samples` are spectra
 /// of `n` values, the highest channel first, where an incomplete last one is left out; `delays` are
-/// those of the path at the `n + 1` edges.
+/// those of the path at the `n + 1` edges. Before the first spectrum each cell is 0.
 pub fn path_sum(samples: &[u32], n: usize, delays: &[u32], u: usize) -> u64
     requires least { 2 ≤ n }
     requires most { n ≤ 4096 }

@@ -1,5 +1,5 @@
 // Whether books can be merged, judged candidate by candidate.
-ghost use Rattle.std.specs.Prelude.{◌≡◌, ◌<◌, IsTrue, Contains, map};
+ghost use Rattle.std.specs.Prelude.{◌<◌, IsTrue, Contains, map};
 ghost use Rattle.candidate_book.specs.Conditions.{IsSearched, CanBeMerged};
 ghost use Rattle.search_model.specs.Order.{Precedes};
 ghost use Rattle.std.specs.Option.{ForSome};

@@ -1,4 +1,4 @@
--- The tables that stand behind.
+-- What always holds of boxes and of their tables.
 -- Source: this project's choice.
 use Rattle.std.specs.Prelude.{ℕ, ◌+◌, ◌-◌, ◌*◌, ◌^◌, ◌≡◌, ◌<◌, ◌≤◌, List, length, slice_index}
 use Rattle.dada_model.specs.Bounds.{most_delay}

@@ -160,8 +160,8 @@ impl Boxes {
         );
     }
 
-    /// The sum of the `w` values of row `d` that end at the `k`-th of the values that it was fed with when it was kept.
-    /// Values before the first count 0.
+    /// The sum of the `w` values of row `d` that end at value `k`, counted from 0, of the feed after which it was kept
+    /// last. Values before the first count 0.
     pub fn sum(&self, d: u32, k: u32, w: u32) -> u32
         requires row { KeepsRow self.now d }
         requires place { k < self.now.chunk }

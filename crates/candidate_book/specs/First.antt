@@ -11,7 +11,7 @@ use Rattle.candidate_book.specs.declared.merge.Next.{Next}
 abbrev pub kept_at : List (Option BookContents) → ℕ → List Candidate
 kept_at books k = kept_in (slice_index_or books k None)
 
--- its candidate at the place that it was written to
+-- its next candidate: the one at its place, behind those that were written
 abbrev pub next_at : List (Option BookContents) → List ℕ → ℕ → Option Candidate
 next_at books places k = slice_get (kept_at books k) (slice_index places k)
 

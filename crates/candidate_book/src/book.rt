@@ -42,7 +42,7 @@ impl Book {
         })
     }
 
-    /// Counts a candidate, and keeps it where there are less than the limit.
+    /// Counts a candidate, and keeps it where fewer than the limit are kept.
     pub fn add(&mut self, candidate: Candidate)
         requires { self.old.count < 2 ^ 63 }
         ensures list { let limit = self.old.limit in (list : List Candidate)

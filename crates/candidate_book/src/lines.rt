@@ -1,5 +1,5 @@
 // The lines of the candidate text.
-ghost use Rattle.std.specs.Prelude.{◌≡◌, ◌+◌, ◌*◌, ◌^◌, ◌≤◌, ◌<◌, ◌++◌, codes, decimal, length};
+ghost use Rattle.std.specs.Prelude.{◌≡◌, ◌+◌, ◌*◌, ◌≤◌, ◌<◌, ◌++◌, codes, decimal, length};
 ghost use Rattle.search_model.specs.CandidateText.{thousandths, candidate_line as line_of, end_line as end_line_of};
 ghost use Rattle.search_model.specs.Candidates.{cells_of, plain_cells};
 ghost use Rattle.candidate_book.specs.Conditions.{IsSearched};

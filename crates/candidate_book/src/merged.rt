@@ -1,6 +1,5 @@
 // The text of the candidates of several books.
 ghost use Rattle.std.specs.Prelude.{◌≡◌, ◌+◌, ◌<◌, ◌^◌, [], List, if◌then◌else◌};
-ghost use Rattle.psr_base.specs.Written.{SinkSeen};
 ghost use Rattle.search_model.specs.declared.candidate.Candidate.{Candidate};
 ghost use Rattle.search_model.specs.CandidateText.{is_pulse, is_fold};
 ghost use Rattle.search_model.specs.Order.{IsMergeOf};

@@ -3,10 +3,11 @@ ghost use Rattle.std.specs.Prelude.{◌≡◌, ℕ, ◌≤◌, [], ◌++◌, Lis
 ghost use Rattle.psr_base.specs.Written.{SinkSeen, Wrote};
 ghost use Rattle.candidate_book.specs.Lines.{Pending, Passed};
 
-// A law: it does nothing when it runs, and the proofs use what it ensures.
 use arrayvec::ArrayVec;
-use psr_base::{Failed, Sink, pieces_join, write_all};
+use psr_base::{Failed, Sink, write_all};
 use std::marker::Model;
+// A law: it does nothing when it runs, and the proofs use what it ensures.
+use psr_base::pieces_join;
 
 // The most bytes that wait.
 const PAGE: usize = 4096;

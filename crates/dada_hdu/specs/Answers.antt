@@ -50,7 +50,7 @@ abbrev pub LendAnswers : {X : Type 0} → (X → ℕ → Entry → X → Type 0)
 LendAnswers took part old taker result new taker' =
     HandedAnswers (λ x. took x part) old taker result new taker'
 
--- the block that was read is cleared, and n blocks are in all
+-- the block that was read is cleared, and with it n blocks in all
 pub record ClearAnswers (old : ReaderPass) (n : ℕ) (new : ReaderPass) : Type 0 where
   pub cleared : reader_knows new ≡ after_clear (reader_knows old)
   pub count : n ≡ length (reader_knows new).cleared

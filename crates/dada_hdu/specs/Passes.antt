@@ -11,7 +11,6 @@ use Rattle.dada_hdu.specs.declared.hdu.Hdu.{Hdu}
 use Rattle.dada_hdu.specs.declared.passes.HduWriter.{HduWriter}
 use Rattle.dada_hdu.specs.declared.passes.HduReader.{HduReader}
 use Rattle.dada_hdu.specs.declared.passes.HduRetired.{HduRetired}
-use Rattle.dada_hdu.specs.declared.passes.HduDetached.{HduDetached}
 use Rattle.dada_hdu.specs.declared.ended.HduEnded.{HduEnded}
 use Rattle.dada_hdu.specs.declared.ended.HduEnded.TheVariants.{Here, Away, Retired}
 
@@ -50,7 +49,7 @@ number_of reader = (ended_knows (data_end reader)).number
 abbrev pub tries_of : HduEnded → ℕ
 tries_of reader = (ended_knows (header_end reader)).tries + (ended_knows (data_end reader)).tries
 
--- the pass is one of these rings
+-- the pass writes to these rings
 pub record WritesBoth (hdu : Hdu) (pass : HduWriter) : Type 0 where
   pub header : WritesTo (header_ring hdu) pass.header
   pub blocks : WritesTo (data_ring hdu) pass.blocks
@@ -63,9 +62,6 @@ pub record EndedFromBoth (hdu : Hdu) (reader : HduEnded) : Type 0 where
 
 abbrev pub ReadsBoth : Hdu → HduReader → Type 0
 ReadsBoth hdu pass = EndedFromBoth hdu (Here pass)
-
-abbrev pub AwayFromBoth : Hdu → HduDetached → Type 0
-AwayFromBoth hdu reader = EndedFromBoth hdu (Away reader)
 
 abbrev pub RetiredFromBoth : Hdu → HduRetired → Type 0
 RetiredFromBoth hdu reader = EndedFromBoth hdu (Retired reader)

@@ -1,5 +1,5 @@
 //! Readers, however they ended.
-ghost use Rattle.std.specs.Prelude.{◌≡◌, length, option_map};
+ghost use Rattle.std.specs.Prelude.{◌≡◌, length};
 
 use crate::passes::{HduDetached, HduReader, HduRetired};
 use ring_ends::EndedReader;
@@ -7,8 +7,11 @@ use ring_ends::EndedReader;
 /// A reader of both rings, however it ended.
 #[derive(Drop)]
 pub enum HduEnded {
+    /// It was still reading.
     Here(HduReader),
+    /// It was detached.
     Away(HduDetached),
+    /// It was retired.
     Retired(HduRetired),
 }
 

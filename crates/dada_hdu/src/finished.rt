@@ -8,7 +8,7 @@ use crate::passes::HduWriter;
 use arrayvec::ArrayVec;
 use ring_ends::{EndedReader, Finished};
 
-/// What went through the rings.
+/// What went through the header ring, and what through the data ring (`blocks`).
 #[derive(Drop)]
 pub struct HduFinished {
     pub header: Finished,

@@ -1,5 +1,5 @@
 //! The two rings that threads share by reference.
-ghost use Rattle.std.specs.Prelude.{◌≡◌, ◌≤◌, All, EachIndex, IfOk, OnErr, IsSomeAnd, length, take, true, slice_get, Some};
+ghost use Rattle.std.specs.Prelude.{◌≡◌, ◌≤◌, All, EachIndex, IfOk, OnErr, IsSomeAnd, length, take, true, Some};
 ghost use Rattle.ring_ends.specs.Passes.{ring_shape};
 ghost use Rattle.dada_hdu.specs.Shapes.{header_shape};
 ghost use Rattle.dada_hdu.specs.Pairs.{Pairs, PairsEach};
@@ -47,12 +47,11 @@ fn readers_of(
 }
 
 impl Hdu {
-    ghost use Rattle.dada_model.specs.Fields.{header_bytes};
     ghost use Rattle.ring_words.specs.Shape.{IsRing};
     ghost use Rattle.ring_words.specs.Views.{after_retire};
     ghost use Rattle.ring_ends.specs.Passes.{reader_knows, retired_knows, is_read};
     ghost use Rattle.ring_ends.specs.Answers.{FitsMark, CanTakeNext};
-    ghost use Rattle.dada_hdu.specs.Passes.{header_ring, data_ring, data_shape, WritesBoth, ReadsBoth, RetiredFromBoth, IsFreshWriter, HasFreshReader};
+    ghost use Rattle.dada_hdu.specs.Passes.{data_shape, WritesBoth, ReadsBoth, RetiredFromBoth, IsFreshWriter, HasFreshReader};
     ghost use Rattle.dada_hdu.specs.Answers.{entry, header_entry, WriteAnswers, ReadAnswers, LendAnswers, ClearAnswers};
 
     /// Opens a data ring of this shape, and a header ring beside it. The reader at place i has number i in both.
@@ -104,8 +103,8 @@ impl Hdu {
             .write(&mut pass.header, header.bytes(), Mark::End)
     }
 
-    /// Copies the header that comes after those that the reader cleared to the front of `into`. Until it is cleared,
-    /// the same header is read again.
+    /// Copies the header that comes after those that the reader cleared to the front of `into`, which has at least
+    /// `HEADER_SPACE` bytes. Until it is cleared, the same header is read again. An error leaves `into` as it was.
     pub fn read_header(&self, pass: &mut HduReader, into: &mut [u8]) -> Result<Taken, ReadStop>
         requires ring { ReadsBoth self.now pass.old }
         requires room { 65537 ≤ length into.old }
@@ -127,7 +126,8 @@ impl Hdu {
         self.header.clear(&mut pass.header)
     }
 
-    /// Fills the next block of the data ring, seals it, and answers its number.
+    /// Fills the next block of the data ring, seals it, and answers its number. The bytes fill a block that is marked
+    /// More, are fewer where it is marked End, and none where it is marked Cut. An error seals nothing.
     pub fn write(&self, pass: &mut HduWriter, bytes: &[u8], mark: Mark) -> Result<u64, WriteStop>
         requires ring { WritesBoth self.now pass.old }
         requires fits { FitsMark (data_shape self.now).size mark bytes.now }
@@ -153,8 +153,8 @@ impl Hdu {
         requires within { used ≤ (data_shape self.now).size }
         requires fits { FitsMark (data_shape self.now).size mark (take used space.old.items) }
         ensures ring { WritesBoth self.now pass.new }
-        ensures blocks { WriteAnswers pass.old.blocks (entry mark (take used space.old.items)) result
-            pass.new.blocks }
+        ensures blocks { WriteAnswers pass.old.blocks (entry mark (take used space.old.items))
+            result pass.new.blocks }
         ensures header { pass.new.header ≡ pass.old.header }
         ensures space { length space.new.items ≡ length space.old.items }
         ensures kept { OnErr result (space.new ≡ space.old) }
@@ -162,7 +162,8 @@ impl Hdu {
         self.blocks.write_space(&mut pass.blocks, space, used, mark)
     }
 
-    /// Whether the data ring has room for a block at this moment. The pass stays as it is, and no look is counted.
+    /// Whether the data ring has room for a block at this moment. The pass stays as it is, and no look is counted. It
+    /// is a hint: no clause speaks of the answer.
     pub fn has_room(&self, pass: &HduWriter) -> bool {
         self.blocks.has_room(&pass.blocks)
     }
@@ -211,7 +212,7 @@ impl Hdu {
     }
 
     /// Whether a read of a header or of data would find its block at this moment. The pass stays as it is, and no try
-    /// is counted.
+    /// is counted. It is a hint: no clause speaks of the answer.
     pub fn has_next(&self, pass: &HduReader) -> bool
         requires { ReadsBoth self.now pass.now }
     {

@@ -3,7 +3,7 @@ ghost use Rattle.std.specs.Prelude.{◌≡◌};
 
 use ring_ends::{DetachedReader, ReaderPass, RetiredPass, WriterPass};
 
-/// The right to write to both rings.
+/// The right to write to both rings: `header` is the pass of the header ring, `blocks` that of the data ring.
 #[derive(Drop)]
 pub struct HduWriter {
     pub header: WriterPass,

@@ -1,7 +1,7 @@
 // Changes of a text in the bytes of its header.
-ghost use Rattle.std.specs.Prelude.{◌≡◌, ℕ, ◌+◌, ◌-◌, ◌^◌, ◌≤◌, ◌==◌, min, ◌++◌, IfSome, IfNone, length, take, slice_index_or};
+ghost use Rattle.std.specs.Prelude.{◌≡◌, ◌+◌, ◌-◌, ◌^◌, ◌≤◌, ◌==◌, min, ◌++◌, IfSome, IfNone, length, take, slice_index_or};
 ghost use Rattle.dada_model.specs.Fields.{most_header};
-ghost use Rattle.dada_model.specs.Change.{line_end, field_line, with_value_between, blanked, changed};
+ghost use Rattle.dada_model.specs.Change.{line_end, field_line, with_value_between, changed};
 ghost use Rattle.dada_header.specs.Changes.{IsOverwrite, IsAppended, IsChangePlan, IsPut, IsReplaced, IsEdited};
 
 use crate::blank::{blank_fields, fill_spaces};
@@ -37,7 +37,7 @@ fn line_feed_after(text: &[u8]) -> &'static [u8]
     if is_ended(text) { b"" } else { b"\n" }
 }
 
-// Where the value is that another takes the place of, if it is long enough.
+// The place of the first value of a key, if another value fits there.
 fn overwritten_place(text: &[u8], key: &[u8], value: &[u8]) -> Option<Place>
     ensures some { IfSome result (IsOverwrite key.now value.now text.now) }
     ensures none { IfNone result (IsAppended key.now value.now text.now) }
@@ -62,7 +62,7 @@ fn appended_len(text: &[u8], key: &[u8], value: &[u8]) -> usize
     line.saturating_add(text.len() + line_feed_after(text).len() + 2)
 }
 
-/// Where the value is that another takes the place of, if it does, and the length of the changed text.
+/// The place of the value that is overwritten, or `None` where a line is appended; and the changed text's length.
 pub(crate) fn plan(text: &[u8], key: &[u8], value: &[u8]) -> (Option<Place>, usize)
     requires { length text.now ≤ most_header }
     ensures plan { IsChangePlan key.now value.now text.now result.0 }

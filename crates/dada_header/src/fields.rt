@@ -1,5 +1,5 @@
 // The lines of a text that are fields with a key.
-ghost use Rattle.std.specs.Prelude.{◌≡◌, ℕ, ◌≤◌, false, IfSome, IfNone, None, ◌==◌, length, position};
+ghost use Rattle.std.specs.Prelude.{◌≡◌, ◌≤◌, false, IfSome, IfNone, None, ◌==◌, length, position};
 ghost use Rattle.dada_model.specs.Fields.{fields_of, value_of};
 ghost use Rattle.dada_model.specs.Change.{has_key};
 ghost use Rattle.dada_header.specs.Lines.{IsLineEnd};

@@ -1,6 +1,6 @@
 // Headers: their size and their text in a space as long as the greatest header.
 ghost use Rattle.std.specs.Prelude.{◌≡◌, ◌≢◌, ℕ, ◌-◌, ◌<◌, ◌≤◌, List, [], ◌++◌, All, length, take, replicate, Ok, Err, Some, None, OnOk, IfOk, IfErr, option_copied, codes, position, ◌==◌};
-ghost use Rattle.dada_model.specs.Fields.{least_header, most_header, HeaderText, fields_of, value_of, before_nul, header_size, header_text, header_of, header_bytes, is_above_ascii, allowed_size};
+ghost use Rattle.dada_model.specs.Fields.{least_header, most_header, HeaderText, fields_of, value_of, before_nul, header_size, header_of, header_bytes, is_above_ascii, allowed_size};
 ghost use Rattle.dada_model.specs.Number.{number_value};
 ghost use Rattle.dada_model.specs.Change.{IsWord};
 ghost use Rattle.dada_model.specs.ChangeLaws.{StaysInPlace};
@@ -141,8 +141,8 @@ impl Header {
         })
     }
 
-    /// The size of the header that stands at the beginning of `first`: HDR_SIZE in its first 4096 bytes, the least
-    /// size, or this size where HDR_SIZE is missing.
+    /// The size in bytes of the header that `first` begins with: the value of HDR_SIZE, looked up in the first 4096
+    /// bytes, or 4096 where it is missing. `first` may have fewer bytes than that.
     pub fn size_of(first: &[u8]) -> Result<usize, HeaderFault>
         ensures ok { IfOk result (λ size. header_size first.now ≡ Some size) }
         ensures long { OnOk result (least_header ≤ length first.now) }
@@ -175,7 +175,8 @@ impl Header {
         Ok(header)
     }
 
-    /// Reads a header in place of this one, which stays where the bytes are refused.
+    /// Reads a header in place of this one, which stays as it was where the bytes are refused. It never answers
+    /// `Memory`.
     pub fn read_again(&mut self, bytes: &[u8]) -> Result<(), HeaderFault>
         ensures ok { OnOk result (header_of bytes.now ≡ Ok self.new) }
         ensures fault { IfErr result (λ fault.
@@ -220,7 +221,8 @@ impl Header {
 
     /// Gives a keyword another value. Where its first field has a value that is at least as long, the other
     /// takes its place; else each field with the keyword becomes blank, and a line is appended. No byte
-    /// before the end of the text changes its place.
+    /// before the end of the text changes its place. Both are words of graphic ASCII without `#`, and the keyword
+    /// isn't HDR_SIZE. After a fault the header is as it was.
     pub fn set(&mut self, key: &str, value: &str) -> Result<(), SetFault>
         requires key { IsWord key.now }
         requires value { IsWord value.now }

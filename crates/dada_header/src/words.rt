@@ -1,5 +1,5 @@
 // The words of a line, by their places.
-ghost use Rattle.std.specs.Prelude.{◌≡◌, ◌==◌, ℕ, ◌≤◌, not, IfSome, IfNone, [], drop, length, position};
+ghost use Rattle.std.specs.Prelude.{◌≡◌, ◌==◌, ◌≤◌, not, IfSome, IfNone, [], drop, length, position};
 ghost use Rattle.dada_model.specs.Fields.{is_white, without_comment, words_of, field_of_line};
 ghost use Rattle.dada_model.specs.Change.{word_start, word_end};
 

@@ -4,7 +4,7 @@ use Rattle.std.specs.Prelude.{◌≡◌, ℕ, ◌%◌, ◌+◌, ◌*◌, ◌^◌
 use Rattle.dada_model.specs.Edges.{top_khz, most_centre_hz, most_channels}
 use Rattle.dada_model.specs.Observation.{Observation}
 
--- the longest delay that is spoken of, in spectra
+-- the longest delay across a band that is searched or made, in spectra
 abbrev pub most_delay : ℕ
 most_delay = 8192
 

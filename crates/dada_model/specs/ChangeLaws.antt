@@ -70,7 +70,7 @@ abbrev pub ChangeStaysInPlace : Type 0
 ChangeStaysInPlace = (key value text : List ℕ) → IsWord key → IsWord value →
     StaysInPlace key text (changed key value text)
 
--- a text that is made blank has its length
+-- a text keeps its length where the fields of a key become blank
 abbrev pub BlankKeepsLength : Type 0
 BlankKeepsLength = (key text : List ℕ) → length (blanked key text) ≡ length text
 

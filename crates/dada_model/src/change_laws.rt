@@ -27,7 +27,7 @@ pub fn last_change_counts()
     ensures { LastChangeCounts }
 {}
 
-/// A changed header is read back from its bytes with the same size.
+/// A header with room for the change of a key other than HDR_SIZE is read back with the change and the same size.
 pub fn changed_is_read_back()
     ensures { ChangedIsReadBack }
 {}

@@ -18,7 +18,7 @@ pub fn headers_by_front()
     ensures { HeadersByFront }
 {}
 
-/// The text of a header is ASCII without NUL, and no longer than its size.
+/// A header that is read back has 4096 to 65536 bytes, and a text in ASCII without NUL that is no longer.
 pub fn headers_are_text()
     ensures { HeadersAreText }
 {}

@@ -10,7 +10,7 @@ fn is_whole_number(text: &str, most_digits: usize) -> bool
     !text.is_empty() && text.len() <= most_digits && text.bytes().all(|byte| byte.is_ascii_digit())
 }
 
-/// The number that a text of decimal digits alone writes.
+/// The number that a text of 1 to `most_digits` decimal digits writes, or `None` where the text is not such digits.
 pub fn whole_number(text: &str, most_digits: usize) -> Option<u64>
     requires { most_digits ≤ 19 }
     ensures digits { SomeIff result (IsWholeNumber most_digits text.now)

@@ -53,7 +53,7 @@ abbrev pub AreNew : List (List ℕ) → List (List ℕ) → Type 0
 AreNew there [] = Unit {0}
 AreNew there (name ∷ more) = (¬ Contains there name) × AreNew (there ++ name ∷ []) more
 
--- what was left, where that was told, is enough for these files, and their names are new
+-- what was left was told, and is enough for these files; and their names are new
 pub record HasEnoughFor (outset : Outset) (files : List NamedBytes) : Type 0 where
   pub left : FilesLeft
   pub is_told : outset.left ≡ Some left
@@ -76,8 +76,8 @@ IsFileFront (file ∷ files) [] = ⊥
 IsFileFront (file ∷ files) (whole ∷ more) =
     ((file ≡ whole) × IsFileFront files more) ⊎ ((files ≡ []) × IsFrontOf file whole)
 
--- A call failed on the way to these files: a front of them was made, and what was left at the
--- outset was not enough for all of them, or was not told.
+-- A call failed on the way to these files: a front of them was made. What was left at the outset was not enough for
+-- all of them, or was not told, or one of their names was not new.
 pub record BreaksOff (outset : Outset) (all : List NamedBytes) (seen : FilesSeen) : Type 0 where
   pub made : Made
   pub is_told : seen.made ≡ Some made

@@ -35,7 +35,7 @@ pub record IsWhole (plan : RecordPlan) (headers blocks : List Entry) (files : �
   pub begun : length headers ≡ length plan.offsets
   pub count : files ≡ length (files_of_blocks plan headers blocks)
 
--- the last entry is a Cut, after so many files
+-- the stream was given up (a Cut came), after so many files
 pub record IsGivenUp (plan : RecordPlan) (headers blocks : List Entry) (files : ℕ) : Type 0 where
   pub in_limits : AreInLimits plan headers blocks
   pub more : ended_transfers blocks < length plan.offsets
@@ -95,10 +95,9 @@ pub record LacksBlock (plan : RecordPlan) (outset : Outset) (is_open : Bool)
   pub blocks_are : blocks ≡ before ++ last ∷ []
   pub made : HasMade outset is_open (files_of_blocks plan headers before) seen
 
--- What the files tell since the outset: the files of the blocks, all of them finished at the end of
--- the stream. At a fault it is a front of any
--- files that begin with those; a header block that is refused, and a data block that passes the
--- limit, left nothing.
+-- What the files tell since the outset: the files of the blocks, all of them finished at the end of the stream. At a
+-- fault it is a front of any files that those are a front of. A header block that is refused, and a data block that
+-- passes the limit, left nothing.
 abbrev pub FilesAre : RecordPlan → Outset → Bool → List Entry → List Entry → Option RecordEnd →
     FilesSeen → Type 0
 FilesAre plan outset is_open headers blocks None seen =

@@ -53,8 +53,8 @@ EndsComplete plan c FileFault = Unit {0}
 EndsComplete plan c (BadHeader fault) = ⊥
 EndsComplete plan c (TooLong limit) = ⊥
 
--- the files of all sealed blocks are there; or a front of them, where what was left was not enough
--- or was not told
+-- the files of all sealed blocks are there; or a front of them, where what was left was not enough or was not told, or
+-- a name was not new
 abbrev pub HasFilesOfAll : RecordPlan → Outset → Cleared → RecordEnd → FilesSeen → Type 0
 HasFilesOfAll plan outset c (Whole files) seen =
     HasMade outset false (files_of_blocks plan c.all_headers c.all_blocks) seen

@@ -45,6 +45,6 @@ pub enum RecordTurn {
     Moved,
     /// There was no block to read. The same read is tried in the next turn.
     Waiting(ReadStop),
-    /// It cleared the last block.
+    /// It cleared one block, and ended there.
     Ended(RecordEnd),
 }

@@ -1,5 +1,5 @@
 //! The changes of a transfer's header for each of its files (PSRDADA manual: OBS_OFFSET, FILE_NUMBER, FILE_SIZE).
-ghost use Rattle.std.specs.Prelude.{◌≡◌, ◌≢◌, ◌+◌, ◌*◌, ◌^◌, ◌<◌, ◌≤◌, length, None, Option, IfOk, IfErr, OnOk, IsOk, codes};
+ghost use Rattle.std.specs.Prelude.{◌≡◌, ◌≢◌, ◌+◌, ◌*◌, ◌^◌, ◌<◌, ◌≤◌, length, None, Option, IfErr, OnOk, IsOk, codes};
 ghost use Rattle.dada_model.specs.Change.{IsWord, changed};
 ghost use Rattle.dada_header.specs.Changes.{IsSet};
 ghost use Rattle.psr_base.specs.Fixed.{padded};
@@ -85,7 +85,7 @@ pub(crate) fn change(
 // The form of a time in UTC, with a 0 for each digit.
 const FORM: &[u8] = b"0000-00-00-00:00:00";
 
-// A byte stands where the form has this character.
+// Whether a byte may stand where the form has this character.
 fn stands(form: u8, byte: u8) -> bool
     ensures { result ≡ stands_for form byte }
 {
@@ -96,7 +96,7 @@ fn stands(form: u8, byte: u8) -> bool
     }
 }
 
-// A text has the form of a time in UTC.
+// Whether a text has the form of a time in UTC.
 fn has_time_form(text: &[u8]) -> bool
     ensures { result ≡ is_time text.now }
 {
@@ -111,7 +111,7 @@ fn has_time_form(text: &[u8]) -> bool
     true
 }
 
-// A header says when its transfer began.
+// Whether a header says when its transfer began, in that form, or why not.
 fn judge_time(header: &Header) -> Result<(), RecordFault>
     ensures ok { OnOk result (time_refusal (start_time header.now) ≡ None) }
     ensures fault { IfErr result (Explains (time_refusal (start_time header.now))) }

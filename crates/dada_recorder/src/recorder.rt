@@ -1,5 +1,5 @@
 //! The recorder.
-ghost use Rattle.std.specs.Prelude.{◌≡◌, ◌≢◌, ℕ, ◌^◌, ◌≤◌, true, false, List, [], length, None, Some, IfOk};
+ghost use Rattle.std.specs.Prelude.{◌≡◌, ◌≢◌, ℕ, ◌^◌, ◌≤◌, None, Some, IfOk};
 ghost use Rattle.psr_base.specs.Count.{Rose};
 ghost use Rattle.dada_hdu.specs.Passes.{ReadsBoth, data_shape};
 ghost use Rattle.dada_recorder.specs.declared.answers.RecordEnd.TheVariants.{FileFault};
@@ -59,8 +59,8 @@ impl<'a, F: Files> Recorder<'a, F> {
         Recorder { files, track }
     }
 
-    /// Reads one block: a header block where a transfer is next, and else a data block. It goes into files and is
-    /// cleared.
+    /// Reads one block: a header block where a transfer is next, and else a data block. It goes into files, unless it
+    /// is refused or passes the limit, and is cleared. Where there was no block, the next turn tries the same read.
     pub fn turn(&mut self, hdu: &Hdu, pass: &mut HduReader) -> RecordTurn
         requires ring { ReadsBoth hdu.now pass.old }
         requires size { (data_shape hdu.now).size ≡ block_size self.old }

@@ -1,5 +1,5 @@
 //! The blocks of two rings, read one after another into a space of their own.
-ghost use Rattle.std.specs.Prelude.{◌≡◌, ◌≢◌, ℕ, ◌^◌, ◌≤◌, true, false, List, [], length, None, Some, IfOk};
+ghost use Rattle.std.specs.Prelude.{◌≡◌, ◌≤◌, true, false, [], length, None, Some, IfOk};
 ghost use Rattle.dada_hdu.specs.Passes.{ReadsBoth, data_shape};
 ghost use Rattle.dada_recorder.specs.Blocks.{PlanInRange, record_plan, files_of_blocks};
 ghost use Rattle.dada_recorder.specs.Making.{Outset, HasMade, IsOpenAs};

@@ -1,5 +1,5 @@
 //! The files of one transfer: its data are cut into pieces, and each piece stands behind a header of its own.
-ghost use Rattle.std.specs.Prelude.{◌≡◌, ℕ, Ok, IfErr, ◌+◌, ◌*◌, ◌^◌, ◌<◌, ◌≤◌, nat_lt, true, false, List, [], ◌∷◌, ◌++◌, length, take, None, IfOk, OnOk};
+ghost use Rattle.std.specs.Prelude.{◌≡◌, ℕ, Ok, IfErr, ◌+◌, ◌^◌, ◌<◌, ◌≤◌, true, false, List, [], ◌∷◌, ◌++◌, length, None, IfOk, OnOk};
 ghost use Rattle.psr_base.specs.Made.{NamedBytes};
 ghost use Rattle.dada_model.specs.Fields.{header_of};
 ghost use Rattle.stream_model.specs.Recorded.{recorded_files, file_header, start_time, time_refusal};

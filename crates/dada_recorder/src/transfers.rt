@@ -59,7 +59,7 @@ impl<'a> Transfers<'a> {
         })
     }
 
-    /// A transfer's header was read, and its data are next.
+    /// Whether a transfer's header was read, and its data are next.
     pub(crate) fn has_header(&self) -> bool
         ensures { result ≡ self.now.has_header }
     {

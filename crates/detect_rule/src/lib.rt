@@ -13,11 +13,11 @@ const SUMS_END: u64 = 1 << 32;
 /// What is known of the noise, and how far a sum has to stand out of it.
 #[derive(Clone, Copy, PartialEq, Eq, Debug)]
 pub struct Rule {
-    /// The mean of a sample, in thousandths.
+    /// The mean of a sample, in thousandths: at most 200 000 000.
     pub mean: u32,
-    /// The standard deviation of a sample, in thousandths.
+    /// The standard deviation of a sample, in thousandths: at most 200 000 000.
     pub sd: u32,
-    /// The least signal-to-noise ratio, in hundredths.
+    /// The least signal-to-noise ratio, in hundredths: at most 100 000.
     pub snr: u32,
 }
 
@@ -36,7 +36,7 @@ impl Model for Rule {
 impl Rule {
     ghost use Rattle.detect_rule.specs.Noise.{StandsOut, StandOutFrom};
 
-    /// Whether the sum of so many cells is at or above the threshold.
+    /// Whether the sum of so many cells is above their mean, and at or above the threshold.
     pub fn detected(&self, sum: u64, cells: u64) -> bool
         requires sum_fits { sum < 2 ^ 32 }
         requires cells_fit { cells ≤ 2 ^ 26 }
@@ -53,7 +53,8 @@ impl Rule {
         snr * snr * (sd * sd) * u128::from(cells) <= 10000 * (excess * excess)
     }
 
-    /// The least sum of so many cells that is detected, if one below 2^32 is. So is each greater one.
+    /// The least sum of so many cells that is detected, and each greater one below 2^32 is too; `None` where no sum
+    /// below 2^32 is detected.
     pub fn least(&self, cells: u64) -> Option<u32>
         requires { cells ≤ 2 ^ 26 }
         ensures { StandOutFrom self.now cells result }

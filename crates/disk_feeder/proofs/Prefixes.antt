@@ -10,7 +10,7 @@ use Rattle.ring_blocks.specs.declared.Entry.{Entry}
 use Rattle.stream_model.specs.Blocks.{full_entries, whole_stream, joined_data, abandoned_stream}
 use Rattle.stream_model.specs.BlockLaws.{StreamsBegin}
 use Rattle.stream_model.specs.Walk as walk
-use Rattle.stream_model.specs.Walk.{FileStream, WalkStop, begin_of, transfer_of, transfer_data, walk_data, data_between, header_stop, length_stop, stop_at, first_of_two, walk_stop, walk_stream, stream_to, stream_before}
+use Rattle.stream_model.specs.Walk.{FileStream, WalkStop, begin_of, transfer_data, walk_data, data_between, header_stop, length_stop, stop_at, first_of_two, walk_stop, walk_stream, stream_to, stream_before}
 use Rattle.stream_model.specs.WalkLaws.{IsIn, FilesAreInTransfers, DataJoin, FirstStopCounts, NoStopIsWhole, OneTransferMore}
 use Rattle.disk_feeder.specs.Reached.{CameTo}
 use Rattle.disk_feeder.proofs.Headers.{stop_blocks, stop_of_header}

@@ -7,7 +7,7 @@ use Rattle.std.proofs.lemmas.List.{append-nil, length-append, take-append-drop, 
 use Rattle.psr_base.specs.Told.{Told, Reading, left_to_read, moved_by, rest_after, GivesNext}
 use Rattle.stream_model.specs.Blocks.{joined_data, abandoned_stream}
 use Rattle.stream_model.specs.Walk as walk
-use Rattle.stream_model.specs.Walk.{FileStream, WalkStop, begin_of, transfer_of, transfer_data, walk_data, data_between, header_stop, length_stop, stop_at, first_of_two, walk_stop, walk_stream, stream_to}
+use Rattle.stream_model.specs.Walk.{FileStream, WalkStop, begin_of, walk_data, data_between, header_stop, length_stop, stop_at, first_of_two, walk_stream, stream_to}
 use Rattle.stream_model.specs.WalkLaws.{AreStarts, IsIn, FilesAreInTransfers, DataJoin, TransfersJoin, FirstStopCounts}
 use Rattle.disk_feeder.specs.declared.answers.FeedEnd.TheVariants.{TooLong}
 use Rattle.disk_feeder.specs.declared.place.Place.{Place}

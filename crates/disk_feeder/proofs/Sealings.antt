@@ -12,7 +12,7 @@ use Rattle.dada_hdu.specs.Answers.{entry, header_entry}
 use Rattle.stream_model.specs.Blocks.{full_entry, last_entry, cut_entry, full_entries, transfer_entries, whole_stream, joined_data, abandoned_stream}
 use Rattle.stream_model.specs.BlockLaws.{StreamsGrow}
 use Rattle.stream_model.specs.Walk as walk
-use Rattle.stream_model.specs.Walk.{FileStream, WalkStop, begin_of, walk_data, walk_stop, walk_stream, stream_to, transfer_data}
+use Rattle.stream_model.specs.Walk.{FileStream, walk_data, walk_stop, walk_stream, stream_to, transfer_data}
 use Rattle.stream_model.specs.WalkLaws.{NoStopIsWhole}
 use Rattle.disk_feeder.specs.declared.answers.FeedEnd.{FeedEnd}
 use Rattle.disk_feeder.specs.declared.answers.FeedEnd.TheVariants.{Whole, ReadFault, BadHeader, Gap, TooLong}

@@ -76,7 +76,7 @@ IsFresh f = IsFreshStream f.stream
 abbrev pub HasOpenFile : {I : Type 0} → Feeder I → Type 0
 HasOpenFile f = f.stream.source.place.is_open ≡ true
 
--- the first headers were read, and those of files that are told are those of the files
+-- the first headers were read; where the files are told, they are the headers of these files
 abbrev pub IsBegun : {I : Type 0} → Told → Feeder I → Type 0
 IsBegun told f = IsBegunStream told f.stream
 
@@ -107,7 +107,7 @@ FeederBegins told f blocks = IsBeginning (plan_at f) told (block_size f) blocks
 abbrev pub FeederFits : {I : Type 0} → Hdu → Feeder I → Type 0
 FeederFits hdu f = FitsRings hdu f.stream
 
--- since the inputs had counted k faults, it met a fault only where the count rose, and where it met none it stands
+-- since the inputs had counted k faults, it met a fault only where the count rose, and where it met none the count is k
 abbrev pub FeederSince : {I : Type 0} → ℕ → ℕ → Feeder I → Type 0
 FeederSince k faults f = IsSince k faults f.stream.due f.stream.end
 

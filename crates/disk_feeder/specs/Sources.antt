@@ -38,7 +38,7 @@ ends_left count at = 2 * (count - at.file) - (if at.is_open then 1 else 0)
 abbrev pub current_name : Source → List ℕ
 current_name source = slice_index_or (plan_of source).names source.place.file []
 
--- a file has no header, and so it is the end, if not the inputs' fault
+-- the end says why the file has no header, unless the inputs failed
 abbrev pub RefusesText : List ℕ → ℕ → FeedEnd → Type 0
 RefusesText file number ReadFault = ⊤
 RefusesText file number (BadHeader k (Text fault)) = (k ≡ number) × IsHeaderRefusal file fault

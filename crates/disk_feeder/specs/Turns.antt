@@ -31,7 +31,7 @@ abbrev pub SealsOne : WriterPass → WriterPass → Type 0
 SealsOne old new = (block : Entry)
     × ((writer_knows new).sealed ≡ (writer_knows old).sealed ++ block ∷ [])
 
--- nothing was sealed, since this reader had cleared so many blocks alone
+-- nothing was sealed, since this reader had cleared only so many blocks
 abbrev pub FindsFull : WriterPass → ℕ → ℕ → WriterPass → Type 0
 FindsFull old reader cleared new = IsFull (writer_knows old) reader cleared (writer_knows new)
 

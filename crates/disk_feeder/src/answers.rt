@@ -3,7 +3,8 @@ use dada_header::HeaderFault;
 use obs_plan::ObsFault;
 use thiserror::Error;
 
-/// Why a later file's header is refused: its bytes are no header, or it belongs to another observation.
+/// Why a later file's header is refused: its bytes are no header (`Text`); or it has other values than the transfer's
+/// first header, or no OBS_OFFSET from 0 to 10^15 bytes (`Fields`).
 #[derive(Clone, Copy, Debug, PartialEq, Eq, Error)]
 pub enum HeaderCause {
     #[error("{0}")]

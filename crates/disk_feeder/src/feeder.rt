@@ -1,9 +1,8 @@
 //! The feeder.
-ghost use Rattle.std.specs.Prelude.{◌≡◌, ◌≢◌, ℕ, ◌+◌, ◌/◌, ◌^◌, ◌<◌, ◌≤◌, true, List, length, map, string_bytes, None, Some, Ok, Err, [], take, IfOk, IfErr, OnOk, OnErr, IsSome, slice_get};
+ghost use Rattle.std.specs.Prelude.{◌≡◌, ◌≢◌, ℕ, ◌^◌, ◌<◌, ◌≤◌, List, length, map, string_bytes, None, Some, Ok, Err, [], take, IfOk, IfErr, OnOk, slice_get};
 ghost use Rattle.dada_model.specs.Fields.{fields_of};
 ghost use Rattle.dada_model.specs.Observation.{observation_of};
 ghost use Rattle.psr_base.specs.Inputs.{HasReadFrom};
-ghost use Rattle.psr_base.specs.Told.{OfFile};
 ghost use Rattle.stream_model.specs.WalkLaws.{AreStarts};
 ghost use Rattle.dada_hdu.specs.Passes.{WritesBoth};
 ghost use Rattle.disk_feeder.specs.Filling.{HoldsAll};
@@ -129,8 +128,8 @@ impl<'a, I: Inputs> Feeder<'a, I> {
         self.stream.accept(transfer, observation);
     }
 
-    /// Reads until a block is full or the stream stops, and seals the block; or seals the header of a further transfer.
-    /// A block that found the ring full is tried again in the next turn.
+    /// Reads until a block is full, the transfer's data end or the stream stops, and seals the block; or seals the
+    /// header of a further transfer. A block that found the ring full is tried again in the next turn.
     pub fn turn(&mut self, hdu: &Hdu, pass: &mut HduWriter) -> FeedTurn
         requires ring { WritesBoth hdu.now pass.old }
         requires fits { FeederFits hdu.now self.old }

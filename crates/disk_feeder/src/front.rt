@@ -1,5 +1,5 @@
 //! The header at the front of a file, read by exact pieces.
-ghost use Rattle.std.specs.Prelude.{◌≡◌, ◌≢◌, ◌+◌, ◌-◌, ◌≤◌, ◌<◌, ◌++◌, ℕ, List, length, take, drop, Some, Ok, Err, IfOk, IfErr, OnOk, OnErr, IsOk, IsSome};
+ghost use Rattle.std.specs.Prelude.{◌≡◌, ◌≢◌, ◌+◌, ◌-◌, ◌≤◌, ◌<◌, ◌++◌, length, take, drop, Some, Ok, Err, IfOk, IfErr, OnOk, OnErr, IsOk, IsSome};
 ghost use Rattle.std.specs.Option.{ForSome};
 ghost use Rattle.psr_base.specs.Count.{Rose};
 ghost use Rattle.psr_base.specs.Told.{OfFile, left_to_read};

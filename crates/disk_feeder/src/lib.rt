@@ -1,5 +1,5 @@
 //! The data of files, through rings: a feeder reads the files of one or more transfers in order and seals their headers
-//! and their data as blocks, or why they end early.
+//! and their data as blocks, and an empty block marked Cut where they end early.
 #![tactic(auto)]
 
 mod answers;

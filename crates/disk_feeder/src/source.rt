@@ -1,10 +1,9 @@
 //! The data of the files, one transfer after another.
-ghost use Rattle.std.specs.Prelude.{◌≡◌, ◌≢◌, ◌≤◌, ◌<◌, ◌+◌, ◌^◌, ℕ, List, [], true, false, length, vec_len, slice_index_or, Some, None, Ok, Err, IfOk, IfErr, OnOk, OnErr, IsOk, IsSome, MatchResult, slice_get};
+ghost use Rattle.std.specs.Prelude.{◌≡◌, ◌≢◌, ◌≤◌, ◌<◌, ◌+◌, ◌^◌, ℕ, true, false, length, Some, None, Ok, Err, IfOk, IfErr, OnOk, OnErr, IsSome, MatchResult, slice_get};
 ghost use Rattle.psr_base.specs.Inputs.{HasReadFrom};
 ghost use Rattle.psr_base.specs.Told.{OfFile, left_to_read};
-ghost use Rattle.dada_model.specs.Fields.{header_of, fields_of};
-ghost use Rattle.obs_plan.specs.Later.{later_offset_of};
-ghost use Rattle.stream_model.specs.Walk.{data_of, offset_stop};
+ghost use Rattle.dada_model.specs.Fields.{header_of};
+ghost use Rattle.stream_model.specs.Walk.{data_of};
 ghost use Rattle.stream_model.specs.WalkLaws.{AreStarts};
 ghost use Rattle.disk_feeder.specs.Plan.{IsPlace, begin_at};
 
@@ -41,7 +40,7 @@ pub(crate) struct Source<'a> {
     pub(crate) firsts: [Option<First>; 8],
     /// Where the bytes of headers are read to.
     space: Vec<u8>,
-    /// The header of the file that was opened last.
+    /// Where the header of a file is read to that is opened for its data.
     later: Header,
     place: Place,
     ghost files: { length names.now ≤ 65535 },
@@ -59,7 +58,6 @@ impl<'a> Source<'a> {
     ghost use Rattle.disk_feeder.specs.Beginning.{KeepsSource, HeadersRead, LastLeft, RefusesSome};
     ghost use Rattle.disk_feeder.specs.Filling.{HoldsAll};
     ghost use Rattle.disk_feeder.specs.Plan.{AreAccepted};
-    ghost use Rattle.disk_feeder.specs.Ends.{IsStop};
 
     /// Nothing was read. The space for all headers is taken here.
     pub(crate) fn open(
@@ -100,13 +98,6 @@ impl<'a> Source<'a> {
                 total: 0,
             },
         })
-    }
-
-    /// How many transfers there are.
-    pub(crate) fn transfers(&self) -> usize
-        ensures { result ≡ length self.now.starts.now }
-    {
-        self.starts.len()
     }
 
     /// Opens the first file of a transfer and reads its header.

@@ -1,5 +1,5 @@
 //! The blocks of the files' data: one is filled, and kept until it is sealed.
-ghost use Rattle.std.specs.Prelude.{◌≡◌, ◌≢◌, ◌≤◌, ◌<◌, ◌+◌, ◌-◌, ℕ, List, ◌++◌, true, false, length, take, drop, Some, None, Ok, Err, IfOk, IfErr, OnOk, OnErr, MatchResult, IsSome, All, ◌^◌, slice_get};
+ghost use Rattle.std.specs.Prelude.{◌≡◌, ◌≢◌, ◌≤◌, ◌<◌, ◌+◌, ◌-◌, ℕ, true, false, length, take, Some, None, Ok, Err, IfOk, IfErr, OnOk, OnErr, IsSome, ◌^◌, slice_get};
 ghost use Rattle.psr_base.specs.Inputs.{HasReadFrom};
 ghost use Rattle.disk_feeder.specs.Plan.{AreAccepted, begin_at};
 ghost use Rattle.disk_feeder.specs.Sources.{plan_of, current_name, IsEarly, ends_left};
@@ -16,7 +16,7 @@ use dada_header::Header;
 use obs_plan::Observation;
 use psr_base::{Inputs, Memory};
 use std::alloc::Global;
-// Laws: they do nothing when it runs, and the proofs use what it ensures.
+// Laws: they do nothing when they run, and the proofs use what they ensure.
 use stream_model::{no_stop_is_whole, streams_are_short, streams_grow};
 
 // Reads on into a block, behind the bytes that it holds.

@@ -88,7 +88,7 @@ fn merge_block(out: &mut [u32], halves: &[u32], period: usize, rows: usize)
     }
 }
 
-// Merges each two neighbouring blocks, each of which has `rows` trials of `period` phases.
+/// Merges each two neighbouring blocks, each of which has `rows` trials of `period` phases.
 pub fn merge_blocks(out: &mut [u32], sums: &[u32], period: usize, rows: usize, blocks: usize)
     requires phases { 0 < period }
     requires some { 0 < blocks }

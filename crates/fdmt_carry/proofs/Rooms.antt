@@ -1,5 +1,5 @@
 -- Lists that are long enough for schedules.
-use Rattle.std.proofs.Common.{◌≡◌, ℕ, Option, None, Some, length, replicate, ap, ◌∙◌, arith}
+use Rattle.std.proofs.Common.{Option, None, Some, length, replicate, ap, ◌∙◌, arith}
 use Rattle.std.specs.Option.{IfSome}
 use Rattle.std.proofs.lemmas.List.{length-replicate}
 use Rattle.row_schedule.specs.Schedules.{Scheduled}

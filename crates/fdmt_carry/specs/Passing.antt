@@ -21,7 +21,8 @@ pub record IsPass (p : BandPlan) (rows : PlanRows) (chunk m : ℕ) (pass : Passi
 abbrev pub IsPassOf : Tables → ℕ → Passing → Type 0
 IsPassOf t m pass = IsPass t.plan t.rows t.chunk m pass
 
--- how many of its orders come before the row of delay d of the whole band is made
+-- how many of its orders were carried out when it comes to the row of delay d of the whole band, which is made by those
+-- that follow, up to the next stop
 abbrev pub stop_at : Tables → Passing → ℕ → ℕ
 stop_at t pass d = slice_index pass.stops.items (d - t.plan.first)
 

@@ -1,5 +1,5 @@
 // A schedule of orders, all of which are checked.
-ghost use Rattle.std.specs.Prelude.{◌≡◌, ℕ, ◌≤◌, ◌<◌, ◌≢◌, IfOk, IfSome, None};
+ghost use Rattle.std.specs.Prelude.{◌≤◌, ◌<◌, ◌≢◌, IfOk, IfSome, None};
 ghost use Rattle.row_model.specs.Tails.{AreRows};
 ghost use Rattle.row_schedule.specs.Orders.{AreInOrder, MakeAll};
 ghost use Rattle.row_schedule.specs.Schedules.{HasParts, building};

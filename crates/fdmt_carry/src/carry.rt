@@ -1,5 +1,5 @@
 // Tables that are carried from chunk to chunk.
-ghost use Rattle.std.specs.Prelude.{◌≡◌, ◌≢◌, ℕ, ◌+◌, ◌-◌, ◌*◌, ◌^◌, ◌<◌, ◌≤◌, true, false, List, length, slice_index, replicate, None, IfOk, IfSome};
+ghost use Rattle.std.specs.Prelude.{◌≡◌, ℕ, ◌+◌, ◌-◌, ◌*◌, ◌^◌, ◌<◌, ◌≤◌, true, false, length, slice_index, None, IfOk};
 ghost use Rattle.band_paths.specs.Edges.{channels_of};
 ghost use Rattle.row_schedule.specs.Running.{stores};
 ghost use Rattle.row_schedule.specs.Samples.{values_of};
@@ -9,7 +9,6 @@ ghost use Rattle.search_model.specs.Subbands.{node_sum};
 ghost use Rattle.subband_plan.specs.Nodes.{HasRow, root};
 ghost use Rattle.subband_plan.specs.Values.{AreAtMost};
 ghost use Rattle.fdmt_carry.specs.Tables.{node_of, node_count};
-ghost use Rattle.fdmt_carry.specs.Passing.{IsPassOf};
 ghost use Rattle.fdmt_carry.specs.Carrying.{Carrying, AreThere, IsOpened, IsFed, IsBegun, IsRowOn, IsStream, AreNext, IsSettled, StandsForSamples, StandsMidway, IsSound, HasSpare, carrying};
 
 use crate::opening::{Lists, Passes};
@@ -26,11 +25,12 @@ use subband_plan::{Plan, plans_are_laid, rows_begin_empty};
 /// The tables of a plan over a stream of spectra that is fed chunk by chunk. Of each row are kept between two calls as
 /// many values as later spectra need, or some more.
 ///
-/// `feed` and `take` make the rows of all nodes, which then stand. A pass makes only those of the whole band, one after
-/// another by their delays: `begin`, `make_row` for each delay, with `made` to read the row, and `finish`.
+/// `feed` and `take` make the rows of all nodes, which then stand. In a pass only the rows of the whole band can be
+/// read, as they are made, one after another by their delays: `begin`, `make_row` for each delay, with `made` to read
+/// the row, and `finish`.
 ///
-/// A pass for small samples serves until a greater one comes, and then one for all samples. Which rows have 16 bits, no
-/// clause says.
+/// A pass for small samples serves until a greater one comes, and then one for all samples. No clause says which rows
+/// have 16 bits.
 #[derive(Drop)]
 pub struct Carry {
     tables: Tables,
@@ -298,7 +298,8 @@ impl Carry {
         self.is_passing = false;
     }
 
-    /// A whole pass over the next spectra: only what is kept stands after it.
+    /// A whole pass over the next spectra, up to a chunk: the samples of channel `c`, the highest frequency first,
+    /// begin at `c * chunk`. Only what is kept stands after it.
     pub fn pass(&mut self, samples: Samples<'_>, spectra: u32)
         requires rows { AreThere self.old (values_of samples) spectra }
         requires short { spectra ≤ self.old.tables.chunk }
@@ -361,7 +362,7 @@ impl Carry {
         self.table(0, d)
     }
 
-    /// The path sum of delay `d` that ends at the `k`-th spectrum of the last call, which made all tables.
+    /// The path sum of delay `d` that ends at spectrum `k` of the last call, counted from 0. That call made all tables.
     pub fn sum(&self, d: u32, k: u32) -> u32
         requires tables { self.now.has_tables ≡ true }
         requires row { HasRow (root self.now.tables.plan) d }
@@ -372,7 +373,8 @@ impl Carry {
         self.row(d)[k as usize]
     }
 
-    /// The sums of row `d` of node `k` of the plan that end at the spectra of the last call, which made all tables.
+    /// The sums over node `k` of the plan along the path of delay `d`, which end at the spectra of the last call. That
+    /// call made all tables.
     pub fn table(&self, k: usize, d: u32) -> &[u32]
         requires tables { self.now.has_tables ≡ true }
         requires node { k < node_count self.now.tables }

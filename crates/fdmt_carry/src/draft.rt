@@ -19,8 +19,8 @@ const TABLE_DEPTHS: [u32; 2] = [4, 7];
 // How often a band of 4096 channels is halved.
 const DEEPEST: u32 = 12;
 
-/// An order of rows, whether each slot is for rows of 16 bits, and how many orders there are before the first row of
-/// the whole band is begun, once it is made, and so on.
+/// An order of rows, whether each slot is for rows of 16 bits, and the stops: 0, and how many orders there are once
+/// each row of the whole band is made.
 #[derive(Drop)]
 pub struct Draft {
     pub orders: Vec<Order>,

@@ -1,5 +1,5 @@
 // The numbers of rows, and their places in the plain order.
-ghost use Rattle.std.specs.Prelude.{◌≡◌, ℕ, ◌+◌, ◌-◌, ◌≤◌, ◌<◌, length};
+ghost use Rattle.std.specs.Prelude.{◌≡◌, ◌+◌, ◌-◌, ◌≤◌, ◌<◌, length};
 ghost use Rattle.subband_plan.specs.Nodes.{IsPlan, HasRow, root, nodes_of, node_at};
 ghost use Rattle.subband_plan.specs.Rows.{ArePlanRows, IsRow, all_rows, row_at};
 ghost use Rattle.fdmt_carry.specs.Orders.{start_of, place_of};

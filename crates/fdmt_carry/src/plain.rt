@@ -1,5 +1,5 @@
 // The plain order: the nodes from the last to the first, the rows of each by rising delay, each in a slot of its own.
-ghost use Rattle.std.specs.Prelude.{◌≡◌, ℕ, ◌+◌, ◌-◌, ◌≤◌, ◌<◌, false, List, length, replicate, IfOk, OnOk};
+ghost use Rattle.std.specs.Prelude.{◌≡◌, ◌+◌, ◌-◌, ◌≤◌, ◌<◌, false, List, length, replicate, IfOk, OnOk};
 ghost use Rattle.subband_plan.specs.Nodes.{IsPlan, nodes_of};
 ghost use Rattle.subband_plan.specs.Rows.{ArePlanRows};
 ghost use Rattle.fdmt_carry.specs.Orders.{ArePlain, AreStops, IsPlainlyMade};

@@ -1,5 +1,5 @@
 // How long the lists are that schedules work on.
-ghost use Rattle.std.specs.Prelude.{◌≤◌, IfSome};
+ghost use Rattle.std.specs.Prelude.{IfSome};
 ghost use Rattle.row_schedule.specs.Schedules.{Scheduled};
 ghost use Rattle.fdmt_carry.specs.Sizes.{AreEnough};
 

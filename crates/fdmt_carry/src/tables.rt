@@ -113,7 +113,7 @@ impl Tables {
         (band.first_row, band.last_row)
     }
 
-    // How many orders of a pass come before the row of delay `d` of the whole band is made.
+    // How many orders of a pass were carried out when it comes to the row of delay `d` of the whole band, or its end.
     fn stop(&self, pass: &Passing, d: u32) -> usize
         requires pass { (m : ℕ) × IsPassOf self.now m pass.now }
         requires from { self.now.plan.first ≤ d }
@@ -178,7 +178,7 @@ impl Tables {
         narrow_kept(&self.rows.rows, widths, kept, kept_narrow);
     }
 
-    /// Keeps what was kept for a pass as another one goes on by it.
+    /// Writes what is kept for one pass as it is kept for another, which then goes on by it.
     pub fn keep_for(
         &self,
         pass: &Passing,

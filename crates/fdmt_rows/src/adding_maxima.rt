@@ -43,7 +43,7 @@ fn add_lanes_greatest(out: &mut [u32], a: &[u32], b: &[u32]) -> (u32x16, usize)
     (lanes, steps * LANES)
 }
 
-/// Adds two rows value by value, in 32 bits, and gives the greatest sum, or 0 where there is none.
+/// Adds two rows value by value into `out`, modulo 2^32, and gives the greatest value of `out`, or 0 where it has none.
 pub fn add_rows_greatest(out: &mut [u32], a: &[u32], b: &[u32]) -> u32
     requires first { length a.now ≡ length out.old }
     requires second { length b.now ≡ length out.old }

@@ -1,4 +1,5 @@
-//! Sums of whole rows of values, sixteen at a time and the rest one by one.
+//! Whole rows of values: their sums, their greatest value, and copies in the same or another width, sixteen values at a
+//! time and the rest one by one.
 #![tactic(auto)]
 
 ghost use Rattle.std.specs.Prelude.{◌≡◌, ℕ, ◌+◌, ◌-◌, ◌<◌, ◌≤◌, ◌^◌, length, slice_index};
@@ -18,7 +19,7 @@ pub use narrow::{
     add_mixed_rows, add_narrow_rows, add_widened_rows, narrow_row, widen_row, widen_to_narrow,
 };
 
-/// Adds two rows value by value, in 32 bits.
+/// Adds two rows value by value into `out`, modulo 2^32.
 pub fn add_rows(out: &mut [u32], a: &[u32], b: &[u32])
     requires first { length a.now ≡ length out.old }
     requires second { length b.now ≡ length out.old }
@@ -30,7 +31,7 @@ pub fn add_rows(out: &mut [u32], a: &[u32], b: &[u32])
     }
 }
 
-/// Adds a row to another value by value, in 32 bits.
+/// Adds `a` to a row value by value, modulo 2^32.
 pub fn add_to_row(row: &mut [u32], a: &[u32])
     requires { length a.now ≡ length row.old }
     ensures wrapping { AddsWrapping row.new row.old a.now }
@@ -41,7 +42,8 @@ pub fn add_to_row(row: &mut [u32], a: &[u32])
     }
 }
 
-/// The sums of so many neighbours of `x` that as many sums as `out` has places use all of `x`.
+/// Running sums: where `x` has n values and `out` has m, `out[k]` is the sum of the n - m + 1 values of `x` from `x[k]`
+/// on. They have to fit into 32 bits.
 pub fn running(out: &mut [u32], x: &[u32])
     requires longer { length out.old ≤ length x.now }
     requires fits { (k : ℕ) → k < length out.old

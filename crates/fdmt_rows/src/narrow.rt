@@ -169,7 +169,7 @@ fn widen_whole_byte_lanes(out: &mut [u16], bytes: &[u8]) -> usize
     steps * LANES
 }
 
-/// Adds two rows value by value, in 16 bits.
+/// Adds two rows of values of 16 bits value by value, modulo 2^16.
 pub fn add_narrow_rows(out: &mut [u16], a: &[u16], b: &[u16])
     requires first { length a.now ≡ length out.old }
     requires second { length b.now ≡ length out.old }
@@ -202,7 +202,7 @@ pub fn add_mixed_rows(out: &mut [u32], wide: &[u32], narrow: &[u16])
     }
 }
 
-/// Writes values of 32 bits in 16 bits.
+/// Writes values of 32 bits in 16 bits, modulo 2^16.
 pub fn narrow_row(out: &mut [u16], values: &[u32])
     requires { length values.now ≡ length out.old }
     ensures { Narrows out.new values.now }

@@ -1,4 +1,6 @@
 //! Fold sums as the definition has them: each row of a series is shifted by the bits of its number.
+//!
+//! Source: Staelin, Proc. IEEE 57:724, 1969.
 #![tactic(auto)]
 
 ghost use Rattle.std.specs.Prelude.{◌≡◌, ◌+◌, ◌-◌, ◌*◌, ◌/◌, ◌%◌, ◌^◌, ◌==◌, ◌<◌, ◌≤◌, length, if◌then◌else◌};
@@ -21,7 +23,6 @@ fn part(m: u32, j: u32, i: u32, k: u32) -> u32
 }
 
 /// How many phases trial `j` of `2^m` rows shifts row `i`.
-/// Source: Staelin, Proc. IEEE 57:724, 1969.
 pub fn shift(m: u32, j: u32, i: u32) -> u32
     requires some { 1 ≤ m }
     requires few { m ≤ 12 }

@@ -23,7 +23,7 @@ pub enum ObsFault {
     /// A channel has less than 1 kHz: the absolute value of BW in Hz, and the number of channels.
     #[error("{nchan} channels in {bw} Hz are too narrow")]
     TooNarrow { bw: u64, nchan: u32 },
-    /// A later header has another value than the first, or none.
+    /// A later header's value is another than the first one's, no number, or missing without a default.
     #[error("{} differs", .0.name())]
     Differs(Key),
     #[error("out of memory")]

@@ -1,5 +1,5 @@
 // What a header has for a key.
-ghost use Rattle.std.specs.Prelude.{◌≡◌, ◌≤◌, IsTrue, ◌↔◌};
+ghost use Rattle.std.specs.Prelude.{◌≡◌, ◌≤◌};
 ghost use Rattle.dada_model.specs.Fields.{fields_of};
 ghost use Rattle.dada_model.specs.Observation.{default as default_of, decimals as decimals_of};
 ghost use Rattle.obs_plan.specs.Found.{Says};

@@ -1,5 +1,5 @@
 // The numbers of an observation.
-ghost use Rattle.std.specs.Prelude.{◌≡◌, ℕ, ◌*◌, ◌+◌, ◌<◌, ◌≤◌, Ok, IfOk, IfErr};
+ghost use Rattle.std.specs.Prelude.{◌≡◌, ◌*◌, ◌+◌, ◌<◌, ◌≤◌, Ok, IfOk, IfErr};
 ghost use Rattle.dada_model.specs.Fields.{fields_of};
 ghost use Rattle.dada_model.specs.Observation.{Observation as Described, observation_of, edge as edge_of, edges as edges_of, dispersion_span as dispersion_span_of, dm as dm_of, max_sample as max_sample_of};
 ghost use Rattle.dada_model.specs.Bounds.{most_delay, ObservationInRange};
@@ -98,7 +98,7 @@ impl Numbers {
         })
     }
 
-    /// What is said of an observation within its bounds holds of these. It does nothing.
+    /// A law: these lie within the bounds of an accepted observation. It does nothing when it runs.
     pub(crate) fn lies_in_range(&self)
         ensures { ObservationInRange self.now }
     {
@@ -128,7 +128,7 @@ impl Numbers {
         Ok(edges)
     }
 
-    // The part of the dispersion measure that doesn't depend on the delay, in kHz^2.
+    // What the band alone gives to a dispersion measure: 1 / (1/foot^2 - 1/top^2) in kHz^2, rounded down.
     fn dispersion_span(&self) -> u128
         ensures { result ≡ dispersion_span_of self.now }
     {
@@ -138,7 +138,7 @@ impl Numbers {
         top * top * (foot * foot) / (top * top - foot * foot)
     }
 
-    /// The dispersion measure of a delay of `d` spectra, in thousandths.
+    /// The dispersion measure of a delay of `d` spectra, in thousandths of pc/cm^3, rounded down.
     pub(crate) fn dm(&self, d: u32) -> u64
         requires { d ≤ most_delay }
         ensures { result ≡ dm_of self.now d }

@@ -16,8 +16,8 @@ use dada_model::edges_fall;
 use std::alloc::Global;
 use std::marker::Model;
 
-/// What a header says of its data (keywords of the PSRDADA manual): how many channels a spectrum has and how a
-/// sample is written, when and at which frequencies it was taken.
+/// What a header says of its data (keywords of the PSRDADA manual): how many channels a spectrum has, how a sample is
+/// written and how long it lasts, the frequencies of the channels, and how many data bytes came before.
 #[derive(Drop)]
 pub struct Observation {
     numbers: Numbers,
@@ -37,7 +37,7 @@ impl Model for Observation {
 
 impl Observation {
     /// The observation of a header, or the header's first refusal: for each keyword in turn that it is missing, no
-    /// number, or outside its row; last that a channel has less than 1 kHz. It is never `Differs`.
+    /// number, or outside its row; last that a channel has less than 1 kHz. `Memory` may come instead, `Differs` never.
     pub fn of(alloc: Global, header: &Header) -> Result<Observation, ObsFault>
         ensures ok { IfOk result (λ o. observation_of (fields_of header.now.text) ≡ Ok o) }
         ensures bounds { IfOk result ObservationInRange }
@@ -48,7 +48,7 @@ impl Observation {
         Ok(Observation { numbers, edges })
     }
 
-    /// What is said of an observation within its bounds holds of this one. It does nothing.
+    /// A law: this observation lies within the bounds of an accepted one. It does nothing when it runs.
     pub fn lies_in_range(&self)
         ensures { ObservationInRange self.now }
     {

@@ -62,9 +62,9 @@ impl Profile {
         ]
     }
 
-    /// The OBS_OFFSET of a later file's header, in bytes. `Differs` names the first of the seven keywords whose
-    /// value is missing, no number or another one; then OBS_OFFSET may be no number or out of range. There is no
-    /// other fault.
+    /// The OBS_OFFSET of a later file's header, in bytes, and 0 where it is missing. `Differs` names the first of the
+    /// seven keywords whose value is missing, no number or another one, where a missing NPOL or NDIM counts as 1; then
+    /// OBS_OFFSET may be no number or out of range. There is no other fault.
     pub fn later_offset(&self, later: &Header) -> Result<u64, ObsFault>
         ensures { result ≡ later_offset_of self.now (fields_of later.now.text) }
     {

@@ -1,8 +1,8 @@
 // The numbers of a header, each judged in its row.
-ghost use Rattle.std.specs.Prelude.{◌≡◌, ℕ, ℤ, ◌+◌, ◌*◌, ◌^◌, ◌<◌, ◌≤◌, ◌↔◌, ◌≤ℤ◌, IsTrue, Ok, pos, false, IfOk, IfErr, unsigned_abs};
+ghost use Rattle.std.specs.Prelude.{◌≡◌, ℤ, ◌+◌, ◌*◌, ◌^◌, ◌<◌, ◌≤◌, ◌↔◌, IsTrue, Ok, pos, IfOk, IfErr, unsigned_abs};
 ghost use Rattle.dada_model.specs.Edges.{top_khz, most_centre_hz};
 ghost use Rattle.dada_model.specs.Fields.{fields_of};
-ghost use Rattle.dada_model.specs.Observation.{outside as outside_of, number_of, observation_in, is_in_row, is_within as is_within_of, Observation};
+ghost use Rattle.dada_model.specs.Observation.{outside as outside_of, number_of, is_in_row, is_within as is_within_of, Observation};
 ghost use Rattle.obs_plan.specs.Faults.{IsObservationRefusal, IsRefusedAt};
 ghost use Rattle.obs_plan.specs.Rows.{LargeIsOutside, IsTaken, IsBand};
 

@@ -1,5 +1,4 @@
 // Streams and files that stand in for the system's, and record what they take.
-ghost use Rattle.std.specs.Prelude.{◌≤◌, IfOk};
 
 use std::alloc::Global;
 use std::cell::RefCell;

@@ -4,8 +4,9 @@ use Rattle.std.specs.Prelude.{◌≡◌, ℕ, ◌≤◌}
 use Rattle.psr_base.specs.Count.{Rose}
 use Rattle.psr_base.specs.Told.{Told}
 
--- Files stay as they are told, and a call has failed exactly where the count of faults rose. What inputs tell, whether
--- they are calm, and how many calls have failed; before and after.
+-- Files stay as they are told, calm inputs stay calm, and a call has failed exactly where the count of faults rose. The
+-- record is over what inputs tell, when they are calm, how many calls have failed, whether this one has, and the inputs
+-- before and after it.
 pub record HasReadFrom {I : Type 0} (told : I → Told) (is_calm : I → Type 0) (faults : I → ℕ)
     (failed : Type 0) (old new : I) : Type 0 where
   pub names : (told new).bytes_under ≡ (told old).bytes_under

@@ -1,11 +1,11 @@
 // Counts of calls and of faults.
-ghost use Rattle.std.specs.Prelude.{◌≡◌, ◌≤◌, ◌+◌, ◌-◌, ◌^◌, ◌↔◌, min, Ok, IfOk, OnOk, OnErr, IsErr, Contains, []};
+ghost use Rattle.std.specs.Prelude.{◌≡◌, ◌≤◌, ◌-◌, ◌↔◌, Ok, IfOk, OnOk, OnErr, IsErr, Contains};
 ghost use Rattle.psr_base.specs.Count.{next_count};
 
 use crate::faults::{Failed, Memory};
 use std::alloc::Global;
 
-/// How many calls have failed. It stays at the greatest u64.
+/// How many calls have failed. The count goes no further than the greatest u64.
 #[derive(Clone, Copy, Debug)]
 pub(crate) struct Faults {
     count: u64,

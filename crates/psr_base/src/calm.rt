@@ -8,6 +8,7 @@ use crate::sink::Sink;
 pub struct CalmSink;
 
 impl CalmSink {
+    /// A stream that has taken nothing.
     pub fn new() -> CalmSink {
         CalmSink
     }

@@ -42,7 +42,7 @@ impl CalmInputs {
 }
 
 impl Inputs for CalmInputs {
-    ghost use Rattle.std.specs.Prelude.{◌≡◌, ◌<◌, ◌≤◌, ⊤, [], length, min, unwrap_or, None, IsSome, IsOk, IfOk, OnOk};
+    ghost use Rattle.std.specs.Prelude.{◌≡◌, ◌<◌, ⊤, [], length, min, unwrap_or, None, IsSome, IsOk, IfOk, OnOk};
     ghost use Rattle.psr_base.specs.Told.{opened, closed, moved_by, left_to_read, GivesNext};
     ghost use Rattle.psr_base.specs.InMemory.{calm_told, IsCalmOpen};
 

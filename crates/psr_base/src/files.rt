@@ -1,5 +1,5 @@
 // What is recorded to.
-ghost use Rattle.std.specs.Prelude.{◌≤◌, ◌<◌, length, take, Ok, IfOk, OnOk, OnErr, IsOk, IsErr, IsSome};
+ghost use Rattle.std.specs.Prelude.{◌≤◌, ◌<◌, length, take, IfOk, OnOk, OnErr, IsOk, IsErr, IsSome};
 ghost use Rattle.std.specs.Option.{ForSome};
 ghost use Rattle.psr_base.specs.Made.{FilesSeen, HasName, Created, AppendedAll, Finished, MakingFails, CanCreate};
 
@@ -10,7 +10,7 @@ use crate::faults::Failed;
 /// A call that fails leaves what is told as it was, and a file that isn't finished stays so.
 pub trait Files {
     /// The files made so far and what is left of files and bytes, where they are told, and how many
-    /// calls have failed. That count stays at the greatest u64.
+    /// calls have failed. That count goes no further than the greatest u64.
     ghost seen: { Self → FilesSeen };
 
     /// A file was created and isn't finished.

@@ -19,8 +19,10 @@ const MOST: u64 = 1_000_000_000_000_000_000;
 /// the beginning of a number, or its length where there is no such byte.
 #[derive(Clone, Copy, Debug, PartialEq, Eq, Drop, Error)]
 pub enum NumberFault {
+    /// The text spells no number.
     #[error("no number from byte {place} on")]
     BadNumber { place: usize },
+    /// It spells one whose absolute value is above 10^18, in units of the last decimal.
     #[error("the number is too large")]
     TooLarge,
 }
@@ -204,8 +206,8 @@ fn put(value: i64, decimals: u32, into: &mut ArrayString<32>)
 pub struct Fixed;
 
 impl Fixed {
-    /// The value of a text in units of the last of so many decimals. Further digits are dropped, and the
-    /// absolute value is at most 10^18.
+    /// The value of a text in units of the last of so many decimals; further digits are dropped. A text
+    /// that is no number is refused, and so is an absolute value above 10^18.
     pub fn read(text: &[u8], decimals: u32) -> Result<i64, NumberFault>
         requires { decimals ≤ 9 }
         ensures value { IfOk result (λ z. number_value decimals text.now ≡ Some z) }

@@ -31,7 +31,7 @@ pub(crate) struct HeldFiles {
 }
 
 impl HeldFiles {
-    ghost use Rattle.std.specs.Prelude.{◌≡◌, ◌≢◌, ◌<◌, ◌↔◌, ℕ, List, [], None, Some, IsTrue, IsSome, IfOk, OnOk, OnErr, true, false, min, length, unwrap_or};
+    ghost use Rattle.std.specs.Prelude.{◌≡◌, ◌≢◌, ◌<◌, ◌↔◌, ℕ, List, [], None, Some, IsTrue, IsSome, OnOk, OnErr, true, false, min, length, unwrap_or};
     ghost use Rattle.psr_base.specs.Told.{left_to_read, opened, moved_by, closed, GivesNext};
     ghost use Rattle.psr_base.specs.Held.{told_by, IsReading};
 

@@ -1,5 +1,5 @@
 // The objects in memory as generic callers have them: what they hold is what their traits tell.
-ghost use Rattle.std.specs.Prelude.{◌≡◌, ◌≢◌, ◌≤◌, ◌<◌, ◌++◌, [], length, vec_len, Some, Err, IfOk, OnOk, OnErr, IsOk, IsSome};
+ghost use Rattle.std.specs.Prelude.{◌≡◌, ◌≢◌, ◌≤◌, ◌<◌, ◌++◌, [], length, vec_len, Err, IfOk, OnOk, OnErr, IsOk, IsSome};
 ghost use Rattle.psr_base.specs.Count.{Rose};
 ghost use Rattle.psr_base.specs.Told.{OfFile};
 ghost use Rattle.psr_base.specs.Written.{WroteFront};

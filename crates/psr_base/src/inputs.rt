@@ -1,5 +1,5 @@
 // What a search reads from.
-ghost use Rattle.std.specs.Prelude.{◌≡◌, ◌≤◌, ◌<◌, ℕ, length, Ok, IfOk, OnOk, OnErr, IsOk, IsSome};
+ghost use Rattle.std.specs.Prelude.{◌≡◌, ◌≤◌, ◌<◌, ℕ, length, IfOk, OnOk, OnErr, IsOk, IsSome};
 ghost use Rattle.std.specs.Option.{ForSome};
 ghost use Rattle.psr_base.specs.Count.{Rose};
 ghost use Rattle.psr_base.specs.Told.{Told, left_to_read, opened, moved_by, GivesNext};
@@ -20,7 +20,7 @@ pub trait Inputs {
     /// To open a name whose bytes are told, and to read, doesn't fail.
     ghost is_calm: { Self → Type 0 };
 
-    /// How many calls have failed. It stays at the greatest u64.
+    /// How many calls have failed. The count goes no further than the greatest u64.
     ghost faults: { Self → ℕ };
 
     /// Opens a name in place of the one that was open.
@@ -41,7 +41,7 @@ pub trait Inputs {
             → IsSome ((told self.old).bytes_under name.now) → IsOk result };
 
     /// Puts the next bytes of the open file at the front of `into`, and answers how many they are:
-    /// 0 at the end alone. What stands in `into` after them is free.
+    /// 0 only at the end of the file. What stands in `into` after them is free.
     fn read(&mut self, into: &mut [u8]) -> Result<usize, Failed>
         requires room { 0 < length into.old }
         requires is_open { is_open self.old }

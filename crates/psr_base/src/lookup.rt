@@ -1,5 +1,5 @@
 // Finding a file by its name, and reading from a place in it.
-ghost use Rattle.std.specs.Prelude.{◌≡◌, ◌-◌, ◌+◌, ◌≤◌, ℕ, min, length, take, drop};
+ghost use Rattle.std.specs.Prelude.{◌≡◌, ◌-◌, min, length, take, drop};
 ghost use Rattle.psr_base.specs.NamedFiles.{place_in};
 
 use crate::held::MemFile;

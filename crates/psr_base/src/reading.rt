@@ -1,8 +1,8 @@
 // Reading from an open file more than one call gives.
-ghost use Rattle.std.specs.Prelude.{◌≡◌, ◌≢◌, ◌≤◌, ◌<◌, ℕ, List, length, drop, vec_len, Ok, Err, IfOk, OnOk, OnErr, IsOk, IsSome};
+ghost use Rattle.std.specs.Prelude.{◌≡◌, ◌≢◌, ◌≤◌, ◌<◌, ℕ, length, vec_len, Ok, Err, IfOk, OnOk, OnErr, IsOk, IsSome};
 ghost use Rattle.std.specs.Option.{ForSome};
 ghost use Rattle.psr_base.specs.Count.{Rose};
-ghost use Rattle.psr_base.specs.Told.{Told, left_to_read, rest_after, moved_by, FillsFrom, OfFile};
+ghost use Rattle.psr_base.specs.Told.{left_to_read, rest_after, moved_by, FillsFrom, OfFile};
 
 use crate::faults::Failed;
 use crate::inputs::Inputs;
@@ -10,7 +10,7 @@ use std::alloc::{AllocError, Global};
 use thiserror::Error;
 
 /// Reads until `into` is full or the file ends, and answers how many bytes were read: fewer than
-/// fit at the end alone. What stands in `into` after them is free.
+/// fit only at the end of the file. What stands in `into` after them is free.
 ///
 /// After a fault some of the next bytes may be lost.
 pub fn fill<I: Inputs>(inputs: &mut I, into: &mut [u8]) -> Result<usize, Failed>
@@ -44,7 +44,7 @@ pub fn fill<I: Inputs>(inputs: &mut I, into: &mut [u8]) -> Result<usize, Failed>
     Ok(filled)
 }
 
-/// Why `read_to_end` gave no bytes.
+/// Why `read_to_end` or `read_file` gave no bytes.
 #[derive(Clone, Copy, Debug, PartialEq, Eq, Error)]
 pub enum DataFault {
     /// The inputs failed.
@@ -83,8 +83,8 @@ const PIECE: usize = 8192;
 
 /// Reads what is left of the open file, as long as it is at most `limit` bytes.
 ///
-/// It stops as soon as more than `limit` bytes were read. After a fault some of the next bytes are
-/// lost.
+/// It stops as soon as more than `limit` bytes were read. After a fault some of the next bytes may
+/// be lost.
 pub fn read_to_end<I: Inputs>(
     alloc: Global,
     inputs: &mut I,

@@ -1,5 +1,5 @@
 // What a search writes to.
-ghost use Rattle.std.specs.Prelude.{◌≤◌, ◌<◌, length, take, Ok, IfOk, OnErr, IsOk};
+ghost use Rattle.std.specs.Prelude.{◌≤◌, ◌<◌, length, take, IfOk, OnErr, IsOk};
 ghost use Rattle.std.specs.Option.{ForSome};
 ghost use Rattle.psr_base.specs.Written.{SinkSeen, WroteAll, WriteFails};
 
@@ -8,7 +8,7 @@ use crate::faults::Failed;
 /// A stream of bytes that is written to. A call that fails leaves what is told as it was.
 pub trait Sink {
     /// The bytes written so far and the room for more, where they are told, and how many calls
-    /// have failed. That count stays at the greatest u64.
+    /// have failed. That count goes no further than the greatest u64.
     ghost seen: { Self → SinkSeen };
 
     /// Takes the front of `bytes`, and answers how many bytes it took: at least one, unless `bytes`

@@ -12,7 +12,7 @@ use thiserror::Error;
 /// Why a program has no words.
 #[derive(Clone, Copy, Debug, PartialEq, Eq, Error)]
 pub enum NoWords {
-    /// They can't be had, as ones that are no UTF-8: they are answered like faulty words.
+    /// They can't be had, for instance where one isn't UTF-8. They are answered like faulty words.
     #[error("the words can't be had")]
     Refused,
     /// There was no memory.

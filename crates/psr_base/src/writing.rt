@@ -1,5 +1,5 @@
 // Writing more than one call takes, and more than one piece.
-ghost use Rattle.std.specs.Prelude.{◌≤◌, Result};
+ghost use Rattle.std.specs.Prelude.{Result};
 ghost use Rattle.psr_base.specs.Written.{Wrote, PiecesJoin, LoopsJoin};
 ghost use Rattle.psr_base.specs.Made.{Appended, AppendsJoin};
 

@@ -1,4 +1,4 @@
--- The words of the search, and the settings that they say.
+-- The words of the search.
 -- Source: this project's choice.
 use Rattle.std.specs.Prelude.{List, ℕ, [], ◌∷◌, codes}
 

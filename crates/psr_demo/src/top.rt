@@ -13,8 +13,9 @@ use std::sync::Wait;
 use std::thread::Threads;
 
 /// Makes the observation of the number that the words ask for, searches it in memory, and writes a summary to `out`.
-/// The first word is the program's name. The exit status of the search is answered, or why there is no summary; the
-/// search alone writes to `notes`, whose faults change nothing.
+/// The first word is the program's name. It answers the exit status: that of the search, or that of the stop for which
+/// there is no whole summary. The search alone writes to `notes`, whose faults change nothing, and calls `gate` at each
+/// turn. It may not end.
 pub fn run_demo<K: Sink, E: Sink, G: Gate + Sync, R: Threads + Wait + Sync>(
     rt: &R,
     alloc: Global,

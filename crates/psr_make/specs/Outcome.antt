@@ -46,7 +46,7 @@ pub record Outcome (words : List (List ℕ)) (files_before files_after : FilesSe
   -- 2 exactly where the words don't ask for an observation; want of memory may come before that is known
   pub asked : status ≢ 2 → status ≢ 5 → AskForOne words
   pub words_refused : status ≡ 2 → ForAsked words (λ s name. ⊥)
-  -- 11 only where the files failed, which they don't where they told room for the file; it holds a front of its bytes
+  -- 11 only where the files failed, which they don't where they told room for the file; a front of it is there, or none
   pub record_fault : status ≡ 11 → Rose files_before.faults files_after.faults
   pub front : status ≡ 11 → AskedIsStopped words files_before files_after
   pub files_quiet : status ≢ 11 → files_after.faults ≡ files_before.faults

@@ -6,8 +6,9 @@ ghost use Rattle.psr_make.specs.Filed.{FileMade, MakingStopped};
 
 use crate::header::{HEADER, write_header};
 use crate::maker::Maker;
+use psr_base::{Failed, Files, append_all};
 // A law: it does nothing when it runs, and the proofs use what it ensures.
-use psr_base::{Failed, Files, append_all, appends_join};
+use psr_base::appends_join;
 
 /// How many bytes are made before they are appended. Some spectra of any observation fit them.
 pub(crate) const BLOCK: usize = 262_144;

@@ -1,7 +1,7 @@
 // What clap makes of the words.
-ghost use Rattle.std.specs.Prelude.{◌≡◌, ◌≢◌, [], ◌∷◌, ◌++◌, map, string_bytes, Err, IfOk, IfErr, false};
+ghost use Rattle.std.specs.Prelude.{◌≡◌, ◌≢◌, map, string_bytes, Err, IfOk, IfErr, false};
 ghost use Rattle.clap.specs.Words.{app_of, found_of, rows_of, rule_of, kind_of};
-ghost use Rattle.psr_make.specs.Command.{option_rule, name_rule, command_with, make_command, matches_on, TakesWords, IsSimpleLine};
+ghost use Rattle.psr_make.specs.Command.{option_rule, name_rule, make_command, matches_on, TakesWords, IsSimpleLine};
 ghost use Rattle.psr_make.specs.Stop.{ExplainsClap, stop_of_kind};
 
 use crate::opt::{OPTIONS, Opt};

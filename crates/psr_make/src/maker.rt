@@ -1,5 +1,5 @@
 // The data of an observation, made from the first spectrum on.
-ghost use Rattle.std.specs.Prelude.{◌≡◌, ℕ, ◌+◌, ◌*◌, ◌<◌, ◌≤◌, All, length, IfOk};
+ghost use Rattle.std.specs.Prelude.{◌≡◌, ◌+◌, ◌*◌, ◌<◌, ◌≤◌, All, length, IfOk};
 ghost use Rattle.band_paths.specs.Edges.{AreDelays};
 ghost use Rattle.psr_make.specs.Draws.{state_after};
 ghost use Rattle.psr_make.specs.Made.{SpecInRange, made_path, spectrum_bytes, data_part};

@@ -1,7 +1,7 @@
 // Made observations, as bytes and as files.
 ghost use Rattle.std.specs.Prelude.{◌≡◌, ◌+◌, ◌*◌, length, IfOk, OnOk, Err};
 ghost use Rattle.psr_make.specs.Made.{SpecInRange, spectrum_bytes, made_file};
-ghost use Rattle.psr_make.specs.Filed.{FileMade, HasRoomFor, MakingStopped};
+ghost use Rattle.psr_make.specs.Filed.{FileMade, MakingStopped};
 
 use crate::blocks::{BLOCK, make_file};
 use crate::header::{HEADER, write_header};

@@ -1,5 +1,5 @@
 // Pulses, added to the bytes of spectra.
-ghost use Rattle.std.specs.Prelude.{◌≡◌, ℕ, ◌+◌, ◌*◌, ◌/◌, ◌%◌, ◌<◌, ◌≤◌, ◌⊎◌, All, length, slice_index};
+ghost use Rattle.std.specs.Prelude.{◌≡◌, ℕ, ◌+◌, ◌*◌, ◌/◌, ◌%◌, ◌<◌, ◌≤◌, All, length, slice_index};
 ghost use Rattle.dada_model.specs.Bounds.{most_delay};
 ghost use Rattle.psr_make.specs.Made.{SpecInRange, value_bytes, cell_bytes, spectrum_bytes};
 ghost use Rattle.psr_make.specs.Raised.{AreRaised, Raises, AreLow, most_low, by_cell, by_run, by_channel};

@@ -2,8 +2,6 @@
 ghost use Rattle.std.specs.Prelude.{◌≡◌, map, string_bytes, option_map, None, IfOk, IfErr};
 ghost use Rattle.clap.specs.Words.{found_of, rows_of, first_of};
 ghost use Rattle.psr_make.specs.Made.{SpecInRange};
-ghost use Rattle.psr_make.specs.Table.{option_name, option_row};
-ghost use Rattle.psr_make.specs.Command.{IsSimpleLine};
 ghost use Rattle.psr_make.specs.Request.{limits_allow, if_allowed, value_in as value_in_of, option_value, option_number, first_out_of_range as first_out_of_range_of, spec_of as spec_of_found, Asks};
 ghost use Rattle.psr_make.specs.Stop.{ExplainsStop, IsReadingStop};
 

@@ -1,18 +1,21 @@
 // What an observation is made from.
-ghost use Rattle.std.specs.Prelude.{◌≡◌, ◌↔◌, ◌≤◌, ◌⊎◌, ◌*◌, IsTrue};
+ghost use Rattle.std.specs.Prelude.{◌≡◌, ◌↔◌, ◌≤◌, ◌*◌, IsTrue};
 ghost use Rattle.psr_make.specs.Made.{SpecInRange, value_bytes, cell_bytes, spectrum_bytes};
 
 /// What an observation is made from: the number of its draws, its shape, and its pulses.
 #[derive(Clone, Copy, PartialEq, Eq, Debug)]
 pub struct MakeSpec {
+    /// The seed of its draws: at most 2^63 - 1.
     pub number: u64,
+    /// 2 to 4096.
     pub channels: u32,
+    /// At most 1048576.
     pub spectra: u32,
-    /// How many spectra a pulse takes from the top of the band to its foot.
+    /// How many spectra a pulse takes from the top of the band to its foot: at most 8192.
     pub delay: u32,
-    /// How many spectra there are from one pulse to the next.
+    /// How many spectra there are from one pulse to the next: 1 to 1048576.
     pub period: u32,
-    /// What a pulse adds to each value that it passes.
+    /// What is added to each value that a pulse passes, once where several do: at most 200.
     pub height: u32,
     /// The bits of a value: 8 or 16.
     pub nbit: u32,

@@ -6,7 +6,7 @@ ghost use Rattle.psr_make.specs.Runs.{IsNextRun};
 
 use crate::spec::MakeSpec;
 
-/// Spectra that follow one another, without the last one.
+/// The spectra from `start` up to, but without, `end`.
 #[derive(Clone, Copy)]
 pub(crate) struct Run {
     pub(crate) start: usize,

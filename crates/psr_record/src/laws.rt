@@ -70,7 +70,7 @@ pub fn recorded_is_searched_alike()
 }
 
 /// Nothing stands against a search of the files of a recording of all data where nothing stands against the same search
-/// of the data.
+/// of the data, if it records nothing itself and may take as many data bytes as the recording.
 pub fn recorded_can_be_searched()
     ensures { RecordedCanBeSearched }
 {

@@ -26,8 +26,9 @@ struct Ended {
     blocks: Option<Finished>,
 }
 
-/// Records the data of the files that the words name in new files. The first word is the program's name. The exit
-/// status is answered; where it isn't 0, a line to `notes` says why. A fault of `notes` changes nothing.
+/// Records the data of the files that the words name in new files. The first word is the program's name. `gate` is
+/// called at each turn. It answers the exit status, and what went through the data ring, where there was one; where the
+/// status isn't 0, a line to `notes` says why. A fault of `notes` changes nothing. It may not end.
 pub fn run_record<
     I: Inputs + Send,
     F: Files + Send,

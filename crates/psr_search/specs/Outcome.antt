@@ -18,7 +18,7 @@ use Rattle.run_stop.specs.Outcomes.{JudgesWords, ReadsInputs, StopsAtFiles, Seal
 abbrev pub ForSearch : List (List ℕ) → Told → (SettingsSeen → FileStream → Type 0) → Type 0
 ForSearch = ForFiles Searching
 
--- all data are read, and have as many candidates as there may be
+-- all data are read, and have no more candidates than there may be
 abbrev pub IsSearched : SettingsSeen → FileStream → Type 0
 IsSearched s w = HasCandidates s w (λ total. total ≤ s.search.max_candidates)
 

@@ -27,8 +27,9 @@ struct Ended {
 }
 
 /// Searches the files that the words name for dispersed pulses and folded periods, and writes their text to `out`. The
-/// data are recorded in `files` where the words ask for it. The first word is the program's name. The exit status is
-/// answered; where it isn't 0, a line to `notes` says why. A fault of `notes` changes nothing.
+/// data are recorded in `files` where the words ask for it. The first word is the program's name. `gate` is called at
+/// each turn. It answers the exit status, and what went through the data ring, where there was one; where the status
+/// isn't 0, a line to `notes` says why. A fault of `notes` changes nothing. It may not end.
 pub fn run<
     I: Inputs + Send,
     F: Files + Send,

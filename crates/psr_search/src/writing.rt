@@ -1,5 +1,5 @@
 // The text of what was found.
-ghost use Rattle.std.specs.Prelude.{◌≡◌, ◌≢◌, ◌<◌, ◌^◌, ℕ, List, Some, None, IfSome, map};
+ghost use Rattle.std.specs.Prelude.{◌≡◌, ◌<◌, ◌^◌, ℕ, List, Some, None, IfSome, map};
 ghost use Rattle.search_model.specs.Search.{SettingsInRange};
 ghost use Rattle.transfer_text.specs.Searched.{ObservedTransfer, candidate_total};
 ghost use Rattle.transfer_text.specs.Found.{HoldTransfers};

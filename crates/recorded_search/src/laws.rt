@@ -14,7 +14,8 @@ pub fn recorded_is_found_alike<I: Inputs, J: Inputs>()
     recorded_is_searched_alike();
 }
 
-/// The search of the files of a recording of all data is accepted where the same search of the data is.
+/// The search of the files of a recording of all data is accepted where the same search of the data is, if it records
+/// nothing itself and may take as many data bytes as the recording.
 pub fn recorded_is_accepted()
     ensures { RecordedIsAccepted }
 {

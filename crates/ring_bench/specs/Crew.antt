@@ -1,6 +1,6 @@
 -- Which ring the readers are of.
 -- Source: this project's choice.
-use Rattle.std.specs.Prelude.{◌≡◌, ◌≤◌, vec_len}
+use Rattle.std.specs.Prelude.{◌≤◌, vec_len}
 use Rattle.ring_ends.specs.declared.ring.Ring.{Ring}
 use Rattle.ring_ends.specs.Passes.{ring_shape, ReadsFrom, EndedFrom}
 use Rattle.ring_bench.specs.declared.crew.Job.{Job}

@@ -1,5 +1,5 @@
 //! The readers of a ring, before and after they read.
-ghost use Rattle.std.specs.Prelude.{◌≡◌, ◌≤◌, IfOk, vec_len};
+ghost use Rattle.std.specs.Prelude.{◌≤◌, IfOk, vec_len};
 
 use ring_ends::{EndedReader, ReaderPass};
 use std::alloc::{AllocError, Global};

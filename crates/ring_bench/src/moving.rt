@@ -1,6 +1,5 @@
 //! Blocks that are moved through a ring, from its opening to its end.
-ghost use Rattle.std.specs.Prelude.{◌≡◌, ◌≤◌, All, IsSomeAnd, IfOk, vec_len};
-ghost use Rattle.ring_words.specs.Shape.{IsRing};
+ghost use Rattle.std.specs.Prelude.{◌≡◌, All, IsSomeAnd, IfOk};
 ghost use Rattle.ring_ends.specs.Passes.{ring_shape, ended_knows, WritesTo, ReadsFrom, EndedFrom};
 ghost use Rattle.ring_ends.specs.Ended.{AreInOrder, finished_shape};
 ghost use Rattle.ring_bench.specs.Crew.{IsAt, IsBack};

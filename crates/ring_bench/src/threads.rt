@@ -2,7 +2,7 @@
 //! on cache lines of its own.
 ghost use Rattle.std.specs.Prelude.{◌≡◌, ◌≤◌, ◌%◌, true, All, IfOk, length, vec_len};
 ghost use Rattle.std.specs.Thread.{IsSync};
-ghost use Rattle.ring_ends.specs.Passes.{ring_shape, reader_knows, ended_knows, WritesTo, ReadsFrom, EndedFrom};
+ghost use Rattle.ring_ends.specs.Passes.{ring_shape, reader_knows, WritesTo, ReadsFrom};
 ghost use Rattle.ring_bench.specs.Crew.{IsAt, IsBack};
 
 use crate::crew::{Done, Job, Manner};

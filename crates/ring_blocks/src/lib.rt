@@ -1,7 +1,7 @@
 //! The blocks that a ring hands on: bytes in a space of fixed size, with a mark that says how the stream goes on.
 #![tactic(auto)]
 
-ghost use Rattle.std.specs.Prelude.{◌≡◌, ℕ, ◌<◌, ◌≤◌, ◌^◌, [], IfOk, length, take, drop, ◌++◌, vec_len};
+ghost use Rattle.std.specs.Prelude.{◌≡◌, ℕ, ◌<◌, ◌≤◌, ◌^◌, [], IfOk, length, take, drop, ◌++◌};
 
 use std::alloc::{AllocError, Global};
 use std::collections::LinkedList;

@@ -56,7 +56,7 @@ answer_of Detached = machine.Answer.Detached
 answer_of (Attached n) = machine.Answer.Attached n
 answer_of Refused = machine.Answer.Refused
 
--- a shape in its ranges, with a sound machine
+-- at least 2 buffers, at most 8 readers and 2^20 blocks, and a sound machine with all its readers
 pub record IsSoundCore (r : CoreState) : Type 0 where
   pub two : 2 ≤ r.shape.buffers
   pub few : r.shape.readers ≤ 8

@@ -3,7 +3,7 @@
 
 ghost use Rattle.std.specs.Prelude.{◌≡◌, ℕ, ◌+◌, ◌^◌, ◌<◌, ◌≤◌, ◌↔◌, length, map, slice_get, option_map};
 ghost use Rattle.std.specs.Prelude.{false, IsTrue, IfOk, IfSome, IfNone};
-ghost use Rattle.ring_core.specs.Machine.{Machine, at_first, with_reader, remembers, Holds, IsIdle, HasRoom, LacksRoom, height};
+ghost use Rattle.ring_core.specs.Machine.{at_first, with_reader, remembers, Holds, IsIdle, HasRoom, LacksRoom, height};
 ghost use Rattle.ring_core.specs.Machine as machine;
 ghost use Rattle.ring_core.specs.State.{CoreState, IsSoundCore, IsOnly, reader_of, event_of, answer_of, Steps, RunsTo};
 ghost use Rattle.ring_core.specs.Laws.{GetsNext, FullByReader, KeepsUncleared, HoldsAlone, ReachedIsSound};
@@ -17,7 +17,8 @@ use thiserror::Error;
 #[error("no memory")]
 pub struct Memory;
 
-/// How many buffers and readers a ring has, and how many blocks it carries at most.
+/// How many buffers and readers a ring has, and how many blocks it carries at most. `Core::open` takes 2 to 64 buffers,
+/// 1 to 8 readers and 1 to 2^20 blocks.
 #[derive(Debug, Clone, Copy, PartialEq, Eq)]
 pub struct Shape {
     pub buffers: u32,
@@ -25,21 +26,33 @@ pub struct Shape {
     pub max_blocks: u64,
 }
 
-/// What is asked of the ring. A number is a reader's, counted from 0.
+/// What is asked of the ring. The number of `Seal` is the block's label; every other one is a reader's, counted from 0.
 #[derive(Debug, Clone, Copy, PartialEq, Eq)]
 pub enum Event {
+    /// The writer looks at a reader's count.
     Look(u32),
+    /// The writer takes the buffer of the next block.
     WriterTake,
+    /// The writer seals the block that it holds.
     Seal(u64),
+    /// A reader takes the buffer of the block that comes after those it cleared.
     ReaderTake(u32),
+    /// A reader gives back the buffer that it holds, and has read the block.
     Give(u32),
+    /// A reader counts the block that it has read as cleared.
     Clear(u32),
+    /// The writer no longer waits for a reader.
     Retire(u32),
+    /// A reader reads nothing for now. The writer waits for it.
     Detach(u32),
+    /// A detached reader goes on with the first block that it has not cleared.
     Attach(u32),
 }
 
-/// What the ring answers to an event.
+/// What the ring answers to an event. Blocks (`number`) count from 0 in the order in which they are sealed. `Full`: the
+/// reader has cleared so many blocks, and not the one in the buffer that is wanted next; `Room`: it needs none there.
+/// `Spent`: all blocks that the ring may carry are sealed. `Empty`: the reader's next block is not sealed yet; `Busy`:
+/// another reader holds it. `Refused`: the event is not allowed now, or there is no such reader, and nothing changed.
 #[derive(Debug, Clone, Copy, PartialEq, Eq)]
 pub enum Answer {
     Full { reader: u32, cleared: u64 },

@@ -7,7 +7,7 @@ use Rattle.ring_words.specs.declared.views.ReaderView.{ReaderView}
 use Rattle.ring_words.specs.declared.views.WriterView.{WriterView}
 use Rattle.ring_words.specs.declared.seats.ReaderSeat.{ReaderSeat}
 use Rattle.ring_words.specs.Views.{fresh_reader}
-use Rattle.ring_words.specs.Seats.{shape_of, writer_view, reader_view, table_of, writer_table, reader_table, Writes, Reads}
+use Rattle.ring_words.specs.Seats.{shape_of, writer_view, reader_view, reader_table, Writes, Reads}
 use Rattle.ring_ends.specs.declared.ring.Ring.{Ring}
 use Rattle.ring_ends.specs.declared.passes.WriterPass.{WriterPass}
 use Rattle.ring_ends.specs.declared.passes.ReaderPass.{ReaderPass}
@@ -45,14 +45,7 @@ ended_seat (Retired pass) = pass.seat
 abbrev pub ended_knows : EndedReader → ReaderView
 ended_knows ended = reader_view (ended_seat ended)
 
--- which ring it is
-abbrev pub ring_name : Ring → TableId
-ring_name ring = table_of ring.words
-
 -- which ring a pass is of
-abbrev pub ring_of_writer : WriterPass → TableId
-ring_of_writer pass = writer_table pass.seat
-
 abbrev pub ring_of_reader : ReaderPass → TableId
 ring_of_reader pass = reader_table pass.seat
 

@@ -59,6 +59,7 @@ impl Ring {
             counts[reader.number() as usize] = reader.cleared();
             words.join(&mut seat, reader);
         }
+        // This look tells what the rule of the ring says of all readers that are back: `WriterSettled`.
         words.look(&mut seat, 0);
         Finished { seat, counts }
     }

@@ -1,5 +1,5 @@
 //! The passes with which threads write and read. A pass goes to another thread, or is lent to it.
-ghost use Rattle.std.specs.Prelude.{◌≡◌, ℕ, true, false, IsTrue, IsSome, length, min, option_map, ◌/◌, ◌%◌};
+ghost use Rattle.std.specs.Prelude.{◌≡◌, true, false, IsSome, length, min, option_map, ◌/◌, ◌%◌};
 ghost use Rattle.ring_core.specs.Machine.{greatest};
 ghost use Rattle.ring_words.specs.Seats.{writer_view, reader_view};
 
@@ -40,8 +40,11 @@ pub struct RetiredPass {
 /// A reader, however it ended.
 #[derive(Drop)]
 pub enum EndedReader {
+    /// It was still reading.
     Here(ReaderPass),
+    /// It was detached.
     Away(DetachedReader),
+    /// It was retired.
     Retired(RetiredPass),
 }
 

@@ -1,5 +1,5 @@
 //! The ring that its threads share by reference.
-ghost use Rattle.std.specs.Prelude.{◌≡◌, All, IsSomeAnd, ℕ, ◌+◌, ◌<◌, ◌≤◌, true, false, length, take, slice_index, IfOk, MatchOption, MatchResult, OnOk, OnErr, EachIndex, IsTrue, ◌↔◌, ◌/◌, ◌%◌, ◌-◌, nat_le, if◌then◌else◌};
+ghost use Rattle.std.specs.Prelude.{◌≡◌, All, IsSomeAnd, ◌+◌, ◌<◌, ◌≤◌, true, false, length, take, IfOk, MatchOption, MatchResult, OnOk, OnErr, EachIndex, IsTrue, ◌↔◌, ◌/◌, ◌%◌, ◌-◌, nat_le, if◌then◌else◌};
 
 use crate::answers::{ReadStop, Taken, WriteStop};
 use crate::passes::{ReaderPass, RetiredPass, WriterPass};
@@ -59,7 +59,8 @@ impl Ring {
         self.words.shape()
     }
 
-    /// Fills the next block, seals it, and answers its number.
+    /// Fills the next block, seals it, and answers its number. The bytes fill a block that is marked More, are fewer
+    /// where it is marked End, and none where it is marked Cut. An error seals nothing.
     pub fn write(&self, pass: &mut WriterPass, bytes: &[u8], mark: Mark) -> Result<u64, WriteStop>
         requires ring { WritesTo self.now pass.old }
         requires fits { FitsMark (ring_shape self.now).size mark bytes.now }
@@ -78,8 +79,8 @@ impl Ring {
         }
     }
 
-    /// Seals the first `used` bytes of the space as the next block, and answers its number. No byte is copied: the
-    /// space and that of the block change places.
+    /// Seals the first `used` bytes of the space as the next block, as `write` does, and answers its number. No byte is
+    /// copied: the space, which has the size of a block, and that of the block change places. An error changes neither.
     pub fn write_space(
         &self,
         pass: &mut WriterPass,
@@ -109,7 +110,7 @@ impl Ring {
     }
 
     /// Whether each reader has cleared the block in the buffer of the next at this moment. The pass stays as it is, and
-    /// no look is counted.
+    /// no look is counted. It is a hint: no clause speaks of the answer.
     pub fn has_room(&self, pass: &WriterPass) -> bool {
         let shape = self.words.shape();
         for number in 0..shape.readers {
@@ -179,7 +180,8 @@ impl Ring {
         }
     }
 
-    /// Whether a read would find its block at this moment. The pass stays as it is, and no try is counted.
+    /// Whether a read would find its block at this moment. The pass stays as it is, and no try is counted. It is a
+    /// hint: no clause speaks of the answer.
     pub fn has_next(&self, pass: &ReaderPass) -> bool
         requires { ReadsFrom self.now pass.now }
     {

@@ -38,7 +38,7 @@ pub record Outcome (words : List (List ℕ)) (inputs : InputsSeen) (is_calm : Ty
   pub front : status ≡ 10 →
       ForFile words inputs.told (λ file. AppendsFront file out_before out_after)
   pub silent : IsSilent status → out_after ≡ out_before
-  -- 2 exactly where there are not two words, and 8 exactly where the file is too long
+  -- 2 exactly where there are not two words; 8 only where the file is too long, and 0, 3 and 10 only where it is not
   pub words_refused : (status ≡ 2) ↔ (length words ≢ 2)
   pub too_long : status ≡ 8 → ForFile words inputs.told (λ file. most_bytes < length file)
   pub short : IsReadWhole status → ForFile words inputs.told (λ file. length file ≤ most_bytes)

@@ -53,7 +53,7 @@ pub record IsCutAt (file text : List ℕ) : Type 0 where
   pub answered : IsAnswered shape lines text
   pub asks_for_none : (event : Event ℕ) → ¬ AsksFor shape.readers bad event
 
--- some line has not its form, and the text answers the lines before it
+-- some line has not its form, or there is no line; the text answers the lines before it
 abbrev pub IsCut : List ℕ → List ℕ → Type 0
 IsCut file text = (HasNoRing file × (text ≡ [])) ⊎ IsCutAt file text
 
@@ -69,7 +69,7 @@ pub record AppendsCut (file : List ℕ) (old new : SinkSeen) : Type 0 where
   pub cut : IsCut file text
   pub wrote : WroteAll text old new
 
--- the front of those answers was appended
+-- a front was appended of the answers to all lines, or to those before the first that has not its form
 pub record AppendsFront (file : List ℕ) (old new : SinkSeen) : Type 0 where
   pub text : List ℕ
   pub answers : IsWhole file text ⊎ IsCut file text

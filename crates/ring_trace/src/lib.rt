@@ -21,9 +21,9 @@ const MOST_BYTES: usize = 1_048_576;
 
 /// Replays the trace in the file that the second word names, and writes the answers to `out`.
 ///
-/// The answer is the program's status: 0, or 2 for other words than the program's name and one
-/// file name, 6 where the file can't be read, 8 where it is too long, 5 for want of memory, 3
-/// where a line has not its form, 10 where `out` fails.
+/// The answer is the program's status: 0, or 2 for other words than the program's name and one file name, 6 where the
+/// file can't be read, 8 where it has more than 1048576 bytes, 5 for want of memory, 3 where a line has not its form
+/// (the lines before it are answered) or the file is empty, 10 where `out` fails.
 pub fn run_trace<I: Inputs, K: Sink>(
     alloc: Global,
     words: &[String],

@@ -1,5 +1,5 @@
 // The lines of a trace: the ring's own, and one for each event.
-ghost use Rattle.std.specs.Prelude.{◌≡◌, ◌≢◌, ℕ, ◌<◌, ◌++◌, ◌∷◌, List, IfSome, IfNone};
+ghost use Rattle.std.specs.Prelude.{◌≡◌, ◌≢◌, ℕ, ◌<◌, ◌++◌, List, IfSome, IfNone};
 ghost use Rattle.ring_core.specs.Machine as machine;
 ghost use Rattle.ring_core.specs.State.{event_of};
 ghost use Rattle.ring_core.specs.declared.Shape.{Shape};

@@ -1,5 +1,5 @@
 // A trace, replayed line by line.
-ghost use Rattle.std.specs.Prelude.{◌≡◌, ℕ, List, [], true, false, IfOk};
+ghost use Rattle.std.specs.Prelude.{◌≡◌, ℕ, true, false, IfOk};
 ghost use Rattle.ring_core.specs.Machine as machine;
 ghost use Rattle.ring_trace.specs.Text.{trace_lines};
 ghost use Rattle.ring_trace.specs.Events.{AsksFor};

@@ -6,13 +6,13 @@ ghost use Rattle.std.specs.Prelude.{◌≡◌};
 pub enum Stop {
     /// The words are not the program's name and one file name.
     Words,
-    /// A line has not its form.
+    /// A line has not its form, or the file is empty.
     BadLine,
     /// There was no memory.
     Memory,
     /// The inputs failed.
     ReadFault,
-    /// The file is longer than the limit.
+    /// The file has more than 1048576 bytes.
     TooLong,
     /// The output failed.
     SinkFault,

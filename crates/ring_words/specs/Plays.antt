@@ -53,8 +53,8 @@ miss_answer r n =
     if nat_le (n / 16) (length r.cleared) then Answer.Empty (length r.cleared)
     else Answer.Busy (length r.cleared) (n % 16 - 1)
 
--- What each step of the writer tells of its own view. A reader without a seat cleared a beginning of what was sealed,
--- and what it got is the next block.
+-- What a look and a seal of the writer tell of its own view. A reader without a seat cleared a beginning of what was
+-- sealed, and what it got is the next block.
 pub record WriterSettled (w : WriterView) : Type 0 where
   pub limit : length w.sealed ≤ w.shape.max_blocks
   pub sized : All (λ e. length e.bytes ≤ w.shape.size) w.sealed
@@ -72,7 +72,7 @@ pub record ReaderSettled (r : ReaderView) : Type 0 where
 
 -- In each of the following: the step, the seat before, the number found and the seat after.
 
--- the writer loads the count of the reader whose word comes so far after the turns
+-- the writer loads the count of reader `st.word - st.slots`: the words of the counts come after those of the buffers
 pub record Looked (st : Step Block) (m : Me Block View) (n : ℕ) (m' : Me Block View) : Type 0 where
   pub seat : m' ≡ (Writer (after_look (writer_of m.0) (st.word - st.slots) n), m.1)
   pub settled : WriterSettled (writer_of m'.0)

@@ -1,7 +1,7 @@
 -- The rule of the ring's table: what its words and slots, and what the seats know, say of one another between any two
 -- steps.
--- Block number m lies in buffer m modulo buffers. Word k is the turn of buffer k, and the word after all turns and i
--- more is the count of reader i.
+-- Block number m lies in buffer m modulo buffers. Word k is the turn of buffer k, and word buffers + i is the count of
+-- reader i.
 -- Source: PSRDADA manual (ring buffers of a writer and its readers); the words are this project's choice.
 use Rattle.std.specs.Prelude.{◌≡◌, ℕ, ◌+◌, ◌*◌, ◌%◌, ◌<◌, ◌≤◌, true, false, List, ◌++◌, length, slice_index, Some, is_some, if◌then◌else◌}
 use mathlib.Core.Option as maybe

@@ -1,5 +1,5 @@
 //! The seats of the writer and of the readers.
-ghost use Rattle.std.specs.Prelude.{◌≡◌, ◌≢◌, ℕ, ◌<◌, ◌≤◌, true, None, length, map, min};
+ghost use Rattle.std.specs.Prelude.{◌≡◌, ◌≢◌, ◌<◌, ◌≤◌, true, None, length, map, min};
 ghost use Rattle.ring_core.specs.Machine.{greatest};
 ghost use Rattle.ring_words.specs.declared.views.View.TheVariants.{Writer, Reader};
 ghost use Rattle.ring_words.specs.Views.{writer_of, reader_of};
@@ -63,7 +63,8 @@ impl WriterSeat {
         self.looks
     }
 
-    /// The reader that the writer looked at last, and the count that it saw.
+    /// The reader that the writer looked at last, and the count that it saw: `u64::MAX` where the reader had retired.
+    /// `None` before the first look.
     pub fn last_look(&self) -> Option<(u32, u64)>
         ensures { result ≡ (writer_view self.now).last_look }
     {

@@ -3,13 +3,15 @@ ghost use Rattle.std.specs.Prelude.{MatchResult};
 
 use thiserror::Error;
 
-/// The measures of a ring, which never change.
+/// The measures of a ring, which never change. `check` says whether they lie in their ranges: 2 to 64 buffers of 1 to
+/// 2^24 bytes, 1 to 8 readers, 1 to 2^59 - 1 blocks.
 #[derive(Clone, Copy, PartialEq, Eq, Debug)]
 pub struct RingShape {
     /// How many blocks the ring holds at once.
     pub buffers: u32,
     /// The space of each block in bytes.
     pub size: u32,
+    /// How many readers it has.
     pub readers: u32,
     /// How many blocks are sealed at most, over the whole life of the ring.
     pub max_blocks: u64,

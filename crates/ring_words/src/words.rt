@@ -31,7 +31,7 @@ pub struct Words {
 }
 
 impl Words {
-    ghost use Rattle.std.specs.Prelude.{ℕ, ◌≤◌, Some, true, false, slice_index, EachIndex, OnOk, IfErr, IsSome};
+    ghost use Rattle.std.specs.Prelude.{◌≤◌, Some, true, false, EachIndex, OnOk, IfErr, IsSome};
     ghost use Rattle.std.specs.Option.{ForSome};
     ghost use Rattle.ring_words.specs.Views.{fresh_reader, fresh_writer, seated_writer, parked_at, after_split, after_join};
     ghost use Rattle.ring_words.specs.Steps.{SeesRoom, SawCount, TookBuffer, SealedEntry, TookBlock, MissedBlock, CopiedBlock, LentBlock, GaveBuffer, ClearedBlock, RetiredReader};
@@ -125,7 +125,7 @@ impl Words {
     }
 
     /// The count of a reader as it stands at this moment, `u64::MAX` where it retired. No seat changes, and no look is
-    /// counted.
+    /// counted. It is a hint: no clause speaks of the answer.
     pub fn peek_count(&self, reader: u32) -> u64
         requires { reader < (shape_of self.now).readers }
     {
@@ -204,8 +204,9 @@ impl Words {
         number
     }
 
-    /// Tries to take the buffer of the reader's next block. An error is the word that stood there: 16 times the number
-    /// plus 1 of the block in it (0 where there was none), and who held it.
+    /// Tries to take the buffer of the reader's next block. An error is the word that stood there: 16 (n + 1) for the
+    /// block n that was sealed in it last, or 0 where there was none, plus 0 where nobody held it, 15 for the writer or
+    /// i + 1 for reader i.
     pub fn reader_take(&self, reader: &mut ReaderSeat) -> Result<(), u64>
         requires seat { Reads self.now reader.old }
         requires home { (reader_view reader.old).out ≡ false }
@@ -227,7 +228,8 @@ impl Words {
         if found == home { Ok(()) } else { Err(found) }
     }
 
-    /// Whether the reader's next block is at home at this moment. The seat stays as it is, and no try is counted.
+    /// Whether the reader's next block is at home at this moment. The seat stays as it is, and no try is counted. It is
+    /// a hint: no clause speaks of the answer.
     pub fn has_next(&self, reader: &ReaderSeat) -> bool
         requires { Reads self.now reader.now }
     {

@@ -1,8 +1,7 @@
 -- How much is kept of each row.
 -- Source: this project's choice.
-use Rattle.std.specs.Prelude.{◌≡◌, ℕ, ◌+◌, ◌*◌, ◌%◌, ◌≤◌, ◌<◌, ◌^◌, List, Some, length, slice_get, slice_index}
+use Rattle.std.specs.Prelude.{◌≡◌, ℕ, ◌+◌, ◌%◌, ◌≤◌, ◌<◌, ◌^◌, Some, length, slice_get, slice_index}
 use Rattle.row_model.specs.declared.Merge.{Merge}
-use Rattle.row_model.specs.declared.Source.{Source}
 use Rattle.row_model.specs.declared.Source.TheVariants.{Channel, Sum}
 use Rattle.row_model.specs.declared.Rows.{Rows}
 

@@ -63,7 +63,7 @@ StandApart rows s = (i j : ℕ) → i < length s.orders → j < length s.orders 
     (slice_index s.places (order_at s.orders j).slot)
     (tail_of rows (order_at s.orders j).row + s.most)
 
--- a schedule is one of these rows
+-- a schedule makes these rows
 pub record Follows (rows : Rows) (s : Scheduled) : Type 0 where
   pub rows_are : AreRows s.channels rows
   pub order : AreInOrder rows s.narrow s.slots s.orders

@@ -7,7 +7,7 @@ use Rattle.row_schedule.specs.Schedules.{Scheduled}
 use Rattle.row_schedule.specs.Follows.{Follows}
 use Rattle.row_schedule.specs.Running.{Stores, Kept, Running, stores}
 
--- where something is kept, no order was carried out on the next spectra
+-- with what is kept before the next spectra, a schedule begins of which no order was carried out on them
 unfoldable pub RunningBegins : Type 0
 RunningBegins = (rows : Rows) (s : Scheduled) (y : Sums) (u spectra : ℕ) (st : Stores) →
     Kept rows s.narrow y u st → Running rows s y u spectra 0 st

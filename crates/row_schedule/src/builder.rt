@@ -1,5 +1,5 @@
 // Orders that are taken one by one.
-ghost use Rattle.std.specs.Prelude.{◌≡◌, ℕ, ◌+◌, ◌^◌, ◌<◌, ◌≤◌, ◌++◌, ◌∷◌, [], ◌↔◌, IsTrue, IfOk, OnErr, Ok, true, false, length};
+ghost use Rattle.std.specs.Prelude.{◌≡◌, ℕ, ◌+◌, ◌<◌, ◌++◌, ◌∷◌, [], ◌↔◌, IsTrue, IfOk, OnErr, Ok, true, false, length};
 ghost use Rattle.row_model.specs.Sums.{is_narrow};
 ghost use Rattle.row_model.specs.Tails.{AreRows};
 ghost use Rattle.row_schedule.specs.Orders.{IsReady, StandsBeside, is_made};
@@ -48,8 +48,8 @@ impl Model for Builder {
 }
 
 impl Builder {
-    /// `narrow` says which rows have 16 bits, and `slots` of each slot whether it is for such rows. There is no memory
-    /// for more slots than there may be rows.
+    /// A builder that has taken no order: `narrow` says which rows have 16 bits, and `slots` of each slot whether it is
+    /// for such rows. More than 2^27 slots, as many as there may be rows, are refused as want of memory.
     pub fn open(
         alloc: Global,
         rows: &Rows,

@@ -12,7 +12,8 @@ use crate::reading::{hold, row_is_narrow, tail};
 use fdmt_rows::{narrow_row, widen_row};
 use row_model::Rows;
 
-/// Before a schedule is carried out, no order was. It does nothing.
+/// With what is kept before the next spectra, a schedule of which no order was carried out on them begins. It does
+/// nothing.
 pub fn running_begins()
     ensures { RunningBegins }
 {}
@@ -67,7 +68,7 @@ fn widen_kept_row(
     widen_part(kept_wide, at, kept_narrow, place, tail(rows, r) as usize);
 }
 
-/// Writes what is kept in 16 bits as values of 32 bits.
+/// Writes what is kept of the rows that have 16 bits as values of 32 bits.
 pub fn widen_kept(rows: &Rows, narrow: &[bool], kept_narrow: &[u16], kept_wide: &mut [u32])
     requires rows { (c : ℕ) × AreRows c rows.now }
     requires narrow_room { kept_room rows.now ≤ length kept_narrow.now }
@@ -104,7 +105,8 @@ fn narrow_kept_row(
     narrow_part(kept_narrow, at, kept_wide, place, tail(rows, r) as usize);
 }
 
-/// And back, where the values of narrow rows fit.
+/// Writes what is kept of the rows that have 16 bits, from the values of 32 bits. What is kept stays the same where the
+/// values of these rows fit into 16 bits.
 pub fn narrow_kept(rows: &Rows, narrow: &[bool], kept_wide: &[u32], kept_narrow: &mut [u16])
     requires rows { (c : ℕ) × AreRows c rows.now }
     requires narrow_room { kept_room rows.now ≤ length kept_narrow.old }

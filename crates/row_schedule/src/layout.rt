@@ -1,5 +1,5 @@
 // Where slots stand in the lists of their widths.
-ghost use Rattle.std.specs.Prelude.{◌≡◌, ℕ, ◌+◌, ◌*◌, ◌^◌, ◌<◌, ◌≤◌, ◌++◌, ◌∷◌, [], true, false, IfOk, OnOk, length, replicate, slice_index, if◌then◌else◌};
+ghost use Rattle.std.specs.Prelude.{◌≡◌, ℕ, ◌+◌, ◌*◌, ◌^◌, ◌<◌, ◌≤◌, ◌++◌, ◌∷◌, [], IfOk, OnOk, length, replicate, slice_index, if◌then◌else◌};
 ghost use Rattle.row_model.specs.Tails.{AreRows};
 ghost use Rattle.row_schedule.specs.Layout.{AreLaid, AreSizes, AreWithin};
 
@@ -44,7 +44,7 @@ impl Layout {
         Ok(())
     }
 
-    /// Places all slots of so many values each.
+    /// Places all slots, each as long as `sizes` says.
     pub fn of(alloc: Global, slots: &[bool], sizes: &[usize]) -> Result<Layout, Memory>
         requires same { length sizes.now ≡ length slots.now }
         requires few { length slots.now ≤ 2 ^ 27 }

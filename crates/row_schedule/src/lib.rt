@@ -1,8 +1,8 @@
-//! Rows of sums that are made chunk by chunk, in an order and in places that were assembled once.
+//! Rows of sums that are made chunk by chunk, in an order and in slots that are laid once.
 //!
 //! A row is made in a slot: what is kept of it comes first, and behind it its values of the next spectra. A slot can be
-//! used again for other rows. `Builder` takes an order of rows only where it can be carried out after those before
-//! it, and `Schedule` carries all out.
+//! used again for other rows. An order says that a row is to be made in a slot: `Builder` takes it only where it can be
+//! carried out after those before it, and `Schedule` carries all of them out.
 #![tactic(auto)]
 
 mod builder;

@@ -1,5 +1,5 @@
 // How the row of a step is made: what is kept of it, then its values of the next spectra, of which the last are kept.
-ghost use Rattle.std.specs.Prelude.{◌≡◌, ℕ, ◌+◌, ◌-◌, ◌%◌, ◌^◌, ◌<◌, ◌≤◌, true, false, length, slice_index, take, drop};
+ghost use Rattle.std.specs.Prelude.{◌≡◌, ◌+◌, ◌-◌, ◌%◌, ◌^◌, ◌<◌, ◌≤◌, true, false, length, slice_index, take, drop};
 ghost use Rattle.fdmt_rows.specs.Rows.{narrow_sum, wrapping_sum};
 ghost use Rattle.row_schedule.specs.Samples.{values_of};
 ghost use Rattle.row_schedule.specs.Steps.{AreApart};

@@ -1,5 +1,5 @@
 // What is noted of the orders so far.
-ghost use Rattle.std.specs.Prelude.{◌≡◌, ◌<◌, ℕ, IsTrue, ◌↔◌, IfOk, OnOk, Option, None, Some, List, length, replicate, slice_index_or};
+ghost use Rattle.std.specs.Prelude.{◌≡◌, ◌<◌, ℕ, IsTrue, ◌↔◌, IfOk, OnOk, Option, None, Some, length, replicate, slice_index_or};
 
 use psr_base::Memory;
 use std::alloc::Global;

@@ -45,7 +45,7 @@ pub fn tail(rows: &Rows, row: usize) -> u32
     rows.tails[row]
 }
 
-/// Where these begin if those of all rows stand one after another.
+/// Where the values that are kept of row `row` begin if those of all rows stand one after another.
 pub fn held(rows: &Rows, row: usize) -> usize
     requires rows { (c : ℕ) × AreRows c rows.now }
     requires row { row ≤ row_count rows.now }
@@ -55,7 +55,7 @@ pub fn held(rows: &Rows, row: usize) -> usize
     rows.held[row]
 }
 
-/// Where they begin in the list of a width.
+/// Where the values that are kept of row `row` begin in the list of a width.
 pub fn hold(rows: &Rows, narrow: bool, row: usize) -> usize
     requires rows { (c : ℕ) × AreRows c rows.now }
     requires row { row < row_count rows.now }

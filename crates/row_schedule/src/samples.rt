@@ -15,7 +15,7 @@ pub enum Samples<'a> {
 }
 
 impl<'a> Samples<'a> {
-    /// All but the first ones, so many.
+    /// All but the first `count` of them.
     pub fn skip(self, count: usize) -> Samples<'a>
         requires { count ≤ length (values_of self) }
         ensures { values_of result ≡ drop count (values_of self.entry) }

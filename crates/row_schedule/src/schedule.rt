@@ -1,5 +1,5 @@
 // A schedule, and how it is carried out.
-ghost use Rattle.std.specs.Prelude.{◌≡◌, ℕ, ◌+◌, ◌-◌, ◌*◌, ◌%◌, ◌^◌, ◌<◌, ◌≤◌, true, false, Some, length, slice_index};
+ghost use Rattle.std.specs.Prelude.{◌≡◌, ℕ, ◌+◌, ◌-◌, ◌*◌, ◌%◌, ◌^◌, ◌<◌, ◌≤◌, false, Some, length, slice_index};
 ghost use Rattle.row_model.specs.Sums.{Sums, AddUp, Fit, is_narrow};
 ghost use Rattle.row_schedule.specs.Samples.{values_of, AreNext};
 ghost use Rattle.row_schedule.specs.Orders.{order_at, holds};
@@ -48,21 +48,21 @@ impl Model for Schedule {
 }
 
 impl Schedule {
-    /// How many values of 16 bits there are to be in which rows are made.
+    /// How many values of 16 bits the slots of rows of 16 bits take, with those in front that are not used.
     pub fn narrow_size(&self) -> usize
         ensures { result ≡ self.now.narrow_size }
     {
         self.narrow_size
     }
 
-    /// How many values of 32 bits there are to be in which rows are made.
+    /// How many values of 32 bits the slots of rows of 32 bits take, with those in front that are not used.
     pub fn wide_size(&self) -> usize
         ensures { result ≡ self.now.wide_size }
     {
         self.wide_size
     }
 
-    /// How many values there are to be of what is kept, of 16 and of 32 bits.
+    /// How many values the list of what is kept of rows takes, that of 16 bits and that of 32 bits alike.
     pub fn kept_size(&self) -> usize
         ensures { result ≡ self.now.kept_size }
     {
@@ -140,9 +140,11 @@ impl Schedule {
         }
     }
 
-    /// Carries out the orders from `from` on, up to `to`, over the next spectra: the samples of channel `c`, the
-    /// highest frequency first, begin at `c` times the chunk. Those of the last channel may be no more than the
-    /// spectra, so the samples can be lent from some spectrum on.
+    /// Carries out the orders from `from` up to, but without, `to`, over the next spectra, so many: the samples of
+    /// channel `c`, the highest frequency first, begin at `c` times the chunk. Behind those of the last channel nothing
+    /// need follow, so samples can be lent from some spectrum on. Rows are made in `narrow` and `wide`, which have at
+    /// least `narrow_size` and `wide_size` values, and what is kept of them stands in `kept_narrow` and `kept_wide`,
+    /// which have at least `kept_size` values each.
     pub fn run(
         &self,
         from: usize,

@@ -1,5 +1,5 @@
 // Streams of samples, and sums over them cell by cell.
-ghost use Rattle.std.specs.Prelude.{◌≡◌, ◌*◌, ◌≤◌, length, IfOk};
+ghost use Rattle.std.specs.Prelude.{◌*◌};
 
 use psr_base::Memory;
 use std::alloc::Global;

@@ -1,5 +1,5 @@
 // A carry with the stream that it is fed.
-ghost use Rattle.std.specs.Prelude.{◌≡◌, ℕ, ◌+◌, ◌*◌, ◌^◌, ◌<◌, ◌≤◌, true, length, IfOk};
+ghost use Rattle.std.specs.Prelude.{◌≡◌, ◌+◌, ◌*◌, ◌^◌, ◌<◌, ◌≤◌, true, length, IfOk};
 ghost use Rattle.dada_model.specs.Edges.{AreEdges};
 ghost use Rattle.row_schedule.specs.Samples.{values_of};
 ghost use Rattle.fdmt_carry.specs.Tables.{node_count};

@@ -84,7 +84,7 @@ EndAtWords is_calm = (task : Task) (words : List (List ℕ)) (inputs : InputsSee
     inputs.faults_after ≡ inputs.faults_before →
     EndsShort task words inputs is_calm None seen seen stop
 
--- words say one settings at most
+-- the same words never say two different settings
 abbrev pub WordsSayOnce : Type 0
 WordsSayOnce = (task : Task) (words : List (List ℕ)) (s t : SettingsSeen) →
     Says task words s → Says task words t → s ≡ t
@@ -166,7 +166,7 @@ EndAtStop is_calm = (task : Task) (words : List (List ℕ)) (s : SettingsSeen)
     stop_of_feed feed ≡ Some stop →
     EndsShort task words inputs is_calm (Some blocks) before after stop
 
--- all data were sealed: the text and the files are there, or what was missing first
+-- the status of a run whose data were all sealed: 0 only where no call on the files failed, and 11 only where one did
 pub record IsLate (answer : Option RecordEnd) (status : ℕ) : Type 0 where
   pub known : Contains (0 ∷ 9 ∷ 10 ∷ 11 ∷ []) status
   pub all : status ≡ 0 → answer ≢ Some recorder.FileFault

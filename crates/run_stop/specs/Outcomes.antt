@@ -51,8 +51,8 @@ ReadsNoData task words before after = (after ≡ before)
 
 -- ---- the files that are read
 
--- 3 exactly where a header is refused, of the first ones before data are read or where the walk stops at it; 4 where a
--- search or a recording is; 7 where the walk stops at a gap, and 8 where there are too many data
+-- 3 only where a header is refused, of the first ones before data are read or where the walk stops at it; 4 only where
+-- a search or a recording is; 7 only where the walk stops at a gap, and 8 only where there are too many data
 pub record StopsAtFiles
     (task : Task) (words : List (List ℕ)) (told : Told) (blocks : Option Finished)
     (status : ℕ) : Type 0 where

@@ -11,22 +11,23 @@ pub fn end_at_words<I: Inputs>()
     ensures { (inputs : I) → EndAtWords (I.is_calm inputs) }
 {}
 
-/// Words say one settings at most.
+/// The same words never say two different settings.
 pub fn words_say_once()
     ensures { WordsSayOnce }
 {}
 
-/// What it says where a run stops between its words and its session: nothing was recorded, and no block was sealed.
+/// What the exit status says where a run stops between its words and its session: nothing was recorded, and no block
+/// was sealed.
 pub fn end_before_session<I: Inputs>()
     ensures { (inputs : I) → EndBeforeSession (I.is_calm inputs) }
 {}
 
-/// What it says where the feeder of the session was stopped.
+/// What the exit status says where the feeder of the session was stopped.
 pub fn end_at_stop<I: Inputs>()
     ensures { (inputs : I) → EndAtStop (I.is_calm inputs) }
 {}
 
-/// What it says of the files, once all data were sealed.
+/// What the exit status says of words, inputs, files and data ring, once all data were sealed.
 pub fn end_after_whole<I: Inputs>()
     ensures { (inputs : I) → EndAfterWhole (I.is_calm inputs) }
 {

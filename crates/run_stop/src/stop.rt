@@ -1,5 +1,5 @@
 // Why a run stopped.
-ghost use Rattle.std.specs.Prelude.{◌≡◌, ◌≤◌, ◌++◌, [], codes, length};
+ghost use Rattle.std.specs.Prelude.{◌≡◌, ◌≤◌, ◌++◌, codes, length};
 ghost use Rattle.std.specs.Fmt.{decimal};
 ghost use Rattle.run_stop.specs.Texts.{cause_text};
 
@@ -29,7 +29,7 @@ pub enum Stop {
     Memory,
     /// The inputs failed.
     ReadFault,
-    /// The OBS_OFFSET of a file is not the one that continues its transfer, in bytes.
+    /// The OBS_OFFSET of a file, `found`, is not the one that continues its transfer, `expected`: both in bytes.
     Gap {
         file: u32,
         expected: u64,

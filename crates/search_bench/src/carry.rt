@@ -1,9 +1,8 @@
 //! Takes spectra into tables of 1024 channels and delays from 0 to 1024 spectra, chunk by chunk. The samples are bytes
 //! that look random, the same in each chunk.
 
-ghost use Rattle.std.specs.Prelude.{◌≡◌, ℕ, ◌+◌, ◌*◌, ◌^◌, ◌<◌, ◌≤◌, length, IfOk};
+ghost use Rattle.std.specs.Prelude.{◌≡◌, ◌+◌, ◌*◌, ◌^◌, ◌<◌, ◌≤◌, length, IfOk};
 ghost use Rattle.dada_model.specs.Edges.{AreEdges};
-ghost use Rattle.fdmt_carry.specs.Carrying.{Carrying};
 ghost use Rattle.search_bench.specs.Ready.{IsReady};
 
 use fdmt_carry::{Carry, Samples};

@@ -145,8 +145,9 @@ fn search(alloc: Global, wanted: &Search, spectra: u32) -> Option<Found>
     let mut engine = Engine::open(alloc, &obs, wanted, 0).ok()?;
     feed(&mut engine, samples.as_slice(), spectra);
     engine.end();
+    let spectra = engine.spectra();
     Some(Found {
-        candidates: engine.book().count(),
-        spectra: engine.spectra(),
+        candidates: engine.into_book().count(),
+        spectra,
     })
 }

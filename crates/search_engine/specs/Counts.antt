@@ -1,4 +1,4 @@
--- How many candidates there can be at most, and tables of how many spectra.
+-- How many candidates there can be at most, and of how many spectra tables are made.
 -- Source: this project's choice.
 use Rattle.std.specs.Prelude.{ℕ, ◌*◌, ◌^◌}
 

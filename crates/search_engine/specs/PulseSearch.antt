@@ -11,7 +11,7 @@ use Rattle.search_engine.specs.Thresholds.{AreOfAllWidths, IsHit}
 use Rattle.search_engine.specs.Pulses.{first_sums, IsRowOf}
 
 -- a search over n channels of the delays from `first` up to, but without, `end`; its boxes over the rows of these
--- delays; and the rows of the last spectra in which a box is detected
+-- delays; and the rows in which a box that ends at one of the last spectra may be detected
 pub record PulseState : Type 0 where
   pub search : Search
   pub channels : ℕ

@@ -2,7 +2,7 @@
 -- Source: this project's choice.
 use Rattle.std.specs.Prelude.{ℕ, ◌≡◌, List, [], take}
 
--- at most `most` values are kept, and these are
+-- `values` are kept, of which there are at most `most`
 pub record Front : Type 0 where
   pub most : ℕ
   pub values : List ℕ

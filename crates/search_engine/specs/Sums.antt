@@ -35,7 +35,7 @@ sums_of f edges d u = path_sum f edges u d
 abbrev pub sums_from_delay : (ℕ → ℕ → ℕ) → ℕ → ℕ → List ℕ
 sums_from_delay y d m = map (λ i. y d (d + i)) (range_with_len 0 (m - d))
 
--- the greatest path sum
+-- no path sum of the search is greater
 abbrev pub sum_bound : Carrying → Search → ℕ
 sum_bound c s = c.max_sample * (channels_of c.tables.plan.edges + s.max_delay)
 

@@ -1,4 +1,4 @@
--- The least detected sums of boxes, and the rows in which a box is detected.
+-- The least detected sums of boxes, and the rows in which a box may be detected.
 -- Source: this project's choice.
 use Rattle.std.specs.Prelude.{◌≡◌, ℕ, ◌+◌, ◌-◌, ◌*◌, ◌≤◌, ◌<◌, All, List, Option, Some, map, slice_get, length}
 use Rattle.std.specs.List.{flat_map}

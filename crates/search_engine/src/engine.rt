@@ -1,5 +1,5 @@
 // The engine: data bytes in, candidates out.
-ghost use Rattle.std.specs.Prelude.{◌≡◌, ℕ, ◌+◌, ◌-◌, ◌*◌, ◌/◌, ◌^◌, ◌≤◌, ◌<◌, ◌++◌, [], true, false, None, OnOk, IfOk, IfErr, List, length, slice_index, take};
+ghost use Rattle.std.specs.Prelude.{◌≡◌, ℕ, ◌+◌, ◌-◌, ◌*◌, ◌/◌, ◌≤◌, ◌<◌, ◌++◌, [], true, false, None, OnOk, IfOk, IfErr, List, length, slice_index, take};
 ghost use Rattle.dada_model.specs.Observation.{Observation as Described};
 ghost use Rattle.search_model.specs.Search.{SettingsInRange, shard_start as shard_start_of};
 ghost use Rattle.search_model.specs.Plan.{plan_refusal};

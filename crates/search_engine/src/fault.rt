@@ -31,6 +31,7 @@ pub enum PlanFault {
         count: u32,
         delays: u32,
     },
+    /// There was no memory.
     #[error("out of memory")]
     Memory,
 }

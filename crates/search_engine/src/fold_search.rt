@@ -1,5 +1,5 @@
 // Folds of the series of a shard's delays.
-ghost use Rattle.std.specs.Prelude.{◌≡◌, ℕ, ◌+◌, ◌-◌, ◌*◌, ◌^◌, ◌<◌, ◌≤◌, ◌≢◌, ◌++◌, List, [], All, IfOk, IsTrue, length, slice_index, slice_index_or};
+ghost use Rattle.std.specs.Prelude.{◌≡◌, ℕ, ◌+◌, ◌-◌, ◌*◌, ◌^◌, ◌<◌, ◌≤◌, ◌≢◌, ◌++◌, List, [], All, IfOk, IsTrue, length, slice_index_or};
 ghost use Rattle.search_model.specs.Samples.{Filterbank};
 ghost use Rattle.search_model.specs.Search.{SettingsInRange, folds_are_on};
 ghost use Rattle.search_model.specs.Folds.{series};
@@ -149,7 +149,7 @@ fn open_folder(alloc: Global, search: &Search) -> Result<Folder, Memory>
     }
 }
 
-// The fronts of series of which no_front was taken.
+// The fronts of the series of the delays from `first` up to, but without, `end`, with no value yet.
 fn open_fronts(alloc: Global, search: &Search, first: u32, end: u32) -> Result<Vec<Series>, Memory>
     requires range { SettingsInRange search.now }
     requires delays { IsDelayRange search.now first end }

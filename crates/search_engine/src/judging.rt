@@ -1,5 +1,5 @@
 // Folds of a list of values, judged.
-ghost use Rattle.std.specs.Prelude.{◌≡◌, ℕ, ◌+◌, ◌-◌, ◌*◌, ◌^◌, ◌<◌, ◌≤◌, List, Option, Some, None, IsTrue, length, slice_index, slice_index_or};
+ghost use Rattle.std.specs.Prelude.{◌≡◌, ℕ, ◌+◌, ◌-◌, ◌*◌, ◌^◌, ◌<◌, ◌≤◌, List, Option, Some, None, length, slice_index};
 ghost use Rattle.search_model.specs.declared.search.Search.{Search};
 ghost use Rattle.search_model.specs.Folds.{halvings as halvings_of};
 ghost use Rattle.search_model.specs.Search.{SettingsInRange};
@@ -17,7 +17,7 @@ use fast_fold::{Folder, folds_see_rows};
 use fdmt_rows::greatest;
 use search_model::{Candidate, Search, tests_detection};
 
-/// How many numbers of halvings there can be, none among them.
+/// How many least sums there are at most: one for each number of halvings, from 0 to 12.
 const LEAST_SUMS: usize = 13;
 
 // The trials of a delay's series at a period, with `2^halvings` rows.
@@ -51,8 +51,8 @@ fn add_reaching(book: &mut Book, sums: &[u32], least: u32, of: Trials, trial: u3
     }
 }
 
-// Adds the phases of a trial that are detected: those that reach the least sum. The values are looked at where the
-// greatest does.
+// Adds the phases of a trial that are detected: those whose sums reach the least sum. They are looked at one by one
+// only where the greatest sum reaches it.
 fn judge(book: &mut Book, sums: &[u32], least: Option<u32>, of: Trials, trial: u32)
     requires room { book.old.count + length sums.now ≤ 2 ^ 63 }
     requires short { length sums.now < 2 ^ 32 }

@@ -1,7 +1,7 @@
 // Whether a search of an observation fits the engine.
-ghost use Rattle.std.specs.Prelude.{◌≡◌, ℕ, ◌+◌, ◌-◌, ◌*◌, ◌^◌, ◌≤◌, ◌<◌, ◌&&◌, None, OnOk, IfErr, length, nat_lt};
+ghost use Rattle.std.specs.Prelude.{◌≡◌, ◌+◌, ◌-◌, ◌*◌, ◌^◌, ◌≤◌, ◌<◌, ◌&&◌, None, OnOk, IfErr, length, nat_lt};
 ghost use Rattle.dada_model.specs.Observation.{max_sample as max_sample_of};
-ghost use Rattle.search_model.specs.Search.{SettingsInRange, fold_delays, folds_are_on as folds_are_on_of, delay_count as delay_count_of};
+ghost use Rattle.search_model.specs.Search.{SettingsInRange, fold_delays, folds_are_on as folds_are_on_of};
 ghost use Rattle.search_model.specs.Plan.{plan_refusal, most_added as most_added_of};
 ghost use Rattle.search_engine.specs.Counts.{most_folded};
 ghost use Rattle.search_engine.specs.Plan.{IsRefusedFirst};
@@ -10,15 +10,15 @@ use crate::fault::PlanFault;
 use obs_plan::Observation;
 use search_model::Search;
 
-/// The greatest sum.
+/// The greatest sum that fits into 32 bits.
 const MOST_SUM: u64 = (1 << 32) - 1;
 /// The most values that a fold can have.
 const MOST_FOLDED: u64 = 1 << 22;
 /// The most delays that can be folded.
 const MOST_FOLD_DELAYS: u32 = 64;
 
-/// Whether the sums, folds and shards of a search of an observation fit, or the first that does not. It is never
-/// `Memory`.
+/// Whether the sums, folds and shards of a search of an observation fit, or the first fault, in the order of
+/// `PlanFault`. It is never `Memory`.
 pub fn check_plan(observation: &Observation, search: &Search) -> Result<(), PlanFault>
     requires { SettingsInRange search.now }
     ensures fits { OnOk result (plan_refusal observation.now search.now ≡ None) }

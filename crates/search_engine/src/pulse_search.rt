@@ -1,7 +1,6 @@
 // The search for pulses in the path sums of a shard.
-ghost use Rattle.std.specs.Prelude.{◌≡◌, ◌≢◌, ℕ, ◌+◌, ◌-◌, ◌*◌, ◌^◌, ◌≤◌, ◌<◌, ◌++◌, [], All, List, IfOk, length, vec_len, vec_capacity, option_to_list, map};
+ghost use Rattle.std.specs.Prelude.{◌≡◌, ◌≢◌, ℕ, ◌+◌, ◌-◌, ◌*◌, ◌^◌, ◌≤◌, ◌<◌, ◌++◌, [], All, List, IfOk, length, vec_len, vec_capacity, option_to_list};
 ghost use Rattle.std.specs.List.{flat_map, range_with_len};
-ghost use Rattle.box_sums.specs.Rows.{IsWidth};
 ghost use Rattle.box_sums.specs.Tails.{KeepsRow, AreAlike, IsNewest, IsKept};
 ghost use Rattle.search_model.specs.Search.{SettingsInRange};
 ghost use Rattle.search_engine.specs.Judging.{Adds};
@@ -100,7 +99,8 @@ impl PulseSearch {
         self.hits.clear();
     }
 
-    /// Takes the next path sums of a delay, and notes the widths at which a box that ends at one of them is detected.
+    /// Takes the next path sums of a delay, and notes the widths at which a box that ends at one of them may be
+    /// detected. At each other width none is.
     pub(crate) fn take(&mut self, d: u32, row: &[u32])
         requires delay { SearchesDelay self.old d }
         requires short { length row.now ≤ self.old.boxes.chunk }
@@ -250,7 +250,7 @@ fn keep_row(boxes: &mut Boxes, widest: u32, d: u32, row: &[u32])
     boxes.keep_newest();
 }
 
-// Notes the widths at which a box over row `d`, which was taken last, is detected.
+// Notes the widths at which a box over row `d`, which was taken last, may be detected.
 fn note_hits(
     hits: &mut Vec<Hit>,
     by_width: &[BoxThresholds],

@@ -1,5 +1,5 @@
 // The front of a series.
-ghost use Rattle.std.specs.Prelude.{◌≡◌, ℕ, ◌≤◌, ◌^◌, ◌<◌, ◌++◌, List, [], All, IfOk, length};
+ghost use Rattle.std.specs.Prelude.{◌≡◌, ℕ, ◌≤◌, ◌<◌, ◌++◌, List, [], All, IfOk, length};
 ghost use Rattle.search_engine.specs.Series.{IsFrontOf};
 
 use psr_base::Memory;

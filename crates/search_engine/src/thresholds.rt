@@ -1,5 +1,5 @@
 // The least detected sums of boxes.
-ghost use Rattle.std.specs.Prelude.{◌≡◌, ℕ, ◌+◌, ◌-◌, ◌*◌, ◌≤◌, ◌<◌, All, IfOk, IfSome, length, option_to_list};
+ghost use Rattle.std.specs.Prelude.{◌≡◌, ℕ, ◌+◌, ◌-◌, ◌*◌, ◌≤◌, ◌<◌, IfOk, IfSome, length, option_to_list};
 ghost use Rattle.box_sums.specs.Rows.{IsWidth};
 ghost use Rattle.search_model.specs.declared.search.Search.{Search};
 ghost use Rattle.search_model.specs.Search.{SettingsInRange};
@@ -19,8 +19,8 @@ use search_model::tests_detection;
 /// The widths that a box can have.
 const WIDTHS: [u32; 6] = [1, 2, 4, 8, 16, 32];
 
-/// A row of boxes in which one of the last spectra ends a detected box: the delay, the width in spectra, and the least
-/// detected sum.
+/// A row of boxes in which one of the last spectra may end a detected box: the delay, the width in spectra, and the
+/// least detected sum.
 #[derive(Clone, Copy, Drop)]
 pub(crate) struct Hit {
     pub(crate) delay: u32,
@@ -95,7 +95,8 @@ impl BoxThresholds {
         Ok(BoxThresholds { width, least_sums })
     }
 
-    /// The row of delay `d`, which was taken last, if one of its sums ends a detected box of this width.
+    /// The row of delay `d`, which was taken last, where one of its sums may end a detected box of this width. Where
+    /// there is none, none of them does.
     pub(crate) fn hit(&self, boxes: &Boxes, row: &[u32], first: u32, d: u32) -> Option<Hit>
         requires above { first ≤ d }
         requires below { d < first + length self.now.least_sums.items }

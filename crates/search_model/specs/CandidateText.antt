@@ -22,7 +22,7 @@ pub record Labels : Type 0 where
   pub cells : ℕ → ℕ
   pub word : ℕ → List ℕ
 
--- those of a search over all of n channels, which marks no pulse
+-- the labels of a search over all of n channels, where the line of each pulse begins with PULSE
 abbrev pub plain_labels : (ℕ → ℕ) → ℕ → Labels
 plain_labels dm n = record { dm = dm; cells = plain_cells n; word = λ end. codes "PULSE" }
 

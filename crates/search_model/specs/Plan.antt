@@ -1,4 +1,5 @@
--- Which searches are refused before they begin, since a table would not hold their sums, folds or parts.
+-- Which searches are refused before they begin: a sum or a fold would be too large, too many delays would be folded, or
+-- a shard would have no delay.
 -- Source: this project's choice.
 use Rattle.std.specs.Prelude.{ℕ, ◌+◌, ◌-◌, ◌*◌, ◌^◌, ◌&&◌, max, length, nat_lt, if◌then◌else◌, Option, Some, None}
 use Rattle.dada_model.specs.Observation.{Observation, max_sample}

@@ -25,7 +25,7 @@ pub fn paths_rise()
     ensures { PathsRise }
 {}
 
-/// How many cells a path sum adds.
+/// A path sum of delay d over n channels adds n + d cells.
 pub fn cells_are_counted()
     ensures { CellsAreCounted }
 {}
@@ -40,7 +40,7 @@ pub fn detection_rises()
     ensures { DetectionRises }
 {}
 
-/// What stands in the candidate list.
+/// The candidate list has exactly the boxes and the folds that are searched and detected.
 pub fn candidates_are_listed()
     ensures { CandidatesAreListed }
 {}
@@ -100,7 +100,7 @@ pub fn splits_step()
     ensures { SplitsStep }
 {}
 
-/// A path sum by how much earlier it ends.
+/// A path sum that ends k spectra before u is the one that ends at u - k, and 0 before the first spectrum.
 pub fn late_path_sums()
     ensures { LatePathSums }
 {}

@@ -33,8 +33,9 @@ pub struct Search {
     pub max_delay: u32,
     /// The widest box; all smaller powers of two are searched too.
     pub widest: u32,
-    /// Folds are on where `fold_min` is at most `fold_max`.
+    /// The shortest period that is folded. Folds are on where it is at most `fold_max`.
     pub fold_min: u32,
+    /// The longest period that is folded.
     pub fold_max: u32,
     /// A fold adds up to `2^fold_rows` rows.
     pub fold_rows: u32,

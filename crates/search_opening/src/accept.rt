@@ -8,8 +8,8 @@ use disk_feeder::Feeder;
 use obs_plan::Observation;
 use psr_base::Inputs;
 
-/// Gives the feeder the observations of all first headers, which it reads by from then on: the first header is to be
-/// sealed next.
+/// Gives the feeder the observations of all first headers, by which it judges the later headers of each transfer. Its
+/// turns then go on from where the first header is sealed, which the caller does, and no data are.
 pub fn accept_all<'a, I: Inputs>(feeder: &mut Feeder<'a, I>, observations: &[Option<Observation>])
     requires some { 1 ≤ length observations.now }
     requires begun { IsBegun (I.told feeder.old.inputs.now) feeder.old }

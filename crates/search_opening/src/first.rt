@@ -49,8 +49,9 @@ fn observe_all<'a, I: Inputs>(
     Ok(observations)
 }
 
-/// The observations of all transfers by their first headers, or why one of these is refused. All of them are read
-/// before the first is judged, both in the order of the transfers; transfer k begins with file `starts[k]`.
+/// The observations of all transfers by their first headers, in order; transfer k begins with file `starts[k]`. All
+/// headers are read, each judged by its text as it is read, before the first is judged by its fields. At `Err` the
+/// first that is refused, a fault of the inputs, or want of memory.
 pub fn begin_feed<'a, I: Inputs>(
     alloc: Global,
     feeder: &mut Feeder<'a, I>,

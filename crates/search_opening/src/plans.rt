@@ -1,5 +1,5 @@
 // The plans of a search of all transfers.
-ghost use Rattle.std.specs.Prelude.{◌≡◌, ℕ, Some, None, IfSome, IfErr, OnOk, length};
+ghost use Rattle.std.specs.Prelude.{◌≡◌, Some, None, IfSome, IfErr, OnOk, length};
 ghost use Rattle.dada_model.specs.Observation.{Observation as Described};
 ghost use Rattle.search_model.specs.Search.{SettingsInRange};
 ghost use Rattle.search_model.specs.Plan.{plan_refusal};

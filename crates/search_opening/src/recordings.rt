@@ -1,5 +1,5 @@
 // Whether the data of all transfers can be recorded.
-ghost use Rattle.std.specs.Prelude.{◌≡◌, ◌^◌, ◌≤◌, ◌⊎◌, Some, IsSome, IfErr, OnOk, length};
+ghost use Rattle.std.specs.Prelude.{◌≡◌, ◌^◌, ◌≤◌, Some, IsSome, IfErr, OnOk, length};
 ghost use Rattle.dada_model.specs.ChangeLaws.{IsReadBack};
 ghost use Rattle.dada_model.specs.Observation.{Observation as Described};
 ghost use Rattle.disk_feeder.specs.Feeder.{header_at};

@@ -33,7 +33,7 @@ pub record FirstMoved {A : Type 0} (R : A → A → Type 0) (n : ℕ) (old new :
 
 -- ---- hands
 
--- each shard is one of these rings
+-- each shard works over these rings
 abbrev pub ShardsOn : Hdu → List (Option ShardActor) → Type 0
 ShardsOn hdu slots = All (λ slot. IfSome slot (ShardOn hdu)) slots
 
@@ -47,7 +47,7 @@ ShardsRetired slots = All (λ slot. IfSome slot (λ x. x.ended ≡ true → IsRe
 abbrev pub ShardsEnded : List (Option ShardActor) → Type 0
 ShardsEnded slots = All (λ slot. IfSome slot (λ x. x.ended ≡ true)) slots
 
--- Each actor of a hand is one of these rings. In these and the following: what inputs tell, whether a name is open,
+-- Each actor of a hand works over these rings. In these and the following: what inputs tell, whether a name is open,
 -- whether they are calm, and how many calls have failed; whether a file is open, and what files show.
 pub record HandOn {I F : Type 0} (told : I → Told) (is_open : I → Type 0)
     (files_open : F → Type 0) (hdu : Hdu) (h : Hand I F) : Type 0 where

@@ -28,14 +28,15 @@ abbrev pub StandsAt : Observation → ℕ → List Entry → EngineState → Typ
 StandsAt o transfer blocks e =
     Stands (nat_lt transfer (ended_transfers blocks)) o (transfer_bytes transfer blocks) e
 
--- it was fed as many, and ended there
+-- it was fed as many bytes as its transfer has among the blocks, no more than these can hold, and has ended where the
+-- transfer has
 pub record IsEngineAt (size : ℕ) (blocks : List Entry) (transfer : ℕ) (e : EngineState) :
     Type 0 where
   pub ended : e.has_ended ≡ nat_lt transfer (ended_transfers blocks)
   pub fed : e.fed ≡ length (transfer_bytes transfer blocks)
   pub most : e.fed ≤ length blocks * size
 
--- each of them was
+-- so it is with each of the engines
 abbrev pub AreEnginesAt : ℕ → List Entry → List (Option EngineState) → Type 0
 AreEnginesAt size blocks engines = (k : ℕ) → k < length engines →
     (e : EngineState) × HasEngine engines k e × IsEngineAt size blocks k e
@@ -46,7 +47,7 @@ pub record EngineFollows (transfer : ℕ) (before after : List Entry) (e f : Eng
   pub same : SameShard f e
   pub stands : (o : Observation) → StandsAt o transfer before e → StandsAt o transfer after f
 
--- each of them was
+-- each of the engines was, at its place
 pub record EnginesFollow (before after : List Entry) (old new : List (Option EngineState)) :
     Type 0 where
   pub count : length new ≡ length old

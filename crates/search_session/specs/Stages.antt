@@ -67,7 +67,10 @@ abbrev pub recorder_count : {F : Type 0} → Option (Recorder F) → ℕ
 recorder_count None = 0
 recorder_count (Some r) = 1
 
--- Readers are as many as lanes and recorders, all readers of the rings, each at the place of its number.
+-- A stage that can be driven: the writer and all readers of its rings, of which none has cleared a block; a feeder that
+-- has not ended, and stands for what the writer sealed; for each shard a lane, with an unfed engine for each transfer,
+-- and space for a header; a fresh recorder, where there is one; empty hands, one at least. Readers are as many as lanes
+-- and recorders, each at the place of its number, and the data ring carries no more bytes than an engine may be fed.
 pub record StageOn {I F : Type 0} (told : I → Told) (is_open : I → Type 0) (files_open : F → Type 0)
     (stage : Stage I F) : Type 0 where
   pub writes : WritesBoth stage.hdu stage.writer

@@ -6,7 +6,8 @@ use disk_feeder::{FeedEnd, FeedTurn, Feeder};
 use psr_base::Inputs;
 use std::thread;
 
-/// The feeder of a session, and the pass by which it seals.
+/// The feeder of a session, the pass by which it seals, how many turns it took, up to the greatest u64, and how it
+/// ended, once it has.
 #[derive(Drop)]
 pub struct FeedActor<'a, I> {
     pub part: Feeder<'a, I>,

@@ -7,7 +7,8 @@ use dada_recorder::{RecordEnd, RecordTurn, Recorder};
 use psr_base::Files;
 use std::thread;
 
-/// The recorder of a session, and the reader of both rings by which it clears them.
+/// The recorder of a session, the reader of both rings by which it clears them, how many turns it took, up to the
+/// greatest u64, and how it ended, once it has.
 #[derive(Drop)]
 pub struct RecordActor<'a, F> {
     pub part: Recorder<'a, F>,

@@ -127,10 +127,11 @@ fn end_session<'a, I: Inputs, F: Files>(
     finish(hdu, feeder, shards, recorder)
 }
 
-/// Drives a stage to its end: rounds follow one another until all have ended. The first has sixteen times so many
-/// turns, but at most 262144, and each later one eight times as many as the one before it, until one has 32768 or more;
-/// no clause of this call says how many, since no result rests on it. After each the writer is freed of the shards that
-/// ended, and of the recorder where it ended.
+/// Drives a stage to its end, and answers how each part ended. Rounds follow one another until all have ended, which no
+/// clause promises; with no turns they never do. The first has sixteen times so many turns, but at most 262144, and
+/// each later one eight times as many as the one before it, until one has 32768 or more; no clause of this call says
+/// how many, since no result rests on it. After each the writer is freed of the shards that ended, and of the recorder
+/// where it ended.
 pub fn run_session<'a, I: Inputs + Send, F: Files + Send, G: Gate + Sync, R: Threads + Wait + Sync>(
     rt: &R,
     stage: Stage<'a, I, F>,

@@ -9,7 +9,8 @@ use dada_hdu::{Hdu, HduEnded, Mark};
 use stream_model::{ends_are_counted, entries_are_of_transfers};
 
 /// The shard of a search: one engine for each transfer, a reader of both rings, and the space that it reads headers to.
-/// `done` counts the engines that ended.
+/// `turns` counts its turns, up to the greatest u64, and `done` the engines that ended; it has `ended` where no block
+/// comes after those that it cleared.
 #[derive(Drop)]
 pub struct ShardActor {
     pub part: Lane,

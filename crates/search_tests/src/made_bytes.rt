@@ -17,8 +17,8 @@ pub(crate) fn bytes_of(alloc: Global, spec: &MakeSpec) -> Option<Vec<u8>> {
 }
 
 // The number, the channels, spectra, delay, period, height, bits and polarisations; how many bytes there are, and their
-// checksum. In the fourth all cells are on the train, once each; then there are a pulse that just reaches the foot, and
-// one that doesn't; then no spectra, and the most channels.
+// checksum. In the fourth pulses overlap, and a cell that several of them pass is raised once; then there are a pulse
+// that just reaches the foot, and one that doesn't; then no spectra, and the most channels.
 const OBSERVATIONS: &str = "
 0 64 4096 64 256 2 8 1 | 266240 6ceaca1801464b76
 1 64 4096 64 256 2 8 1 | 266240 b854e17c1b218a47

@@ -46,8 +46,9 @@ row reader least most default =
     record { reader = reader; limits = Between least most; default = default }
 
 -- The least value, the greatest and the one without a word: delays, widths, periods and chunk in spectra, the threshold
--- in hundredths, mean and deviation in thousandths, sizes in bytes. That of FILE is how many names there are. The
--- mean and the deviation are required in a search: 0 and 1 stand where nothing is searched.
+-- in hundredths, mean and deviation in thousandths, sizes in bytes. The mean and the deviation are required in a
+-- search: 0 and 1 stand where nothing is searched. FILE has no value: its row is how many names there may be, and
+-- `files_fit` judges them.
 abbrev pub option_row : Opt → Row
 option_row MaxDelay = row Whole 0 8192 256
 option_row MinDelay = row Whole 0 8192 0

@@ -46,13 +46,13 @@ if_allowed limits (negsuc n) = None
 abbrev pub value_in_row : Row → Text → Option ℕ
 value_in_row row text = option_and_then (if_allowed row.limits) (number_read row.reader text)
 
-abbrev pub FitReader : Limits → Reader → Type 0
-FitReader limits Whole = Unit {0}
-FitReader limits (Decimals k) = (k ≤ 9) × (greatest_of limits ≤ 10 ^ 18)
+abbrev pub LimitsFit : Limits → Reader → Type 0
+LimitsFit limits Whole = Unit {0}
+LimitsFit limits (Decimals k) = (k ≤ 9) × (greatest_of limits ≤ 10 ^ 18)
 
 -- decimals that can be read, and limits below what is too large to be read
 abbrev pub FitsReader : Row → Type 0
-FitsReader row = FitReader row.limits row.reader
+FitsReader row = LimitsFit row.limits row.reader
 
 -- the word that was given for an option of the program
 abbrev pub given_word : Program → List Found → Opt → Option Text

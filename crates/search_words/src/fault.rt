@@ -9,7 +9,8 @@ pub enum WordFault {
     /// There is an unknown word, one too many, or one is missing.
     #[error("the words are refused")]
     Refused,
-    /// The value of an option is no number, or out of its range.
+    /// The first option, in the table's order, whose value is no number or out of its range: the least delay also where
+    /// it is above the greatest, and FILE where names or transfers are too many or a transfer has no name.
     #[error("{} is out of range", .0.name())]
     OutOfRange(Opt),
     #[error("out of memory")]

@@ -17,7 +17,7 @@ pub struct Settings {
     pub size: u32,
     /// How many threads work at once.
     pub hands: u32,
-    /// How long the rounds of a session are, in turns: the first takes a multiple of it.
+    /// A sixteenth of the turns that each actor takes in the first round of a session, which has 262144 at most.
     pub turns: u32,
     /// Whether the data are recorded.
     pub recording: bool,

@@ -1,4 +1,4 @@
--- The cells of the rows that stand behind.
+-- The cells of the rows, and what always holds of an unpacker.
 -- Source: this project's choice.
 use Rattle.std.specs.Prelude.{ℕ, ◌+◌, ◌-◌, ◌*◌, ◌≡◌, ◌<◌, ◌≤◌, ◌/◌, ◌%◌, ◌⊎◌, Bool, List, [], length, slice_index, get_or, if◌then◌else◌}
 use Rattle.search_model.specs.Samples.{sample_bytes, sample_at}
@@ -8,8 +8,9 @@ use Rattle.spectra_rows.specs.Unpacking.{AreValues, Keeps}
 abbrev pub channel_place : ℕ → Bool → ℕ → ℕ
 channel_place channels is_falling c = if is_falling then c else channels - 1 - c
 
--- The cell of a place of a spectrum and of a spectrum t is row p * chunk + t. Cells of the places lo to hi and the
--- spectra from to to have these values; those of the places before, and those of the spectra before, stay.
+-- The cell of place p of spectrum t is value (row p) * chunk + t of the rows. The cells of the places from `lo` up to,
+-- but without, `hi` and of the spectra from `from` up to, but without, `to` have these values; those of the places
+-- before `lo` stay, and so do all cells of other spectra.
 pub record WritesCells (old new : List ℕ) (row : ℕ → ℕ) (channels chunk lo hi from to : ℕ)
     (value : ℕ → ℕ → ℕ) : Type 0 where
   pub written : (p t : ℕ) → lo ≤ p → p < hi → from ≤ t → t < to

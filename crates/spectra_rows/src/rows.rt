@@ -1,5 +1,5 @@
 // Spectra into rows. So few channels are turned at a time that their rows stay in the nearest cache.
-ghost use Rattle.std.specs.Prelude.{◌≡◌, ℕ, ◌+◌, ◌-◌, ◌*◌, ◌<◌, ◌≤◌, length, slice_index};
+ghost use Rattle.std.specs.Prelude.{◌≡◌, ◌+◌, ◌-◌, ◌*◌, ◌<◌, ◌≤◌, length, slice_index};
 ghost use Rattle.search_model.specs.Samples.{sample_bytes};
 ghost use Rattle.spectra_rows.specs.Cells.{WritesCells, cell, channel_place};
 
@@ -109,7 +109,8 @@ fn write_tiles<T: RowSample>(
     done
 }
 
-// The same of any samples; only bytes that are samples are written, of as many channels as a tile has.
+// The same for samples of any kind: where each is a byte, and there are as many channels as in a tile, whole tiles are
+// written, and else nothing.
 fn begin_channels<T: RowSample>(
     rows: &mut [T],
     bytes: &[u8],

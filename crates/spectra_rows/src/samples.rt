@@ -1,5 +1,5 @@
 // Single samples of data bytes.
-ghost use Rattle.std.specs.Prelude.{◌≡◌, ℕ, ◌+◌, ◌*◌, ◌/◌, ◌<◌, ◌≤◌, ◌⊎◌, length};
+ghost use Rattle.std.specs.Prelude.{◌≡◌, ◌+◌, ◌*◌, ◌/◌, ◌<◌, ◌≤◌, ◌⊎◌, length};
 ghost use Rattle.search_model.specs.Samples.{value_at, sample_bytes, sample_at};
 ghost use Rattle.spectra_rows.specs.Unpacking.{AreValues};
 

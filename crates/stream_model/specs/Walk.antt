@@ -19,8 +19,9 @@ pub record FileStream : Type 0 where
   pub starts : List ℕ
   pub max_bytes : ℕ
 
--- why a walk stops at a file: its header is refused, or belongs to another observation, or its OBS_OFFSET is not the
--- one that was expected (first) but another (second); or with its data there are too many
+-- How a walk ends: whole, or at the file with this number (the first of each), and why. Its header is refused; or has
+-- other values than the transfer's first, or no OBS_OFFSET in range; or its OBS_OFFSET is not the one that was expected
+-- (second) but another (third); or with its data there are too many
 pub data WalkStop : Type 0 where
   Whole : WalkStop
   BadText : ℕ → HeaderRefusal → WalkStop
@@ -84,7 +85,7 @@ later_stop k profile expected (Ok header) =
     offset_stop k expected (later_offset_of profile (fields_of header.text))
 
 -- why the header of file k stops the walk: it is judged as that of a later file of its transfer, after the data of the
--- transfer's files before it. The law is above that the first file of a transfer never stops it
+-- transfer's files before it. That an accepted first file of a transfer never stops it is the law `FirstFilesContinue`
 unfoldable pub header_stop : FileStream → ℕ → Option WalkStop
 header_stop s k =
     let begin = begin_of s (transfer_of s.starts k) in

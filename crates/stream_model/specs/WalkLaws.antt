@@ -81,7 +81,7 @@ abbrev pub NoStopIsWhole : Type 0
 NoStopIsWhole =
     (s : FileStream) → ((k : ℕ) → k < length s.files → stop_at s k ≡ None) → walk_stop s ≡ Whole
 
--- a file between the first and the last of a transfer is in it
+-- a file from the first to the last of a transfer is in that transfer
 abbrev pub FilesAreInTransfers : Type 0
 FilesAreInTransfers =
     (s : FileStream) (transfer k : ℕ) → AreStarts s.starts (length s.files) → IsIn s transfer k →
@@ -98,7 +98,7 @@ abbrev pub DataJoin : Type 0
 DataJoin = (files : List (List ℕ)) (from mid to : ℕ) → from ≤ mid → from ≤ length files → mid ≤ to →
     data_between files from mid ++ data_between files mid to ≡ data_between files from to
 
--- no file has no data
+-- where there are no files, there are no data
 abbrev pub DataNone : Type 0
 DataNone = (files : List (List ℕ)) (k : ℕ) → data_between files k k ≡ []
 
@@ -110,7 +110,7 @@ TransfersJoin =
     joined_data (take transfer (walk_data s)) ++ data_between s.files (begin_of s transfer) k
     ≡ data_between s.files 0 k
 
--- the data of a whole walk are the data of all files in order, and each transfer's are those of its files
+-- the data of all transfers, joined, are the data of all files in order
 abbrev pub WalkJoinsData : Type 0
 WalkJoinsData = (s : FileStream) → AreStarts s.starts (length s.files) →
     joined_data (walk_data s) ≡ data_between s.files 0 (length s.files)

@@ -41,7 +41,7 @@ pub fn no_stop_is_whole()
     ensures { NoStopIsWhole }
 {}
 
-/// A file between the first and the last of a transfer is in it.
+/// A file from the first to the last of a transfer is in that transfer.
 pub fn files_are_in_transfers()
     ensures { FilesAreInTransfers }
 {}
@@ -56,7 +56,7 @@ pub fn data_join()
     ensures { DataJoin }
 {}
 
-/// No file has no data.
+/// Where there are no files, there are no data.
 pub fn data_none()
     ensures { DataNone }
 {}
@@ -66,7 +66,7 @@ pub fn transfers_join()
     ensures { TransfersJoin }
 {}
 
-/// The data of a whole walk are the data of all files in order.
+/// The data of all transfers, joined, are the data of all files in order.
 pub fn walk_joins_data()
     ensures { WalkJoinsData }
 {}

@@ -1,5 +1,5 @@
 // Both rings with the passes of one reader, and what is done with them in turns.
-ghost use Rattle.std.specs.Prelude.{◌≡◌, length, IfSome};
+ghost use Rattle.std.specs.Prelude.{◌≡◌, length};
 ghost use Rattle.ring_words.specs.Shape.{IsRing};
 ghost use Rattle.ring_ends.specs.Passes.{reader_knows};
 ghost use Rattle.dada_hdu.specs.Passes.{data_shape, WritesBoth, ReadsBoth};

@@ -1,5 +1,5 @@
 // A loop over one feeder and one reader: what was sealed, and how it ended.
-ghost use Rattle.std.specs.Prelude.{◌≡◌, ◌≤◌, ◌<◌, ◌+◌, ◌/◌, ◌^◌, map, string_bytes, length, None, true, false, Ok, [], take, IsTrue, IfOk, OnOk, vec_len};
+ghost use Rattle.std.specs.Prelude.{◌≡◌, ◌≤◌, ◌<◌, ◌+◌, ◌/◌, ◌^◌, map, string_bytes, length, None, true, false, Ok, [], take, IsTrue, OnOk};
 ghost use Rattle.stream_model.specs.WalkLaws.{AreStarts};
 ghost use Rattle.dada_hdu.specs.Passes.{WritesBoth, ReadsBoth, data_shape};
 ghost use Rattle.disk_feeder.specs.Feeder.{FeederFits, FeederFeeds, HasOpenFile, HasPlan, IsBegun, IsFresh, IsSpaceFor, SamePlan, header_at, has_end};

@@ -16,8 +16,8 @@ use std::test::Fail;
 // of two transfers are opened again: two blocks are full, the third is empty; then one is full, and of the last one
 // byte is read before its end is.
 //
-// In the last line there are two buffers, and a reader that reads after each third turn, of which the first reads the
-// header: the block that found no room is sealed once there is some, and nothing is read for it again.
+// The rings have two buffers, and the reader reads after each third turn, the header first. In the last line the block
+// that found no room is sealed once there is some, and nothing is read for it again.
 const FEEDS: &str = "
 six | size 6, max_bytes 6 | whole 6 | Habcdef.E
 six | size 1, max_bytes 6 | whole 6 | Ha.b.c.d.e.f.E

@@ -13,8 +13,8 @@ use psr_base::Files;
 use std::alloc::Global;
 use std::test::Fail;
 
-/// What is written, the data of a transfer and of a second one, if there is one, with the lines of its header, the last
-/// of which is given up or ends; and what the recorder is opened for.
+/// What is written: the data of a transfer, and the header's lines and the data of a second one, if there is one;
+/// whether the last transfer ends or is given up; and what the recorder is opened for.
 #[derive(Clone, Copy)]
 pub(crate) struct Case {
     pub(crate) first: &'static str,

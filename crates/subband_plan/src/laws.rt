@@ -31,7 +31,7 @@ pub fn rows_add_up()
     splits_step();
 }
 
-/// A value of a row is at most as many greatest samples as it has cells.
+/// A value of a row is at most the greatest sample times the number of cells that it adds up.
 pub fn rows_are_bounded()
     ensures { RowsAreBounded }
 {

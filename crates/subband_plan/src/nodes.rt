@@ -10,9 +10,9 @@ use band_paths::split;
 use psr_base::Memory;
 use search_model::{splits_fit, splits_step};
 
-/// A part of the band: the channels from `lo` up to `hi`, the highest first, with a row for each delay from
-/// `first_row` to `last_row` in spectra. The rows of the node above need at most the last `tail` values of each row;
-/// more can be kept: counts are rounded up, and rows of one and two channels need more.
+/// A part of the band: the channels from `lo` up to, but without, `hi`, counted from the highest frequency, with a row
+/// for each delay from `first_row` to `last_row`, in spectra. The rows of the node above need at most the last `tail`
+/// values of each row; more can be kept: counts are rounded up, and rows of one and two channels need more.
 #[derive(Clone, Copy, PartialEq, Eq, Debug)]
 pub struct Node {
     pub lo: u32,

@@ -1,5 +1,5 @@
 // The plan of the tables over a band.
-ghost use Rattle.std.specs.Prelude.{◌≡◌, ℕ, ◌+◌, ◌-◌, ◌*◌, ◌<◌, ◌≤◌, List, length, sum_by, IfOk};
+ghost use Rattle.std.specs.Prelude.{◌≡◌, ◌+◌, ◌-◌, ◌*◌, ◌<◌, ◌≤◌, length, sum_by, IfOk};
 ghost use Rattle.dada_model.specs.Bounds.{most_delay};
 ghost use Rattle.dada_model.specs.Edges.{AreEdges};
 ghost use Rattle.band_paths.specs.Edges.{channels_of};
@@ -31,7 +31,8 @@ impl Model for Plan {
 }
 
 impl Plan {
-    /// The plan of the delays from `dmin` to `dmax` over a band, whose edges are in kHz, the highest first.
+    /// The plan of the delays from `dmin` to `dmax`, in spectra, over a band, whose edges are in kHz, the highest
+    /// first.
     pub fn open(alloc: Global, edges: &[u32], dmin: u32, dmax: u32) -> Result<Plan, Memory>
         requires edges { AreEdges (channels_of edges.now) edges.now }
         requires order { dmin ≤ dmax }
@@ -92,7 +93,7 @@ impl Plan {
         self.nodes[k]
     }
 
-    /// How many rows all nodes have.
+    /// How many rows all nodes have. `PlanRows` can have more: those of one and two channels begin there at delay 0.
     pub fn rows(&self) -> u64
         ensures { result ≡ sum_by row_count (nodes_of self.now) }
     {

@@ -9,8 +9,8 @@ use Rattle.search_model.specs.Plan.{plan_refusal}
 use Rattle.search_model.specs.Observed.{filterbank_of, candidates_of}
 use Rattle.transfer_text.specs.Searched.{ObservedTransfer, candidate_total}
 
--- At most six boxes end at each spectrum in each of 8193 delays, and 2^22 trials of 2^20 periods are judged in each of
--- 64 folded delays
+-- at most six boxes end at each spectrum in each of 8193 delays; and in each of 64 folded delays at most 2^20 periods
+-- are folded, each with at most 2^22 sums over its trials and phases
 abbrev pub CandidatesAreFew : Type 0
 CandidatesAreFew = (o : Observation) (s : Search) (bytes : List ℕ) →
     SettingsInRange s → plan_refusal o s ≡ None →

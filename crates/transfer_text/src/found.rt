@@ -60,8 +60,9 @@ fn count_all(books: &[ArrayVec<Option<Book>, MOST_SHARDS>]) -> u64
     count
 }
 
-/// Writes the text of a search of one or more transfers, as long as their candidates together are as many as there may
-/// be. The books of a transfer are those of its shards, in order.
+/// Writes the text of a search of one or more transfers, if their candidates together are at most
+/// `search.max_candidates`; else it writes nothing. The books of a transfer are those of its shards, in order. After a
+/// fault of the sink the sink has taken the front of the text.
 pub fn write_found<K: Sink>(
     search: &Search,
     observations: &[Option<Observation>],

@@ -2,7 +2,7 @@
 // proof needs a law calls its function.
 ghost use Rattle.transfer_text.specs.Laws.{CandidatesAreFew, TotalsAreCounted};
 
-/// The candidates of a search whose plan fits are few beside its spectra.
+/// The candidates of a search that is not refused are at most 49158 for each spectrum, and 2^48 more.
 pub fn candidates_are_few()
     ensures { CandidatesAreFew }
 {}

@@ -1,8 +1,6 @@
 // The texts of all transfers, one after another.
-ghost use Rattle.std.specs.Prelude.{◌≡◌, ◌++◌, ◌≤◌, ◌<◌, List, ℕ, Some, IsSome, IfSome, codes, length, map};
+ghost use Rattle.std.specs.Prelude.{◌≡◌, ◌++◌, ◌≤◌, ◌<◌, List, Some, IsSome, length, map};
 ghost use Rattle.psr_base.specs.Written.{Wrote};
-ghost use Rattle.dada_model.specs.Observation.{Observation as Described};
-ghost use Rattle.search_model.specs.declared.candidate.Candidate.{Candidate};
 ghost use Rattle.candidate_book.specs.Conditions.{CanBeMerged};
 ghost use Rattle.transfer_text.specs.Text.{FoundList, transfer_line as transfer_line_of, list_text, run_text};
 ghost use Rattle.transfer_text.specs.Books.{IsMerged, AreMerged, CanBeWritten};
@@ -10,9 +8,10 @@ ghost use Rattle.transfer_text.specs.Books.{IsMerged, AreMerged, CanBeWritten};
 use arrayvec::ArrayVec;
 use candidate_book::{Book, write_merged};
 use obs_plan::Observation;
-// A law: it does nothing when it runs, and the proofs use what it ensures.
-use psr_base::{Failed, Sink, pieces_join, write_all};
+use psr_base::{Failed, Sink, write_all};
 use text_line::Line;
+// A law: it does nothing when it runs, and the proofs use what it ensures.
+use psr_base::pieces_join;
 
 /// How many shards a search has at most.
 pub const MOST_SHARDS: usize = 7;
@@ -70,8 +69,8 @@ fn write_numbered<K: Sink>(
     }
 }
 
-/// Writes the text of the lists of all transfers: of one alone, or of more, each after its line. The books of a
-/// transfer are those of its shards.
+/// Writes the text of the lists of all transfers: of one alone, or of more, each after its line `OBS k`, with k from 0
+/// on. The books of a transfer are those of its shards. After a fault the sink has taken the front of this text.
 pub fn write_texts<K: Sink>(
     observations: &[Option<Observation>],
     books: &[ArrayVec<Option<Book>, MOST_SHARDS>],

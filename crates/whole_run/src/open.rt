@@ -1,5 +1,5 @@
 // What comes before the session of a run.
-ghost use Rattle.std.specs.Prelude.{◌≡◌, ◌≢◌, false, true, Err, IfOk, IfErr, OnOk};
+ghost use Rattle.std.specs.Prelude.{◌≡◌, ◌≢◌, false, true, Err, IfOk, IfErr};
 ghost use Rattle.psr_base.specs.Inputs.{HasReadFrom};
 ghost use Rattle.search_words.specs.Settings.{AllInRange, settings_seen};
 ghost use Rattle.disk_feeder.specs.Feeder.{HasPlan, IsFresh, IsBegun, HasOpenFile, header_at};

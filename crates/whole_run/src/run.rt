@@ -105,8 +105,10 @@ fn within<'a, I: Inputs + Send, F: Files + Send, G: Gate + Sync, R: Threads + Wa
     }
 }
 
-/// Drives a run of either program, from its settings to the end of its session: it searches files, or records them
-/// alone, which the settings then ask for. At `Err` it stopped before its session, and no file was made.
+/// Drives a run of either program, from its settings to the end of its session: with `searches` it searches files, and
+/// else records them alone, which the settings then ask for. At `Ok` the session went to its end; its `feed` says
+/// whether all data were read. At `Err` the run stopped before its session (a first header, a search or a recording is
+/// refused, the inputs failed, or there was no memory), and no file was made. It may not end.
 pub fn drive<I: Inputs + Send, F: Files + Send, G: Gate + Sync, R: Threads + Wait + Sync>(
     rt: &R,
     alloc: Global,

@@ -8,7 +8,7 @@ ghost use Rattle.search_opening.specs.Plans.{PlansFit};
 ghost use Rattle.search_opening.specs.Space.{hands_in};
 ghost use Rattle.run_stop.specs.Runs.{Task};
 ghost use Rattle.whole_run.specs.Wholes.{task_of};
-ghost use Rattle.whole_run.specs.Openings.{AreLanesOf, IsStageSpace, HasRecorderSpace, recorders, plan_for, shape_for};
+ghost use Rattle.whole_run.specs.Openings.{AreLanesOf, IsStageSpace, HasRecorderSpace, recorders, plan_for};
 
 use arrayvec::ArrayVec;
 use dada_header::Header;

@@ -1,7 +1,7 @@
 // Two readers, of which one retires.
 ghost use Rattle.std.specs.Prelude.{◌≡◌};
 ghost use Rattle.ring_words.specs.Shape.{IsRing};
-ghost use Rattle.ring_ends.specs.Passes.{ring_shape, reader_knows, WritesTo, ReadsFrom};
+ghost use Rattle.ring_ends.specs.Passes.{ring_shape, WritesTo, ReadsFrom};
 
 use super::shape;
 use ring_ends::{Mark, ReaderPass, Ring, RingShape, WriteStop, WriterPass};

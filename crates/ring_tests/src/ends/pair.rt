@@ -1,7 +1,7 @@
 // One thread writes and reads by turns: a table of steps, each with what it answers.
-ghost use Rattle.std.specs.Prelude.{◌≡◌, ◌≤◌, IfOk};
+ghost use Rattle.std.specs.Prelude.{◌≡◌};
 ghost use Rattle.ring_words.specs.Shape.{IsRing};
-ghost use Rattle.ring_ends.specs.Passes.{ring_shape, reader_knows, WritesTo, ReadsFrom};
+ghost use Rattle.ring_ends.specs.Passes.{ring_shape, WritesTo, ReadsFrom};
 
 use super::shape;
 use ring_ends::{Mark, ReadStop, ReaderPass, Ring, RingShape, Taken, WriteStop, WriterPass};

@@ -3,7 +3,7 @@ ghost use Rattle.std.specs.Prelude.{◌≡◌};
 ghost use Rattle.std.specs.Thread.{IsSync};
 ghost use Rattle.ring_words.specs.Shape.{IsRing};
 ghost use Rattle.ring_ends.specs.Ended.{finished_shape};
-ghost use Rattle.ring_ends.specs.Passes.{ring_shape, writer_knows, reader_knows, retired_knows, ended_knows, WritesTo, ReadsFrom, RetiredFrom, EndedFrom};
+ghost use Rattle.ring_ends.specs.Passes.{ring_shape, reader_knows, retired_knows, ended_knows, WritesTo, ReadsFrom, RetiredFrom, EndedFrom};
 
 use super::pair::Pair;
 use super::{pair, shape};

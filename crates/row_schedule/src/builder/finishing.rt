@@ -1,5 +1,5 @@
 // How a schedule is laid for orders that were taken.
-ghost use Rattle.std.specs.Prelude.{◌≡◌, ℕ, ◌+◌, ◌*◌, ◌^◌, ◌<◌, ◌≤◌, ◌↔◌, true, false, IsTrue, IsSome, IfOk, IfSome, OnOk, Ok, Some, None, length, slice_get, slice_index};
+ghost use Rattle.std.specs.Prelude.{◌≡◌, ℕ, ◌+◌, ◌*◌, ◌^◌, ◌<◌, ◌≤◌, ◌↔◌, true, false, IsTrue, IsSome, IfOk, IfSome, Ok, Some, None, length, slice_get, slice_index};
 ghost use Rattle.row_model.specs.declared.Source.TheVariants.{Sum};
 ghost use Rattle.row_model.specs.Tails.{AreRows, row_count};
 ghost use Rattle.row_schedule.specs.Orders.{MakeAll, order_at};

@@ -1,7 +1,6 @@
 use Rattle.std.proofs.Common.{◌≡◌, ℕ, ◌+◌, List, Option, sym, subst, arith}
 use Rattle.ring_words.specs.declared.shape.RingShape.{RingShape}
 use Rattle.ring_ends.specs.declared.passes.EndedReader.{EndedReader}
-use Rattle.ring_ends.specs.Passes.{ring_shape}
 use Rattle.ring_bench.proofs.Gathering.{Gathered, one_more, all_gathered}
 use Rattle.ring_bench.proofs.moving.gather.Goals as goal
 
