@@ -1,5 +1,5 @@
 // Numbers with a fixed count of decimals, as headers and command lines have them.
-ghost use Rattle.std.specs.Prelude.{◌≡◌, ◌↔◌, IsTrue, [], ℕ, ◌*◌, ◌/◌, ◌^◌, ◌+◌, ◌++◌, ◌≤◌, ◌<◌, All, length, if◌then◌else◌, Some, ℤ, pos, neg_ℤ, unsigned_abs, IfOk, IfErr};
+ghost use Rattle.std.specs.Prelude.{◌≡◌, ◌↔◌, IsTrue, [], ℕ, ◌*◌, ◌/◌, ◌^◌, ◌+◌, ◌++◌, ◌≤◌, ◌<◌, All, length, if◌then◌else◌, Some, pos, neg_ℤ, unsigned_abs, IfOk, IfErr};
 ghost use Rattle.std.specs.Char.{IsAsciiDigit, digit_value};
 ghost use Rattle.std.specs.Str.Parse.{digits_value, digits_value_after};
 ghost use Rattle.dada_model.specs.Number.{number_value};
