@@ -92,7 +92,7 @@ done
 
 rm -f "$large"
 "$make" "${made[@]}" --spectra 1048576 "$longer"
-for ((round = 0; round < 3; round++)); do
+for ((round = 0; round < rounds; round++)); do
     once longer "$search" "${words[@]}" --widths 1 "$longer"
 done
 echo
