@@ -76,21 +76,21 @@ module _ {I F : Type 0} (told : I → Told) (is_open is_calm : I → Type 0) (fa
     pub on : All (HandOn told is_open files_open hdu) hands
     pub ended : All HandEnded hands
     pub feeder : HasFeeder told is_calm faults start hands
-    pub shards : (s : ℕ) → s < length lanes → HasShard (length lanes) hands s
+    pub shards : (s : ℕ) → s < length lanes → HasShard hands s
     pub of_lanes : AreOfLanes lanes hands
     pub recorder_works : RecorderWorks seen recorder (length lanes) hands
 
   all_ended : (hdu : Hdu) (start : FeedActor I) (lanes : List (Option Lane)) (recorder : Option (Recorder F))
       (old new : List (Hand I F)) (n : ℕ) →
       EachMoved (HandMoved told is_calm faults seen n) old new → HasFeeder told is_calm faults start old →
-      ((s : ℕ) → s < length lanes → HasShard (length lanes) old s) → AreOfLanes lanes old →
+      ((s : ℕ) → s < length lanes → HasShard old s) → AreOfLanes lanes old →
       RecorderWorks seen recorder (length lanes) old →
       All (HandOn told is_open files_open hdu) new → All HandEnded new → AllEnded hdu start lanes recorder new
   all_ended hdu start lanes recorder old new n moved feeder shards of works on ended = record {
     on = on;
     ended = ended;
     feeder = feeder_stays told is_calm faults seen n old new moved start feeder;
-    shards = λ s near. shard_stays told is_calm faults seen n old new moved (length lanes) s (shards s near);
+    shards = λ s near. shard_stays told is_calm faults seen n old new moved s (shards s near);
     of_lanes = lanes_stay told is_calm faults seen n old new moved lanes of;
     recorder_works = recorder_stays told is_calm faults seen n old new moved recorder (length lanes) works;
   }
@@ -100,7 +100,7 @@ module _ {I F : Type 0} (told : I → Told) (is_open is_calm : I → Type 0) (fa
       (items first two last : List (Hand I F)) (len n : ℕ) → first ≡ items → length first ≡ len →
       last ≡ take len (two ++ drop (length two) items) →
       EachMoved (HandMoved told is_calm faults seen n) first two → HasFeeder told is_calm faults start items →
-      ((s : ℕ) → s < length lanes → HasShard (length lanes) items s) → AreOfLanes lanes items →
+      ((s : ℕ) → s < length lanes → HasShard items s) → AreOfLanes lanes items →
       RecorderWorks seen recorder (length lanes) items →
       All (HandOn told is_open files_open hdu) two → All HandEnded two → AllEnded hdu start lanes recorder last
   hands_ended hdu start lanes recorder items first two last len n shown long written moved

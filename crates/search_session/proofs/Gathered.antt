@@ -1,5 +1,5 @@
 -- Shards leave their hands one after another.
-use Rattle.std.proofs.Common.{◌≡◌, ◌≢◌, ◌⊎◌, inl, inr, ℕ, ◌+◌, ◌-◌, ◌%◌, ◌<◌, List, [], ◌∷◌, ◌++◌, length, length-append, Option, Some, None, slice_get, slice_set, sym, ap, ◌∙◌, subst, arith}
+use Rattle.std.proofs.Common.{◌≡◌, ◌≢◌, ◌⊎◌, inl, inr, ℕ, ◌+◌, ◌%◌, ◌<◌, List, [], ◌∷◌, ◌++◌, length, length-append, Option, Some, None, slice_get, slice_set, sym, ap, ◌∙◌, subst, arith}
 use Rattle.std.proofs.lemmas.List.{length-set}
 use Rattle.std.proofs.lemmas.Option.{slice_get_within}
 use mathlib.Core.Logic.{dite}
@@ -110,20 +110,20 @@ module _ {I F : Type 0} where
         }
       ]
 
-      pub others_work : (total s : ℕ) → s ≢ number → HasShard total old s → HasShard total new s
-      others_work total s other has =
+      pub others_work : (s : ℕ) → s ≢ number → HasShard old s → HasShard new s
+      others_work s other has =
           let count = count_same old new place leaves.after leaves.hands in
-          dite (ℕ_discrete ((total - s) % length old) place) (here count) (elsewhere count)
+          dite (ℕ_discrete ((s + 1) % length old) place) (here count) (elsewhere count)
         where
-          at_new : length new ≡ length old → (h : Hand I F) → slice_get new ((total - s) % length old) ≡ Some h →
-              slice_get new ((total - s) % length new) ≡ Some h
-          at_new count h at = subst (λ (n : ℕ). slice_get new ((total - s) % n) ≡ Some h) (sym count) at
+          at_new : length new ≡ length old → (h : Hand I F) → slice_get new ((s + 1) % length old) ≡ Some h →
+              slice_get new ((s + 1) % length new) ≡ Some h
+          at_new count h at = subst (λ (n : ℕ). slice_get new ((s + 1) % n) ≡ Some h) (sym count) at
 
-          elsewhere : length new ≡ length old → (total - s) % length old ≢ place → HasShard total new s
+          elsewhere : length new ≡ length old → (s + 1) % length old ≢ place → HasShard new s
           elsewhere count apart = record {
             hand = has.hand;
             there = at_new count has.hand (put_at old new place
-                ((total - s) % length old) leaves.after has.hand leaves.hands
+                ((s + 1) % length old) leaves.after has.hand leaves.hands
                 has.there apart);
             shard = has.shard;
             place = has.place;
@@ -134,14 +134,14 @@ module _ {I F : Type 0} where
           first : (g h : Hand I F) → Some g ≡ Some h → g ≡ h
           first g h e = cc
 
-          here : length new ≡ length old → (total - s) % length old ≡ place → HasShard total new s
+          here : length new ≡ length old → (s + 1) % length old ≡ place → HasShard new s
           here count same =
               let before_is : has.hand ≡ leaves.before =
               first has.hand leaves.before (sym has.there ∙ (ap (λ (k : ℕ). slice_get old k) same ∙ leaves.there)) in
               record {
                 hand = leaves.after;
                 there = at_new count leaves.after
-                    (put_here old new place ((total - s) % length old) leaves.after leaves.hands
+                    (put_here old new place ((s + 1) % length old) leaves.after leaves.hands
                     near same);
                 shard = has.shard;
                 place = has.place;
@@ -178,19 +178,19 @@ module _ {I F : Type 0} where
         }
       ]
 
-      pub still_work : (total s : ℕ) → HasShard total old s → HasShard total new s
-      still_work total s has =
+      pub still_work : (s : ℕ) → HasShard old s → HasShard new s
+      still_work s has =
           let count = count_same old new place after hands in
-          dite (ℕ_discrete ((total - s) % length old) place) (here count) (elsewhere count)
+          dite (ℕ_discrete ((s + 1) % length old) place) (here count) (elsewhere count)
         where
-          at_new : length new ≡ length old → (h : Hand I F) → slice_get new ((total - s) % length old) ≡ Some h →
-              slice_get new ((total - s) % length new) ≡ Some h
-          at_new count h at = subst (λ (n : ℕ). slice_get new ((total - s) % n) ≡ Some h) (sym count) at
+          at_new : length new ≡ length old → (h : Hand I F) → slice_get new ((s + 1) % length old) ≡ Some h →
+              slice_get new ((s + 1) % length new) ≡ Some h
+          at_new count h at = subst (λ (n : ℕ). slice_get new ((s + 1) % n) ≡ Some h) (sym count) at
 
-          elsewhere : length new ≡ length old → (total - s) % length old ≢ place → HasShard total new s
+          elsewhere : length new ≡ length old → (s + 1) % length old ≢ place → HasShard new s
           elsewhere count apart = record {
             hand = has.hand;
-            there = at_new count has.hand (put_at old new place ((total - s) % length old) after has.hand hands has.there
+            there = at_new count has.hand (put_at old new place ((s + 1) % length old) after has.hand hands has.there
                 apart);
             shard = has.shard;
             place = has.place;
@@ -201,13 +201,13 @@ module _ {I F : Type 0} where
           first : (g h : Hand I F) → Some g ≡ Some h → g ≡ h
           first g h e = cc
 
-          here : length new ≡ length old → (total - s) % length old ≡ place → HasShard total new s
+          here : length new ≡ length old → (s + 1) % length old ≡ place → HasShard new s
           here count same =
               let before_is : has.hand ≡ before =
               first has.hand before (sym has.there ∙ (ap (λ (k : ℕ). slice_get old k) same ∙ there)) in
               record {
                 hand = after;
-                there = at_new count after (put_here old new place ((total - s) % length old) after hands near_place same);
+                there = at_new count after (put_here old new place ((s + 1) % length old) after hands near_place same);
                 shard = has.shard;
                 place = has.place;
                 works = subst (λ slots. slice_get slots.items has.place ≡ Some (Some has.shard)) (sym shards)

@@ -29,10 +29,9 @@ module _ {I F : Type 0} (old mid new : List (Hand I F)) (f : FeedActor I) (r : O
   in_old y is = still_in old mid 0 first.before first.after first.there first.hands first.shards y
       (still_in mid new (8 % length mid) second.before second.after second.there second.hands second.shards y is)
 
-  pub work_still : (total s : ℕ) → HasShard total old s → HasShard total new s
-  work_still total s has = still_work mid new (8 % length mid) second.before second.after second.there second.hands
-      second.shards total s (still_work old mid 0 first.before first.after first.there first.hands first.shards total s
-      has)
+  pub work_still : (s : ℕ) → HasShard old s → HasShard new s
+  work_still s has = still_work mid new (8 % length mid) second.before second.after second.there second.hands
+      second.shards s (still_work old mid 0 first.before first.after first.there first.hands first.shards s has)
 
   pub some_mid : 0 < length mid
   some_mid =

@@ -1,5 +1,5 @@
 -- The actors of a session come to their hands.
-use Rattle.std.proofs.Common.{◌≡◌, ℕ, ◌+◌, ◌-◌, ◌%◌, ◌<◌, ◌≤◌, List, [], ◌∷◌, length, length-append, Option, Some, None, slice_get, slice_set, drop, slice_index_or, refl, sym, ap, ◌∙◌, subst, arith}
+use Rattle.std.proofs.Common.{◌≡◌, ℕ, ◌+◌, ◌%◌, ◌<◌, ◌≤◌, List, [], ◌∷◌, length, length-append, Option, Some, None, slice_get, slice_set, drop, slice_index_or, refl, sym, ap, ◌∙◌, subst, arith}
 use Rattle.std.specs.Prelude.{All, IfSome, IsSomeAnd}
 use Rattle.std.proofs.lemmas.List.Elements.{All-set, All-push, All-weaker}
 use Rattle.std.proofs.lemmas.Option.{slice_get_within, slice_get-get_or, get_or_from_slice_get}
@@ -99,15 +99,14 @@ module _ {I F : Type 0} (old new : List (Hand I F)) (place : ℕ) where
       count_kept : length new ≡ length old
       count_kept = count_same old new place after is
 
-      pub shard_kept : after.shards ≡ before.shards → (total s : ℕ) →
-          HasShard total old s → HasShard total new s
-      shard_kept same total s has =
+      pub shard_kept : after.shards ≡ before.shards → (s : ℕ) → HasShard old s → HasShard new s
+      shard_kept same s has =
           let works = λ (h : Hand I F). slice_get h.shards.items has.place ≡ Some (Some has.shard) in
           let g = at_place works (λ here. subst (λ shards. slice_get shards.items has.place ≡ Some (Some has.shard))
-          (sym same) here) ((total - s) % length old) has.hand has.there has.works in
+          (sym same) here) ((s + 1) % length old) has.hand has.there has.works in
           record {
             hand = g.0;
-            there = subst (λ (k : ℕ). slice_get new ((total - s) % k) ≡ Some g.0) (sym count_kept) g.1;
+            there = subst (λ (k : ℕ). slice_get new ((s + 1) % k) ≡ Some g.0) (sym count_kept) g.1;
             shard = has.shard;
             place = has.place;
             works = g.2;
@@ -188,20 +187,20 @@ module _ {I F : Type 0} (told : I → Told) (is_open : I → Type 0) (files_open
 
   module _ (old new : List (Hand I F)) (n count : ℕ) (x : ShardActor) (lane : Lane)
       (staffed : AreStaffed told is_open files_open hdu lanes n count old)
-      (takes : TakesShard old ((length lanes - n) % length old) x new) (at : slice_get lanes n ≡ Some (Some lane))
+      (takes : TakesShard old ((n + 1) % length old) x new) (at : slice_get lanes n ≡ Some (Some lane))
       (fresh : IsShardOf lane n x) (on : ShardOn hdu x) where
-    near : (length lanes - n) % length old < length old
-    near = slice_get_within old ((length lanes - n) % length old) takes.before takes.there
+    near : (n + 1) % length old < length old
+    near = slice_get_within old ((n + 1) % length old) takes.before takes.there
 
     same_count : length new ≡ length old
-    same_count = count_same old new ((length lanes - n) % length old) takes.after takes.hands
+    same_count = count_same old new ((n + 1) % length old) takes.after takes.hands
 
     all_new : (P : Hand I F → Type 0) → All P old → P takes.after → All P new
     all_new P was now = subst (λ (l : List (Hand I F)). All P l) (sym takes.hands)
-        (All-set P old ((length lanes - n) % length old) takes.after now was)
+        (All-set P old ((n + 1) % length old) takes.after now was)
 
     before_on : HandOn told is_open files_open hdu takes.before
-    before_on = all_at (HandOn told is_open files_open hdu) old ((length lanes - n) % length old) takes.before takes.there
+    before_on = all_at (HandOn told is_open files_open hdu) old ((n + 1) % length old) takes.before takes.there
         staffed.on
 
     after_on : HandOn told is_open files_open hdu takes.after
@@ -215,13 +214,13 @@ module _ {I F : Type 0} (told : I → Told) (is_open : I → Type 0) (files_open
     }
 
     after_none : takes.after.recorder ≡ None
-    after_none = takes.recorder ∙ all_at (λ (h : Hand I F). h.recorder ≡ None) old ((length lanes - n) % length old) takes.before
+    after_none = takes.recorder ∙ all_at (λ (h : Hand I F). h.recorder ≡ None) old ((n + 1) % length old) takes.before
         takes.there staffed.no_recorder
 
     after_few : length takes.after.shards.items ≤ n + 1
     after_few =
         let before : length takes.before.shards.items ≤ n =
-        all_at (λ (h : Hand I F). length h.shards.items ≤ n) old ((length lanes - n) % length old) takes.before takes.there
+        all_at (λ (h : Hand I F). length h.shards.items ≤ n) old ((n + 1) % length old) takes.before takes.there
         staffed.few in
         let long = ap length takes.shards ∙ length-append takes.before.shards.items (Some x ∷ []) in
         omega arith
@@ -229,14 +228,14 @@ module _ {I F : Type 0} (told : I → Told) (is_open : I → Type 0) (files_open
     after_of : All (λ slot. IfSome slot (IsOfLane lanes)) takes.after.shards.items
     after_of = subst (λ (l : List (Option ShardActor)). All (λ slot. IfSome slot (IsOfLane lanes)) l) (sym takes.shards)
         (All-push (λ slot. IfSome slot (IsOfLane lanes)) takes.before.shards.items (Some x)
-        (all_at (λ (h : Hand I F). All (λ slot. IfSome slot (IsOfLane lanes)) h.shards.items) old ((length lanes - n) % length old)
+        (all_at (λ (h : Hand I F). All (λ slot. IfSome slot (IsOfLane lanes)) h.shards.items) old ((n + 1) % length old)
         takes.before takes.there staffed.of_lanes) (some_lane x n lane at fresh))
 
-    here : HasShard (length lanes) new n
+    here : HasShard new n
     here = record {
       hand = takes.after;
-      there = subst (λ (k : ℕ). slice_get new ((length lanes - n) % k) ≡ Some takes.after) (sym same_count)
-          (put_here old new ((length lanes - n) % length old) ((length lanes - n) % length old) takes.after takes.hands near refl);
+      there = subst (λ (k : ℕ). slice_get new ((n + 1) % k) ≡ Some takes.after) (sym same_count)
+          (put_here old new ((n + 1) % length old) ((n + 1) % length old) takes.after takes.hands near refl);
       shard = x;
       place = length takes.before.shards.items;
       works = ap (λ (l : List (Option ShardActor)). slice_get l (length takes.before.shards.items)) takes.shards
@@ -244,14 +243,14 @@ module _ {I F : Type 0} (told : I → Told) (is_open : I → Type 0) (files_open
       number = fresh.number_is;
     }
 
-    earlier : (s : ℕ) → HasShard (length lanes) old s → HasShard (length lanes) new s
-    earlier s has = dite (ℕ_discrete ((length lanes - s) % length old) ((length lanes - n) % length old))
+    earlier : (s : ℕ) → HasShard old s → HasShard new s
+    earlier s has = dite (ℕ_discrete ((s + 1) % length old) ((n + 1) % length old))
         (λ same.
         let before_is : has.hand ≡ takes.before = first has.hand takes.before (sym has.there
         ∙ (ap (λ (k : ℕ). slice_get old k) same ∙ takes.there)) in
         record {
           hand = takes.after;
-          there = at_new takes.after (put_here old new ((length lanes - n) % length old) ((length lanes - s) % length old) takes.after
+          there = at_new takes.after (put_here old new ((n + 1) % length old) ((s + 1) % length old) takes.after
               takes.hands near same);
           shard = has.shard;
           place = has.place;
@@ -263,7 +262,7 @@ module _ {I F : Type 0} (told : I → Told) (is_open : I → Type 0) (files_open
         })
         (λ other. record {
           hand = has.hand;
-          there = at_new has.hand (put_at old new ((length lanes - n) % length old) ((length lanes - s) % length old) takes.after has.hand
+          there = at_new has.hand (put_at old new ((n + 1) % length old) ((s + 1) % length old) takes.after has.hand
               takes.hands has.there other);
           shard = has.shard;
           place = has.place;
@@ -274,9 +273,9 @@ module _ {I F : Type 0} (told : I → Told) (is_open : I → Type 0) (files_open
         first : (g h : Hand I F) → Some g ≡ Some h → g ≡ h
         first g h e = cc
 
-        at_new : (h : Hand I F) → slice_get new ((length lanes - s) % length old) ≡ Some h →
-            slice_get new ((length lanes - s) % length new) ≡ Some h
-        at_new h there = subst (λ (k : ℕ). slice_get new ((length lanes - s) % k) ≡ Some h) (sym same_count) there
+        at_new : (h : Hand I F) → slice_get new ((s + 1) % length old) ≡ Some h →
+            slice_get new ((s + 1) % length new) ≡ Some h
+        at_new h there = subst (λ (k : ℕ). slice_get new ((s + 1) % k) ≡ Some h) (sym same_count) there
 
     pub staffed_more : AreStaffed told is_open files_open hdu lanes (n + 1) count new
     staffed_more = record {
@@ -286,7 +285,7 @@ module _ {I F : Type 0} (told : I → Told) (is_open : I → Type 0) (files_open
       no_recorder = all_new (λ h. h.recorder ≡ None) staffed.no_recorder after_none;
       count_is = same_count ∙ staffed.count_is;
       placed = λ s before. dite (ℕ_discrete s n)
-          (λ same. subst (λ (k : ℕ). HasShard (length lanes) new k) (sym same) here)
+          (λ same. subst (λ (k : ℕ). HasShard new k) (sym same) here)
           (λ other. earlier s (staffed.placed s (omega arith)));
       of_lanes = all_new (λ h. All (λ slot. IfSome slot (IsOfLane lanes)) h.shards.items) staffed.of_lanes after_of;
     }
@@ -298,7 +297,7 @@ module _ {I F : Type 0} (told : I → Told) (is_open : I → Type 0) (files_open
       (hands : List (Hand I F)) : Type 0 where
     pub on : All (HandOn told is_open files_open hdu) hands
     pub count_is : length hands ≡ count
-    pub placed : (s : ℕ) → s < n → HasShard (length lanes) hands s
+    pub placed : (s : ℕ) → s < n → HasShard hands s
     pub of_lanes : AreOfLanes lanes hands
     pub works : RecorderWorks seen recorder n hands
 
@@ -322,7 +321,7 @@ module _ {I F : Type 0} (told : I → Told) (is_open : I → Type 0) (files_open
               });
           count_is = same_count ∙ staffed.count_is;
           placed = λ s near. shard_kept old new (8 % length old) takes.before takes.after takes.there takes.hands
-              takes.shards (length lanes) s (staffed.placed s near);
+              takes.shards s (staffed.placed s near);
           of_lanes = lanes_kept old new (8 % length old) takes.before takes.after takes.there takes.hands takes.shards
               lanes staffed.of_lanes;
           works = (
@@ -389,9 +388,9 @@ module _ {I F : Type 0} (told : I → Told) (is_open : I → Type 0) (files_open
     pub fed_of : AreOfLanes lanes new
     fed_of = lanes_kept old new 0 takes.before takes.after takes.there takes.hands takes.shards lanes all.of_lanes
 
-    pub fed_shards : (s : ℕ) → s < n → HasShard (length lanes) new s
+    pub fed_shards : (s : ℕ) → s < n → HasShard new s
     fed_shards s near =
-        shard_kept old new 0 takes.before takes.after takes.there takes.hands takes.shards (length lanes) s (all.placed s near)
+        shard_kept old new 0 takes.before takes.after takes.there takes.hands takes.shards s (all.placed s near)
 
     pub fed_recorder : RecorderWorks seen recorder n new
     fed_recorder = works_kept old new 0 takes.before takes.after takes.there takes.hands takes.recorder seen recorder n

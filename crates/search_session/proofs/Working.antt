@@ -1,5 +1,5 @@
 -- Who works in which hand, through rounds.
-use Rattle.std.proofs.Common.{◌≡◌, ℕ, ◌+◌, ◌-◌, ◌%◌, ◌<◌, List, [], length, Option, Some, None, slice_get, slice_index_or, refl, sym, ap, ◌∙◌, subst, arith}
+use Rattle.std.proofs.Common.{◌≡◌, ℕ, ◌+◌, ◌%◌, ◌<◌, List, [], length, Option, Some, None, slice_get, slice_index_or, refl, sym, ap, ◌∙◌, subst, arith}
 use Rattle.std.specs.Prelude.{All, IfSome}
 use Rattle.std.proofs.lemmas.Option.{slice_get_within, slice_get-get_or, get_or_from_slice_get}
 use Rattle.psr_base.specs.Told.{Told}
@@ -107,11 +107,11 @@ module _ {I F : Type 0} (told : I → Told) (is_calm : I → Type 0) (faults : I
   recorder_stays (Some part) number works = (works.0, works.1, recorder_in works.0 works.2)
 
   -- each shard is still in its hand
-  pub shard_stays : (total s : ℕ) → HasShard total old s → HasShard total new s
-  shard_stays total s has =
-      let there : slice_get old ((total - s) % length new) ≡ Some has.hand =
-      subst (λ (k : ℕ). slice_get old ((total - s) % k) ≡ Some has.hand) (sym moved.count) has.there in
-      let h = each_at (HandMoved told is_calm faults seen n) old new ((total - s) % length new) has.hand moved there in
+  pub shard_stays : (s : ℕ) → HasShard old s → HasShard new s
+  shard_stays s has =
+      let there : slice_get old ((s + 1) % length new) ≡ Some has.hand =
+      subst (λ (k : ℕ). slice_get old ((s + 1) % k) ≡ Some has.hand) (sym moved.count) has.there in
+      let h = each_at (HandMoved told is_calm faults seen n) old new ((s + 1) % length new) has.hand moved there in
       let slot = each_at (SlotMoved (ShardMoved n)) has.hand.shards.items h.0.shards.items has.place (Some has.shard)
       h.2.shards has.works in
       let x = slot_some (ShardMoved n) (Some has.shard) slot.0 has.shard refl slot.2 in

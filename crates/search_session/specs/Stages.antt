@@ -1,6 +1,6 @@
 -- The parts of a session before its first turn, and who works in which hand.
 -- Source: this project's choice.
-use Rattle.std.specs.Prelude.{◌≡◌, ℕ, ◌+◌, ◌-◌, ◌*◌, ◌%◌, ◌<◌, ◌≤◌, false, All, IfSome, IsSomeAnd, List, [], ◌∷◌, ◌++◌, length, vec_len, slice_get, slice_set, Option, Some, None}
+use Rattle.std.specs.Prelude.{◌≡◌, ℕ, ◌+◌, ◌*◌, ◌%◌, ◌<◌, ◌≤◌, false, All, IfSome, IsSomeAnd, List, [], ◌∷◌, ◌++◌, length, vec_len, slice_get, slice_set, Option, Some, None}
 use Rattle.psr_base.specs.Told.{Told}
 use Rattle.psr_base.specs.Made.{FilesSeen}
 use Rattle.dada_hdu.specs.declared.hdu.Hdu.{Hdu}
@@ -97,8 +97,7 @@ pub record StageOn {I F : Type 0} (told : I → Told) (is_open : I → Type 0) (
   pub some_hand : 0 < length stage.hands.items
   pub empty : All IsEmptyHand stage.hands.items
 
--- ---- who works where: the feeder in hand 0, shard s of n in hand n - s, and the recorder in hand 8, each modulo the
--- hands
+-- ---- who works where: actor a in hand a modulo the hands; the feeder is actor 0, shard s actor s + 1, the recorder 8
 
 -- the feeder, which began as this one, works in its hand
 pub record HasFeeder {I F : Type 0} (told : I → Told) (is_calm : I → Type 0) (faults : I → ℕ)
@@ -110,10 +109,10 @@ pub record HasFeeder {I F : Type 0} (told : I → Told) (is_calm : I → Type 0)
   pub works : hand.feeder ≡ Some feeder
   pub moved : FeedMoved told is_calm faults turns start feeder
 
--- shard s of n works in its hand
-pub record HasShard {I F : Type 0} (n : ℕ) (hands : List (Hand I F)) (s : ℕ) : Type 0 where
+-- shard s works in its hand
+pub record HasShard {I F : Type 0} (hands : List (Hand I F)) (s : ℕ) : Type 0 where
   pub hand : Hand I F
-  pub there : slice_get hands ((n - s) % length hands) ≡ Some hand
+  pub there : slice_get hands ((s + 1) % length hands) ≡ Some hand
   pub shard : ShardActor
   pub place : ℕ
   pub works : slice_get hand.shards.items place ≡ Some (Some shard)
@@ -220,7 +219,7 @@ pub record AreStaffed {I F : Type 0} (told : I → Told) (is_open : I → Type 0
   pub few : All (λ h. length h.shards.items ≤ n) hands
   pub no_recorder : All (λ h. h.recorder ≡ None) hands
   pub count_is : length hands ≡ count
-  pub placed : (s : ℕ) → s < n → HasShard (length lanes) hands s
+  pub placed : (s : ℕ) → s < n → HasShard hands s
   pub of_lanes : AreOfLanes lanes hands
 
 -- the feeder before its first turn

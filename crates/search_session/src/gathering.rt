@@ -84,12 +84,12 @@ pub(crate) fn gather<I, F>(
 ) -> ArrayVec<Option<ShardActor>, 7>
     requires some { 0 < length hands.old }
     requires few { count ≤ 7 }
-    requires shards { (s : ℕ) → s < count → HasShard count hands.old s }
+    requires shards { (s : ℕ) → s < count → HasShard hands.old s }
     ensures { AreGathered hands.old count result.items }
 {
     let mut shards = ArrayVec::new();
     for s in 0..count {
-        let place = (count - s) % hands.len();
+        let place = (s + 1) % hands.len();
         shards.push(Some(take_from(hands, place, s as u32)));
     }
     shards

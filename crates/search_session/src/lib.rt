@@ -1,12 +1,11 @@
 //! A session: a feeder, the shards of a search and a recorder take turns over two rings, in hands that run beside each
 //! other. There may be no shard, or no recorder.
 //!
-//! Actor 0 is the feeder, 1 to 7 are the shards in order, and 8 is the recorder. The feeder works in hand 0, shard s of
-//! n in hand n - s, and the recorder in hand 8, each modulo the number of hands: where there are as many hands as shards,
-//! the first shard, which has the least to do, works beside the feeder. No turn waits. Between its turns a hand none of
-//! whose actors could move waits until one could, until it is found that all hands wait for each other, or until it has
-//! looked a million times; after a wait in vain it waits no more in that round. A hand that has ended does not wait.
-//! Rounds of turns follow one another, the first ones longer and longer, until all have ended. No call takes memory.
+//! Actor 0 is the feeder, 1 to 7 are the shards in order, and 8 is the recorder; actor a works in hand a modulo the
+//! number of hands. No turn waits. Between its turns a hand none of whose actors could move waits until one could,
+//! until it is found that all hands wait for each other, or until it has looked a million times; after a wait in vain
+//! it waits no more in that round. A hand that has ended does not wait. Rounds of turns follow one another, the first
+//! ones longer and longer, until all have ended. No call takes memory.
 #![tactic(auto)]
 
 mod books;

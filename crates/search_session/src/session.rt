@@ -102,7 +102,7 @@ fn end_session<'a, I: Inputs, F: Files>(
     requires feeder { (h : Working I F) × (f : Feeding I) × (slice_get hands.old 0 ≡ Some h)
         × (h.feeder ≡ Some f) }
     requires few { shards ≤ 7 }
-    requires shards { (s : ℕ) → s < shards → HasShard shards hands.old s }
+    requires shards { (s : ℕ) → s < shards → HasShard hands.old s }
     requires readers { shards + length (recorder_passes (recorder_in hands.old))
         ≡ (data_shape hdu).readers }
     requires last { IfSome (recorder_in hands.old) (λ x. number_of x.pass ≡ shards) }

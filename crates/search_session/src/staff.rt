@@ -1,5 +1,5 @@
 //! The actors of a session come to their hands.
-ghost use Rattle.std.specs.Prelude.{◌≡◌, ℕ, ◌*◌, ◌%◌, ◌<◌, ◌≤◌, All, IfSome, IsSomeAnd, length, drop, vec_len};
+ghost use Rattle.std.specs.Prelude.{◌≡◌, ℕ, ◌+◌, ◌*◌, ◌%◌, ◌<◌, ◌≤◌, All, IfSome, IsSomeAnd, length, drop, vec_len};
 ghost use Rattle.dada_hdu.specs.Passes.{data_shape};
 ghost use Rattle.search_engine.specs.Engine.{most_fed};
 ghost use Rattle.search_session.specs.Shards.{ShardOn};
@@ -66,13 +66,13 @@ fn place_feeder<'a, I, F>(hands: &mut [Hand<'a, I, F>], feeder: FeedActor<'a, I>
     let _none = mem::replace(&mut hands[0].feeder, Some(feeder));
 }
 
-// A shard comes to the hand with this number, modulo the hands.
-fn place_shard<I, F>(hands: &mut [Hand<'_, I, F>], number: usize, shard: ShardActor)
+// A shard comes to its hand.
+fn place_shard<I, F>(hands: &mut [Hand<'_, I, F>], actor: usize, shard: ShardActor)
     requires some { 0 < length hands.old }
     requires room { All (λ h. length h.shards.items < 7) hands.old }
-    ensures { TakesShard hands.old (number % length hands.old) shard hands.new }
+    ensures { TakesShard hands.old (actor % length hands.old) shard hands.new }
 {
-    let place = number % hands.len();
+    let place = actor % hands.len();
     hands[place].shards.push(Some(shard));
 }
 
@@ -124,8 +124,7 @@ fn place_shards<I: Inputs, F: Files>(
         (length lanes.items) (length hands.old) hands.new }
     ensures readers { readers.new.items ≡ drop (length lanes.items) readers.old.items }
 {
-    let count = lanes.len();
-    for s in 0..count {
+    for s in 0..lanes.len() {
         let Some(lane) = lanes.remove(0) else {
             unreachable!()
         };
@@ -135,11 +134,7 @@ fn place_shards<I: Inputs, F: Files>(
         let Some(space) = spaces.remove(0) else {
             unreachable!()
         };
-        place_shard(
-            hands,
-            count - s,
-            shard_of(hdu, lane, reader, space, s as u32),
-        );
+        place_shard(hands, s + 1, shard_of(hdu, lane, reader, space, s as u32));
     }
 }
 
@@ -150,8 +145,7 @@ pub(crate) fn staff<'a, I: Inputs, F: Files>(stage: Stage<'a, I, F>) -> (Hdu, Ve
     ensures on { All (HandOn I.told I.is_open F.is_open result.0) result.1.items }
     ensures some { 0 < length result.1.items }
     ensures feeder { HasFeeder I.told I.is_calm I.faults (feeder_of stage.entry) result.1.items }
-    ensures shards { (s : ℕ) → s < length stage.entry.lanes.items
-        → HasShard (length stage.entry.lanes.items) result.1.items s }
+    ensures shards { (s : ℕ) → s < length stage.entry.lanes.items → HasShard result.1.items s }
     ensures lanes { AreOfLanes stage.entry.lanes.items result.1.items }
     ensures recorder { RecorderWorks F.seen stage.entry.recorder
         (length stage.entry.lanes.items) result.1.items }

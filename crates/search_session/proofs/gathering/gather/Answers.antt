@@ -1,4 +1,4 @@
-use Rattle.std.proofs.Common.{◌≡◌, ℕ, ◌+◌, ◌-◌, ◌%◌, ◌<◌, ◌≤◌, List, Option, length, sym, subst, arith}
+use Rattle.std.proofs.Common.{◌≡◌, ℕ, ◌+◌, ◌%◌, ◌<◌, ◌≤◌, List, Option, length, sym, subst, arith}
 use Rattle.search_session.specs.declared.shard.ShardActor.{ShardActor}
 use Rattle.search_session.specs.Stages.{AreGathered}
 use Rattle.search_session.proofs.Gathered.{count_same, left_in, others_in, others_work, gathered_more}
@@ -20,7 +20,7 @@ loop-s-preserved g c =
     let s = c.loop-s.s in
     let old = c.loop-s.hands in
     let new = c.take_from.new.hands in
-    let place : ℕ = (c.args.count - s) % length old in
+    let place : ℕ = (s + 1) % length old in
     let x = c.take_from.result in
     let leaves = c.take_from.ensures in
     let inv = c.loop-s.invariant in
@@ -28,7 +28,7 @@ loop-s-preserved g c =
     let some = inv.some in
     record {
       some = omega arith;
-      rest = λ t after before. others_work old new place s x leaves c.args.count t (λ same. absurd (omega arith))
+      rest = λ t after before. others_work old new place s x leaves t (λ same. absurd (omega arith))
           (inv.rest t (omega arith) before);
       still = λ y is. inv.still y (others_in old new place s x leaves y is);
       gathered = subst (λ (l : List (Option ShardActor)). AreGathered c.args.hands.now (s + 1) l)

@@ -33,7 +33,7 @@ gather-shards-requires g c =
     record {
       some = some_new old mid new f r first second;
       few = c.requires.few;
-      shards = λ s below. work_still old mid new f r first second c.args.shards s (c.requires.shards s below);
+      shards = λ s below. work_still old mid new f r first second s (c.requires.shards s below);
     }
 
 pub finish-requires : goal.finish-requires

@@ -3,7 +3,7 @@ use Rattle.std.specs.Prelude.{IfSome}
 use Rattle.dada_hdu.specs.declared.hdu.Hdu.{Hdu}
 use Rattle.dada_hdu.specs.Passes.{data_shape}
 use Rattle.disk_feeder.specs.Turns.{sealed_headers}
-use Rattle.search_session.specs.Stages.{IsFreshRecorder, HasShard, RecorderWorks, feeder_of, transfers_of}
+use Rattle.search_session.specs.Stages.{IsFreshRecorder, RecorderWorks, feeder_of, transfers_of}
 use Rattle.search_session.specs.Books.{AreCounted}
 use Rattle.search_session.specs.Ends.{HaveEnginesIn}
 use Rattle.search_session.specs.Sessions.{IsEndOfRecorder}
@@ -46,8 +46,7 @@ end_session-requires g c =
       ended = all.ended;
       feeder = (all.feeder.hand, all.feeder.feeder, all.feeder.there, all.feeder.works);
       few = c.len-shards.ensures.fits;
-      shards = λ s near. subst (λ (k : ℕ). HasShard k now s) (sym value)
-          (all.shards s (subst (λ (k : ℕ). s < k) value near));
+      shards = λ s near. all.shards s (subst (λ (k : ℕ). s < k) value near);
       readers = omega arith;
       last = works_last seen c.len-shards.result now recorder works;
       engines = (

@@ -1,6 +1,6 @@
-use Rattle.std.proofs.Common.{◌≡◌, ℕ, ◌-◌, ◌%◌, ◌<◌, Some, length, refl, ap, ◌∙◌, subst, arith}
+use Rattle.std.proofs.Common.{◌≡◌, ◌<◌, Some, length, refl, ap, ◌∙◌, subst, arith}
 use Rattle.search_session.specs.declared.lane.Lane.{Lane}
-use Rattle.search_session.specs.Stages.{TakesShard, IsUnread, IsUnfed}
+use Rattle.search_session.specs.Stages.{IsUnread, IsUnfed}
 use Rattle.dada_hdu.specs.declared.passes.HduReader.{HduReader}
 use Rattle.search_session.proofs.Rows.{left_over}
 use Rattle.search_session.proofs.Staffing.{taken_is, none_taken, taken_holds, taken_there, staffed_none, staffed_more}
@@ -76,10 +76,6 @@ loop-s-preserved g c =
     let lane : h.0 ≡ c.in-Some.lane =
     taken_is c.args.lanes.items c.loop-s.lanes.items s c.remove.result h.0 c.in-Some.lane h.1 inv.lanes
     c.remove.ensures.value c.in-Some.is in
-    let takes : TakesShard c.loop-s.hands ((length c.args.lanes.items - s) % length c.loop-s.hands) c.shard_of.result
-    c.place_shard.new.hands =
-    subst (λ (n : ℕ). TakesShard c.loop-s.hands ((n - s) % length c.loop-s.hands) c.shard_of.result
-    c.place_shard.new.hands) c.len-count.ensures.value c.place_shard.ensures in
     record {
       lanes = left_over c.args.lanes.items c.loop-s.lanes.items c.remove.new.self.items s c.remove.result near inv.lanes
           c.remove.ensures.items;
@@ -90,6 +86,6 @@ loop-s-preserved g c =
       staffed = staffed_more g.I.Inputs.told g.I.Inputs.is_open g.F.Files.is_open c.args.hdu.now
           c.args.lanes.items c.loop-s.hands c.place_shard.new.hands s
           (length c.args.hands.now) c.shard_of.result c.in-Some.lane inv.staffed
-          takes (h.1 ∙ ap (λ (l : Lane). Some (Some l)) lane) c.shard_of.ensures.new
+          c.place_shard.ensures (h.1 ∙ ap (λ (l : Lane). Some (Some l)) lane) c.shard_of.ensures.new
           c.shard_of.ensures.on;
     }

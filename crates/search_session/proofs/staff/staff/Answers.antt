@@ -92,7 +92,7 @@ returns g c =
       feeder = subst (λ (l : List H). HasFeeder told is_calm faults f l) (sym written)
           (fed_feeder told is_open files_open hdu lanes is_calm faults seen stage.recorder two three n first f all takes
           on);
-      shards = λ s near. subst (λ (l : List H). HasShard n l s) (sym written)
+      shards = λ s near. subst (λ (l : List H). HasShard l s) (sym written)
           (fed_shards told is_open files_open hdu lanes is_calm faults seen stage.recorder two three n first f all takes
           on s near);
       lanes = subst (λ (l : List H). AreOfLanes lanes l) (sym written)
