@@ -1,5 +1,6 @@
 //! What a header in the DADA form says of an observation: its numbers, or why it has none; the edges of its
-//! channels; dispersion measures; whether a later file's header belongs to it.
+//! channels; dispersion measures; whether a later file's header belongs to it. And, for its users, the settings
+//! of a search, which `search_model` has.
 #![tactic(auto)]
 
 mod fault;
@@ -13,3 +14,4 @@ pub use dada_model::Key;
 pub use fault::ObsFault;
 pub use observation::Observation;
 pub use profile::Profile;
+pub use search_model::Search;
