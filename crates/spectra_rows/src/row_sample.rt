@@ -24,10 +24,10 @@ pub trait RowSample: Copy + Drop {
         ensures { numbers rows.new
             ≡ slice_set (numbers rows.old) at (sample_at layout.nbit layout.npol bytes.now index) };
 
-    /// Writes eight bytes from a place of the rows on, each as a sample.
-    fn put_bytes(rows: &mut [Self], at: usize, values: u8x8)
-        requires wide { length values ≡ 8 }
-        requires place { at + 8 ≤ length rows.old }
+    /// Writes sixteen bytes from a place of the rows on, each as a sample.
+    fn put_bytes(rows: &mut [Self], at: usize, values: u8x16)
+        requires wide { length values ≡ 16 }
+        requires place { at + 16 ≤ length rows.old }
         ensures { numbers rows.new ≡ put_chunk at (numbers rows.old) values };
 
     // there are as many numbers as samples
@@ -45,7 +45,7 @@ impl RowSample for u32 {
     }
 
     #[inline(always)]
-    fn put_bytes(rows: &mut [u32], at: usize, values: u8x8) {
+    fn put_bytes(rows: &mut [u32], at: usize, values: u8x16) {
         values.cast::<u32>().copy_to_slice(&mut rows[at..]);
     }
 
@@ -63,7 +63,7 @@ impl RowSample for u8 {
     }
 
     #[inline(always)]
-    fn put_bytes(rows: &mut [u8], at: usize, values: u8x8) {
+    fn put_bytes(rows: &mut [u8], at: usize, values: u8x16) {
         values.copy_to_slice(&mut rows[at..]);
     }
 

@@ -22,11 +22,11 @@ fn row_of(layout: Layout, place: usize) -> usize
     }
 }
 
-// Writes the bytes of eight spectra into the row of a channel.
+// Writes the bytes of sixteen spectra into the row of a channel.
 #[inline(always)]
 fn write_values<T: RowSample>(
     rows: &mut [T],
-    values: u8x8,
+    values: u8x16,
     layout: Layout,
     place: usize,
     from: usize,
@@ -45,23 +45,7 @@ fn write_values<T: RowSample>(
     T::put_bytes(rows, at, values);
 }
 
-// Writes the bytes of two channels that stand side by side.
-#[inline(always)]
-fn write_pair<T: RowSample>(rows: &mut [T], pair: u8x16, layout: Layout, place: usize, from: usize)
-    requires place { place + 2 ≤ layout.channels }
-    requires chunk { from + SPECTRA ≤ layout.chunk }
-    requires room { layout.channels * layout.chunk + (from + SPECTRA)
-        ≤ length rows.old + layout.chunk }
-    ensures { WritesCells (T.numbers rows.old) (T.numbers rows.new)
-        (channel_place layout.channels layout.is_falling)
-        layout.channels layout.chunk place (place + 2) from (from + SPECTRA)
-        (λ p t. slice_index pair (8 * (p - place) + (t - from))) }
-{
-    write_values(rows, pair.extract::<0, 8>(), layout, place, from);
-    write_values(rows, pair.extract::<8, 8>(), layout, place + 1, from);
-}
-
-// Writes the bytes of eight spectra of sixteen channels.
+// Writes the bytes of sixteen spectra of 32 channels.
 fn write_tile<T: RowSample>(rows: &mut [T], bytes: &[u8], layout: Layout, place: usize, from: usize)
     requires place { place + CHANNELS ≤ layout.channels }
     requires chunk { from + SPECTRA ≤ layout.chunk }
@@ -74,8 +58,13 @@ fn write_tile<T: RowSample>(rows: &mut [T], bytes: &[u8], layout: Layout, place:
         (λ p t. slice_index bytes.now (t * layout.channels + p)) }
 {
     let tile = turned(bytes, from * layout.channels + place, layout.channels);
-    for pair in 0..8 {
-        write_pair(rows, tile[pair], layout, place + 2 * pair, from);
+    for lower in 0..16 {
+        let values = tile[lower].extract::<0, 16>();
+        write_values(rows, values, layout, place + lower, from);
+    }
+    for upper in 0..16 {
+        let values = tile[upper].extract::<16, 16>();
+        write_values(rows, values, layout, place + 16 + upper, from);
     }
 }
 

@@ -5,42 +5,76 @@ ghost use Rattle.spectra_rows.specs.Cells.{lane};
 use std::simd::prelude::*;
 
 /// How many channels a tile has.
-pub const CHANNELS: usize = 16;
+pub const CHANNELS: usize = 32;
 
 /// How many spectra a tile has.
-pub const SPECTRA: usize = 8;
+pub const SPECTRA: usize = 16;
 
-// Interleaves the values of the first four vectors with those of the last four.
+// Where the first eight values of each half of two vectors stand, those of the one and of the other by turns.
+const FIRST: [usize; 32] = [
+    0, 32, 1, 33, 2, 34, 3, 35, 4, 36, 5, 37, 6, 38, 7, 39, 16, 48, 17, 49, 18, 50, 19, 51, 20, 52,
+    21, 53, 22, 54, 23, 55,
+];
+
+// Where the last eight stand.
+const LAST: [usize; 32] = [
+    8, 40, 9, 41, 10, 42, 11, 43, 12, 44, 13, 45, 14, 46, 15, 47, 24, 56, 25, 57, 26, 58, 27, 59,
+    28, 60, 29, 61, 30, 62, 31, 63,
+];
+
+// Interleaves the values of the first eight vectors with those of the last eight, within each half of a vector.
 #[inline(always)]
-fn interleave_halves(tile: [u8x16; 8]) -> [u8x16; 8]
-    requires wide { (i : ℕ) → i < 8 → length (get_or tile i []) ≡ 16 }
-    ensures wide { (i : ℕ) → i < 8 → length (get_or result i []) ≡ 16 }
-    ensures turned { (k : ℕ) → k < 128 → lane result k ≡ lane tile (k / 2 + 64 * (k % 2)) }
+fn interleave_halves(tile: [u8x32; 16]) -> [u8x32; 16]
+    requires wide { (i : ℕ) → i < 16 → length (get_or tile i []) ≡ 32 }
+    ensures wide { (i : ℕ) → i < 16 → length (get_or result i []) ≡ 32 }
+    ensures turned { (h k : ℕ) → h < 2 → k < 256
+        → lane h result k ≡ lane h tile (k / 2 + 128 * (k % 2)) }
 {
-    let (a, b) = tile[0].interleave(tile[4]);
-    let (c, d) = tile[1].interleave(tile[5]);
-    let (e, f) = tile[2].interleave(tile[6]);
-    let (g, h) = tile[3].interleave(tile[7]);
-    [a, b, c, d, e, f, g, h]
+    [
+        tile[0].shuffle(tile[8], FIRST),
+        tile[0].shuffle(tile[8], LAST),
+        tile[1].shuffle(tile[9], FIRST),
+        tile[1].shuffle(tile[9], LAST),
+        tile[2].shuffle(tile[10], FIRST),
+        tile[2].shuffle(tile[10], LAST),
+        tile[3].shuffle(tile[11], FIRST),
+        tile[3].shuffle(tile[11], LAST),
+        tile[4].shuffle(tile[12], FIRST),
+        tile[4].shuffle(tile[12], LAST),
+        tile[5].shuffle(tile[13], FIRST),
+        tile[5].shuffle(tile[13], LAST),
+        tile[6].shuffle(tile[14], FIRST),
+        tile[6].shuffle(tile[14], LAST),
+        tile[7].shuffle(tile[15], FIRST),
+        tile[7].shuffle(tile[15], LAST),
+    ]
 }
 
-/// Of eight spectra, so many bytes apart, the bytes of sixteen channels: two channels to a vector.
+/// Of sixteen spectra, so many bytes apart, the bytes of 32 channels: two to a vector, one in each half.
 #[inline(always)]
-pub fn turned(bytes: &[u8], at: usize, apart: usize) -> [u8x16; 8]
-    requires { at + 7 * apart + CHANNELS ≤ length bytes.now }
-    ensures wide { (i : ℕ) → i < 8 → length (get_or result i []) ≡ 16 }
-    ensures turned { (c s : ℕ) → c < CHANNELS → s < SPECTRA
-        → lane result (8 * c + s) ≡ slice_index bytes.now (at + s * apart + c) }
+pub fn turned(bytes: &[u8], at: usize, apart: usize) -> [u8x32; 16]
+    requires { at + 15 * apart + CHANNELS ≤ length bytes.now }
+    ensures wide { (i : ℕ) → i < 16 → length (get_or result i []) ≡ 32 }
+    ensures turned { (h c s : ℕ) → h < 2 → c < 16 → s < SPECTRA
+        → lane h result (16 * c + s) ≡ slice_index bytes.now (at + s * apart + 16 * h + c) }
 {
     let spectra = [
-        u8x16::from_slice(&bytes[at..]),
-        u8x16::from_slice(&bytes[at + apart..]),
-        u8x16::from_slice(&bytes[at + 2 * apart..]),
-        u8x16::from_slice(&bytes[at + 3 * apart..]),
-        u8x16::from_slice(&bytes[at + 4 * apart..]),
-        u8x16::from_slice(&bytes[at + 5 * apart..]),
-        u8x16::from_slice(&bytes[at + 6 * apart..]),
-        u8x16::from_slice(&bytes[at + 7 * apart..]),
+        u8x32::from_slice(&bytes[at..]),
+        u8x32::from_slice(&bytes[at + apart..]),
+        u8x32::from_slice(&bytes[at + 2 * apart..]),
+        u8x32::from_slice(&bytes[at + 3 * apart..]),
+        u8x32::from_slice(&bytes[at + 4 * apart..]),
+        u8x32::from_slice(&bytes[at + 5 * apart..]),
+        u8x32::from_slice(&bytes[at + 6 * apart..]),
+        u8x32::from_slice(&bytes[at + 7 * apart..]),
+        u8x32::from_slice(&bytes[at + 8 * apart..]),
+        u8x32::from_slice(&bytes[at + 9 * apart..]),
+        u8x32::from_slice(&bytes[at + 10 * apart..]),
+        u8x32::from_slice(&bytes[at + 11 * apart..]),
+        u8x32::from_slice(&bytes[at + 12 * apart..]),
+        u8x32::from_slice(&bytes[at + 13 * apart..]),
+        u8x32::from_slice(&bytes[at + 14 * apart..]),
+        u8x32::from_slice(&bytes[at + 15 * apart..]),
     ];
-    interleave_halves(interleave_halves(interleave_halves(spectra)))
+    interleave_halves(interleave_halves(interleave_halves(interleave_halves(spectra))))
 }
