@@ -10,6 +10,7 @@ use search_session::Gate;
 use std::alloc::Global;
 use std::sync::Wait;
 use std::thread::Threads;
+use std::time::Clock;
 // Laws: they do nothing when they run, and the proofs use what they ensure.
 use dada_model::{edges_fall, headers_by_front};
 use run_stop::accepted_goes_on;
@@ -27,7 +28,7 @@ pub(crate) struct Found {
 }
 
 /// Makes and searches the observation of a number. The notes take the line of the search.
-pub(crate) fn find<E: Sink, G: Gate + Sync, R: Threads + Wait + Sync>(
+pub(crate) fn find<E: Sink, G: Gate + Sync, R: Threads + Wait + Clock + Sync>(
     rt: &R,
     alloc: Global,
     number: u64,

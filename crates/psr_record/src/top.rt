@@ -14,6 +14,7 @@ use search_words::Settings;
 use std::alloc::Global;
 use std::sync::Wait;
 use std::thread::Threads;
+use std::time::Clock;
 use whole_run::{Found, drive};
 // Laws: they do nothing when they run, and the proofs use what they ensure.
 use run_stop::{end_after_whole, end_at_stop, end_at_words, end_before_session};
@@ -34,7 +35,7 @@ pub fn run_record<
     F: Files + Send,
     E: Sink,
     G: Gate + Sync,
-    R: Threads + Wait + Sync,
+    R: Threads + Wait + Clock + Sync,
 >(
     rt: &R,
     alloc: Global,
@@ -72,14 +73,12 @@ fn stop_of(found: &Found) -> Option<Stop>
 }
 
 // The same without the notes.
-fn record_files<I: Inputs + Send, F: Files + Send, G: Gate + Sync, R: Threads + Wait + Sync>(
-    rt: &R,
-    alloc: Global,
-    words: &[String],
-    inputs: &mut I,
-    files: &mut F,
-    gate: &G,
-) -> Ended
+fn record_files<
+    I: Inputs + Send,
+    F: Files + Send,
+    G: Gate + Sync,
+    R: Threads + Wait + Clock + Sync,
+>(rt: &R, alloc: Global, words: &[String], inputs: &mut I, files: &mut F, gate: &G) -> Ended
     requires closed { ¬ F.is_open files.old }
     ensures ends { Ends (map string_bytes words.now)
         (record {

@@ -11,9 +11,10 @@ use search_session::{Gate, Ran};
 use std::alloc::Global;
 use std::sync::Wait;
 use std::thread::Threads;
+use std::time::Clock;
 
 /// Searches files in memory, as `run` does. The inputs are calm where none of their calls is to fail.
-pub fn run_in_memory<G: Gate + Sync, R: Threads + Wait + Sync>(
+pub fn run_in_memory<G: Gate + Sync, R: Threads + Wait + Clock + Sync>(
     rt: &R,
     alloc: Global,
     words: &[String],

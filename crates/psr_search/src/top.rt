@@ -14,6 +14,7 @@ use search_words::Settings;
 use std::alloc::Global;
 use std::sync::Wait;
 use std::thread::Threads;
+use std::time::Clock;
 use whole_run::drive;
 // Laws: they do nothing when they run, and the proofs use what they ensure.
 use run_stop::{end_after_whole, end_at_stop, end_at_words, end_before_session, words_say_once};
@@ -36,7 +37,7 @@ pub fn run<
     K: Sink,
     E: Sink,
     G: Gate + Sync,
-    R: Threads + Wait + Sync,
+    R: Threads + Wait + Clock + Sync,
 >(
     rt: &R,
     alloc: Global,
@@ -65,7 +66,13 @@ pub fn run<
 }
 
 // The same without the notes.
-fn search<I: Inputs + Send, F: Files + Send, K: Sink, G: Gate + Sync, R: Threads + Wait + Sync>(
+fn search<
+    I: Inputs + Send,
+    F: Files + Send,
+    K: Sink,
+    G: Gate + Sync,
+    R: Threads + Wait + Clock + Sync,
+>(
     rt: &R,
     alloc: Global,
     words: &[String],

@@ -11,7 +11,7 @@ use Rattle.search_opening.specs.Engines.{AreEnginesFor, AreLanesTo}
 module _ (s : Search) (observations : List (Option Observation)) where
   -- the engines of a lane are those of a shard
   abbrev pub IsLaneFor : ℕ → Lane → Type 0
-  IsLaneFor shard lane = AreEnginesFor s shard observations lane.engines.items
+  IsLaneFor shard lane = AreEnginesFor s shard observations lane.engines.value.items
 
   found : (shard : ℕ) (slot : Option Lane) → IsSome slot → IfSome slot (IsLaneFor shard) →
       (lane : Lane) × (slot ≡ Some lane) × IsLaneFor shard lane

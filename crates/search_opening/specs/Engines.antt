@@ -37,7 +37,7 @@ pub record AreLanesTo
   pub count : length lanes ≡ shards
   pub each : (shard : ℕ) → shard < shards →
       (lane : Lane) × HasLane lanes shard lane
-      × AreEnginesFor s shard observations lane.engines.items
+      × AreEnginesFor s shard observations lane.engines.value.items
 
 -- those of all shards
 abbrev pub AreOpenedLanes : Search → List (Option Observation) → List (Option Lane) → Type 0

@@ -70,9 +70,12 @@ fn open_lane(
     requires searched { CanBeSearched search.now observations.now }
     requires shard { shard < search.now.shards }
     ensures { IfSome result (λ lane.
-        AreEnginesFor search.now shard observations.now lane.engines.items) }
+        AreEnginesFor search.now shard observations.now lane.engines.value.items) }
 {
-    match open_engines(alloc, observations, search, shard) {
+    let Ok(engines) = open_engines(alloc, observations, search, shard) else {
+        return None;
+    };
+    match Box::new(alloc, engines) {
         Ok(engines) => Some(Lane { engines }),
         Err(_memory) => None,
     }
@@ -117,7 +120,7 @@ fn fill_lanes<R: Threads + Sync>(
     ensures count { length lanes.new ≡ length lanes.old }
     ensures lanes { (shard : ℕ) → shard < length lanes.old
         → IfSome (slice_index_or lanes.new shard None) (λ lane.
-        AreEnginesFor search.now shard observations.now lane.engines.items) }
+        AreEnginesFor search.now shard observations.now lane.engines.value.items) }
 {
     for_each_mut(
         rt,
@@ -126,7 +129,7 @@ fn fill_lanes<R: Threads + Sync>(
         &|shard: usize, lane: &mut Option<Lane>|
             requires { CanBeSearched search.now observations.now × (shard < search.now.shards) }
             ensures { IfSome lane.new (λ l.
-                AreEnginesFor search.entry.now shard observations.entry.now l.engines.items) }
+                AreEnginesFor search.entry.now shard observations.entry.now l.engines.value.items) }
         { *lane = open_lane(alloc, observations, search, shard as u32) },
     );
 }

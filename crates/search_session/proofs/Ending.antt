@@ -119,8 +119,8 @@ module _ {I F : Type 0} (hdu : Hdu) (transfers : ℕ) (lanes : List (Option Lane
     (ending : IsEnding transfers (sealed_at_end end.blocks) end.feed) (s : ℕ) (x : ShardActor)
     (number : shard_number x ≡ s) (is_end : IsEndOf end s x) (on : ShardOn hdu x) (ended : x.ended ≡ true)
     (of : IsOfLane lanes x) (lane : Lane) (at : HasLane lanes s lane)
-    (count : length lane.engines.items ≡ transfers) where
-  follow : EnginesFollow [] (shard_cleared x) lane.engines.items x.part.engines.items
+    (count : length lane.engines.value.items ≡ transfers) where
+  follow : EnginesFollow [] (shard_cleared x) lane.engines.value.items x.part.engines.value.items
   follow = of lane (subst (λ (k : ℕ). slice_get lanes k ≡ Some (Some lane)) (sym number) at)
 
   over : is_over transfers (shard_cleared x) ≡ true
@@ -135,10 +135,10 @@ module _ {I F : Type 0} (hdu : Hdu) (transfers : ℕ) (lanes : List (Option Lane
   cleared_at = is_end.cleared ∙ cleared_all
 
   pub searched : (bytes : ℕ) → end.feed ≡ Whole bytes → (transfer : ℕ) (e : EngineState) (o : Observation) →
-      HasEngine lane.engines.items transfer e → StandsForData o [] e → IsSearched end transfer s o e
+      HasEngine lane.engines.value.items transfer e → StandsForData o [] e → IsSearched end transfer s o e
   searched bytes whole transfer e o has stands =
       let f = follow.each transfer e has in
-      let near = slice_get_within lane.engines.items transfer (Some e) has in
+      let near = slice_get_within lane.engines.value.items transfer (Some e) has in
       let all = ending.all bytes whole in
       let below : nat_lt transfer (ended_transfers (sealed_at_end end.blocks)) ≡ true =
       below_true transfer (ended_transfers (sealed_at_end end.blocks)) (omega arith) in

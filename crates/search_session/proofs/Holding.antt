@@ -43,7 +43,8 @@ book_there settings list s d near =
 module _ {I F : Type 0} (transfers : ℕ) (lanes : List (Option Lane)) (end : SessionEnd I F)
     (counted : AreCounted (length lanes) transfers end.books.items end.spectra.items)
     (searched : (transfer s : ℕ) (lane : Lane) (e : EngineState) (o : Observation) → HasLane lanes s lane →
-    HasEngine lane.engines.items transfer e → StandsForData o [] e → IsSearched end transfer s o e) (settings : Search)
+    HasEngine lane.engines.value.items transfer e → StandsForData o [] e → IsSearched end transfer s o e)
+    (settings : Search)
     (o : ℕ → Observation) (found : ℕ → List ℕ) (opened : AreLanesFor settings o transfers lanes)
     (same : (k : ℕ) → k < transfers → data_through end k ≡ found k) where
   abbrev list_at : ℕ → List Candidate

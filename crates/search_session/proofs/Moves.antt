@@ -27,7 +27,7 @@ stands n x small all =
       reads = no_reads x.pass x.pass (rested_itself x.pass);
       tries = tries;
       grown = begins_itself (shard_cleared x);
-      engines = follow_still (shard_cleared x) (shard_cleared x) x.part.engines.items refl;
+      engines = follow_still (shard_cleared x) (shard_cleared x) x.part.engines.value.items refl;
     }
 
 pub shard_none : (x : ShardActor) → x.turns < 2 ^ 64 → ShardMoved 0 x x
@@ -41,7 +41,7 @@ shard_still n x small ended = stands n x small (λ running. absurd (apart (x.end
 
 -- a turn and its read
 pub shard_turned : (x y : ShardActor) → x.ended ≡ false → ReadsNext x.pass y.pass → EnginesFollow (shard_cleared x)
-    (shard_cleared y) x.part.engines.items y.part.engines.items → y.turns ≡ min greatest (x.turns + 1) →
+    (shard_cleared y) x.part.engines.value.items y.part.engines.value.items → y.turns ≡ min greatest (x.turns + 1) →
     ShardMoved 1 x y
 shard_turned x y running read engines turns = record {
   number = read_number (header_is_next x.pass) x.pass y.pass read;
@@ -79,8 +79,8 @@ shard_more n m x y z a b =
       reads = reads_more a.made b.made x.pass y.pass z.pass a.reads b.reads;
       tries = omega arith;
       grown = begins_more (shard_cleared x) (shard_cleared y) (shard_cleared z) a.grown b.grown;
-      engines = follow_more (shard_cleared x) (shard_cleared y) (shard_cleared z) x.part.engines.items
-          y.part.engines.items z.part.engines.items a.engines b.engines;
+      engines = follow_more (shard_cleared x) (shard_cleared y) (shard_cleared z) x.part.engines.value.items
+          y.part.engines.value.items z.part.engines.value.items a.engines b.engines;
     }
   where
     apart : (c : Bool) → c ≡ true → c ≡ false → ⊥

@@ -179,8 +179,8 @@ module _ {I F : Type 0} (told : I → Told) (is_open : I → Type 0) (files_open
   some_lane x n lane at new = λ other there.
       let same : lane ≡ other = inside lane other (sym at
       ∙ (ap (λ (k : ℕ). slice_get lanes k) (sym new.number_is) ∙ there)) in
-      subst (λ (l : Lane). EnginesFollow [] (shard_cleared x) l.engines.items x.part.engines.items)
-      (new.lane_is ∙ same) (follow_still [] (shard_cleared x) x.part.engines.items new.nothing)
+      subst (λ (l : Lane). EnginesFollow [] (shard_cleared x) l.engines.value.items x.part.engines.value.items)
+      (new.lane_is ∙ same) (follow_still [] (shard_cleared x) x.part.engines.value.items new.nothing)
     where
       inside : (a b : Lane) → Some (Some a) ≡ Some (Some b) → a ≡ b
       inside a b e = cc

@@ -50,7 +50,8 @@ module _ {A : Type 0} (R : A → A → Type 0) where
 of_lane_moved : (lanes : List (Option Lane)) (n : ℕ) (x y : ShardActor) → ShardMoved n x y → IsOfLane lanes x →
     IsOfLane lanes y
 of_lane_moved lanes n x y moved of = λ lane at.
-    follow_more [] (shard_cleared x) (shard_cleared y) lane.engines.items x.part.engines.items y.part.engines.items
+    follow_more [] (shard_cleared x) (shard_cleared y) lane.engines.value.items x.part.engines.value.items
+    y.part.engines.value.items
     (of lane (subst (λ (s : ℕ). slice_get lanes s ≡ Some (Some lane)) moved.number at)) moved.engines
 
 slot_of_lane : (lanes : List (Option Lane)) (n : ℕ) (a b : Option ShardActor) → SlotMoved (ShardMoved n) a b →

@@ -30,7 +30,7 @@ pub record IsDone (hdu : Hdu) (transfers s : ℕ) (x : ShardActor) : Type 0 wher
   pub number : shard_number x ≡ s
   pub on : ShardOn hdu x
   pub ended : x.ended ≡ true
-  pub count : length x.part.engines.items ≡ transfers
+  pub count : length x.part.engines.value.items ≡ transfers
 
 -- a recorder that reads by a reader with this number
 pub record ReadsLast {F : Type 0} (hdu : Hdu) (reader : ℕ) (x : RecordActor F) : Type 0 where
@@ -48,4 +48,4 @@ pub record AreDone {F : Type 0} (hdu : Hdu) (transfers : ℕ) (shards : List (Op
 -- in these hands, each shard with a number below this has so many engines
 abbrev pub HaveEnginesIn : {I F : Type 0} → List (Hand I F) → ℕ → ℕ → Type 0
 HaveEnginesIn hands shards transfers = (x : ShardActor) → IsInHand hands x →
-    shard_number x < shards → length x.part.engines.items ≡ transfers
+    shard_number x < shards → length x.part.engines.value.items ≡ transfers

@@ -43,9 +43,9 @@ CanFeedAt engines transfer bytes = (e : EngineState) × HasEngine engines transf
 
 -- the engine of a transfer can be fed a block
 abbrev pub CanFeed : Lane → ℕ → Entry → Type 0
-CanFeed lane transfer block = CanFeedAt lane.engines.items transfer block.bytes
+CanFeed lane transfer block = CanFeedAt lane.engines.value.items transfer block.bytes
 
 -- it was fed the block, and has not ended
 abbrev pub WasFedBlock : Lane → ℕ → Entry → Lane → Type 0
 WasFedBlock old transfer block new =
-    WasFedAt old.engines.items transfer block.bytes false new.engines.items
+    WasFedAt old.engines.value.items transfer block.bytes false new.engines.value.items

@@ -80,7 +80,7 @@ pub record AreLanesFor (settings : Search) (o : ℕ → Observation) (transfers 
   pub shards : length lanes ≡ settings.shards
   pub each : (s k : ℕ) → s < length lanes → k < transfers →
       (lane : Lane) × HasLane lanes s lane
-      × ((e : EngineState) × HasEngine lane.engines.items k e × IsOpenedEngine e settings s
+      × ((e : EngineState) × HasEngine lane.engines.value.items k e × IsOpenedEngine e settings s
       × StandsForData (o k) [] e)
 
 -- the books of the shards, which hold the parts of a candidate list
@@ -108,7 +108,7 @@ pub record ShardAnswers {I F : Type 0} (transfers : ℕ) (lanes : List (Option L
       (book : BookContents) × HasBook end.books.items k s book
   pub searched : (bytes : ℕ) → end.feed ≡ Whole bytes → (transfer s : ℕ) (lane : Lane)
       (e : EngineState)
-      (o : Observation) → HasLane lanes s lane → HasEngine lane.engines.items transfer e →
+      (o : Observation) → HasLane lanes s lane → HasEngine lane.engines.value.items transfer e →
       StandsForData o [] e →
       IsSearched end transfer s o e
   pub held : (settings : Search) (o : ℕ → Observation) (found : ℕ → List ℕ) (bytes : ℕ) →
@@ -122,9 +122,9 @@ pub record ShardAnswers {I F : Type 0} (transfers : ℕ) (lanes : List (Option L
 pub record IsEndOf {I F : Type 0} (end : SessionEnd I F) (s : ℕ) (x : ShardActor) : Type 0 where
   pub cleared : cleared_at_end end.blocks s ≡ shard_cleared x
   pub begins : Begins (shard_cleared x) (sealed_at_end end.blocks)
-  pub books : (k : ℕ) (e : EngineState) → HasEngine x.part.engines.items k e →
+  pub books : (k : ℕ) (e : EngineState) → HasEngine x.part.engines.value.items k e →
       HasBook end.books.items k s e.book
-  pub spectra : s ≡ 0 → (k : ℕ) (e : EngineState) → HasEngine x.part.engines.items k e →
+  pub spectra : s ≡ 0 → (k : ℕ) (e : EngineState) → HasEngine x.part.engines.value.items k e →
       slice_get end.spectra.items k ≡ Some e.sums.carry.fed
 
 -- what is known of a recorder that stood in a hand, where these are the headers that were sealed

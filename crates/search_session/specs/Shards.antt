@@ -113,8 +113,8 @@ pub record ShardOn (hdu : Hdu) (x : ShardActor) : Type 0 where
   pub header_room : 65537 ≤ vec_len x.space
   pub few : (data_shape hdu).max_blocks * (data_shape hdu).size ≤ most_fed
   pub done : x.done ≡ ended_transfers (shard_cleared x)
-  pub over : x.ended ≡ is_over (length x.part.engines.items) (shard_cleared x)
-  pub engines : AreEnginesAt (data_shape hdu).size (shard_cleared x) x.part.engines.items
+  pub over : x.ended ≡ is_over (length x.part.engines.value.items) (shard_cleared x)
+  pub engines : AreEnginesAt (data_shape hdu).size (shard_cleared x) x.part.engines.value.items
   pub count : x.turns < 2 ^ 64
 
 -- its engines stand as they stood
@@ -129,7 +129,7 @@ pub record ShardStepped (x y : ShardActor) : Type 0 where
   pub read : ReadsNext x.pass y.pass
   pub idle : shard_cleared y ≡ shard_cleared x → KeepsEngines x y
   pub engines : EnginesFollow (shard_cleared x)
-      (shard_cleared y) x.part.engines.items y.part.engines.items
+      (shard_cleared y) x.part.engines.value.items y.part.engines.value.items
 
 -- n turns of a shard, or fewer where it ended: each made one read
 pub record ShardMoved (n : ℕ) (x y : ShardActor) : Type 0 where
@@ -144,4 +144,4 @@ pub record ShardMoved (n : ℕ) (x y : ShardActor) : Type 0 where
   pub tries : tries_of y.pass ≡ tries_of x.pass + made
   pub grown : Begins (shard_cleared x) (shard_cleared y)
   pub engines : EnginesFollow (shard_cleared x)
-      (shard_cleared y) x.part.engines.items y.part.engines.items
+      (shard_cleared y) x.part.engines.value.items y.part.engines.value.items

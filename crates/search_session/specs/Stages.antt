@@ -41,9 +41,9 @@ IsFirstReader hdu number readers =
 
 -- an engine for each transfer, which was fed nothing
 pub record IsUnfed (transfers : ℕ) (lane : Lane) : Type 0 where
-  pub count : length lane.engines.items ≡ transfers
+  pub count : length lane.engines.value.items ≡ transfers
   pub each : (k : ℕ) → k < transfers →
-      (e : EngineState) × HasEngine lane.engines.items k e × (e.fed ≡ 0) × (e.has_ended ≡ false)
+      (e : EngineState) × HasEngine lane.engines.value.items k e × (e.fed ≡ 0) × (e.has_ended ≡ false)
 
 -- a recorder of blocks of these rings, which has recorded nothing
 pub record IsFreshRecorder {F : Type 0} (files_open : F → Type 0) (hdu : Hdu) (r : Recorder F) :
@@ -131,7 +131,7 @@ pub record HasRecorder {I F : Type 0} (seen : F → FilesSeen) (start : RecordAc
 -- a shard's engines are those of its lane, and were fed what it cleared
 abbrev pub IsOfLane : List (Option Lane) → ShardActor → Type 0
 IsOfLane lanes x = (lane : Lane) → slice_get lanes (shard_number x) ≡ Some (Some lane) →
-    EnginesFollow [] (shard_cleared x) lane.engines.items x.part.engines.items
+    EnginesFollow [] (shard_cleared x) lane.engines.value.items x.part.engines.value.items
 
 abbrev pub AreOfLanes : {I F : Type 0} → List (Option Lane) → List (Hand I F) → Type 0
 AreOfLanes lanes hands = All (λ h. All (λ slot. IfSome slot (IsOfLane lanes)) h.shards.items) hands

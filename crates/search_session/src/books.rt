@@ -58,7 +58,8 @@ pub(crate) fn spectra_of(lanes: &[Option<Lane>]) -> ArrayVec<u64, 8>
     ensures count { (transfers : ℕ) → HaveEngines transfers lanes.now
         → length result.items ≡ transfers_searched (length lanes.now) transfers }
     ensures each { (k : ℕ) (lane : Engines) (e : EngineState) → HasLane lanes.now 0 lane
-        → HasEngine lane.engines.items k e → slice_get result.items k ≡ Some e.sums.carry.fed }
+        → HasEngine lane.engines.value.items k e
+        → slice_get result.items k ≡ Some e.sums.carry.fed }
 {
     let mut spectra = ArrayVec::new();
     let Some(Some(lane)) = lanes.first() else {
@@ -70,15 +71,23 @@ pub(crate) fn spectra_of(lanes: &[Option<Lane>]) -> ArrayVec<u64, 8>
     spectra
 }
 
-// The first engine of a lane, which leaves it.
-fn first_of(lane: &mut Lane) -> Option<Engine>
-    ensures { (slot : _) (rest : _) → lane.old.engines.items ≡ slot ∷ rest
-        → (result ≡ slot) × (lane.new.engines.items ≡ rest) }
+// The first engine, which leaves its list.
+fn first_in(engines: &mut ArrayVec<Option<Engine>, 8>) -> Option<Engine>
+    ensures { (slot : _) (rest : _) → engines.old.items ≡ slot ∷ rest
+        → (result ≡ slot) × (engines.new.items ≡ rest) }
 {
-    match lane.engines.pop_at(0) {
+    match engines.pop_at(0) {
         Some(slot) => slot,
         None => None,
     }
+}
+
+// The first engine of a lane, which leaves it.
+fn first_of(lane: &mut Lane) -> Option<Engine>
+    ensures { (slot : _) (rest : _) → lane.old.engines.value.items ≡ slot ∷ rest
+        → (result ≡ slot) × (lane.new.engines.value.items ≡ rest) }
+{
+    first_in(&mut lane.engines)
 }
 
 // The book of an engine.
@@ -118,7 +127,7 @@ fn transfers_of(lanes: &[Option<Lane>]) -> usize
         → result ≡ transfers_searched (length lanes.now) transfers }
 {
     match lanes.first() {
-        Some(Some(lane)) => lane.engines.len(),
+        Some(Some(lane)) => lane.count(),
         _ => 0,
     }
 }

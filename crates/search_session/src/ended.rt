@@ -120,7 +120,7 @@ pub(crate) fn finish<'a, I: Inputs, F: Files>(
         → AreCounted (length shards.items) transfers result.books.items result.spectra.items }
     ensures books { HasBooks (lanes_of shards.items) result.books.items }
     ensures spectra { (k : ℕ) (x : Shard) (e : EngineState)
-        → slice_get shards.items 0 ≡ Some (Some x) → HasEngine x.part.engines.items k e
+        → slice_get shards.items 0 ≡ Some (Some x) → HasEngine x.part.engines.value.items k e
         → slice_get result.spectra.items k ≡ Some e.sums.carry.fed }
     ensures recorder { (x : Recording F) → recorder.entry ≡ Some x
         → IsEndOfRecorder result (length shards.items) (sealed_headers feeder.entry.pass) x }

@@ -12,6 +12,7 @@ use crate::waiting::Watch;
 use arrayvec::ArrayVec;
 use dada_hdu::Hdu;
 use psr_base::{Files, Inputs};
+use std::time::{Clock, Duration};
 use std::{mem, thread};
 
 /// The number by which a gate knows the feeder; shard s is actor s + 1.
@@ -20,10 +21,26 @@ const FEEDER: u32 = 0;
 /// The number by which a gate knows the recorder.
 const RECORDER: u32 = 8;
 
-/// How often a hand looks for a block or for room, unless it finds before that all hands wait in vain. Each look lets
-/// other threads run, and takes about half a microsecond where none wants to: together they are longer than a turn of a
-/// shard should be.
-const LOOKS: u32 = 1_000_000;
+/// How often a hand looks for a block or for room, unless it finds before that all hands wait in vain: together its
+/// looks are longer than a turn of a shard should be.
+const LOOKS: u32 = 100_000;
+
+/// After so many looks a hand sleeps before each further one. Until then a look lets other threads run, and takes about
+/// half a microsecond where none wants to.
+const WAKING_LOOKS: u32 = 64;
+
+/// How many microseconds a hand sleeps then. With the system's slack this is less than a shard takes for a block of
+/// half a million bytes, so that a ring of a few blocks neither fills nor runs empty meanwhile.
+const NAP: u64 = 20;
+
+// Rests before a look of a hand that waits.
+fn rest<C: Clock>(clock: &C, look: u32) {
+    if look < WAKING_LOOKS {
+        thread::yield_now();
+    } else {
+        thread::sleep(clock, Duration::from_micros(NAP));
+    }
+}
 
 /// The actors that one thread drives. Each shard is `Some`.
 #[derive(Drop)]
@@ -199,13 +216,14 @@ impl<'a, I: Inputs, F: Files> Hand<'a, I, F> {
 
     // So many turns of each actor, fewer of one that ends. Before each but the first it waits for what others are about
     // to seal or to clear, until it waited in vain. The hand stands at this place of its round.
-    pub(crate) fn drive<G: Gate>(
+    pub(crate) fn drive<G: Gate, C: Clock>(
         &mut self,
         hdu: &Hdu,
         turns: u32,
         gate: &G,
         place: usize,
         watch: &Watch,
+        clock: &C,
     )
         requires { HandOn I.told I.is_open F.is_open hdu.now self.old }
         ensures on { HandOn I.told I.is_open F.is_open hdu.now self.new }
@@ -214,7 +232,7 @@ impl<'a, I: Inputs, F: Files> Hand<'a, I, F> {
         let mut waits = true;
         for turn in 0..turns {
             if waits && turn > 0 {
-                waits = self.has_ended() || self.waits_for_work(hdu, place, watch);
+                waits = self.has_ended() || self.waits_for_work(hdu, place, watch, clock);
             }
             self.turn(hdu, gate);
         }
@@ -231,25 +249,25 @@ impl<'a, I: Inputs, F: Files> Hand<'a, I, F> {
     }
 
     // Waits until an actor could move, unless all hands wait in vain. It answers whether an actor could move.
-    fn waits_for_work(&self, hdu: &Hdu, place: usize, watch: &Watch) -> bool
+    fn waits_for_work<C: Clock>(&self, hdu: &Hdu, place: usize, watch: &Watch, clock: &C) -> bool
         requires { HandOn I.told I.is_open F.is_open hdu.now self.now }
     {
         if self.could_move(hdu) {
             return true;
         }
         watch.leave();
-        let found = self.looks_for_work(hdu, place, watch);
+        let found = self.looks_for_work(hdu, place, watch, clock);
         watch.come_back();
         found
     }
 
     // The looks of a hand that is not at work.
-    fn looks_for_work(&self, hdu: &Hdu, place: usize, watch: &Watch) -> bool
+    fn looks_for_work<C: Clock>(&self, hdu: &Hdu, place: usize, watch: &Watch, clock: &C) -> bool
         requires { HandOn I.told I.is_open F.is_open hdu.now self.now }
     {
         let mut note = None;
-        for _look in 0..LOOKS {
-            thread::yield_now();
+        for look in 0..LOOKS {
+            rest(clock, look);
             if self.could_move(hdu) {
                 return true;
             }

@@ -8,10 +8,11 @@ use arrayvec::ArrayVec;
 use dada_hdu::{BlockTaker, Mark};
 use search_engine::Engine;
 
-/// The engines of a shard, one for each transfer in order. Each is `Some`.
+/// The engines of a shard, one for each transfer in order. Each is `Some`. They lie on the heap, so that a lane is moved
+/// as one pointer.
 #[derive(Drop)]
 pub struct Lane {
-    pub engines: ArrayVec<Option<Engine>, 8>,
+    pub engines: Box<ArrayVec<Option<Engine>, 8>>,
 }
 
 // Feeds the engine of a slot, and ends it after the last bytes.
@@ -46,21 +47,42 @@ fn ends_transfer(mark: Mark) -> bool
     }
 }
 
+// Feeds the engine of a transfer, and ends it after the last bytes.
+fn feed_list(
+    engines: &mut ArrayVec<Option<Engine>, 8>,
+    transfer: usize,
+    bytes: &[u8],
+    is_last: bool,
+)
+    requires { CanFeedAt engines.old.items transfer bytes.now }
+    ensures { WasFedAt engines.old.items transfer bytes.now is_last engines.new.items }
+{
+    feed_engine(engines.as_mut_slice(), transfer, bytes, is_last);
+}
+
 impl Lane {
     // Feeds the engine of a transfer, and ends it after the last bytes.
     fn feed(&mut self, transfer: usize, bytes: &[u8], is_last: bool)
-        requires { CanFeedAt self.old.engines.items transfer bytes.now }
-        ensures { WasFedAt self.old.engines.items transfer bytes.now is_last
-            self.new.engines.items }
+        requires { CanFeedAt self.old.engines.value.items transfer bytes.now }
+        ensures { WasFedAt self.old.engines.value.items transfer bytes.now is_last
+            self.new.engines.value.items }
     {
-        feed_engine(self.engines.as_mut_slice(), transfer, bytes, is_last);
+        feed_list(&mut self.engines, transfer, bytes, is_last);
+    }
+
+    /// How many engines there are.
+    pub(crate) fn count(&self) -> usize
+        ensures count { result ≡ length self.now.engines.value.items }
+        ensures most { result ≤ 8 }
+    {
+        self.engines.len()
     }
 
     /// Ends the engine of a transfer where the block with this mark, which it was fed, is the transfer's last.
     pub(crate) fn end_after(&mut self, transfer: usize, mark: Mark)
-        requires { CanFeedAt self.old.engines.items transfer [] }
-        ensures { WasFedAt self.old.engines.items transfer [] (is_end mark)
-            self.new.engines.items }
+        requires { CanFeedAt self.old.engines.value.items transfer [] }
+        ensures { WasFedAt self.old.engines.value.items transfer [] (is_end mark)
+            self.new.engines.value.items }
     {
         self.feed(transfer, &[], ends_transfer(mark));
     }

@@ -8,12 +8,13 @@ use crate::waiting::Watch;
 use dada_hdu::Hdu;
 use psr_base::{Files, Inputs};
 use std::thread::{Threads, for_each_mut};
+use std::time::Clock;
 
 /// Drives each hand in a thread of its own: each of its actors takes so many turns, fewer only where it ends. No turn
 /// waits. Between its turns a hand none of whose actors could move waits until one could, until it is found that all
-/// hands wait for each other, or until it has looked a million times; after a wait in vain it waits no more in that
-/// round. A hand that has ended does not wait.
-pub fn round<'a, I: Inputs + Send, F: Files + Send, G: Gate + Sync, R: Threads + Sync>(
+/// hands wait for each other, or until it has looked a hundred thousand times; after a wait in vain it waits no more in
+/// that round. A hand that has waited for some looks sleeps between the further ones. One that has ended does not wait.
+pub fn round<'a, I: Inputs + Send, F: Files + Send, G: Gate + Sync, R: Threads + Clock + Sync>(
     rt: &R,
     hands: &mut [Hand<'a, I, F>],
     hdu: &Hdu,
@@ -35,7 +36,7 @@ pub fn round<'a, I: Inputs + Send, F: Files + Send, G: Gate + Sync, R: Threads +
             requires { HandOn I.told I.is_open F.is_open hdu.now hand.old }
             ensures { HandOn I.told I.is_open F.is_open hdu.entry.now hand.new
                 × HandMoved I.told I.is_calm I.faults F.seen turns hand.old hand.new }
-        { hand.drive(hdu, turns, gate, place, &watch) },
+        { hand.drive(hdu, turns, gate, place, &watch, rt) },
     );
 }
 
@@ -56,7 +57,7 @@ pub(crate) fn round_and_retire<
     I: Inputs + Send,
     F: Files + Send,
     G: Gate + Sync,
-    R: Threads + Sync,
+    R: Threads + Clock + Sync,
 >(rt: &R, hands: &mut [Hand<'_, I, F>], hdu: &Hdu, turns: u32, gate: &G)
     requires { All (HandOn I.told I.is_open F.is_open hdu.now) hands.old }
     ensures on { All (HandOn I.told I.is_open F.is_open hdu.now) hands.new }

@@ -28,6 +28,7 @@ use dada_hdu::Hdu;
 use psr_base::{Files, Inputs};
 use std::sync::Wait;
 use std::thread::Threads;
+use std::time::Clock;
 // Laws: they do nothing when they run, and the proofs use what they ensure.
 use dada_recorder::recordings_end;
 use disk_feeder::{feeders_end, headers_are_first};
@@ -67,7 +68,7 @@ fn next_round(turns: u32) -> u32
 }
 
 // Rounds until all actors have ended, the first of so many turns. After each the writer is freed of those that ended.
-fn run_rounds<I: Inputs + Send, F: Files + Send, G: Gate + Sync, R: Threads + Wait + Sync>(
+fn run_rounds<I: Inputs + Send, F: Files + Send, G: Gate + Sync, R: Threads + Wait + Clock + Sync>(
     rt: &R,
     hands: &mut [Hand<'_, I, F>],
     hdu: &Hdu,
@@ -132,12 +133,13 @@ fn end_session<'a, I: Inputs, F: Files>(
 /// each later one eight times as many as the one before it, until one has 32768 or more; no clause of this call says
 /// how many, since no result rests on it. After each the writer is freed of the shards that ended, and of the recorder
 /// where it ended.
-pub fn run_session<'a, I: Inputs + Send, F: Files + Send, G: Gate + Sync, R: Threads + Wait + Sync>(
-    rt: &R,
-    stage: Stage<'a, I, F>,
-    turns: u32,
-    gate: &G,
-) -> SessionEnd<'a, I, F>
+pub fn run_session<
+    'a,
+    I: Inputs + Send,
+    F: Files + Send,
+    G: Gate + Sync,
+    R: Threads + Wait + Clock + Sync,
+>(rt: &R, stage: Stage<'a, I, F>, turns: u32, gate: &G) -> SessionEnd<'a, I, F>
     requires stage { StageOn I.told I.is_open F.is_open stage }
     requires faultless { FeederFaultless stage.feeder }
     ensures feed { FeedAnswers I.told I.is_calm I.faults stage.entry.feeder result }

@@ -91,7 +91,7 @@ impl ShardActor {
     {
         ends_are_counted();
         entries_are_of_transfers();
-        let transfers = self.part.engines.len();
+        let transfers = self.part.count();
         let transfer = self.done as usize;
         let HduEnded::Here(reader) = &mut self.pass else {
             unreachable!()

@@ -8,6 +8,7 @@ use std::process::Abort;
 use std::sync::Wait;
 use std::test::Fail;
 use std::thread::Threads;
+use std::time::Clock;
 
 /// A run on each line: the words after those of the whole table; the numbers of the calls that fail, and how much room
 /// there is, where it is little; the status; the output and the line on the notes, with `;` for the end of a line; the
@@ -155,7 +156,7 @@ fn calls_of(inputs: &mut MemInputs) -> u64 {
     0
 }
 
-fn check<R: Threads + Wait + Sync + Abort>(
+fn check<R: Threads + Wait + Clock + Sync + Abort>(
     rt: &R,
     alloc: Global,
     table: &Table,
@@ -187,7 +188,7 @@ fn check<R: Threads + Wait + Sync + Abort>(
 }
 
 /// Runs the lines of the tables, each of which must end as it says.
-pub(crate) fn check_all<R: Threads + Wait + Sync + Abort>(
+pub(crate) fn check_all<R: Threads + Wait + Clock + Sync + Abort>(
     rt: &R,
     alloc: Global,
     tables: &[Table],

@@ -7,6 +7,7 @@ use std::alloc::Global;
 use std::sync::Wait;
 use std::test::Fail;
 use std::thread::Threads;
+use std::time::Clock;
 
 /// Which program runs.
 #[derive(Clone, Copy)]
@@ -78,7 +79,7 @@ fn text_of(alloc: Global, sink: &MemSink) -> Result<String, Fail> {
 }
 
 /// Runs a program with these words over these inputs; a gate is told of each turn.
-pub(crate) fn run_past<G: Gate + Sync, R: Threads + Wait + Sync>(
+pub(crate) fn run_past<G: Gate + Sync, R: Threads + Wait + Clock + Sync>(
     rt: &R,
     alloc: Global,
     program: Program,

@@ -16,6 +16,7 @@ use std::alloc::Global;
 use std::sync::Wait;
 use std::test::Fail;
 use std::thread::Threads;
+use std::time::Clock;
 
 const PULSES: &str = "--mean 1 --sd 2 --snr 7 --max-delay 1 --widths 1";
 
@@ -34,7 +35,7 @@ fn recordings_end_as_their_words_and_files_say(rt: HostRuntime) -> Result<(), Fa
 }
 
 // Whether two actors of a run meet, each of whom waits for the other.
-fn do_meet<R: Threads + Wait + Sync>(
+fn do_meet<R: Threads + Wait + Clock + Sync>(
     rt: &R,
     alloc: Global,
     program: Program,
@@ -76,7 +77,7 @@ fn hands_run_beside_each_other(rt: HostRuntime) -> Result<(), Fail> {
 // ---- files that were made are read again
 
 // Runs a program over these inputs, with enough room for large observations.
-fn run_over<R: Threads + Wait + Sync>(
+fn run_over<R: Threads + Wait + Clock + Sync>(
     rt: &R,
     alloc: Global,
     program: Program,
@@ -102,7 +103,7 @@ fn feed_back(alloc: Global, made: &MemFiles, inputs: &mut MemInputs) -> Result<(
 }
 
 // The text of a search of what a recording makes.
-fn text_of_recorded<R: Threads + Wait + Sync>(
+fn text_of_recorded<R: Threads + Wait + Clock + Sync>(
     rt: &R,
     alloc: Global,
     recording: &str,
@@ -168,7 +169,7 @@ fn has_sizes(made: &MemFiles, sizes: &[usize]) -> bool {
 }
 
 // Whether a search of these words ends so, with this text.
-fn searches_so<R: Threads + Wait + Sync>(
+fn searches_so<R: Threads + Wait + Clock + Sync>(
     rt: &R,
     alloc: Global,
     words: &str,
@@ -183,7 +184,7 @@ fn searches_so<R: Threads + Wait + Sync>(
 }
 
 // The text of the observation that is recorded in three files, which are put back into the inputs.
-fn text_of_observation<R: Threads + Wait + Sync>(
+fn text_of_observation<R: Threads + Wait + Clock + Sync>(
     rt: &R,
     alloc: Global,
     inputs: &mut MemInputs,

@@ -27,7 +27,7 @@ use Rattle.whole_run.proofs.Recorded.{as_many, observation_at_place}
 -- ---- lanes
 
 unfed_lane : (s : SettingsSeen) (shard : ℕ) (headers : List _) (observations : List (Option Observation)) (lane : Lane)
-    (n : ℕ) → AreObserved headers observations → AreEnginesFor s.search shard observations lane.engines.items →
+    (n : ℕ) → AreObserved headers observations → AreEnginesFor s.search shard observations lane.engines.value.items →
     length observations ≡ n → IsUnfed n lane
 unfed_lane s shard headers observations lane n observed engines count = record {
   count = engines.count ∙ count;

@@ -22,11 +22,12 @@ use search_words::Settings;
 use std::alloc::Global;
 use std::sync::Wait;
 use std::thread::Threads;
+use std::time::Clock;
 // A law: it does nothing when it runs, and the proofs use what it ensures.
 use run_stop::words_say_once;
 
 // The same with all that is borrowed in one lifetime. `offsets` will hold where the data of each transfer begin.
-fn within<'a, I: Inputs + Send, F: Files + Send, G: Gate + Sync, R: Threads + Wait + Sync>(
+fn within<'a, I: Inputs + Send, F: Files + Send, G: Gate + Sync, R: Threads + Wait + Clock + Sync>(
     rt: &R,
     alloc: Global,
     searches: bool,
@@ -109,7 +110,7 @@ fn within<'a, I: Inputs + Send, F: Files + Send, G: Gate + Sync, R: Threads + Wa
 /// else records them alone, which the settings then ask for. At `Ok` the session went to its end; its `feed` says
 /// whether all data were read. At `Err` the run stopped before its session (a first header, a search or a recording is
 /// refused, the inputs failed, or there was no memory), and no file was made. It may not end.
-pub fn drive<I: Inputs + Send, F: Files + Send, G: Gate + Sync, R: Threads + Wait + Sync>(
+pub fn drive<I: Inputs + Send, F: Files + Send, G: Gate + Sync, R: Threads + Wait + Clock + Sync>(
     rt: &R,
     alloc: Global,
     searches: bool,

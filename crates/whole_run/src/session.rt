@@ -23,6 +23,7 @@ use search_opening::StageSpace;
 use search_session::{Gate, SessionEnd, run_session};
 use std::sync::Wait;
 use std::thread::Threads;
+use std::time::Clock;
 // Laws: they do nothing when they run, and the proofs use what they ensure.
 use run_stop::runs_record_blocks;
 use transfer_text::totals_are_counted;
@@ -99,7 +100,13 @@ fn found_without<'a, I, F>(
 }
 
 // Drives a session with a recorder.
-fn with_recorder<'a, I: Inputs + Send, F: Files + Send, G: Gate + Sync, R: Threads + Wait + Sync>(
+fn with_recorder<
+    'a,
+    I: Inputs + Send,
+    F: Files + Send,
+    G: Gate + Sync,
+    R: Threads + Wait + Clock + Sync,
+>(
     rt: &R,
     turns: u32,
     observations: ArrayVec<Option<Observation>, 8>,
@@ -137,7 +144,7 @@ fn without_recorder<
     I: Inputs + Send,
     F: Files + Send,
     G: Gate + Sync,
-    R: Threads + Wait + Sync,
+    R: Threads + Wait + Clock + Sync,
 >(
     rt: &R,
     turns: u32,
@@ -173,7 +180,7 @@ pub(crate) fn go_on<
     I: Inputs + Send,
     F: Files + Send,
     G: Gate + Sync,
-    R: Threads + Wait + Sync,
+    R: Threads + Wait + Clock + Sync,
 >(
     rt: &R,
     turns: u32,

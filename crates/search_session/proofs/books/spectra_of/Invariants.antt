@@ -6,6 +6,6 @@ use Rattle.search_session.proofs.books.spectra_of.Given as goal
 abbrev pub invariant-loop-k : goal.invariant-loop-k
 invariant-loop-k l = record {
   count : length l.spectra.items ≡ l.k;
-  done : (k : ℕ) (e : EngineState) → k < l.k → HasEngine l.lane.engines.items k e →
+  done : (k : ℕ) (e : EngineState) → k < l.k → HasEngine l.lane.engines.value.items k e →
       slice_get l.spectra.items k ≡ Some e.sums.carry.fed;
 }

@@ -6,5 +6,5 @@ use Rattle.search_session.proofs.books.take_first.Goals as goal
 pub returns : goal.returns
 returns c = λ lane slot rest is engines.
     let same : c.in-Some.lane ≡ lane = cc in
-    let first = c.first_of.ensures slot rest (ap (λ (l : Lane). l.engines.items) same ∙ engines) in
+    let first = c.first_of.ensures slot rest (ap (λ (l : Lane). l.engines.value.items) same ∙ engines) in
     (c.book_of.ensures ∙ ap book_at first.0, (_, refl, first.1))

@@ -15,6 +15,14 @@ loop-s-init g c = record {
       c.args.hands.now c.requires.empty;
 }
 
+pub unreachable-requires : goal.unreachable-requires
+unreachable-requires g c =
+    let s = c.loop-s.s in
+    let near : s < length c.args.lanes.items = omega arith in
+    let h = c.requires.parts.1.unfed s near in
+    none_taken c.args.lanes.items c.loop-s.lanes.items s c.remove.result h.0 h.1 c.loop-s.invariant.lanes
+    c.remove.ensures.value c.in_default.is
+
 pub unreachable-requires-in_default-remove : goal.unreachable-requires-in_default-remove
 unreachable-requires-in_default-remove g c =
     let s = c.loop-s.s in

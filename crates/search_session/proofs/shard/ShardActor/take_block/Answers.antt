@@ -32,7 +32,7 @@ end_after-requires c =
     let hdu = c.args.hdu.now in
     let x = c.args.self.now in
     let b = c.in-Some.ensures.block in
-    can_end x.part.engines.items c.feed_block.new.lane.engines.items x.done b.0.bytes
+    can_end x.part.engines.value.items c.feed_block.new.lane.engines.value.items x.done b.0.bytes
     (takes_block hdu x (length b.0.bytes) c.requires.on c.requires.running b.1.fits
     (within_was x c.in-Here.reader (data_shape hdu).max_blocks c.in-Here.is b.1.within)) b.1.fed
 
@@ -51,18 +51,18 @@ returns c =
     let cleared : HasCleared c.in-Here.reader c.clear.new.pass block =
     has_cleared c.in-Here.reader c.feed_block.new.reader c.clear.new.pass block c.clear.result c.in-Some.ensures.tried
     c.in-Some.ensures.header b.1.got c.clear.ensures.blocks c.clear.ensures.header in
-    let lanes = c.end_after.new.self.engines.items in
-    let fed = ended_at x.part.engines.items lanes x.done block.bytes c.in-Some.taken.mark block.mark b.1.mark
-    (fed_then_ended x.part.engines.items c.feed_block.new.lane.engines.items lanes x.done block.bytes
+    let lanes = c.end_after.new.self.engines.value.items in
+    let fed = ended_at x.part.engines.value.items lanes x.done block.bytes c.in-Some.taken.mark block.mark b.1.mark
+    (fed_then_ended x.part.engines.value.items c.feed_block.new.lane.engines.value.items lanes x.done block.bytes
     (is_end c.in-Some.taken.mark) b.1.fed c.end_after.ensures) in
     let done : x.done + c.ended_with.result ≡ x.done + (if is_end block.mark then 1 else 0) =
     ap (λ (n : ℕ). x.done + n) (c.ended_with.ensures ∙ ap (λ (m : Mark). if is_end m then 1 else 0) b.1.mark) in
     record {
       on = on_fed hdu x _ c.in-Here.reader c.clear.new.pass c.in-Here.is refl c.ends_are_counted.ensures
           c.entries_are_of_transfers.ensures block cleared.more b.1.fits c.requires.on fed c.clear.ensures.ring refl
-          refl c.requires.running done (ended_as c.ends_stream-self.result c.len-transfers.result
+          refl c.requires.running done (ended_as c.ends_stream-self.result c.count-transfers.result
           (length lanes) (x.done + c.ended_with.result) c.in-Some.taken.mark block.mark
-          c.ends_stream-self.ensures (c.len-transfers.ensures.value ∙ sym fed.count) b.1.mark);
+          c.ends_stream-self.ensures (c.count-transfers.ensures.count ∙ sym fed.count) b.1.mark);
       stepped = stepped_fed hdu x _ c.in-Here.reader c.clear.new.pass c.in-Here.is refl c.ends_are_counted.ensures
           c.entries_are_of_transfers.ensures block cleared.more b.1.fits c.requires.on fed false c.requires.next
           cleared.read refl;
