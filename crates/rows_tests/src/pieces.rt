@@ -8,16 +8,18 @@ use std::alloc::{AllocError, Global};
 // spectra of a chunk, and what the rows are made of.
 const SHAPES: &str = "37 falling 8 1 20 words
 37 rising 8 1 3 words
-18 rising 8 1 20 words
+70 rising 8 1 37 words
+64 falling 8 1 32 words
 2 rising 8 1 50 words
 3 falling 16 1 7 words
 5 rising 8 2 4 words
 4 falling 16 2 9 words
 37 falling 8 1 20 bytes
 37 rising 8 1 3 bytes
-18 rising 8 1 20 bytes
-16 falling 8 1 8 bytes
-48 rising 8 1 17 bytes
+70 rising 8 1 37 bytes
+64 falling 8 1 33 bytes
+32 falling 8 1 16 bytes
+33 rising 8 1 50 bytes
 2 falling 8 1 50 bytes
 2 rising 8 1 1 bytes";
 
@@ -153,13 +155,13 @@ fn are_rows(unpacker: &Unpacker, shape: Shape, bytes: &[u8], gone: usize) -> boo
     true
 }
 
-// Pushes pieces of 1, 2, 3 and more bytes, and takes what is whole now and then: whether the rows are right after each.
+// Pushes pieces of up to 2800 bytes, and takes what is whole now and then: whether the rows are right after each.
 fn are_unpacked(unpacker: &mut Unpacker, shape: Shape, bytes: &[u8]) -> bool {
     let mut start = 0_usize;
     let mut gone = 0_usize;
     for turn in 1..400_usize {
         let rest = bytes.get(start..).unwrap_or(&[]);
-        let piece = rest.get(..turn * 7 % 311).unwrap_or(rest);
+        let piece = rest.get(..turn * 37 % 2801).unwrap_or(rest);
         start = start.wrapping_add(unpacker.push(piece));
         if !are_rows(unpacker, shape, bytes, gone) {
             return false;
@@ -185,7 +187,7 @@ fn is_met(alloc: Global, line: &str, bytes: &[u8]) -> bool {
 
 #[test]
 fn pieces_are_cut_anywhere(rt: HostRuntime) -> Result<(), AllocError> {
-    let bytes = bytes_of(rt.alloc(), 9000)?;
+    let bytes = bytes_of(rt.alloc(), 60000)?;
     for line in SHAPES.lines() {
         assert!(rt; is_met(rt.alloc(), line, bytes.as_slice()), "{line}");
     }

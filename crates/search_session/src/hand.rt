@@ -26,11 +26,11 @@ const RECORDER: u32 = 8;
 const LOOKS: u32 = 100_000;
 
 /// After so many looks a hand sleeps before each further one. Until then a look lets other threads run, and takes about
-/// half a microsecond where none wants to.
-const WAKING_LOOKS: u32 = 64;
+/// half a microsecond where none wants to: together longer than a shard takes for a block of half a million bytes, so
+/// that only hands that wait for more than each other sleep.
+const WAKING_LOOKS: u32 = 1000;
 
-/// How many microseconds a hand sleeps then. With the system's slack this is less than a shard takes for a block of
-/// half a million bytes, so that a ring of a few blocks neither fills nor runs empty meanwhile.
+/// How many microseconds a hand sleeps then: with the system's slack a fifth of the time that it waited before.
 const NAP: u64 = 20;
 
 // Rests before a look of a hand that waits.
