@@ -65,7 +65,7 @@ pub(crate) fn spectra_of(lanes: &[Option<Lane>]) -> ArrayVec<u64, 8>
     let Some(Some(lane)) = lanes.first() else {
         return spectra;
     };
-    for k in 0..lane.engines.len() {
+    for k in 0..lane.count() {
         spectra.push(spectra_at(&lane.engines.as_slice()[k]));
     }
     spectra

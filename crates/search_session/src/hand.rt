@@ -22,20 +22,21 @@ const FEEDER: u32 = 0;
 const RECORDER: u32 = 8;
 
 /// How often a hand looks for a block or for room, unless it finds before that all hands wait in vain: together its
-/// looks are longer than a turn of a shard should be.
+/// looks take longer than a turn of a shard should.
 const LOOKS: u32 = 100_000;
 
 /// After so many looks a hand sleeps before each further one. Until then a look lets other threads run, and takes about
-/// half a microsecond where none wants to: together longer than a shard takes for a block of half a million bytes, so
-/// that only hands that wait for more than each other sleep.
-const WAKING_LOOKS: u32 = 1000;
+/// half a microsecond where none wants to: together longer than one of four shards took for a block of half a million
+/// bytes. So hands that wait for each other seldom sleep, and those that wait for a disk do.
+const LOOKS_AWAKE: u32 = 1000;
 
-/// How many microseconds a hand sleeps then: with the system's slack a fifth of the time that it waited before.
+/// How many microseconds a hand sleeps then, beside what the system adds: a small part of the time that it waited
+/// before.
 const NAP: u64 = 20;
 
 // Rests before a look of a hand that waits.
 fn rest<C: Clock>(clock: &C, look: u32) {
-    if look < WAKING_LOOKS {
+    if look < LOOKS_AWAKE {
         thread::yield_now();
     } else {
         thread::sleep(clock, Duration::from_micros(NAP));

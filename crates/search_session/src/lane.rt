@@ -8,8 +8,8 @@ use arrayvec::ArrayVec;
 use dada_hdu::{BlockTaker, Mark};
 use search_engine::Engine;
 
-/// The engines of a shard, one for each transfer in order. Each is `Some`. They lie on the heap, so that a lane is moved
-/// as one pointer.
+/// The engines of a shard, one for each transfer in order. Each is `Some`. They lie on the heap: a lane is moved as one
+/// pointer.
 #[derive(Drop)]
 pub struct Lane {
     pub engines: Box<ArrayVec<Option<Engine>, 8>>,
@@ -37,6 +37,14 @@ fn feed_engine(engines: &mut [Option<Engine>], transfer: usize, bytes: &[u8], is
     feed_slot(&mut engines[transfer], bytes, is_last);
 }
 
+// The same for a list of engines.
+fn feed_in(engines: &mut ArrayVec<Option<Engine>, 8>, transfer: usize, bytes: &[u8], is_last: bool)
+    requires { CanFeedAt engines.old.items transfer bytes.now }
+    ensures { WasFedAt engines.old.items transfer bytes.now is_last engines.new.items }
+{
+    feed_engine(engines.as_mut_slice(), transfer, bytes, is_last);
+}
+
 // Whether a transfer ends with this mark.
 fn ends_transfer(mark: Mark) -> bool
     ensures { result ≡ is_end mark }
@@ -47,19 +55,6 @@ fn ends_transfer(mark: Mark) -> bool
     }
 }
 
-// Feeds the engine of a transfer, and ends it after the last bytes.
-fn feed_list(
-    engines: &mut ArrayVec<Option<Engine>, 8>,
-    transfer: usize,
-    bytes: &[u8],
-    is_last: bool,
-)
-    requires { CanFeedAt engines.old.items transfer bytes.now }
-    ensures { WasFedAt engines.old.items transfer bytes.now is_last engines.new.items }
-{
-    feed_engine(engines.as_mut_slice(), transfer, bytes, is_last);
-}
-
 impl Lane {
     // Feeds the engine of a transfer, and ends it after the last bytes.
     fn feed(&mut self, transfer: usize, bytes: &[u8], is_last: bool)
@@ -67,7 +62,7 @@ impl Lane {
         ensures { WasFedAt self.old.engines.value.items transfer bytes.now is_last
             self.new.engines.value.items }
     {
-        feed_list(&mut self.engines, transfer, bytes, is_last);
+        feed_in(&mut self.engines, transfer, bytes, is_last);
     }
 
     /// How many engines there are.

@@ -13,7 +13,8 @@ use std::time::Clock;
 /// Drives each hand in a thread of its own: each of its actors takes so many turns, fewer only where it ends. No turn
 /// waits. Between its turns a hand none of whose actors could move waits until one could, until it is found that all
 /// hands wait for each other, or until it has looked a hundred thousand times; after a wait in vain it waits no more in
-/// that round. A hand that has waited for some looks sleeps between the further ones. One that has ended does not wait.
+/// that round. A hand that has waited for some looks sleeps between the further ones. A hand that has ended does not
+/// wait.
 pub fn round<'a, I: Inputs + Send, F: Files + Send, G: Gate + Sync, R: Threads + Clock + Sync>(
     rt: &R,
     hands: &mut [Hand<'a, I, F>],

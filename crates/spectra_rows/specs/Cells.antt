@@ -50,6 +50,6 @@ pub record RowsAreSound (channels nbit npol chunk : ℕ) (in_bytes : Bool)
   pub short : filled < spectrum
   pub within : ready * spectrum + filled ≤ chunk * spectrum
 
--- value k of the lower halves (h = 0) or of the upper ones (h = 1) of vectors of 32 values, one half behind the other
+-- value k of the lower halves (h = 0), or of the upper ones (h = 1), of vectors of 32 values, these halves in a row
 abbrev pub lane : ℕ → List (List ℕ) → ℕ → ℕ
 lane h vectors k = slice_index (get_or vectors (k / 16) []) (16 * h + k % 16)

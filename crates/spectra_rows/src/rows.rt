@@ -1,4 +1,4 @@
-// Spectra into rows. So few channels are turned at a time that their rows stay in the nearest cache.
+// Spectra into rows. So few channels are turned at a time that what is written of their rows stays in a near cache.
 ghost use Rattle.std.specs.Prelude.{◌≡◌, ◌+◌, ◌-◌, ◌*◌, ◌<◌, ◌≤◌, length, slice_index};
 ghost use Rattle.search_model.specs.Samples.{sample_bytes};
 ghost use Rattle.spectra_rows.specs.Cells.{WritesCells, cell, channel_place};

@@ -1,4 +1,4 @@
-// Spectra of few channels, turned in registers.
+// Spectra of few channels, turned as vectors.
 ghost use Rattle.std.specs.Prelude.{◌≡◌, ℕ, ◌+◌, ◌*◌, ◌/◌, ◌%◌, ◌<◌, ◌≤◌, length, slice_index, get_or, []};
 ghost use Rattle.spectra_rows.specs.Cells.{lane};
 
@@ -50,7 +50,8 @@ fn interleave_halves(tile: [u8x32; 16]) -> [u8x32; 16]
     ]
 }
 
-/// Of sixteen spectra, so many bytes apart, the bytes of 32 channels: two to a vector, one in each half.
+/// Of sixteen spectra, so many bytes apart, the bytes of 32 channels: vector c has channel c in its lower half and
+/// channel 16 + c in its upper one.
 #[inline(always)]
 pub fn turned(bytes: &[u8], at: usize, apart: usize) -> [u8x32; 16]
     requires { at + 15 * apart + CHANNELS ≤ length bytes.now }

@@ -3,7 +3,7 @@ use Rattle.search_engine.specs.Engine.{EngineState}
 use Rattle.search_session.specs.Lanes.{HasEngine}
 use Rattle.search_session.proofs.Rows.{all_written}
 use Rattle.search_session.proofs.Engines.{fed_as}
-use Rattle.search_session.proofs.lane.feed_list.Goals as goal
+use Rattle.search_session.proofs.lane.feed_in.Goals as goal
 
 pub feed_engine-requires : goal.feed_engine-requires
 feed_engine-requires c =
