@@ -44,6 +44,11 @@ once() { # once NAME COMMAND..: keeps the least time of a command, and its text'
     last[$name]=$(tail -n 1 "$folder/text")
     text[$name]=$(md5sum <"$folder/text")
 }
+beside_each_other() { # four of the peer at once: where four cores are free they take little longer than one
+    local runs=4
+    while ((runs-- > 0)); do "$peer" "${words[@]}" --widths 1 "$large" & done
+    wait
+}
 quotient() { awk "BEGIN { printf \"%.2f\", $1 / $2 }"; }
 memory() { # memory COMMAND..: the most memory of a command, in MB
     [ -x /usr/bin/time ] && /usr/bin/time -f %M "$@" 2>&1 >/dev/null | awk '{ printf "%.0f MB", $1 / 1000 }' || echo '?'
@@ -62,6 +67,7 @@ for ((round = 0; round < rounds; round++)); do
         once "$kind, four" "$search" "${words[@]}" ${options[$kind]} --shards 4 --hands 4 "$large"
         [ -n "$peer" ] && once "$kind, peer" "$peer" "${words[@]}" ${options[$kind]} "$large"
     done
+    [ -n "$peer" ] && once 'four peers' beside_each_other
     rm -f "$folder/made.dada"
     once make "$make" "${made[@]}" --spectra 131072 "$folder/made.dada"
 done
@@ -69,7 +75,9 @@ rm -f "$folder/made.dada"
 
 sed -n 's/^model name[^:]*: /machine: /p' /proc/cpuinfo | head -n 1
 echo "cores: $(nproc), load: $(cut -d ' ' -f 1 /proc/loadavg), rounds: $rounds"
-[ -n "$peer" ] && "$folder/peers/bandwidth.v3" | sed 's/^/    /'
+[ -n "$peer" ] && "$folder/peers/bandwidth.v3" | sed 's/^/    /' &&
+    echo "four of the peer beside each other take $(quotient "${wall[four peers]}" "${wall[widths to 1, peer]}")" \
+        "times as long as one"
 echo
 echo '| What | threads | processor time | wall time | to the peer: processor, wall | memory | last line, text |'
 echo '|---|---|---|---|---|---|---|'
