@@ -4,8 +4,8 @@ use Rattle.std.specs.Prelude.{Contains, slice_get, IsSome}
 use Rattle.std.specs.Option.{option_map}
 use Rattle.std.proofs.Math.Seq.{take-append_seam, get_or-append_seam}
 use Rattle.std.proofs.lemmas.List.{map-append}
-use Rattle.std.proofs.lemmas.Option.{slice_get-get_or}
-use Rattle.psr_base.specs.Made.{NamedBytes, Made, FilesLeft, FilesSeen, with_new_file, longer_by, with_all_finished, less_a_file, less_bytes, Created, AppendedAll, AppendedFront, Finished, MakingFails, CanCreate}
+use Rattle.std.proofs.lemmas.Option.{slice_get-get_or, same_Some}
+use Rattle.psr_base.specs.Made.{NamedBytes, Made, FilesLeft, FilesSeen, HasName, with_new_file, longer_by, with_all_finished, less_a_file, less_bytes, Created, AppendedAll, AppendedFront, Finished, MakingFails, CanCreate}
 use Rattle.dada_recorder.specs.Making.{Outset, made_with, total_bytes, left_after, HasMade, names, AreNew, HasEnoughFor, IsFrontOf, IsFileFront, BreaksOff}
 use Rattle.dada_recorder.specs.TransferFiles.{longer_file}
 use Rattle.dada_recorder.proofs.Fronts.{front_follows, front_longer, front_before, bytes_front, enough_front}
@@ -152,10 +152,10 @@ can_create outset files file seen has enough short =
     let all = sym (map-append (λ (f : NamedBytes). f.name) outset.files files)
     ∙ ap (map (λ (f : NamedBytes). f.name)) (sym (append-nil there)) in
     let one = length-append files (file ∷ []) in
+    let New_in : Made → Type 0 = λ made. ¬ HasName made file.name in
     record {
-      made = made_with false there;
-      is_told = has.made;
-      is_new = subst Free all free;
+      is_new = λ made is.
+          subst New_in (same_Some (made_with false there) made (sym has.made ∙ is)) (subst Free all free);
       left = left_after files enough.left;
       left_is_told = has.left ∙ ap (option_map (left_after files)) enough.is_told;
       file = omega (arith, one, enough.count);

@@ -88,11 +88,9 @@ pub serves-create : {A : Type 0} (made : Made) (calls : CallCount) (left : Files
     ((((¬ HasName made name) × (length name ≤ 64) × (0 < left.files)) × ¬ FailsNext calls) → A) →
     CanCreate name (seen_of made calls.fail left faults) → A
 serves-create made calls left faults name answer can =
-    let same : can.made ≡ made = cc (can.is_told) in
-    let P : Made → Type 0 = λ m. ¬ HasName m name in
     let known = told_where-known calls.fail left can.left can.left_is_told in
     let file : 0 < left.files = omega (arith, ap (λ (l : FilesLeft). l.files) known.1, can.file) in
-    answer ((subst P same can.is_new, can.short, file), free_of-known calls left can.left can.left_is_told)
+    answer ((can.is_new made refl, can.short, file), free_of-known calls left can.left can.left_is_told)
 
 pub serves-append : {A : Type 0} (calls : CallCount) (left : FilesLeft) (len : ℕ) →
     (((len ≤ left.bytes) × ¬ FailsNext calls) → A) → ForSome (told_where calls.fail left) (λ it. len ≤ it.bytes → A)

@@ -117,11 +117,9 @@ pub record AppendsJoin : Type 0 where
   pub breaks_off : (xs ys : List ℕ) (old new : FilesSeen) → AppendedFront xs old new →
       AppendedFront (xs ++ ys) old new
 
--- a new name of at most 64 bytes, while a file is left, where all this is told
+-- a name of at most 64 bytes, which is none of the files' names where these are told, while a file is told to be left
 pub record CanCreate (name : List ℕ) (seen : FilesSeen) : Type 0 where
-  pub made : Made
-  pub is_told : seen.made ≡ Some made
-  pub is_new : ¬ HasName made name
+  pub is_new : ForSome seen.made (λ made. ¬ HasName made name)
   pub left : FilesLeft
   pub left_is_told : seen.left ≡ Some left
   pub file : 0 < left.files

@@ -5,9 +5,10 @@ use crate::calls::Faults;
 use crate::faults::Failed;
 use crate::files::Files;
 use crate::inputs::Inputs;
-use std::fs::File;
+use std::fs::{File, OpenFile};
 use std::io::{Read, Write};
-use std::{fs, rt};
+use std::os::fd::IntoRawFd;
+use std::{fs, io, rt};
 
 /// The files of the system. Each refusal of the system is a fault.
 #[derive(Drop)]
@@ -62,15 +63,51 @@ impl<R: rt::Files> Inputs for RealInputs<'_, R> {
 }
 
 /// Files of the system that are made new: a name that is there is refused, whatever it names, and
-/// nothing that exists is ever written to. Each refusal of the system is a fault.
+/// nothing that exists is ever written to. A file that was finished is on the disk, and so is its name.
+/// Each refusal of the system is a fault. A file of which an append or `finish` failed is let go, and
+/// each later call on it fails.
 #[derive(Drop)]
 pub struct RealFiles<'a, R: rt::Files> {
     rt: &'a R,
-    file: Option<R::File>,
+    is_open: bool,
+    file: Option<NewFile<R::File>>,
     faults: Faults,
 }
 
-impl<'a, R: rt::Files> RealFiles<'a, R> {
+// A file that was created, and the folder in which its name stands.
+#[derive(Drop)]
+struct NewFile<F> {
+    file: F,
+    folder: F,
+}
+
+impl<F: OpenFile + IntoRawFd + Drop> NewFile<F> {
+    // Waits until the disk has the bytes of the file and its name, and closes both. Tells whether all
+    // of that came about.
+    fn is_kept(self) -> bool {
+        let NewFile { file, folder } = self;
+        file.sync_all().is_ok() && is_closed(file) && folder.sync_all().is_ok()
+    }
+}
+
+// Closes a file, and tells whether the system did so without an error.
+fn is_closed<F: IntoRawFd>(file: F) -> bool {
+    libc::close(file.into_raw_fd()) == 0
+}
+
+// The folder in which a name stands.
+fn folder_of(name: &str) -> &str {
+    match name.rsplit_once('/') {
+        Some(("", _)) => "/",
+        Some((folder, _)) => folder,
+        None => ".",
+    }
+}
+
+impl<'a, R: rt::Files> RealFiles<'a, R>
+where
+    R::File: IntoRawFd,
+{
     /// No file is open, and no call has failed.
     pub fn new(rt: &'a R) -> RealFiles<'a, R>
         ensures closed { ¬ ⟦<RealFiles<'a, R> as Files>⟧.is_open result }
@@ -78,23 +115,35 @@ impl<'a, R: rt::Files> RealFiles<'a, R> {
     {
         RealFiles {
             rt,
+            is_open: false,
             file: None,
             faults: Faults::none(),
         }
     }
+
+    // A new file of that name.
+    fn new_file(&self, name: &str) -> io::Result<NewFile<R::File>> {
+        let folder = fs::open(self.rt, folder_of(name))?;
+        let file = File::create_new(self.rt, name)?;
+        Ok(NewFile { file, folder })
+    }
 }
 
-impl<R: rt::Files> Files for RealFiles<'_, R> {
-    ghost use Rattle.std.specs.Prelude.{None, IsSome};
+impl<R: rt::Files> Files for RealFiles<'_, R>
+where
+    R::File: IntoRawFd,
+{
+    ghost use Rattle.std.specs.Prelude.{None, IsTrue};
 
     ghost seen = { λ files. record { made = None; left = None; faults = files.faults.count } };
 
-    ghost is_open = { λ files. IsSome files.file };
+    ghost is_open = { λ files. IsTrue files.is_open };
 
     fn create(&mut self, name: &str) -> Result<(), Failed> {
-        match File::create_new(self.rt, name) {
+        match self.new_file(name) {
             Ok(file) => {
                 self.file = Some(file);
+                self.is_open = true;
                 Ok(())
             }
             Err(_) => Err(self.faults.fault()),
@@ -102,25 +151,25 @@ impl<R: rt::Files> Files for RealFiles<'_, R> {
     }
 
     fn append(&mut self, bytes: &[u8]) -> Result<usize, Failed> {
-        if bytes.is_empty() {
-            return Ok(0);
-        }
-        let file = self.file.as_mut().unwrap();
-        match file.write(bytes) {
-            Ok(0) => Err(self.faults.fault()),
-            Ok(n) => Ok(n),
-            Err(_) => Err(self.faults.fault()),
+        let taken = match &mut self.file {
+            Some(_) if bytes.is_empty() => return Ok(0),
+            Some(new) => new.file.write(bytes).unwrap_or(0),
+            None => 0,
+        };
+        match taken {
+            0 => {
+                self.file = None;
+                Err(self.faults.fault())
+            }
+            n => Ok(n),
         }
     }
 
     fn finish(&mut self) -> Result<(), Failed> {
-        let file = self.file.as_mut().unwrap();
-        match file.flush() {
-            Ok(()) => {
-                self.file = None;
-                Ok(())
-            }
-            Err(_) => Err(self.faults.fault()),
+        if !self.file.take().is_some_and(|new| new.is_kept()) {
+            return Err(self.faults.fault());
         }
+        self.is_open = false;
+        Ok(())
     }
 }
