@@ -8,7 +8,9 @@ pub mod Order
 pub mod Halvings
 pub mod Listed
 pub mod Rising
+pub mod Delays
 pub mod Shards
+pub mod DelayRanges
 pub mod Ranges
 pub mod Subbands
 pub mod Samples

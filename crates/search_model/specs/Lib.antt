@@ -10,6 +10,7 @@ pub mod Search
 pub mod Candidates
 pub mod Order
 pub mod CandidateLaws
+pub mod DelayRanges
 pub mod CandidateText
 pub mod Plan
 pub mod Observed

@@ -4,6 +4,7 @@ ghost use Rattle.search_model.specs.Laws.{SplitsFit, HalvesJoin, HasOnePath, Pat
 ghost use Rattle.search_model.specs.SampleLaws.{SamplesOfBytes};
 ghost use Rattle.search_model.specs.SubbandLaws.{HalvesAdd, OneChannelAdds, OneChannelIsItsSample, TimeShifts, NothingBefore, WholeBandIsPathSum, SplitsStep, LatePathSums, SumsAreBounded};
 ghost use Rattle.search_model.specs.CandidateLaws.{CandidatesAreListed, CandidatesRise, OrderIsStrict, RisingListsAgree, ShardsMerge};
+ghost use Rattle.search_model.specs.DelayRanges.{RangesMerge};
 
 /// A half of the band gets no more than the delay of the whole.
 pub fn splits_fit()
@@ -63,6 +64,12 @@ pub fn rising_lists_agree()
 /// The parts of the shards, merged, are the candidate list.
 pub fn shards_merge()
     ensures { ShardsMerge }
+{}
+
+/// The candidate lists of neighbouring ranges of delays, merged, are the candidate list, where the ranges fold the same
+/// delays.
+pub fn ranges_merge()
+    ensures { RangesMerge }
 {}
 
 /// The sum over a part of the band is that of its upper half and that of its lower half.
