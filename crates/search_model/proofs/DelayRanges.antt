@@ -1,7 +1,6 @@
 -- A search that is cut into neighbouring ranges of delays.
-use Rattle.std.proofs.Common.{◌≡◌, ℕ, ◌+◌, ◌-◌, ◌%◌, ◌<◌, ◌≤◌, inl, inr, Bool, List, map, sum_by, count_by, zero, suc, refl, sym, ap, ◌∙◌, arith}
+use Rattle.std.proofs.Common.{◌≡◌, ℕ, ◌+◌, ◌-◌, ◌%◌, ◌<◌, ◌≤◌, inl, inr, Bool, List, sum_by, count_by, sym, ap, ◌∙◌, arith}
 use Rattle.std.specs.Prelude.{Contains}
-use Rattle.std.specs.List.{range_with_len}
 use Rattle.std.proofs.Math.Nat.{add-mod-mod}
 use Rattle.search_model.specs.declared.candidate.Candidate.{Candidate}
 use Rattle.search_model.specs.declared.candidate.Candidate.TheVariants.{Pulse, Fold}
@@ -13,6 +12,7 @@ use Rattle.search_model.specs.DelayRanges.{over_delays, IsDelayRange, AreDelayRa
 use Rattle.search_model.specs.Order.{IsMergeOf}
 use Rattle.search_model.proofs.Delays.{within_members, within_rises, parts_between, between_merge, all_within, starts_rise, counts_join}
 use Rattle.search_model.proofs.Listed.{candidate_listed}
+use Rattle.search_model.proofs.Lists.{maps_agree}
 use Rattle.search_model.proofs.Order.{rising_same}
 use Rattle.search_model.proofs.Rising.{list_rises}
 use Rattle.search_model.proofs.Shards.{delay_within}
@@ -126,14 +126,6 @@ module _ (f : Filterbank) (edges : List ℕ) (cells : ℕ → ℕ) (s : Search) 
       ))
 
 -- ---- neighbouring ranges
-
--- lists over a range agree where their elements do
-maps_agree : {X : Type 0} (g h : ℕ → X) (a n : ℕ) → ((k : ℕ) → a ≤ k → k < a + n → g k ≡ h k) →
-    map g (range_with_len a n) ≡ map h (range_with_len a n)
-maps_agree g h a zero same = refl
-maps_agree g h a (suc n) same =
-    rw (same a (omega arith) (omega arith), maps_agree g h (a + 1) n (λ k from to. same k (omega arith) (omega arith)))
-    refl
 
 module _ (f : Filterbank) (edges : List ℕ) (cells : ℕ → ℕ) (s : Search) (n : ℕ) (start : ℕ → ℕ)
     (ranges : AreDelayRanges s n start) where

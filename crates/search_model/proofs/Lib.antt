@@ -11,6 +11,7 @@ pub mod Rising
 pub mod Delays
 pub mod Shards
 pub mod DelayRanges
+pub mod Parts
 pub mod Ranges
 pub mod Subbands
 pub mod Samples

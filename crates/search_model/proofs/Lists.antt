@@ -1,9 +1,10 @@
 -- Members of lists, and lists whose elements are in order.
-use Rattle.std.proofs.Common.{◌≡◌, ℕ, ◌+◌, ◌<◌, ◌≤◌, ◌⊎◌, inl, inr, ◌↔◌, Bool, true, false, cond, List, [], ◌∷◌, ◌++◌, get_or, zero, suc, refl, sym, subst, ◌∙◌, arith}
+use Rattle.std.proofs.Common.{◌≡◌, ℕ, ◌+◌, ◌<◌, ◌≤◌, ◌⊎◌, inl, inr, ◌↔◌, Bool, true, false, cond, List, [], ◌∷◌, ◌++◌, map, get_or, zero, suc, refl, sym, ap, subst, ◌∙◌, arith}
 use Rattle.std.specs.Prelude.{All, AllPairs, Contains, filter}
 use Rattle.std.specs.List.{range_with_len, flat_map}
 use Rattle.std.proofs.lemmas.Bool.{cases_lt}
-use Rattle.std.proofs.lemmas.List.Elements.{Contains-get_or, Contains-append_left, Contains-append_right, Contains-append_cases, Contains-push_cases, All-append}
+use Rattle.std.proofs.lemmas.List.{map-append}
+use Rattle.std.proofs.lemmas.List.Elements.{filter-append, Contains-get_or, Contains-append_left, Contains-append_right, Contains-append_cases, Contains-push_cases, All-append}
 use Rattle.std.proofs.lemmas.List.Kept.{AllPairs-cons}
 
 -- ---- members
@@ -101,6 +102,82 @@ range_member a (suc n) k from to = elim (cases_lt a k) [
   | inl after ↦ member_tail a (range_with_len (a + 1) n) k (range_member (a + 1) n k (omega arith) (omega arith))
   | inr at ↦ member_first a (range_with_len (a + 1) n) k (omega arith)
 ]
+
+-- ---- lists over lists
+
+-- lists over a range agree where their elements do
+pub maps_agree : {X : Type 0} (g h : ℕ → X) (a n : ℕ) → ((k : ℕ) → a ≤ k → k < a + n → g k ≡ h k) →
+    map g (range_with_len a n) ≡ map h (range_with_len a n)
+maps_agree g h a zero same = refl
+maps_agree g h a (suc n) same =
+    rw (same a (omega arith) (omega arith), maps_agree g h (a + 1) n (λ k from to. same k (omega arith) (omega arith)))
+    refl
+
+-- joined lists agree where each does
+pub joins_agree : {A X : Type 0} (g h : A → List X) (xs : List A) → ((x : A) → Contains xs x → g x ≡ h x) →
+    flat_map g xs ≡ flat_map h xs
+joins_agree g h [] same = refl
+joins_agree g h (x ∷ xs) same =
+    let first = same x (member_head x xs) in
+    let more = joins_agree g h xs (λ y inside. same y (member_tail x xs y inside)) in
+    rw (first, more) refl
+
+-- nothing is joined
+pub joins_none : {A X : Type 0} (g : A → List X) (xs : List A) → ((x : A) → Contains xs x → g x ≡ []) →
+    flat_map g xs ≡ []
+joins_none g [] none = refl
+joins_none g (x ∷ xs) none =
+    let first = none x (member_head x xs) in
+    let more = joins_none g xs (λ y inside. none y (member_tail x xs y inside)) in
+    rw (first, more) refl
+
+pub map_join : {A X Y : Type 0} (g : X → Y) (h : A → List X) (xs : List A) →
+    map g (flat_map h xs) ≡ flat_map (λ x. map g (h x)) xs
+map_join g h [] = refl
+map_join g h (x ∷ xs) = map-append g (h x) (flat_map h xs) ∙ ap (λ list. map g (h x) ++ list) (map_join g h xs)
+
+pub filter_join : {A X : Type 0} (p : X → Bool) (h : A → List X) (xs : List A) →
+    filter p (flat_map h xs) ≡ flat_map (λ x. filter p (h x)) xs
+filter_join p h [] = refl
+filter_join p h (x ∷ xs) = filter-append p (h x) (flat_map h xs) ∙ ap (λ list. filter p (h x) ++ list) (filter_join p h xs)
+
+-- a filter keeps a list whose members all pass, and nothing of one of which none does
+pub filter_all : {X : Type 0} (p : X → Bool) (xs : List X) → ((x : X) → Contains xs x → p x ≡ true) →
+    filter p xs ≡ xs
+filter_all p [] all = refl
+filter_all p (x ∷ xs) all =
+    let first = all x (member_head x xs) in
+    let more = filter_all p xs (λ y inside. all y (member_tail x xs y inside)) in
+    rw (first, more) refl
+
+pub filter_none : {X : Type 0} (p : X → Bool) (xs : List X) → ((x : X) → Contains xs x → p x ≡ false) →
+    filter p xs ≡ []
+filter_none p [] none = refl
+filter_none p (x ∷ xs) none =
+    let first = none x (member_head x xs) in
+    let more = filter_none p xs (λ y inside. none y (member_tail x xs y inside)) in
+    rw (first, more) refl
+
+-- numbers that are a greater
+pub join_shift : {X : Type 0} (g : ℕ → List X) (a b n : ℕ) →
+    flat_map g (range_with_len (a + b) n) ≡ flat_map (λ k. g (a + k)) (range_with_len b n)
+join_shift g a b zero = refl
+join_shift g a b (suc n) =
+    let e : a + b + 1 ≡ a + (b + 1) = omega arith in
+    let more : flat_map g (range_with_len (a + b + 1) n) ≡ flat_map (λ k. g (a + k)) (range_with_len (b + 1) n) =
+    rw e (join_shift g a (b + 1) n) in
+    ap (λ list. g (a + b) ++ list) more
+
+-- one range after another
+pub range_join : (a m n : ℕ) → range_with_len a (m + n) ≡ range_with_len a m ++ range_with_len (a + m) n
+range_join a zero n =
+    let e : 0 + n ≡ n = omega arith in
+    let z : a + 0 ≡ a = omega arith in
+    rw (e, z) refl
+range_join a (suc m) n =
+    let e : suc m + n ≡ suc (m + n) = omega arith in
+    let z : a + suc m ≡ a + 1 + m = omega arith in
+    rw (e, z) (ap (λ list. a ∷ list) (range_join (a + 1) m n))
 
 -- ---- pairs
 

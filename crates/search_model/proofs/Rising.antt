@@ -61,7 +61,7 @@ module _ (f : Filterbank) (edges : List ℕ) (cells : ℕ → ℕ) (s : Search) 
       (one.0, _, at.is)
 
   -- a pulse of an end
-  of_end : (u : ℕ) (x : Candidate) → Contains (pulses_ending f edges cells s u) x →
+  pub of_end : (u : ℕ) (x : Candidate) → Contains (pulses_ending f edges cells s u) x →
       (d : ℕ) × (w : ℕ) × (sum : ℕ) × (Pulse u d w sum ≡ x)
   of_end u x h =
       let one = member_flat_map (λ d. pulses_at f edges cells s u d) (delays s) x h in
@@ -122,7 +122,7 @@ module _ (f : Filterbank) (edges : List ℕ) (cells : ℕ → ℕ) (s : Search) 
       (m, one.0, at.0, at.1, at.2)
 
   -- a fold of a delay
-  of_series : (d : ℕ) (x : Candidate) → Contains (folds_of_delay f edges cells s d) x →
+  pub of_series : (d : ℕ) (x : Candidate) → Contains (folds_of_delay f edges cells s d) x →
       (p : ℕ) × (m : ℕ) × (j : ℕ) × (phase : ℕ) × (sum : ℕ) × (Fold d p m j phase sum ≡ x)
   of_series d x h =
       let one = member_flat_map (λ p. folds_at f edges cells s d p) (periods s) x h in

@@ -11,6 +11,7 @@ pub mod Candidates
 pub mod Order
 pub mod CandidateLaws
 pub mod DelayRanges
+pub mod Parts
 pub mod CandidateText
 pub mod Plan
 pub mod Observed

@@ -5,6 +5,7 @@ ghost use Rattle.search_model.specs.SampleLaws.{SamplesOfBytes};
 ghost use Rattle.search_model.specs.SubbandLaws.{HalvesAdd, OneChannelAdds, OneChannelIsItsSample, TimeShifts, NothingBefore, WholeBandIsPathSum, SplitsStep, LatePathSums, SumsAreBounded};
 ghost use Rattle.search_model.specs.CandidateLaws.{CandidatesAreListed, CandidatesRise, OrderIsStrict, RisingListsAgree, ShardsMerge};
 ghost use Rattle.search_model.specs.DelayRanges.{RangesMerge};
+ghost use Rattle.search_model.specs.Parts.{PartsNeedNoMore};
 
 /// A half of the band gets no more than the delay of the whole.
 pub fn splits_fit()
@@ -70,6 +71,11 @@ pub fn shards_merge()
 /// delays.
 pub fn ranges_merge()
     ensures { RangesMerge }
+{}
+
+/// The pulses that end from a place on are found in the spectra from max-delay and the widest box before it on.
+pub fn parts_need_no_more()
+    ensures { PartsNeedNoMore }
 {}
 
 /// The sum over a part of the band is that of its upper half and that of its lower half.

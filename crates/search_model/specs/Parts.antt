@@ -1,0 +1,50 @@
+-- A part of a search: the pulses that end from a spectrum on and before another one, as they are found by a search that
+-- stops and is taken up again later, and its text; a function of this crate carries its laws.
+-- Source: this project's choice.
+use Rattle.std.specs.Prelude.{◌≡◌, ℕ, ◌+◌, ◌-◌, ◌&&◌, Bool, false, List, map, filter, nat_le, nat_lt}
+use Rattle.std.specs.List.{range_with_len, flat_map}
+use Rattle.search_model.specs.declared.candidate.Candidate.{Candidate}
+use Rattle.search_model.specs.declared.candidate.Candidate.TheVariants.{Pulse, Fold}
+use Rattle.search_model.specs.declared.search.Search.{Search}
+use Rattle.search_model.specs.Samples.{Filterbank}
+use Rattle.search_model.specs.Candidates.{pulses_ending, candidates}
+
+-- whether a candidate is a pulse that ends at `place` or after it, and before `until`
+abbrev pub ends_within : ℕ → ℕ → Candidate → Bool
+ends_within place until (Pulse end _ _ _) = nat_le place end && nat_lt end until
+ends_within place until (Fold _ _ _ _ _ _) = false
+
+-- the part of a candidate list from `place` until `until`
+abbrev pub within_part : ℕ → ℕ → List Candidate → List Candidate
+within_part place until list = filter (ends_within place until) list
+
+-- the first spectrum that is needed for the pulses that end at `place` and after it
+abbrev pub first_needed : Search → ℕ → ℕ
+first_needed s place = place - (s.max_delay + s.widest)
+
+-- the spectra from spectrum a on
+abbrev pub without_first : ℕ → Filterbank → Filterbank
+without_first a f = record {
+  channels = f.channels;
+  spectra = f.spectra - a;
+  value = λ c t. f.value c (a + t);
+}
+
+-- what is found in them, with its end as the whole counts it
+abbrev pub later : ℕ → Candidate → Candidate
+later a (Pulse end delay width sum) = Pulse (a + end) delay width sum
+later a (Fold delay period halvings trial phase sum) = Fold delay period halvings trial phase sum
+
+-- the pulses of any ends from `place` on, and so the part from `place` on, are found in the spectra from
+-- `first_needed s place` on
+pub record PartsNeedNoMore : Type 0 where
+  pub ends : (f : Filterbank) (edges : List ℕ) (cells : ℕ → ℕ) (s : Search) (place count : ℕ) →
+      let a = first_needed s place in
+      flat_map (pulses_ending f edges cells s) (range_with_len place count)
+      ≡ map (later a)
+      (flat_map (pulses_ending (without_first a f) edges cells s) (range_with_len (place - a) count))
+  pub part : (f : Filterbank) (edges : List ℕ) (cells : ℕ → ℕ) (s : Search) (place until : ℕ) →
+      let a = first_needed s place in
+      within_part place until (candidates f edges cells s)
+      ≡ map (later a)
+      (within_part (place - a) (until - a) (candidates (without_first a f) edges cells s))
