@@ -39,6 +39,11 @@ pub record IsKept (b : RowTails) (d n : ℕ) (xs : List ℕ) : Type 0 where
   pub short : n ≤ b.chunk
   pub line : Keeps (row_at b.kept (b.reach + b.chunk) (d - b.first)) b.reach n xs
 
+-- the values xs were fed of row d, the last n of them in its last feed, and it was kept then
+pub record HasLastFeed (b : RowTails) (d n : ℕ) (xs : List ℕ) : Type 0 where
+  pub fed : StandsForRow b d xs
+  pub feed : IsKept b d n xs
+
 -- d is one of the rows
 pub record KeepsRow (b : RowTails) (d : ℕ) : Type 0 where
   pub above : b.first ≤ d

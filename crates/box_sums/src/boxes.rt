@@ -3,7 +3,7 @@ ghost use Rattle.std.specs.Prelude.{◌≡◌, ℕ, ◌+◌, ◌-◌, ◌*◌, �
 ghost use Rattle.std.specs.List.{All};
 ghost use Rattle.dada_model.specs.Bounds.{most_delay};
 ghost use Rattle.search_model.specs.Search.{longest_chunk};
-ghost use Rattle.box_sums.specs.Tails.{RowTails, StandsForRow, IsNewest, IsKept, KeepsRow, AreAlike, IsOpened};
+ghost use Rattle.box_sums.specs.Tails.{RowTails, StandsForRow, IsNewest, IsKept, HasLastFeed, KeepsRow, AreAlike, IsOpened};
 ghost use Rattle.box_sums.specs.Rows.{IsWidth, SumsAddValues, sum_ending};
 ghost use Rattle.box_sums.specs.Tables.{TablesAreSound};
 
@@ -19,8 +19,11 @@ const LEVELS: usize = 6;
 /// How many values are copied in a step.
 const LANES: usize = 16;
 
-/// Rows that are fed in pieces, with the sums of the values that end at each place of the last feed. `boxes` is where
-/// those of the row that was fed last are added up, and `greatest` has the greatest of each width.
+/// Rows that are fed in pieces, with the sums of the values that end at each place of the last feed. `feed_row` and
+/// `sum` serve all rows. A search that looks at few of them calls `feed_unkept` and `bound_of_newest`, and only for
+/// these `keep_newest` and then `kept_sum`.
+///
+/// `boxes` is where the sums of the row that was fed last are added up, and `greatest` has the greatest of each width.
 #[derive(Drop)]
 pub struct Boxes {
     first: u32,
@@ -110,8 +113,41 @@ impl Boxes {
         })
     }
 
-    /// Feeds row `d` with its next values.
+    /// Feeds row `d` with its next values, and keeps them for `sum`.
     pub fn feed_row(&mut self, d: u32, row: &[u32])
+        requires row { KeepsRow self.old d }
+        requires short { length row.now ≤ self.old.chunk }
+        requires small { All (λ x. x ≤ self.old.bound) row.now }
+        ensures alike { AreAlike self.new self.old }
+        ensures own { (xs : List ℕ) → StandsForRow self.old d xs
+            → HasLastFeed self.new d (length row.now) (xs ++ row.now) }
+        ensures newest { (xs : List ℕ) → StandsForRow self.old d xs
+            → IsNewest self.new d (length row.now) (xs ++ row.now) }
+        ensures others { (e : ℕ) (xs : List ℕ) → KeepsRow self.old e → e ≢ d
+            → StandsForRow self.old e xs → StandsForRow self.new e xs }
+        ensures kept { (e n : ℕ) (xs : List ℕ) → KeepsRow self.old e → e ≢ d
+            → IsKept self.old e n xs → IsKept self.new e n xs }
+    {
+        self.feed_unkept(d, row);
+        self.keep_newest();
+    }
+
+    /// The sum of the `w` values of row `d` that end at value `k`, counted from 0, of its last feed. Values before the
+    /// first count 0.
+    pub fn sum(&self, d: u32, k: u32, w: u32) -> u32
+        requires row { KeepsRow self.now d }
+        requires place { k < self.now.chunk }
+        requires width { IsWidth w }
+        requires narrow { w ≤ self.now.widest }
+        ensures { (n : ℕ) (xs : List ℕ) → HasLastFeed self.now d n xs → k < n
+            → result ≡ sum_ending xs (length xs - n + k) w }
+    {
+        self.kept_sum(d, k, w)
+    }
+
+    /// Feeds row `d` with its next values, of which those alone stay that later boxes need, until they are kept by
+    /// `keep_newest`.
+    pub fn feed_unkept(&mut self, d: u32, row: &[u32])
         requires row { KeepsRow self.old d }
         requires short { length row.now ≤ self.old.chunk }
         requires small { All (λ x. x ≤ self.old.bound) row.now }
@@ -141,7 +177,7 @@ impl Boxes {
         self.fed = row.len() as u32;
     }
 
-    /// Keeps the row that was fed last, so that its boxes can be asked for until it is kept again.
+    /// Keeps the row that was fed last, so that `kept_sum` can be asked for its boxes until it is kept again.
     pub fn keep_newest(&mut self)
         ensures same { self.new ≡ record self.old { kept = self.new.kept } }
         ensures alike { AreAlike self.new self.old }
@@ -162,7 +198,7 @@ impl Boxes {
 
     /// The sum of the `w` values of row `d` that end at value `k`, counted from 0, of the feed after which it was kept
     /// last. Values before the first count 0.
-    pub fn sum(&self, d: u32, k: u32, w: u32) -> u32
+    pub fn kept_sum(&self, d: u32, k: u32, w: u32) -> u32
         requires row { KeepsRow self.now d }
         requires place { k < self.now.chunk }
         requires width { IsWidth w }

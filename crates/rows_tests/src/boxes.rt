@@ -1,5 +1,5 @@
 // Boxes over rows that are fed in pieces.
-ghost use Rattle.std.specs.Prelude.{◌≡◌, ◌≤◌, length};
+ghost use Rattle.std.specs.Prelude.{◌≡◌, ◌≤◌, IfOk, length};
 ghost use Rattle.box_sums.specs.Tails.{KeepsRow};
 ghost use Rattle.box_sums.specs.Rows.{IsWidth};
 
@@ -8,21 +8,40 @@ use box_sums::Boxes;
 use psr_base::Memory;
 use std::alloc::Global;
 
+// The sum of the last two values of a row that is fed with 0 30 20. That it is 50 follows from the clauses alone.
+fn worked_sum(alloc: Global) -> Result<u32, Memory>
+    ensures { IfOk result (λ sum. sum ≡ 50) }
+{
+    let mut boxes = Boxes::open(alloc, 1, 1, 3, 2, 100)?;
+    boxes.feed_row(1, &[0, 30, 20]);
+    Ok(boxes.sum(1, 2, 2))
+}
+
 #[test]
 fn last_values_are_added(rt: HostRuntime) -> Result<(), Memory> {
-    let mut boxes = Boxes::open(rt.alloc(), 1, 1, 3, 2, 100)?;
+    let mut boxes = Boxes::open(rt.alloc(), 1, 2, 3, 2, 100)?;
     boxes.feed_row(1, &[0, 30, 20]);
-    boxes.keep_newest();
-    let first = [
-        boxes.sum(1, 2, 2),
-        boxes.sum(1, 0, 2),
-        boxes.bound_of_newest(2),
-    ];
+    boxes.feed_row(2, &[100]);
+    let first = [boxes.sum(1, 2, 2), boxes.sum(1, 0, 2), boxes.sum(2, 0, 2)];
     boxes.feed_row(1, &[7]);
-    let fed = boxes.sum(1, 2, 2);
+    let second = [boxes.sum(1, 0, 2), boxes.sum(1, 0, 1), boxes.sum(2, 0, 2)];
+    let are = worked_sum(rt.alloc())? == 50 && first.as_slice() == [50_u32, 0, 100].as_slice();
+    assert!(rt; are && second.as_slice() == [27_u32, 7, 100].as_slice());
+    Ok(())
+}
+
+#[test]
+fn kept_rows_are_summed(rt: HostRuntime) -> Result<(), Memory> {
+    let mut boxes = Boxes::open(rt.alloc(), 1, 1, 3, 2, 100)?;
+    boxes.feed_unkept(1, &[0, 30, 20]);
     boxes.keep_newest();
-    let second = [fed, boxes.sum(1, 0, 2), boxes.sum(1, 0, 1)];
-    let are = first.as_slice() == [50_u32, 0, 50].as_slice();
+    let first = [boxes.kept_sum(1, 2, 2), boxes.kept_sum(1, 0, 2)];
+    let bound = boxes.bound_of_newest(2);
+    boxes.feed_unkept(1, &[7]);
+    let before = boxes.kept_sum(1, 2, 2);
+    boxes.keep_newest();
+    let second = [before, boxes.kept_sum(1, 0, 2), boxes.kept_sum(1, 0, 1)];
+    let are = first.as_slice() == [50_u32, 0].as_slice() && bound == 50;
     assert!(rt; are && second.as_slice() == [50_u32, 27, 7].as_slice());
     Ok(())
 }
@@ -31,7 +50,6 @@ fn last_values_are_added(rt: HostRuntime) -> Result<(), Memory> {
 fn single_values_are_kept(rt: HostRuntime) -> Result<(), Memory> {
     let mut boxes = Boxes::open(rt.alloc(), 4, 5, 3, 1, 100)?;
     boxes.feed_row(5, &[3, 100]);
-    boxes.keep_newest();
     boxes.feed_row(4, &[9]);
     assert!(rt; boxes.sum(5, 0, 1) == 3 && boxes.sum(5, 1, 1) == 100);
     Ok(())
@@ -48,7 +66,7 @@ fn sum_of_last(values: &[u32], w: usize) -> u32 {
     sum
 }
 
-// Whether the boxes of a width are right, of which the last feed of row `d`, which was kept, has `count`.
+// Whether the boxes of a width are right, of which the last feed of row `d` has `count`.
 fn are_right(boxes: &Boxes, d: u32, w: u32, all: &[u32], count: usize) -> bool
     requires row { KeepsRow boxes.now d }
     requires few { count ≤ 16 }
@@ -95,7 +113,6 @@ fn are_fed(alloc: Global) -> Result<bool, Memory> {
         boxes.feed_row(4, other.as_slice());
         let piece = values(alloc, count, 1000, count as u32)?;
         boxes.feed_row(5, piece.as_slice());
-        boxes.keep_newest();
         all.extend_from_slice(piece.as_slice())?;
         if !are_all_right(&boxes, 5, all.as_slice(), count) {
             return Ok(false);

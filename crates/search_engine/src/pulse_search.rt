@@ -194,7 +194,7 @@ impl PulseSearch {
         if u64::from(delay) + u64::from(width) > end + 1 {
             return;
         }
-        let sum = self.boxes.sum(delay, k, width);
+        let sum = self.boxes.kept_sum(delay, k, width);
         if sum >= least {
             book.add(Candidate::Pulse {
                 end,
@@ -223,7 +223,7 @@ fn feed_boxes(boxes: &mut Boxes, widest: u32, d: u32, row: &[u32])
     ensures kept { (e n : ℕ) (xs : List ℕ) → IsKept boxes.old e n xs → IsKept boxes.new e n xs }
 {
     if widest > 1 {
-        boxes.feed_row(d, row);
+        boxes.feed_unkept(d, row);
     }
 }
 
@@ -246,7 +246,7 @@ fn keep_row(boxes: &mut Boxes, widest: u32, d: u32, row: &[u32])
         boxes.keep_newest();
         return;
     }
-    boxes.feed_row(d, row);
+    boxes.feed_unkept(d, row);
     boxes.keep_newest();
 }
 

@@ -33,12 +33,12 @@ returns-then-sum-least-clause-pulse c = λ y n below kept.
     let h = c.args.hit.now in
     let s = c.args.self.now in
     let late = c.if-from-end.false in
-    let is = sum_seen c.sums_add_values.ensures y h.delay c.args.start n c.args.k h.width c.sum-sum.result
-    c.self.inside.boxes s.boxes (ap (λ (p : PulseState). p.boxes) c.self.view_is) kept below c.sum-sum.ensures in
+    let is = sum_seen c.sums_add_values.ensures y h.delay c.args.start n c.args.k h.width c.kept_sum-sum.result
+    c.self.inside.boxes s.boxes (ap (λ (p : PulseState). p.boxes) c.self.view_is) kept below c.kept_sum-sum.ensures in
     adds_same c.args.book.now c.add.new.self _ _
-    (ap (λ u. Pulse u h.delay h.width c.sum-sum.result ∷ []) (ap (λ k. c.args.start + k) c.from.ensures)
+    (ap (λ u. Pulse u h.delay h.width c.kept_sum-sum.result ∷ []) (ap (λ k. c.args.start + k) c.from.ensures)
     ∙ reported_box c.tests_detection.ensures y s.search s.channels (c.args.start + c.args.k) h.delay h.width
-    c.sum-sum.result h.least is c.sum-sum.type_inv c.requires.hit.least c.if-sum-least.true
+    c.kept_sum-sum.result h.least is c.kept_sum-sum.type_inv c.requires.hit.least c.if-sum-least.true
     (let k = c.from.ensures in let d = c.from-2.ensures in let w = c.from-3.ensures in omega arith))
     c.add.ensures.list
 
@@ -46,9 +46,9 @@ pub returns-else-sum-least-clause-pulse : goal.returns-else-sum-least-clause-pul
 returns-else-sum-least-clause-pulse c = λ y n below kept.
     let h = c.args.hit.now in
     let s = c.args.self.now in
-    let is = sum_seen c.sums_add_values.ensures y h.delay c.args.start n c.args.k h.width c.sum-sum.result
-    c.self.inside.boxes s.boxes (ap (λ (p : PulseState). p.boxes) c.self.view_is) kept below c.sum-sum.ensures in
+    let is = sum_seen c.sums_add_values.ensures y h.delay c.args.start n c.args.k h.width c.kept_sum-sum.result
+    c.self.inside.boxes s.boxes (ap (λ (p : PulseState). p.boxes) c.self.view_is) kept below c.kept_sum-sum.ensures in
     adds_same c.args.book.now c.args.book.now [] _
     (sym (missed_box c.tests_detection.ensures y s.search s.channels (c.args.start + c.args.k) h.delay h.width
-    c.sum-sum.result h.least is c.sum-sum.type_inv c.requires.hit.least c.if-sum-least.false))
+    c.kept_sum-sum.result h.least is c.kept_sum-sum.type_inv c.requires.hit.least c.if-sum-least.false))
     (adds_none c.args.book.now)
