@@ -11,7 +11,9 @@ pub mod Rising
 pub mod Delays
 pub mod Shards
 pub mod DelayRanges
+pub mod CellsAgree
 pub mod Parts
 pub mod Ranges
 pub mod Subbands
+pub mod Masks
 pub mod Samples

@@ -1,5 +1,5 @@
 -- The parts of the shards, and their merge.
-use Rattle.std.proofs.Common.{◌≡◌, ℕ, ◌+◌, ◌*◌, ◌/◌, ◌<◌, ◌≤◌, ◌↔◌, List, arith}
+use Rattle.std.proofs.Common.{◌≡◌, ℕ, ◌+◌, ◌*◌, ◌/◌, ◌<◌, ◌≤◌, ◌↔◌, List, subst, arith}
 use Rattle.std.specs.Prelude.{Contains}
 use Rattle.std.proofs.Math.Nat.{mul-div_cancel}
 use Rattle.search_model.specs.declared.candidate.Candidate.{Candidate}
@@ -7,10 +7,10 @@ use Rattle.search_model.specs.declared.candidate.Candidate.TheVariants.{Pulse, F
 use Rattle.search_model.specs.declared.search.Search.{Search}
 use Rattle.search_model.specs.Samples.{Filterbank}
 use Rattle.search_model.specs.Search.{delay_count, shard_start}
-use Rattle.search_model.specs.Candidates.{delay_of, candidates, shard_part}
+use Rattle.search_model.specs.Candidates.{delay_of, candidates, within_delays, shard_part}
 use Rattle.search_model.specs.CandidateLaws.{IsCandidate, shard_parts}
 use Rattle.search_model.specs.Order.{IsRising, IsMergeOf}
-use Rattle.search_model.proofs.Delays.{within_members, within_rises, between_merge}
+use Rattle.search_model.proofs.Delays.{within_members, within_rises, between_merge, all_within}
 use Rattle.search_model.proofs.Listed.{candidate_listed}
 use Rattle.search_model.proofs.Rising.{list_rises}
 
@@ -55,3 +55,10 @@ module _ (f : Filterbank) (edges : List ℕ) (cells : ℕ → ℕ) (s : Search) 
   pub parts_merge : 1 ≤ s.shards → IsMergeOf (shard_parts s (candidates f edges cells s)) (candidates f edges cells s)
   parts_merge some =
       between_merge (shard_start s) s.shards (candidates f edges cells s) (list_rises f edges cells s) (in_shards some)
+
+  pub one_shard : s.shards ≡ 1 → shard_part s 0 (candidates f edges cells s) ≡ candidates f edges cells s
+  one_shard one =
+      let all = all_within (shard_start s) s.shards (candidates f edges cells s) (list_rises f edges cells s)
+      (in_shards (omega arith)) in
+      subst (λ k. within_delays (shard_start s 0) (shard_start s k) (candidates f edges cells s)
+      ≡ candidates f edges cells s) one all

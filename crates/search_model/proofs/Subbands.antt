@@ -251,7 +251,7 @@ sum_flat_map g (x ∷ xs) =
     ∙ sym (sum_by-cons (λ y. sum (g y)) x xs)
 
 -- a path sum, channel by channel
-by_channels : (f : Filterbank) (e : List ℕ) (d u late : ℕ) →
+pub by_channels : (f : Filterbank) (e : List ℕ) (d u late : ℕ) →
     path_sum_along f e d u late ≡ sum_by (λ c. sum (channel_cells f e d u late c)) (range_with_len 0 f.channels)
 by_channels f e d u late = sum_flat_map (λ c. channel_cells f e d u late c) (range_with_len 0 f.channels)
 

@@ -1,5 +1,5 @@
 -- Worked values of the definitions: two channels, FREQ 1400, BW -200, TSAMP 64, and the data bytes 10 0 0 20 0 0.
-use Rattle.std.proofs.Common.{◌≡◌, ℕ, ◌+◌, ◌*◌, List, [], ◌∷◌, ◌++◌, refl, true, false, map, slice_index, codes, Some, None}
+use Rattle.std.proofs.Common.{◌≡◌, ℕ, ◌+◌, ◌*◌, List, [], ◌∷◌, ◌++◌, refl, true, false, map, slice_index, codes, Some, None, nat_lt}
 use Rattle.std.specs.Fmt.{digits}
 use Rattle.dada_model.specs.Observation.{Observation, edges, dm, dispersion_span, edge, signed_edge}
 use Rattle.dada_model.specs.Worked.{two_channels}
@@ -13,6 +13,7 @@ use Rattle.search_model.specs.Detection.{is_detected}
 use Rattle.search_model.specs.Search.{shard_start}
 use Rattle.search_model.specs.Plan.{SumBound, FoldTooLarge, TooManyFolds, TooManyShards, plan_refusal}
 use Rattle.search_model.specs.Observed.{search_text}
+use Rattle.search_model.specs.Masks.{kept_cells, masked_text}
 
 -- ---- paths
 
@@ -207,3 +208,22 @@ path_of_1024 : map (λ k. slice_index (path (edges (wide_band 1024)) 1024 512) k
     ≡ 0 ∷ 201 ∷ 511 ∷ []
 unfolding edges edge signed_edge path entry
 path_of_1024 = refl
+
+-- ---- masked channels
+
+-- of the delays 0 to 4, how many cells lie in the lower of two channels
+lower_cells : map (λ d. kept_cells (λ c. nat_lt 0 c) three_edges 2 d) (0 ∷ 1 ∷ 2 ∷ 3 ∷ 4 ∷ [])
+    ≡ 1 ∷ 2 ∷ 2 ∷ 3 ∷ 3 ∷ []
+unfolding three_edges path entry
+lower_cells = refl
+
+-- without the upper channel a path sum of delay 0 has one cell
+lower_pulse : masked_text two_channels plain_search (λ c. nat_lt 0 c) (10 ∷ 0 ∷ 0 ∷ 20 ∷ 0 ∷ 0 ∷ [])
+    ≡ codes "PULSE 1 0 0.000 1 20 1\nEND 1 0 3\n"
+unfolding digits edges edge signed_edge dm dispersion_span path entry
+lower_pulse = refl
+
+upper_alone : masked_text two_channels plain_search (λ c. nat_lt c 1) (10 ∷ 0 ∷ 0 ∷ 20 ∷ 0 ∷ 0 ∷ [])
+    ≡ codes "END 0 0 3\n"
+unfolding digits edges edge signed_edge dm dispersion_span path entry
+upper_alone = refl

@@ -96,3 +96,14 @@ pub record ShardsMerge : Type 0 where
       IsRising (shard_part s k list)
   pub merge : (f : Filterbank) (edges : List ℕ) (cells : ℕ → ℕ) (s : Search) → 1 ≤ s.shards →
       IsMergeOf (shard_parts s (candidates f edges cells s)) (candidates f edges cells s)
+
+-- of one shard, the part is the whole list
+abbrev pub OneShardIsAll : Type 0
+OneShardIsAll = (f : Filterbank) (edges : List ℕ) (cells : ℕ → ℕ) (s : Search) → s.shards ≡ 1 →
+    shard_part s 0 (candidates f edges cells s) ≡ candidates f edges cells s
+
+-- candidate lists agree where the cells of each delay that is searched do
+abbrev pub CellsAgree : Type 0
+CellsAgree = (f : Filterbank) (edges : List ℕ) (cells other : ℕ → ℕ) (s : Search) →
+    ((d : ℕ) → s.min_delay ≤ d → d ≤ s.max_delay → cells d ≡ other d) →
+    candidates f edges cells s ≡ candidates f edges other s

@@ -15,4 +15,6 @@ pub mod Parts
 pub mod CandidateText
 pub mod Plan
 pub mod Observed
+pub mod Masks
+pub mod MaskLaws
 pub mod Laws

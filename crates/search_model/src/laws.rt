@@ -3,9 +3,10 @@
 ghost use Rattle.search_model.specs.Laws.{SplitsFit, HalvesJoin, HasOnePath, PathsRise, CellsAreCounted, TestsDetection, DetectionRises};
 ghost use Rattle.search_model.specs.SampleLaws.{SamplesOfBytes};
 ghost use Rattle.search_model.specs.SubbandLaws.{HalvesAdd, OneChannelAdds, OneChannelIsItsSample, TimeShifts, NothingBefore, WholeBandIsPathSum, SplitsStep, LatePathSums, SumsAreBounded};
-ghost use Rattle.search_model.specs.CandidateLaws.{CandidatesAreListed, CandidatesRise, OrderIsStrict, RisingListsAgree, ShardsMerge};
+ghost use Rattle.search_model.specs.CandidateLaws.{CandidatesAreListed, CandidatesRise, OrderIsStrict, RisingListsAgree, ShardsMerge, OneShardIsAll, CellsAgree};
 ghost use Rattle.search_model.specs.DelayRanges.{RangesMerge};
 ghost use Rattle.search_model.specs.Parts.{PartsNeedNoMore};
+ghost use Rattle.search_model.specs.MaskLaws.{PathSumsCountCells, PlainIsUnmasked};
 
 /// A half of the band gets no more than the delay of the whole.
 pub fn splits_fit()
@@ -67,6 +68,16 @@ pub fn shards_merge()
     ensures { ShardsMerge }
 {}
 
+/// Of one shard, the part is the whole candidate list.
+pub fn one_shard_is_all()
+    ensures { OneShardIsAll }
+{}
+
+/// Candidate lists agree where the cells of each delay that is searched do.
+pub fn cells_agree()
+    ensures { CellsAgree }
+{}
+
 /// The candidate lists of neighbouring ranges of delays, merged, are the candidate list, where the ranges fold the same
 /// delays.
 pub fn ranges_merge()
@@ -76,6 +87,16 @@ pub fn ranges_merge()
 /// The pulses that end from a place on are found in the spectra from max-delay and the widest box before it on.
 pub fn parts_need_no_more()
     ensures { PartsNeedNoMore }
+{}
+
+/// A path sum over ones in the channels that are kept, and zeros in all others, counts the cells that are kept.
+pub fn path_sums_count_cells()
+    ensures { PathSumsCountCells }
+{}
+
+/// Where all channels are kept, the search is the plain one.
+pub fn plain_is_unmasked()
+    ensures { PlainIsUnmasked }
 {}
 
 /// The sum over a part of the band is that of its upper half and that of its lower half.
