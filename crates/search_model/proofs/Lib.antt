@@ -13,6 +13,7 @@ pub mod Shards
 pub mod DelayRanges
 pub mod CellsAgree
 pub mod Parts
+pub mod PartTexts
 pub mod Ranges
 pub mod Subbands
 pub mod Masks

@@ -3,6 +3,7 @@ use Rattle.std.proofs.Common.{◌≡◌, ℕ, ◌+◌, ◌*◌, List, [], ◌∷
 use Rattle.std.specs.Fmt.{digits}
 use Rattle.dada_model.specs.Observation.{Observation, edges, dm, dispersion_span, edge, signed_edge}
 use Rattle.dada_model.specs.Worked.{two_channels}
+use Rattle.search_model.specs.declared.candidate.Candidate.TheVariants.{Pulse}
 use Rattle.search_model.specs.declared.search.Search.{Search}
 use Rattle.search_model.specs.Samples.{Filterbank, samples_of, filterbank}
 use Rattle.search_model.specs.Paths.{split_at, entry, path}
@@ -10,10 +11,12 @@ use Rattle.search_model.specs.Sums.{path_cells, path_sum, box_sum}
 use Rattle.search_model.specs.Subbands.{node_sum}
 use Rattle.search_model.specs.Folds.{shift, fold_sum}
 use Rattle.search_model.specs.Detection.{is_detected}
+use Rattle.search_model.specs.Candidates.{plain_cells, candidates}
 use Rattle.search_model.specs.Search.{shard_start}
 use Rattle.search_model.specs.Plan.{SumBound, FoldTooLarge, TooManyFolds, TooManyShards, plan_refusal}
-use Rattle.search_model.specs.Observed.{search_text}
+use Rattle.search_model.specs.Observed.{filterbank_of, candidates_of, labels_of, search_text}
 use Rattle.search_model.specs.Masks.{kept_cells, masked_text}
+use Rattle.search_model.specs.Parts.{within_part, part_text, first_needed, without_first, later}
 
 -- ---- paths
 
@@ -227,3 +230,45 @@ upper_alone : masked_text two_channels plain_search (λ c. nat_lt c 1) (10 ∷ 0
     ≡ codes "END 0 0 3\n"
 unfolding digits edges edge signed_edge dm dispersion_span path entry
 upper_alone = refl
+
+-- ---- parts
+
+abbrev part_of : Search → List ℕ → ℕ → ℕ → ℕ → List ℕ
+part_of s bytes place until before =
+    part_text (labels_of two_channels) (filterbank_of two_channels bytes).spectra place until before
+    (candidates_of two_channels s bytes)
+
+-- up to spectrum 2, and from there on
+two_parts : part_of plain_search (10 ∷ 0 ∷ 0 ∷ 20 ∷ 0 ∷ 0 ∷ []) 0 2 0
+    ++ part_of plain_search (10 ∷ 0 ∷ 0 ∷ 20 ∷ 0 ∷ 0 ∷ []) 2 9 1
+    ≡ codes "PULSE 1 1 0.104 1 30 3\nCHECK 2 1\nEND 1 0 3\n"
+unfolding digits edges edge signed_edge dm dispersion_span path entry
+two_parts = refl
+
+-- the same pulse four spectra later, in the part from spectrum 5 on
+abbrev later_bytes : List ℕ
+later_bytes = 0 ∷ 0 ∷ 0 ∷ 0 ∷ 0 ∷ 0 ∷ 0 ∷ 0 ∷ 10 ∷ 0 ∷ 0 ∷ 20 ∷ 0 ∷ 0 ∷ []
+
+later_parts : part_of plain_search later_bytes 0 5 0 ++ part_of plain_search later_bytes 5 9 0
+    ≡ codes "CHECK 5 0\nPULSE 5 1 0.104 1 30 3\nEND 1 0 7\n"
+unfolding digits edges edge signed_edge dm dispersion_span path entry
+later_parts = refl
+
+-- a box of two that ends at spectrum 6 is found in the spectra from 3 on, where it ends at 3
+abbrev wide_search : Search
+wide_search = record plain_search { widest = 2 }
+
+wide_part : part_of wide_search later_bytes 6 9 1 ≡ codes "PULSE 6 1 0.104 2 50 6\nEND 2 0 7\n"
+unfolding digits edges edge signed_edge dm dispersion_span path entry
+wide_part = refl
+
+needed : first_needed wide_search 6 ≡ 3
+needed = refl
+
+rest_part : map (later 3)
+    (within_part 3 6
+    (candidates (without_first 3 (filterbank_of two_channels later_bytes)) (edges two_channels) (plain_cells 2)
+    wide_search))
+    ≡ Pulse 6 1 2 50 ∷ []
+unfolding edges edge signed_edge path entry
+rest_part = refl

@@ -11,8 +11,8 @@ pub mod Candidates
 pub mod Order
 pub mod CandidateLaws
 pub mod DelayRanges
-pub mod Parts
 pub mod CandidateText
+pub mod Parts
 pub mod Plan
 pub mod Observed
 pub mod Masks

@@ -1,13 +1,16 @@
 -- A part of a search: the pulses that end from a spectrum on and before another one, as they are found by a search that
 -- stops and is taken up again later, and its text; a function of this crate carries its laws.
 -- Source: this project's choice.
-use Rattle.std.specs.Prelude.{◌≡◌, ℕ, ◌+◌, ◌-◌, ◌&&◌, Bool, false, List, map, filter, nat_le, nat_lt}
+use Rattle.std.specs.Prelude.{◌≡◌, ℕ, ◌+◌, ◌-◌, ◌<◌, ◌≤◌, ◌&&◌, Bool, false, List, ◌++◌, map, filter, length, nat_le, nat_lt, if◌then◌else◌, codes}
 use Rattle.std.specs.List.{range_with_len, flat_map}
+use Rattle.std.specs.Fmt.{decimal}
 use Rattle.search_model.specs.declared.candidate.Candidate.{Candidate}
 use Rattle.search_model.specs.declared.candidate.Candidate.TheVariants.{Pulse, Fold}
 use Rattle.search_model.specs.declared.search.Search.{Search}
 use Rattle.search_model.specs.Samples.{Filterbank}
 use Rattle.search_model.specs.Candidates.{pulses_ending, candidates}
+use Rattle.search_model.specs.CandidateText.{Labels, candidate_lines, end_line, candidate_text}
+use Rattle.search_model.specs.Order.{IsRising}
 
 -- whether a candidate is a pulse that ends at `place` or after it, and before `until`
 abbrev pub ends_within : ℕ → ℕ → Candidate → Bool
@@ -17,6 +20,20 @@ ends_within place until (Fold _ _ _ _ _ _) = false
 -- the part of a candidate list from `place` until `until`
 abbrev pub within_part : ℕ → ℕ → List Candidate → List Candidate
 within_part place until list = filter (ends_within place until) list
+
+-- CHECK, the spectrum that the part stops before, and how many pulses end before it
+abbrev pub check_line : ℕ → ℕ → List ℕ
+check_line until pulses =
+    codes "CHECK " ++ decimal until ++ codes " " ++ decimal pulses ++ codes "\n"
+
+-- The text of a part of a list over so many spectra, where `before` pulses end before the part: its lines; then the
+-- CHECK line where more spectra follow, and else the END line, which counts the pulses from the first spectrum on.
+abbrev pub part_text : Labels → ℕ → ℕ → ℕ → ℕ → List Candidate → List ℕ
+part_text l spectra place until before list =
+    let part = within_part place until list in
+    let pulses = before + length part in
+    candidate_lines l part
+    ++ (if nat_lt until spectra then check_line until pulses else end_line pulses 0 spectra)
 
 -- the first spectrum that is needed for the pulses that end at `place` and after it
 abbrev pub first_needed : Search → ℕ → ℕ
@@ -48,3 +65,19 @@ pub record PartsNeedNoMore : Type 0 where
       within_part place until (candidates f edges cells s)
       ≡ map (later a)
       (within_part (place - a) (until - a) (candidates (without_first a f) edges cells s))
+
+-- The part up to V is the part up to U and then the part from U to V. So the lines of the first, and then the text of
+-- the second, which counts on from the first, are the text of both; and a part from the first spectrum to the last is
+-- the candidate text, where nothing is folded.
+pub record PartsJoin : Type 0 where
+  pub parts : (list : List Candidate) (place cut until : ℕ) → IsRising list → place ≤ cut → cut ≤ until →
+      within_part place cut list ++ within_part cut until list ≡ within_part place until list
+  pub next : (l : Labels) (spectra : ℕ) (list : List Candidate) (place cut until before : ℕ) →
+      IsRising list → place ≤ cut → cut ≤ until →
+      candidate_lines l (within_part place cut list)
+      ++ part_text l spectra cut until (before + length (within_part place cut list)) list
+      ≡ part_text l spectra place until before list
+  pub whole : (l : Labels) (f : Filterbank) (edges : List ℕ) (cells : ℕ → ℕ) (s : Search) (until : ℕ) →
+      s.fold_max < s.fold_min → f.spectra ≤ until →
+      part_text l f.spectra 0 until 0 (candidates f edges cells s)
+      ≡ candidate_text l f.spectra (candidates f edges cells s)

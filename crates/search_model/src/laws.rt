@@ -5,7 +5,7 @@ ghost use Rattle.search_model.specs.SampleLaws.{SamplesOfBytes};
 ghost use Rattle.search_model.specs.SubbandLaws.{HalvesAdd, OneChannelAdds, OneChannelIsItsSample, TimeShifts, NothingBefore, WholeBandIsPathSum, SplitsStep, LatePathSums, SumsAreBounded};
 ghost use Rattle.search_model.specs.CandidateLaws.{CandidatesAreListed, CandidatesRise, OrderIsStrict, RisingListsAgree, ShardsMerge, OneShardIsAll, CellsAgree};
 ghost use Rattle.search_model.specs.DelayRanges.{RangesMerge};
-ghost use Rattle.search_model.specs.Parts.{PartsNeedNoMore};
+ghost use Rattle.search_model.specs.Parts.{PartsNeedNoMore, PartsJoin};
 ghost use Rattle.search_model.specs.MaskLaws.{PathSumsCountCells, PlainIsUnmasked};
 
 /// A half of the band gets no more than the delay of the whole.
@@ -87,6 +87,11 @@ pub fn ranges_merge()
 /// The pulses that end from a place on are found in the spectra from max-delay and the widest box before it on.
 pub fn parts_need_no_more()
     ensures { PartsNeedNoMore }
+{}
+
+/// The texts of parts, one after another and without the last lines of all but the last, are the text of the whole.
+pub fn parts_join()
+    ensures { PartsJoin }
 {}
 
 /// A path sum over ones in the channels that are kept, and zeros in all others, counts the cells that are kept.
