@@ -139,7 +139,8 @@ map_join g h (x ∷ xs) = map-append g (h x) (flat_map h xs) ∙ ap (λ list. ma
 pub filter_join : {A X : Type 0} (p : X → Bool) (h : A → List X) (xs : List A) →
     filter p (flat_map h xs) ≡ flat_map (λ x. filter p (h x)) xs
 filter_join p h [] = refl
-filter_join p h (x ∷ xs) = filter-append p (h x) (flat_map h xs) ∙ ap (λ list. filter p (h x) ++ list) (filter_join p h xs)
+filter_join p h (x ∷ xs) =
+    filter-append p (h x) (flat_map h xs) ∙ ap (λ list. filter p (h x) ++ list) (filter_join p h xs)
 
 -- a filter keeps a list whose members all pass, and nothing of one of which none does
 pub filter_all : {X : Type 0} (p : X → Bool) (xs : List X) → ((x : X) → Contains xs x → p x ≡ true) →

@@ -15,6 +15,7 @@ use Rattle.search_model.specs.Candidates.{plain_cells, candidates}
 use Rattle.search_model.specs.Search.{shard_start}
 use Rattle.search_model.specs.Plan.{SumBound, FoldTooLarge, TooManyFolds, TooManyShards, plan_refusal}
 use Rattle.search_model.specs.Observed.{filterbank_of, candidates_of, labels_of, search_text}
+use Rattle.search_model.specs.DelayRanges.{range_lists}
 use Rattle.search_model.specs.Masks.{kept_cells, masked_text}
 use Rattle.search_model.specs.Parts.{within_part, part_text, first_needed, without_first, later}
 
@@ -272,3 +273,10 @@ rest_part : map (later 3)
     ≡ Pulse 6 1 2 50 ∷ []
 unfolding edges edge signed_edge path entry
 rest_part = refl
+
+-- ---- ranges of delays
+
+-- delays 0 and 1, each searched by itself
+two_ranges : range_lists sample three_edges (plain_cells 2) plain_search 2 (λ k. k) ≡ [] ∷ (Pulse 1 1 1 30 ∷ []) ∷ []
+unfolding three_edges path entry
+two_ranges = refl

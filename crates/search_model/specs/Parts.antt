@@ -1,5 +1,5 @@
 -- A part of a search: the pulses that end from a spectrum on and before another one, as they are found by a search that
--- stops and is taken up again later, and its text; a function of this crate carries its laws.
+-- stops and is taken up again later, and its text; functions of this crate carry their laws.
 -- Source: this project's choice.
 use Rattle.std.specs.Prelude.{◌≡◌, ℕ, ◌+◌, ◌-◌, ◌<◌, ◌≤◌, ◌&&◌, Bool, false, List, ◌++◌, map, filter, length, nat_le, nat_lt, if◌then◌else◌, codes}
 use Rattle.std.specs.List.{range_with_len, flat_map}
@@ -55,29 +55,33 @@ later a (Fold delay period halvings trial phase sum) = Fold delay period halving
 -- the pulses of any ends from `place` on, and so the part from `place` on, are found in the spectra from
 -- `first_needed s place` on
 pub record PartsNeedNoMore : Type 0 where
-  pub ends : (f : Filterbank) (edges : List ℕ) (cells : ℕ → ℕ) (s : Search) (place count : ℕ) →
+  pub ends : (f : Filterbank) (edges : List ℕ) (cells : ℕ → ℕ) (s : Search)
+      (place count : ℕ) →
       let a = first_needed s place in
       flat_map (pulses_ending f edges cells s) (range_with_len place count)
       ≡ map (later a)
       (flat_map (pulses_ending (without_first a f) edges cells s) (range_with_len (place - a) count))
-  pub part : (f : Filterbank) (edges : List ℕ) (cells : ℕ → ℕ) (s : Search) (place until : ℕ) →
+  pub part : (f : Filterbank) (edges : List ℕ) (cells : ℕ → ℕ) (s : Search)
+      (place until : ℕ) →
       let a = first_needed s place in
       within_part place until (candidates f edges cells s)
       ≡ map (later a)
       (within_part (place - a) (until - a) (candidates (without_first a f) edges cells s))
 
--- The part up to V is the part up to U and then the part from U to V. So the lines of the first, and then the text of
--- the second, which counts on from the first, are the text of both; and a part from the first spectrum to the last is
--- the candidate text, where nothing is folded.
+-- A part is the part up to a cut and then the part from the cut on. So the lines of the first, and then the text of the
+-- second, which counts on from the first, are the text of both; and the text of the part that has all spectra is the
+-- candidate text, where nothing is folded.
 pub record PartsJoin : Type 0 where
-  pub parts : (list : List Candidate) (place cut until : ℕ) → IsRising list → place ≤ cut → cut ≤ until →
+  pub parts : (list : List Candidate) (place cut until : ℕ) → IsRising list →
+      place ≤ cut → cut ≤ until →
       within_part place cut list ++ within_part cut until list ≡ within_part place until list
   pub next : (l : Labels) (spectra : ℕ) (list : List Candidate) (place cut until before : ℕ) →
       IsRising list → place ≤ cut → cut ≤ until →
       candidate_lines l (within_part place cut list)
       ++ part_text l spectra cut until (before + length (within_part place cut list)) list
       ≡ part_text l spectra place until before list
-  pub whole : (l : Labels) (f : Filterbank) (edges : List ℕ) (cells : ℕ → ℕ) (s : Search) (until : ℕ) →
+  pub whole : (l : Labels) (f : Filterbank) (edges : List ℕ) (cells : ℕ → ℕ) (s : Search)
+      (until : ℕ) →
       s.fold_max < s.fold_min → f.spectra ≤ until →
       part_text l f.spectra 0 until 0 (candidates f edges cells s)
       ≡ candidate_text l f.spectra (candidates f edges cells s)
