@@ -60,7 +60,8 @@ pub record PartsNeedNoMore : Type 0 where
       let a = first_needed s place in
       flat_map (pulses_ending f edges cells s) (range_with_len place count)
       ≡ map (later a)
-      (flat_map (pulses_ending (without_first a f) edges cells s) (range_with_len (place - a) count))
+      (flat_map (pulses_ending (without_first a f) edges cells s)
+      (range_with_len (place - a) count))
   pub part : (f : Filterbank) (edges : List ℕ) (cells : ℕ → ℕ) (s : Search)
       (place until : ℕ) →
       let a = first_needed s place in
