@@ -1,9 +1,11 @@
 // Streams and files that stand in for the system's, and record what they take.
 
-use std::alloc::Global;
+use std::alloc::{Allocator, Global};
 use std::cell::RefCell;
 use std::fmt::Display;
-use std::io;
+use std::fs::{File, Metadata, OpenOptions};
+use std::rt::Files;
+use std::{fs, io};
 
 /// The most bytes that a stream takes at once, or none where it is closed.
 pub type Takes = Option<usize>;
@@ -101,6 +103,64 @@ impl Eprint for Streams {
     }
 
     fn eprintln<D: Display + Drop>(&self, _value: D) -> io::Result<()> {
+        Err(closed())
+    }
+}
+
+/// A disk on which each file that is created is this one, and each folder that one.
+#[derive(Drop)]
+pub struct Disk<'a> {
+    pub rt: &'a HostRuntime,
+    pub file: &'static str,
+    pub folder: &'static str,
+}
+
+impl Files for Disk<'_> {
+    type File = File;
+
+    type Dir = <HostRuntime as Files>::Dir;
+
+    fn open_file(&self, how: &OpenOptions, _path: &str) -> io::Result<File> {
+        if how.asks_create_new() {
+            OpenOptions::new().write(true).open(self.rt, self.file)
+        } else {
+            File::open(self.rt, self.folder)
+        }
+    }
+
+    fn open_dir(&self, path: &str) -> io::Result<Self::Dir> {
+        self.rt.open_dir(path)
+    }
+
+    fn metadata(&self, path: &str) -> io::Result<Metadata> {
+        fs::metadata(self.rt, path)
+    }
+
+    fn symlink_metadata(&self, path: &str) -> io::Result<Metadata> {
+        fs::symlink_metadata(self.rt, path)
+    }
+
+    fn copy(&self, _from: &str, _to: &str) -> io::Result<u64> {
+        Err(closed())
+    }
+
+    fn rename(&self, _from: &str, _to: &str) -> io::Result<()> {
+        Err(closed())
+    }
+
+    fn remove_file(&self, _path: &str) -> io::Result<()> {
+        Err(closed())
+    }
+
+    fn create_dir(&self, _path: &str) -> io::Result<()> {
+        Err(closed())
+    }
+
+    fn remove_dir(&self, _path: &str) -> io::Result<()> {
+        Err(closed())
+    }
+
+    fn remove_dir_all<B: Allocator>(&self, _alloc: B, _path: &str) -> io::Result<()> {
         Err(closed())
     }
 }

@@ -2,6 +2,7 @@
 ghost use Rattle.std.specs.Prelude.{OnOk, IsErr};
 ghost use Rattle.psr_base.specs.InMemory.{IsMaking};
 
+use crate::fakes::Disk;
 use crate::lines::{call_of, words_of};
 use psr_base::{CalmFiles, Failed, Files, MemFiles, RealFiles, append_all, append_to_memory};
 use std::alloc::Global;
@@ -150,6 +151,8 @@ const REAL: &str = "
 outside_test_new ok
 outside_test_new
 outside_test_old
+outside_test_folder/new ok
+outside_test_no_folder/new
 .
 ";
 
@@ -171,12 +174,62 @@ fn is_held(rt: &HostRuntime, name: &str, bytes: &str) -> bool {
 #[test]
 fn real_files_are_made_new(rt: HostRuntime) -> Result<(), Fail> {
     fs::write(&rt, "outside_test_old", b"kept".as_slice())?;
+    fs::create_dir(&rt, "outside_test_folder")?;
     for line in REAL.lines() {
         assert!(rt; is_made(&rt, line), "{line}");
     }
     assert!(rt; is_held(&rt, "outside_test_new", "ab\nc"));
     assert!(rt; is_held(&rt, "outside_test_old", "kept"));
+    assert!(rt; is_held(&rt, "outside_test_folder/new", "ab\nc"));
     fs::remove_file(&rt, "outside_test_new")?;
     fs::remove_file(&rt, "outside_test_old")?;
+    fs::remove_file(&rt, "outside_test_folder/new")?;
+    fs::remove_dir(&rt, "outside_test_folder")?;
+    Ok(())
+}
+
+// What a disk has as the file and the folder, and whether each append and `finish` goes well. No disk has `/dev/null`
+// to wait for, and `/dev/full` takes nothing.
+const DISKS: &str = "
+outside_test_disk . ok ok
+outside_test_disk /dev/null ok failed
+/dev/null . ok failed
+/dev/full . failed failed
+";
+
+// Whether appends and `finish` go as they should, and `finish` fails again where it failed.
+fn go_so<F: Files>(files: &mut F, appended: bool, finished: bool) -> bool
+    requires { ¬ F.is_open files.old }
+{
+    if files.create("f").is_err() {
+        return false;
+    }
+    for _ in 0..2 {
+        if append_all(files, b"ab").is_ok() != appended {
+            return false;
+        }
+    }
+    match files.finish() {
+        Ok(()) => finished,
+        Err(Failed) => !finished && files.finish().is_err(),
+    }
+}
+
+// Whether a file on the disk of a line goes as it says.
+fn goes_so(rt: &HostRuntime, line: &'static str) -> bool {
+    let [file, folder, appended, finished, ..] = words_of(line);
+    let disk = Disk { rt, file, folder };
+    let mut files = RealFiles::new(&disk);
+    go_so(&mut files, appended == "ok", finished == "ok")
+}
+
+#[test]
+fn a_real_file_that_failed_stays_so(rt: HostRuntime) -> Result<(), Fail> {
+    fs::write(&rt, "outside_test_disk", b"".as_slice())?;
+    for line in DISKS.lines() {
+        assert!(rt; line.is_empty() || goes_so(&rt, line), "{line}");
+    }
+    assert!(rt; is_held(&rt, "outside_test_disk", "abab"));
+    fs::remove_file(&rt, "outside_test_disk")?;
     Ok(())
 }
