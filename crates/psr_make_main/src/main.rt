@@ -1,7 +1,7 @@
 //! `psr_make`: makes an observation of noise and dispersed pulses from a number.
 #![tactic(auto)]
 
-use psr_base::{NoWords, RealFiles, RealSink, Sink, command_words, write_all};
+use psr_base::{NoWords, RealFiles, RealSink, Sink, TakenStreams, command_words, write_all};
 use psr_make::{Stop, run_make};
 use std::env;
 use std::process::ExitCode;
@@ -13,6 +13,7 @@ fn end<E: Sink>(stop: Stop, notes: &mut E) -> ExitCode {
 }
 
 fn main(rt: HostRuntime) -> ExitCode {
+    let _streams = TakenStreams::take(&rt);
     let mut notes = RealSink::notes(&rt);
     let words = match command_words(env::args(&rt), rt.alloc()) {
         Ok(words) => words,

@@ -1,7 +1,7 @@
 //! `psr_record`: records the data of files in the DADA form in new files.
 #![tactic(auto)]
 
-use psr_base::{NoWords, RealFiles, RealInputs, RealSink, command_words};
+use psr_base::{NoWords, RealFiles, RealInputs, RealSink, TakenStreams, command_words};
 use psr_record::run_record;
 use run_stop::{Stop, tell};
 use search_session::{NoGate, Ran};
@@ -9,6 +9,7 @@ use std::env;
 use std::process::ExitCode;
 
 fn main(rt: HostRuntime) -> ExitCode {
+    let _streams = TakenStreams::take(&rt);
     let mut notes = RealSink::notes(&rt);
     let words = match command_words(env::args(&rt), rt.alloc()) {
         Ok(words) => words,

@@ -1,12 +1,13 @@
 //! Replays the trace in a file, and writes the answers to the standard output.
 #![tactic(auto)]
 
-use psr_base::{NoWords, RealInputs, RealSink, command_words};
+use psr_base::{NoWords, RealInputs, RealSink, TakenStreams, command_words};
 use ring_trace::{Stop, run_trace};
 use std::env;
 use std::process::ExitCode;
 
 fn main(rt: HostRuntime) -> ExitCode {
+    let _streams = TakenStreams::take(&rt);
     let words = match command_words(env::args(&rt), rt.alloc()) {
         Ok(words) => words,
         Err(NoWords::Refused) => return ExitCode::from(Stop::Words.status()),
