@@ -197,22 +197,18 @@ outside_test_disk /dev/null ok failed
 /dev/full . failed failed
 ";
 
-// Whether appends and `finish` go as they should, and `finish` fails again where it failed.
-fn go_so<F: Files>(files: &mut F, appended: bool, finished: bool) -> bool
+// Whether two appends and `finish`, which is tried again where it fails, go as they should.
+fn go_so<F: Files>(files: &mut F, appended: bool, finished: bool) -> Result<bool, Failed>
     requires { ¬ F.is_open files.old }
 {
-    if files.create("f").is_err() {
-        return false;
-    }
-    for _ in 0..2 {
-        if append_all(files, b"ab").is_ok() != appended {
-            return false;
-        }
-    }
-    match files.finish() {
-        Ok(()) => finished,
-        Err(Failed) => !finished && files.finish().is_err(),
-    }
+    files.create("f")?;
+    let first = append_all(files, b"ab").is_ok();
+    let second = append_all(files, b"ab").is_ok();
+    let is_finished = match files.finish() {
+        Ok(()) => true,
+        Err(Failed) => files.finish().is_ok(),
+    };
+    Ok(first == appended && second == appended && is_finished == finished)
 }
 
 // Whether a file on the disk of a line goes as it says.
@@ -220,7 +216,7 @@ fn goes_so(rt: &HostRuntime, line: &'static str) -> bool {
     let [file, folder, appended, finished, ..] = words_of(line);
     let disk = Disk { rt, file, folder };
     let mut files = RealFiles::new(&disk);
-    go_so(&mut files, appended == "ok", finished == "ok")
+    go_so(&mut files, appended == "ok", finished == "ok").unwrap_or(false)
 }
 
 #[test]
