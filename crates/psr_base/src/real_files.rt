@@ -7,7 +7,6 @@ use crate::files::Files;
 use crate::inputs::Inputs;
 use std::fs::{File, OpenFile};
 use std::io::{Read, Write};
-use std::os::fd::IntoRawFd;
 use std::{fs, io, rt};
 
 /// The files of the system. Each refusal of the system is a fault.
@@ -81,18 +80,13 @@ struct NewFile<F> {
     folder: F,
 }
 
-impl<F: OpenFile + IntoRawFd + Drop> NewFile<F> {
-    // Waits until the disk has the bytes of the file and its name, and closes both. Tells whether all
-    // of that came about.
+impl<F: OpenFile + Drop> NewFile<F> {
+    // Waits until the disk has the bytes of the file and its name, and closes both. Tells whether the
+    // disk has them.
     fn is_kept(self) -> bool {
         let NewFile { file, folder } = self;
-        file.sync_all().is_ok() && is_closed(file) && folder.sync_all().is_ok()
+        file.sync_all().is_ok() && folder.sync_all().is_ok()
     }
-}
-
-// Closes a file, and tells whether the system did so without an error.
-fn is_closed<F: IntoRawFd>(file: F) -> bool {
-    libc::close(file.into_raw_fd()) == 0
 }
 
 // The folder in which a name stands.
@@ -104,10 +98,7 @@ fn folder_of(name: &str) -> &str {
     }
 }
 
-impl<'a, R: rt::Files> RealFiles<'a, R>
-where
-    R::File: IntoRawFd,
-{
+impl<'a, R: rt::Files> RealFiles<'a, R> {
     /// No file is open, and no call has failed.
     pub fn new(rt: &'a R) -> RealFiles<'a, R>
         ensures closed { ¬ ⟦<RealFiles<'a, R> as Files>⟧.is_open result }
@@ -129,10 +120,7 @@ where
     }
 }
 
-impl<R: rt::Files> Files for RealFiles<'_, R>
-where
-    R::File: IntoRawFd,
-{
+impl<R: rt::Files> Files for RealFiles<'_, R> {
     ghost use Rattle.std.specs.Prelude.{None, IsTrue};
 
     ghost seen = { λ files. record { made = None; left = None; faults = files.faults.count } };
