@@ -25,3 +25,10 @@ pub record WroteText {E : Type 0}
     (result : Result Totals E) : Type 0 where
   pub text : Wrote (candidate_text labels spectra list) old new result
   pub totals : IfOk result (AreTotals list)
+
+-- the lines of a list were written, or their front at a fault, and the list was counted
+pub record WroteLines {E : Type 0}
+    (labels : Labels) (list : List Candidate) (old new : SinkSeen) (result : Result Totals E) :
+    Type 0 where
+  pub lines : Wrote (candidate_lines labels list) old new result
+  pub totals : IfOk result (AreTotals list)

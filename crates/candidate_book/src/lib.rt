@@ -3,13 +3,17 @@
 #![tactic(auto)]
 
 mod book;
+mod labels;
 mod laws;
 mod lines;
+mod listed;
 mod merge;
 mod merged;
 mod page;
 
 pub use book::Book;
+pub use labels::{LineLabels, PlainLabels, PulseWord};
 pub use laws::books_have_a_merge;
+pub use listed::write_lines;
 pub use merged::{SinkStop, Totals, write_merged};
 pub use search_model::Candidate;

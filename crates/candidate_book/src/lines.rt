@@ -1,21 +1,28 @@
 // The lines of the candidate text.
 ghost use Rattle.std.specs.Prelude.{◌≡◌, ◌+◌, ◌*◌, ◌≤◌, ◌<◌, ◌++◌, codes, decimal, length};
 ghost use Rattle.search_model.specs.CandidateText.{thousandths, candidate_line as line_of, end_line as end_line_of};
-ghost use Rattle.search_model.specs.Candidates.{cells_of, plain_cells};
+ghost use Rattle.search_model.specs.Candidates.{cells_of};
 ghost use Rattle.candidate_book.specs.Conditions.{IsSearched};
-ghost use Rattle.search_model.specs.Observed.{labels_of};
+ghost use Rattle.candidate_book.specs.Labelled.{labels_with};
 
+use crate::labels::LineLabels;
 use obs_plan::Observation;
 use search_model::Candidate;
 use text_line::Line;
 
 /// The line of a candidate.
-pub(crate) fn candidate_line(obs: &Observation, candidate: &Candidate) -> Line
+pub(crate) fn candidate_line<L: LineLabels>(
+    obs: &Observation,
+    labels: &L,
+    candidate: &Candidate,
+) -> Line
     requires { IsSearched candidate.now }
-    ensures text { result ≡ line_of (labels_of obs.now) candidate.now }
+    ensures text { result
+        ≡ line_of (labels_with obs.now (L.cells_of_delay labels.now) (L.word_at labels.now))
+        candidate.now }
     ensures bound { length result ≤ 256 }
 {
-    let cells = cells(obs.channels(), candidate);
+    let cells = cells(labels, candidate);
     let dm = obs.dm(candidate.delay());
     let mut line = Line::new();
     match *candidate {
@@ -25,7 +32,8 @@ pub(crate) fn candidate_line(obs: &Observation, candidate: &Candidate) -> Line
             width,
             sum,
         } => {
-            line.push_str("PULSE ");
+            line.push_str(labels.word(end).text());
+            line.push_str(" ");
             push_word(&mut line, end);
             push_word(&mut line, u64::from(delay));
             push_thousandths(&mut line, dm);
@@ -53,12 +61,12 @@ pub(crate) fn candidate_line(obs: &Observation, candidate: &Candidate) -> Line
     line
 }
 
-// How many cells a candidate adds up over so many channels.
-fn cells(channels: u32, candidate: &Candidate) -> u64
+// How many cells a candidate adds up.
+fn cells<L: LineLabels>(labels: &L, candidate: &Candidate) -> u64
     requires { IsSearched candidate.now }
-    ensures { result ≡ cells_of (plain_cells channels) candidate.now }
+    ensures { result ≡ cells_of (L.cells_of_delay labels.now) candidate.now }
 {
-    let cells = u64::from(channels) + u64::from(candidate.delay());
+    let cells = labels.cells(candidate.delay());
     match *candidate {
         Candidate::Pulse { width, .. } => u64::from(width) * cells,
         Candidate::Fold { halvings, .. } => (1 << halvings) * cells,

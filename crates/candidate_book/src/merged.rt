@@ -5,9 +5,11 @@ ghost use Rattle.search_model.specs.CandidateText.{is_pulse, is_fold};
 ghost use Rattle.search_model.specs.Order.{IsMergeOf};
 ghost use Rattle.candidate_book.specs.Conditions.{kept_lists, CanBeMerged};
 ghost use Rattle.search_model.specs.Observed.{labels_of};
+ghost use Rattle.candidate_book.specs.Labelled.{labels_with};
 ghost use Rattle.candidate_book.specs.Merged.{Listed, WroteText};
 
 use crate::book::Book;
+use crate::labels::{LineLabels, PlainLabels};
 use crate::lines::{candidate_line, end_line};
 use crate::merge::{MOST_BOOKS, advance, first};
 use crate::page::Page;
@@ -27,8 +29,19 @@ pub struct Totals {
 }
 
 impl Totals {
-    // Counts a candidate.
-    fn count(&mut self, candidate: &Candidate)
+    /// No candidate was counted.
+    pub(crate) fn none() -> Totals
+        ensures pulses { result.pulses ≡ 0 }
+        ensures folds { result.folds ≡ 0 }
+    {
+        Totals {
+            pulses: 0,
+            folds: 0,
+        }
+    }
+
+    /// Counts a candidate.
+    pub(crate) fn count(&mut self, candidate: &Candidate)
         requires { self.old.pulses + self.old.folds < 2 ^ 63 }
         ensures pulses { self.new.pulses
             ≡ self.old.pulses + (if is_pulse candidate.now then 1 else 0) }
@@ -56,28 +69,30 @@ impl From<Failed> for SinkStop {
 }
 
 // Passes the lines of all candidates that the books keep on to the page, in the order of candidates.
-fn pass_candidates<K: Sink>(
+fn pass_candidates<K: Sink, L: LineLabels>(
     books: &[Option<Book>],
     obs: &Observation,
+    labels: &L,
     page: &mut Page,
     sink: &mut K,
 ) -> Result<Totals, Failed>
     requires books { CanBeMerged books.now }
     requires page { page.old ≡ [] }
     ensures { (merged : List Candidate) → IsMergeOf (kept_lists books.now) merged
-        → Listed (labels_of obs.now) merged page.new (K.seen sink.old) (K.seen sink.new) result }
+        → Listed (labels_with obs.now (L.cells_of_delay labels.now) (L.word_at labels.now)) merged
+        page.new (K.seen sink.old) (K.seen sink.new) result }
 {
     pieces_join();
     order_is_strict();
     let mut places = [0; MOST_BOOKS];
-    let mut totals = Totals {
-        pulses: 0,
-        folds: 0,
-    };
+    let mut totals = Totals::none();
     while let Some(next) = first(books, &places) {
         advance(&mut places, next.book);
         totals.count(&next.candidate);
-        page.push(candidate_line(obs, &next.candidate).as_bytes(), sink)?;
+        page.push(
+            candidate_line(obs, labels, &next.candidate).as_bytes(),
+            sink,
+        )?;
     }
     Ok(totals)
 }
@@ -97,7 +112,8 @@ pub fn write_merged<K: Sink>(
 {
     pieces_join();
     let mut page = Page::new();
-    let totals = pass_candidates(books, obs, &mut page, sink)?;
+    let labels = PlainLabels::of(obs);
+    let totals = pass_candidates(books, obs, &labels, &mut page, sink)?;
     let line = end_line(totals.pulses, totals.folds, spectra);
     page.push(line.as_bytes(), sink)?;
     page.flush(sink)?;

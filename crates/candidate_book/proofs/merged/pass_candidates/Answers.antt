@@ -5,7 +5,7 @@ use Rattle.std.proofs.lemmas.Result.{err_from_is_err_and}
 use Rattle.psr_base.specs.Written.{WroteFront}
 use Rattle.search_model.specs.declared.candidate.Candidate.{Candidate}
 use Rattle.search_model.specs.CandidateText.{candidate_line, candidate_lines}
-use Rattle.search_model.specs.Observed.{labels_of}
+use Rattle.candidate_book.specs.Labelled.{labels_with}
 use Rattle.candidate_book.specs.Lines.{Pending}
 use Rattle.candidate_book.specs.Merged.{AreTotals}
 use Rattle.candidate_book.proofs.Merging.{next_is_found, none_left, found_is_searched, all_left}
@@ -23,15 +23,17 @@ pub loop-next-init : goal.loop-next-init
 loop-next-init g c = record {
   seven = refl;
   fits = All-replicate (λ (place : ℕ). place ≤ 2 ^ 32) 7 0 (omega arith);
-  counted = refl;
+  counted = omega (arith, c.none-totals.ensures.pulses, c.none-totals.ensures.folds);
   passed = λ merged merge.
       let seen = g.K.Sink.seen c.args.sink.now in
-      let labels = labels_of c.args.obs.now in
+      let labels = labels_with c.args.obs.now (g.L.LineLabels.cells_of_delay c.args.labels.now)
+      (g.L.LineLabels.word_at c.args.labels.now) in
       let places : List ℕ = 0 ∷ 0 ∷ 0 ∷ 0 ∷ 0 ∷ 0 ∷ 0 ∷ [] in
-      subst (λ page. PassedOn labels c.args.books.now places (record { pulses = 0; folds = 0 }) page seen seen merged)
+      subst (λ page. PassedOn labels c.args.books.now places c.none-totals.result page seen seen merged)
       (sym c.requires.page)
-      (nothing_passed labels c.args.books.now places (record { pulses = 0; folds = 0 }) seen merged
-      c.pieces_join.ensures.pieces (record { pulses = refl; folds = refl })
+      (nothing_passed labels c.args.books.now places c.none-totals.result seen merged
+      c.pieces_join.ensures.pieces
+      (record { pulses = c.none-totals.ensures.pulses; folds = c.none-totals.ensures.folds })
       (all_left c.args.books.now places merged (begins_at 7) merge));
 }
 
@@ -75,7 +77,8 @@ loop-next-preserved g c =
     let places = c.loop-next.places in
     let found = c.in-Some.next in
     let first = c.in-Some.ensures.first in
-    let labels = labels_of c.args.obs.now in
+    let labels = labels_with c.args.obs.now (g.L.LineLabels.cells_of_delay c.args.labels.now)
+    (g.L.LineLabels.word_at c.args.labels.now) in
     let old = g.K.Sink.seen c.args.sink.now in
     let moves : c.advance.new.places ≡ set places found.book (get_or places found.book 0 + 1) = c.advance.ensures in
     let within : found.book < length places = omega (arith, first.within, c.requires.books.few, before.seven) in
@@ -111,7 +114,8 @@ returns-in_err-push g c =
     let books = c.args.books.now in
     let places = c.loop-next.places in
     let found = c.in-Some.next in
-    let labels = labels_of c.args.obs.now in
+    let labels = labels_with c.args.obs.now (g.L.LineLabels.cells_of_delay c.args.labels.now)
+    (g.L.LineLabels.word_at c.args.labels.now) in
     let old = g.K.Sink.seen c.args.sink.now in
     let moves : c.advance.new.places ≡ set places found.book (get_or places found.book 0 + 1) = c.advance.ensures in
     let line : c.as_bytes.result.now ≡ candidate_line labels found.candidate =
@@ -141,7 +145,8 @@ returns-in_err-push g c =
 pub returns : goal.returns
 returns g c =
     let before = c.loop-next.invariant in
-    let labels = labels_of c.args.obs.now in
+    let labels = labels_with c.args.obs.now (g.L.LineLabels.cells_of_delay c.args.labels.now)
+    (g.L.LineLabels.word_at c.args.labels.now) in
     λ merged merge.
     let far = before.passed merged merge in
     let none = none_left c.args.books.now c.loop-next.places far.left far.merges c.in_default.ensures.first in

@@ -5,6 +5,7 @@ use Rattle.search_model.specs.CandidateText.{candidate_lines, end_line}
 use Rattle.search_model.specs.Observed.{labels_of}
 use Rattle.candidate_book.specs.Lines.{Pending}
 use Rattle.candidate_book.proofs.Passing.{text_is, all_written, front_written}
+use Rattle.candidate_book.proofs.Listing.{plain_are}
 use Rattle.candidate_book.proofs.merged.write_merged.Goals as goal
 
 pub returns-in_err-totals : goal.returns-in_err-totals
@@ -12,7 +13,10 @@ returns-in_err-totals g c =
     let p = err_from_is_err_and c.from_residual.result c.from_residual.ensures.1 in
     rw p.1 (λ merged merge.
     let labels = labels_of c.args.obs.now in
-    let front = (c.in_err-totals.ensures merged merge).lines.front in
+    let plain = plain_are c.args.obs.now c.of-labels.result.channels c.of-labels.ensures in
+    let front = subst (λ l. WroteFront (candidate_lines l merged) (g.K.Sink.seen c.args.sink.now)
+    (g.K.Sink.seen c.pass_candidates.new.sink)) plain
+    (c.in_err-totals.ensures merged merge).lines.front in
     record {
       text = record {
         all = tt;
@@ -30,9 +34,12 @@ returns-in_err-push g c =
     let new = g.K.Sink.seen c.push.new.sink in
     let totals = c.in_ok-totals.totals in
     let listed = c.in_ok-totals.ensures merged merge in
+    let lines = subst (λ l. Pending (candidate_lines l merged) c.pass_candidates.new.page old
+    (g.K.Sink.seen c.pass_candidates.new.sink))
+    (plain_are c.args.obs.now c.of-labels.result.channels c.of-labels.ensures) listed.lines.pending in
     let line : c.as_bytes.result.now ≡ end_line totals.pulses totals.folds c.args.spectra =
     c.as_bytes.ensures ∙ c.end_line-line.ensures.text in
-    let front = (c.in_err-push.ensures (candidate_lines labels merged) old listed.lines.pending).front in
+    let front = (c.in_err-push.ensures (candidate_lines labels merged) old lines).front in
     let whole = subst (λ text. WroteFront (candidate_lines labels merged ++ text) old new) line front in
     record {
       text = record {
@@ -53,9 +60,12 @@ returns-in_err-flush g c =
     let new = g.K.Sink.seen c.flush.new.sink in
     let totals = c.in_ok-totals.totals in
     let listed = c.in_ok-totals.ensures merged merge in
+    let lines = subst (λ l. Pending (candidate_lines l merged) c.pass_candidates.new.page old
+    (g.K.Sink.seen c.pass_candidates.new.sink))
+    (plain_are c.args.obs.now c.of-labels.result.channels c.of-labels.ensures) listed.lines.pending in
     let line : c.as_bytes.result.now ≡ end_line totals.pulses totals.folds c.args.spectra =
     c.as_bytes.ensures ∙ c.end_line-line.ensures.text in
-    let pending = (c.in_ok-push.ensures (candidate_lines labels merged) old listed.lines.pending).pending in
+    let pending = (c.in_ok-push.ensures (candidate_lines labels merged) old lines).pending in
     let whole =
     subst (λ text. Pending (candidate_lines labels merged ++ text) c.push.new.self old middle) line pending in
     let front = front_written _ c.push.new.self old middle new c.pieces_join.ensures.pieces whole
@@ -77,9 +87,12 @@ returns g c = λ merged merge.
     let new = g.K.Sink.seen c.flush.new.sink in
     let totals = c.in_ok-totals.totals in
     let listed = c.in_ok-totals.ensures merged merge in
+    let lines = subst (λ l. Pending (candidate_lines l merged) c.pass_candidates.new.page old
+    (g.K.Sink.seen c.pass_candidates.new.sink))
+    (plain_are c.args.obs.now c.of-labels.result.channels c.of-labels.ensures) listed.lines.pending in
     let line : c.as_bytes.result.now ≡ end_line totals.pulses totals.folds c.args.spectra =
     c.as_bytes.ensures ∙ c.end_line-line.ensures.text in
-    let pending = (c.in_ok-push.ensures (candidate_lines labels merged) old listed.lines.pending).pending in
+    let pending = (c.in_ok-push.ensures (candidate_lines labels merged) old lines).pending in
     let whole =
     subst (λ text. Pending (candidate_lines labels merged ++ text) c.push.new.self old middle) line pending in
     let all = all_written _ c.push.new.self old middle new c.pieces_join.ensures.pieces whole

@@ -1,0 +1,56 @@
+// The lines of a list of candidates.
+ghost use Rattle.std.specs.Prelude.{◌≡◌, [], All};
+ghost use Rattle.candidate_book.specs.Conditions.{IsSearched};
+ghost use Rattle.candidate_book.specs.Labelled.{labels_with};
+ghost use Rattle.candidate_book.specs.Merged.{Listed, WroteLines};
+
+use crate::labels::LineLabels;
+use crate::lines::candidate_line;
+use crate::merged::{SinkStop, Totals};
+use crate::page::Page;
+use obs_plan::Observation;
+use psr_base::{Failed, Sink};
+use search_model::Candidate;
+// A law: it does nothing when it runs, and the proofs use what it ensures.
+use psr_base::pieces_join;
+
+// Passes the lines of a list on to the page.
+fn pass_list<K: Sink, L: LineLabels>(
+    list: &[Candidate],
+    obs: &Observation,
+    labels: &L,
+    page: &mut Page,
+    sink: &mut K,
+) -> Result<Totals, Failed>
+    requires searched { All IsSearched list.now }
+    requires page { page.old ≡ [] }
+    ensures { Listed (labels_with obs.now (L.cells_of_delay labels.now) (L.word_at labels.now)) list.now
+        page.new (K.seen sink.old) (K.seen sink.new) result }
+{
+    pieces_join();
+    let mut totals = Totals::none();
+    for candidate in list {
+        totals.count(candidate);
+        page.push(candidate_line(obs, labels, candidate).as_bytes(), sink)?;
+    }
+    Ok(totals)
+}
+
+/// Writes the lines of candidates of an observation in the order of the list, with these labels, and answers how many
+/// there are of each kind. After a fault the sink has taken the front of these lines.
+pub fn write_lines<K: Sink, L: LineLabels>(
+    list: &[Candidate],
+    obs: &Observation,
+    labels: &L,
+    sink: &mut K,
+) -> Result<Totals, SinkStop>
+    requires { All IsSearched list.now }
+    ensures { WroteLines (labels_with obs.now (L.cells_of_delay labels.now) (L.word_at labels.now)) list.now
+        (K.seen sink.old) (K.seen sink.new) result }
+{
+    pieces_join();
+    let mut page = Page::new();
+    let totals = pass_list(list, obs, labels, &mut page, sink)?;
+    page.flush(sink)?;
+    Ok(totals)
+}
