@@ -12,6 +12,7 @@ use crate::waiting::Watch;
 use arrayvec::ArrayVec;
 use dada_hdu::Hdu;
 use psr_base::{Files, Inputs};
+use std::thread::Threads;
 use std::time::{Clock, Duration};
 use std::{mem, thread};
 
@@ -217,23 +218,24 @@ impl<'a, I: Inputs, F: Files> Hand<'a, I, F> {
 
     // So many turns of each actor, fewer of one that ends. Before each but the first it waits for what others are about
     // to seal or to clear, until it waited in vain. The hand stands at this place of its round.
-    pub(crate) fn drive<G: Gate, C: Clock>(
+    pub(crate) fn drive<G: Gate, R: Threads + Clock>(
         &mut self,
+        rt: &R,
         hdu: &Hdu,
         turns: u32,
         gate: &G,
         place: usize,
         watch: &Watch,
-        clock: &C,
     )
         requires { HandOn I.told I.is_open F.is_open hdu.now self.old }
         ensures on { HandOn I.told I.is_open F.is_open hdu.now self.new }
         ensures moved { HandMoved I.told I.is_calm I.faults F.seen turns self.old self.new }
     {
+        watch.begin(place);
         let mut waits = true;
         for turn in 0..turns {
             if waits && turn > 0 {
-                waits = self.has_ended() || self.waits_for_work(hdu, place, watch, clock);
+                waits = self.has_ended() || self.waits_for_work(rt, hdu, place, watch);
             }
             self.turn(hdu, gate);
         }
@@ -250,28 +252,41 @@ impl<'a, I: Inputs, F: Files> Hand<'a, I, F> {
     }
 
     // Waits until an actor could move, unless all hands wait in vain. It answers whether an actor could move.
-    fn waits_for_work<C: Clock>(&self, hdu: &Hdu, place: usize, watch: &Watch, clock: &C) -> bool
+    fn waits_for_work<R: Threads + Clock>(
+        &self,
+        rt: &R,
+        hdu: &Hdu,
+        place: usize,
+        watch: &Watch,
+    ) -> bool
         requires { HandOn I.told I.is_open F.is_open hdu.now self.now }
     {
         if self.could_move(hdu) {
             return true;
         }
         watch.leave();
-        let found = self.looks_for_work(hdu, place, watch, clock);
+        let found = self.looks_for_work(rt, hdu, place, watch);
         watch.come_back();
         found
     }
 
     // The looks of a hand that is not at work.
-    fn looks_for_work<C: Clock>(&self, hdu: &Hdu, place: usize, watch: &Watch, clock: &C) -> bool
+    fn looks_for_work<R: Threads + Clock>(
+        &self,
+        rt: &R,
+        hdu: &Hdu,
+        place: usize,
+        watch: &Watch,
+    ) -> bool
         requires { HandOn I.told I.is_open F.is_open hdu.now self.now }
     {
         let mut note = None;
         for look in 0..LOOKS {
-            rest(clock, look);
+            rest(rt, look);
             if self.could_move(hdu) {
                 return true;
             }
+            watch.ask_for_unbegun(rt, look);
             if watch.is_in_vain(place, &mut note) {
                 return false;
             }

@@ -3,9 +3,10 @@
 //!
 //! Actor 0 is the feeder, 1 to 7 are the shards in order, and 8 is the recorder; actor a works in hand a modulo the
 //! number of hands. No turn waits. Between its turns a hand none of whose actors could move waits until one could,
-//! until it is found that all hands wait for each other, or until it has looked a million times; after a wait in vain
-//! it waits no more in that round. A hand that has ended does not wait. Rounds of turns follow one another, the first
-//! ones longer and longer, until all have ended. No call takes memory.
+//! until it is found that all hands wait for each other, or until it has looked a hundred thousand times; after a wait
+//! in vain it waits no more in that round. A hand that has ended does not wait. Rounds of turns follow one another, the
+//! first ones longer and longer, until all have ended. Where threads are not to be had, the hands take turns in one
+//! thread. No call takes memory but what the system takes for a thread.
 #![tactic(auto)]
 
 mod books;

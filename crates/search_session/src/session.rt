@@ -24,6 +24,7 @@ use crate::hand::Hand;
 use crate::rounds::{all_ended, round_and_retire};
 use crate::staff::staff;
 use crate::stage::Stage;
+use crate::waiting::can_start_thread;
 use dada_hdu::Hdu;
 use psr_base::{Files, Inputs};
 use std::sync::Wait;
@@ -48,6 +49,20 @@ const LONG_ROUND: u32 = 32_768;
 /// No round has more turns, however many a session is given.
 const MOST_TURNS: u32 = GROWTH * LONG_ROUND;
 
+/// Where some hand finds no thread of its own, so many rounds go on in one thread before threads are tried again.
+const SINGLE_ROUNDS: u32 = 1024;
+
+/// A round that tries whether threads can be had again has so many turns: hands wait before the second one alone.
+const TRIAL: u32 = 2;
+
+/// How the rounds of a session go on: how many turns the next round has whose hands run beside each other, and how many
+/// rounds come before it in which the hands take one turn each, one after another in one thread.
+#[derive(Clone, Copy, Drop)]
+struct Pace {
+    turns: u32,
+    single: u32,
+}
+
 // The turns of the first round of a session that is given so many.
 fn first_round(turns: u32) -> u32
     ensures { result ≡ min MOST_TURNS (FIRST * turns) }
@@ -67,12 +82,65 @@ fn next_round(turns: u32) -> u32
     }
 }
 
+impl Pace {
+    // The next round beside each other has so many turns. Where no thread can be had others come before it.
+    fn new(turns: u32, has_threads: bool) -> Pace {
+        Pace {
+            turns,
+            single: if has_threads { 0 } else { SINGLE_ROUNDS },
+        }
+    }
+
+    // The turns of the next round.
+    fn turns_now(&self) -> u32
+        ensures beside { self.now.single ≡ 0 → result ≡ self.now.turns }
+        ensures single { 0 < self.now.single → result ≡ min 1 self.now.turns }
+    {
+        if self.single == 0 {
+            self.turns
+        } else {
+            self.turns.min(1)
+        }
+    }
+
+    // How many threads so many hands have in the next round.
+    fn threads_now(&self, hands: usize) -> usize
+        ensures { 0 < result }
+    {
+        if self.single == 0 { hands.max(1) } else { 1 }
+    }
+
+    // The rounds after the next one. Where a hand had no thread of its own in it, the hands go on in one thread, as
+    // fast as a session of one hand does.
+    fn after<R: Threads>(self, rt: &R, had_threads: bool) -> Pace {
+        if self.single > 1 {
+            return Pace {
+                turns: self.turns,
+                single: self.single - 1,
+            };
+        }
+        if self.single == 1 {
+            return Pace::new(self.turns, can_start_thread(rt));
+        }
+        if had_threads {
+            Pace::new(next_round(self.turns), true)
+        } else {
+            Pace::new(TRIAL, false)
+        }
+    }
+}
+
+// The rounds of a session of so many hands, the first of so many turns.
+fn first_pace<R: Threads>(rt: &R, hands: usize, turns: u32) -> Pace {
+    Pace::new(turns, hands <= 1 || can_start_thread(rt))
+}
+
 // Rounds until all actors have ended, the first of so many turns. After each the writer is freed of those that ended.
 fn run_rounds<I: Inputs + Send, F: Files + Send, G: Gate + Sync, R: Threads + Wait + Clock + Sync>(
     rt: &R,
     hands: &mut [Hand<'_, I, F>],
     hdu: &Hdu,
-    mut turns: u32,
+    turns: u32,
     gate: &G,
 )
     requires { All (HandOn I.told I.is_open F.is_open hdu.now) hands.old }
@@ -82,12 +150,15 @@ fn run_rounds<I: Inputs + Send, F: Files + Send, G: Gate + Sync, R: Threads + Wa
     ensures moved { (n : ℕ) × EachMoved (HandMoved I.told I.is_calm I.faults F.seen n)
         hands.old hands.new }
 {
+    let mut pace = first_pace(rt, hands.len(), turns);
     for _round in rt.forever() {
-        round_and_retire(rt, hands, hdu, turns, gate);
+        let now = pace.turns_now();
+        let threads = pace.threads_now(hands.len());
+        let had_threads = round_and_retire(rt, hands, hdu, now, gate, threads);
         if all_ended(hands) {
             return;
         }
-        turns = next_round(turns);
+        pace = pace.after(rt, had_threads);
     }
     unreachable!()
 }
@@ -132,7 +203,8 @@ fn end_session<'a, I: Inputs, F: Files>(
 /// clause promises; with no turns they never do. The first has sixteen times so many turns, but at most 262144, and
 /// each later one eight times as many as the one before it, until one has 32768 or more; no clause of this call says
 /// how many, since no result rests on it. After each the writer is freed of the shards that ended, and of the recorder
-/// where it ended.
+/// where it ended. Where a hand finds no thread of its own, the next 1024 rounds go on in one thread, with one turn
+/// each, and then threads are tried again.
 pub fn run_session<
     'a,
     I: Inputs + Send,

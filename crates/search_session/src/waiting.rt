@@ -1,6 +1,8 @@
-//! Which hands of a round wait for each other in vain. No contract speaks of it, since no result rests on who waits.
-use std::array;
+//! Which hands of a round wait for each other in vain, and whether one waits for a thread that is not to be had. No
+//! contract speaks of it, since no result rests on who waits.
 use std::sync::atomic::{AtomicBool, AtomicU64, AtomicUsize, Ordering};
+use std::thread::Threads;
+use std::{array, thread};
 
 /// The most hands of a session: one for each actor.
 const HANDS: usize = 9;
@@ -8,17 +10,29 @@ const HANDS: usize = 9;
 /// Stands for the looks of a hand that took all its turns.
 const DONE: u64 = u64::MAX;
 
+/// Stands for the looks of a hand that has not begun.
+const UNBEGUN: u64 = u64::MAX - 1;
+
+/// After each so many looks a hand asks whether one more thread could be had, where it waits for a hand that has not
+/// begun. Where none can be, that hand has no thread of its own, and begins only when another one is done.
+const LOOKS_BEFORE_ASKING: u32 = 1000;
+
+/// After so many looks such a hand is taken for absent, whatever is answered: what kept it from a thread is gone.
+const LOOKS_FOR_UNBEGUN: u32 = 10_000;
+
 /// So many looks in vain after a moment show that there was nothing to find at it: the first of them may have begun
 /// before that moment, the second did not.
 const LOOKS_SINCE: u64 = 2;
 
-/// What the hands of a round tell each other: how many are at work, which neither wait nor are done; how often one came
-/// back to work; how often each looked in vain, or that it is done; whether it was found that all wait in vain.
+/// What the hands of a round tell each other: how many are at work, which began and neither wait nor are done; how
+/// often one began or came back to work; how often each looked in vain, or that it has not begun or is done; whether it
+/// was found that those that have not begun have no thread of their own; whether it was found that all wait in vain.
 #[derive(Drop)]
 pub(crate) struct Watch {
     at_work: AtomicUsize,
     returns: AtomicU64,
     looks: [AtomicU64; HANDS],
+    absent: AtomicBool,
     stuck: AtomicBool,
 }
 
@@ -31,22 +45,73 @@ pub(crate) struct Note {
 
 // The looks of a place before the first turn. Where there is no hand, it is done.
 fn first_looks(place: usize, hands: usize) -> AtomicU64 {
-    AtomicU64::new(if place < hands { 0 } else { DONE })
+    AtomicU64::new(if place < hands { UNBEGUN } else { DONE })
 }
 
-// Whether a hand is done, or had nothing to find when its looks were noted.
-fn found_nothing(noted: u64, looks: u64) -> bool {
-    looks == DONE || looks.saturating_sub(noted) >= LOOKS_SINCE
+/// Whether one more thread can be had at this moment. The thread does nothing.
+pub(crate) fn can_start_thread<R: Threads>(rt: &R) -> bool {
+    match thread::spawn(rt, || ()) {
+        Ok(started) => {
+            started.join(rt);
+            true
+        }
+        Err(_none) => false,
+    }
 }
 
 impl Watch {
-    /// So many hands, all of them at work.
+    /// So many hands, none of which has begun.
     pub(crate) fn new(hands: usize) -> Watch {
         Watch {
-            at_work: AtomicUsize::new(hands),
+            at_work: AtomicUsize::new(0),
             returns: AtomicU64::new(0),
             looks: array::from_fn(|place| first_looks(place, hands)),
+            absent: AtomicBool::new(false),
             stuck: AtomicBool::new(false),
+        }
+    }
+
+    /// The hand at a place begins.
+    pub(crate) fn begin(&self, place: usize) {
+        self.come_back();
+        if let Some(looks) = self.looks.get(place) {
+            looks.store(0, Ordering::SeqCst);
+        }
+    }
+
+    /// Whether a hand waited for one that had no thread of its own.
+    pub(crate) fn found_absent(&self) -> bool {
+        self.absent.load(Ordering::SeqCst)
+    }
+
+    /// Finds from time to time, for a hand that has looked so often, whether the hands that have not begun have threads
+    /// of their own. All threads of the round are there while it waits: where one more can be had, these hands are
+    /// late.
+    pub(crate) fn ask_for_unbegun<R: Threads>(&self, rt: &R, look: u32) {
+        if look % LOOKS_BEFORE_ASKING != LOOKS_BEFORE_ASKING - 1 || !self.has_unbegun() {
+            return;
+        }
+        if look >= LOOKS_FOR_UNBEGUN || !can_start_thread(rt) {
+            self.absent.store(true, Ordering::SeqCst);
+        }
+    }
+
+    // Whether some hand has not begun.
+    fn has_unbegun(&self) -> bool {
+        for place in 0..HANDS {
+            if self.looks_of(place) == UNBEGUN {
+                return true;
+            }
+        }
+        false
+    }
+
+    // Whether a hand is done or absent, or had nothing to find when its looks were noted.
+    fn found_nothing(&self, noted: u64, looks: u64) -> bool {
+        match looks {
+            DONE => true,
+            UNBEGUN => self.found_absent(),
+            _ => looks.saturating_sub(noted) >= LOOKS_SINCE,
         }
     }
 
@@ -130,10 +195,10 @@ impl Watch {
         self.is_nobody_at_work() && self.returns.load(Ordering::SeqCst) == note.returns
     }
 
-    // Whether each hand but that at a place is done, or had nothing to find at a note.
+    // Whether each hand but that at a place is done or absent, or had nothing to find at a note.
     fn others_found_nothing(&self, place: usize, note: &Note) -> bool {
         for other in 0..HANDS {
-            if other != place && !found_nothing(note.looks[other], self.looks_of(other)) {
+            if other != place && !self.found_nothing(note.looks[other], self.looks_of(other)) {
                 return false;
             }
         }

@@ -22,11 +22,11 @@ loop-round-preserved g c =
     let seen = g.F.Files.seen in
     let before = c.loop-round.invariant.moved in
     record {
-      on = c.round_and_retire.ensures.on;
+      on = c.round_and_retire-had_threads.ensures.on;
       moved = (
-        before.0 + c.loop-round.turns,
-        hands_more told is_open is_calm faults files_open seen before.0 c.loop-round.turns c.args.hands.now
-            c.loop-round.hands c.round_and_retire.new.hands before.1 c.round_and_retire.ensures.moved,
+        before.0 + c.turns_now-now.result,
+        hands_more told is_open is_calm faults files_open seen before.0 c.turns_now-now.result c.args.hands.now
+            c.loop-round.hands c.round_and_retire-had_threads.new.hands before.1 c.round_and_retire-had_threads.ensures.moved,
       );
     }
 
@@ -40,12 +40,12 @@ returns-then-all_ended g c =
     let seen = g.F.Files.seen in
     let before = c.loop-round.invariant.moved in
     record {
-      on = c.round_and_retire.ensures.on;
+      on = c.round_and_retire-had_threads.ensures.on;
       ended = c.all_ended.ensures.0 c.if-all_ended.true;
-      retired = c.round_and_retire.ensures.retired;
+      retired = c.round_and_retire-had_threads.ensures.retired;
       moved = (
-        before.0 + c.loop-round.turns,
-        hands_more told is_open is_calm faults files_open seen before.0 c.loop-round.turns c.args.hands.now
-            c.loop-round.hands c.round_and_retire.new.hands before.1 c.round_and_retire.ensures.moved,
+        before.0 + c.turns_now-now.result,
+        hands_more told is_open is_calm faults files_open seen before.0 c.turns_now-now.result c.args.hands.now
+            c.loop-round.hands c.round_and_retire-had_threads.new.hands before.1 c.round_and_retire-had_threads.ensures.moved,
       );
     }
