@@ -1,0 +1,141 @@
+"""The candidates of a text by the header of its observation: signal-to-noise ratios and times."""
+from __future__ import annotations
+
+import numpy as np
+
+from .headers import Header
+from .paths import box_noise_cells, fold_noise_cells, fold_places, path_cells, shared_cells
+from .texts import Found, refused
+
+# how many values of folds, and how many delays, are worked on at a time
+VALUES_AT_A_TIME = 2**22
+DELAYS_AT_A_TIME = 256
+
+
+def check_fits(path: str, found: Found, head: Header) -> None:
+    """Refuses a text whose lines say other cells or dispersion measures than the header makes."""
+    for lines, counted in ((found.pulses, found.pulses["width"]), (found.folds, found.folds["rows"])):
+        other = np.flatnonzero(lines["cells"] != counted.astype(np.int64) * (head.channels + lines["delay"]))
+        if len(other):
+            raise refused(path, "its CELLS are not those of this header: does it belong to another file?")
+        delays, firsts = np.unique(lines["delay"], return_index=True)
+        if any(head.dm(int(delay)) != lines["dm"][first] for delay, first in zip(delays, firsts)):
+            raise refused(path, "its DM are not those of this header: does it belong to another file?")
+
+
+def printed_ratio(lines: np.ndarray, mean: float, deviation: float) -> np.ndarray:
+    """The ratio by which the search judges: all samples of a sum are taken to be independent."""
+    return (lines["sum"] - lines["cells"] * mean) / (deviation * np.sqrt(lines["cells"]))
+
+
+def true_ratio(lines: np.ndarray, noise_cells: np.ndarray, mean: float, deviation: float) -> np.ndarray:
+    """The ratio to the true noise of the sums, which count the samples that their path sums share several times."""
+    return (lines["sum"] - lines["cells"] * mean) / (deviation * np.sqrt(noise_cells))
+
+
+def pulse_noise_cells(pulses: np.ndarray, head: Header) -> np.ndarray:
+    """For each PULSE line: how many independent samples have the noise of its box."""
+    delays = np.unique(pulses["delay"])
+    widths = np.unique(pulses["width"])
+    table = np.empty((len(delays), len(widths)), np.int64)
+    for row, shared in enumerate(shared_by_delay(head, delays)):
+        table[row] = [box_noise_cells(shared, int(width)) for width in widths]
+    return table[np.searchsorted(delays, pulses["delay"]), np.searchsorted(widths, pulses["width"])]
+
+
+def fold_noise(folds: np.ndarray, head: Header) -> np.ndarray:
+    """For each FOLD line: how many independent samples have the noise of its fold."""
+    delays = np.unique(folds["delay"])
+    shares = shared_by_delay(head, delays)
+    longest = max((len(shared) for shared in shares), default=0)
+    table = np.array([np.pad(shared, (0, longest + 1 - len(shared))) for shared in shares])
+    noise = np.empty(len(folds), np.int64)
+    for rows in np.unique(folds["rows"]):
+        those = np.flatnonzero(folds["rows"] == rows)
+        for part in np.array_split(those, len(those) * int(rows) // VALUES_AT_A_TIME + 1):
+            some = folds[part]
+            places = fold_places(some["period"].astype(np.int64), int(rows), some["trial"], some["phase"])
+            noise[part] = fold_noise_cells(table[np.searchsorted(delays, some["delay"])], places)
+    return noise
+
+
+def shared_by_delay(head: Header, delays: np.ndarray) -> list[np.ndarray]:
+    """For each delay how many samples two of its path sums share, by how far apart they end."""
+    parts = np.array_split(delays, len(delays) // DELAYS_AT_A_TIME + 1)
+    return [shared_cells(cells) for part in parts for cells in path_cells(head.edges_khz, part).T]
+
+
+def top_spectra(pulses: np.ndarray) -> np.ndarray:
+    """The spectrum at which each pulse leaves the top of the band."""
+    return pulses["end"] - pulses["delay"]
+
+
+def utc(spectra: np.ndarray, head: Header) -> np.ndarray:
+    """The time of these spectra, counted from the first one of the file that has the header."""
+    return head.start + (spectra * head.sample_ns).astype("timedelta64[ns]")
+
+
+def pulse_table(pulses: np.ndarray, head: Header, mean: float, deviation: float) -> np.ndarray:
+    """PULSE lines with both ratios, the times at the top and the foot of the band in s, and UTC at the top."""
+    tops = top_spectra(pulses)
+    columns = {
+        "ratio": printed_ratio(pulses, mean, deviation),
+        "snr": true_ratio(pulses, pulse_noise_cells(pulses, head), mean, deviation),
+        "time_top": tops * head.seconds,
+        "time_foot": pulses["end"] * head.seconds,
+        "utc_top": utc(tops, head),
+    }
+    return with_columns(pulses, columns)
+
+
+def fold_table(folds: np.ndarray, head: Header, mean: float, deviation: float) -> np.ndarray:
+    """FOLD lines with both ratios and the period in s."""
+    columns = {
+        "ratio": printed_ratio(folds, mean, deviation),
+        "snr": true_ratio(folds, fold_noise(folds, head), mean, deviation),
+        "period_s": (folds["period"] + folds["trial"] / (folds["rows"] - 1)) * head.seconds,
+    }
+    return with_columns(folds, columns)
+
+
+def with_columns(lines: np.ndarray, columns: dict[str, np.ndarray]) -> np.ndarray:
+    """The lines with further columns behind their own."""
+    table = np.empty(len(lines), lines.dtype.descr + [(name, column.dtype.str) for name, column in columns.items()])
+    for name in lines.dtype.names:
+        table[name] = lines[name]
+    for name, column in columns.items():
+        table[name] = column
+    return table
+
+
+def are_neighbours(pulses: np.ndarray, one: np.void) -> np.ndarray:
+    """Which boxes cross a box within the band, or pass it no farther off than the wider of the two is wide."""
+    apart = np.maximum(pulses["width"], one["width"]).astype(np.int64)
+    at_foot = pulses["end"] - one["end"]
+    at_top = at_foot - pulses["delay"] + int(one["delay"])
+    is_after = (at_foot - pulses["width"] >= apart) & (at_top - pulses["width"] >= apart)
+    is_before = (at_foot + one["width"] <= -apart) & (at_top + one["width"] <= -apart)
+    return ~(is_after | is_before)
+
+
+def are_near_periods(folds: np.ndarray, one: np.void) -> np.ndarray:
+    """Which folds drift by less than a turn against a fold over its rows."""
+    periods = folds["period"] + folds["trial"] / (folds["rows"] - 1)
+    period = one["period"] + one["trial"] / (one["rows"] - 1)
+    return np.abs(periods - period) * one["rows"] < period
+
+
+def strongest(lines: np.ndarray, ratio: np.ndarray, count: int) -> tuple[np.ndarray, np.ndarray]:
+    """The strongest line of each of the `count` strongest groups of neighbours, and how many lines each group has.
+
+    The strongest line that is left takes all its neighbours out, and so on.
+    """
+    are_joined = are_neighbours if "end" in lines.dtype.names else are_near_periods
+    left = np.argsort(-ratio, kind="stable")
+    best, sizes = [], []
+    while len(left) and len(best) < count:
+        joined = are_joined(lines[left], lines[left[0]])
+        best.append(left[0])
+        sizes.append(int(joined.sum()))
+        left = left[~joined]
+    return np.array(best, np.int64), np.array(sizes, np.int64)

@@ -1,0 +1,209 @@
+"""Headers of DADA files, by the rules of the manual: what `psr_search` takes, and why it refuses the others."""
+from __future__ import annotations
+
+import os
+import re
+from dataclasses import dataclass
+from functools import cached_property
+
+import numpy as np
+
+from .number import scaled
+from .refusal import HEADER, READ, Refusal, bytes_of
+
+LEAST_SIZE = 4096
+MOST_SIZE = 65536
+TOP_KHZ = 2**24
+UTC_FORM = re.compile(r"(\d{4}-\d\d-\d\d)-(\d\d:\d\d:\d\d)")
+# each keyword with its decimals, and what it is where it is missing; they are judged in this order
+KEYWORDS: dict[str, tuple[int, int | None]] = {
+    "NCHAN": (0, None),
+    "NBIT": (0, None),
+    "NPOL": (0, 1),
+    "NDIM": (0, 1),
+    "TSAMP": (3, None),
+    "FREQ": (6, None),
+    "BW": (6, None),
+    "OBS_OFFSET": (0, 0),
+}
+# which numbers are taken; BW is judged by the edges of the band
+TAKEN: dict[str, range | tuple[int, ...]] = {
+    "NCHAN": range(2, 4097),
+    "NBIT": (8, 16),
+    "NPOL": (1, 2),
+    "NDIM": (1,),
+    "TSAMP": range(1, 2**30 + 1),
+    "FREQ": range(1000, 16_000_000_001),
+    "OBS_OFFSET": range(10**15 + 1),
+}
+
+
+@dataclass(frozen=True)
+class Header:
+    """What a header says of its observation, and how many bytes of data its file has."""
+
+    size: int
+    fields: dict[str, str]
+    channels: int
+    bits: int
+    polarisations: int
+    sample_ns: int
+    centre_hz: int
+    width_hz: int
+    is_falling: bool
+    offset: int
+    data_bytes: int
+
+    @property
+    def spectrum_bytes(self) -> int:
+        """Bytes of one spectrum."""
+        return self.channels * self.polarisations * self.bits // 8
+
+    @property
+    def spectra(self) -> int:
+        """Whole spectra in the file."""
+        return self.data_bytes // self.spectrum_bytes
+
+    @property
+    def seconds(self) -> float:
+        """Seconds from one spectrum to the next."""
+        return self.sample_ns * 1e-9
+
+    @cached_property
+    def edges_khz(self) -> tuple[int, ...]:
+        """All edges in kHz, from the top of the band down."""
+        centre, width, channels = self.centre_hz, self.width_hz, self.channels
+        return tuple(edge_khz(centre, width, channels, number) for number in range(channels + 1))
+
+    @cached_property
+    def dispersion_span(self) -> int:
+        """1 / (1 / foot^2 - 1 / top^2) in kHz^2, rounded down."""
+        top, foot = self.edges_khz[0] ** 2, self.edges_khz[-1] ** 2
+        return top * foot // (top - foot)
+
+    def dm(self, delay: int) -> float:
+        """The dispersion measure in pc/cm^3 of a delay in spectra, with three decimals, as the programs print it."""
+        return delay * self.sample_ns * 241 * self.dispersion_span // 10**18 / 1000
+
+    def delay(self, dm: float) -> float:
+        """The delay across the band in spectra of a dispersion measure in pc/cm^3."""
+        return dm * 1e21 / (self.sample_ns * 241 * self.dispersion_span)
+
+    def words_of(self, *keywords: str) -> list[str]:
+        """The values of those of these keywords that the header has, as they can be shown."""
+        values = [self.fields[keyword] for keyword in keywords if keyword in self.fields]
+        return [value if value.isprintable() else ascii(value) for value in values]
+
+    @property
+    def start(self) -> np.datetime64:
+        """The time of the file's first spectrum, or NaT where the header has no UTC_START of the usual form."""
+        match = UTC_FORM.fullmatch(self.fields.get("UTC_START", ""))
+        if match is None:
+            return np.datetime64("NaT", "ns")
+        try:
+            begun = np.datetime64(f"{match[1]}T{match[2]}", "ns")
+        except ValueError:
+            return np.datetime64("NaT", "ns")
+        return begun + np.timedelta64(self.offset * self.sample_ns // self.spectrum_bytes, "ns")
+
+
+def header(path: str) -> Header:
+    """The header of a file."""
+    text, size = header_text(path)
+    try:
+        data_bytes = os.path.getsize(path) - size
+    except OSError as fault:
+        raise Refusal(READ, f"can't read {path}: {fault.strerror}") from fault
+    return header_of(path, fields_of(text), size, data_bytes)
+
+
+def header_text(path: str) -> tuple[bytes, int]:
+    """The text of a file's header, and how many bytes the header has."""
+    front = bytes_of(path, LEAST_SIZE)
+    if len(front) < LEAST_SIZE:
+        raise refused(path, f"Short {len(front)}")
+    size = scaled(fields_of(before_nul(front)).get("HDR_SIZE", str(LEAST_SIZE)), 0)
+    if size is None or not LEAST_SIZE <= size <= MOST_SIZE:
+        raise refused(path, "BadSize")
+    whole = bytes_of(path, size)
+    if len(whole) < size:
+        raise refused(path, f"Short {len(whole)}")
+    text = before_nul(whole)
+    for place, byte in enumerate(text):
+        if byte > 127:
+            raise refused(path, f"NotText {place}")
+    return text, size
+
+
+def before_nul(some: bytes) -> bytes:
+    """What stands before the first NUL."""
+    return some.split(b"\0", 1)[0]
+
+
+def fields_of(text: bytes) -> dict[str, str]:
+    """The fields of a header's text: of each keyword the first line that gives it a value."""
+    fields: dict[str, str] = {}
+    for line in text.split(b"\n"):
+        words = line.split(b"#", 1)[0].split()
+        if len(words) >= 2:
+            fields.setdefault(words[0].decode("latin-1"), words[1].decode("latin-1"))
+    return fields
+
+
+def header_of(path: str, fields: dict[str, str], size: int, data_bytes: int) -> Header:
+    """The header of these fields, or the first refusal, in the order of the keywords."""
+    numbers: dict[str, int] = {}
+    for keyword in KEYWORDS:
+        numbers[keyword] = number_of(path, fields, keyword)
+        if not is_taken(keyword, numbers):
+            fault = "OutOfProfile" if keyword in ("NBIT", "NPOL", "NDIM") else "OutOfRange"
+            raise refused(path, f"{fault} {keyword}")
+    width, channels = abs(numbers["BW"]), numbers["NCHAN"]
+    if width < 1000 * channels:
+        raise refused(path, f"TooNarrow {width} {channels}")
+    return Header(
+        size=size,
+        fields=fields,
+        channels=channels,
+        bits=numbers["NBIT"],
+        polarisations=numbers["NPOL"],
+        sample_ns=numbers["TSAMP"],
+        centre_hz=numbers["FREQ"],
+        width_hz=width,
+        is_falling=numbers["BW"] < 0,
+        offset=numbers["OBS_OFFSET"],
+        data_bytes=data_bytes,
+    )
+
+
+def number_of(path: str, fields: dict[str, str], keyword: str) -> int:
+    """The number of a keyword, in the unit of its last decimal."""
+    decimals, default = KEYWORDS[keyword]
+    if keyword not in fields:
+        if default is None:
+            raise refused(path, f"Missing {keyword}")
+        return default
+    value = scaled(fields[keyword], decimals)
+    if value is None:
+        raise refused(path, f"BadNumber {keyword}")
+    return value
+
+
+def is_taken(keyword: str, numbers: dict[str, int]) -> bool:
+    """Whether the number of a keyword lies in its range, where those of the keywords before it do."""
+    value = numbers[keyword]
+    if keyword == "BW":
+        channels, centre = numbers["NCHAN"], numbers["FREQ"]
+        foot, top = (edge_khz(centre, abs(value), channels, number) for number in (channels, 0))
+        return value != 0 and foot >= 1 and top <= TOP_KHZ
+    return value in TAKEN[keyword]
+
+
+def edge_khz(centre_hz: int, width_hz: int, channels: int, number: int) -> int:
+    """The edge of that number in kHz: 0 is the top of the band, and the number of channels its foot."""
+    return (2 * centre_hz * channels + width_hz * channels - 2 * width_hz * number) // (2000 * channels)
+
+
+def refused(path: str, why: str) -> Refusal:
+    """The refusal of a header, in the words of `psr_search`."""
+    return Refusal(HEADER, f"header of {path} refused: {why}")

@@ -1,0 +1,222 @@
+"""`psr_look`: what a header says, and what the first megabytes tell for the words of a search. It estimates."""
+from __future__ import annotations
+
+import argparse
+import math
+import shlex
+from collections.abc import Sequence
+from dataclasses import dataclass
+
+import numpy as np
+
+from .headers import Header, refused
+from .number import scaled
+from .paths import path_cells
+from .program import Words
+from .samples import Samples
+
+# the greatest delay of a search where none is said, the greatest there is, and the widest box where none is said
+USUAL_DELAY, GREATEST_DELAY = 256, 8192
+USUAL_WIDTH = 8
+# a threshold that keeps the text of a first search short
+FIRST_SNR = 15
+# the usual and greatest size of recorded files
+USUAL_FILE_SIZE = 2**30
+# in how many pieces the data are held against each other
+PIECES = 8
+# a channel stands out that lies so many deviations of the channels off their median
+STANDS_OUT = 6
+# deviations of a normal distribution in the median of the distances from its median
+MEDIAN_DISTANCE = 0.6745
+
+
+@dataclass(frozen=True)
+class Measured:
+    """Estimates from the first spectra: each channel's mean and deviation, the highest first, and each piece's mean."""
+
+    spectra: int
+    means: np.ndarray
+    deviations: np.ndarray
+    piece_means: np.ndarray
+
+    @property
+    def mean(self) -> float:
+        """The mean of a sample."""
+        return float(self.means.mean())
+
+    @property
+    def deviation(self) -> float:
+        """The deviation of a sample from its channel's mean, which is what the noise of sums is made of."""
+        return float(np.sqrt((self.deviations**2).mean()))
+
+
+def psr_look(words: Sequence[str]) -> None:
+    """Prints what the words ask for."""
+    asked = parsed(words)
+    samples = Samples([asked.file])
+    head = samples.header
+    if head.spectra < 2:
+        raise refused(asked.file, f"its data have {head.data_bytes} bytes, fewer than two spectra")
+    measured = measure(samples, int(asked.megabytes * 1e6) // head.spectrum_bytes)
+    taken = measured.spectra * head.spectrum_bytes / 1e6
+    print(f"psr_look estimates, from the first {taken:.3g} MB of the data; nothing of what it says is proved.")
+    for name, text in said(asked, head, measured):
+        print(f"{name:<12}{text}")
+    if asked.channels:
+        print_channels(head, measured)
+
+
+def parsed(words: Sequence[str]) -> argparse.Namespace:
+    """The words of the command."""
+    parser = Words(prog="psr_look", description="Says what a file holds, and with which words one may search it.")
+    parser.add_argument("file", metavar="FILE", help="a DADA file of filterbank samples")
+    parser.add_argument("dm", metavar="DM", nargs="?", type=dispersion_measure, help="a dispersion measure in pc/cm^3")
+    parser.add_argument("--megabytes", metavar="N", type=positive, default=64.0, help="how much is read (64)")
+    parser.add_argument("--channels", action="store_true", help="each channel's mean and deviation besides")
+    return parser.parse_args(words)
+
+
+def dispersion_measure(text: str) -> float:
+    """A dispersion measure in pc/cm^3."""
+    value = scaled(text, 6)
+    if value is None or value < 0:
+        raise argparse.ArgumentTypeError(f"{text} is no dispersion measure")
+    return value / 1e6
+
+
+def positive(text: str) -> float:
+    """A number above 0."""
+    value = scaled(text, 6)
+    if value is None or value <= 0:
+        raise argparse.ArgumentTypeError(f"{text} is no number above 0")
+    return value / 1e6
+
+
+def measure(samples: Samples, most: int) -> Measured:
+    """Estimates from the first spectra, `most` at the most, but two at least."""
+    spectra = min(samples.spectra, max(most, 2))
+    bounds = np.linspace(0, spectra, min(PIECES, spectra) + 1).astype(int)
+    total = np.zeros(samples.header.channels)
+    squares = np.zeros(samples.header.channels)
+    piece_means = []
+    for first, stop in zip(bounds, bounds[1:]):
+        piece = samples.read(int(first), int(stop - first)).astype(np.float64)
+        total += piece.sum(axis=0)
+        squares += (piece**2).sum(axis=0)
+        piece_means.append(piece.mean())
+    means = total / spectra
+    variances = np.maximum(squares / spectra - means**2, 0)
+    return Measured(spectra, means, np.sqrt(variances), np.array(piece_means))
+
+
+def said(asked: argparse.Namespace, head: Header, measured: Measured) -> list[tuple[str, str]]:
+    """What is said of the file, line by line."""
+    max_delay = delay_to_search(head, asked.dm)
+    lines = header_lines(head) + noise_lines(head, measured, max_delay)
+    if asked.dm is not None:
+        lines.append(("delay", delay_text(head, asked.dm)))
+    lines.append(("reach", ", ".join(
+        f"{delay} spectra across the band are DM {head.dm(delay):.3f}" for delay in (USUAL_DELAY, GREATEST_DELAY))))
+    lines.append(("file size", f"--file-size {USUAL_FILE_SIZE // head.spectrum_bytes * head.spectrum_bytes} "
+                               "cuts recorded files between spectra"))
+    lines.append(("words", f"psr_search --mean {measured.mean:.3f} --sd {max(measured.deviation, 0.001):.3f} "
+                           f"--snr {FIRST_SNR} --max-delay {max_delay} {shlex.quote(asked.file)}"))
+    return lines
+
+
+def header_lines(head: Header) -> list[tuple[str, str]]:
+    """What the header says."""
+    names = head.words_of("SOURCE", "TELESCOPE", "RECEIVER", "INSTRUMENT")
+    order = "the highest first" if head.is_falling else "the lowest first"
+    pair = "two polarisations, which are added" if head.polarisations == 2 else "one polarisation"
+    start = "" if np.isnat(head.start) else f", from {np.datetime_as_string(head.start, 's')}"
+    left = head.data_bytes % head.spectrum_bytes
+    rest = f", and {left} bytes of an incomplete one" if left else ""
+    return [
+        ("header", ", ".join([f"{head.size} bytes", *names])),
+        ("band", f"{head.channels} channels from {head.edges_khz[-1] / 1000:.3f} to {head.edges_khz[0] / 1000:.3f} MHz, "
+                 f"{order} in a spectrum"),
+        ("samples", f"{head.bits} bits, {pair}; a spectrum of {head.spectrum_bytes} bytes "
+                    f"every {head.sample_ns / 1000:.3f} us"),
+        ("length", f"{head.spectra} spectra{rest}, {head.spectra * head.seconds:.3f} s{start}"),
+    ]
+
+
+def noise_lines(head: Header, measured: Measured, max_delay: int) -> list[tuple[str, str]]:
+    """Mean and deviation, how even the band is, and how steady."""
+    lines = [
+        ("noise", f"a sample has the mean {measured.mean:.3f} and the deviation {measured.deviation:.3f}"),
+        ("channels", f"means from {measured.means.min():.3f} to {measured.means.max():.3f}, "
+                     f"deviations from {measured.deviations.min():.3f} to {measured.deviations.max():.3f}"),
+    ]
+    if measured.deviation > 0:
+        lines.append(("even", f"the band's unevenness alone gives sums of 0 to {max_delay} spectra of delay a printed ratio of "
+                              f"up to {uneven_ratio(head, measured, max_delay):.1f} at width {USUAL_WIDTH}"))
+        lines.append(("steady", f"its drift alone gives them one of up to {drift_ratio(head, measured, max_delay):.1f}"))
+    mask = mask_text(stand_out(head, measured))
+    if mask:
+        lines.append(("stand out", f"channels {mask}, counted from 0 in the order of the file: "
+                                   "one may want to leave them out before a search"))
+    return lines
+
+
+def uneven_ratio(head: Header, measured: Measured, max_delay: int) -> float:
+    """By how many of its stated deviations a box of the usual width is shifted at most since channels have other means.
+
+    Delays grow in steps, so that 64 of them at the most are tried.
+    """
+    delays = np.unique(np.linspace(0, max_delay, 64).astype(int))
+    excess = (measured.means - measured.mean) @ path_cells(head.edges_khz, delays)
+    ratios = math.sqrt(USUAL_WIDTH) * excess / (measured.deviation * np.sqrt(head.channels + delays))
+    return float(ratios.max())
+
+
+def drift_ratio(head: Header, measured: Measured, max_delay: int) -> float:
+    """By how many of its stated deviations a box of the usual width is shifted at most since pieces have other means."""
+    cells = USUAL_WIDTH * (head.channels + max_delay)
+    return float((measured.piece_means.max() - measured.mean) * math.sqrt(cells) / measured.deviation)
+
+
+def stand_out(head: Header, measured: Measured) -> np.ndarray:
+    """The numbers in the order of the file of the channels that lie far off the others, by mean or by deviation."""
+    error = measured.deviation / math.sqrt(measured.spectra)
+    are_far = is_far(measured.means, error) | is_far(measured.deviations, error)
+    return np.flatnonzero(are_far if head.is_falling else are_far[::-1])
+
+
+def is_far(values: np.ndarray, error: float) -> np.ndarray:
+    """Which values lie far off their median, by the usual distance from it, but no less than the error of each."""
+    distances = np.abs(values - np.median(values))
+    usual = max(float(np.median(distances)) / MEDIAN_DISTANCE, error)
+    return distances > STANDS_OUT * usual
+
+
+def mask_text(channels: np.ndarray) -> str:
+    """Channels as single numbers and ranges, parted by commas."""
+    runs = np.split(channels, np.flatnonzero(np.diff(channels) > 1) + 1)
+    return ",".join(str(run[0]) if len(run) == 1 else f"{run[0]}-{run[-1]}" for run in runs if len(run))
+
+
+def delay_to_search(head: Header, dm: float | None) -> int:
+    """The greatest delay for a first search: an eighth more than that of the dispersion measure."""
+    if dm is None:
+        return USUAL_DELAY
+    return min(GREATEST_DELAY, math.ceil(head.delay(dm) * 9 / 8) + 1)
+
+
+def delay_text(head: Header, dm: float) -> str:
+    """The delay of a dispersion measure, and what to do where no search reaches it."""
+    delay = head.delay(dm)
+    text = f"DM {dm:g} takes {delay:.1f} spectra across the band, {delay * head.seconds * 1000:.3f} ms"
+    if delay <= GREATEST_DELAY:
+        return text
+    return f"{text}: average {math.ceil(delay / GREATEST_DELAY)} spectra into one first, since {GREATEST_DELAY} are the most"
+
+
+def print_channels(head: Header, measured: Measured) -> None:
+    """A line for each channel, in the order of the file: its number, middle in MHz, mean and deviation."""
+    print("CHANNEL MHZ MEAN SD")
+    order = range(head.channels) if head.is_falling else range(head.channels - 1, -1, -1)
+    for number, channel in enumerate(order):
+        middle = (head.edges_khz[channel] + head.edges_khz[channel + 1]) / 2000
+        print(f"{number} {middle:.3f} {measured.means[channel]:.3f} {measured.deviations[channel]:.3f}")

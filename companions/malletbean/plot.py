@@ -1,0 +1,230 @@
+"""`psr_plot`: a picture of the candidates of a text, as astronomers know it from other searches."""
+from __future__ import annotations
+
+import argparse
+import os
+from collections.abc import Sequence
+from dataclasses import dataclass
+
+import matplotlib
+import numpy as np
+from matplotlib.axes import Axes
+from matplotlib.figure import Figure
+
+from .candidates import fold_table, pulse_table
+from .headers import Header
+from .program import Words, add_search_words, found_by
+from .refusal import OUTPUT, TEXT, WORDS, Refusal
+from .samples import Samples, fold_profile, path_sums_of
+
+SUFFIXES = (".png", ".svg", ".pdf")
+# so many lines are all drawn; of more, the strongest of each cell of a panel: cells along it and up
+MOST_DRAWN = 20_000
+CELLS = (500, 250)
+# areas of the least and the greatest circle in square points, and over how much of S/N they grow at least
+LEAST_AREA, GREATEST_AREA, LEAST_GROWTH = 5.0, 150.0, 20.0
+# from so many circles on they are drawn as dots of a raster also in SVG and PDF
+RASTER_FROM = 4000
+
+
+@dataclass(frozen=True)
+class Picture:
+    """What is drawn: the tables of the lines, weaker ones first, and the profile of a fold in S/N with its line."""
+
+    title: str
+    pulses: np.ndarray
+    folds: np.ndarray
+    profile: np.ndarray | None
+    fold: np.void | None
+
+
+def psr_plot(words: Sequence[str]) -> None:
+    """Reads a text and draws what the words ask for."""
+    asked = parsed(words)
+    samples = Samples([asked.file, *asked.next])
+    found = found_by(asked, samples.header)
+    pulses = pulse_table(found.pulses, samples.header, asked.mean, asked.deviation)
+    folds = fold_table(found.folds, samples.header, asked.mean, asked.deviation)
+    fold = chosen(folds, asked) if asked.fold is not None else None
+    profile = profile_of(samples, fold, asked) if fold is not None else None
+    figure = new_figure(asked.show)
+    title = title_of(asked, samples.header, found.spectra)
+    draw(figure, Picture(title, by_strength(pulses), by_strength(folds), profile, fold))
+    if asked.output is not None:
+        figure.savefig(asked.output)
+    if asked.show:
+        matplotlib.pyplot.show()
+
+
+def parsed(words: Sequence[str]) -> argparse.Namespace:
+    """The words of the command."""
+    parser = Words(prog="psr_plot", description="Draws the candidates of a text of psr_search.")
+    add_search_words(parser)
+    parser.add_argument("-o", "--output", metavar="PICTURE", help="a new picture: .png, .svg or .pdf")
+    parser.add_argument("--show", action="store_true", help="a window with the picture")
+    parser.add_argument("--fold", metavar="K", help="the profile of FOLD line K, counted from 0, or of the `best`")
+    parser.add_argument("--next", metavar="FILE", nargs="+", default=[], help="the observation's files behind FILE")
+    asked = parser.parse_args(words)
+    if asked.output is None and not asked.show:
+        raise Refusal(WORDS, "neither -o PICTURE nor --show")
+    if asked.output is not None and not asked.output.endswith(SUFFIXES):
+        raise Refusal(WORDS, f"argument -o: {asked.output} ends in none of {', '.join(SUFFIXES)}")
+    if asked.fold not in (None, "best") and not asked.fold.isdecimal():
+        raise Refusal(WORDS, f"argument --fold: {asked.fold} is neither a number nor best")
+    return asked
+
+
+def title_of(asked: argparse.Namespace, head: Header, spectra: int) -> str:
+    """What stands above the picture."""
+    names = head.words_of("SOURCE", "TELESCOPE")
+    start = [] if np.isnat(head.start) else [f"from {np.datetime_as_string(head.start, 's')}"]
+    length = f"{spectra} spectra, {spectra * head.seconds:.3f} s"
+    return ", ".join([*names, os.path.basename(asked.file), length, *start, f"mean {asked.mean:g}, sd {asked.deviation:g}"])
+
+
+def chosen(folds: np.ndarray, asked: argparse.Namespace) -> np.void:
+    """The FOLD line whose profile is asked for."""
+    if asked.fold == "best" and len(folds):
+        return folds[np.argmax(folds["snr"])]
+    if asked.fold == "best" or int(asked.fold) >= len(folds):
+        raise Refusal(TEXT, f"{asked.text} has {len(folds)} FOLD lines, and not the one that --fold names")
+    return folds[int(asked.fold)]
+
+
+def profile_of(samples: Samples, fold: np.void, asked: argparse.Namespace) -> np.ndarray:
+    """The profile of a fold, made from the data: S/N at each phase by the noise of its line."""
+    delay, period, rows, trial = (int(fold[name]) for name in ("delay", "period", "rows", "trial"))
+    profile = fold_profile(path_sums_of(samples, delay, rows * period), period, rows, trial)
+    if profile[fold["phase"]] != fold["sum"]:
+        raise Refusal(TEXT, f"{asked.text} refused: the SUM of the fold is not that of the data of {asked.file}")
+    excess = profile - int(fold["cells"]) * asked.mean
+    return excess * (fold["snr"] / excess[fold["phase"]])
+
+
+def new_figure(is_shown: bool) -> Figure:
+    """An empty picture, in a window where it is to be shown."""
+    if not is_shown:
+        return Figure(layout="constrained")
+    from matplotlib import pyplot
+    figure = pyplot.figure(layout="constrained")
+    if matplotlib.get_backend().lower() == "agg":
+        raise Refusal(OUTPUT, "no window can be opened here: take -o PICTURE")
+    return figure
+
+
+def draw(figure: Figure, picture: Picture) -> None:
+    """Draws the panels: those of PULSE lines always, those of FOLD lines and of a profile where there are any."""
+    rows = [["snr", "number"], ["time", "time"]]
+    heights = [1.0, 1.3]
+    if len(picture.folds):
+        rows.append(["periods", "fold_dms"])
+        heights.append(1.0)
+    if picture.profile is not None:
+        rows.append(["profile", "profile"])
+        heights.append(0.8)
+    figure.set_size_inches(10, 2.6 * sum(heights))
+    figure.suptitle(picture.title, fontsize=9, parse_math=False)
+    panels = figure.subplot_mosaic(rows, gridspec_kw={"height_ratios": heights})
+    draw_snr(panels["snr"], picture.pulses, "PULSE")
+    draw_number(panels["number"], picture.pulses)
+    draw_time(panels["time"], picture.pulses)
+    if len(picture.folds):
+        draw_periods(panels["periods"], picture.folds)
+        draw_snr(panels["fold_dms"], picture.folds, "FOLD")
+    if picture.profile is not None:
+        draw_profile(panels["profile"], picture.profile, picture.fold)
+
+
+def draw_snr(panel: Axes, lines: np.ndarray, word: str) -> None:
+    """S/N against DM, and the greatest printed ratio of each DM besides."""
+    panel.set(xlabel="DM / (pc/cm$^3$)", ylabel="S/N", title=f"{len(lines)} {word} lines")
+    if not len(lines):
+        return
+    those = strongest_of_cells(lines["dm"], lines["snr"])
+    panel.scatter(lines["dm"][those], lines["snr"][those], s=3, color="tab:blue", linewidths=0,
+                  rasterized=len(those) > RASTER_FROM, label="true noise")
+    greatest = np.zeros(lines["delay"].max() + 1)
+    np.maximum.at(greatest, lines["delay"], lines["ratio"])
+    delays = np.flatnonzero(greatest)
+    panel.plot(dm_of_delays(lines)[delays], greatest[delays], color="tab:grey", linewidth=0.8,
+               label="greatest printed ratio")
+    panel.legend(fontsize=7, loc="upper right")
+
+
+def draw_number(panel: Axes, pulses: np.ndarray) -> None:
+    """How many lines each DM has."""
+    panel.set(xlabel="DM / (pc/cm$^3$)", ylabel="PULSE lines of a DM", title="number")
+    if not len(pulses):
+        return
+    counts = np.bincount(pulses["delay"])
+    delays = np.flatnonzero(counts)
+    panel.vlines(dm_of_delays(pulses)[delays], 0, counts[delays], color="tab:blue", linewidth=1)
+    panel.set_ylim(bottom=0)
+
+
+def draw_time(panel: Axes, pulses: np.ndarray) -> None:
+    """Time against DM in circles whose area grows with S/N."""
+    panel.set(xlabel="time at the top of the band / s", ylabel="DM / (pc/cm$^3$)")
+    if not len(pulses):
+        return
+    those = strongest_of_cells(pulses["time_top"], pulses["dm"])
+    ratios = pulses["snr"][those]
+    circles = panel.scatter(pulses["time_top"][those], pulses["dm"][those], s=areas(ratios), c=ratios, linewidths=0,
+                            alpha=0.8, rasterized=len(those) > RASTER_FROM)
+    panel.figure.colorbar(circles, ax=panel, label="S/N")
+    if len(those) < len(pulses):
+        panel.set_title(f"{len(those)} of {len(pulses)} lines: the strongest of each of "
+                        f"{CELLS[0]} x {CELLS[1]} cells", fontsize=9)
+
+
+def draw_periods(panel: Axes, folds: np.ndarray) -> None:
+    """S/N of folds against their period."""
+    milliseconds = folds["period_s"] * 1000
+    those = strongest_of_cells(milliseconds, folds["snr"])
+    panel.scatter(milliseconds[those], folds["snr"][those], s=3, color="tab:orange", linewidths=0,
+                  rasterized=len(those) > RASTER_FROM)
+    panel.set(xlabel="period / ms", ylabel="S/N", title=f"{len(folds)} FOLD lines")
+
+
+def draw_profile(panel: Axes, profile: np.ndarray, fold: np.void) -> None:
+    """The profile of a fold over its phase."""
+    panel.step(np.arange(len(profile)), profile, where="mid", linewidth=0.8)
+    panel.axvline(fold["phase"], color="tab:grey", linewidth=0.6)
+    panel.set(xlabel="phase / spectra", ylabel="S/N",
+              title=f"fold: DM {fold['dm']:.3f}, {fold['period_s'] * 1000:.6f} ms, {fold['rows']} rows, "
+                    f"S/N {fold['snr']:.1f}")
+
+
+def dm_of_delays(lines: np.ndarray) -> np.ndarray:
+    """The dispersion measure of each delay, by the lines."""
+    dms = np.zeros(lines["delay"].max() + 1)
+    dms[lines["delay"]] = lines["dm"]
+    return dms
+
+
+def by_strength(lines: np.ndarray) -> np.ndarray:
+    """The lines, weaker ones first, so that stronger ones are drawn above them."""
+    return lines[np.argsort(lines["snr"], kind="stable")]
+
+
+def strongest_of_cells(along: np.ndarray, up: np.ndarray) -> np.ndarray:
+    """Of many points that stand weaker ones first, the strongest in each cell of a panel, in their order."""
+    if len(along) <= MOST_DRAWN:
+        return np.arange(len(along))
+    best = np.full(CELLS[0] * CELLS[1], -1)
+    best[cell_numbers(along, CELLS[0]) * CELLS[1] + cell_numbers(up, CELLS[1])] = np.arange(len(along))
+    return np.sort(best[best >= 0])
+
+
+def cell_numbers(values: np.ndarray, count: int) -> np.ndarray:
+    """In which of `count` cells between the least and the greatest value each of them lies."""
+    least, greatest = values.min(), values.max()
+    if least == greatest:
+        return np.zeros(len(values), np.int64)
+    return np.minimum(((values - least) * (count / (greatest - least))).astype(np.int64), count - 1)
+
+
+def areas(ratios: np.ndarray) -> np.ndarray:
+    """The areas of circles in square points: they grow with S/N, from the least one on."""
+    least, greatest = ratios.min(), ratios.max()
+    return LEAST_AREA + (GREATEST_AREA - LEAST_AREA) * (ratios - least) / max(greatest - least, LEAST_GROWTH)

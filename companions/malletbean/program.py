@@ -1,0 +1,75 @@
+"""What the three programs have in common: their words, and how they end."""
+from __future__ import annotations
+
+import argparse
+import os
+import sys
+from collections.abc import Callable, Sequence
+
+from .candidates import check_fits
+from .headers import Header
+from .number import scaled
+from .refusal import MEMORY, OUTPUT, TEXT, WORDS, Refusal
+from .texts import Found, read
+
+
+class Words(argparse.ArgumentParser):
+    """A parser that says in one line what is wrong with the words."""
+
+    def error(self, message: str) -> None:
+        """Ends with the status of words."""
+        raise Refusal(WORDS, f"{message}; --help lists the words")
+
+
+def run(name: str, program: Callable[[Sequence[str]], None]) -> int:
+    """Runs a program over the words of the command, and answers its status."""
+    try:
+        program(sys.argv[1:])
+        sys.stdout.flush()
+    except Refusal as refusal:
+        return say(name, refusal.status, refusal.line)
+    except MemoryError:
+        return say(name, MEMORY, "no memory")
+    except BrokenPipeError:
+        os.dup2(os.open(os.devnull, os.O_WRONLY), sys.stdout.fileno())
+        return say(name, OUTPUT, "the output was closed")
+    except OSError as fault:
+        return say(name, OUTPUT, f"can't write: {fault.strerror}")
+    return 0
+
+
+def say(name: str, status: int, line: str) -> int:
+    """Says a line on standard error, and answers the status."""
+    print(f"{name}: {line}", file=sys.stderr)
+    return status
+
+
+def add_search_words(words: Words) -> None:
+    """The words that say which search a text is of."""
+    words.add_argument("file", metavar="FILE", help="the first file of the observation that was searched")
+    words.add_argument("mean", metavar="MEAN", type=noise_value, help="the mean that the search was given")
+    words.add_argument("deviation", metavar="SD", type=noise_value, help="the deviation that the search was given")
+    words.add_argument("text", metavar="TEXT", help="the text of the search")
+    words.add_argument("--obs", metavar="K", type=int, help="which observation of the text, where it has several")
+
+
+def noise_value(text: str) -> float:
+    """A mean or a deviation of a sample, with three decimals."""
+    value = scaled(text, 3)
+    if value is None or not 0 <= value <= 200_000_000:
+        raise argparse.ArgumentTypeError(f"{text} is no number from 0 to 200000")
+    return value / 1000
+
+
+def found_by(words: argparse.Namespace, head: Header) -> Found:
+    """What the search found in the observation that the words name."""
+    if words.deviation == 0:
+        raise Refusal(WORDS, "argument SD: it is 0")
+    entries = read(words.text)
+    if words.obs is None and len(entries) > 1:
+        raise Refusal(TEXT, f"{words.text} has {len(entries)} observations: choose one with --obs K, K from 0 on")
+    number = words.obs or 0
+    if not 0 <= number < len(entries):
+        raise Refusal(TEXT, f"{words.text} has no observation {number}")
+    check_fits(words.text, entries[number], head)
+    return entries[number]

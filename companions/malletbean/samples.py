@@ -1,0 +1,99 @@
+"""The samples of an observation, and its path sums and folds, made from them."""
+from __future__ import annotations
+
+from collections.abc import Sequence
+
+import numpy as np
+
+from .headers import Header, header, refused
+from .paths import delay_paths, fold_shifts
+from .refusal import READ, TEXT, Refusal
+
+# how many samples are worked on at a time
+SAMPLES_AT_A_TIME = 2**24
+# what the files of one observation have in common
+COMMON = ("channels", "bits", "polarisations", "sample_ns", "centre_hz", "width_hz", "is_falling")
+
+
+class Samples:
+    """The samples of one observation in one or more files, which follow one another."""
+
+    def __init__(self, paths: Sequence[str]) -> None:
+        self.paths = list(paths)
+        self.headers = [header(path) for path in self.paths]
+        self.begins = [0]
+        for path, later in zip(self.paths, self.headers):
+            self._check(path, later)
+            self.begins.append(self.begins[-1] + later.data_bytes)
+
+    @property
+    def header(self) -> Header:
+        """The header of the first file."""
+        return self.headers[0]
+
+    @property
+    def spectra(self) -> int:
+        """Whole spectra in all files."""
+        return self.begins[-1] // self.header.spectrum_bytes
+
+    def read(self, first: int, count: int) -> np.ndarray:
+        """So many spectra from one on, each a row, polarisations added, the highest channel first."""
+        head = self.header
+        size = head.spectrum_bytes
+        data = b"".join(self._bytes(first * size, (first + count) * size))
+        values = np.frombuffer(data, f"<u{head.bits // 8}").reshape(-1, head.channels, head.polarisations)
+        added = values.sum(axis=2, dtype=np.uint32)
+        return added if head.is_falling else added[:, ::-1]
+
+    def _check(self, path: str, later: Header) -> None:
+        first = self.headers[0]
+        for name in COMMON:
+            if getattr(later, name) != getattr(first, name):
+                raise refused(path, f"its {name} differs from that of {self.paths[0]}")
+        expected = first.offset + self.begins[-1]
+        if later.offset != expected:
+            raise refused(path, f"it has OBS_OFFSET {later.offset} where {expected} was expected")
+
+    def _bytes(self, first: int, stop: int) -> list[bytes]:
+        """The data bytes from one place up to another, file by file."""
+        pieces = []
+        for path, head, begin, end in zip(self.paths, self.headers, self.begins, self.begins[1:]):
+            low, high = max(first, begin), min(stop, end)
+            if low >= high:
+                continue
+            try:
+                with open(path, "rb") as file:
+                    file.seek(head.size + low - begin)
+                    pieces.append(file.read(high - low))
+            except OSError as fault:
+                raise Refusal(READ, f"can't read {path}: {fault.strerror}") from fault
+        return pieces
+
+
+def path_sums(spectra: np.ndarray, entries: np.ndarray) -> np.ndarray:
+    """The sums along a path with these entries at the edges, for each spectrum at which it can begin among these."""
+    count = len(spectra) - int(entries[-1])
+    sums = np.zeros(count, np.int64)
+    for channel, (enters, leaves) in enumerate(zip(entries, entries[1:])):
+        total = np.concatenate(([0], spectra[:, channel].cumsum(dtype=np.int64)))
+        sums += total[leaves + 1:leaves + 1 + count] - total[enters:enters + count]
+    return sums
+
+
+def path_sums_of(samples: Samples, delay: int, count: int) -> np.ndarray:
+    """The first `count` path sums of a delay, from the one that begins at the first spectrum on."""
+    if count + delay > samples.spectra:
+        raise Refusal(TEXT, f"{count + delay} spectra are needed, and the data have {samples.spectra}: name all files")
+    entries = delay_paths(samples.header.edges_khz, np.array([delay]))[:, 0]
+    at_a_time = max(1, SAMPLES_AT_A_TIME // samples.header.channels)
+    pieces = []
+    for first in range(0, count, at_a_time):
+        so_many = min(at_a_time, count - first)
+        pieces.append(path_sums(samples.read(first, so_many + delay), entries))
+    return np.concatenate(pieces)
+
+
+def fold_profile(sums: np.ndarray, period: int, rows: int, trial: int) -> np.ndarray:
+    """The fold of path sums at a period and a trial: at each phase the sum of one value of each row."""
+    shifts = fold_shifts(rows, np.array([trial]))[0]
+    return sum(np.roll(row, -shift) for row, shift in zip(sums[:rows * period].reshape(rows, period), shifts))

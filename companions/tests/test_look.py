@@ -1,0 +1,100 @@
+"""What psr_look says of made observations."""
+from __future__ import annotations
+
+from pathlib import Path
+
+import numpy as np
+import pytest
+
+import made
+from malletbean import Refusal
+from malletbean.look import mask_text, psr_look
+
+
+def said(capsys: pytest.CaptureFixture[str], *words: str) -> dict[str, str]:
+    """What is said under each name; the first line under the name `first`."""
+    psr_look(words)
+    first, *lines = capsys.readouterr().out.splitlines()
+    return {"first": first} | {line[:12].strip(): line[12:] for line in lines if not line.startswith("CHANNEL")}
+
+
+def levelled(path: Path, factors: np.ndarray) -> str:
+    """The file with the samples of each channel, the highest first, times a factor."""
+    head, data = path.read_bytes()[:4096], np.frombuffer(path.read_bytes()[4096:], np.uint8)
+    path.write_bytes(head + (data.reshape(-1, len(factors)) * factors).round().astype(np.uint8).tobytes())
+    return str(path)
+
+
+def test_a_flat_band(tmp_path: Path, capsys: pytest.CaptureFixture[str]) -> None:
+    made.make(tmp_path / "a file.dada", height=0)
+    lines = said(capsys, str(tmp_path / "a file.dada"), "5")
+    assert "estimates" in lines["first"] and "nothing of what it says is proved" in lines["first"]
+    mean, deviation = (float(word) for word in lines["noise"].split() if word[0].isdigit())
+    assert mean == pytest.approx(16, abs=0.02) and deviation == pytest.approx(2.828, abs=0.01)
+    assert "stand out" not in lines
+    assert lines["delay"].startswith("DM 5 takes 102.5 spectra")
+    assert "256 spectra across the band are DM 12.487" in lines["reach"]
+    assert "8192 spectra across the band are DM 399.610" in lines["reach"]
+    assert lines["words"] == (f"psr_search --mean {mean:.3f} --sd {deviation:.3f} --snr 15 --max-delay 117 "
+                              f"'{tmp_path}/a file.dada'")
+
+
+def test_polarisations_are_added(files: dict[str, str], capsys: pytest.CaptureFixture[str]) -> None:
+    lines = said(capsys, files["rising"])
+    mean = float(lines["noise"].split()[5])
+    assert 32 < mean < 33
+    assert "16 bits, two polarisations" in lines["samples"]
+    assert "the lowest first" in lines["band"] or "the lowest first" in str(lines)
+
+
+def test_file_size_cuts_between_spectra(tmp_path: Path, capsys: pytest.CaptureFixture[str]) -> None:
+    made.make(tmp_path / "odd.dada", channels=96, spectra=100, delay=1, polarisations=2, bits=16)
+    size = int(said(capsys, str(tmp_path / "odd.dada"))["file size"].split()[1])
+    assert size % 384 == 0 and 2**30 - 384 < size <= 2**30
+
+
+def test_a_tilted_band_and_channels_that_stand_out(tmp_path: Path, capsys: pytest.CaptureFixture[str]) -> None:
+    path = tmp_path / "tilted.dada"
+    made.make(path, channels=64, spectra=8192, height=0)
+    flat = said(capsys, str(path))
+    factors = np.linspace(0.9, 1.1, 64)
+    factors[[3, 17, 18, 19]] = 3
+    uneven = said(capsys, levelled(path, factors))
+    assert uneven["stand out"].startswith("channels 3,17-19, counted from 0 in the order of the file")
+    assert ratio_of(flat["even"]) < 1 < ratio_of(uneven["even"])
+
+
+def ratio_of(text: str) -> float:
+    """The printed ratio that a line names."""
+    return float(text.split("up to ")[1].split()[0])
+
+
+def test_channels_are_counted_in_the_order_of_the_file(tmp_path: Path, capsys: pytest.CaptureFixture[str]) -> None:
+    path = tmp_path / "rising.dada"
+    made.make(path, channels=64, spectra=4096, height=0, width=400)
+    factors = np.ones(64)
+    factors[5] = 3
+    assert said(capsys, levelled(path, factors))["stand out"].startswith("channels 5, counted")
+    psr_look([str(path), "--channels"])
+    lines = capsys.readouterr().out.splitlines()
+    number, middle, mean, _ = lines[lines.index("CHANNEL MHZ MEAN SD") + 1 + 5].split()
+    assert (number, middle) == ("5", "1216.375") and float(mean) > 40
+
+
+def test_a_delay_past_every_search(files: dict[str, str], capsys: pytest.CaptureFixture[str]) -> None:
+    lines = said(capsys, files["made"], "1000")
+    assert "average 3 spectra into one first" in lines["delay"]
+    assert "--max-delay 8192 " in lines["words"]
+
+
+def test_one_spectrum_is_too_few(tmp_path: Path) -> None:
+    made.make(tmp_path / "one.dada", spectra=1, delay=0)
+    with pytest.raises(Refusal, match="fewer than two spectra"):
+        psr_look([str(tmp_path / "one.dada")])
+
+
+@pytest.mark.parametrize("channels, text", [
+    ([], ""), ([3], "3"), ([3, 17, 18, 19, 20], "3,17-20"), ([0, 1, 5], "0-1,5"),
+])
+def test_mask_texts(channels: list[int], text: str) -> None:
+    assert mask_text(np.array(channels, int)) == text

@@ -1,0 +1,65 @@
+"""The three programs as they are called: their statuses, and the one line that says why."""
+from __future__ import annotations
+
+import subprocess
+import sys
+from pathlib import Path
+
+import pytest
+
+from conftest import DATA, HERE
+from malletbean.look import psr_look
+from malletbean.plot import psr_plot
+from malletbean.program import run
+from malletbean.table import psr_table
+
+PROGRAMS = {"psr_look": psr_look, "psr_plot": psr_plot, "psr_table": psr_table}
+MADE, TWO = str(DATA / "made.txt"), str(DATA / "two.txt")
+
+
+def called(program: str, *words: str) -> subprocess.CompletedProcess[str]:
+    """What the program answers."""
+    return subprocess.run([sys.executable, str(HERE.parent / program), *words], capture_output=True, text=True)
+
+
+@pytest.mark.parametrize("program", PROGRAMS)
+def test_the_commands(program: str) -> None:
+    answer = called(program, "--help")
+    assert answer.returncode == 0 and answer.stdout.startswith(f"usage: {program}")
+
+
+@pytest.mark.parametrize("program, words, status, line", [
+    ("psr_look", [], 2, "the following arguments are required: FILE"),
+    ("psr_look", ["FILE", "1e3"], 2, "1e3 is no dispersion measure"),
+    ("psr_look", ["/nowhere/a.dada"], 6, "can't read /nowhere/a.dada"),
+    ("psr_look", [MADE], 3, f"header of {MADE} refused: Short"),
+    ("psr_table", ["FILE", "1e3", "1", MADE], 2, "1e3 is no number"),
+    ("psr_table", ["FILE", "16", "0", MADE], 2, "argument SD: it is 0"),
+    ("psr_table", ["FILE", "16", "2.828", "/nowhere/text"], 6, "can't read /nowhere/text"),
+    ("psr_table", ["FILE", "16", "2.828", __file__], 4, "no END line"),
+    ("psr_table", ["FILE", "16", "2.828", TWO], 4, "has 2 observations"),
+    ("psr_table", ["FILE", "16", "2.828", TWO, "--obs", "2"], 4, "has no observation 2"),
+    ("psr_table", ["FILE", "16", "2.828", MADE, "-o", "a.txt"], 2, "ends in none of"),
+    ("psr_table", ["FILE", "16", "2.828", MADE, "-o", "/nowhere/a.csv"], 10, "can't write"),
+    ("psr_table", ["FILE", "16", "2.828", MADE, "--best", "0"], 2, "below 1"),
+    ("psr_plot", ["FILE", "16", "2.828", MADE], 2, "neither -o PICTURE nor --show"),
+    ("psr_plot", ["FILE", "16", "2.828", MADE, "-o", "/nowhere/a.png"], 10, "can't write"),
+    ("psr_plot", ["FILE", "16", "2.828", MADE, "-o", "a.gif"], 2, "ends in none of"),
+])
+def test_statuses(files: dict[str, str], monkeypatch: pytest.MonkeyPatch, capsys: pytest.CaptureFixture[str],
+                  program: str, words: list[str], status: int, line: str) -> None:
+    monkeypatch.setattr(sys, "argv", [program, *(files["made"] if word == "FILE" else word for word in words)])
+    assert run(program, PROGRAMS[program]) == status
+    answer = capsys.readouterr()
+    assert line in answer.err and answer.err.count("\n") == 1 and answer.err.startswith(f"{program}: ")
+    assert answer.out == ""
+
+
+def test_a_closed_output(files: dict[str, str], tmp_path: Path) -> None:
+    text = tmp_path / "long"
+    line = "PULSE 20 20 0.975 1 1253 52\n"
+    text.write_text(line * 20000 + "END 20000 0 256\n")
+    command = f"'{sys.executable}' '{HERE.parent}/psr_table' '{files['made']}' 16 2.828 '{text}'"
+    answer = subprocess.run(["bash", "-c", f"{command} | head -1; exit ${{PIPESTATUS[0]}}"], capture_output=True, text=True)
+    assert answer.returncode == 10
+    assert answer.stderr == "psr_table: the output was closed\n"

@@ -1,0 +1,72 @@
+"""Texts of the programs as arrays."""
+from __future__ import annotations
+
+from pathlib import Path
+
+import pytest
+
+from conftest import DATA
+from malletbean import Refusal, read
+
+MADE = (DATA / "made.txt").read_text()
+
+
+def text_of(folder: Path, text: str) -> str:
+    """A file with this text."""
+    path = folder / "text"
+    path.write_text(text)
+    return str(path)
+
+
+def test_a_text_of_pulses() -> None:
+    found, = read(str(DATA / "made.txt"))
+    assert (found.number, found.spectra, len(found.folds)) == (0, 256, 0)
+    assert found.pulses.dtype.names == ("word", "end", "delay", "dm", "width", "sum", "cells")
+    assert found.pulses[3].tolist() == (b"PULSE", 120, 20, 0.975, 1, 1241, 52)
+
+
+def test_a_text_of_pulses_and_folds() -> None:
+    found, = read(str(DATA / "folds.txt"))
+    assert (len(found.pulses), len(found.folds), found.spectra) == (2, 32, 2048)
+    assert found.folds.dtype.names == ("word", "delay", "dm", "period", "rows", "trial", "phase", "sum", "cells")
+    assert found.folds["rows"].tolist() == [16] * len(found.folds)
+
+
+def test_a_text_of_several_observations() -> None:
+    first, second = read(str(DATA / "two.txt"))
+    assert (first.number, first.spectra, second.number, second.spectra) == (0, 512, 1, 256)
+    assert (len(first.pulses), len(second.pulses)) == (95, 80)
+
+
+def test_a_text_without_candidates(tmp_path: Path) -> None:
+    found, = read(text_of(tmp_path, "END 0 0 7\n"))
+    assert (len(found.pulses), len(found.folds), found.spectra) == (0, 0, 7)
+
+
+@pytest.mark.parametrize("text, why", [
+    ("", "no END line"),
+    ("END 0 0 7", "no END line"),
+    (MADE.replace("END 5 0 256\n", ""), "no END line"),
+    (MADE[:-5], "no END line"),
+    (MADE + "PULSE 1 1 0.000 1 1 1\n", "no END line"),
+    (MADE.replace("END 5", "END 6"), "has 5 PULSE and 0 FOLD lines"),
+    (MADE.replace("END 5 0", "END 5 1"), "has 5 PULSE and 0 FOLD lines"),
+    (MADE.replace("PULSE 120 19", "OTHER 120 19"), "begins with OTHER"),
+    (MADE.replace("PULSE 120 19", "PULSE 120"), "number of columns"),
+    (MADE.replace(" 1224 51", " 1224 51 9", 1), "number of columns"),
+    (MADE.replace("1253", "12e53"), "its PULSE lines"),
+    ("OBS 0\n" + MADE, None),
+    ("OBS 0\n" + MADE + "OBS 1\n", "no END line"),
+    ("OBS 0\n" + MADE + "OBS 2\n" + MADE, "do not count from 0"),
+    (MADE + "OBS 1\n" + MADE, "number of columns"),
+    (MADE.replace("PULSE 120 19", "PULSE 120.0 19"), "its PULSE lines"),
+])
+def test_what_is_refused(tmp_path: Path, text: str, why: str | None) -> None:
+    path = text_of(tmp_path, text)
+    if why is None:
+        assert len(read(path)) == 1
+        return
+    with pytest.raises(Refusal) as caught:
+        read(path)
+    assert caught.value.status == 4
+    assert why in caught.value.line and "\n" not in caught.value.line
