@@ -1,0 +1,154 @@
+#!/usr/bin/python3
+"""What part of a pulse's strength a search finds.
+
+Pulses follow the exact dispersion law, are swept within each channel, last some spectra at each frequency (a top hat),
+begin anywhere within a spectrum, and have any delay within half a spectrum of a whole one. The strongest sum that a
+search takes of them, over its delays and boxes, each by its true noise, is divided by the greatest S/N that any weighted
+sum of the samples can have, which is that of weights like the pulse itself. Then the same with noise: pulses whose
+greatest S/N is 15, and how far off the delay of the strongest sum is.
+"""
+from __future__ import annotations
+
+import os
+import sys
+from dataclasses import dataclass
+
+import numpy as np
+
+sys.path.insert(0, os.path.join(os.path.dirname(os.path.abspath(__file__)), "..", "companions"))
+
+from malletbean.headers import edge_khz  # noqa: E402
+from malletbean.paths import box_noise_cells, delay_paths, shared_cells  # noqa: E402
+
+BOXES = (1, 2, 4, 8, 16, 32)
+WIDTHS = (0.5, 1, 2, 4, 8, 16)
+BEGINNINGS = 8
+NOISE_TRIALS = 2
+SNR = 15.0
+# into how many parts a channel is cut to sweep a pulse within it
+PARTS = 64
+
+
+@dataclass(frozen=True)
+class Receiver:
+    """A band in MHz, and the delays in spectra that are tried."""
+
+    name: str
+    channels: int
+    centre: float
+    width: float
+    delays: tuple[int, ...]
+
+    @property
+    def edges_khz(self) -> tuple[int, ...]:
+        """The edges as a search takes them, from the top of the band down."""
+        hertz = int(self.centre * 1e6), int(self.width * 1e6)
+        return tuple(edge_khz(*hertz, self.channels, number) for number in range(self.channels + 1))
+
+
+RECEIVERS = (
+    Receiver("96 channels, 1230 to 1518 MHz", 96, 1374, 288, (40, 160, 640)),
+    Receiver("512 channels, 1210 to 1510 MHz", 512, 1360, 300, (100, 400, 1600)),
+    Receiver("1024 channels, 1182 to 1582 MHz", 1024, 1382, 400, (100, 400, 1600)),
+    Receiver("1024 channels, 400 to 800 MHz", 1024, 600, 400, (100, 400, 1600)),
+)
+
+
+@dataclass(frozen=True)
+class Searched:
+    """What a search of one receiver needs around one delay: its delays, paths, and the noise of its boxes."""
+
+    delays: np.ndarray
+    entries: np.ndarray
+    noise: np.ndarray
+
+
+def searched(receiver: Receiver, delay: int, reach: int) -> Searched:
+    """The delays no farther than `reach` off one, their paths, and the noise of each box."""
+    delays = np.arange(max(0, delay - reach), delay + reach + 1)
+    entries = delay_paths(receiver.edges_khz, delays)
+    shares = [shared_cells(cells) for cells in (np.diff(entries, axis=0) + 1).T]
+    noise = np.sqrt([[box_noise_cells(shared, box) for box in BOXES] for shared in shares])
+    return Searched(delays, entries, noise)
+
+
+def arrivals(receiver: Receiver, delay: float) -> np.ndarray:
+    """How long after the top of the band the parts of each channel (second axis) are reached, in spectra."""
+    top, foot = receiver.centre + receiver.width / 2, receiver.centre - receiver.width / 2
+    places = (np.arange(receiver.channels * PARTS) + 0.5) / (receiver.channels * PARTS)
+    frequencies = (top - places * receiver.width).reshape(receiver.channels, PARTS)
+    return delay * (frequencies**-2 - top**-2) / (foot**-2 - top**-2)
+
+
+def pulse(reached: np.ndarray, width: float, begin: float, margin: int) -> tuple[np.ndarray, np.ndarray]:
+    """The samples of a pulse, a row of each channel, and the spectrum with which each row begins."""
+    begins = reached + begin
+    first = np.floor(begins[:, 0]).astype(np.int64) - margin
+    length = int(np.ceil(begins[:, -1] - begins[:, 0]).max() + np.ceil(width)) + 2 + 2 * margin
+    bounds = first[:, None] + np.arange(length + 1)
+    reached_by = np.zeros(bounds.shape)
+    for part in begins.T:
+        reached_by += np.clip(bounds - part[:, None], 0, width)
+    return np.diff(reached_by, axis=1) / PARTS, first
+
+
+def ratios(samples: np.ndarray, first: np.ndarray, search: Searched, margin: int) -> np.ndarray:
+    """The greatest S/N of each delay (first axis) and box (second axis), where samples have a deviation of 1."""
+    total = np.pad(samples.cumsum(axis=1), ((0, 0), (1, 0)))
+    channel = np.arange(len(samples))[:, None]
+    begins = np.arange(-margin - max(BOXES), margin + 1) + int(first[0]) + margin
+    greatest = np.empty(search.noise.shape)
+    for number, entries in enumerate(search.entries.T):
+        enters = np.clip(begins + entries[:-1, None] - first[:, None], 0, samples.shape[1])
+        leaves = np.clip(begins + entries[1:, None] + 1 - first[:, None], 0, samples.shape[1])
+        sums = (total[channel, leaves] - total[channel, enters]).sum(axis=0).cumsum()
+        sums = np.concatenate(([0], sums))
+        for place, box in enumerate(BOXES):
+            greatest[number, place] = (sums[box:] - sums[:-box]).max() / search.noise[number, place]
+    return greatest
+
+
+@dataclass(frozen=True)
+class Result:
+    """What part is found without noise and with it, on average, and how far off the delay is at most with noise."""
+
+    parts: np.ndarray
+    noisy_parts: np.ndarray
+    farthest: float
+
+
+def tried(receiver: Receiver, delay: int, width: float, generator: np.random.Generator) -> Result:
+    """Pulses of one receiver, delay and width."""
+    reach = int(np.ceil(width)) + 4
+    margin = reach + int(np.ceil(width)) + 2
+    search = searched(receiver, delay, reach)
+    parts, noisy_parts, farthest = [], [], 0.0
+    for begin in (np.arange(BEGINNINGS) + 0.5) / BEGINNINGS:
+        true_delay = delay + generator.uniform(-0.5, 0.5)
+        samples, first = pulse(arrivals(receiver, true_delay), width, begin, margin)
+        samples /= np.sqrt((samples**2).sum())
+        parts.append(ratios(samples, first, search, margin).max())
+        for _ in range(NOISE_TRIALS):
+            found = ratios(SNR * samples + generator.normal(size=samples.shape), first, search, margin)
+            noisy_parts.append(found.max() / SNR)
+            best = search.delays[found.max(axis=1).argmax()]
+            farthest = max(farthest, abs(best - true_delay))
+    return Result(np.array(parts), np.array(noisy_parts), farthest)
+
+
+def main() -> None:
+    """Prints a table in Markdown: a row for each receiver and delay, a column for each width of a pulse."""
+    generator = np.random.default_rng(1)
+    print(f"Without noise on average (and at worst); with noise of a pulse of S/N {SNR:g}: how far the delay is off.\n")
+    print("| Band | Delay | " + " | ".join(f"{width:g}" for width in WIDTHS) + " |")
+    print("|---|---|" + "---|" * len(WIDTHS))
+    for receiver in RECEIVERS:
+        for delay in receiver.delays:
+            results = [tried(receiver, delay, width, generator) for width in WIDTHS]
+            cells = [f"{result.parts.mean():.2f} ({result.parts.min():.2f}) {result.noisy_parts.mean():.2f} "
+                     f"{result.farthest:.1f}" for result in results]
+            print(f"| {receiver.name} | {delay} | " + " | ".join(cells) + " |", flush=True)
+
+
+if __name__ == "__main__":
+    main()
