@@ -3,14 +3,15 @@
 
 Pulses follow the exact dispersion law, are swept within each channel, last some spectra at each frequency (a top hat),
 begin anywhere within a spectrum, and have any delay within half a spectrum of a whole one. The strongest sum that a
-search takes of them, over its delays and boxes, each by its true noise, is divided by the greatest S/N that any weighted
-sum of the samples can have, which is that of weights like the pulse itself. Then the same with noise: pulses whose
-greatest S/N is 15, and how far off the delay of the strongest sum is.
+search takes of them, over its delays and boxes, each by its true noise, is divided by the greatest S/N that any
+weighted sum of the samples can have, which is that of weights like the pulse itself. Then the same with noise: pulses
+whose greatest S/N is 15, and how far off the delay of the strongest sum is.
 """
 from __future__ import annotations
 
 import os
 import sys
+from collections.abc import Callable
 from dataclasses import dataclass
 
 import numpy as np
@@ -110,11 +111,12 @@ def ratios(samples: np.ndarray, first: np.ndarray, search: Searched, margin: int
 
 @dataclass(frozen=True)
 class Result:
-    """What part is found without noise and with it, on average, and how far off the delay is at most with noise."""
+    """What part is found, and how many spectra the delay is off, of each pulse without noise and with it."""
 
     parts: np.ndarray
+    misses: np.ndarray
     noisy_parts: np.ndarray
-    farthest: float
+    noisy_misses: np.ndarray
 
 
 def tried(receiver: Receiver, delay: int, width: float, generator: np.random.Generator) -> Result:
@@ -122,32 +124,43 @@ def tried(receiver: Receiver, delay: int, width: float, generator: np.random.Gen
     reach = int(np.ceil(width)) + 4
     margin = reach + int(np.ceil(width)) + 2
     search = searched(receiver, delay, reach)
-    parts, noisy_parts, farthest = [], [], 0.0
+    plain, noisy = [], []
     for begin in (np.arange(BEGINNINGS) + 0.5) / BEGINNINGS:
         true_delay = delay + generator.uniform(-0.5, 0.5)
         samples, first = pulse(arrivals(receiver, true_delay), width, begin, margin)
         samples /= np.sqrt((samples**2).sum())
-        parts.append(ratios(samples, first, search, margin).max())
+        found = ratios(samples, first, search, margin)
+        plain.append((found.max(), miss(found, search, true_delay)))
         for _ in range(NOISE_TRIALS):
-            found = ratios(SNR * samples + generator.normal(size=samples.shape), first, search, margin)
-            noisy_parts.append(found.max() / SNR)
-            best = search.delays[found.max(axis=1).argmax()]
-            farthest = max(farthest, abs(best - true_delay))
-    return Result(np.array(parts), np.array(noisy_parts), farthest)
+            found = ratios(samples + generator.normal(scale=1 / SNR, size=samples.shape), first, search, margin)
+            noisy.append((found.max(), miss(found, search, true_delay)))
+    return Result(*np.array(plain).T, *np.array(noisy).T)
+
+
+def miss(found: np.ndarray, search: Searched, true_delay: float) -> float:
+    """How many spectra the delay of the strongest sum is off."""
+    return abs(float(search.delays[found.max(axis=1).argmax()]) - true_delay)
 
 
 def main() -> None:
-    """Prints a table in Markdown: a row for each receiver and delay, a column for each width of a pulse."""
+    """Prints two tables in Markdown: a row for each receiver and delay, a column for each width of a pulse."""
     generator = np.random.default_rng(1)
-    print(f"Without noise on average (and at worst); with noise of a pulse of S/N {SNR:g}: how far the delay is off.\n")
+    rows = [(f"{receiver.name} | {delay}", [tried(receiver, delay, width, generator) for width in WIDTHS])
+            for receiver in RECEIVERS for delay in receiver.delays]
+    print("The part that is found, on average (and at worst), by the width of the pulse in spectra:\n")
+    print_table(rows, lambda result: f"{result.parts.mean():.2f} ({result.parts.min():.2f})")
+    print("\nHow many spectra the delay of the strongest sum is off at most:\n")
+    print_table(rows, lambda result: f"{result.misses.max():.1f}")
+    print(f"\nWith noise, at S/N {SNR:g}: the part on average, and how many spectra the delay is off at most:\n")
+    print_table(rows, lambda result: f"{result.noisy_parts.mean():.2f}, {result.noisy_misses.max():.1f}")
+
+
+def print_table(rows: list[tuple[str, list[Result]]], cell: Callable[[Result], str]) -> None:
+    """Prints a table whose columns are the widths of pulses."""
     print("| Band | Delay | " + " | ".join(f"{width:g}" for width in WIDTHS) + " |")
     print("|---|---|" + "---|" * len(WIDTHS))
-    for receiver in RECEIVERS:
-        for delay in receiver.delays:
-            results = [tried(receiver, delay, width, generator) for width in WIDTHS]
-            cells = [f"{result.parts.mean():.2f} ({result.parts.min():.2f}) {result.noisy_parts.mean():.2f} "
-                     f"{result.farthest:.1f}" for result in results]
-            print(f"| {receiver.name} | {delay} | " + " | ".join(cells) + " |", flush=True)
+    for name, results in rows:
+        print(f"| {name} | " + " | ".join(map(cell, results)) + " |")
 
 
 if __name__ == "__main__":

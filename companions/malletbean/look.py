@@ -134,8 +134,8 @@ def header_lines(head: Header) -> list[tuple[str, str]]:
     rest = f", and {left} bytes of an incomplete one" if left else ""
     return [
         ("header", ", ".join([f"{head.size} bytes", *names])),
-        ("band", f"{head.channels} channels from {head.edges_khz[-1] / 1000:.3f} to {head.edges_khz[0] / 1000:.3f} MHz, "
-                 f"{order} in a spectrum"),
+        ("band", f"{head.channels} channels from {head.edges_khz[-1] / 1000:.3f} to {head.edges_khz[0] / 1000:.3f} "
+                 f"MHz, {order} in a spectrum"),
         ("samples", f"{head.bits} bits, {pair}; a spectrum of {head.spectrum_bytes} bytes "
                     f"every {head.sample_ns / 1000:.3f} us"),
         ("length", f"{head.spectra} spectra{rest}, {head.spectra * head.seconds:.3f} s{start}"),
@@ -150,9 +150,10 @@ def noise_lines(head: Header, measured: Measured, max_delay: int) -> list[tuple[
                      f"deviations from {measured.deviations.min():.3f} to {measured.deviations.max():.3f}"),
     ]
     if measured.deviation > 0:
-        lines.append(("even", f"the band's unevenness alone gives sums of 0 to {max_delay} spectra of delay a printed ratio of "
-                              f"up to {uneven_ratio(head, measured, max_delay):.1f} at width {USUAL_WIDTH}"))
-        lines.append(("steady", f"its drift alone gives them one of up to {drift_ratio(head, measured, max_delay):.1f}"))
+        uneven, drift = uneven_ratio(head, measured, max_delay), drift_ratio(head, measured, max_delay)
+        lines.append(("even", f"that channels have other means moves printed ratios by up to {uneven:.1f}, "
+                              f"at width {USUAL_WIDTH} and delays to {max_delay}; below 1 is well"))
+        lines.append(("steady", f"that the mean drifts moves them by up to {drift:.1f}"))
     mask = mask_text(stand_out(head, measured))
     if mask:
         lines.append(("stand out", f"channels {mask}, counted from 0 in the order of the file: "
@@ -161,20 +162,21 @@ def noise_lines(head: Header, measured: Measured, max_delay: int) -> list[tuple[
 
 
 def uneven_ratio(head: Header, measured: Measured, max_delay: int) -> float:
-    """By how many of its stated deviations a box of the usual width is shifted at most since channels have other means.
+    """By how many of its stated deviations a box of the usual width is moved at most by the means of channels.
 
-    Delays grow in steps, so that 64 of them at the most are tried.
+    64 delays at the most are tried.
     """
     delays = np.unique(np.linspace(0, max_delay, 64).astype(int))
     excess = (measured.means - measured.mean) @ path_cells(head.edges_khz, delays)
     ratios = math.sqrt(USUAL_WIDTH) * excess / (measured.deviation * np.sqrt(head.channels + delays))
-    return float(ratios.max())
+    return float(np.abs(ratios).max())
 
 
 def drift_ratio(head: Header, measured: Measured, max_delay: int) -> float:
-    """By how many of its stated deviations a box of the usual width is shifted at most since pieces have other means."""
+    """By how many of its stated deviations a box of the usual width is moved at most by the means of pieces."""
     cells = USUAL_WIDTH * (head.channels + max_delay)
-    return float((measured.piece_means.max() - measured.mean) * math.sqrt(cells) / measured.deviation)
+    drift = np.abs(measured.piece_means - measured.mean).max()
+    return float(drift * math.sqrt(cells) / measured.deviation)
 
 
 def stand_out(head: Header, measured: Measured) -> np.ndarray:
@@ -210,7 +212,8 @@ def delay_text(head: Header, dm: float) -> str:
     text = f"DM {dm:g} takes {delay:.1f} spectra across the band, {delay * head.seconds * 1000:.3f} ms"
     if delay <= GREATEST_DELAY:
         return text
-    return f"{text}: average {math.ceil(delay / GREATEST_DELAY)} spectra into one first, since {GREATEST_DELAY} are the most"
+    times = math.ceil(delay / GREATEST_DELAY)
+    return f"{text}: average {times} spectra into one first, since {GREATEST_DELAY} are the most"
 
 
 def print_channels(head: Header, measured: Measured) -> None:

@@ -79,7 +79,8 @@ def title_of(asked: argparse.Namespace, head: Header, spectra: int) -> str:
     names = head.words_of("SOURCE", "TELESCOPE")
     start = [] if np.isnat(head.start) else [f"from {np.datetime_as_string(head.start, 's')}"]
     length = f"{spectra} spectra, {spectra * head.seconds:.3f} s"
-    return ", ".join([*names, os.path.basename(asked.file), length, *start, f"mean {asked.mean:g}, sd {asked.deviation:g}"])
+    noise = f"mean {asked.mean:g}, sd {asked.deviation:g}"
+    return ", ".join([*names, os.path.basename(asked.file), length, *start, noise])
 
 
 def chosen(folds: np.ndarray, asked: argparse.Namespace) -> np.void:

@@ -23,6 +23,8 @@ class Words(argparse.ArgumentParser):
 
 def run(name: str, program: Callable[[Sequence[str]], None]) -> int:
     """Runs a program over the words of the command, and answers its status."""
+    # a name of a file need not be text
+    sys.stdout.reconfigure(errors="surrogateescape")
     try:
         program(sys.argv[1:])
         sys.stdout.flush()

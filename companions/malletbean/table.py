@@ -57,7 +57,7 @@ def parsed(words: Sequence[str]) -> argparse.Namespace:
 
 
 def best_of(table: np.ndarray, count: int) -> np.ndarray:
-    """The strongest line of each of the `count` strongest groups, and in its last column how many lines the group has."""
+    """The strongest line of each of the `count` strongest groups; its last column says how many lines the group has."""
     best, sizes = strongest(table, table["snr"], count)
     return with_columns(table[best], {"lines": sizes})
 

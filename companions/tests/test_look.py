@@ -66,7 +66,7 @@ def test_a_tilted_band_and_channels_that_stand_out(tmp_path: Path, capsys: pytes
 
 def ratio_of(text: str) -> float:
     """The printed ratio that a line names."""
-    return float(text.split("up to ")[1].split()[0])
+    return float(text.split("up to ")[1].split()[0].rstrip(","))
 
 
 def test_channels_are_counted_in_the_order_of_the_file(tmp_path: Path, capsys: pytest.CaptureFixture[str]) -> None:

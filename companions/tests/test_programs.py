@@ -60,6 +60,7 @@ def test_a_closed_output(files: dict[str, str], tmp_path: Path) -> None:
     line = "PULSE 20 20 0.975 1 1253 52\n"
     text.write_text(line * 20000 + "END 20000 0 256\n")
     command = f"'{sys.executable}' '{HERE.parent}/psr_table' '{files['made']}' 16 2.828 '{text}'"
-    answer = subprocess.run(["bash", "-c", f"{command} | head -1; exit ${{PIPESTATUS[0]}}"], capture_output=True, text=True)
+    script = f"{command} | head -1; exit ${{PIPESTATUS[0]}}"
+    answer = subprocess.run(["bash", "-c", script], capture_output=True, text=True)
     assert answer.returncode == 10
     assert answer.stderr == "psr_table: the output was closed\n"
