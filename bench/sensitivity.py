@@ -5,14 +5,15 @@ Pulses follow the exact dispersion law, are swept within each channel, last some
 begin anywhere within a spectrum, and have any delay within half a spectrum of a whole one. The strongest sum that a
 search takes of them, over its delays and boxes, each by its true noise, is divided by the greatest S/N that any
 weighted sum of the samples can have, which is that of weights like the pulse itself. Then the same with noise: pulses
-whose greatest S/N is 15, and how far off the delay of the strongest sum is.
+whose greatest S/N is 15, and how far off the delay of the strongest sum is. Last, one narrow pulse as it is found where
+neighbouring channels were added, or where spectra are shorter.
 """
 from __future__ import annotations
 
 import os
 import sys
 from collections.abc import Callable
-from dataclasses import dataclass
+from dataclasses import dataclass, replace
 
 import numpy as np
 
@@ -26,6 +27,9 @@ WIDTHS = (0.5, 1, 2, 4, 8, 16)
 BEGINNINGS = 8
 NOISE_TRIALS = 2
 SNR = 15.0
+# a band as it can be recorded: how many channels it has, and how many spectra stand for one
+FORMS = ((1024, 1), (512, 1), (256, 1), (1024, 2), (1024, 4))
+NARROW = ((100, 0.5), (100, 1), (400, 0.5), (400, 1))
 # into how many parts a channel is cut to sweep a pulse within it
 PARTS = 64
 
@@ -142,8 +146,39 @@ def miss(found: np.ndarray, search: Searched, true_delay: float) -> float:
     return abs(float(search.delays[found.max(axis=1).argmax()]) - true_delay)
 
 
+def strength(form: tuple[int, int], delay: int, width: float, generator: np.random.Generator) -> tuple[float, float]:
+    """The S/N of the strongest sum of one pulse in a form of the third receiver, and the greatest there is, on average.
+
+    Delay and width are in spectra of the first form, in which a sample has a deviation of 1, and a pulse the height 1.
+    """
+    channels, spectra = form
+    receiver = replace(RECEIVERS[2], channels=channels)
+    height = np.sqrt(RECEIVERS[2].channels / channels / spectra)
+    reach = int(np.ceil(width * spectra)) + 4
+    margin = reach + int(np.ceil(width * spectra)) + 2
+    search = searched(receiver, delay * spectra, reach)
+    found, greatest = [], []
+    for begin in (np.arange(BEGINNINGS) + 0.5) / BEGINNINGS:
+        true_delay = delay * spectra + generator.uniform(-0.5, 0.5)
+        samples, first = pulse(arrivals(receiver, true_delay), width * spectra, begin, margin)
+        found.append(ratios(height * samples, first, search, margin).max())
+        greatest.append(height * np.sqrt((samples**2).sum()))
+    return float(np.mean(found)), float(np.mean(greatest))
+
+
+def print_forms(generator: np.random.Generator) -> None:
+    """Prints how much of narrow pulses is found in each form, where 1 is the greatest S/N in the first form."""
+    print("\nOf one pulse in the band of the third receiver, by channels and by spectra for one:\n")
+    print("| Delay | Width | " + " | ".join(f"{channels}, {spectra}" for channels, spectra in FORMS) + " |")
+    print("|---|---|" + "---|" * len(FORMS))
+    for delay, width in NARROW:
+        results = [strength(form, delay, width, generator) for form in FORMS]
+        cells = [f"{found / results[0][1]:.2f}" for found, _ in results]
+        print(f"| {delay} | {width:g} | " + " | ".join(cells) + " |")
+
+
 def main() -> None:
-    """Prints two tables in Markdown: a row for each receiver and delay, a column for each width of a pulse."""
+    """Prints tables in Markdown: a row for each receiver and delay, a column for each width of a pulse."""
     generator = np.random.default_rng(1)
     rows = [(f"{receiver.name} | {delay}", [tried(receiver, delay, width, generator) for width in WIDTHS])
             for receiver in RECEIVERS for delay in receiver.delays]
@@ -153,6 +188,7 @@ def main() -> None:
     print_table(rows, lambda result: f"{result.misses.max():.1f}")
     print(f"\nWith noise, at S/N {SNR:g}: the part on average, and how many spectra the delay is off at most:\n")
     print_table(rows, lambda result: f"{result.noisy_parts.mean():.2f}, {result.noisy_misses.max():.1f}")
+    print_forms(np.random.default_rng(2))
 
 
 def print_table(rows: list[tuple[str, list[Result]]], cell: Callable[[Result], str]) -> None:
