@@ -1,10 +1,10 @@
 #!/usr/bin/env bash
-# Tries cluster/ on this machine: cluster.sh [FOLDER], where FOLDER has psr_make and psr_search, or those last built here.
-# An observation of 134 MB (1024 channels, 131072 spectra) is searched for pulses and folds at delays 0 to 1024 by one
-# search; by 8 jobs of a Slurm array; and by 8 jobs of GNU parallel. The joined texts are that of the one search, byte for
-# byte. Then what fails: a job, a part that is missing or cut, and parts that don't belong together.
-# Slurm's daemons (slurmctld, slurmd, munged) run here for as long as this takes, with all that they write in a folder of
-# their own. As root, what is missing is installed (Debian's slurm-wlm, munge and parallel).
+# Tries cluster/ on this machine: cluster.sh [FOLDER], where FOLDER has psr_make and psr_search; else those last built
+# here. An observation of 134 MB (1024 channels, 131072 spectra) is searched for pulses and folds at delays 0 to 1024 by
+# one search; by 8 jobs of a Slurm array; and by 8 jobs of GNU parallel. The joined texts are that of the one search,
+# byte for byte. Then what fails: a job, a part that is missing or cut, and parts that don't belong together.
+# Slurm's daemons (slurmctld, slurmd, munged) run here for as long as this takes, with all that they write in a folder
+# of their own. As root, what is missing is installed (Debian's slurm-wlm, munge and parallel).
 set -u
 export LC_ALL=C
 root=$(cd "$(dirname "$0")/.." && pwd) || exit 2
@@ -52,7 +52,7 @@ seconds() { # seconds COMMAND ..: runs it, and sets `took`
 }
 
 start_slurm() { # one host, this one, with as many processors as it has
-    mkdir -p slurm/state slurm/spool && chmod 755 slurm && dd if=/dev/urandom of=slurm/key bs=1024 count=1 status=none &&
+    mkdir -p slurm/state slurm/spool && chmod 755 slurm && head -c 1024 /dev/urandom >slurm/key &&
         chmod 400 slurm/key || return 1
     export SLURM_CONF=$folder/slurm/slurm.conf
     local host user
@@ -81,8 +81,9 @@ ReturnToService=2
 NodeName=$host NodeAddr=127.0.0.1 CPUs=$(nproc)
 PartitionName=all Nodes=$host Default=YES MaxTime=INFINITE State=UP
 EOF
-    munged --foreground --key-file="$folder/slurm/key" --socket="$folder/slurm/munge" --seed-file="$folder/slurm/seed" \
-        --pid-file="$folder/slurm/munged.pid" --log-file="$folder/slurm/munged.log" --force >"$folder/slurm/munged.log" 2>&1 &
+    local own=$folder/slurm
+    munged --foreground --key-file="$own/key" --socket="$own/munge" --seed-file="$own/seed" \
+        --pid-file="$own/munged.pid" --log-file="$own/munged.log" --force >"$own/munged.log" 2>&1 &
     daemons+=($!)
     slurmctld -D -i >slurm/slurmctld.log 2>&1 &
     daemons+=($!)
@@ -139,7 +140,8 @@ small=(--nchan 64 --spectra 8192 --delay 100 --period 512 --height 2)
 # The rest of the second, as a file of its own: its header with the bytes before it.
 { head -c 4096 second.dada | sed 's/^OBS_OFFSET 0$/OBS_OFFSET 295904/' | head -c 4096; tail -c +300001 second.dada; } \
     >rest.dada
-words=(--mean=16 --sd=2.828 --min-delay=7 --max-delay=301 --widths=4 --snr=6 --fold-step=37 --fold-min=500 --fold-max=520)
+words=(--mean=16 --sd=2.828 --min-delay=7 --max-delay=301 --widths=4 --snr=6
+    --fold-step=37 --fold-min=500 --fold-max=520)
 "$plan" first 5 "${words[@]}" first.dada >said && "$plan" second 3 "${words[@]}" front.dada rest.dada >said
 same 'plan of two observations: status' $? 0
 by_slurm 8 first second
@@ -159,7 +161,8 @@ same 'parallel again: status' $? 0
 whole_and_joined 'the second observation again' second
 "$plan" limited 4 "${words[@]}" --max-candidates 1 first.dada >said
 "$root/cluster/parallel.bash" limited 2>notes
-same 'parallel with a limit that is too low: status, lines' "$? $(grep -c ': status 9: [0-9]* candidates, limit 1$' notes)" '4 4'
+same 'parallel with a limit that is too low: status, lines' \
+    "$? $(grep -c ': status 9: [0-9]* candidates, limit 1$' notes)" '4 4'
 same 'what the jobs left' "$(cd limited && echo *.text *.error | wc -w)" 5
 by_slurm 4 limited
 same 'sbatch with a limit that is too low: status' $? 9

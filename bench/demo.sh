@@ -15,8 +15,8 @@ try() { # try PROGRAM WORD ..: its output; what rt says besides is shown where i
 begun=$SECONDS
 cat <<'EOF'
 An observation of 256 spectra of 32 channels: noise of mean 16 and deviation 2.828, and every 100 spectra a pulse that
-takes 20 spectra from the top of the band to its foot and adds 8 to each sample. (The programs are built first, unproved,
-which takes nearly all of the time.)
+takes 20 spectra from the top of the band to its foot and adds 8 to each sample. (The programs are built for this,
+unproved, which takes nearly all of the time.)
 
 EOF
 echo "\$ psr_make ${made[*]} made.dada"
