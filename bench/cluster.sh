@@ -46,9 +46,12 @@ same() { # same WHAT FOUND WANTED
     echo "$1: '$2', wanted '$3'" >&2
     failed=1
 }
-seconds() { # seconds COMMAND ..: runs it, and sets `took`
-    local TIMEFORMAT=%R
+timed() { # timed COMMAND ..: runs it, and sets `took`, by the clock and of the processors that it waited for
+    local TIMEFORMAT='%R %U %S' status
     { took=$( { time "$@" >&3 2>&4; } 2>&1); } 3>&1 4>&2
+    status=$?
+    took=$(awk '{ printf "%.1f s (%.1f s of the processors)", $1, $2 + $3 }' <<<"$took")
+    return "$status"
 }
 
 start_slurm() { # one host, this one, with as many processors as it has
@@ -116,22 +119,22 @@ mkdir 'the data' && "$psr_make" --number 2 --nchan 1024 --spectra 131072 --delay
     'the data/an observation.dada' || exit 2
 words=(--mean 16 --sd 2.828 --max-delay 1024 --max-candidates 1000000
     --fold-min 3968 --fold-max 4224 --fold-rows 5 --fold-step 64 'the data/an observation.dada')
-seconds "$PSR_SEARCH" "${words[@]}" >whole
+timed "$PSR_SEARCH" "${words[@]}" >whole
 same 'psr_search: status' $? 0
-echo "one search: $took s, $(tail -n 1 whole)"
+echo "one search: $took, $(tail -n 1 whole)"
 "$plan" 'by slurm' 8 "${words[@]}" >said
 same 'plan: its jobs' "$(cut -d ' ' -f 1 said | head -n 1) $(wc -l <'by slurm/jobs')" '8 8'
-seconds by_slurm 8 'by slurm'
+timed by_slurm 8 'by slurm'
 same 'sbatch: status' $? 0
 whole_and_joined Slurm 'by slurm'
-echo "8 jobs of Slurm on $(nproc) processors: $took s"
+echo "8 jobs of Slurm on $(nproc) processors: ${took% (*}"
 "$plan" 'by parallel' 8 "${words[@]}" >said
-seconds "$root/cluster/parallel.bash" 'by parallel'
+timed "$root/cluster/parallel.bash" 'by parallel'
 same 'parallel: status' $? 0
 whole_and_joined 'GNU parallel' 'by parallel'
-echo "8 jobs of GNU parallel: $took s"
-seconds "$join" 'by parallel' >/dev/null
-echo "join of $(wc -l <whole) lines: $took s"
+echo "8 jobs of GNU parallel: $took"
+timed "$join" 'by parallel' >/dev/null
+echo "join of $(wc -l <whole) lines: $took"
 
 # Two observations in one array, ranges that begin at multiples of an odd step from an odd delay, and two files.
 small=(--nchan 64 --spectra 8192 --delay 100 --period 512 --height 2)
