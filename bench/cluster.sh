@@ -58,15 +58,15 @@ start_slurm() { # one host, this one, with as many processors as it has
     mkdir -p slurm/state slurm/spool && chmod 755 slurm && head -c 1024 /dev/urandom >slurm/key &&
         chmod 400 slurm/key || return 1
     export SLURM_CONF=$folder/slurm/slurm.conf
-    local host user
+    local host user port=$((20000 + RANDOM % 10000))
     host=$(hostname -s) user=$(id -un)
     cat >"$SLURM_CONF" <<EOF
 ClusterName=trial
 SlurmctldHost=$host(127.0.0.1)
 SlurmUser=$user
 SlurmdUser=$user
-SlurmctldPort=${SLURMCTLD_PORT:-16817}
-SlurmdPort=${SLURMD_PORT:-16818}
+SlurmctldPort=$port
+SlurmdPort=$((port + 1))
 AuthType=auth/munge
 AuthInfo=socket=$folder/slurm/munge
 StateSaveLocation=$folder/slurm/state
