@@ -107,7 +107,7 @@ while read -r program heading; do
     same "completions of $program"
 done <<'HEADINGS'
 psr_search ### Options of a search
-psr_record ## psr_record
+psr_record ### Options of psr_record
 psr_make ### Options of psr_make
 HEADINGS
 
