@@ -55,8 +55,9 @@ run_document() { # run_document FILE
     while IFS= read -r line || [ -n "$line" ]; do
         ((number++))
         if [[ $line =~ ^(\ {4,})\$\ (.*)$ ]]; then
+            local begins=("${BASH_REMATCH[@]:1}")
             finish
-            indent=${BASH_REMATCH[1]} command=${BASH_REMATCH[2]} begun=$number
+            indent=${begins[0]} command=${begins[1]} begun=$number
             : >"$folder/wanted"
         elif [ -n "$command" ] && [[ $line == "$indent"* ]]; then
             if [ -z "$complete" ]; then
