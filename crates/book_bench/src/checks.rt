@@ -55,8 +55,8 @@ fn continues(n: u32, k: u32, last: &Option<Candidate>, candidate: &Candidate) ->
     comes_after(last, candidate) && is_searched(candidate) && candidate.delay() % n == k
 }
 
-// Whether a list is in order, with delays of remainder `k` by `n`.
-fn is_part(n: u32, k: u32, list: &[Candidate]) -> bool
+/// Whether a list is in order, with delays of remainder `k` by `n`.
+pub fn is_part(n: u32, k: u32, list: &[Candidate]) -> bool
     requires { 0 < n }
     ensures { IsTrue result → IsPart n k list.now }
 {

@@ -1,5 +1,6 @@
 // The texts of books: what stands in them, in which order, and what a sink has of them that fails.
 use crate::checks::{can_be_merged, can_be_written};
+use crate::labelled::write_marked;
 use crate::made::{book_of, even, observation, seven_books, two_transfers};
 use arrayvec::ArrayVec;
 use candidate_book::{Book, SinkStop, Totals, write_merged};
@@ -114,7 +115,7 @@ fn are_all_written<K: Sink>(alloc: Global, out: &mut K) -> Option<Totals> {
     }
 }
 
-/// Prints the texts of few books, and what came of sinks that fail.
+/// Prints the texts of few books, lines with other labels, and what came of sinks that fail.
 pub fn show_texts<R: AllocGlobal + Print + Eprint>(rt: &R) -> io::Result<()> {
     let alloc = rt.alloc();
     if let Some(totals) = are_all_written(alloc, &mut RealSink::out(rt)) {
@@ -123,6 +124,11 @@ pub fn show_texts<R: AllocGlobal + Print + Eprint>(rt: &R) -> io::Result<()> {
     for limit in [0, 1, 4] {
         if let Some((kept, count)) = counts_of(alloc, limit) {
             println!(rt; "{kept} kept of {count}")?;
+        }
+    }
+    if let Some(obs) = observation(alloc) {
+        if let Some(totals) = write_marked(&even(), &obs, &mut RealSink::out(rt)) {
+            println!(rt; "{} marked pulses, {} folds", totals.pulses, totals.folds)?;
         }
     }
     let are_fronts = are_fronts(alloc) == Some(true) && is_front(alloc) == Some(true);
