@@ -1,3 +1,4 @@
 pub mod Outcome
+pub mod Causes
 pub mod Ends
 pub mod Sample

@@ -14,6 +14,10 @@ use Rattle.search_session.specs.declared.ended.Ran.{Ran}
 use Rattle.run_stop.specs.Runs.{Searching, stream_for, ForFiles, observed_transfers, HasCandidates}
 use Rattle.run_stop.specs.Outcomes.{JudgesWords, ReadsInputs, StopsAtFiles, SealsStream, AllCleared, RecordsFiles, TellsNotes}
 
+-- the words say a search that records its data besides
+abbrev pub AsksToRecord : List (List ℕ) → Type 0
+AsksToRecord words = (s : SettingsSeen) × SaySearch words s × (s.recording ≡ true)
+
 -- P holds of the settings that the words of a search say and of the files that they name, where all of these are told
 abbrev pub ForSearch : List (List ℕ) → Told → (SettingsSeen → FileStream → Type 0) → Type 0
 ForSearch = ForFiles Searching

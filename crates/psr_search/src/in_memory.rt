@@ -3,7 +3,7 @@ ghost use Rattle.std.specs.Prelude.{◌≡◌, [], map, string_bytes};
 ghost use Rattle.psr_base.specs.InMemory.{told_of, calls_of, files_seen, sink_seen, IsMaking};
 ghost use Rattle.run_stop.specs.Outcomes.{ReadsNoData};
 ghost use Rattle.run_stop.specs.Runs.{Searching};
-ghost use Rattle.psr_search.specs.Outcome.{Outcome};
+ghost use Rattle.psr_search.specs.Outcome.{AsksToRecord, Outcome};
 
 use crate::top::run;
 use psr_base::{MemFiles, MemInputs, MemSink};
@@ -24,7 +24,7 @@ pub fn run_in_memory<G: Gate + Sync, R: Threads + Wait + Clock + Sync>(
     notes: &mut MemSink,
     gate: &G,
 ) -> Ran
-    requires closed { ¬ IsMaking files.old }
+    requires closed { AsksToRecord (map string_bytes words.now) → ¬ IsMaking files.old }
     ensures outcome { Outcome (map string_bytes words.now)
         (record {
           told = told_of inputs.old;

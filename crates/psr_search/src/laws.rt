@@ -1,11 +1,12 @@
 // Laws of the outcome, which the contracts of functions that do nothing carry. A caller whose proof needs a law calls
 // its function.
+ghost use Rattle.psr_search.specs.Causes.{CausesAreAnswered, ToldRoomIsEnough};
 ghost use Rattle.psr_search.specs.Outcome.{AcceptedIsSearched};
 ghost use Rattle.psr_search.specs.Sample.{SampleIsFound};
 
 use psr_base::Inputs;
-// A law: it does nothing when it runs, and the proofs use what it ensures.
-use run_stop::accepted_goes_on;
+// Laws: they do nothing when they run, and the proofs use what they ensure.
+use run_stop::{accepted_goes_on, accepted_is_not_refused};
 
 /// Words, headers and data that are accepted are searched, or there is no memory, where neither the inputs nor the
 /// output nor the files that are made count a fault.
@@ -14,6 +15,21 @@ pub fn accepted_is_searched<I: Inputs>()
 {
     accepted_goes_on::<I>();
 }
+
+/// What stands against a search over calm inputs that hold all files is answered: a refused first header by 3, a refused
+/// search or recording by 4, the stop of the walk of the files by its status, and too many candidates by 9; or there is
+/// no memory.
+pub fn causes_are_answered<I: Inputs>()
+    ensures { (inputs : I) → CausesAreAnswered (I.is_calm inputs) }
+{
+    accepted_is_not_refused();
+}
+
+/// Where the files are told that are read, 10 never comes over an output that told enough room for the text, nor 11 over
+/// files that told enough for those of all data.
+pub fn told_room_is_enough<I: Inputs>()
+    ensures { (inputs : I) → ToldRoomIsEnough (I.is_calm inputs) }
+{}
 
 /// The sample of this crate is found: a search of it that ends with status 0 has written its two lines.
 pub fn sample_is_found<I: Inputs>()

@@ -7,5 +7,5 @@ mod top;
 mod writing;
 
 pub use in_memory::run_in_memory;
-pub use laws::{accepted_is_searched, sample_is_found};
+pub use laws::{accepted_is_searched, causes_are_answered, sample_is_found, told_room_is_enough};
 pub use top::run;

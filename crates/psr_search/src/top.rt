@@ -2,7 +2,7 @@
 ghost use Rattle.std.specs.Prelude.{◌≡◌, Some, map, string_bytes};
 ghost use Rattle.run_stop.specs.Outcomes.{ReadsNoData};
 ghost use Rattle.run_stop.specs.Runs.{Searching};
-ghost use Rattle.psr_search.specs.Outcome.{Outcome};
+ghost use Rattle.psr_search.specs.Outcome.{AsksToRecord, Outcome};
 ghost use Rattle.psr_search.specs.Ends.{Ends};
 
 use crate::writing::write_end;
@@ -48,7 +48,7 @@ pub fn run<
     notes: &mut E,
     gate: &G,
 ) -> Ran
-    requires closed { ¬ F.is_open files.old }
+    requires closed { AsksToRecord (map string_bytes words.now) → ¬ F.is_open files.old }
     ensures outcome { Outcome (map string_bytes words.now)
         (record {
           told = I.told inputs.old;
@@ -81,7 +81,7 @@ fn search<
     out: &mut K,
     gate: &G,
 ) -> Ended
-    requires closed { ¬ F.is_open files.old }
+    requires closed { AsksToRecord (map string_bytes words.now) → ¬ F.is_open files.old }
     ensures ends { Ends (map string_bytes words.now)
         (record {
           told = I.told inputs.old;

@@ -1,6 +1,6 @@
 -- Where nothing stands against a run, it does not end at its words, its inputs or its files.
 use Rattle.std.proofs.Common.{◌≡◌, ◌≢◌, ◌⊎◌, ℕ, zero, suc, List, [], ◌∷◌, refl, inl, inr, sym, ap, subst, Some, None, Ok, Contains, arith}
-use Rattle.std.specs.Prelude.{Option, IsSome}
+use Rattle.std.specs.Prelude.{Option, IsSome, length, true}
 use Rattle.psr_base.specs.Count.{Rose}
 use Rattle.psr_base.specs.Told.{Told, InputsSeen}
 use Rattle.dada_header.specs.declared.faults.HeaderFault.{HeaderFault}
@@ -13,9 +13,11 @@ use Rattle.obs_plan.specs.declared.fault.ObsFault.TheVariants as obs
 use Rattle.obs_plan.specs.Faults.{IsRefusedFirst}
 use Rattle.ring_ends.specs.declared.finished.Finished.{Finished}
 use Rattle.search_model.specs.Plan.{PlanRefusal}
+use Rattle.search_model.specs.declared.search.Search.{Search}
 use Rattle.search_words.specs.Settings.{SettingsSeen}
 use Rattle.stream_model.specs.Walk as walk
 use Rattle.stream_model.specs.Walk.{FileStream, WalkStop, walk_stop}
+use Rattle.stream_model.specs.WalkLaws.{AreWalked}
 use Rattle.stream_model.specs.Recorded.{RecordRefusal}
 use Rattle.disk_feeder.specs.Plan.{AreTold}
 use Rattle.disk_feeder.specs.Filling.{HoldsAll}
@@ -26,9 +28,9 @@ use Rattle.run_stop.specs.declared.causes.PlanCause.TheVariants.{SumBound, FoldT
 use Rattle.run_stop.specs.declared.causes.RecordingCause.{RecordingCause}
 use Rattle.run_stop.specs.declared.causes.RecordingCause.TheVariants.{NoUtc, BadUtc, Overfull, TooManyFiles}
 use Rattle.run_stop.specs.declared.stop.Stop.{Stop}
-use Rattle.run_stop.specs.Runs.{Task, Searching, Says, CanBegin, stream_for, stop_of_walk, RefusesFirstHeader, RefusesSearch, RefusesToRecord, StopsWalk, IsPlanCause, IsRecordingCause}
+use Rattle.run_stop.specs.Runs.{Task, Says, CanSearchFirst, CanRecordFirst, CanBegin, stream_for, stop_of_walk, RefusesFirstHeader, RefusesSearch, RefusesToRecord, StopsWalk, IsPlanCause, IsRecordingCause}
 use Rattle.run_stop.specs.Outcomes.{JudgesWords, ReadsInputs, StopsAtFiles}
-use Rattle.run_stop.specs.Ends.{AcceptedGoesOn}
+use Rattle.run_stop.specs.Ends.{AcceptedGoesOn, AcceptedIsNotRefused}
 
 -- ---- refusals
 
@@ -78,25 +80,27 @@ holds_all told names files are k below = subst IsSome (sym (are.each k below)) r
 
 -- ---- the run
 
-module _ (task : Task) (s : SettingsSeen) (w : FileStream) (begins : CanBegin task s w) where
-  first_accepted : (file : ℕ) (cause : HeaderCause) → RefusesFirstHeader w file cause → ⊥
-  first_accepted file (Text fault) r =
-      let a = begins.accepted.accepted r.transfer r.there in
-      has_header _ a.header fault a.is_header r.cause
-  first_accepted file (Fields fault) r =
-      let a = begins.accepted.accepted r.transfer r.there in
-      let same = one_header a.header r.header _ a.is_header r.has in
-      has_observation (fields_of r.header.text) a.observation fault
-      (subst (λ (h : HeaderText). observation_of (fields_of h.text) ≡ Ok a.observation) same a.is_observation) r.cause
+pub first_accepted : (w : FileStream) (file : ℕ) (cause : HeaderCause) → AreWalked w → RefusesFirstHeader w file cause → ⊥
+first_accepted w file (Text fault) walked r =
+    let a = walked.accepted r.transfer r.there in
+    has_header _ a.header fault a.is_header r.cause
+first_accepted w file (Fields fault) walked r =
+    let a = walked.accepted r.transfer r.there in
+    let same = one_header a.header r.header _ a.is_header r.has in
+    has_observation (fields_of r.header.text) a.observation fault
+    (subst (λ (h : HeaderText). observation_of (fields_of h.text) ≡ Ok a.observation) same a.is_observation) r.cause
 
-  searches : (cause : PlanCause) → task ≡ Searching → RefusesSearch s.search w cause → ⊥
-  searches cause is r = no_plan_cause _ cause (begins.searched is r.transfer r.there) r.refused
+pub searches : (search : Search) (w : FileStream) (cause : PlanCause) → CanSearchFirst search w (length w.starts) →
+    RefusesSearch search w cause → ⊥
+searches search w cause can r = no_plan_cause _ cause (can r.transfer r.there) r.refused
 
-  records : (cause : RecordingCause) → RefusesToRecord task s w cause → ⊥
-  records cause r = no_recording_cause _ cause (begins.recorded r.records r.transfer r.there) r.refused
+pub records : (task : Task) (s : SettingsSeen) (w : FileStream) (cause : RecordingCause) →
+    (s.recording ≡ true → CanRecordFirst s.file_size w (length w.starts)) → RefusesToRecord task s w cause → ⊥
+records task s w cause can r = no_recording_cause _ cause (can r.records r.transfer r.there) r.refused
 
-  walks : walk_stop w ≡ walk.Whole → (stop : Stop) → StopsWalk task s w stop → ⊥
-  walks whole stop r = no_stop w.max_bytes (walk_stop w) stop whole r.stops
+walks : (task : Task) (s : SettingsSeen) (w : FileStream) → walk_stop w ≡ walk.Whole → (stop : Stop) →
+    StopsWalk task s w stop → ⊥
+walks task s w whole stop r = no_stop w.max_bytes (walk_stop w) stop whole r.stops
 
 module _ (task : Task) (words : List (List ℕ)) (inputs : InputsSeen) (is_calm : Type 0) (blocks : Option Finished)
     (n : ℕ) (judged : JudgesWords task words n) (read : ReadsInputs task words inputs is_calm n)
@@ -110,15 +114,15 @@ module _ (task : Task) (words : List (List ℕ)) (inputs : InputsSeen) (is_calm 
   not_three : (at : Option Finished) → blocks ≡ at → n ≢ 3
   not_three None is e =
       let r = stopped.first_header e is s files says are in
-      first_accepted task s w begins r.0 r.1 r.2
+      first_accepted w r.0 r.1 begins.accepted r.2
   not_three (Some b) is e =
       let r = stopped.later_header e (subst IsSome (sym is) refl) s files says are in
-      walks task s w begins whole _ r.2
+      walks task s w whole _ r.2
 
   not_four_by : ((cause : PlanCause) × (task ≡ Searching) × RefusesSearch s.search w cause)
       ⊎ ((cause : RecordingCause) × RefusesToRecord task s w cause) → ⊥
-  not_four_by (inl r) = searches task s w begins r.0 r.1 r.2
-  not_four_by (inr r) = records task s w begins r.0 r.1
+  not_four_by (inl r) = searches s.search w r.0 (begins.searched r.1) r.2
+  not_four_by (inr r) = records task s w r.0 begins.recorded r.1
 
   not_six_by : is_calm ⊎ (¬ Rose inputs.faults_before inputs.faults_after) → n ≢ 6
   not_six_by (inl is) e = read.serves is s says (holds_all inputs.told s.names files are) e
@@ -127,7 +131,7 @@ module _ (task : Task) (words : List (List ℕ)) (inputs : InputsSeen) (is_calm 
   not_seven : n ≢ 7
   not_seven e =
       let r = stopped.gap e s files says are in
-      walks task s w begins whole _ r.3
+      walks task s w whole _ r.3
 
   pub at_none : ¬ Contains (2 ∷ 3 ∷ 4 ∷ 6 ∷ 7 ∷ 8 ∷ []) n
   at_none (zero, below, is) = judged.refused (sym is) s says
@@ -136,9 +140,16 @@ module _ (task : Task) (words : List (List ℕ)) (inputs : InputsSeen) (is_calm 
   at_none (suc (suc (suc zero)), below, is) = not_six_by calm (sym is)
   at_none (suc (suc (suc (suc zero))), below, is) = not_seven (sym is)
   at_none (suc (suc (suc (suc (suc zero)))), below, is) =
-      walks task s w begins whole _ (stopped.too_long (sym is) s files says are)
+      walks task s w whole _ (stopped.too_long (sym is) s files says are)
   at_none (suc (suc (suc (suc (suc (suc k))))), below, is) = omega (arith, below)
 
 pub goes_on : (is_calm : Type 0) → AcceptedGoesOn is_calm
 goes_on is_calm task words inputs blocks n judged read stopped s files says are begins whole calm =
     at_none task words inputs is_calm blocks n judged read stopped s files says are begins whole calm
+
+pub is_not_refused : AcceptedIsNotRefused
+is_not_refused = record {
+  header = λ w file cause walked. first_accepted w file cause walked;
+  search = λ search w cause can. searches search w cause can;
+  recording = λ task s w cause can. records task s w cause can;
+}

@@ -1,27 +1,32 @@
 -- How a run of either program ends, before its session or after it, and what its exit status then says.
 -- Source: this project's choice.
-use Rattle.std.specs.Prelude.{◌≡◌, ◌≢◌, ℕ, ◌≤◌, ◌⊎◌, ⊤, true, false, List, [], ◌∷◌, Option, Some, None, Contains}
+use Rattle.std.specs.Prelude.{◌≡◌, ◌≢◌, ℕ, ◌≤◌, ◌⊎◌, ⊤, true, false, List, [], ◌∷◌, length, Option, Some, None, Contains}
 use Rattle.psr_base.specs.Count.{Rose}
 use Rattle.psr_base.specs.Told.{Told, InputsSeen}
 use Rattle.psr_base.specs.Made.{FilesSeen}
 use Rattle.ring_ends.specs.declared.finished.Finished.{Finished}
 use Rattle.ring_ends.specs.Ended.{sealed_at_end}
+use Rattle.search_model.specs.declared.search.Search.{Search}
 use Rattle.search_words.specs.Settings.{SettingsSeen}
 use Rattle.stream_model.specs.Walk as walk
 use Rattle.stream_model.specs.Walk.{FileStream, walk_stop}
+use Rattle.stream_model.specs.WalkLaws.{AreWalked}
 use Rattle.disk_feeder.specs.declared.answers.FeedEnd.{FeedEnd}
 use Rattle.disk_feeder.specs.declared.answers.FeedEnd.TheVariants as feeder
+use Rattle.disk_feeder.specs.declared.answers.HeaderCause.{HeaderCause}
 use Rattle.disk_feeder.specs.Feeding.{EndIs}
 use Rattle.disk_feeder.specs.Filling.{HoldsAll}
 use Rattle.disk_feeder.specs.Plan.{AreTold}
 use Rattle.dada_recorder.specs.declared.answers.RecordEnd.{RecordEnd}
 use Rattle.dada_recorder.specs.declared.answers.RecordEnd.TheVariants as recorder
+use Rattle.run_stop.specs.declared.causes.PlanCause.{PlanCause}
+use Rattle.run_stop.specs.declared.causes.RecordingCause.{RecordingCause}
 use Rattle.run_stop.specs.declared.stop.Stop.{Stop}
 use Rattle.run_stop.specs.declared.stop.Stop.TheVariants.{Words, Value, Header, Plan, Recording, Memory, ReadFault, Gap, TooLong, TooMany, SinkFault, FileFault}
 use Rattle.run_stop.specs.Texts.{status_of}
 use Rattle.search_words.specs.declared.fault.WordFault.{WordFault}
 use Rattle.run_stop.specs.Conversions.{stop_of_words, stop_of_feed}
-use Rattle.run_stop.specs.Runs.{Task, Searching, Says, ForFiles, stream_for, CanBegin, RefusesFirstHeader, RefusesSearch, RefusesToRecord, IsStopOf, IsStopOfWords, Explains}
+use Rattle.run_stop.specs.Runs.{Task, Searching, Says, ForFiles, stream_for, CanSearchFirst, CanRecordFirst, CanBegin, RefusesFirstHeader, RefusesSearch, RefusesToRecord, IsStopOf, IsStopOfWords, Explains}
 use Rattle.run_stop.specs.Outcomes.{JudgesWords, ReadsInputs, StopsAtFiles, SealsStream, RecordsFiles, MadeAll, MadeFront, files_of_stream}
 
 -- the status of a run that came to a stop, or to none
@@ -194,3 +199,13 @@ AcceptedGoesOn is_calm = (task : Task) (words : List (List ℕ)) (inputs : Input
     CanBegin task s (stream_for s files) → walk_stop (stream_for s files) ≡ walk.Whole →
     is_calm ⊎ ¬ Rose inputs.faults_before inputs.faults_after →
     ¬ Contains (2 ∷ 3 ∷ 4 ∷ 6 ∷ 7 ∷ 8 ∷ []) status
+
+-- a first header that is accepted is not refused, nor is a search or a recording that fits
+pub record AcceptedIsNotRefused : Type 0 where
+  pub header : (w : FileStream) (file : ℕ) (cause : HeaderCause) → AreWalked w →
+      ¬ RefusesFirstHeader w file cause
+  pub search : (search : Search) (w : FileStream) (cause : PlanCause) →
+      CanSearchFirst search w (length w.starts) → ¬ RefusesSearch search w cause
+  pub recording : (task : Task) (s : SettingsSeen) (w : FileStream) (cause : RecordingCause) →
+      (s.recording ≡ true → CanRecordFirst s.file_size w (length w.starts)) →
+      ¬ RefusesToRecord task s w cause

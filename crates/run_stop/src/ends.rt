@@ -1,6 +1,6 @@
 // Laws of how a run of either program ends, which the contracts of functions that do nothing carry. A caller whose
 // proof needs a law calls its function.
-ghost use Rattle.run_stop.specs.Ends.{EndAtWords, WordsSayOnce, EndBeforeSession, EndAtStop, EndAfterWhole, AcceptedGoesOn};
+ghost use Rattle.run_stop.specs.Ends.{EndAtWords, WordsSayOnce, EndBeforeSession, EndAtStop, EndAfterWhole, AcceptedGoesOn, AcceptedIsNotRefused};
 
 use psr_base::Inputs;
 // A law: it does nothing when it runs, and the proofs use what it ensures.
@@ -37,4 +37,9 @@ pub fn end_after_whole<I: Inputs>()
 /// Where nothing stands against a run, it ends at none of its words, inputs and files.
 pub fn accepted_goes_on<I: Inputs>()
     ensures { (inputs : I) → AcceptedGoesOn (I.is_calm inputs) }
+{}
+
+/// A first header that is accepted is not refused, nor is a search or a recording that fits.
+pub fn accepted_is_not_refused()
+    ensures { AcceptedIsNotRefused }
 {}

@@ -11,8 +11,8 @@ mod telling;
 
 pub use causes::{PlanCause, RecordingCause};
 pub use ends::{
-    accepted_goes_on, end_after_whole, end_at_stop, end_at_words, end_before_session,
-    words_say_once,
+    accepted_goes_on, accepted_is_not_refused, end_after_whole, end_at_stop, end_at_words,
+    end_before_session, words_say_once,
 };
 pub use laws::{runs_record_blocks, whole_runs_record_data};
 pub use stop::Stop;

@@ -39,7 +39,7 @@ fn within<'a, I: Inputs + Send, F: Files + Send, G: Gate + Sync, R: Threads + Wa
 ) -> Lent<'a, I, F, Result<Found, Stop>>
     requires range { AllInRange (settings_seen settings.now) }
     requires records { searches ≡ false → settings.now.recording ≡ true }
-    requires closed { ¬ F.is_open files.old }
+    requires closed { settings.now.recording ≡ true → ¬ F.is_open files.old }
     ensures same_inputs { result.inputs.ghost_name ≡ inputs.entry.ghost_name }
     ensures same_files { result.files.ghost_name ≡ files.entry.ghost_name }
     ensures inputs { HasReadFrom I.told I.is_calm I.faults (FailsReading result.done) inputs.old
@@ -121,7 +121,7 @@ pub fn drive<I: Inputs + Send, F: Files + Send, G: Gate + Sync, R: Threads + Wai
 ) -> Result<Found, Stop>
     requires range { AllInRange (settings_seen settings.now) }
     requires records { searches ≡ false → settings.now.recording ≡ true }
-    requires closed { ¬ F.is_open files.old }
+    requires closed { settings.now.recording ≡ true → ¬ F.is_open files.old }
     ensures inputs { HasReadFrom I.told I.is_calm I.faults (FailsReading result) inputs.old
         inputs.new }
     ensures serves { I.is_calm inputs.old

@@ -1,5 +1,5 @@
 // The session of a run.
-ghost use Rattle.std.specs.Prelude.{◌≡◌, ◌≢◌, ℕ, List, Some};
+ghost use Rattle.std.specs.Prelude.{◌≡◌, ◌≢◌, ℕ, List, Some, IsSome};
 ghost use Rattle.std.specs.Borrow.{MutBor};
 ghost use Rattle.psr_base.specs.Inputs.{HasReadFrom};
 ghost use Rattle.search_words.specs.Settings.{SettingsSeen};
@@ -191,7 +191,7 @@ pub(crate) fn go_on<
 ) -> Lent<'a, I, F, Found>
     requires opened { (task : Task) × (s : SettingsSeen) × IsOpened I.told I.is_open task s feeder
         opened.observations.items opened.spaces }
-    requires closed { ¬ F.is_open files.old }
+    requires closed { IsSome opened.spaces.recorder → ¬ F.is_open files.old }
     ensures same_inputs { result.inputs.ghost_name ≡ feeder.entry.inputs.ghost_name }
     ensures same_files { result.files.ghost_name ≡ files.entry.ghost_name }
     ensures inputs { HasReadFrom I.told I.is_calm I.faults (result.done.feed ≡ ReadFault)

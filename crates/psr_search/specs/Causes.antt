@@ -1,0 +1,67 @@
+-- What stands against a search is answered: the outcome read from the cause to the status.
+-- Source: this project's choice.
+use Rattle.std.specs.Prelude.{◌≡◌, ◌≢◌, ℕ, ◌≤◌, ◌<◌, ◌⊎◌, List, length, Some}
+use Rattle.psr_base.specs.Told.{InputsSeen}
+use Rattle.psr_base.specs.Made.{FilesSeen}
+use Rattle.psr_base.specs.Written.{SinkSeen}
+use Rattle.search_words.specs.Settings.{SettingsSeen, SaySearch}
+use Rattle.stream_model.specs.Walk.{FileStream}
+use Rattle.disk_feeder.specs.Plan.{AreTold}
+use Rattle.disk_feeder.specs.declared.answers.HeaderCause.{HeaderCause}
+use Rattle.dada_recorder.specs.Making.{Outset, BeginsAt, HasEnoughFor}
+use Rattle.transfer_text.specs.Searched.{searched_text}
+use Rattle.search_session.specs.declared.ended.Ran.{Ran}
+use Rattle.run_stop.specs.declared.causes.PlanCause.{PlanCause}
+use Rattle.run_stop.specs.declared.causes.RecordingCause.{RecordingCause}
+use Rattle.run_stop.specs.declared.stop.Stop.{Stop}
+use Rattle.run_stop.specs.Texts.{status_of}
+use Rattle.run_stop.specs.Runs.{Searching, stream_for, observed_transfers, RefusesFirstHeader, RefusesSearch, RefusesToRecord, StopsWalk, HasCandidates}
+use Rattle.run_stop.specs.Outcomes.{files_of_data}
+use Rattle.psr_search.specs.Outcome.{Outcome}
+
+-- the status is this one, or there was no memory
+abbrev pub Answers : ℕ → ℕ → Type 0
+Answers status wanted = (status ≡ wanted) ⊎ (status ≡ 5)
+
+-- Each cause that stands against a search of these files has its status: the first header that is refused, the search
+-- or the recording that is, the stop of the walk of the files, and more candidates than there may be.
+pub record EachIsAnswered (s : SettingsSeen) (w : FileStream) (status : ℕ) : Type 0 where
+  pub header : (file : ℕ) (cause : HeaderCause) → RefusesFirstHeader w file cause →
+      Answers status 3
+  pub plan : (cause : PlanCause) → RefusesSearch s.search w cause → Answers status 4
+  pub recording : (cause : RecordingCause) → RefusesToRecord Searching s w cause →
+      Answers status 4
+  pub walk : (stop : Stop) → StopsWalk Searching s w stop → Answers status (status_of stop)
+  pub too_many : HasCandidates s w (λ total. s.search.max_candidates < total) → Answers status 9
+
+-- So it is over calm inputs that hold all files.
+abbrev pub CausesAreAnswered : Type 0 → Type 0
+CausesAreAnswered is_calm = (words : List (List ℕ)) (inputs : InputsSeen)
+    (files_before files_after : FilesSeen)
+    (out_before out_after notes_before notes_after : SinkSeen)
+    (ran : Ran) →
+    Outcome words inputs is_calm files_before files_after out_before out_after notes_before
+    notes_after ran →
+    is_calm → (s : SettingsSeen) (files : List (List ℕ)) → SaySearch words s →
+    AreTold inputs.told s.names files → EachIsAnswered s (stream_for s files) ran.status
+
+-- No status is a fault of what told that it has enough room: the output for the text, and the files that are made for
+-- those of all data.
+pub record HasNoFault (s : SettingsSeen) (w : FileStream) (files_before : FilesSeen)
+    (out_before : SinkSeen) (status : ℕ) : Type 0 where
+  pub output : (room : ℕ) → out_before.room ≡ Some room →
+      length (searched_text s.search (observed_transfers w)) ≤ room → status ≢ 10
+  pub recording : (outset : Outset) → BeginsAt outset files_before →
+      HasEnoughFor outset (files_of_data w s.file_size) → status ≢ 11
+
+-- So it is wherever the files are told that are read.
+abbrev pub ToldRoomIsEnough : Type 0 → Type 0
+ToldRoomIsEnough is_calm = (words : List (List ℕ)) (inputs : InputsSeen)
+    (files_before files_after : FilesSeen)
+    (out_before out_after notes_before notes_after : SinkSeen)
+    (ran : Ran) →
+    Outcome words inputs is_calm files_before files_after out_before out_after notes_before
+    notes_after ran →
+    (s : SettingsSeen) (files : List (List ℕ)) → SaySearch words s →
+    AreTold inputs.told s.names files →
+    HasNoFault s (stream_for s files) files_before out_before ran.status
