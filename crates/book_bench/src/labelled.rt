@@ -1,5 +1,4 @@
 // Lines with other labels than those of a search over all channels.
-
 use crate::checks::is_part;
 use candidate_book::{Candidate, LineLabels, PulseWord, Totals, write_lines};
 use obs_plan::Observation;
