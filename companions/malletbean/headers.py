@@ -96,15 +96,21 @@ class Header:
 
     @property
     def start(self) -> np.datetime64:
-        """The time of the file's first spectrum, or NaT where the header has no UTC_START of the usual form."""
+        """The time of the file's first spectrum.
+
+        NaT where the header has no UTC_START of the usual form, or the time is none that numpy counts in nanoseconds.
+        """
         match = UTC_FORM.fullmatch(self.fields.get("UTC_START", ""))
         if match is None:
+            return np.datetime64("NaT", "ns")
+        nanoseconds = self.offset * self.sample_ns // self.spectrum_bytes
+        if not 1970 <= int(match[1][:4]) < 2200 or nanoseconds >= 2**61:
             return np.datetime64("NaT", "ns")
         try:
             begun = np.datetime64(f"{match[1]}T{match[2]}", "ns")
         except ValueError:
             return np.datetime64("NaT", "ns")
-        return begun + np.timedelta64(self.offset * self.sample_ns // self.spectrum_bytes, "ns")
+        return begun + np.timedelta64(nanoseconds, "ns")
 
 
 def header(path: str) -> Header:

@@ -1,6 +1,7 @@
 -- From what stands against a search to its status: at no other status it could stand there.
 use Rattle.std.proofs.Common.{◌≡◌, ◌⊎◌, ℕ, zero, suc, List, [], ◌∷◌, inl, inr, sym, ◌∙◌, ap, subst, refl, Some, None, Contains, arith}
 use Rattle.std.specs.Prelude.{Option, IsSome}
+use Rattle.psr_base.specs.Count.{Rose}
 use Rattle.psr_base.specs.Told.{Told, InputsSeen}
 use Rattle.psr_base.specs.Made.{FilesSeen}
 use Rattle.psr_base.specs.Written.{SinkSeen}
@@ -69,6 +70,14 @@ module _ (words : List (List ℕ)) (inputs : InputsSeen) (is_calm : Type 0) (fil
   abbrev n : ℕ
   n = ran.status
 
+  -- the inputs are calm, or count no fault
+  abbrev Quiet : Type 0
+  Quiet = is_calm ⊎ (¬ Rose inputs.faults_before inputs.faults_after)
+
+  not_six : Quiet → n ≡ 6 → ⊥
+  not_six (inl is) e = o.read.serves is s says (holds_all inputs.told s.names files are) e
+  not_six (inr still) e = still (o.read.failed e)
+
   -- ---- what each status says
 
   -- all data were read, with so few candidates
@@ -99,7 +108,7 @@ module _ (words : List (List ℕ)) (inputs : InputsSeen) (is_calm : Type 0) (fil
   -- ---- each cause against each status
 
   -- Where a search stops before its data are read, each status that comes later has a run that begins.
-  module _ (calm : is_calm) (begins_not : CanBegin Searching s w → ⊥) (wanted : ℕ)
+  module _ (calm : Quiet) (begins_not : CanBegin Searching s w → ⊥) (wanted : ℕ)
       (first : n ≡ 3 → (file : ℕ) (cause : HeaderCause) → RefusesFirstHeader w file cause → Answers n wanted)
       (plan : n ≡ 4 → Answers n wanted) where
     before_data : Answers n wanted
@@ -109,7 +118,7 @@ module _ (words : List (List ℕ)) (inputs : InputsSeen) (is_calm : Type 0) (fil
         at_three
         plan
         (λ e. inr e)
-        (λ e. absurd (o.read.serves calm s says (holds_all inputs.told s.names files are) e))
+        (λ e. absurd (not_six calm e))
         (λ e. absurd (begins_not (o.stopped.gap e s files says are).3.begins))
         (λ e. absurd (begins_not (o.stopped.too_long e s files says are).begins))
         (λ e. absurd (begins_not (o.too_many e s files says are).begins))
@@ -126,7 +135,7 @@ module _ (words : List (List ℕ)) (inputs : InputsSeen) (is_calm : Type 0) (fil
         at_three : n ≡ 3 → Answers n wanted
         at_three e = by_header (at_header ran.blocks refl e) e
 
-  header : is_calm → (file : ℕ) (cause : HeaderCause) → RefusesFirstHeader w file cause → Answers n 3
+  header : Quiet → (file : ℕ) (cause : HeaderCause) → RefusesFirstHeader w file cause → Answers n 3
   header calm file cause refuses = before_data calm
       (λ begins. not_refused.header w file cause begins.accepted refuses) 3 (λ e file cause again. inl e)
       (λ e. absurd (walked_not (at_plan e)))
@@ -136,18 +145,18 @@ module _ (words : List (List ℕ)) (inputs : InputsSeen) (is_calm : Type 0) (fil
       walked_not (inl r) = not_refused.header w file cause r.1.accepted refuses
       walked_not (inr r) = not_refused.header w file cause r.1.accepted refuses
 
-  plan : is_calm → (cause : PlanCause) → RefusesSearch s.search w cause → Answers n 4
+  plan : Quiet → (cause : PlanCause) → RefusesSearch s.search w cause → Answers n 4
   plan calm cause refuses = before_data calm
       (λ begins. not_refused.search s.search w cause (begins.searched refl) refuses) 4
       (λ e file first again. absurd (not_refused.header w file first refuses.accepted again)) (λ e. inl e)
 
-  recording : is_calm → (cause : RecordingCause) → RefusesToRecord Searching s w cause → Answers n 4
+  recording : Quiet → (cause : RecordingCause) → RefusesToRecord Searching s w cause → Answers n 4
   recording calm cause refuses = before_data calm
       (λ begins. not_refused.recording Searching s w cause begins.recorded refuses) 4
       (λ e file first again. absurd (not_refused.header w file first refuses.accepted again)) (λ e. inl e)
 
   -- Where a run begins, nothing is refused before its data are read.
-  module _ (calm : is_calm) (begins : CanBegin Searching s w) (wanted : ℕ)
+  module _ (calm : Quiet) (begins : CanBegin Searching s w) (wanted : ℕ)
       (searched : IsSearched s w → Answers n wanted)
       (stops : (stop : Stop) → n ≡ status_of stop → stop_of_walk w.max_bytes (walk_stop w) ≡ Some stop →
       Answers n wanted)
@@ -159,7 +168,7 @@ module _ (words : List (List ℕ)) (inputs : InputsSeen) (is_calm : Type 0) (fil
         at_three
         (λ e. absurd (fits (at_plan e)))
         (λ e. inr e)
-        (λ e. absurd (o.read.serves calm s says (holds_all inputs.told s.names files are) e))
+        (λ e. absurd (not_six calm e))
         (λ e. let r = o.stopped.gap e s files says are in stops (Gap r.0 r.1 r.2) e r.3.stops)
         (λ e. stops (TooLong s.max_bytes) e (o.stopped.too_long e s files says are).stops)
         nine
@@ -181,18 +190,18 @@ module _ (words : List (List ℕ)) (inputs : InputsSeen) (is_calm : Type 0) (fil
         fits (inl r) = not_refused.search s.search w r.0 (begins.searched refl) r.1
         fits (inr r) = not_refused.recording Searching s w r.0 begins.recorded r.1
 
-  walk_stops : is_calm → (stop : Stop) → StopsWalk Searching s w stop → Answers n (status_of stop)
+  walk_stops : Quiet → (stop : Stop) → StopsWalk Searching s w stop → Answers n (status_of stop)
   walk_stops calm stop at = after_begin calm at.begins (status_of stop)
       (λ searched. absurd (no_stop w.max_bytes (walk_stop w) stop searched.whole at.stops))
       (λ other e is. inl (e ∙ one_stop w.max_bytes (walk_stop w) other stop is at.stops))
       (λ e. absurd (no_stop w.max_bytes (walk_stop w) stop (o.too_many e s files says are).whole at.stops))
 
-  too_many : is_calm → HasCandidates s w (λ total. s.search.max_candidates < total) → Answers n 9
+  too_many : Quiet → HasCandidates s w (λ total. s.search.max_candidates < total) → Answers n 9
   too_many calm many = after_begin calm many.begins 9
       (λ searched. let least = many.total in let most = searched.total in absurd (omega (arith, least, most)))
       (λ stop e is. absurd (no_stop w.max_bytes (walk_stop w) stop many.whole is)) (λ e. inl e)
 
-  each : is_calm → EachIsAnswered s w n
+  each : Quiet → EachIsAnswered s w n
   each calm = record {
     header = header calm;
     plan = plan calm;

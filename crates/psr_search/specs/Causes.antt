@@ -1,6 +1,7 @@
--- What stands against a search is answered: the outcome read from the cause to the status.
+-- What stands against a search whose words are accepted is answered: the outcome read from the cause to the status.
 -- Source: this project's choice.
 use Rattle.std.specs.Prelude.{◌≡◌, ◌≢◌, ℕ, ◌≤◌, ◌<◌, ◌⊎◌, List, length, Some}
+use Rattle.psr_base.specs.Count.{Rose}
 use Rattle.psr_base.specs.Told.{InputsSeen}
 use Rattle.psr_base.specs.Made.{FilesSeen}
 use Rattle.psr_base.specs.Written.{SinkSeen}
@@ -34,7 +35,7 @@ pub record EachIsAnswered (s : SettingsSeen) (w : FileStream) (status : ℕ) : T
   pub walk : (stop : Stop) → StopsWalk Searching s w stop → Answers status (status_of stop)
   pub too_many : HasCandidates s w (λ total. s.search.max_candidates < total) → Answers status 9
 
--- So it is over calm inputs that hold all files.
+-- So it is over inputs that are calm and hold all files, or that count no fault.
 abbrev pub CausesAreAnswered : Type 0 → Type 0
 CausesAreAnswered is_calm = (words : List (List ℕ)) (inputs : InputsSeen)
     (files_before files_after : FilesSeen)
@@ -42,11 +43,12 @@ CausesAreAnswered is_calm = (words : List (List ℕ)) (inputs : InputsSeen)
     (ran : Ran) →
     Outcome words inputs is_calm files_before files_after out_before out_after notes_before
     notes_after ran →
-    is_calm → (s : SettingsSeen) (files : List (List ℕ)) → SaySearch words s →
+    is_calm ⊎ ¬ Rose inputs.faults_before inputs.faults_after → (s : SettingsSeen)
+    (files : List (List ℕ)) → SaySearch words s →
     AreTold inputs.told s.names files → EachIsAnswered s (stream_for s files) ran.status
 
--- No status is a fault of what told that it has enough room: the output for the text, and the files that are made for
--- those of all data.
+-- Who told enough room has no fault: 10 never comes where the output told room for the text, nor 11 where the files told
+-- enough for those of all data.
 pub record HasNoFault (s : SettingsSeen) (w : FileStream) (files_before : FilesSeen)
     (out_before : SinkSeen) (status : ℕ) : Type 0 where
   pub output : (room : ℕ) → out_before.room ≡ Some room →

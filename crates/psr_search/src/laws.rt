@@ -16,9 +16,9 @@ pub fn accepted_is_searched<I: Inputs>()
     accepted_goes_on::<I>();
 }
 
-/// What stands against a search over calm inputs that hold all files is answered: a refused first header by 3, a refused
-/// search or recording by 4, the stop of the walk of the files by its status, and too many candidates by 9; or there is
-/// no memory.
+/// What stands against a search whose words are accepted is answered, over inputs that are calm and hold all files, or
+/// that count no fault: a refused first header by 3, a refused search or recording by 4, the stop of the walk of the files
+/// by its status, and too many candidates by 9; or there is no memory.
 pub fn causes_are_answered<I: Inputs>()
     ensures { (inputs : I) → CausesAreAnswered (I.is_calm inputs) }
 {
