@@ -12,6 +12,13 @@ use psr_base::Memory;
 use std::alloc::Global;
 use subband_plan::Plan;
 
+// A copy of a row.
+fn copied(alloc: Global, row: &[u32]) -> Result<Vec<u32>, Memory>
+    ensures { IfOk result (λ sums. sums.items ≡ row.now) }
+{
+    Ok(Vec::from_slice(alloc, row)?)
+}
+
 /// The sums along the path of a delay that end at each of the first spectra. The edges of the channels are in kHz, the
 /// highest first; the samples of channel `c`, 255 at most, begin at `c * spectra`.
 pub fn dedispersed(
@@ -34,5 +41,5 @@ pub fn dedispersed(
     let plan = Plan::open(alloc, edges, delay, delay)?;
     let mut carry = Carry::open(alloc, plan, spectra, 255)?;
     carry.feed(rows, spectra);
-    Vec::from_slice(alloc, carry.row(delay)).map_err(Memory::from)
+    copied(alloc, carry.row(delay))
 }

@@ -28,7 +28,7 @@ use Rattle.run_stop.specs.declared.causes.PlanCause.TheVariants.{SumBound, FoldT
 use Rattle.run_stop.specs.declared.causes.RecordingCause.{RecordingCause}
 use Rattle.run_stop.specs.declared.causes.RecordingCause.TheVariants.{NoUtc, BadUtc, Overfull, TooManyFiles}
 use Rattle.run_stop.specs.declared.stop.Stop.{Stop}
-use Rattle.run_stop.specs.Runs.{Task, Says, CanSearchFirst, CanRecordFirst, CanBegin, stream_for, stop_of_walk, RefusesFirstHeader, RefusesSearch, RefusesToRecord, StopsWalk, IsPlanCause, IsRecordingCause}
+use Rattle.run_stop.specs.Runs.{Task, Searching, Says, CanSearchFirst, CanRecordFirst, CanBegin, stream_for, stop_of_walk, RefusesFirstHeader, RefusesSearch, RefusesToRecord, StopsWalk, IsPlanCause, IsRecordingCause}
 use Rattle.run_stop.specs.Outcomes.{JudgesWords, ReadsInputs, StopsAtFiles}
 use Rattle.run_stop.specs.Ends.{AcceptedGoesOn, AcceptedIsNotRefused}
 
