@@ -1,4 +1,4 @@
-use Rattle.std.proofs.Common.{◌≡◌, ℕ, ◌+◌, ◌-◌, ◌*◌, ◌<◌, List, length, Ok, Err, IfOk, sym, ap, subst, ◌∙◌, arith}
+use Rattle.std.proofs.Common.{◌≡◌, ℕ, ◌+◌, ◌-◌, ◌*◌, ◌<◌, List, length, Ok, Err, IfOk, sym, ap, subst, ◌∙◌, arith, rules}
 use Rattle.std.specs.Prelude.{Result, slice_index}
 use Rattle.band_paths.specs.Edges.{channels_of}
 use Rattle.search_model.specs.Samples.{Filterbank}
