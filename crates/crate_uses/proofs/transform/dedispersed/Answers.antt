@@ -26,6 +26,7 @@ returns-clause-sums c =
     let plan_is : c.in_ok-plan.plan.edges ≡ edges = search rules in
     let edges_are : fed.tables.plan.edges ≡ edges = ap (λ t. t.plan.edges) c.feed.ensures.fed.tables
     ∙ ap (λ p. p.edges) opened.plan_is ∙ plan_is in
+    let at_next : (i : ℕ) → i ≡ fresh.fed + i = λ i. omega (arith, opened.nothing_fed) in
     if_ok c.copied.result _ _ c.copied.ensures (λ sums is f u begins below.
     let stream : IsStream c.in_ok-plan.plan 255 f = record {
       channels = begins.channels_are ∙ ap channels_of (sym plan_is);
@@ -34,7 +35,7 @@ returns-clause-sums c =
     let stands = c.feed.ensures.stands f (c.in_ok-carry.ensures.stands f stream) (λ channel i there within.
     ap (λ (n : ℕ). slice_index rows (channel * n + i)) opened.chunk_is
     ∙ begins.samples channel i (subst (λ (n : ℕ). channel < n) begins.channels_are there) within
-    ∙ ap (λ (n : ℕ). f.value channel (n + i)) (sym opened.nothing_fed)) in
+    ∙ ap (f.value channel) (at_next i)) in
     let place : fed.fed - fed.last + u ≡ u = omega (
       arith,
       c.feed.ensures.fed.fed,
