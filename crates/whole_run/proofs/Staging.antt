@@ -1,6 +1,6 @@
 -- The stage of a run's session.
 use Rattle.std.proofs.Common.{◌≡◌, ℕ, ◌+◌, ◌<◌, Bool, true, false, List, Option, Some, None, length, refl, sym, ap, ◌∙◌, subst, arith}
-use Rattle.std.specs.Prelude.{IfSome, IsSome}
+use Rattle.std.specs.Prelude.{IfSome}
 use Rattle.psr_base.specs.Told.{Told}
 use Rattle.dada_model.specs.Observation.{Observation}
 use Rattle.search_words.specs.Settings.{SettingsSeen}
@@ -102,18 +102,6 @@ records_not : (records : Bool) (plan : RecordPlan) (size : ℕ) (at : Option Rec
     HasRecorderSpace records plan size at → at ≡ None → records ≡ false
 records_not false plan size at has is = refl
 records_not true plan size at has is = let none = sym has.1 ∙ is in absurd cc
-
-asked : (records : Bool) (plan : RecordPlan) (size : ℕ) (at : Option RecorderSpace) →
-    HasRecorderSpace records plan size at → IsSome at → records ≡ true
-asked true plan size at has some = refl
-asked false plan size at has some = let none : IsSome None = subst IsSome has some in absurd cc
-
--- a run has the space of a recorder only where it is to record
-pub asked_to_record : {I F : Type 0} (told : I → Told) (is_open : I → Type 0) (task : Task) (s : SettingsSeen)
-    (feeder : Feeder I) (observations : List (Option Observation)) (spaces : Spaces I F) →
-    IsOpened told is_open task s feeder observations spaces → IsSome spaces.recorder → s.recording ≡ true
-asked_to_record told is_open task s feeder observations spaces opened some =
-    asked s.recording (plan_for s opened.offsets) s.size spaces.recorder opened.recorder_is some
 
 pub records_ready : {I F : Type 0} (told : I → Told) (is_open : I → Type 0) (files_open : F → Type 0) (task : Task)
     (s : SettingsSeen) (feeder : Feeder I) (observations : List (Option Observation)) (spaces : Spaces I F)
