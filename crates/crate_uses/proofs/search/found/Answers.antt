@@ -1,4 +1,4 @@
-use Rattle.std.proofs.Common.{◌≡◌, ℕ, [], ◌∙◌, ap}
+use Rattle.std.proofs.Common.{ℕ, [], ◌∙◌, ap}
 use Rattle.search_model.specs.declared.search.Search.{Search}
 use Rattle.search_model.specs.Candidates.{shard_part}
 use Rattle.search_model.specs.Observed.{candidates_of}

@@ -1,10 +1,8 @@
 use Rattle.std.proofs.Common.{◌≡◌, ℕ, ◌+◌, ◌-◌, ◌*◌, ◌<◌, List, length, Ok, Err, IfOk, sym, ap, subst, ◌∙◌, arith, rules}
 use Rattle.std.specs.Prelude.{Result, slice_index}
 use Rattle.band_paths.specs.Edges.{channels_of}
-use Rattle.search_model.specs.Samples.{Filterbank}
 use Rattle.search_model.specs.Sums.{path_sum}
 use Rattle.fdmt_carry.specs.Carrying.{IsStream}
-use Rattle.crate_uses.specs.Streams.{BeginsWith}
 use Rattle.crate_uses.proofs.transform.dedispersed.Goals as goal
 
 if_ok : {T E : Type 0} (r : Result T E) (P Q : T → Type 0) → IfOk r P → ((x : T) → P x → Q x) → IfOk r Q

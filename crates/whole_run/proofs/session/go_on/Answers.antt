@@ -15,7 +15,8 @@ with_recorder-requires-clause-ready g c = λ κs lives.
       records_ready g.I.Inputs.told g.I.Inputs.is_open g.F.Files.is_open at.0 at.1 c.args.feeder
           c.args.opened.observations.items c.args.opened.spaces c.in-Some.space c.over-recorder.result at.2 c.in-Some.is
           c.over-recorder.ensures.fresh
-          (λ is_open. c.requires.closed (subst IsSome (sym c.in-Some.is) refl) (subst IsOpen c.over-recorder.ensures.files is_open)),
+          (λ is_open. c.requires.closed (subst IsSome (sym c.in-Some.is) refl)
+          (subst IsOpen c.over-recorder.ensures.files is_open)),
     )
 
 pub returns-in-Some-clause-went : goal.returns-in-Some-clause-went
@@ -23,7 +24,9 @@ returns-in-Some-clause-went g c = λ task s opened.
     let IsOpen : _ → Type 0 = g.F.Files.is_open in
     let ready = records_ready g.I.Inputs.told g.I.Inputs.is_open g.F.Files.is_open task s c.args.feeder
     c.args.opened.observations.items c.args.opened.spaces c.in-Some.space c.over-recorder.result opened c.in-Some.is
-    c.over-recorder.ensures.fresh (λ is_open. c.requires.closed (subst IsSome (sym c.in-Some.is) refl) (subst IsOpen c.over-recorder.ensures.files is_open)) in
+    c.over-recorder.ensures.fresh
+    (λ is_open. c.requires.closed (subst IsSome (sym c.in-Some.is) refl)
+    (subst IsOpen c.over-recorder.ensures.files is_open)) in
     let Through : FilesSeen → Type 0 = λ before. GoesThrough task s (g.I.Inputs.told c.args.feeder.inputs.now) before
     (g.F.Files.seen c.with_recorder.result.files.now) c.with_recorder.result.done in
     subst Through (ap g.F.Files.seen c.over-recorder.ensures.files)
