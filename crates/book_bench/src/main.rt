@@ -1,8 +1,8 @@
 //! Writes the text of candidates that stand in seven books.
 //!
 //! With no words there are a few of them, and then small books of one and of two transfers, and of sinks that fail what
-//! they have of a text, and lines with other labels. With a word COUNT each book has so many. The notes tell how long the books took to make, and
-//! how long with the writing.
+//! they have of a text, and lines with other labels. With a word COUNT each book has so many. The notes tell how long
+//! the books took to make, and how long with the writing.
 #![tactic(auto)]
 
 mod checks;

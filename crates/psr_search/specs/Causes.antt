@@ -47,8 +47,8 @@ CausesAreAnswered is_calm = (words : List (List ℕ)) (inputs : InputsSeen)
     (files : List (List ℕ)) → SaySearch words s →
     AreTold inputs.told s.names files → EachIsAnswered s (stream_for s files) ran.status
 
--- Who told enough room has no fault: 10 never comes where the output told room for the text, nor 11 where the files told
--- enough for those of all data.
+-- Who told enough room has no fault: 10 never comes where the output told room for the text, nor 11 where the files
+-- told enough for those of all data.
 pub record HasNoFault (s : SettingsSeen) (w : FileStream) (files_before : FilesSeen)
     (out_before : SinkSeen) (status : ℕ) : Type 0 where
   pub output : (room : ℕ) → out_before.room ≡ Some room →

@@ -17,16 +17,16 @@ pub fn accepted_is_searched<I: Inputs>()
 }
 
 /// What stands against a search whose words are accepted is answered, over inputs that are calm and hold all files, or
-/// that count no fault: a refused first header by 3, a refused search or recording by 4, the stop of the walk of the files
-/// by its status, and too many candidates by 9; or there is no memory.
+/// that count no fault: a refused first header by 3, a refused search or recording by 4, the stop of the walk of the
+/// files by its status, and too many candidates by 9; or there is no memory.
 pub fn causes_are_answered<I: Inputs>()
     ensures { (inputs : I) → CausesAreAnswered (I.is_calm inputs) }
 {
     accepted_is_not_refused();
 }
 
-/// Where the files are told that are read, 10 never comes over an output that told enough room for the text, nor 11 over
-/// files that told enough for those of all data.
+/// Where the files are told that are read, 10 never comes over an output that told enough room for the text, nor 11
+/// over files that told enough for those of all data.
 pub fn told_room_is_enough<I: Inputs>()
     ensures { (inputs : I) → ToldRoomIsEnough (I.is_calm inputs) }
 {}
