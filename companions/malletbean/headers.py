@@ -115,6 +115,9 @@ class Header:
 
 def header(path: str) -> Header:
     """The header of a file."""
+    # what is read twice has to be there twice
+    if os.path.exists(path) and not os.path.isfile(path) and not os.path.isdir(path):
+        raise Refusal(READ, f"can't read {path}: it is a pipe or a device, and has to be a file")
     text, size = header_text(path)
     try:
         data_bytes = os.path.getsize(path) - size

@@ -26,6 +26,12 @@ USUAL_FILE_SIZE = 2**30
 PIECES = 8
 # a channel stands out that lies so many deviations of the channels off their median
 STANDS_OUT = 6
+# the forms that values may have; psr_search takes the first
+FORMS = {"<u": "unsigned, the low byte first", "<i": "signed", ">u": "unsigned, the high byte first",
+         ">i": "signed, the high byte first"}
+FORM_WORDS = {"<i": "--signed", ">u": "--high-byte-first", ">i": "--signed --high-byte-first"}
+# how many values tell the form
+FORM_VALUES = 2**20
 # deviations of a normal distribution in the median of the distances from its median
 MEDIAN_DISTANCE = 0.6745
 
@@ -60,7 +66,7 @@ def psr_look(words: Sequence[str]) -> None:
     measured = measure(samples, int(asked.megabytes * 1e6) // head.spectrum_bytes)
     taken = measured.spectra * head.spectrum_bytes / 1e6
     print(f"psr_look estimates, from the first {taken:.3g} MB of the data; nothing of what it says is proved.")
-    for name, text in said(asked, head, measured):
+    for name, text in said(asked, head, measured, form_of(samples)):
         print(f"{name:<12}{text}")
     if asked.channels:
         print_channels(head, measured)
@@ -109,10 +115,23 @@ def measure(samples: Samples, most: int) -> Measured:
     return Measured(spectra, means, np.sqrt(variances), np.array(piece_means))
 
 
-def said(asked: argparse.Namespace, head: Header, measured: Measured) -> list[tuple[str, str]]:
+def form_of(samples: Samples) -> str:
+    """The one of FORMS in which the first values spread least, if by less than half of what they do in the first."""
+    head = samples.header
+    count = min(samples.spectra, max(1, FORM_VALUES // (head.channels * head.polarisations)))
+    spreads = {kind: float(samples.values(0, count, kind).std()) for kind in FORMS}
+    least = min(FORMS, key=spreads.__getitem__)
+    return least if 2 * spreads[least] < spreads["<u"] else "<u"
+
+
+def said(asked: argparse.Namespace, head: Header, measured: Measured, form: str) -> list[tuple[str, str]]:
     """What is said of the file, line by line."""
     max_delay = delay_to_search(head, asked.dm)
-    lines = header_lines(head) + noise_lines(head, measured, max_delay)
+    lines = header_lines(head)
+    if form != "<u":
+        lines.append(("values", f"they look {FORMS[form]}; psr_search would take them as {FORMS['<u']}: "
+                                f"psr_level FILE OUT {FORM_WORDS[form]} turns them"))
+    lines += noise_lines(head, measured, max_delay)
     if asked.dm is not None:
         lines.append(("delay", delay_text(head, asked.dm)))
     lines.append(("reach", ", ".join(

@@ -1,4 +1,4 @@
-"""What the three programs have in common: their words, and how they end."""
+"""What the programs have in common: their words, and how they end."""
 from __future__ import annotations
 
 import argparse

@@ -38,12 +38,15 @@ class Samples:
 
     def read(self, first: int, count: int) -> np.ndarray:
         """So many spectra from one on, each a row, polarisations added, the highest channel first."""
+        added = self.values(first, count).sum(axis=2, dtype=np.uint32)
+        return added if self.header.is_falling else added[:, ::-1]
+
+    def values(self, first: int, count: int, kind: str = "<u") -> np.ndarray:
+        """So many spectra from one on, as the file has them: of each channel in its order, each polarisation."""
         head = self.header
         size = head.spectrum_bytes
         data = b"".join(self._bytes(first * size, (first + count) * size))
-        values = np.frombuffer(data, f"<u{head.bits // 8}").reshape(-1, head.channels, head.polarisations)
-        added = values.sum(axis=2, dtype=np.uint32)
-        return added if head.is_falling else added[:, ::-1]
+        return np.frombuffer(data, f"{kind}{head.bits // 8}").reshape(-1, head.channels, head.polarisations)
 
     def _check(self, path: str, later: Header) -> None:
         first = self.headers[0]

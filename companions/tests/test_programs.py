@@ -1,4 +1,4 @@
-"""The three programs as they are called: their statuses, and the one line that says why."""
+"""The programs as they are called: their statuses, and the one line that says why."""
 from __future__ import annotations
 
 import subprocess
@@ -8,12 +8,13 @@ from pathlib import Path
 import pytest
 
 from conftest import DATA, HERE
+from malletbean.level import psr_level
 from malletbean.look import psr_look
 from malletbean.plot import psr_plot
 from malletbean.program import run
 from malletbean.table import psr_table
 
-PROGRAMS = {"psr_look": psr_look, "psr_plot": psr_plot, "psr_table": psr_table}
+PROGRAMS = {"psr_level": psr_level, "psr_look": psr_look, "psr_plot": psr_plot, "psr_table": psr_table}
 MADE, TWO = str(DATA / "made.txt"), str(DATA / "two.txt")
 
 
@@ -33,6 +34,11 @@ def test_the_commands(program: str) -> None:
     ("psr_look", ["FILE", "1e3"], 2, "1e3 is no dispersion measure"),
     ("psr_look", ["/nowhere/a.dada"], 6, "can't read /nowhere/a.dada"),
     ("psr_look", [MADE], 3, f"header of {MADE} refused: Short"),
+    ("psr_look", ["/dev/null"], 6, "can't read /dev/null: it is a pipe or a device, and has to be a file"),
+    ("psr_level", ["FILE"], 2, "the following arguments are required: OUT"),
+    ("psr_level", ["FILE", "OUT", "--spectra", "1"], 2, "argument --spectra: it is below 2"),
+    ("psr_level", ["FILE", MADE], 10, f"can't write {MADE}: it is there already"),
+    ("psr_level", ["FILE", "/nowhere/a.dada"], 10, "can't write"),
     ("psr_table", ["FILE", "1e3", "1", MADE], 2, "1e3 is no number"),
     ("psr_table", ["FILE", "16", "0", MADE], 2, "argument SD: it is 0"),
     ("psr_table", ["FILE", "16", "2.828", "/nowhere/text"], 6, "can't read /nowhere/text"),

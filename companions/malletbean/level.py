@@ -1,0 +1,93 @@
+"""`psr_level`: the same observation, with one mean and one deviation in all channels and at all times."""
+from __future__ import annotations
+
+import argparse
+from collections.abc import Iterator, Sequence
+
+import numpy as np
+
+from .headers import Header, refused
+from .program import Words
+from .refusal import OUTPUT, WORDS, Refusal, bytes_of
+from .samples import Samples
+
+# how many values are worked on at a time
+VALUES_AT_A_TIME = 2**22
+# how many spectra are levelled as one stretch
+USUAL_STRETCH = 16384
+# the mean and the deviation of a levelled value, by its bits
+LEVELS = {8: (64, 8), 16: (1000, 50)}
+
+
+def psr_level(words: Sequence[str]) -> None:
+    """Writes the levelled file that the words ask for."""
+    asked = parsed(words)
+    samples = Samples([asked.file])
+    head = samples.header
+    if head.spectra < 2:
+        raise refused(asked.file, f"its data have {head.data_bytes} bytes, fewer than two spectra")
+    dither = np.random.default_rng(0)
+    try:
+        with open(asked.output, "xb") as file:
+            file.write(bytes_of(asked.file, head.size))
+            # a last stretch of a few spectra would be levelled by those few alone, so it joins the one before
+            stretches = max(1, head.spectra // asked.spectra)
+            for number in range(stretches):
+                stop = head.spectra if number + 1 == stretches else (number + 1) * asked.spectra
+                for piece in levelled(samples, number * asked.spectra, stop, asked.kind, dither):
+                    file.write(piece)
+    except FileExistsError as fault:
+        raise Refusal(OUTPUT, f"can't write {asked.output}: it is there already") from fault
+    mean, deviation = LEVELS[head.bits]
+    print(f"psr_level: each channel has the mean {mean} and the deviation {deviation} in each polarisation now; "
+          f"psr_look {asked.output} says the words of a search")
+
+
+def parsed(words: Sequence[str]) -> argparse.Namespace:
+    """The words of the command."""
+    parser = Words(prog="psr_level", description="Levels the channels of a file, and takes out slow drifts.")
+    parser.add_argument("file", metavar="FILE", help="a DADA file of filterbank samples")
+    parser.add_argument("output", metavar="OUT", help="the levelled file, which must not be there")
+    parser.add_argument("--spectra", metavar="N", type=int, default=USUAL_STRETCH,
+                        help=f"how many spectra are levelled as one stretch ({USUAL_STRETCH})")
+    parser.add_argument("--signed", action="store_true", help="the values of FILE are signed; those of OUT never are")
+    parser.add_argument("--high-byte-first", action="store_true", help="so it is in FILE; in OUT the low byte is first")
+    asked = parser.parse_args(words)
+    if asked.spectra < 2:
+        raise Refusal(WORDS, "argument --spectra: it is below 2")
+    asked.kind = (">" if asked.high_byte_first else "<") + ("i" if asked.signed else "u")
+    return asked
+
+
+def levelled(samples: Samples, first: int, stop: int, kind: str, dither: np.random.Generator) -> Iterator[bytes]:
+    """The values of a stretch of spectra in pieces, each channel and polarisation with mean and deviation of LEVELS.
+
+    A channel that never changes has the mean alone. Values are rounded up or down at random, so that no mean is moved.
+    """
+    head = samples.header
+    mean, deviation = LEVELS[head.bits]
+    means, deviations = noise_of(samples, first, stop, kind)
+    gains = np.divide(deviation, deviations, out=np.zeros_like(deviations), where=deviations > 0)
+    for begin, end in pieces(head, first, stop):
+        values = samples.values(begin, end - begin, kind)
+        level = mean + gains * (values - means)
+        yield np.clip(np.floor(level + dither.random(level.shape)), 0, 2**head.bits - 1).astype(
+            f"<u{head.bits // 8}").tobytes()
+
+
+def noise_of(samples: Samples, first: int, stop: int, kind: str) -> tuple[np.ndarray, np.ndarray]:
+    """The mean and the deviation of each channel and polarisation over a stretch of spectra."""
+    total = squares = np.zeros(1)
+    for begin, end in pieces(samples.header, first, stop):
+        values = samples.values(begin, end - begin, kind).astype(np.float64)
+        total = total + values.sum(axis=0)
+        squares = squares + (values**2).sum(axis=0)
+    means = total / (stop - first)
+    return means, np.sqrt(np.maximum(squares / (stop - first) - means**2, 0))
+
+
+def pieces(head: Header, first: int, stop: int) -> Iterator[tuple[int, int]]:
+    """The first and the end of each piece of a stretch of spectra that is worked on at a time."""
+    count = max(1, VALUES_AT_A_TIME // (head.channels * head.polarisations))
+    for begin in range(first, stop, count):
+        yield begin, min(begin + count, stop)
