@@ -162,6 +162,10 @@ same 'join without a part: status, lines' "$? $(wc -l <joined) $(grep -c "${name
 "$root/cluster/parallel.bash" second
 same 'parallel again: status' $? 0
 whole_and_joined 'the second observation again' second
+"$plan" none 4 "${words[@]}" missing.dada >said 2>notes
+same 'plan of a file that is not there: status, lines, folders' "$? $(wc -l <notes) $(ls -d none 2>/dev/null)" '2 1 '
+"$plan" none 4 --mean 16 first.dada >said 2>notes
+same 'plan without a deviation: status, lines, folders' "$? $(wc -l <notes) $(ls -d none 2>/dev/null)" '2 1 '
 "$plan" limited 4 "${words[@]}" --max-candidates 1 first.dada >said
 "$root/cluster/parallel.bash" limited 2>notes
 same 'parallel with a limit that is too low: status, lines' \
