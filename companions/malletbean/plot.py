@@ -149,7 +149,7 @@ def draw_snr(panel: Axes, lines: np.ndarray, word: str) -> None:
     delays = np.flatnonzero(greatest)
     panel.plot(dm_of_delays(lines)[delays], greatest[delays], color="tab:grey", linewidth=0.8,
                label="greatest printed ratio")
-    panel.legend(fontsize=7, loc="upper right")
+    panel.legend(fontsize=7, loc="upper right", framealpha=0.3)
 
 
 def draw_number(panel: Axes, pulses: np.ndarray) -> None:
