@@ -28,8 +28,8 @@ impl PulseWord {
     }
 }
 
-/// What the lines of a search say besides their candidates and the dispersion measure: how many cells a path sum of each
-/// delay adds up, and with which word the line of a pulse begins.
+/// What the lines of a search say besides their candidates and the dispersion measure: how many cells a path sum of
+/// each delay adds up, and with which word the line of a pulse begins.
 pub trait LineLabels {
     /// How many cells a path sum of a delay has.
     ghost cells_of_delay: { Self → ℕ → ℕ };

@@ -24,7 +24,8 @@ fn pass_list<K: Sink, L: LineLabels>(
 ) -> Result<Totals, Failed>
     requires searched { All IsSearched list.now }
     requires page { page.old ≡ [] }
-    ensures { Listed (labels_with obs.now (L.cells_of_delay labels.now) (L.word_at labels.now)) list.now
+    ensures { Listed
+        (labels_with obs.now (L.cells_of_delay labels.now) (L.word_at labels.now)) list.now
         page.new (K.seen sink.old) (K.seen sink.new) result }
 {
     pieces_join();
@@ -45,7 +46,8 @@ pub fn write_lines<K: Sink, L: LineLabels>(
     sink: &mut K,
 ) -> Result<Totals, SinkStop>
     requires { All IsSearched list.now }
-    ensures { WroteLines (labels_with obs.now (L.cells_of_delay labels.now) (L.word_at labels.now)) list.now
+    ensures { WroteLines
+        (labels_with obs.now (L.cells_of_delay labels.now) (L.word_at labels.now)) list.now
         (K.seen sink.old) (K.seen sink.new) result }
 {
     pieces_join();

@@ -58,7 +58,8 @@ fn widen_kept_row(
     requires row { r < row_count rows.now }
     requires narrow_room { kept_room rows.now ≤ length kept_narrow.now }
     requires wide_room { kept_room rows.now ≤ length kept_wide.old }
-    ensures { (first : List ℕ) → AreWidened rows.now narrow.now r kept_narrow.now first kept_wide.old
+    ensures { (first : List ℕ)
+        → AreWidened rows.now narrow.now r kept_narrow.now first kept_wide.old
         → AreWidened rows.now narrow.now (r + 1) kept_narrow.now first kept_wide.new }
 {
     if !row_is_narrow(narrow, r) {
@@ -95,7 +96,8 @@ fn narrow_kept_row(
     requires row { r < row_count rows.now }
     requires narrow_room { kept_room rows.now ≤ length kept_narrow.old }
     requires wide_room { kept_room rows.now ≤ length kept_wide.now }
-    ensures { (first : List ℕ) → AreNarrowed rows.now narrow.now r kept_wide.now first kept_narrow.old
+    ensures { (first : List ℕ)
+        → AreNarrowed rows.now narrow.now r kept_wide.now first kept_narrow.old
         → AreNarrowed rows.now narrow.now (r + 1) kept_wide.now first kept_narrow.new }
 {
     if !row_is_narrow(narrow, r) {

@@ -12,7 +12,8 @@ pub use laws::{
     candidates_are_listed, candidates_rise, cells_agree, cells_are_counted, detection_rises,
     halves_add, halves_join, has_one_path, late_path_sums, nothing_before, one_channel_adds,
     one_channel_is_its_sample, one_shard_is_all, order_is_strict, parts_join, parts_need_no_more,
-    paths_rise, ranges_merge, rising_lists_agree, samples_of_bytes, shards_merge, splits_fit,
-    splits_step, sums_are_bounded, tests_detection, time_shifts, whole_band_is_path_sum,
+    path_sums_count_cells, paths_rise, plain_is_unmasked, ranges_merge, rising_lists_agree,
+    samples_of_bytes, shards_merge, splits_fit, splits_step, sums_are_bounded, tests_detection,
+    time_shifts, whole_band_is_path_sum,
 };
 pub use search::{MOST_DELAY, Search};
