@@ -14,7 +14,7 @@ use Rattle.search_model.specs.Samples.{Filterbank, filterbank, samples_of}
 use Rattle.spectra_rows.specs.Unpacking.{OpenedAlike, Unpacking, StandsForBytes, spectrum_bytes, unpacked}
 use Rattle.subband_plan.specs.Nodes.{BandPlan}
 use Rattle.search_engine.specs.Engine.{EngineState, Searches, HoldsData, BeginsWith, most_fed}
-use Rattle.search_engine.specs.Sums.{ShardState, StandsForStream, ContinuesStream, SumsAlike}
+use Rattle.shard_search.specs.Sums.{ShardState, StandsForStream, ContinuesStream, SumsAlike}
 use Rattle.search_engine.proofs.Data.{begins_before, data_begin}
 use Rattle.search_engine.proofs.Sizes.{size_of, size_some, whole_are, given_fit, held_fit}
 

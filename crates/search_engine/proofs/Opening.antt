@@ -10,9 +10,9 @@ use Rattle.search_model.specs.Plan.{plan_refusal}
 use Rattle.search_model.specs.Search.{SettingsInRange, shard_start}
 use Rattle.candidate_book.specs.Book.{BookContents, book_of}
 use Rattle.spectra_rows.specs.Unpacking.{Unpacking, StandsForBytes}
-use Rattle.search_engine.specs.Counts.{most_tables}
-use Rattle.search_engine.specs.Pulses.{pulses_of_ends}
-use Rattle.search_engine.specs.Sums.{ShardState, sums_of}
+use Rattle.shard_search.specs.Counts.{most_tables}
+use Rattle.shard_search.specs.Pulses.{pulses_of_ends}
+use Rattle.shard_search.specs.Sums.{ShardState, sums_of}
 use Rattle.search_engine.specs.Engine.{EngineState, Searches, HoldsData, HasTaken, StandsForData, EngineIsSound, IsOpenedSums, IsOpenedUnpacker, chunk_of}
 
 -- the parts of an engine

@@ -11,15 +11,13 @@ use Rattle.search_model.specs.Candidates.{plain_cells, folds, within_delays, sha
 use Rattle.search_model.specs.Observed.{filterbank_of, candidates_of}
 use Rattle.search_model.specs.Samples.{Filterbank}
 use Rattle.search_model.specs.Search.{shard_start}
-use Rattle.search_model.specs.SubbandLaws.{LatePathSums}
 use Rattle.subband_plan.specs.Nodes.{BandPlan}
 use Rattle.search_engine.specs.Engine.{EngineState, Searches}
-use Rattle.search_engine.specs.Judging.{Adds}
-use Rattle.search_engine.specs.Pulses.{pulses_of_end, pulses_of_ends}
-use Rattle.search_engine.specs.Sums.{sums_of, pulses_of_plan, folds_of_plan}
+use Rattle.shard_search.specs.Judging.{Adds}
+use Rattle.shard_search.specs.Laws.{ShardsAreListed}
+use Rattle.shard_search.specs.Pulses.{pulses_of_end, pulses_of_ends}
+use Rattle.shard_search.specs.Sums.{sums_of, pulses_of_plan, folds_of_plan}
 use Rattle.search_engine.proofs.PlanFits.{shard_rises, shard_delays}
-use Rattle.search_engine.proofs.PulseLists.{part_is_both}
-use Rattle.search_engine.proofs.Ranges.{range_join}
 
 -- what was added to a book of a list
 pub book_with : (b c : BookContents) (limit : ℕ) (list more : List Candidate) → b ≡ book_of limit list → Adds b c more →
@@ -68,42 +66,32 @@ folds_are fall o e f s =
     ∙ ap (λ c. within_delays first (end - 1 + 1) (folds f (edges o) (plain_cells c) e.search)) channels
     ∙ ap (λ b. within_delays first b (folds f (edges o) (plain_cells o.channels) e.search)) last
 
--- the ends of so many spectra more
-pub ends_join : (y : ℕ → ℕ → ℕ) (s : Search) (n first end start m k j : ℕ) → start + m ≡ j →
-    pulses_of_ends y s n first end start m ++ pulses_of_ends y s n first end j k
-    ≡ pulses_of_ends y s n first end start (m + k)
-ends_join y s n first end start m k j at =
-    let g : ℕ → List Candidate = λ u. pulses_of_end y s n first end u in
-    sym (ap (flat_map g) (range_join start m k)
-    ∙ flat_map-append g (range_with_len start m) (range_with_len (start + m) k)
-    ∙ ap (λ a. flat_map g (range_with_len start m) ++ flat_map g (range_with_len a k)) at)
-
 -- the book has the pulses of the spectra that were searched
-pub book_more : EdgesFall → (o : Observation) (e : EngineState) (f : Filterbank) (b : BookContents) (u r : ℕ) →
+pub book_more : ShardsAreListed → EdgesFall → (o : Observation) (e : EngineState) (f : Filterbank) (b : BookContents) (u r : ℕ) →
     Searches o e → e.book ≡ book_of e.search.max_candidates (pulses_so_far o e.search e.shard f u) →
     Adds e.book b (pulses_of_plan f e.sums.carry.tables.plan e.sums.pulses.search u r) →
     b ≡ book_of e.search.max_candidates (pulses_so_far o e.search e.shard f (u + r))
-book_more fall o e f b u r s is adds =
+book_more listed fall o e f b u r s is adds =
     let more = pulses_of_plan f e.sums.carry.tables.plan e.sums.pulses.search u r in
     book_with e.book b e.search.max_candidates (pulses_so_far o e.search e.shard f u) more is adds
     ∙ ap (λ xs. book_of e.search.max_candidates (pulses_so_far o e.search e.shard f u ++ xs))
     (pulses_are fall o e f u r s)
-    ∙ ap (λ xs. book_of e.search.max_candidates xs) (ends_join (sums_of f (edges o)) e.search o.channels
+    ∙ ap (λ xs. book_of e.search.max_candidates xs) (listed.ends (sums_of f (edges o)) e.search o.channels
     (shard_start e.search e.shard) (shard_start e.search (e.shard + 1)) 0 u r u (omega arith))
 
 -- and with the folds it has the shard's part of all candidates
-pub book_of_all : LatePathSums → EdgesFall → (o : Observation) (e : EngineState) (bytes : List ℕ) (b c : BookContents) →
+pub book_of_all : ShardsAreListed → EdgesFall → (o : Observation) (e : EngineState) (bytes : List ℕ) (b c : BookContents) →
     Searches o e →
     b ≡ book_of e.search.max_candidates (pulses_so_far o e.search e.shard (filterbank_of o bytes)
     (filterbank_of o bytes).spectra) →
     Adds b c (folds_of_plan (filterbank_of o bytes) e.sums.carry.tables.plan e.sums.pulses.search) →
     c ≡ book_of e.search.max_candidates (shard_part e.search e.shard (candidates_of o e.search bytes))
-book_of_all late fall o e bytes b c s is adds =
+book_of_all listed fall o e bytes b c s is adds =
     let f = filterbank_of o bytes in
     let more = folds_of_plan f e.sums.carry.tables.plan e.sums.pulses.search in
     book_with b c e.search.max_candidates (pulses_so_far o e.search e.shard f f.spectra) more is adds
     ∙ ap (λ xs. book_of e.search.max_candidates (pulses_so_far o e.search e.shard f f.spectra ++ xs))
     (folds_are fall o e f s)
     ∙ ap (λ xs. book_of e.search.max_candidates xs)
-    (part_is_both late f (edges o) o.channels e.search e.shard (fall o s.bounds)
+    (listed.part f (edges o) o.channels e.search e.shard (fall o s.bounds)
     (shard_delays o e.search e.shard s.range s.accepted s.shard))

@@ -14,9 +14,9 @@ use Rattle.spectra_rows.specs.Unpacking.{Unpacking, StandsForBytes, unpacking_of
 use Rattle.subband_plan.specs.Plans.{band_plan}
 use Rattle.fdmt_carry.specs.Carrying as carry
 use Rattle.fdmt_carry.specs.Carrying.{IsStream}
-use Rattle.search_engine.specs.Counts.{most_pulses_at_end, most_tables}
-use Rattle.search_engine.specs.Pulses.{pulses_of_ends}
-use Rattle.search_engine.specs.Sums.{ShardState, StandsForStream, sums_of}
+use Rattle.shard_search.specs.Counts.{most_pulses_at_end, most_tables}
+use Rattle.shard_search.specs.Pulses.{pulses_of_ends}
+use Rattle.shard_search.specs.Sums.{ShardState, StandsForStream, sums_of}
 
 -- The search of one shard: how many bytes it was fed, and whether it ended; what stands behind.
 pub record EngineState : Type 0 where

@@ -1,10 +1,2 @@
-pub mod Counts
 pub mod Engine
-pub mod FoldSearch
-pub mod Judging
 pub mod Plan
-pub mod PulseSearch
-pub mod Pulses
-pub mod Series
-pub mod Sums
-pub mod Thresholds

@@ -10,19 +10,20 @@ ghost use Rattle.search_engine.specs.Engine.{EngineState, EngineIsSound, IsOpene
 
 use crate::fault::PlanFault;
 use crate::plan::check_plan;
-use crate::shard::ShardSearch;
 use candidate_book::Book;
 use fdmt_carry::Carry;
 use obs_plan::Observation;
 use psr_base::Memory;
 use row_schedule::Samples;
 use search_model::Search;
+use shard_search::ShardSearch;
 use spectra_rows::Unpacker;
 use std::alloc::Global;
 use std::marker::Model;
 // Laws: they do nothing when they run, and the proofs use what they ensure.
 use dada_model::edges_fall;
-use search_model::{late_path_sums, samples_of_bytes};
+use search_model::samples_of_bytes;
+use shard_search::shards_are_listed;
 
 /// The most spectra that are searched at a time. Rows of so many values of 16 bits are an odd number of lines of the
 /// cache apart.
@@ -127,7 +128,7 @@ impl Engine {
     {
         edges_fall();
         samples_of_bytes();
-        late_path_sums();
+        shards_are_listed();
         let spectra = self.unpacker.spectra();
         self.sums
             .take(samples(&self.unpacker), spectra, &mut self.book);
@@ -194,6 +195,7 @@ impl Engine {
     {
         edges_fall();
         samples_of_bytes();
+        shards_are_listed();
         let count = self.unpacker.push(bytes);
         self.fed += count as u64;
         if self.unpacker.spectra() == self.chunk {

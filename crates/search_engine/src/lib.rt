@@ -3,13 +3,7 @@
 
 mod engine;
 mod fault;
-mod fold_search;
-mod judging;
 mod plan;
-mod pulse_search;
-mod series;
-mod shard;
-mod thresholds;
 
 pub use engine::Engine;
 pub use fault::PlanFault;

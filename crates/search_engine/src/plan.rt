@@ -3,12 +3,13 @@ ghost use Rattle.std.specs.Prelude.{◌≡◌, ◌+◌, ◌-◌, ◌*◌, ◌^�
 ghost use Rattle.dada_model.specs.Observation.{max_sample as max_sample_of};
 ghost use Rattle.search_model.specs.Search.{SettingsInRange, fold_delays, folds_are_on as folds_are_on_of};
 ghost use Rattle.search_model.specs.Plan.{plan_refusal, most_added as most_added_of};
-ghost use Rattle.search_engine.specs.Counts.{most_folded};
+ghost use Rattle.shard_search.specs.Counts.{most_folded};
 ghost use Rattle.search_engine.specs.Plan.{IsRefusedFirst};
 
 use crate::fault::PlanFault;
 use obs_plan::Observation;
 use search_model::Search;
+use shard_search::fold_row_count;
 
 /// The greatest sum that fits into 32 bits.
 const MOST_SUM: u64 = (1 << 32) - 1;
@@ -70,7 +71,7 @@ fn folds_are_too_large(search: &Search) -> bool
     ensures { result ≡ (folds_are_on_of search.now
         && nat_lt most_folded (search.now.fold_max * 2 ^ search.now.fold_rows)) }
 {
-    let most = u64::from(search.fold_max) * u64::from(power(search.fold_rows));
+    let most = u64::from(search.fold_max) * u64::from(fold_row_count(search.fold_rows));
     folds_are_on(search) && most > MOST_FOLDED
 }
 
@@ -88,7 +89,7 @@ fn most_added(search: &Search) -> u32
     ensures bound { result ≤ 4096 }
 {
     let rows = if folds_are_on(search) {
-        power(search.fold_rows)
+        fold_row_count(search.fold_rows)
     } else {
         1
     };
@@ -105,13 +106,4 @@ fn fold_delay_count(search: &Search) -> u32
     (least..search.max_delay + 1)
         .filter(|d| (*d - least) % step == 0)
         .count() as u32
-}
-
-// 2^e, as a count of rows.
-pub(crate) fn power(e: u32) -> u32
-    requires { e ≤ 12 }
-    ensures value { result ≡ 2 ^ e }
-    ensures bound { result ≤ 4096 }
-{
-    2u32.pow(e)
 }

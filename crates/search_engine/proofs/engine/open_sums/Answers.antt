@@ -10,10 +10,10 @@ use Rattle.fdmt_carry.specs.Carrying.{IsStream}
 use Rattle.search_model.specs.Samples.{Filterbank}
 use Rattle.subband_plan.specs.Nodes.{BandPlan}
 use Rattle.subband_plan.specs.Plans.{band_plan}
-use Rattle.search_engine.specs.Counts.{most_tables}
+use Rattle.shard_search.specs.Counts.{most_tables}
 use Rattle.search_engine.specs.Engine.{IsOpenedSums}
-use Rattle.search_engine.specs.FoldSearch.{IsDelayRange, FoldsFit}
-use Rattle.search_engine.specs.Sums.{ShardState, StandsForStream}
+use Rattle.shard_search.specs.FoldSearch.{IsDelayRange, FoldsFit}
+use Rattle.shard_search.specs.Sums.{ShardState, StandsForStream}
 use Rattle.search_engine.proofs.PlanFits.{boxes_fit, folds_fit, shard_delays}
 use Rattle.search_engine.proofs.engine.open_sums.Goals as goal
 

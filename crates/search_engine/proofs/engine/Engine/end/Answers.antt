@@ -7,10 +7,10 @@ use Rattle.row_schedule.specs.Samples.{values_of}
 use Rattle.search_model.specs.Samples.{Filterbank}
 use Rattle.search_model.specs.Observed.{filterbank_of}
 use Rattle.spectra_rows.specs.Unpacking.{Unpacking}
-use Rattle.search_engine.specs.Counts.{most_tables}
+use Rattle.shard_search.specs.Counts.{most_tables}
 use Rattle.search_engine.specs.Engine.{EngineState, HoldsData, StandsForData, chunk_of}
-use Rattle.search_engine.specs.Judging.{Adds}
-use Rattle.search_engine.specs.Sums.{ShardState, folds_of_plan}
+use Rattle.shard_search.specs.Judging.{Adds}
+use Rattle.shard_search.specs.Sums.{ShardState, folds_of_plan}
 use Rattle.search_engine.proofs.Data.{data_begin}
 use Rattle.search_engine.proofs.Feeding.{rows_long, next_spectra, goes_on, few_spectra, searched_holds, unpacked_is}
 use Rattle.search_engine.proofs.WholeChunks.{last_are}
@@ -107,7 +107,7 @@ returns-clause-searched c = λ o bytes stands.
     let after = c.take.ensures.taken.stands f before next in
     let Q : ℕ → Type 0 = λ n. c.take.new.book ≡ book_of i.search.max_candidates
     (pulses_so_far o i.search i.shard f n) in
-    let pulses = subst Q (sym all) (book_more c.edges_fall.ensures o _ f c.take.new.book u r s (old.book f (begins u))
+    let pulses = subst Q (sym all) (book_more c.shards_are_listed.ensures c.edges_fall.ensures o _ f c.take.new.book u r s (old.book f (begins u))
     (c.take.ensures.taken.pulses f before next)) in
     let F : ShardState → Type 0 = λ t. t.carry.fed ≡ f.spectra in
     let T : Tables → Type 0 = λ t. Adds c.take.new.book c.end.new.book
@@ -117,7 +117,7 @@ returns-clause-searched c = λ o bytes stands.
     (c.end.ensures.folds f after (all ∙ sym c.take.ensures.taken.fed))) in
     let same = c.end.ensures.same in
     record {
-      book = book_of_all c.late_path_sums.ensures c.edges_fall.ensures o _ bytes c.take.new.book c.end.new.book s pulses
+      book = book_of_all c.shards_are_listed.ensures c.edges_fall.ensures o _ bytes c.take.new.book c.end.new.book s pulses
           folds;
       spectra = ap (λ (t : ShardState). t.carry.fed) same ∙ c.take.ensures.taken.fed ∙ sym all;
       plan = ap (λ (t : ShardState). t.carry.tables.plan) same

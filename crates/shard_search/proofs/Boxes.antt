@@ -1,0 +1,98 @@
+-- Boxes over the sums of a stream, and which of them are detected.
+use Rattle.std.proofs.Common.{◌≡◌, ℕ, ◌+◌, ◌-◌, ◌*◌, ◌<◌, ◌≤◌, ◌^◌, Bool, true, false, cond, IsTrue, [], ◌∷◌, zero, suc, Option, Some, None, length, slice_index, nat_le, slice_get, get_or, sym, ◌∙◌, ap, subst, arith, refl}
+use Rattle.std.proofs.lemmas.Bool.{false≢true, le-leb}
+use Rattle.std.proofs.lemmas.List.FromFn.{length-map-range_with_len, get_or-map-range_with_len}
+use Rattle.std.proofs.lemmas.Option.{slice_get-get_or}
+use Rattle.box_sums.specs.Rows.{IsWidth, SumsAddValues, sum_ending, value_before}
+use Rattle.detect_rule.specs.Noise.{StandOutFrom}
+use Rattle.search_model.specs.declared.search.Search.{Search}
+use Rattle.search_model.specs.declared.candidate.Candidate.TheVariants.{Pulse}
+use Rattle.search_model.specs.Candidates.{if_detected, plain_cells}
+use Rattle.search_model.specs.Detection.{IsDetected, is_detected}
+use Rattle.search_model.specs.Laws.{TestsDetection}
+use Rattle.shard_search.specs.declared.thresholds.BoxThresholds.{BoxThresholds}
+use Rattle.shard_search.specs.Judging.{noise_of}
+use Rattle.shard_search.specs.Thresholds.{AreThresholds}
+use Rattle.shard_search.specs.Pulses.{first_sums, box_of, pulse_of}
+use Rattle.shard_search.proofs.Terms.{one_term, same_terms}
+
+pub not_true : (b : Bool) → ¬ IsTrue b → b ≡ false
+not_true true no_way = absurd (no_way refl)
+not_true false no_way = refl
+
+-- ---- boxes
+
+value_is : (y : ℕ → ℕ → ℕ) (d m u i : ℕ) (b : Bool) → u < m →
+    cond b (slice_index (first_sums y d m) (u - i)) 0 ≡ cond b (y d (u - i)) 0
+value_is y d m u i true lt = get_or-map-range_with_len (y d) 0 m (u - i) (u - i) 0 (omega arith) (omega arith)
+value_is y d m u i false lt = refl
+
+-- the sum of the last values of a row is the box
+pub box_is : SumsAddValues → (y : ℕ → ℕ → ℕ) (d m u w : ℕ) → u < m → sum_ending (first_sums y d m) u w ≡ box_of y d u w
+unfolding box_of
+box_is adds y d m u w lt =
+    let long = length-map-range_with_len (y d) 0 m in
+    adds (first_sums y d m) u w (omega arith)
+    ∙ same_terms (λ i. value_before (first_sums y d m) u i) (λ i. cond (nat_le i u) (y d (u - i)) 0) w
+    (λ i below. value_is y d m u i (nat_le i u) lt)
+
+width_one : (w : ℕ) → IsWidth w → w < 2 → w ≡ 1
+width_one zero is lt = absurd (false≢true is)
+width_one (suc zero) is lt = refl
+width_one (suc (suc w)) is lt = absurd (omega arith)
+
+sum_of_one : (y : ℕ → ℕ → ℕ) (d u : ℕ) → box_of y d u 1 ≡ y d u
+unfolding box_of
+sum_of_one y d u =
+    one_term (λ k. cond (nat_le k u) (y d (u - k)) 0)
+    ∙ ap (λ b. cond b (y d (u - 0)) 0) (le-leb 0 u (omega arith)) ∙ ap (y d) (let e : u - 0 ≡ u = omega arith in e)
+
+-- a box of one sum is the sum
+pub box_of_one : (y : ℕ → ℕ → ℕ) (d u w : ℕ) → IsWidth w → w < 2 → box_of y d u w ≡ y d u
+box_of_one y d u w is lt = ap (λ v. box_of y d u v) (width_one w is lt) ∙ sum_of_one y d u
+
+-- ---- detection
+
+-- where the box isn't detected there is no pulse
+undetected : TestsDetection → (s : Search) (n u d w sum : ℕ) →
+    ¬ IsDetected s.mean s.sd s.snr sum (w * (n + d)) → if_detected (plain_cells n) s (Pulse u d w sum) ≡ []
+undetected tests s n u d w sum silent =
+    ap (λ b. cond b (Pulse u d w sum ∷ []) []) (not_true (is_detected s.mean s.sd s.snr sum (w * (n + d)))
+    (λ is. silent ((tests s.mean s.sd s.snr sum (w * (n + d))).0 is)))
+
+pub no_pulse : TestsDetection → (y : ℕ → ℕ → ℕ) (s : Search) (n u d w : ℕ) →
+    ¬ IsDetected s.mean s.sd s.snr (box_of y d u w) (w * (n + d)) → pulse_of y s n u d w ≡ []
+unfolding pulse_of
+no_pulse tests y s n u d w silent = elim (nat_le (d + w) (u + 1)) as (λ b.
+    cond b (if_detected (plain_cells n) s (Pulse u d w (box_of y d u w))) [] ≡ []) [
+      | true ↦ undetected tests s n u d w (box_of y d u w) silent
+      | false ↦ refl
+    ]
+
+-- a sum below the least one isn't detected, and none where there is no least one
+pub is_silent : (s : Search) (cells sum : ℕ) (least : Option ℕ) → sum < 2 ^ 32 →
+    StandOutFrom (noise_of s) cells least → ((x : ℕ) → least ≡ Some x → sum < x) →
+    ¬ IsDetected s.mean s.sd s.snr sum cells
+is_silent s cells sum (Some x) fits out below = λ is.
+    let reached = (out sum fits).0 is in let short = below x refl in absurd (omega arith)
+is_silent s cells sum None fits out below = out sum fits
+
+-- a box that is at most a value below the least sum is no pulse
+pub quiet_box : TestsDetection → (y : ℕ → ℕ → ℕ) (s : Search) (n u d w most : ℕ) (least : Option ℕ) →
+    StandOutFrom (noise_of s) (w * (n + d)) least → box_of y d u w ≤ most → most < 2 ^ 32 →
+    ((x : ℕ) → least ≡ Some x → most < x) → pulse_of y s n u d w ≡ []
+quiet_box tests y s n u d w most least out bound fits below =
+    no_pulse tests y s n u d w (is_silent s (w * (n + d)) (box_of y d u w) least (omega arith) out
+    (λ x e. let short = below x e in omega arith))
+
+-- the least sum of a delay
+pub least_at : (s : Search) (n first end d : ℕ) (thresholds : BoxThresholds) (least : Option ℕ) →
+    AreThresholds s n first end thresholds → first ≤ d → d < first + length thresholds.least_sums.items →
+    least ≡ get_or thresholds.least_sums.items (d - first) least →
+    StandOutFrom (noise_of s) (thresholds.width * (n + d)) least
+least_at s n first end d thresholds least is above below read =
+    let place : first + (d - first) ≡ d = omega arith in
+    let found : slice_get thresholds.least_sums.items (d - first) ≡ Some least =
+    slice_get-get_or thresholds.least_sums.items (d - first) least (omega arith) ∙ ap Some (sym read) in
+    subst (λ e. StandOutFrom (noise_of s) (thresholds.width * (n + e)) least) place
+    (is.least_sums (d - first) least found)

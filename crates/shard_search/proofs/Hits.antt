@@ -1,0 +1,100 @@
+-- The hits of a row.
+use Rattle.std.proofs.Common.{◌≡◌, ◌≢◌, ℕ, ◌+◌, ◌≤◌, ◌++◌, All, List, [], Option, length, get_or, sym, ◌∙◌, ap, subst, arith, append_assoc, append-nil, length-append}
+use Rattle.std.specs.Prelude.{option_to_list, IfSome}
+use Rattle.std.specs.List.{flat_map}
+use Rattle.std.proofs.lemmas.List.Elements.{All-append}
+use Rattle.box_sums.specs.Tails.{RowTails, IsKept, KeepsRow}
+use Rattle.search_model.specs.declared.search.Search.{Search}
+use Rattle.shard_search.specs.declared.thresholds.Hit.{Hit}
+use Rattle.shard_search.specs.declared.thresholds.BoxThresholds.{BoxThresholds}
+use Rattle.shard_search.specs.Thresholds.{IsHit, AreThresholds, AreOfAllWidths, pulses_of_hits}
+use Rattle.shard_search.specs.PulseSearch.{PulseState, AddsHitsOf, HasBoxes, IsHitBelow}
+use Rattle.shard_search.specs.Pulses.{first_sums, pulse_of, pulses_of_delay}
+use Rattle.shard_search.proofs.Pieces.{all_noted}
+use Rattle.shard_search.proofs.WidthCounts.{pulses_by_width}
+
+-- none so far
+pub none_noted : (d : ℕ) (hits : List Hit) → AddsHitsOf d hits hits
+none_noted d hits = record {
+  more = [];
+  grown = sym (append-nil hits);
+  own = λ i h inside. absurd (omega arith);
+}
+
+-- one more, or none
+pub one_noted : (d : ℕ) (start before : List Hit) (o : Option Hit) → AddsHitsOf d start before →
+    IfSome o (λ (hit : Hit). hit.delay ≡ d) → AddsHitsOf d start (before ++ option_to_list o)
+one_noted d start before o adds own = record {
+  more = adds.more ++ option_to_list o;
+  grown = ap (λ xs. xs ++ option_to_list o) adds.grown ∙ append_assoc start adds.more (option_to_list o);
+  own = all_noted (λ (hit : Hit). hit.delay ≡ d) adds.more o adds.own own;
+}
+
+-- the boxes keep the row of a hit
+pub keeps_hit : (s : Search) (n first end : ℕ) (b : RowTails) (hit : Hit) → HasBoxes s first end b →
+    IsHit s n first end hit → KeepsRow b hit.delay
+keeps_hit s n first end b hit has is = record {
+  above = (let above = is.above in let row = has.first_row in omega (arith, above, row));
+  below = (let below = is.below in let row = has.last_row in omega (arith, below, row));
+}
+
+-- hits of delay d were added, whose row is kept, and so are those of the hits before
+pub kept_more : (y : ℕ → ℕ → ℕ) (b b' : RowTails) (m n d : ℕ) (old new : List Hit) → AddsHitsOf d old new →
+    All (λ (hit : Hit). KeepsRow b hit.delay) old → All (IsHitBelow y b m n d) old →
+    ((e : ℕ) → KeepsRow b e → e ≢ d → IsKept b e n (first_sums y e (m + n)) → IsKept b' e n (first_sums y e (m + n))) →
+    IsKept b' d n (first_sums y d (m + n)) → All (IsHitBelow y b' m n (d + 1)) new
+kept_more y b b' m n d old new adds rows before others mine =
+    let P : Hit → Type 0 = IsHitBelow y b' m n (d + 1) in
+    subst (All P) (sym adds.grown)
+    (All-append P old adds.more
+    (λ i h inside.
+    let hit = before i h inside in
+    let early = hit.delay in
+    record {
+      delay = omega (arith, early);
+      kept = others (get_or old i h).delay (rows i h inside) (λ same. absurd (omega (arith, early, same))) hit.kept;
+    })
+    (λ i h inside.
+    let same = adds.own i h inside in
+    record {
+      delay = omega (arith, same);
+      kept = subst (λ (e : ℕ). IsKept b' e n (first_sums y e (m + n))) (sym same) mine;
+    }))
+
+-- none was added
+pub kept_same : (y : ℕ → ℕ → ℕ) (b b' : RowTails) (m n d : ℕ) (old new : List Hit) → AddsHitsOf d old new →
+    length new ≤ length old → All (IsHitBelow y b m n d) old →
+    ((e : ℕ) → IsKept b e n (first_sums y e (m + n)) → IsKept b' e n (first_sums y e (m + n))) →
+    All (IsHitBelow y b' m n (d + 1)) new
+kept_same y b b' m n d old new adds few before same =
+    let grown = ap (λ (xs : List Hit). length xs) adds.grown in
+    let both = length-append old adds.more in
+    let P : Hit → Type 0 = IsHitBelow y b' m n (d + 1) in
+    subst (All P) (sym adds.grown)
+    (All-append P old adds.more
+    (λ i h inside.
+    let hit = before i h inside in
+    let early = hit.delay in
+    record { delay = omega (arith, early); kept = same (get_or old i h).delay hit.kept })
+    (λ i h inside. absurd (omega (arith, inside, grown, both, few))))
+
+-- what is noted of a row are its pulses
+pub row_pulses : (y : ℕ → ℕ → ℕ) (s : Search) (n first end u d : ℕ) (old new : List Hit)
+    (by_width lent : List BoxThresholds) (p : PulseState) → AreOfAllWidths s n first end by_width → lent ≡ by_width →
+    (All (AreThresholds s n first end) lent → pulses_of_hits y s n u new
+    ≡ pulses_of_hits y s n u old ++ flat_map (λ (l : BoxThresholds). pulse_of y s n u d l.width) lent) →
+    s ≡ p.search → n ≡ p.channels → old ≡ p.hits →
+    pulses_of_hits y p.search p.channels u new
+    ≡ pulses_of_hits y p.search p.channels u p.hits ++ pulses_of_delay y p.search p.channels u d
+row_pulses y s n first end u d old new by_width lent p judges same noted search channels hits =
+    let S : Search → Type 0 =
+    λ t. pulses_of_hits y t n u new ≡ pulses_of_hits y t n u old ++ pulses_of_delay y t n u d in
+    let N : ℕ → Type 0 = λ i. pulses_of_hits y p.search i u new
+    ≡ pulses_of_hits y p.search i u old ++ pulses_of_delay y p.search i u d in
+    let H : List Hit → Type 0 = λ xs. pulses_of_hits y p.search p.channels u new
+    ≡ pulses_of_hits y p.search p.channels u xs ++ pulses_of_delay y p.search p.channels u d in
+    subst H hits (subst N channels (subst S search
+    (noted (subst (All (AreThresholds s n first end)) (sym same) judges.each)
+    ∙ ap (λ (ls : List BoxThresholds). pulses_of_hits y s n u old
+    ++ flat_map (λ (l : BoxThresholds). pulse_of y s n u d l.width) ls) same
+    ∙ ap (λ xs. pulses_of_hits y s n u old ++ xs) (pulses_by_width y s n first end u d by_width judges))))

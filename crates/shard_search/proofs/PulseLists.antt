@@ -1,0 +1,139 @@
+-- The pulses of a shard's delays, and its part of the candidate list.
+use Rattle.std.proofs.Common.{◌≡◌, ℕ, ◌+◌, ◌-◌, inl, inr, Bool, cond, List, [], ◌∷◌, ◌++◌, refl, sym, ap, ◌∙◌, arith, leb}
+use Rattle.std.specs.Prelude.{filter, sum_by}
+use Rattle.std.specs.List.{range_with_len, flat_map}
+use Rattle.std.proofs.lemmas.Bool.{cases_lt, cond-true, cond-false, le-leb, lt-leb}
+use Rattle.std.proofs.lemmas.List.Elements.{filter-append}
+use Rattle.std.proofs.lemmas.List.Sums.{sum_by-cons}
+use Rattle.dada_model.specs.Edges.{AreEdges}
+use Rattle.search_model.specs.declared.candidate.Candidate.{Candidate}
+use Rattle.search_model.specs.declared.candidate.Candidate.TheVariants.{Pulse}
+use Rattle.search_model.specs.declared.search.Search.{Search}
+use Rattle.search_model.specs.Samples.{Filterbank}
+use Rattle.search_model.specs.Sums.{late_path_sum, path_sum, box_sum}
+use Rattle.search_model.specs.SubbandLaws.{LatePathSums}
+use Rattle.search_model.specs.Folds.{series}
+use Rattle.search_model.specs.Search.{delays, widths, shard_start}
+use Rattle.search_model.specs.Candidates.{plain_cells, if_detected, pulse_at, pulses_at, pulses_ending, pulses, folds, candidates, within_delays, shard_part}
+use Rattle.shard_search.specs.FoldSearch.{IsDelayRange}
+use Rattle.shard_search.specs.Pulses.{box_of, pulse_of, pulses_of_delay, pulses_of_end, pulses_of_ends}
+use Rattle.shard_search.specs.Sums.{sums_of, sums_from_delay}
+use Rattle.shard_search.proofs.Ranges.{flat_agree}
+use Rattle.shard_search.proofs.Within.{keep_if, keep_flat, lies, has_delay, filter_flat, flat_part}
+
+-- ---- box sums
+
+-- two sums agree where their terms do
+sums_agree : (g h : ℕ → ℕ) → ((k : ℕ) → g k ≡ h k) → (ks : List ℕ) → sum_by g ks ≡ sum_by h ks
+sums_agree g h same [] = refl
+sums_agree g h same (k ∷ ks) =
+    let first = sum_by-cons g k ks in
+    let second = sum_by-cons h k ks in
+    let here = same k in
+    let rest = sums_agree g h same ks in
+    omega (arith, first, second, here, rest)
+
+-- the sum of the last path sums, where those before the first spectrum are left out
+box_is_of : LatePathSums → (f : Filterbank) (edges : List ℕ) (u d w : ℕ) → AreEdges f.channels edges →
+    box_sum f edges u d w ≡ box_of (sums_of f edges) d u w
+unfolding sums_of box_of
+box_is_of law f edges u d w are =
+    sums_agree (λ k. late_path_sum f edges u d k) (λ k. cond (leb k u) (path_sum f edges (u - k) d) 0)
+    (λ k. elim (cases_lt u k) [
+      | inl before ↦ law.before f edges d u k are before
+          ∙ sym (cond-false (leb k u) (path_sum f edges (u - k) d) 0 (lt-leb k u before))
+      | inr within ↦ law.within f edges d u k within
+          ∙ sym (cond-true (leb k u) (path_sum f edges (u - k) d) 0 (le-leb k u within))
+    ])
+    (range_with_len 0 w)
+
+-- ---- pulses
+
+flat_same : {X : Type 0} (g h : ℕ → List X) → ((k : ℕ) → g k ≡ h k) → (ks : List ℕ) → flat_map g ks ≡ flat_map h ks
+flat_same g h same [] = refl
+flat_same g h same (k ∷ ks) =
+    ap (λ xs. xs ++ flat_map g ks) (same k) ∙ ap (λ xs. h k ++ xs) (flat_same g h same ks)
+
+pulse_is_of : LatePathSums → (f : Filterbank) (edges : List ℕ) (n : ℕ) (s : Search) (u d w : ℕ) →
+    AreEdges f.channels edges → pulse_at f edges (plain_cells n) s u d w ≡ pulse_of (sums_of f edges) s n u d w
+unfolding pulse_of
+pulse_is_of law f edges n s u d w are =
+    ap (λ sum. cond (leb (d + w) (u + 1)) (if_detected (plain_cells n) s (Pulse u d w sum)) [])
+    (box_is_of law f edges u d w are)
+
+one_delay : (f : Filterbank) (edges : List ℕ) (cells : ℕ → ℕ) (s : Search) (lo hi u d : ℕ) →
+    filter (has_delay lo hi) (pulses_at f edges cells s u d) ≡ cond (lies lo hi d) (pulses_at f edges cells s u d) []
+one_delay f edges cells s lo hi u d =
+    keep_flat (has_delay lo hi) (lies lo hi d) (λ w. pulse_at f edges cells s u d w)
+    (λ w. keep_if (has_delay lo hi) (lies lo hi d)
+    (if_detected cells s (Pulse u d w (box_sum f edges u d w)))
+    (keep_if (has_delay lo hi) (lies lo hi d) (Pulse u d w (box_sum f edges u d w) ∷ []) refl _)
+    (leb (d + w) (u + 1)))
+    (widths s)
+
+one_end : LatePathSums → (f : Filterbank) (edges : List ℕ) (n : ℕ) (s : Search) (lo hi u : ℕ) →
+    AreEdges f.channels edges → IsDelayRange s lo hi →
+    filter (has_delay lo hi) (pulses_ending f edges (plain_cells n) s u)
+    ≡ pulses_of_end (sums_of f edges) s n lo hi u
+one_end law f edges n s lo hi u edges_are are =
+    let from = are.from in
+    let order = are.order in
+    let to = are.to in
+    let g : ℕ → List Candidate = λ d. pulses_at f edges (plain_cells n) s u d in
+    filter_flat (has_delay lo hi) (lies lo hi) g (λ d. one_delay f edges (plain_cells n) s lo hi u d) (delays s)
+    ∙ flat_part g s.min_delay lo hi (s.max_delay + 1 - s.min_delay) from order (omega arith)
+    ∙ flat_agree g (λ d. pulses_of_delay (sums_of f edges) s n u d) lo (hi - lo)
+    (λ d _ _. flat_same (λ w. pulse_at f edges (plain_cells n) s u d w) (λ w. pulse_of (sums_of f edges) s n u d w)
+    (λ w. pulse_is_of law f edges n s u d w edges_are) (widths s))
+
+filter_pieces : {X : Type 0} (q : X → Bool) (g h : ℕ → List X) → ((k : ℕ) → filter q (g k) ≡ h k) → (ks : List ℕ) →
+    filter q (flat_map g ks) ≡ flat_map h ks
+filter_pieces q g h each [] = refl
+filter_pieces q g h each (k ∷ ks) =
+    filter-append q (g k) (flat_map g ks)
+    ∙ ap (λ xs. xs ++ filter q (flat_map g ks)) (each k)
+    ∙ ap (λ xs. h k ++ xs) (filter_pieces q g h each ks)
+
+-- the pulses whose delays are a shard's, from those of all
+pub pulses_within : LatePathSums → (f : Filterbank) (edges : List ℕ) (n : ℕ) (s : Search) (lo hi : ℕ) →
+    AreEdges f.channels edges → IsDelayRange s lo hi →
+    pulses_of_ends (sums_of f edges) s n lo hi 0 f.spectra
+    ≡ within_delays lo hi (pulses f edges (plain_cells n) s)
+pulses_within law f edges n s lo hi edges_are are =
+    sym (filter_pieces (has_delay lo hi) (λ u. pulses_ending f edges (plain_cells n) s u)
+    (λ u. pulses_of_end (sums_of f edges) s n lo hi u)
+    (λ u. one_end law f edges n s lo hi u edges_are are) (range_with_len 0 f.spectra))
+
+-- ---- a shard's part
+
+-- its pulses and its folds are its part of the candidate list
+pub part_is_both : LatePathSums → (f : Filterbank) (edges : List ℕ) (n : ℕ) (s : Search) (k : ℕ) →
+    AreEdges f.channels edges → IsDelayRange s (shard_start s k) (shard_start s (k + 1)) →
+    pulses_of_ends (sums_of f edges) s n (shard_start s k) (shard_start s (k + 1)) 0 f.spectra
+    ++ within_delays (shard_start s k) (shard_start s (k + 1)) (folds f edges (plain_cells n) s)
+    ≡ shard_part s k (candidates f edges (plain_cells n) s)
+part_is_both law f edges n s k edges_are are =
+    ap (λ xs. xs ++ within_delays (shard_start s k) (shard_start s (k + 1)) (folds f edges (plain_cells n) s))
+    (pulses_within law f edges n s (shard_start s k) (shard_start s (k + 1)) edges_are are)
+    ∙ sym (filter-append (has_delay (shard_start s k) (shard_start s (k + 1)))
+    (pulses f edges (plain_cells n) s) (folds f edges (plain_cells n) s))
+
+-- ---- series
+
+-- the series of a delay are the path sums from its spectrum on
+pub series_is : (f : Filterbank) (edges : List ℕ) (d : ℕ) →
+    series f edges d ≡ sums_from_delay (sums_of f edges) d f.spectra
+unfolding sums_of
+series_is f edges d = refl
+
+-- ---- ends
+
+-- the ends of so many spectra more
+pub ends_join : (y : ℕ → ℕ → ℕ) (s : Search) (n first end start m k j : ℕ) → start + m ≡ j →
+    pulses_of_ends y s n first end start m ++ pulses_of_ends y s n first end j k
+    ≡ pulses_of_ends y s n first end start (m + k)
+ends_join y s n first end start m k j at =
+    let g : ℕ → List Candidate = λ u. pulses_of_end y s n first end u in
+    sym (ap (flat_map g) (range_join start m k)
+    ∙ flat_map-append g (range_with_len start m) (range_with_len (start + m) k)
+    ∙ ap (λ a. flat_map g (range_with_len start m) ++ flat_map g (range_with_len a k)) at)

@@ -1,0 +1,5 @@
+use Rattle.shard_search.proofs.PulseLists.{ends_join, part_is_both}
+use Rattle.shard_search.proofs.laws.shards_are_listed.Goals as goal
+
+pub returns : goal.returns
+returns c = record { ends = ends_join; part = part_is_both c.late_path_sums.ensures }

@@ -1,0 +1,9 @@
+pub mod Counts
+pub mod FoldSearch
+pub mod Judging
+pub mod Laws
+pub mod PulseSearch
+pub mod Pulses
+pub mod Series
+pub mod Sums
+pub mod Thresholds

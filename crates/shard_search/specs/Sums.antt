@@ -1,0 +1,129 @@
+-- What contracts see of the search of a shard's path sums.
+-- Source: this project's choice.
+use Rattle.std.specs.Prelude.{◌≡◌, ℕ, ◌+◌, ◌-◌, ◌*◌, ◌≤◌, ◌<◌, true, All, List, map}
+use Rattle.std.specs.List.{range_with_len}
+use Rattle.band_paths.specs.Edges.{channels_of}
+use Rattle.subband_plan.specs.Nodes.{BandPlan}
+use Rattle.fdmt_carry.specs.Carrying as carry
+use Rattle.fdmt_carry.specs.Carrying.{Carrying, AreNext}
+use Rattle.search_model.specs.declared.candidate.Candidate.{Candidate}
+use Rattle.search_model.specs.declared.search.Search.{Search}
+use Rattle.search_model.specs.Candidates.{plain_cells, folds, within_delays}
+use Rattle.search_model.specs.Samples.{Filterbank}
+use Rattle.search_model.specs.Search.{SettingsInRange}
+use Rattle.search_model.specs.Sums.{path_sum}
+use Rattle.dada_model.specs.Edges.{AreEdges}
+use Rattle.candidate_book.specs.Book.{BookContents}
+use Rattle.shard_search.specs.Counts.{most_pulses_at_end}
+use Rattle.shard_search.specs.Judging.{Adds}
+use Rattle.shard_search.specs.FoldSearch.{Fronts, HasDelay, FoldsFor, KeepsFrontOf}
+use Rattle.shard_search.specs.Thresholds.{pulses_of_hits}
+use Rattle.shard_search.specs.PulseSearch.{PulseState, SearchesDelay, SearchesFor, WideRowHas, RowsStandFor, IsHitBelow}
+use Rattle.shard_search.specs.Pulses.{first_sums, pulses_of_end, pulses_of_ends}
+
+-- a carry over the delays of a shard, and the searches for pulses and for folds in its rows
+pub record ShardState : Type 0 where
+  pub carry : Carrying
+  pub pulses : PulseState
+  pub folds : Fronts
+
+-- the path sum of delay d that ends at spectrum u
+unfoldable pub sums_of : Filterbank → List ℕ → ℕ → ℕ → ℕ
+sums_of f edges d u = path_sum f edges u d
+
+-- those of delay d that end at spectrum d and after it, up to, but without, spectrum m
+abbrev pub sums_from_delay : (ℕ → ℕ → ℕ) → ℕ → ℕ → List ℕ
+sums_from_delay y d m = map (λ i. y d (d + i)) (range_with_len 0 (m - d))
+
+-- no path sum of the search is greater
+abbrev pub sum_bound : Carrying → Search → ℕ
+sum_bound c s = c.max_sample * (channels_of c.tables.plan.edges + s.max_delay)
+
+-- the parts search the same delays, over as many channels, in as large chunks
+pub record FitTogether (s : ShardState) : Type 0 where
+  pub band : AreEdges (channels_of s.carry.tables.plan.edges) s.carry.tables.plan.edges
+  pub range : SettingsInRange s.pulses.search
+  pub order : s.carry.tables.plan.first ≤ s.carry.tables.plan.last
+  pub within : s.carry.tables.plan.last ≤ s.pulses.search.max_delay
+  pub pulses : SearchesFor s.pulses s.pulses.search (channels_of s.carry.tables.plan.edges)
+      s.carry.tables.plan.first (s.carry.tables.plan.last + 1) s.carry.tables.chunk
+      (sum_bound s.carry s.pulses.search)
+  pub folds : FoldsFor s.folds s.pulses.search (channels_of s.carry.tables.plan.edges)
+      s.carry.tables.plan.first (s.carry.tables.plan.last + 1) (sum_bound s.carry s.pulses.search)
+
+-- The parts were fed the sums of a stream: for the delays below d, n more than those that end at the first m spectra.
+-- The hits are those of these n spectra, for the delays below d, and their rows are kept.
+pub record HaveTaken (y : ℕ → ℕ → ℕ) (p : PulseState) (g : Fronts) (m n d : ℕ) : Type 0 where
+  pub rows_below : (e : ℕ) → SearchesDelay p e → e < d
+      → WideRowHas p.boxes e (first_sums y e (m + n))
+  pub rows_from : (e : ℕ) → SearchesDelay p e → d ≤ e → WideRowHas p.boxes e (first_sums y e m)
+  pub folds_below : (e : ℕ) → HasDelay g e → e < d → KeepsFrontOf g e (sums_from_delay y e (m + n))
+  pub folds_from : (e : ℕ) → HasDelay g e → d ≤ e → KeepsFrontOf g e (sums_from_delay y e m)
+  pub hits : (k : ℕ) → k < n → pulses_of_hits y p.search p.channels (m + k) p.hits
+      ≡ pulses_of_end y p.search p.channels p.first d (m + k)
+  pub kept : All (IsHitBelow y p.boxes m n d) p.hits
+
+-- all parts were fed the first spectra of a stream
+pub record StandsForStream (s : ShardState) (f : Filterbank) : Type 0 where
+  pub carry : carry.StandsForSamples s.carry f
+  pub pulses : RowsStandFor (sums_of f s.carry.tables.plan.edges) s.pulses s.carry.fed
+  pub folds : (d : ℕ) → HasDelay s.folds d → KeepsFrontOf s.folds d
+      (sums_from_delay (sums_of f s.carry.tables.plan.edges) d s.carry.fed)
+
+-- there is a stream that the carry stands for
+pub record HasStream (c : Carrying) : Type 0 where
+  pub stream : Filterbank
+  pub stands : carry.StandsForSamples c stream
+
+-- and one that goes on with these rows
+pub record ContinuesStream (c : Carrying) (rows : List ℕ) (spectra : ℕ) : Type 0 where
+  pub stream : Filterbank
+  pub stands : carry.StandsForSamples c stream
+  pub next : AreNext c stream rows spectra
+
+-- the same of a carry amid a pass over these rows
+pub record PassesStream (c : Carrying) (rows : List ℕ) : Type 0 where
+  pub stream : Filterbank
+  pub stands : carry.StandsMidway c stream
+  pub next : AreNext c stream rows c.last
+
+-- the pass goes on, and has made the rows of the delays below d
+pub record IsPassedTo (before after : Carrying) (d : ℕ) : Type 0 where
+  pub tables : after.tables ≡ before.tables
+  pub max_sample : after.max_sample ≡ before.max_sample
+  pub fed : after.fed ≡ before.fed
+  pub last : after.last ≡ before.last
+  pub passing : after.is_passing ≡ true
+  pub next : after.next ≡ d
+
+-- both search for the same
+pub record SumsAlike (s t : ShardState) : Type 0 where
+  pub tables : s.carry.tables ≡ t.carry.tables
+  pub max_sample : s.carry.max_sample ≡ t.carry.max_sample
+  pub search : s.pulses.search ≡ t.pulses.search
+
+-- the pulses of a plan's delays that end at so many spectra, from spectrum `start` on
+abbrev pub pulses_of_plan : Filterbank → BandPlan → Search → ℕ → ℕ → List Candidate
+pulses_of_plan f p s start count =
+    pulses_of_ends (sums_of f p.edges) s (channels_of p.edges) p.first (p.last + 1) start count
+
+-- and their folds
+abbrev pub folds_of_plan : Filterbank → BandPlan → Search → List Candidate
+folds_of_plan f p s =
+    within_delays p.first (p.last + 1) (folds f p.edges (plain_cells (channels_of p.edges)) s)
+
+-- The next spectra were taken, and the pulses that end at them added to a book: for each stream whose first spectra
+-- were taken before, and that goes on with these rows, they are taken after it.
+pub record HasTakenNext
+    (old new : ShardState) (rows : List ℕ) (spectra : ℕ) (before after : BookContents)
+    : Type 0 where
+  pub alike : SumsAlike new old
+  pub fed : new.carry.fed ≡ old.carry.fed + spectra
+  pub count : after.count ≤ before.count + most_pulses_at_end * spectra
+  pub carried : (f : Filterbank) → carry.StandsForSamples old.carry f
+      → AreNext old.carry f rows spectra → carry.StandsForSamples new.carry f
+  pub stands : (f : Filterbank) → StandsForStream old f → AreNext old.carry f rows spectra
+      → StandsForStream new f
+  pub pulses : (f : Filterbank) → StandsForStream old f → AreNext old.carry f rows spectra
+      → Adds before after
+      (pulses_of_plan f old.carry.tables.plan old.pulses.search old.carry.fed spectra)

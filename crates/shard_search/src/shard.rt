@@ -1,0 +1,332 @@
+// The search of a shard's path sums, chunk by chunk.
+ghost use Rattle.std.specs.Prelude.{◌≡◌, ℕ, ◌+◌, ◌-◌, ◌*◌, ◌^◌, ◌≤◌, ◌<◌, [], true, false, All, IfOk, IsTrue, length, drop, min};
+ghost use Rattle.band_paths.specs.Edges.{channels_of};
+ghost use Rattle.fdmt_carry.specs.Carrying.{AreNext, AreThere, IsOpened, IsStream, StandsForSamples, StandsMidway};
+ghost use Rattle.row_schedule.specs.Samples.{values_of};
+ghost use Rattle.search_model.specs.Samples.{Filterbank};
+ghost use Rattle.search_model.specs.Search.{SettingsInRange, folds_are_on};
+ghost use Rattle.dada_model.specs.Edges.{AreEdges};
+ghost use Rattle.subband_plan.specs.Plans.{band_plan};
+ghost use Rattle.shard_search.specs.Counts.{most_pulses_at_end, most_folds, most_tables};
+ghost use Rattle.shard_search.specs.FoldSearch.{IsDelayRange, FoldsFit, HasDelay, FoldsAlike};
+ghost use Rattle.shard_search.specs.Judging.{Adds};
+ghost use Rattle.shard_search.specs.PulseSearch.{SearchesDelay, SearchAlike};
+ghost use Rattle.shard_search.specs.Pulses.{IsRowOf};
+ghost use Rattle.shard_search.specs.Sums.{ShardState, FitTogether, StandsForStream, HasStream, ContinuesStream, PassesStream, IsPassedTo, HaveTaken, HasTakenNext, sums_of, folds_of_plan};
+
+use crate::fold_search::FoldSearch;
+use crate::pulse_search::PulseSearch;
+use candidate_book::Book;
+use fdmt_carry::Carry;
+use psr_base::Memory;
+use row_schedule::Samples;
+use search_model::Search;
+// A law: it does nothing when it runs, and the proofs use what it ensures.
+use search_model::sums_are_bounded;
+use std::alloc::Global;
+use std::marker::Model;
+use subband_plan::Plan;
+
+/// Of how many spectra the tables of all nodes are made at the end, at most. They would take much memory for a chunk.
+const MOST_TABLES: u32 = 16;
+
+/// The path sums of a shard's delays, and the search for pulses and folds in them.
+#[derive(Drop)]
+pub struct ShardSearch {
+    carry: Carry,
+    pulses: PulseSearch,
+    folds: FoldSearch,
+    first: u32,
+    end: u32,
+}
+
+impl Model for ShardSearch {
+    ghost Value = { ShardState };
+
+    ghost view = { λ s. record { carry = s.carry; pulses = s.pulses; folds = s.folds } };
+
+    ghost invariant = { λ s. FitTogether (record {
+      carry = s.carry;
+      pulses = s.pulses;
+      folds = s.folds;
+    }) × (s.first ≡ s.pulses.first) × (s.end ≡ s.pulses.end)
+        × (s.carry.is_passing ≡ false) };
+}
+
+impl ShardSearch {
+    /// Takes the memory for the delays from `first` up to, but without, `end`, over a band whose edges are in kHz, the
+    /// highest first, in chunks of up to `chunk` spectra of samples up to `max_sample`.
+    pub fn open(
+        alloc: Global,
+        edges: &[u32],
+        search: &Search,
+        first: u32,
+        end: u32,
+        chunk: u32,
+        max_sample: u32,
+    ) -> Result<ShardSearch, Memory>
+        requires range { SettingsInRange search.now }
+        requires band { AreEdges (channels_of edges.now) edges.now }
+        requires few_channels { channels_of edges.now ≤ 4096 }
+        requires delays { IsDelayRange search.now first end }
+        requires some_delays { first < end }
+        requires some_spectra { 1 ≤ chunk }
+        requires most_spectra { chunk ≤ 65536 }
+        requires fits { max_sample * (channels_of edges.now + search.now.max_delay)
+            * search.now.widest < 2 ^ 32 }
+        requires folds_fit { IsTrue (folds_are_on search.now) → FoldsFit search.now
+            (max_sample * (channels_of edges.now + search.now.max_delay)) }
+        ensures plan { IfOk result (λ s. s.carry.tables.plan
+            ≡ band_plan edges.now first (end - 1)) }
+        ensures chunk { IfOk result (λ s. s.carry.tables.chunk ≡ chunk) }
+        ensures most { IfOk result (λ s. s.carry.tables.most ≡ min chunk most_tables) }
+        ensures max_sample { IfOk result (λ s. s.carry.max_sample ≡ max_sample) }
+        ensures search { IfOk result (λ s. s.pulses.search ≡ search.now) }
+        ensures nothing { IfOk result (λ s. s.carry.fed ≡ 0) }
+        ensures stands { IfOk result (λ s. (f : Filterbank)
+            → IsStream (band_plan edges.now first (end - 1)) max_sample f
+            → StandsForStream s f) }
+    {
+        let channels = (edges.len() - 1) as u32;
+        let bound = max_sample * (channels + search.max_delay);
+        let pulses = PulseSearch::open(alloc, search, channels, first, end, chunk, bound)?;
+        let folds = FoldSearch::open(alloc, search, channels, first, end, bound)?;
+        let plan = Plan::open(alloc, edges, first, end - 1)?;
+        let carry = open_carry(alloc, plan, chunk, max_sample)?;
+        Ok(ShardSearch {
+            carry,
+            pulses,
+            folds,
+            first,
+            end,
+        })
+    }
+
+    /// Takes the next spectra, whose samples of channel `c` begin at `c` times the chunk, and adds the pulses that end
+    /// at them to a book. The row of each delay is searched as it is made.
+    pub fn pass(&mut self, samples: Samples<'_>, spectra: u32, book: &mut Book)
+        requires rows { length (values_of samples)
+            ≡ channels_of self.old.carry.tables.plan.edges * self.old.carry.tables.chunk }
+        requires short { spectra ≤ self.old.carry.tables.chunk }
+        requires few { self.old.carry.fed + spectra ≤ 2 ^ 48 }
+        requires stream { ContinuesStream self.old.carry (values_of samples) spectra }
+        requires room { book.old.count + most_pulses_at_end * spectra < 2 ^ 63 }
+        ensures { HasTakenNext self.old self.new (values_of samples.entry) spectra book.old
+            book.new }
+    {
+        let start = self.carry.fed();
+        self.carry.begin(samples, spectra);
+        self.pulses.begin();
+        pass_rows(
+            &mut self.pulses,
+            &mut self.folds,
+            &mut self.carry,
+            samples,
+            start,
+            self.first,
+            self.end,
+        );
+        self.carry.finish();
+        self.pulses.report(start, spectra, book);
+    }
+
+    // Takes the next spectra, so few, as `pass` does, but makes the tables of all nodes first, which stand after it.
+    fn take_tables(&mut self, samples: Samples<'_>, spectra: u32, book: &mut Book)
+        requires rows { AreThere self.old.carry (values_of samples) spectra }
+        requires most { spectra ≤ self.old.carry.tables.most }
+        requires short { spectra ≤ self.old.carry.tables.chunk }
+        requires few { self.old.carry.fed + spectra ≤ 2 ^ 48 }
+        requires stream { ContinuesStream self.old.carry (values_of samples) spectra }
+        requires room { book.old.count + most_pulses_at_end * spectra < 2 ^ 63 }
+        ensures taken { HasTakenNext self.old self.new (values_of samples.entry) spectra book.old
+            book.new }
+        ensures tables { self.new.carry.has_tables ≡ true }
+        ensures last { self.new.carry.last ≡ spectra }
+    {
+        let start = self.carry.fed();
+        self.carry.take(samples, spectra);
+        self.pulses.begin();
+        take_rows(
+            &mut self.pulses,
+            &mut self.folds,
+            &self.carry,
+            start,
+            self.first,
+            self.end,
+        );
+        self.pulses.report(start, spectra, book);
+    }
+
+    /// Takes the next spectra as `pass` does, but the last of them, as many as there is room for, with the tables of
+    /// all nodes, which stand after it.
+    pub fn take(&mut self, samples: Samples<'_>, spectra: u32, book: &mut Book)
+        requires rows { length (values_of samples)
+            ≡ channels_of self.old.carry.tables.plan.edges * self.old.carry.tables.chunk }
+        requires short { spectra ≤ self.old.carry.tables.chunk }
+        requires few { self.old.carry.fed + spectra ≤ 2 ^ 48 }
+        requires stream { ContinuesStream self.old.carry (values_of samples) spectra }
+        requires room { book.old.count + most_pulses_at_end * spectra < 2 ^ 63 }
+        ensures taken { HasTakenNext self.old self.new (values_of samples.entry) spectra book.old
+            book.new }
+        ensures tables { self.new.carry.has_tables ≡ true }
+        ensures last { self.new.carry.last ≡ min spectra self.old.carry.tables.most }
+    {
+        let last = spectra.min(self.carry.most());
+        let before = spectra - last;
+        self.pass(samples, before, book);
+        self.take_tables(samples.skip(before as usize), last, book);
+    }
+
+    /// Adds the folds of all that was taken to a book.
+    pub fn end(&mut self, book: &mut Book)
+        requires { book.old.count + most_folds ≤ 2 ^ 63 }
+        ensures same { self.new ≡ self.old }
+        ensures count { book.new.count ≤ book.old.count + most_folds }
+        ensures folds { (f : Filterbank) → StandsForStream self.old f
+            → f.spectra ≡ self.old.carry.fed
+            → Adds book.old book.new
+            (folds_of_plan f self.old.carry.tables.plan self.old.pulses.search) }
+    {
+        self.folds.end(book);
+    }
+
+    /// How many spectra were taken.
+    pub fn fed(&self) -> u64
+        ensures { result ≡ self.now.carry.fed }
+    {
+        self.carry.fed()
+    }
+
+    /// The carry.
+    pub fn carry(&self) -> &Carry
+        ensures { result.now ≡ self.now.carry }
+    {
+        &self.carry
+    }
+}
+
+// The carry of a plan, with room for the tables of all nodes of a few spectra alone.
+fn open_carry(alloc: Global, plan: Plan, chunk: u32, max_sample: u32) -> Result<Carry, Memory>
+    requires some { 1 ≤ chunk }
+    requires short { chunk ≤ 65536 }
+    requires fits { max_sample * (channels_of plan.edges + plan.last) < 2 ^ 32 }
+    ensures opened { IfOk result (λ c. IsOpened c plan chunk (min chunk most_tables) max_sample) }
+    ensures stands { IfOk result (λ c. (f : Filterbank) → IsStream plan max_sample f
+        → StandsForSamples c f) }
+{
+    let most = chunk.min(MOST_TABLES);
+    Carry::open_passing(alloc, plan, chunk, most, max_sample)
+}
+
+// Makes the rows of all delays in a pass, and takes each; their sums end at spectrum `start` and after it.
+fn pass_rows(
+    pulses: &mut PulseSearch,
+    folds: &mut FoldSearch,
+    carry: &mut Carry,
+    samples: Samples<'_>,
+    start: u64,
+    first: u32,
+    end: u32,
+)
+    requires first { pulses.old.first ≡ first }
+    requires end { pulses.old.end ≡ end }
+    requires order { first ≤ end }
+    requires fit { FitTogether (record {
+      carry = carry.old;
+      pulses = pulses.old;
+      folds = folds.old;
+    }) }
+    requires passing { carry.old.is_passing ≡ true }
+    requires next { carry.old.next ≡ first }
+    requires short { carry.old.last ≤ carry.old.tables.chunk }
+    requires start { start ≡ carry.old.fed }
+    requires rows { length (values_of samples)
+        ≡ channels_of carry.old.tables.plan.edges * carry.old.tables.chunk }
+    requires stream { PassesStream carry.old (values_of samples) }
+    requires none { pulses.old.hits ≡ [] }
+    ensures carry { IsPassedTo carry.old carry.new end }
+    ensures pulses { SearchAlike pulses.new pulses.old }
+    ensures folds { FoldsAlike folds.new folds.old }
+    ensures few { length pulses.new.hits ≤ 6 * (end - first) }
+    ensures stands { (f : Filterbank) → StandsMidway carry.old f
+        → AreNext carry.old f (values_of samples.entry) carry.old.last
+        → StandsMidway carry.new f }
+    ensures taken { (f : Filterbank) → StandsMidway carry.old f
+        → AreNext carry.old f (values_of samples.entry) carry.old.last
+        → HaveTaken (sums_of f carry.old.tables.plan.edges) pulses.old folds.old start
+        carry.old.last first
+        → HaveTaken (sums_of f carry.old.tables.plan.edges) pulses.new folds.new start
+        carry.old.last end }
+{
+    sums_are_bounded();
+    for d in first..end {
+        carry.make_row(samples);
+        take_row(pulses, folds, carry.made(), start, d);
+    }
+}
+
+// Takes the rows of all delays of a carry, whose sums end at spectrum `start` and after it.
+fn take_rows(
+    pulses: &mut PulseSearch,
+    folds: &mut FoldSearch,
+    carry: &Carry,
+    start: u64,
+    first: u32,
+    end: u32,
+)
+    requires first { pulses.old.first ≡ first }
+    requires end { pulses.old.end ≡ end }
+    requires order { first ≤ end }
+    requires fit { FitTogether (record {
+      carry = carry.now;
+      pulses = pulses.old;
+      folds = folds.old;
+    }) }
+    requires tables { carry.now.has_tables ≡ true }
+    requires short { carry.now.last ≤ carry.now.tables.chunk }
+    requires start { start + carry.now.last ≡ carry.now.fed }
+    requires stream { HasStream carry.now }
+    requires none { pulses.old.hits ≡ [] }
+    ensures pulses { SearchAlike pulses.new pulses.old }
+    ensures folds { FoldsAlike folds.new folds.old }
+    ensures few { length pulses.new.hits ≤ 6 * (end - first) }
+    ensures taken { (f : Filterbank) → StandsForSamples carry.now f
+        → HaveTaken (sums_of f carry.now.tables.plan.edges) pulses.old folds.old start
+        carry.now.last first
+        → HaveTaken (sums_of f carry.now.tables.plan.edges) pulses.new folds.new start
+        carry.now.last end }
+{
+    sums_are_bounded();
+    for d in first..end {
+        take_row(pulses, folds, carry.row(d), start, d);
+    }
+}
+
+// Takes the row of a delay, whose sums end at spectrum `start` and after it.
+fn take_row(pulses: &mut PulseSearch, folds: &mut FoldSearch, row: &[u32], start: u64, d: u32)
+    requires delay { SearchesDelay pulses.old d }
+    requires fold { HasDelay folds.old d }
+    requires short { length row.now ≤ pulses.old.boxes.chunk }
+    requires small { All (λ x. x ≤ pulses.old.boxes.bound) row.now }
+    requires bound { pulses.old.boxes.bound ≡ folds.old.bound }
+    requires room { length pulses.old.hits + 6 ≤ 6 * (pulses.old.end - pulses.old.first) }
+    ensures pulses { SearchAlike pulses.new pulses.old }
+    ensures folds { FoldsAlike folds.new folds.old }
+    ensures few { length pulses.new.hits ≤ length pulses.old.hits + 6 }
+    ensures taken { (y : ℕ → ℕ → ℕ) → IsRowOf y d start row.now
+        → HaveTaken y pulses.old folds.old start (length row.now) d
+        → HaveTaken y pulses.new folds.new start (length row.now) (d + 1) }
+{
+    pulses.take(d, row);
+    folds.take(d, from_delay(row, start, d));
+}
+
+// The sums of a row that end at spectrum `d` and after it, where the first ends at spectrum `start`.
+fn from_delay(row: &[u32], start: u64, d: u32) -> &[u32]
+    ensures value { result.now ≡ drop (d - start) row.now }
+    ensures small { (bound : ℕ) → All (λ x. x ≤ bound) row.now
+        → All (λ x. x ≤ bound) result.now }
+{
+    let before = u64::from(d).saturating_sub(start) as usize;
+    &row[before.min(row.len())..]
+}
