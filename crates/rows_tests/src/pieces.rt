@@ -1,5 +1,5 @@
 // Bytes that look random, pushed in pieces of many lengths, against samples that are read one by one.
-ghost use Rattle.std.specs.Prelude.{◌≡◌, ◌<◌, ◌≤◌, ◌⊎◌, IsTrue};
+ghost use Rattle.std.specs.Prelude.{◌≡◌, ◌<◌, ◌≤◌, ◌⊎◌, IsTrue, IfSome};
 
 use spectra_rows::Unpacker;
 use std::alloc::{AllocError, Global};
@@ -71,7 +71,10 @@ impl Shape {
             && self.chunk <= 65536
     }
 
-    fn open(self, alloc: Global) -> Option<Unpacker> {
+    fn open(self, alloc: Global) -> Option<Unpacker>
+        ensures some { IfSome result (λ u. 2 ≤ self.channels) }
+        ensures channels { IfSome result (λ u. u.channels ≡ self.channels) }
+    {
         if !self.is_allowed() {
             return None;
         }
@@ -141,12 +144,22 @@ fn value_at(unpacker: &Unpacker, at: usize) -> Option<u32> {
     }
 }
 
-// Whether the rows are the samples of the spectra from `gone` on.
-fn are_rows(unpacker: &Unpacker, shape: Shape, bytes: &[u8], gone: usize) -> bool {
+// Whether the rows are the samples of the spectra from `gone` on, and 0 for a silent channel.
+fn are_rows(
+    unpacker: &Unpacker,
+    shape: Shape,
+    bytes: &[u8],
+    gone: usize,
+    silent: Option<usize>,
+) -> bool {
     for channel in 0..shape.channels as usize {
         for t in 0..unpacker.spectra() as usize {
             let at = channel.wrapping_mul(shape.chunk as usize).wrapping_add(t);
-            let wanted = sample(bytes, shape, channel, gone.wrapping_add(t));
+            let wanted = if silent == Some(channel) {
+                0
+            } else {
+                sample(bytes, shape, channel, gone.wrapping_add(t))
+            };
             if value_at(unpacker, at) != Some(wanted) {
                 return false;
             }
@@ -155,18 +168,41 @@ fn are_rows(unpacker: &Unpacker, shape: Shape, bytes: &[u8], gone: usize) -> boo
     true
 }
 
-// Pushes pieces of up to 2800 bytes, and takes what is whole now and then: whether the rows are right after each.
-fn are_unpacked(unpacker: &mut Unpacker, shape: Shape, bytes: &[u8]) -> bool {
+// Whether the rows are right after one channel is silenced.
+fn is_silenced(
+    unpacker: &mut Unpacker,
+    shape: Shape,
+    bytes: &[u8],
+    gone: usize,
+    channel: u32,
+) -> bool
+    requires { channel < unpacker.old.channels }
+    ensures { unpacker.new.channels ≡ unpacker.old.channels }
+{
+    unpacker.silence(channel);
+    are_rows(unpacker, shape, bytes, gone, Some(channel as usize))
+}
+
+// Pushes pieces of up to 2800 bytes, and now and then silences a channel and takes what is whole: whether the rows are
+// right after each.
+fn are_unpacked(unpacker: &mut Unpacker, shape: Shape, bytes: &[u8]) -> bool
+    requires some { 2 ≤ shape.channels }
+    requires channels { unpacker.old.channels ≡ shape.channels }
+{
     let mut start = 0_usize;
     let mut gone = 0_usize;
     for turn in 1..400_usize {
         let rest = bytes.get(start..).unwrap_or(&[]);
         let piece = rest.get(..turn * 37 % 2801).unwrap_or(rest);
         start = start.wrapping_add(unpacker.push(piece));
-        if !are_rows(unpacker, shape, bytes, gone) {
+        if !are_rows(unpacker, shape, bytes, gone, None) {
             return false;
         }
         if turn % 3 == 0 {
+            let channel = turn as u32 % shape.channels;
+            if !is_silenced(unpacker, shape, bytes, gone, channel) {
+                return false;
+            }
             gone = gone.wrapping_add(unpacker.spectra() as usize);
             unpacker.taken();
         }

@@ -1,4 +1,5 @@
 mod Parts
 mod Alike
 mod Standing
+mod Silence
 mod Tiles

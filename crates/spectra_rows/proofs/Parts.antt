@@ -11,7 +11,7 @@ use Rattle.spectra_rows.specs.Cells.{WritesCells, Unpacks, cell, channel_place}
 -- ---- rows
 
 -- a row ends before the next begins
-rows_apart : (c d chunk : ℕ) → c < d → c * chunk + chunk ≤ d * chunk
+pub rows_apart : (c d chunk : ℕ) → c < d → c * chunk + chunk ≤ d * chunk
 rows_apart c d chunk lt =
     let next : c + 1 ≤ d = omega arith in
     let part : (c + 1) * chunk ≤ d * chunk = mul-le-mul_right chunk next in

@@ -7,7 +7,7 @@ use Rattle.std.proofs.Math.Seq.{take-add}
 use Rattle.std.proofs.lemmas.List.{append_assoc, length-drop, length-take-le, take_all, take_rest, take-append-drop, drop_all, drop-append-le, get_or-take, get_or_append_left, get_or-append_right}
 use Rattle.std.proofs.lemmas.List.FromFn.{length-map-range_with_len, get_or-map-range_with_len}
 use Rattle.search_model.specs.Samples.{sample_bytes, sample_at}
-use Rattle.spectra_rows.specs.Unpacking.{Unpacking, AreValues, OpenedAlike, StandsForBytes, Takes, spectrum_bytes, unpacked}
+use Rattle.spectra_rows.specs.Unpacking.{Unpacking, AreValues, HoldsBytes, OpenedAlike, StandsForBytes, Takes, spectrum_bytes, unpacked}
 use Rattle.spectra_rows.specs.Cells.{Unpacks, channel_place}
 use Rattle.spectra_rows.proofs.Alike.{sample_alike, some_bytes}
 use Rattle.spectra_rows.proofs.Parts.{place_below}
@@ -94,11 +94,11 @@ module _ (u : Unpacking) (values : AreValues u.nbit u.npol) where
       get_or-append_right before piece (length before) (j * s + k) 0 refl (omega arith)
       ∙ ap (λ x. slice_index piece x) e)
 
-  pub spectra_are : (bytes : List ℕ) (gone : ℕ) → StandsForBytes u bytes gone
+  pub spectra_are : (bytes : List ℕ) (gone : ℕ) → HoldsBytes u bytes gone
       → (unpacked u bytes).spectra ≡ gone + u.whole
-  spectra_are bytes gone stands =
-      let size = stands.size in
-      let short = stands.short in
+  spectra_are bytes gone holds =
+      let size = holds.size in
+      let short = holds.short in
       ap (λ x. x / u.channels)
       (length-map-range_with_len (λ k. sample_at u.nbit u.npol bytes k) 0 (length bytes / s))
       ∙ two_quotients (gone + u.whole) u.channels s (length u.part) (length bytes) (some_bytes u.nbit u.npol values)
@@ -247,15 +247,23 @@ takes_three t u v w i j bytes rest last first rest_of second last_of third =
     (takes_both t u w (take i bytes) (take j rest ++ last) first
     (takes_both u v w (take j rest) last second third))
 
+-- where the rows are right, the bytes are held
+pub held : (u : Unpacking) (bytes : List ℕ) (gone : ℕ) → StandsForBytes u bytes gone → HoldsBytes u bytes gone
+held u bytes gone stands = record {
+  size = stands.size;
+  short = stands.short;
+  part = stands.part;
+}
+
 -- the whole spectra are given up
-pub given_up : (u : Unpacking) (bytes : List ℕ) (gone : ℕ) → StandsForBytes u bytes gone
+pub given_up : (u : Unpacking) (bytes : List ℕ) (gone : ℕ) → HoldsBytes u bytes gone
     → StandsForBytes (record u { whole = 0 }) bytes (gone + u.whole)
-given_up u bytes gone stands =
+given_up u bytes gone holds =
     let sum : gone + u.whole ≡ gone + u.whole + 0 = omega arith in
     record {
-      size = stands.size ∙ ap (λ n. n * spectrum_bytes u + length u.part) sum;
-      short = stands.short;
-      part = stands.part ∙ ap (λ n. drop (n * spectrum_bytes u) bytes) sum;
+      size = holds.size ∙ ap (λ n. n * spectrum_bytes u + length u.part) sum;
+      short = holds.short;
+      part = holds.part ∙ ap (λ n. drop (n * spectrum_bytes u) bytes) sum;
       rows = λ c t here low. absurd (omega arith);
     }
 

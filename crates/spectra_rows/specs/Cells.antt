@@ -34,6 +34,12 @@ pub record Unpacks (channels : ℕ) (is_falling : Bool) (nbit npol chunk : ℕ) 
       → slice_index new (c * chunk + (ready + t))
       ≡ cell channels nbit npol bytes (channel_place channels is_falling c) t
 
+-- of a list the n values from `at` on are 0, and all others stay
+pub record Silences (old new : List ℕ) (at n : ℕ) : Type 0 where
+  pub long : length new ≡ length old
+  pub silent : (k : ℕ) → at ≤ k → k < at + n → slice_index new k ≡ 0
+  pub others : (k : ℕ) → (k < at) ⊎ (at + n ≤ k) → slice_index new k ≡ slice_index old k
+
 -- what stands behind is as large as it has to be
 pub record RowsAreSound (channels nbit npol chunk : ℕ) (in_bytes : Bool)
     (spectrum filled ready : ℕ) (held rows : List ℕ) : Type 0 where

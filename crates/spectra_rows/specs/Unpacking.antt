@@ -1,7 +1,8 @@
 -- What contracts see of an unpacker, and the data bytes that it stands for.
 -- Source: this project's choice.
-use Rattle.std.specs.Prelude.{ℕ, ◌+◌, ◌*◌, ◌≡◌, ◌<◌, ◌⊎◌, ◌++◌, Bool, true, false, List, [], length, drop, replicate, slice_index}
+use Rattle.std.specs.Prelude.{ℕ, ◌+◌, ◌*◌, ◌≡◌, ◌≢◌, ◌<◌, ◌≤◌, ◌⊎◌, ◌++◌, Bool, true, false, List, [], length, drop, replicate, slice_index}
 use Rattle.search_model.specs.Samples.{Filterbank, sample_bytes, samples_of, filterbank}
+use Rattle.search_model.specs.Masks.{kept_of}
 
 -- Spectra of so many channels, of which at most `chunk` are held: `whole` spectra as samples in
 -- `rows`, a row of `chunk` places for each channel, and behind them the bytes of a part of a
@@ -36,6 +37,33 @@ pub record StandsForBytes (u : Unpacking) (bytes : List ℕ) (gone : ℕ) : Type
   pub part : u.part ≡ drop ((gone + u.whole) * spectrum_bytes u) bytes
   pub rows : (c t : ℕ) → c < u.channels → t < u.whole
       → slice_index u.rows (c * u.chunk + t) ≡ (unpacked u bytes).value c (gone + t)
+
+-- the same, whatever stands in the rows
+pub record HoldsBytes (u : Unpacking) (bytes : List ℕ) (gone : ℕ) : Type 0 where
+  pub size : length bytes ≡ (gone + u.whole) * spectrum_bytes u + length u.part
+  pub short : length u.part < spectrum_bytes u
+  pub part : u.part ≡ drop ((gone + u.whole) * spectrum_bytes u) bytes
+
+-- the same, where the rows have the samples of the channels that are kept, and 0 for all others
+pub record StandsForKept (kept : ℕ → Bool) (u : Unpacking) (bytes : List ℕ) (gone : ℕ)
+    : Type 0 where
+  pub holds : HoldsBytes u bytes gone
+  pub rows : (c t : ℕ) → c < u.channels → t < u.whole
+      → slice_index u.rows (c * u.chunk + t)
+      ≡ (kept_of kept (unpacked u bytes)).value c (gone + t)
+
+-- v is u, but that the row of this channel is 0 in the spectra that are held
+pub record IsWithout (channel : ℕ) (u v : Unpacking) : Type 0 where
+  pub same : v ≡ record u { rows = v.rows }
+  pub long : length v.rows ≡ length u.rows
+  pub silent : (t : ℕ) → t < u.whole → slice_index v.rows (channel * u.chunk + t) ≡ 0
+  pub others : (k : ℕ) → (k < channel * u.chunk) ⊎ (channel * u.chunk + u.whole ≤ k)
+      → slice_index v.rows k ≡ slice_index u.rows k
+
+-- of so many channels this one is no longer kept, and all others as before
+pub record LeavesOut (channels channel : ℕ) (kept less : ℕ → Bool) : Type 0 where
+  pub channel_is : less channel ≡ false
+  pub others : (c : ℕ) → c < channels → c ≢ channel → less c ≡ kept c
 
 -- both were opened for such spectra, and for rows of one kind
 pub record OpenedAlike (u v : Unpacking) : Type 0 where

@@ -2,7 +2,7 @@
 ghost use Rattle.std.specs.Prelude.{◌≡◌, ◌+◌, ◌*◌, ◌<◌, ◌≤◌, length};
 ghost use Rattle.search_model.specs.Samples.{sample_bytes};
 ghost use Rattle.spectra_rows.specs.Unpacking.{Keeps};
-ghost use Rattle.spectra_rows.specs.Cells.{Unpacks};
+ghost use Rattle.spectra_rows.specs.Cells.{Silences, Unpacks};
 
 use crate::layout::Layout;
 use crate::rows::unpack;
@@ -70,6 +70,18 @@ impl Rows {
             Rows::Bytes(samples) => {
                 unpack(&mut samples.as_mut_slice()[ready..], bytes, layout, count)
             }
+        }
+    }
+
+    /// Sets so many samples from a place of the rows on to 0.
+    pub fn silence(&mut self, at: usize, count: usize)
+        requires { at + count ≤ length (samples_kept self.old) }
+        ensures kind { are_bytes self.new ≡ are_bytes self.old }
+        ensures silences { Silences (samples_kept self.old) (samples_kept self.new) at count }
+    {
+        match self {
+            Rows::Words(words) => words.as_mut_slice()[at..at + count].fill(0),
+            Rows::Bytes(bytes) => bytes.as_mut_slice()[at..at + count].fill(0),
         }
     }
 }

@@ -1,6 +1,6 @@
 // Bytes that are pushed, as rows.
-ghost use Rattle.std.specs.Prelude.{◌≡◌, ℕ, ◌+◌, ◌-◌, ◌*◌, ◌<◌, ◌≤◌, ◌⊎◌, ◌++◌, true, false, List, [], length, take, min, slice_index, IfOk};
-ghost use Rattle.spectra_rows.specs.Unpacking.{AreValues, Keeps, OpenedAlike, StandsForBytes, Takes, Unpacking, byte_unpacking_of, held_bytes, spectrum_bytes, unpacked, unpacking_of};
+ghost use Rattle.std.specs.Prelude.{◌≡◌, ℕ, ◌+◌, ◌-◌, ◌*◌, ◌<◌, ◌≤◌, ◌⊎◌, ◌++◌, Bool, true, false, List, [], length, take, min, slice_index, IfOk};
+ghost use Rattle.spectra_rows.specs.Unpacking.{AreValues, HoldsBytes, IsWithout, Keeps, LeavesOut, OpenedAlike, StandsForBytes, StandsForKept, Takes, Unpacking, byte_unpacking_of, held_bytes, spectrum_bytes, unpacked, unpacking_of};
 ghost use Rattle.spectra_rows.specs.Cells.{RowsAreSound};
 ghost use Rattle.spectra_rows.specs.Kept.{are_bytes, samples_kept};
 
@@ -266,6 +266,8 @@ impl Unpacker {
         ensures room { result ≤ self.now.chunk }
         ensures counts { (bytes : List ℕ) (gone : ℕ) → StandsForBytes self.now bytes gone
             → (unpacked self.now bytes).spectra ≡ gone + result }
+        ensures holds { (bytes : List ℕ) (gone : ℕ) → HoldsBytes self.now bytes gone
+            → (unpacked self.now bytes).spectra ≡ gone + result }
     {
         self.ready as u32
     }
@@ -281,6 +283,7 @@ impl Unpacker {
     /// frequency first. The values past the spectra that are held mean nothing.
     pub fn rows(&self) -> &[u32]
         requires { self.now.in_bytes ≡ false }
+        ensures rows { result.now ≡ self.now.rows }
         ensures long { length result.now ≡ self.now.channels * self.now.chunk }
         ensures samples { (bytes : List ℕ) (gone c t : ℕ) → StandsForBytes self.now bytes gone
             → c < self.now.channels → t < self.now.whole
@@ -293,6 +296,7 @@ impl Unpacker {
     /// The same where the rows are rows of bytes.
     pub fn byte_rows(&self) -> &[u8]
         requires { self.now.in_bytes ≡ true }
+        ensures rows { result.now ≡ self.now.rows }
         ensures long { length result.now ≡ self.now.channels * self.now.chunk }
         ensures samples { (bytes : List ℕ) (gone c t : ℕ) → StandsForBytes self.now bytes gone
             → c < self.now.channels → t < self.now.whole
@@ -302,10 +306,27 @@ impl Unpacker {
         self.rows.bytes()
     }
 
+    /// Sets the row of a channel, counted from the highest frequency, to 0 in the spectra that are held. Spectra that
+    /// are pushed later are not touched.
+    pub fn silence(&mut self, channel: u32)
+        requires { channel < self.old.channels }
+        ensures without { IsWithout channel self.old self.new }
+        ensures holds { (bytes : List ℕ) (gone : ℕ) → HoldsBytes self.old bytes gone
+            → HoldsBytes self.new bytes gone }
+        ensures kept { (kept less : ℕ → Bool) (bytes : List ℕ) (gone : ℕ)
+            → LeavesOut self.old.channels channel kept less
+            → StandsForKept kept self.old bytes gone → StandsForKept less self.new bytes gone }
+    {
+        self.rows
+            .silence(channel as usize * self.layout.chunk, self.ready);
+    }
+
     /// Gives up the whole spectra that are held. A part of a spectrum is kept.
     pub fn taken(&mut self)
         ensures part { self.new ≡ record self.old { whole = 0 } }
         ensures given_up { (bytes : List ℕ) (gone : ℕ) → StandsForBytes self.old bytes gone
+            → StandsForBytes self.new bytes (gone + self.old.whole) }
+        ensures holds { (bytes : List ℕ) (gone : ℕ) → HoldsBytes self.old bytes gone
             → StandsForBytes self.new bytes (gone + self.old.whole) }
     {
         self.ready = 0;
