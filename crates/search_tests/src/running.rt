@@ -1,7 +1,7 @@
 // Runs over objects in memory, and what they leave.
 use psr_base::{MemFiles, MemInputs, MemSink};
 use psr_record::run_record;
-use psr_search::run;
+use psr_search::run_in_memory;
 use search_session::{Gate, Ran};
 use std::alloc::Global;
 use std::sync::Wait;
@@ -92,7 +92,7 @@ pub(crate) fn run_past<G: Gate + Sync, R: Threads + Wait + Clock + Sync>(
     let mut out = MemSink::open(alloc, limits.out_room, &[limits.out])?;
     let mut notes = MemSink::open(alloc, limits.note_room, &[limits.note])?;
     let Ran { status, blocks } = match program {
-        Program::Search => run(
+        Program::Search => run_in_memory(
             rt, alloc, words, inputs, &mut made, &mut out, &mut notes, gate,
         ),
         Program::Record => run_record(rt, alloc, words, inputs, &mut made, &mut notes, gate),
