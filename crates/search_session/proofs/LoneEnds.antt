@@ -4,9 +4,8 @@ use Rattle.std.specs.Prelude.{⊤, nat_lt}
 use Rattle.std.proofs.lemmas.List.{append-nil}
 use Rattle.std.proofs.lemmas.Option.{slice_get_within}
 use Rattle.psr_base.specs.Told.{Told}
-use Rattle.dada_model.specs.Observation.{Observation}
 use Rattle.ring_blocks.specs.declared.Entry.{Entry}
-use Rattle.ring_ends.specs.Ended.{sealed_at_end, cleared_at_end}
+use Rattle.ring_ends.specs.Ended.{sealed_at_end}
 use Rattle.dada_hdu.specs.declared.hdu.Hdu.{Hdu}
 use Rattle.dada_hdu.specs.Passes.{data_shape}
 use Rattle.stream_model.specs.Blocks.{ended_transfers, transfer_bytes, is_over}

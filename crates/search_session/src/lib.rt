@@ -7,6 +7,9 @@
 //! in vain it waits no more in that round. A hand that has ended does not wait. Rounds of turns follow one another, the
 //! first ones longer and longer, until all have ended. Where threads are not to be had, the hands take turns in one
 //! thread. No call takes memory but what the system takes for a thread.
+//!
+//! A lone session has no hands: one feeder and one shard take turns in the thread that drives it, over inputs that are
+//! lent to it at each turn.
 #![tactic(auto)]
 
 mod books;

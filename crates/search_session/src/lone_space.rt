@@ -16,7 +16,7 @@ use psr_base::Memory;
 use ring_words::RingShape;
 use std::alloc::Global;
 
-// Opens the rings and seals the first header. No reader has read.
+// Opens rings of this shape and seals the first header. No reader has read.
 fn open_rings(
     alloc: Global,
     shape: RingShape,
