@@ -10,4 +10,5 @@ pub mod Turns
 pub mod Feeding
 pub mod Beginning
 pub mod Feeder
+pub mod Resting
 pub mod Laws

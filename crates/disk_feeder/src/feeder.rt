@@ -27,7 +27,8 @@ pub struct FeederSpace<'a> {
 }
 
 impl<'a> FeederSpace<'a> {
-    ghost use Rattle.disk_feeder.specs.Feeder.{IsSpaceFor};
+    ghost use Rattle.disk_feeder.specs.Feeder.{IsSpaceFor, has_end};
+    ghost use Rattle.disk_feeder.specs.Resting.{feeder_over, FeederStands, FeederKept};
 
     /// Takes all space, for blocks of so many bytes. Transfer k begins with file `starts[k]`; all files together may
     /// have `max_bytes` data bytes at most.
@@ -49,6 +50,31 @@ impl<'a> FeederSpace<'a> {
         let stream = Stream::open(alloc, names, starts, block as usize, max_bytes)?;
         Ok(FeederSpace { stream })
     }
+
+    /// Takes a turn of the feeder at rest, as `Feeder::turn` does, over inputs that are lent to it for this call. They
+    /// stand as the feeder left them.
+    pub fn turn<I: Inputs>(&mut self, inputs: &mut I, hdu: &Hdu, pass: &mut HduWriter) -> FeedTurn
+        requires ring { WritesBoth hdu.now pass.old }
+        requires running { has_end (feeder_over inputs.old self.old) ≡ None }
+        requires stands { FeederStands I.told I.is_open hdu.now (feeder_over inputs.old self.old)
+            pass.old }
+        ensures ring { WritesBoth hdu.now pass.new }
+        ensures stands { FeederStands I.told I.is_open hdu.now (feeder_over inputs.new self.new)
+            pass.new }
+        ensures kept { FeederKept I.told I.is_calm I.faults (feeder_over inputs.old self.old)
+            (feeder_over inputs.new self.new) }
+        ensures answer { TurnAnswers pass.old pass.new
+            (has_end (feeder_over inputs.new self.new)) result }
+    {
+        self.stream.turn(inputs, hdu, pass)
+    }
+}
+
+/// Inputs that were borrowed, and the space of a feeder that read from them: what a feeder was made of.
+#[derive(Drop)]
+pub struct Lent<'a, I, S> {
+    pub inputs: &'a mut I,
+    pub space: S,
 }
 
 /// Reads the files of one or more transfers from borrowed inputs, and seals their headers and their data.
@@ -62,8 +88,9 @@ pub struct Feeder<'a, I> {
 }
 
 impl<'a, I: Inputs> Feeder<'a, I> {
-    ghost use Rattle.disk_feeder.specs.Feeder.{HasPlan, SamePlan, IsSpaceFor, IsFresh, IsBegun, FirstsLeft, HasOpenFile, has_end, FeederFits, FeederFeeds, FeederSince, FeederFaultless, header_at, AcceptsAt, AllAccepted, names_at, plan_at, FeederBegins, RefusesAt};
+    ghost use Rattle.disk_feeder.specs.Feeder.{stream_at, HasPlan, SamePlan, IsSpaceFor, IsFresh, IsBegun, FirstsLeft, HasOpenFile, has_end, FeederFits, FeederFeeds, FeederSince, FeederFaultless, header_at, AcceptsAt, AllAccepted, names_at, plan_at, FeederBegins, RefusesAt};
     ghost use Rattle.disk_feeder.specs.Feeding.{header_entries, HeadersKeepUp};
+    ghost use Rattle.disk_feeder.specs.Resting.{stream_in};
 
     /// The feeder of a space, over borrowed inputs. Nothing is read.
     pub fn over(inputs: &'a mut I, space: FeederSpace<'a>) -> Feeder<'a, I>
@@ -72,6 +99,7 @@ impl<'a, I: Inputs> Feeder<'a, I> {
         ensures opened { (names : List (List ℕ)) (starts : List ℕ) (size max_bytes : ℕ)
             → IsSpaceFor space.entry names starts size max_bytes
             → HasPlan result names starts size max_bytes × IsFresh result }
+        ensures stream { stream_at result ≡ stream_in space.entry }
     {
         let FeederSpace { stream } = space;
         Feeder { inputs, stream }
@@ -165,6 +193,19 @@ impl<'a, I: Inputs> Feeder<'a, I> {
         feeders_begin::<I>();
         headers_are_first::<I>();
         self.stream.turn(self.inputs, hdu, pass)
+    }
+
+    /// Gives the inputs and the space back: the feeder rests where it is.
+    pub fn part(self) -> Lent<'a, I, FeederSpace<'a>>
+        ensures inputs { result.inputs.now ≡ self.entry.inputs.now }
+        ensures same_reference { result.inputs.ghost_name ≡ self.entry.inputs.ghost_name }
+        ensures stream { stream_in result.space ≡ stream_at self.entry }
+    {
+        let Feeder { inputs, stream } = self;
+        Lent {
+            inputs,
+            space: FeederSpace { stream },
+        }
     }
 
     /// Gives the inputs back.

@@ -14,5 +14,5 @@ mod stream;
 mod writing;
 
 pub use answers::{FeedEnd, FeedFault, FeedTurn, HeaderCause};
-pub use feeder::{Feeder, FeederSpace};
+pub use feeder::{Feeder, FeederSpace, Lent};
 pub use laws::{feeders_begin, feeders_end, headers_are_first};

@@ -98,13 +98,13 @@ module _ {I F : Type 0} (told : I → Told) (is_open : I → Type 0) (files_open
 
 -- ---- the shards' ends
 
-none_stands : (o : Observation) (k : ℕ) (e : EngineState) → StandsForData o [] e → StandsAt o k [] e
+pub none_stands : (o : Observation) (k : ℕ) (e : EngineState) → StandsForData o [] e → StandsAt o k [] e
 none_stands o k e stands =
     subst (λ (n : ℕ). Stands (nat_lt k n) o (transfer_bytes k []) e) (sym none_ended)
     (subst (λ (b : Bool). Stands b o (transfer_bytes k []) e) (sym (not_below_zero k))
     (subst (λ (l : List ℕ). StandsForData o l e) (sym (nothing k)) stands))
 
-below_true : (a b : ℕ) → a < b → nat_lt a b ≡ true
+pub below_true : (a b : ℕ) → a < b → nat_lt a b ≡ true
 below_true a b less = grind (arith, nat_tests)
 
 -- the book of an engine that searched all data of its transfer

@@ -20,3 +20,5 @@ mod Leaving
 mod Holding
 mod FeedEnds
 mod Closing
+mod LoneTurns
+mod LoneEnds

@@ -10,3 +10,5 @@ pub mod Books
 pub mod Ends
 pub mod Recorded
 pub mod Sessions
+pub mod Lone
+pub mod LoneEnds

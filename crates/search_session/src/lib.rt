@@ -7,6 +7,9 @@
 //! in vain it waits no more in that round. A hand that has ended does not wait. Rounds of turns follow one another, the
 //! first ones longer and longer, until all have ended. Where threads are not to be had, the hands take turns in one
 //! thread. No call takes memory but what the system takes for a thread.
+//!
+//! A lone session has no hands: one feeder and one shard take turns in the thread that drives it, over inputs that are
+//! lent to it at each turn.
 #![tactic(auto)]
 
 mod books;
@@ -16,8 +19,12 @@ mod gate;
 mod gathering;
 mod hand;
 mod lane;
+mod lone;
+mod lone_laws;
+mod lone_space;
 mod reading;
 mod record;
+mod resting;
 mod rounds;
 mod session;
 mod shard;
@@ -30,6 +37,9 @@ pub use feed::FeedActor;
 pub use gate::{Gate, NoGate};
 pub use hand::Hand;
 pub use lane::Lane;
+pub use lone::{LoneEnd, LoneSession, run_alone};
+pub use lone_laws::{lone_sessions_end, lone_turns_add};
+pub use lone_space::LoneSpace;
 pub use record::RecordActor;
 pub use rounds::round;
 pub use session::run_session;

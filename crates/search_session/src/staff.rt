@@ -20,7 +20,13 @@ use psr_base::{Files, Inputs};
 use std::mem;
 
 // The shard of a lane before its first turn.
-fn shard_of(hdu: &Hdu, lane: Lane, reader: HduReader, space: Vec<u8>, number: u32) -> ShardActor
+pub(crate) fn shard_of(
+    hdu: &Hdu,
+    lane: Lane,
+    reader: HduReader,
+    space: Vec<u8>,
+    number: u32,
+) -> ShardActor
     requires few { (data_shape hdu.now).max_blocks * (data_shape hdu.now).size ≤ most_fed }
     requires reader { IsUnread hdu.now number reader }
     requires lane { (transfers : _) × (0 < transfers) × IsUnfed transfers lane }

@@ -1,0 +1,132 @@
+-- The end of a lone session.
+use Rattle.std.proofs.Common.{◌≡◌, ℕ, zero, suc, ◌<◌, Bool, true, List, [], ◌∷◌, ◌++◌, length, Option, Some, None, slice_get, refl, sym, ap, ◌∙◌, subst, arith}
+use Rattle.std.specs.Prelude.{⊤, nat_lt}
+use Rattle.std.proofs.lemmas.List.{append-nil}
+use Rattle.std.proofs.lemmas.Option.{slice_get_within}
+use Rattle.psr_base.specs.Told.{Told}
+use Rattle.ring_blocks.specs.declared.Entry.{Entry}
+use Rattle.ring_ends.specs.Ended.{sealed_at_end}
+use Rattle.dada_hdu.specs.declared.hdu.Hdu.{Hdu}
+use Rattle.dada_hdu.specs.Passes.{data_shape}
+use Rattle.stream_model.specs.Blocks.{ended_transfers, transfer_bytes, is_over}
+use Rattle.search_engine.specs.Engine.{EngineState}
+use Rattle.disk_feeder.specs.declared.answers.FeedEnd.TheVariants.{Whole}
+use Rattle.disk_feeder.specs.Feeding.{IsEnding}
+use Rattle.disk_feeder.specs.Resting.{feeder_over}
+use Rattle.search_session.specs.declared.lane.Lane.{Lane}
+use Rattle.search_session.specs.declared.shard.ShardActor.{ShardActor}
+use Rattle.search_session.specs.declared.lone.LoneSession.{LoneSession}
+use Rattle.search_session.specs.declared.lone.LoneEnd.{LoneEnd}
+use Rattle.search_session.specs.Lanes.{HasEngine, Stands}
+use Rattle.search_session.specs.Shards.{StandsAt, IsEngineAt, EnginesFollow, shard_cleared, shard_number, ShardOn}
+use Rattle.search_session.specs.Feeds.{FeedOn}
+use Rattle.search_session.specs.Ends.{IsDone, AreDone}
+use Rattle.search_session.specs.Sessions.{FeedAnswers}
+use Rattle.search_session.specs.Lone.{feed_over, lone_feeder, lone_lane, transfers_at, LoneOn, LoneMoved, LoneBegins, HasLoneEnded}
+use Rattle.search_session.specs.LoneEnds.{IsLoneEnd, session_end, WentThrough, LaneAnswers, LoneAnswers}
+use Rattle.search_session.proofs.Ending.{none_stands, below_true}
+use Rattle.search_session.proofs.FeedEnds.{SessionLaws, feed_answers, is_ending}
+use Rattle.search_session.proofs.LoneTurns.{feed_on}
+
+-- the one shard is all readers
+pub one_done : (hdu : Hdu) (x : ShardActor) → (data_shape hdu).readers ≡ 1 → shard_number x ≡ 0 → ShardOn hdu x →
+    x.ended ≡ true → AreDone {F = ⊤} hdu (length x.part.engines.value.items) (Some x ∷ []) None
+one_done hdu x alone number on ended = record {
+  all = sym alone;
+  each = at;
+  last = tt;
+}
+  where
+    at : (s : ℕ) → s < 1 → (y : ShardActor) × (slice_get (Some x ∷ []) s ≡ Some (Some y))
+        × IsDone hdu (length x.part.engines.value.items) s y
+    at zero near = (x, refl, record { number = number; on = on; ended = ended; count = refl })
+    at (suc s) near = absurd (omega arith)
+
+-- an engine at a place is the one that is known of
+same_engine : (engines : List (Option EngineState)) (k : ℕ) (e f : EngineState) → HasEngine engines k e →
+    HasEngine engines k f → e ≡ f
+same_engine engines k e f at_e at_f = inside e f (sym at_e ∙ at_f)
+  where
+    inside : (a b : EngineState) → Some (Some a) ≡ Some (Some b) → a ≡ b
+    inside a b e = cc
+
+module _ {I : Type 0} (laws : SessionLaws I) (told : I → Told) (is_calm : I → Type 0) (faults : I → ℕ)
+    (start now : LoneSession) (before after : I) (n : ℕ) (end : LoneEnd) (begins : LoneBegins (told before) start)
+    (moved : LoneMoved told is_calm faults n before start after now) (on : LoneOn (told after) now)
+    (ended : HasLoneEnded now) (is : IsLoneEnd now end) where
+  abbrev anywhere : I → Type 0
+  anywhere lent = ⊤
+
+  stands : FeedOn told anywhere now.hdu (feed_over after now.feed)
+  stands = feed_on told anywhere is_calm faults after now on (λ opened. tt)
+
+  feed_is : FeedAnswers told is_calm faults (feeder_over before (lone_feeder start)) (session_end after end)
+  feed_is = feed_answers laws told anywhere is_calm faults now.hdu (feed_over before start.feed)
+      (feed_over after now.feed) n moved.feed stands (session_end after end) is.feed refl is.sealed refl
+      (sym begins.on.feed.end ∙ begins.running) begins.faultless
+
+  ending : IsEnding (transfers_at (lone_feeder start)) (sealed_at_end end.blocks) end.feed
+  ending = is_ending laws told anywhere is_calm faults now.hdu (feed_over before start.feed)
+      (feed_over after now.feed) n moved.feed stands (session_end after end) is.feed refl is.sealed
+
+  follow : EnginesFollow [] (shard_cleared now.shard) (lone_lane start).engines.value.items
+      now.shard.part.engines.value.items
+  follow = subst (λ (l : List Entry). EnginesFollow l (shard_cleared now.shard) (lone_lane start).engines.value.items
+      now.shard.part.engines.value.items) begins.unread moved.shard.engines
+
+  over : is_over (transfers_at (lone_feeder start)) (shard_cleared now.shard) ≡ true
+  over = ap (λ (k : ℕ). is_over k (shard_cleared now.shard)) (sym (follow.count ∙ begins.engines))
+      ∙ (sym on.shard.over ∙ ended.shard)
+
+  cleared_all : shard_cleared now.shard ≡ sealed_at_end end.blocks
+  cleared_all =
+      let none = ending.once (shard_cleared now.shard) is.begins.0 (sym is.begins.1) over in
+      sym (is.begins.1 ∙ (ap (λ (l : List Entry). shard_cleared now.shard ++ l) none
+      ∙ append-nil (shard_cleared now.shard)))
+
+  went : (bytes : ℕ) → end.feed ≡ Whole bytes → (transfer : ℕ) (e : EngineState) →
+      HasEngine (lone_lane start).engines.value.items transfer e →
+      (f : EngineState) × HasEngine now.shard.part.engines.value.items transfer f
+      × WentThrough e (transfer_bytes transfer (sealed_at_end end.blocks)) f
+  went bytes whole transfer e has =
+      let f = follow.each transfer e has in
+      let near = slice_get_within (lone_lane start).engines.value.items transfer (Some e) has in
+      let count = follow.count in
+      let counted = begins.engines in
+      let all = ending.all bytes whole in
+      let below : nat_lt transfer (ended_transfers (sealed_at_end end.blocks)) ≡ true =
+      below_true transfer (ended_transfers (sealed_at_end end.blocks)) (omega arith) in
+      let there = on.shard.engines transfer (omega arith) in
+      let this = same_engine now.shard.part.engines.value.items transfer there.0 f.0 there.1 f.1 in
+      let at : IsEngineAt (data_shape now.hdu).size (sealed_at_end end.blocks) transfer f.0 =
+      subst (λ (l : List Entry). IsEngineAt (data_shape now.hdu).size l transfer f.0) cleared_all
+      (subst (λ (g : EngineState). IsEngineAt (data_shape now.hdu).size (shard_cleared now.shard) transfer g) this
+      there.2) in (
+        f.0,
+        f.1,
+        record {
+          same = f.2.same;
+          fed = at.fed;
+          ended = at.ended ∙ below;
+          stands = λ o stood.
+              subst (λ (b : Bool). Stands b o (transfer_bytes transfer (sealed_at_end end.blocks)) f.0) below
+              (subst (λ (l : List Entry). StandsAt o transfer l f.0) cleared_all
+              (f.2.stands o (none_stands o transfer e stood)));
+        },
+      )
+
+  lane_is : LaneAnswers (lone_lane start) end
+  lane_is = record {
+    cleared = is.cleared ∙ cleared_all;
+    engines = subst (λ (l : Lane). EnginesFollow [] (sealed_at_end end.blocks)
+        (lone_lane start).engines.value.items l.engines.value.items) (sym is.lane)
+        (subst (λ (l : List Entry). EnginesFollow [] l (lone_lane start).engines.value.items
+        now.shard.part.engines.value.items) cleared_all follow);
+    searched = subst (λ (l : Lane). (bytes : ℕ) → end.feed ≡ Whole bytes → (transfer : ℕ) (e : EngineState) →
+        HasEngine (lone_lane start).engines.value.items transfer e →
+        (f : EngineState) × HasEngine l.engines.value.items transfer f
+        × WentThrough e (transfer_bytes transfer (sealed_at_end end.blocks)) f) (sym is.lane) went;
+  }
+
+  pub lone_answers : LoneAnswers told is_calm faults start before after end
+  lone_answers = record { feed = feed_is; lane = lane_is }

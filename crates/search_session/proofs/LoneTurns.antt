@@ -1,0 +1,106 @@
+-- Turns of a lone session.
+use Rattle.std.proofs.Common.{◌≡◌, ℕ, ◌+◌, ◌-◌, ◌≤◌, min, None, refl, sym, ap, ◌∙◌, subst, arith}
+use Rattle.psr_base.specs.Told.{Told}
+use Rattle.ring_core.specs.Machine.{greatest}
+use Rattle.disk_feeder.specs.declared.answers.FeedTurn.{FeedTurn}
+use Rattle.disk_feeder.specs.Feeder.{has_end}
+use Rattle.disk_feeder.specs.Resting.{FeederKept}
+use Rattle.disk_feeder.specs.Turns.{TurnAnswers}
+use Rattle.dada_hdu.specs.declared.hdu.Hdu.{Hdu}
+use Rattle.dada_hdu.specs.declared.passes.HduReader.{HduReader}
+use Rattle.dada_hdu.specs.Passes.{data_shape, IsFreshReader}
+use Rattle.search_session.specs.declared.feed.FeedActor.{FeedActor}
+use Rattle.search_session.specs.declared.lone.LoneSession.{LoneSession}
+use Rattle.search_session.specs.Shards.{ShardOn, ShardMoved}
+use Rattle.search_session.specs.Feeds.{FeedOn, FeedMoved}
+use Rattle.search_session.specs.Stages.{IsUnread}
+use Rattle.search_session.specs.Lone.{feed_over, LoneOn, LoneMoved, HasLoneEnded, HasFileOpen}
+use Rattle.search_session.proofs.Feeding.{feed_none, feed_still, feed_turned, feed_more}
+use Rattle.search_session.proofs.Moves.{shard_none, shard_still, shard_more}
+
+-- a reader that has done nothing has cleared no block
+pub is_unread : (hdu : Hdu) (i : ℕ) (reader : HduReader) → IsFreshReader hdu i reader → IsUnread hdu i reader
+is_unread hdu i reader fresh = record {
+  reads = fresh.ring;
+  number_is = ap (λ v. v.number) fresh.blocks;
+  no_header = ap (λ v. v.cleared) fresh.header;
+  no_block = ap (λ v. v.cleared) fresh.blocks;
+}
+
+module _ {I : Type 0} (told : I → Told) (is_open is_calm : I → Type 0) (faults : I → ℕ) where
+  -- a turn of a resting feeder and its write
+  pub rest_turned : (f h : FeedActor I) (answer : FeedTurn) → f.end ≡ None →
+      FeederKept told is_calm faults f.part h.part → h.part.inputs.ghost_name ≡ f.part.inputs.ghost_name →
+      TurnAnswers f.pass h.pass (has_end h.part) answer → h.turns ≡ min greatest (f.turns + 1) →
+      FeedMoved told is_calm faults 1 f h
+  rest_turned f h answer running kept same did turns = feed_turned told is_calm faults f h answer running
+      (record {
+        same_reference = same;
+        names = kept.names;
+        count = kept.count;
+        since = kept.since;
+        calm = kept.calm;
+        serves = kept.serves;
+      }) kept.plan kept.size did turns
+
+  -- the feeder of a session over what is lent
+  pub feed_on : (lent : I) (s : LoneSession) → LoneOn (told lent) s → HasFileOpen is_open lent s →
+      FeedOn told is_open s.hdu (feed_over lent s.feed)
+  feed_on lent s on file = record {
+    writes = on.feed.writes;
+    fits = on.feed.fits;
+    file = file;
+    feeding = on.feed.feeding;
+    end = on.feed.end;
+    count = on.feed.count;
+  }
+
+  -- a session whose parts moved
+  pub lone_on : (lent : I) (old new : LoneSession) (before : Told) → LoneOn before old → new.hdu ≡ old.hdu →
+      FeedOn told is_open new.hdu (feed_over lent new.feed) → ShardOn new.hdu new.shard →
+      ShardMoved 1 old.shard new.shard → LoneOn (told lent) new
+  lone_on lent old new before was rings feed shard moved = record {
+    feed = record {
+      writes = feed.writes;
+      fits = feed.fits;
+      file = λ opened. tt;
+      feeding = feed.feeding;
+      end = feed.end;
+      count = feed.count;
+    };
+    shard = shard;
+    alone = subst (λ (h : Hdu). (data_shape h).readers ≡ 1) (sym rings) was.alone;
+    number = moved.number ∙ was.number;
+  }
+
+  stands : (n : ℕ) (lent : I) (s : LoneSession) → FeedMoved told is_calm faults n (feed_over lent s.feed)
+      (feed_over lent s.feed) → ShardMoved n s.shard s.shard → LoneMoved told is_calm faults n lent s lent s
+  stands n lent s feed shard = record { rings = refl; feed = feed; shard = shard }
+
+  pub lone_none : (lent : I) (s : LoneSession) → LoneOn (told lent) s → LoneMoved told is_calm faults 0 lent s lent s
+  lone_none lent s on = stands 0 lent s (feed_none told is_calm faults (feed_over lent s.feed) on.feed.count)
+      (shard_none s.shard on.shard.count)
+
+  pub lone_still : (n : ℕ) (lent : I) (s : LoneSession) → LoneOn (told lent) s → HasLoneEnded s →
+      LoneMoved told is_calm faults n lent s lent s
+  lone_still n lent s on ended = stands n lent s
+      (feed_still told is_calm faults n (feed_over lent s.feed) on.feed.count ended.feed)
+      (shard_still n s.shard on.shard.count ended.shard)
+
+  pub lone_more : (n m : ℕ) (before lent after : I) (x y z : LoneSession) →
+      LoneMoved told is_calm faults n before x lent y → LoneMoved told is_calm faults m lent y after z →
+      LoneMoved told is_calm faults (n + m) before x after z
+  lone_more n m before lent after x y z a b = record {
+    rings = b.rings ∙ a.rings;
+    feed = feed_more told is_calm faults n m (feed_over before x.feed) (feed_over lent y.feed) (feed_over after z.feed)
+        a.feed b.feed;
+    shard = shard_more n m x.shard y.shard z.shard a.shard b.shard;
+  }
+
+  -- once both ended, any more turns change nothing
+  pub lone_rest : (n m : ℕ) (before after : I) (x y : LoneSession) → n ≤ m → LoneOn (told after) y → HasLoneEnded y →
+      LoneMoved told is_calm faults n before x after y → LoneMoved told is_calm faults m before x after y
+  lone_rest n m before after x y most on ended moved =
+      let all : n + (m - n) ≡ m = omega arith in
+      subst (λ (k : ℕ). LoneMoved told is_calm faults k before x after y) all
+      (lone_more n (m - n) before after after x y y moved (lone_still (m - n) after y on ended))

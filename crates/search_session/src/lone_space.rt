@@ -1,0 +1,95 @@
+//! The space of a lone session, and the session that is made of it.
+ghost use Rattle.std.specs.Prelude.{◌≡◌, IfOk};
+ghost use Rattle.psr_base.specs.Told.{Told};
+ghost use Rattle.ring_words.specs.Shape.{IsRing};
+ghost use Rattle.search_session.specs.Lone.{AreLoneRings, IsLoneSpace, IsLoneReady, LoneBegins, lane_in, lone_lane, lone_feeder};
+
+use crate::lane::Lane;
+use crate::lone::LoneSession;
+use crate::resting::RestingFeed;
+use crate::staff::shard_of;
+use arrayvec::ArrayVec;
+use dada_hdu::{HEADER_SPACE, Hdu, HduReader, HduWriter};
+use dada_header::Header;
+use disk_feeder::FeederSpace;
+use psr_base::Memory;
+use ring_words::RingShape;
+use std::alloc::Global;
+
+// Opens rings of this shape and seals the first header. No reader has read.
+fn open_rings(
+    alloc: Global,
+    shape: RingShape,
+    header: &Header,
+) -> Result<(Hdu, HduWriter, ArrayVec<Option<HduReader>, 8>), Memory>
+    requires { IsRing shape }
+    ensures { IfOk result (λ r. AreLoneRings shape header.now r.0 r.1 r.2.items) }
+{
+    let (hdu, mut writer, readers) = Hdu::open(alloc, shape)?;
+    // The first block of a ring finds room.
+    let _sealed = hdu.write_header(&mut writer, header);
+    Ok((hdu, writer, readers))
+}
+
+/// The space of a lone session: the rings, of which the first header is sealed, their one reader, the lane of its
+/// shard, and the bytes that the shard reads headers to. All memory of the session is in it but that of its feeder.
+#[derive(Drop)]
+pub struct LoneSpace {
+    hdu: Hdu,
+    writer: HduWriter,
+    reader: HduReader,
+    lane: Lane,
+    bytes: Vec<u8>,
+}
+
+impl LoneSpace {
+    /// Takes all space: for rings of this shape, which have one reader, and of which the header is sealed.
+    pub fn take(
+        alloc: Global,
+        lane: Lane,
+        shape: RingShape,
+        header: &Header,
+    ) -> Result<LoneSpace, Memory>
+        requires ring { IsRing shape }
+        requires alone { shape.readers ≡ 1 }
+        ensures { IfOk result (IsLoneSpace lane shape header.now) }
+    {
+        let (hdu, writer, mut readers) = open_rings(alloc, shape, header)?;
+        let bytes = vec![in alloc; 0u8; HEADER_SPACE as usize]?;
+        let Some(reader) = readers.remove(0) else {
+            unreachable!()
+        };
+        Ok(LoneSpace {
+            hdu,
+            writer,
+            reader,
+            lane,
+            bytes,
+        })
+    }
+
+    /// The session of this space and a feeder that rests where its first headers were accepted.
+    pub fn session<'a>(self, feeder: FeederSpace<'a>) -> LoneSession<'a>
+        requires ready { (told : Told) × IsLoneReady told self feeder }
+        ensures begins { (told : Told) → IsLoneReady told self feeder.entry
+            → LoneBegins told result }
+        ensures feeder { lone_feeder result ≡ feeder.entry }
+        ensures lane { lone_lane result ≡ lane_in self }
+    {
+        let LoneSpace {
+            hdu,
+            writer,
+            reader,
+            lane,
+            bytes,
+        } = self;
+        let shard = shard_of(&hdu, lane, reader, bytes, 0);
+        let feed = RestingFeed {
+            part: feeder,
+            pass: writer,
+            turns: 0,
+            end: None,
+        };
+        LoneSession { hdu, feed, shard }
+    }
+}
