@@ -186,10 +186,10 @@ unsaid_alone lone words (inr (inl (inr (t, said, other)))) s says = one_search o
     same = says.search.says.values ∙ sym said.values
 
     one_search : IsOfOther t → ⊥
-    one_search (inl several) = several (subst (λ (u : SettingsSeen). length u.starts ≡ 1) same says.search.transfer)
+    one_search (inl several) = several (subst (λ (u : SettingsSeen). length u.starts ≡ 1) same says.search.one.transfer)
     one_search (inr records) =
         let not : t.recording ≡ false =
-        subst (λ (u : SettingsSeen). u.recording ≡ false) same says.search.unrecorded in cc
+        subst (λ (u : SettingsSeen). u.recording ≡ false) same says.search.one.unrecorded in cc
 unsaid_alone lone words (inr (inr (t, said, made))) s says =
     let same : s ≡ t = says.search.says.values ∙ sym said.says.values in
     let does : lone.makes t ≡ true = subst (λ u. lone.makes u ≡ true) same says.made in cc

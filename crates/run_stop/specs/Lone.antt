@@ -17,15 +17,19 @@ pub record LoneSearch : Type 0 where
 
 -- ---- the words of a search that stand after others
 
--- they say the settings of a search of one transfer, without recording
-pub record SayOneSearch (before : ℕ) (words : List (List ℕ)) (s : SettingsSeen) : Type 0 where
-  pub says : SaySearch (drop before words) s
+-- settings of one transfer that is not recorded
+pub record IsOfOne (s : SettingsSeen) : Type 0 where
   pub transfer : length s.starts ≡ 1
   pub unrecorded : s.recording ≡ false
 
--- the settings are of another search: of several transfers, or with a recording
+-- settings of another search: of several transfers, or with a recording
 abbrev pub IsOfOther : SettingsSeen → Type 0
 IsOfOther s = (length s.starts ≢ 1) ⊎ (s.recording ≡ true)
+
+-- the words say the settings of a search of one transfer, without recording
+pub record SayOneSearch (before : ℕ) (words : List (List ℕ)) (s : SettingsSeen) : Type 0 where
+  pub says : SaySearch (drop before words) s
+  pub one : IsOfOne s
 
 -- what a fault says of them: that they are of another search is seen once all of them are in their ranges
 abbrev pub ExplainsOneSearch : ℕ → List (List ℕ) → WordFault → Type 0
