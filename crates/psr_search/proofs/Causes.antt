@@ -1,5 +1,5 @@
 -- From what stands against a search to its status: at no other status it could stand there.
-use Rattle.std.proofs.Common.{◌≡◌, ◌<◌, ◌⊎◌, ℕ, zero, suc, List, [], ◌∷◌, inl, inr, sym, ◌∙◌, ap, subst, refl, Some, None, Contains, arith}
+use Rattle.std.proofs.Common.{◌≡◌, ◌<◌, ◌⊎◌, ℕ, zero, suc, List, [], ◌∷◌, inl, inr, true, sym, ◌∙◌, ap, subst, refl, Some, None, Contains, arith}
 use Rattle.std.specs.Prelude.{Option, IsSome}
 use Rattle.psr_base.specs.Count.{Rose}
 use Rattle.psr_base.specs.Told.{Told, InputsSeen}
@@ -18,7 +18,7 @@ use Rattle.run_stop.specs.declared.causes.RecordingCause.{RecordingCause}
 use Rattle.run_stop.specs.declared.stop.Stop.{Stop}
 use Rattle.run_stop.specs.declared.stop.Stop.TheVariants.{Header, Gap, TooLong}
 use Rattle.run_stop.specs.Texts.{status_of}
-use Rattle.run_stop.specs.Runs.{Searching, stream_for, stop_of_walk, CanBegin, RefusesFirstHeader, RefusesSearch, RefusesToRecord, StopsWalk, HasCandidates}
+use Rattle.run_stop.specs.Runs.{Searching, is_search, stream_for, stop_of_walk, CanBegin, RefusesFirstHeader, RefusesSearch, RefusesToRecord, StopsWalk, HasCandidates}
 use Rattle.run_stop.specs.Ends.{AcceptedIsNotRefused}
 use Rattle.psr_search.specs.Outcome.{Outcome, IsSearched}
 use Rattle.psr_search.specs.Causes.{Answers, EachIsAnswered, CausesAreAnswered, ToldRoomIsEnough}
@@ -98,7 +98,7 @@ module _ (words : List (List ℕ)) (inputs : InputsSeen) (is_calm : Type 0) (fil
       ⊎ ((cause : RecordingCause) × RefusesToRecord Searching s w cause)
   at_plan e = by_cause (o.stopped.plan e s files says are)
     where
-      by_cause : ((cause : PlanCause) × (Searching ≡ Searching) × RefusesSearch s.search w cause)
+      by_cause : ((cause : PlanCause) × (is_search Searching ≡ true) × RefusesSearch s.search w cause)
           ⊎ ((cause : RecordingCause) × RefusesToRecord Searching s w cause) →
           ((cause : PlanCause) × RefusesSearch s.search w cause)
           ⊎ ((cause : RecordingCause) × RefusesToRecord Searching s w cause)

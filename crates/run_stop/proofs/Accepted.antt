@@ -28,7 +28,7 @@ use Rattle.run_stop.specs.declared.causes.PlanCause.TheVariants.{SumBound, FoldT
 use Rattle.run_stop.specs.declared.causes.RecordingCause.{RecordingCause}
 use Rattle.run_stop.specs.declared.causes.RecordingCause.TheVariants.{NoUtc, BadUtc, Overfull, TooManyFiles}
 use Rattle.run_stop.specs.declared.stop.Stop.{Stop}
-use Rattle.run_stop.specs.Runs.{Task, Searching, Says, CanSearchFirst, CanRecordFirst, CanBegin, stream_for, stop_of_walk, RefusesFirstHeader, RefusesSearch, RefusesToRecord, StopsWalk, IsPlanCause, IsRecordingCause}
+use Rattle.run_stop.specs.Runs.{Task, is_search, Says, CanSearchFirst, CanRecordFirst, CanBegin, stream_for, stop_of_walk, RefusesFirstHeader, RefusesSearch, RefusesToRecord, StopsWalk, IsPlanCause, IsRecordingCause}
 use Rattle.run_stop.specs.Outcomes.{JudgesWords, ReadsInputs, StopsAtFiles}
 use Rattle.run_stop.specs.Ends.{AcceptedGoesOn, AcceptedIsNotRefused}
 
@@ -119,7 +119,7 @@ module _ (task : Task) (words : List (List ℕ)) (inputs : InputsSeen) (is_calm 
       let r = stopped.later_header e (subst IsSome (sym is) refl) s files says are in
       walks task s w whole _ r.2
 
-  not_four_by : ((cause : PlanCause) × (task ≡ Searching) × RefusesSearch s.search w cause)
+  not_four_by : ((cause : PlanCause) × (is_search task ≡ true) × RefusesSearch s.search w cause)
       ⊎ ((cause : RecordingCause) × RefusesToRecord task s w cause) → ⊥
   not_four_by (inl r) = searches s.search w r.0 (begins.searched r.1) r.2
   not_four_by (inr r) = records task s w r.0 begins.recorded r.1

@@ -10,7 +10,7 @@ use Rattle.run_stop.specs.declared.causes.RecordingCause.{RecordingCause}
 use Rattle.run_stop.specs.declared.stop.Stop.{Stop}
 use Rattle.run_stop.specs.declared.stop.Stop.TheVariants.{Words, Value, Header, Plan, Recording, Memory, ReadFault, Gap, TooLong, TooMany, SinkFault, FileFault}
 use Rattle.run_stop.specs.Texts.{status_of}
-use Rattle.run_stop.specs.Runs.{Task, Searching, RecordingAlone, ForFiles, IsStopOf}
+use Rattle.run_stop.specs.Runs.{Task, Searching, RecordingAlone, Alone, ForFiles, IsStopOf}
 use Rattle.run_stop.specs.Outcomes.{StopsAtFiles, SealsStream, RecordsFiles}
 use Rattle.run_stop.specs.Ends.{StopsBefore, EndsAt, WordsSayOnce}
 
@@ -136,3 +136,4 @@ module _ (task : Task) (words : List (List ℕ)) (told : Told) where
 pub say_once : WordsSayOnce
 say_once Searching words s t a b = a.values ∙ sym b.values
 say_once RecordingAlone words s t a b = a.values ∙ sym b.values
+say_once (Alone lone) words s t a b = a.search.says.values ∙ sym b.search.says.values

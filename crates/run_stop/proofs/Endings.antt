@@ -1,5 +1,5 @@
 -- How a run of either program ends: what its exit status says of the words, the inputs, the files and the data ring.
-use Rattle.std.proofs.Common.{◌≡◌, ◌≢◌, ℕ, ◌-◌, ◌<◌, ◌≤◌, List, refl, ap, subst, sym, ◌∙◌, Some, None, Contains, lit<, arith}
+use Rattle.std.proofs.Common.{◌≡◌, ◌≢◌, ℕ, ◌-◌, ◌<◌, ◌≤◌, List, length, refl, ap, subst, sym, ◌∙◌, inl, inr, true, false, Some, None, Contains, lit<, arith}
 use Rattle.std.proofs.lemmas.List.Elements.{Contains-get_or}
 use Rattle.std.proofs.lemmas.List.FromFn.{get_or-range_with_len}
 use Rattle.psr_base.specs.Told.{InputsSeen}
@@ -15,7 +15,8 @@ use Rattle.run_stop.specs.declared.stop.Stop.{Stop}
 use Rattle.run_stop.specs.declared.stop.Stop.TheVariants.{Words, Value, Header, Plan, Recording, Memory, ReadFault, Gap, TooLong, TooMany, SinkFault, FileFault}
 use Rattle.run_stop.specs.Texts.{status_of}
 use Rattle.run_stop.specs.Conversions.{stop_of_words, stop_of_feed}
-use Rattle.run_stop.specs.Runs.{Task, Searching, RecordingAlone, Says, Explains, IsStopOfWords}
+use Rattle.run_stop.specs.Lone.{LoneSearch, SayAlone, IsOfOther, ExplainsAlone}
+use Rattle.run_stop.specs.Runs.{Task, Searching, RecordingAlone, Alone, Says, Explains, IsStopOfWords}
 use Rattle.run_stop.specs.Outcomes.{JudgesWords, ReadsInputs}
 use Rattle.run_stop.specs.Laws.{WholeRunsRecordData}
 use Rattle.run_stop.specs.Ends.{EndsAt, EndsRun, EndsShort, short_statuses, CountsFaults, ComesBefore, EndAtWords, EndBeforeSession, EndAtStop, EndAfterWhole}
@@ -172,6 +173,27 @@ module _ (is_calm : Type 0) (task : Task) (words : List (List ℕ)) where
           (six e);
     }
 
+-- ---- a program that searches alone
+
+-- words that are refused say no settings of its searches
+unsaid_alone : (lone : LoneSearch) (words : List (List ℕ)) → ExplainsAlone lone words Refused → (s : SettingsSeen) →
+    ¬ SayAlone lone words s
+unsaid_alone lone words (inl form) s says = let has = says.form in cc
+unsaid_alone lone words (inr (inl (inl out))) s says = out says.search.says.taken
+unsaid_alone lone words (inr (inl (inr (t, said, other)))) s says = one_search other
+  where
+    same : s ≡ t
+    same = says.search.says.values ∙ sym said.values
+
+    one_search : IsOfOther t → ⊥
+    one_search (inl several) = several (subst (λ (u : SettingsSeen). length u.starts ≡ 1) same says.search.one.transfer)
+    one_search (inr records) =
+        let not : t.recording ≡ false =
+        subst (λ (u : SettingsSeen). u.recording ≡ false) same says.search.one.unrecorded in cc
+unsaid_alone lone words (inr (inr (t, said, made))) s says =
+    let same : s ≡ t = says.search.says.values ∙ sym said.says.values in
+    let does : lone.makes t ≡ true = subst (λ u. lone.makes u ≡ true) same says.made in cc
+
 pub at_words : (is_calm : Type 0) → EndAtWords is_calm
 at_words is_calm task words inputs seen fault stop why is still =
     subst (λ (x : Stop). EndsShort task words inputs is_calm None seen seen x) (sym is) (by_fault fault why)
@@ -180,8 +202,12 @@ at_words is_calm task words inputs seen fault stop why is still =
         (s : SettingsSeen) → ¬ Says t words s
     unsaid Searching Refused out two s says = out says.taken
     unsaid RecordingAlone Refused out two s says = out says.taken
+    unsaid (Alone lone) Refused out two s says = unsaid_alone lone words out s says
     unsaid Searching (OutOfRange opt) out two s says = cc
     unsaid RecordingAlone (OutOfRange opt) out two s says = cc
+    unsaid (Alone lone) (OutOfRange opt) out two s says =
+        let value = out.1.1 in
+        let fits = says.search.says.in_range in cc
     unsaid t words_fault.Memory out two s says = omega (arith, two)
 
     refused : (f : WordFault) → Explains task words f → status_of (stop_of_words f) ≡ 2 →

@@ -26,7 +26,7 @@ use Rattle.run_stop.specs.declared.stop.Stop.TheVariants.{Words, Value, Header, 
 use Rattle.run_stop.specs.Texts.{status_of}
 use Rattle.search_words.specs.declared.fault.WordFault.{WordFault}
 use Rattle.run_stop.specs.Conversions.{stop_of_words, stop_of_feed}
-use Rattle.run_stop.specs.Runs.{Task, Searching, Says, ForFiles, stream_for, CanSearchFirst, CanRecordFirst, CanBegin, RefusesFirstHeader, RefusesSearch, RefusesToRecord, IsStopOf, IsStopOfWords, Explains}
+use Rattle.run_stop.specs.Runs.{Task, is_search, Says, ForFiles, stream_for, CanSearchFirst, CanRecordFirst, CanBegin, RefusesFirstHeader, RefusesSearch, RefusesToRecord, IsStopOf, IsStopOfWords, Explains}
 use Rattle.run_stop.specs.Outcomes.{JudgesWords, ReadsInputs, StopsAtFiles, SealsStream, RecordsFiles, MadeAll, MadeFront, files_of_stream}
 
 -- the status of a run that came to a stop, or to none
@@ -99,7 +99,7 @@ WordsSayOnce = (task : Task) (words : List (List ℕ)) (s t : SettingsSeen) →
 -- what a stop between the words and the session says of the files; others don't come there
 abbrev pub SaysBefore : Task → SettingsSeen → FileStream → Stop → Type 0
 SaysBefore task s w (Header file cause) = RefusesFirstHeader w file cause
-SaysBefore task s w (Plan cause) = (task ≡ Searching) × RefusesSearch s.search w cause
+SaysBefore task s w (Plan cause) = (is_search task ≡ true) × RefusesSearch s.search w cause
 SaysBefore task s w (Recording cause) = RefusesToRecord task s w cause
 SaysBefore task s w Memory = ⊤
 SaysBefore task s w ReadFault = ⊤

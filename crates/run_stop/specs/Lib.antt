@@ -1,6 +1,7 @@
 pub mod Texts
 pub mod Conversions
 pub mod Firsts
+pub mod Lone
 pub mod Runs
 pub mod Outcomes
 pub mod Laws

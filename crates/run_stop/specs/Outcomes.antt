@@ -23,7 +23,7 @@ use Rattle.run_stop.specs.declared.causes.RecordingCause.{RecordingCause}
 use Rattle.run_stop.specs.declared.stop.Stop.{Stop}
 use Rattle.run_stop.specs.declared.stop.Stop.TheVariants.{Header, Gap, TooLong}
 use Rattle.run_stop.specs.Texts.{status_of, note_of}
-use Rattle.run_stop.specs.Runs.{Task, Searching, Says, ForFiles, first_recording, CanBegin, RefusesFirstHeader, RefusesSearch, RefusesToRecord, StopsWalk, IsStopOf, IsStopOfWords}
+use Rattle.run_stop.specs.Runs.{Task, is_search, Says, ForFiles, first_recording, CanBegin, RefusesFirstHeader, RefusesSearch, RefusesToRecord, StopsWalk, IsStopOf, IsStopOfWords}
 
 -- ---- the words
 
@@ -61,7 +61,7 @@ pub record StopsAtFiles
   pub later_header : status ≡ 3 → IsSome blocks → ForFiles task words told (λ s w.
       (file : ℕ) × (cause : HeaderCause) × StopsWalk task s w (Header file cause))
   pub plan : status ≡ 4 → ForFiles task words told (λ s w.
-      ((cause : PlanCause) × (task ≡ Searching) × RefusesSearch s.search w cause)
+      ((cause : PlanCause) × (is_search task ≡ true) × RefusesSearch s.search w cause)
       ⊎ ((cause : RecordingCause) × RefusesToRecord task s w cause))
   pub gap : status ≡ 7 → ForFiles task words told (λ s w.
       (file : ℕ) × (expected : ℕ) × (found : ℕ) × StopsWalk task s w (Gap file expected found))

@@ -1,6 +1,6 @@
 -- What a run of a program is over: the settings that its words say, and the files that they name, as a walk sees them.
 -- Source: PSRDADA manual (a transfer is what one header describes); what is refused is this project's choice.
-use Rattle.std.specs.Prelude.{◌≡◌, ℕ, ◌^◌, ◌-◌, ◌<◌, ◌⊎◌, min, true, List, length, map, Option, Some, None}
+use Rattle.std.specs.Prelude.{◌≡◌, ℕ, ◌^◌, ◌-◌, ◌<◌, ◌⊎◌, min, Bool, true, false, List, length, map, Option, Some, None}
 use Rattle.std.specs.List.{range_with_len}
 use Rattle.dada_model.specs.Fields.{header_of}
 use Rattle.dada_model.specs.Observation.{Observation}
@@ -23,6 +23,7 @@ use Rattle.disk_feeder.specs.Ends.{fault_of}
 use Rattle.disk_feeder.specs.Plan.{AreTold}
 use Rattle.disk_feeder.specs.declared.answers.HeaderCause.{HeaderCause}
 use Rattle.disk_feeder.specs.declared.answers.HeaderCause.TheVariants.{Text, Fields}
+use Rattle.run_stop.specs.Lone.{LoneSearch, SayAlone, ExplainsAlone}
 use Rattle.run_stop.specs.Firsts.{first_file}
 use Rattle.run_stop.specs.Firsts.{RefusesFirstText, RefusesFirstFields}
 use Rattle.run_stop.specs.declared.causes.PlanCause.{PlanCause}
@@ -34,20 +35,29 @@ use Rattle.run_stop.specs.declared.stop.Stop.TheVariants.{Words, Value, Header, 
 
 -- ---- what it is over
 
--- what a run is asked to do: to search files, or to record them alone
+-- what a run is asked to do: to search files; to record them alone; or to search one transfer in a program of its own
 pub data Task : Type 0 where
   Searching : Task
   RecordingAlone : Task
+  Alone : LoneSearch → Task
+
+-- whether it searches
+abbrev pub is_search : Task → Bool
+is_search Searching = true
+is_search RecordingAlone = false
+is_search (Alone lone) = true
 
 -- its words say the settings
 abbrev pub Says : Task → List (List ℕ) → SettingsSeen → Type 0
 Says Searching words s = SaySearch words s
 Says RecordingAlone words s = SayRecord words s
+Says (Alone lone) words s = SayAlone lone words s
 
 -- what a fault says of its words
 abbrev pub Explains : Task → List (List ℕ) → WordFault → Type 0
 Explains Searching words fault = ExplainsSearch words fault
 Explains RecordingAlone words fault = ExplainsRecord words fault
+Explains (Alone lone) words fault = ExplainsAlone lone words fault
 
 -- the files of settings as a walk sees them
 abbrev pub stream_for : SettingsSeen → List (List ℕ) → FileStream
@@ -89,7 +99,7 @@ CanRecordFirst file_size w count = (k : ℕ) → k < count →
 -- nothing stands against a run before its data are read: the first header of each transfer is accepted
 pub record CanBegin (task : Task) (s : SettingsSeen) (w : FileStream) : Type 0 where
   pub accepted : AreWalked w
-  pub searched : task ≡ Searching → CanSearchFirst s.search w (length w.starts)
+  pub searched : is_search task ≡ true → CanSearchFirst s.search w (length w.starts)
   pub recorded : s.recording ≡ true → CanRecordFirst s.file_size w (length w.starts)
 
 -- the cause is the first for which the search of an observation is refused
@@ -127,7 +137,7 @@ pub record RefusesToRecord
     (task : Task) (s : SettingsSeen) (w : FileStream) (cause : RecordingCause)
     : Type 0 where
   pub accepted : AreWalked w
-  pub searched : task ≡ Searching → CanSearchFirst s.search w (length w.starts)
+  pub searched : is_search task ≡ true → CanSearchFirst s.search w (length w.starts)
   pub records : s.recording ≡ true
   pub transfer : ℕ
   pub there : transfer < length w.starts
@@ -157,16 +167,31 @@ pub record HasCandidates (s : SettingsSeen) (w : FileStream) (P : ℕ → Type 0
   pub whole : walk_stop w ≡ walk.Whole
   pub total : P (candidate_total s.search (observed_transfers w))
 
+-- and of how many a program that searches alone finds by its own account
+pub record FindsAlone (lone : LoneSearch) (s : SettingsSeen) (w : FileStream) (P : ℕ → Type 0) :
+    Type 0 where
+  pub begins : CanBegin (Alone lone) s w
+  pub whole : walk_stop w ≡ walk.Whole
+  pub total : P (lone.total s w)
+
+-- so many candidates are there, which are more than there may be
+abbrev pub IsTooMany : SettingsSeen → ℕ → ℕ → ℕ → Type 0
+IsTooMany s count limit total =
+    (total ≡ count) × (limit ≡ s.search.max_candidates) × (limit < count)
+
+abbrev pub HasTooMany : Task → SettingsSeen → FileStream → ℕ → ℕ → Type 0
+HasTooMany (Alone lone) s w count limit = FindsAlone lone s w (IsTooMany s count limit)
+HasTooMany _ s w count limit = HasCandidates s w (IsTooMany s count limit)
+
 -- what a stop says of the files
 abbrev pub IsStopOf : Task → SettingsSeen → FileStream → Stop → Type 0
 IsStopOf task s w (Header file cause) =
     RefusesFirstHeader w file cause ⊎ StopsWalk task s w (Header file cause)
-IsStopOf task s w (Plan cause) = (task ≡ Searching) × RefusesSearch s.search w cause
+IsStopOf task s w (Plan cause) = (is_search task ≡ true) × RefusesSearch s.search w cause
 IsStopOf task s w (Unrecorded cause) = RefusesToRecord task s w cause
 IsStopOf task s w (Gap file expected found) = StopsWalk task s w (Gap file expected found)
 IsStopOf task s w (TooLong limit) = StopsWalk task s w (TooLong limit)
-IsStopOf task s w (TooMany count limit) = HasCandidates s w (λ total.
-    (total ≡ count) × (limit ≡ s.search.max_candidates) × (limit < count))
+IsStopOf task s w (TooMany count limit) = HasTooMany task s w count limit
 IsStopOf task s w _ = Unit {0}
 
 -- what it says of the words

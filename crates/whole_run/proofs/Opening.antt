@@ -16,7 +16,7 @@ use Rattle.search_opening.specs.Space.{FeedsRings}
 use Rattle.run_stop.specs.declared.stop.Stop.{Stop}
 use Rattle.run_stop.specs.declared.stop.Stop.TheVariants.{Words, Value, Header, Plan, Recording, Memory, ReadFault, Gap, TooLong, TooMany, SinkFault, FileFault}
 use Rattle.run_stop.specs.Ends.{ComesBefore, SaysBefore}
-use Rattle.run_stop.specs.Runs.{Task, Searching, RecordingAlone, CanSearchFirst}
+use Rattle.run_stop.specs.Runs.{Task, Searching, RecordingAlone, is_search, CanSearchFirst}
 use Rattle.whole_run.specs.declared.spaces.Spaces.{Spaces}
 use Rattle.whole_run.specs.Wholes.{OfRun, task_of}
 use Rattle.whole_run.specs.Openings.{AreFit, IsRefused, IsOpened, AreSpaces, shape_for}
@@ -36,13 +36,17 @@ pub searching : (searches : Bool) → task_of searches ≡ Searching → searche
 searching true is = refl
 searching false is = absurd cc
 
+pub is_searching : (searches : Bool) → is_search (task_of searches) ≡ true → searches ≡ true
+is_searching true is = refl
+is_searching false is = is
+
 pub recording_alone : (searches : Bool) → task_of searches ≡ RecordingAlone → searches ≡ false
 recording_alone true is = absurd cc
 recording_alone false is = refl
 
 pub recording_refused : (task : Task) (s : SettingsSeen) (headers : List HeaderText)
     (observations : List (Option Observation)) (stop : Stop) →
-    (task ≡ Searching → (w : FileStream) → AreFirsts w observations →
+    (is_search task ≡ true → (w : FileStream) → AreFirsts w observations →
     CanSearchFirst s.search w (length w.starts)) →
     ((stop ≡ Memory) ⊎ IsOfRecording stop) × ((stop ≡ Memory) ⊎ ((w : FileStream) → AreFirsts w observations →
     AreHeadersOf w headers → w.max_bytes ≡ s.max_bytes → StopsRecording s.file_size w stop)) →

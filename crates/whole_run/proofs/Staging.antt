@@ -19,7 +19,7 @@ use Rattle.search_opening.specs.declared.space.StageSpace.{StageSpace}
 use Rattle.search_opening.specs.Engines.{AreEnginesFor}
 use Rattle.search_opening.specs.First.{AreObserved}
 use Rattle.search_opening.specs.Space.{AreStaged}
-use Rattle.run_stop.specs.Runs.{Task, Searching, RecordingAlone}
+use Rattle.run_stop.specs.Runs.{Task, Searching, RecordingAlone, Alone}
 use Rattle.whole_run.specs.declared.spaces.Spaces.{Spaces}
 use Rattle.whole_run.specs.Openings.{IsReady, IsOpened, RecordsReady, SearchesReady, AreLanesOf, HasRecorderSpace, recorders, plan_for, shape_for}
 use Rattle.whole_run.proofs.Recorded.{as_many, observation_at_place}
@@ -47,6 +47,7 @@ unfed_lanes Searching s headers observations lanes n observed count are shard be
     (lane.0, lane.1, unfed_lane s shard headers observations lane.0 n observed lane.2 count)
 unfed_lanes RecordingAlone s headers observations lanes n observed count are shard below =
     let none = ap length are in absurd (omega (arith, none, below))
+unfed_lanes (Alone lone) s headers observations lanes n observed count are shard below = absurd are
 
 -- ---- the stage
 

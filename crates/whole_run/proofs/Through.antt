@@ -37,7 +37,7 @@ use Rattle.search_opening.specs.declared.space.StageSpace.{StageSpace}
 use Rattle.search_opening.specs.Space.{lanes_in}
 use Rattle.run_stop.specs.Laws.{RunsRecordBlocks}
 use Rattle.run_stop.specs.Outcomes.{AllCleared, files_of_stream}
-use Rattle.run_stop.specs.Runs.{Task, Searching, RecordingAlone, CanBegin, stream_for}
+use Rattle.run_stop.specs.Runs.{Task, Searching, RecordingAlone, Alone, is_search, CanBegin, stream_for}
 use Rattle.whole_run.specs.declared.found.Found.{Found}
 use Rattle.whole_run.specs.Wholes.{OfRun, ClearsAll, HoldsFound, shards_of}
 use Rattle.whole_run.specs.Openings.{IsReady, RecordsReady, SearchesReady, AreLanesOf, plan_for}
@@ -65,6 +65,14 @@ lanes_count : (task : Task) (s : SettingsSeen) (observations : List (Option Obse
     AreLanesOf task s observations lanes → length lanes ≡ shards_of task s
 lanes_count Searching s observations lanes are = are.count
 lanes_count RecordingAlone s observations lanes are = ap length are
+lanes_count (Alone lone) s observations lanes are = absurd are
+
+-- with lanes of this crate, what searches is a search
+searching : (task : Task) (s : SettingsSeen) (observations : List (Option Observation)) (lanes : List (Option Lane)) →
+    AreLanesOf task s observations lanes → is_search task ≡ true → task ≡ Searching
+searching Searching s observations lanes are is = refl
+searching RecordingAlone s observations lanes are is = absurd cc
+searching (Alone lone) s observations lanes are is = absurd are
 
 -- ---- the files
 
@@ -244,7 +252,8 @@ begins told is_open task s offsets feeder observations stage ready files are =
     let firsts = ready.firsts files are in
     record {
       accepted = firsts.walked;
-      searched = λ is. ready.fit.searched is w firsts;
+      searched = λ is. ready.fit.searched
+          (searching task s observations ready.stage_is.lanes.items ready.stage_is.lanes_are is) w firsts;
       recorded = λ is. ready.fit.recorded is w firsts (ready.headers files are) refl;
     }
 

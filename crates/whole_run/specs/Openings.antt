@@ -28,7 +28,7 @@ use Rattle.search_opening.specs.declared.space.StageSpace.{StageSpace}
 use Rattle.run_stop.specs.declared.stop.Stop.{Stop}
 use Rattle.run_stop.specs.declared.stop.Stop.TheVariants.{ReadFault}
 use Rattle.run_stop.specs.Ends.{ComesBefore, SaysBefore}
-use Rattle.run_stop.specs.Runs.{Task, Searching, RecordingAlone, CanSearchFirst, CanRecordFirst}
+use Rattle.run_stop.specs.Runs.{Task, Searching, RecordingAlone, Alone, CanSearchFirst, CanRecordFirst}
 use Rattle.whole_run.specs.declared.spaces.Spaces.{Spaces}
 use Rattle.whole_run.specs.Wholes.{OfRun}
 
@@ -75,11 +75,12 @@ shape_for s lanes = run_shape s.buffers s.size (lanes + recorders s) s.max_bytes
 abbrev pub plan_for : SettingsSeen → List ℕ → RecordPlan
 plan_for s offsets = record_plan offsets s.file_size s.max_bytes
 
--- a lane for each shard of a search; none where files are recorded alone
+-- a lane for each shard of a search; none where files are recorded alone; a program that searches alone opens its own
 abbrev pub AreLanesOf : Task → SettingsSeen → List (Option Observation) → List (Option Lane) →
     Type 0
 AreLanesOf Searching s observations lanes = AreOpenedLanes s.search observations lanes
 AreLanesOf RecordingAlone s observations lanes = lanes ≡ []
+AreLanesOf (Alone lone) s observations lanes = ⊥
 
 -- the space of a recorder with this plan, where the run records
 abbrev pub HasRecorderSpace : Bool → RecordPlan → ℕ → Option RecorderSpace → Type 0

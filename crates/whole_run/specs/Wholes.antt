@@ -11,7 +11,7 @@ use Rattle.transfer_text.specs.Searched.{ObservedTransfer, candidate_total}
 use Rattle.transfer_text.specs.Found.{HoldTransfers}
 use Rattle.run_stop.specs.declared.stop.Stop.{Stop}
 use Rattle.run_stop.specs.declared.stop.Stop.TheVariants.{ReadFault}
-use Rattle.run_stop.specs.Runs.{Task, Searching, RecordingAlone, Says, stream_for, observed_transfers}
+use Rattle.run_stop.specs.Runs.{Task, Searching, RecordingAlone, Alone, Says, stream_for, observed_transfers}
 use Rattle.run_stop.specs.Outcomes.{AllCleared}
 use Rattle.whole_run.specs.declared.found.Found.{Found}
 
@@ -24,6 +24,7 @@ task_of false = RecordingAlone
 abbrev pub shards_of : Task → SettingsSeen → ℕ
 shards_of Searching s = s.search.shards
 shards_of RecordingAlone s = 0
+shards_of (Alone lone) s = 1
 
 -- P holds of all words that say the settings
 abbrev pub ForWords : Task → SettingsSeen → (List (List ℕ) → Type 0) → Type 0
