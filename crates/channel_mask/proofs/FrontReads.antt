@@ -69,7 +69,8 @@ with_byte_fits : (front : Front) (byte : ℕ) → IsFront front → IsFrontIfSom
 with_byte_fits Start byte is =
     cond_both (byte == 110) _ _ IsFrontIfSome (λ n. tt) (λ other. after_digits_fits 0 false byte (lit≤ tt))
 with_byte_fits (Letters count) byte is =
-    cond_both (nat_lt count 4 && byte == slice_index (codes "none") count) _ _ IsFrontIfSome (λ letter. tt) (λ other. tt)
+    cond_both (nat_lt count 4 && byte == slice_index (codes "none") count) _ _ IsFrontIfSome
+    (λ letter. tt) (λ other. tt)
 with_byte_fits (Digits count is_second) byte is = after_digits_fits count is_second byte is
 
 still_front : (front : Front) (byte : ℕ) → IsFront front →

@@ -3,3 +3,4 @@ pub mod FrontReads
 pub mod Digits
 pub mod Items
 pub mod Marks
+pub mod Counts

@@ -1,9 +1,9 @@
 -- The marks of the channels that a text names.
-use Rattle.std.proofs.Common.{◌≡◌, ℕ, ◌<◌, Bool, true, false, List, [], ◌∷◌, length, map, find, zero, suc, refl, sym, ap, ◌∙◌, None, arith}
+use Rattle.std.proofs.Common.{◌≡◌, ℕ, ◌+◌, ◌<◌, Bool, true, false, List, [], ◌∷◌, ◌++◌, length, map, find, zero, suc, refl, sym, ap, ◌∙◌, None, arith}
 use Rattle.std.specs.Prelude.{nat_le, slice_index_or}
 use Rattle.std.specs.List.{flat_map, list_all, range_with_len}
 use Rattle.std.proofs.lemmas.List.{length-map}
-use Rattle.std.proofs.lemmas.List.FromFn.{length-range_with_len, get_or-map-range_with_len}
+use Rattle.std.proofs.lemmas.List.FromFn.{length-range_with_len, map-range_with_len_more, get_or-map-range_with_len}
 use Rattle.dada_model.specs.Observation.{Observation}
 use Rattle.channel_mask.specs.declared.ranges.ChannelRange.{ChannelRange}
 use Rattle.channel_mask.specs.Texts.{items_of, is_mask_text, names_channel, first_outside}
@@ -44,6 +44,15 @@ one_left (true ∷ marks) some =
     (suc later.0, omega arith, later.2)
 one_left (false ∷ marks) some = (0, omega arith, refl)
 
+-- one channel more
+pub one_mark_more : (ranges : List ChannelRange) (n : ℕ) (f : Bool) (c : ℕ) (marks more : List Bool) (mark : Bool) →
+    marks ≡ map (mark_of ranges n f) (range_with_len 0 c) → more ≡ marks ++ mark ∷ [] → mark ≡ mark_of ranges n f c →
+    more ≡ map (mark_of ranges n f) (range_with_len 0 (c + 1))
+one_mark_more ranges n f c marks more mark so_far pushed is =
+    pushed ∙ ap (λ m. marks ++ m ∷ []) is
+    ∙ ap (λ ms. ms ++ mark_of ranges n f c ∷ []) so_far
+    ∙ sym (map-range_with_len_more (mark_of ranges n f) 0 c c (omega arith))
+
 -- ---- of an observation
 
 pub outside_is : (n : ℕ) (text : List ℕ) (ranges : List ChannelRange) → is_mask_text text ≡ true →
@@ -74,7 +83,9 @@ module _ (o : Observation) (text : List ℕ) (marks : List Bool) (are : AreMarks
   mark_at c = mark_of (map range_of (items_of text)) o.channels o.is_falling c
 
   count : length marks ≡ o.channels
-  count = ap length are.marks_are ∙ length-map (range_with_len 0 o.channels) mark_at ∙ length-range_with_len 0 o.channels
+  count =
+      ap length are.marks_are ∙ length-map (range_with_len 0 o.channels) mark_at
+      ∙ length-range_with_len 0 o.channels
 
   named_at : (c : ℕ) → c < o.channels → is_masked marks c ≡ names_channel text (file_channel o c)
   named_at c small =

@@ -10,4 +10,5 @@ use Rattle.channel_mask.specs.Fronts.{StopsAt, with_bytes, is_whole, stop_of}
 -- and ends whole.
 pub record FrontsAreRead : Type 0 where
   pub stops : (text : List ℕ) → StopsAt text (stop_of text)
-  pub whole : (text : List ℕ) → is_mask_text text ≡ option_map_or is_whole (with_bytes Start text) false
+  pub whole : (text : List ℕ) →
+      is_mask_text text ≡ option_map_or is_whole (with_bytes Start text) false

@@ -53,12 +53,14 @@ with_byte (Digits count is_second) byte = after_digits count is_second byte
 -- a front with more bytes, where it is one
 abbrev pub with_bytes : Front → List ℕ → Option Front
 with_bytes front [] = Some front
-with_bytes front (byte ∷ more) = option_and_then (λ next. with_bytes next more) (with_byte front byte)
+with_bytes front (byte ∷ more) =
+    option_and_then (λ next. with_bytes next more) (with_byte front byte)
 
 -- how many bytes more it takes
 abbrev pub bytes_taken : Front → List ℕ → ℕ
 bytes_taken front [] = 0
-bytes_taken front (byte ∷ more) = option_map_or (λ next. suc (bytes_taken next more)) (with_byte front byte) 0
+bytes_taken front (byte ∷ more) =
+    option_map_or (λ next. suc (bytes_taken next more)) (with_byte front byte) 0
 
 -- whether it is a whole mask text
 abbrev pub is_whole : Front → Bool

@@ -3,4 +3,5 @@ pub mod Fronts
 pub mod FrontLaws
 pub mod Masks
 pub mod Ranges
+pub mod Counting
 pub mod Worked

@@ -2,6 +2,7 @@
 //! delay path lie in those.
 #![tactic(auto)]
 
+mod cells;
 mod fault;
 mod front;
 mod mask;

@@ -1,5 +1,5 @@
 // The mask of an observation.
-ghost use Rattle.std.specs.Prelude.{◌≡◌, ◌-◌, ◌<◌, Bool, List, length, map, if◌then◌else◌, IfErr, IfOk};
+ghost use Rattle.std.specs.Prelude.{◌≡◌, ◌-◌, ◌<◌, Bool, List, length, map, IfErr, IfOk};
 ghost use Rattle.std.specs.List.{list_all, range_with_len};
 ghost use Rattle.channel_mask.specs.Masks.{place_in_file as place_of_channel, is_masked, IsMaskOf, ExplainsMask};
 ghost use Rattle.channel_mask.specs.Ranges.{mark_of};
@@ -11,11 +11,11 @@ use obs_plan::Observation;
 use std::alloc::{AllocError, Global};
 use std::marker::Model;
 
-/// The channels of an observation that are masked. At least one is not. A clause sees a mask as a list of marks, one for
-/// each channel, the highest frequency first.
+/// The channels of an observation that are masked. A clause sees a mask as a list of marks, one for each channel, the
+/// highest frequency first.
 #[derive(Drop)]
 pub struct Mask {
-    masked: Vec<bool>,
+    pub(crate) masked: Vec<bool>,
 }
 
 impl Model for Mask {
