@@ -1,0 +1,6 @@
+pub mod Goes
+pub mod FrontReads
+pub mod Digits
+pub mod Items
+pub mod Marks
+pub mod Counts

@@ -1,0 +1,7 @@
+pub mod Texts
+pub mod Fronts
+pub mod FrontLaws
+pub mod Masks
+pub mod Ranges
+pub mod Counting
+pub mod Worked

@@ -1,0 +1,40 @@
+-- What the mask of an observation is, and why a text gives none.
+-- Source: this project's choice; the order of channels in a file is that of the sign of its BW (PSRDADA manual).
+use Rattle.std.specs.Prelude.{◌≡◌, ℕ, ◌-◌, ◌<◌, Bool, true, false, not, List, length, slice_index_or, Some, None, if◌then◌else◌}
+use Rattle.dada_model.specs.Observation.{Observation}
+use Rattle.channel_mask.specs.declared.fault.MaskFault.{MaskFault}
+use Rattle.channel_mask.specs.declared.fault.MaskFault.TheVariants.{BadMask, OutOfRange, AllMasked, Memory}
+use Rattle.channel_mask.specs.Texts.{is_mask_text, names_channel, first_outside}
+use Rattle.channel_mask.specs.Fronts.{StopsAt}
+
+-- the place in the order of the file of channel c from the highest frequency, of so many
+abbrev pub place_in_file : ℕ → Bool → ℕ → ℕ
+place_in_file channels is_falling c = if is_falling then c else channels - 1 - c
+
+abbrev pub file_channel : Observation → ℕ → ℕ
+file_channel o c = place_in_file o.channels o.is_falling c
+
+-- whether channel c is masked, counted from the highest frequency
+abbrev pub is_masked : List Bool → ℕ → Bool
+is_masked mask c = slice_index_or mask c false
+
+-- the channels that are kept
+abbrev pub kept_by : List Bool → ℕ → Bool
+kept_by mask c = not (is_masked mask c)
+
+-- the text masks channels of the observation, and leaves one
+pub record IsMaskOf (o : Observation) (text : List ℕ) (mask : List Bool) : Type 0 where
+  pub is_text : is_mask_text text ≡ true
+  pub within : first_outside o.channels text ≡ None
+  pub channels : length mask ≡ o.channels
+  pub named : (c : ℕ) → c < o.channels → is_masked mask c ≡ names_channel text (file_channel o c)
+  pub leaves : (c : ℕ) × (c < o.channels) × (is_masked mask c ≡ false)
+
+-- what a fault says of a text
+abbrev pub ExplainsMask : Observation → List ℕ → MaskFault → Type 0
+ExplainsMask o text (BadMask place) = (is_mask_text text ≡ false) × StopsAt text place
+ExplainsMask o text (OutOfRange channel channels) = (is_mask_text text ≡ true)
+    × (first_outside o.channels text ≡ Some channel) × (channels ≡ o.channels)
+ExplainsMask o text AllMasked = (is_mask_text text ≡ true) × (first_outside o.channels text ≡ None)
+    × ((c : ℕ) → c < o.channels → names_channel text c ≡ true)
+ExplainsMask o text Memory = Unit {0}
