@@ -1,0 +1,5 @@
+pub mod Beams
+pub mod Ends
+pub mod Marks
+pub mod Text
+pub mod Worked
