@@ -9,13 +9,13 @@ use Rattle.candidate_book.specs.Labelled.{labels_with}
 use Rattle.beam_set.specs.declared.ended.BeamEnd.{BeamEnd}
 use Rattle.beam_set.specs.declared.labels.BeamLabels.{BeamLabels}
 use Rattle.beam_set.specs.Marks.{is_marked}
-use Rattle.beam_set.specs.Text.{FoundBeam, word_of, marking, beam_text, beam_at}
+use Rattle.beam_set.specs.Text.{FoundBeam, nothing_found, word_of, marking, beam_text, beam_at}
 use Rattle.beam_set.specs.Beams.{found_at, found_in, lists_in}
 
 module _ (beams : List (Option BeamEnd)) (k : ℕ) (beam : Option BeamEnd) (within : k < length beams)
     (is : beam ≡ get_or beams k beam) where
   pub found_is : beam_at (found_in beams) k ≡ found_at beam
-  found_is = get_or-map found_at beams k beam (record { spectra = 0; list = [] }) within ∙ ap found_at (sym is)
+  found_is = get_or-map found_at beams k beam nothing_found within ∙ ap found_at (sym is)
 
   pub inside : k < length (found_in beams)
   inside = rw (length-map beams found_at) within
@@ -25,7 +25,7 @@ module _ (beams : List (Option BeamEnd)) (k : ℕ) (beam : Option BeamEnd) (with
 
   pub list_is : get_or (lists_in beams) k [] ≡ (found_at beam).list
   list_is =
-      get_or-map (λ (f : FoundBeam). f.list) (found_in beams) k (record { spectra = 0; list = [] }) [] inside
+      get_or-map (λ (f : FoundBeam). f.list) (found_in beams) k nothing_found [] inside
       ∙ ap (λ (f : FoundBeam). f.list) found_is
 
 -- what the labels of all beams say

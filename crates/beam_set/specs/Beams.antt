@@ -1,15 +1,15 @@
 -- What beams found, once they have ended.
 -- Source: this project's choice.
-use Rattle.std.specs.Prelude.{List, [], map, All, Option, Some, None, IsSome}
+use Rattle.std.specs.Prelude.{List, map, All, Option, Some, None, IsSome}
 use Rattle.search_model.specs.declared.candidate.Candidate.{Candidate}
 use Rattle.search_model.specs.Order.{IsRising}
 use Rattle.candidate_book.specs.Conditions.{IsSearched}
 use Rattle.beam_set.specs.declared.ended.BeamEnd.{BeamEnd}
-use Rattle.beam_set.specs.Text.{FoundBeam, lists_of}
+use Rattle.beam_set.specs.Text.{FoundBeam, nothing_found, lists_of}
 
 -- what the beam of a place found: what its book keeps, and how many spectra were searched
 abbrev pub found_at : Option BeamEnd → FoundBeam
-found_at None = record { spectra = 0; list = [] }
+found_at None = nothing_found
 found_at (Some beam) = record { spectra = beam.spectra; list = beam.book.kept }
 
 abbrev pub found_in : List (Option BeamEnd) → List FoundBeam

@@ -1,5 +1,6 @@
-pub mod Beams
-pub mod Ends
 pub mod Marks
 pub mod Text
+pub mod Searched
+pub mod Ends
+pub mod Beams
 pub mod Worked

@@ -15,6 +15,9 @@ pub record FoundBeam : Type 0 where
   pub spectra : ℕ
   pub list : List Candidate
 
+abbrev pub nothing_found : FoundBeam
+nothing_found = record { spectra = 0; list = [] }
+
 abbrev pub lists_of : List FoundBeam → List (List Candidate)
 lists_of beams = map (λ beam. beam.list) beams
 
@@ -39,9 +42,9 @@ list_text l beam = candidate_text l beam.spectra beam.list
 abbrev pub beam_text : Labels → ℕ → FoundBeam → List ℕ
 beam_text l b beam = beam_line b ++ list_text l beam
 
--- what beam b found
+-- what is found in beam b
 abbrev pub beam_at : List FoundBeam → ℕ → FoundBeam
-beam_at beams b = slice_index_or beams b (record { spectra = 0; list = [] })
+beam_at beams b = slice_index_or beams b nothing_found
 
 -- the texts of all beams, one after another
 abbrev pub beams_text : Labels → ℕ → ℕ → List FoundBeam → List ℕ

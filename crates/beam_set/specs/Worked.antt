@@ -6,9 +6,9 @@ use Rattle.dada_model.specs.Worked.{two_channels}
 use Rattle.search_model.specs.declared.candidate.Candidate.TheVariants.{Pulse, Fold}
 use Rattle.search_model.specs.declared.search.Search.{Search}
 use Rattle.search_model.specs.Paths.{entry, path}
-use Rattle.search_model.specs.Observed.{filterbank_of, candidates_of, labels_of}
 use Rattle.beam_set.specs.Marks.{near_beams}
-use Rattle.beam_set.specs.Text.{FoundBeam, beam_line, beams_text}
+use Rattle.beam_set.specs.Text.{beam_line}
+use Rattle.beam_set.specs.Searched.{searched_text}
 
 abbrev plain_search : Search
 plain_search = record {
@@ -27,25 +27,18 @@ plain_search = record {
   snr = 700;
 }
 
--- what is found in the data of a beam
-abbrev found : List ℕ → FoundBeam
-found bytes = record {
-  spectra = (filterbank_of two_channels bytes).spectra;
-  list = candidates_of two_channels plain_search bytes;
-}
-
 -- a pulse that ends at spectrum 1, the same one spectrum later, and nothing
-abbrev pulse : FoundBeam
-pulse = found (10 ∷ 0 ∷ 0 ∷ 20 ∷ 0 ∷ 0 ∷ [])
+abbrev pulse : List ℕ
+pulse = 10 ∷ 0 ∷ 0 ∷ 20 ∷ 0 ∷ 0 ∷ []
 
-abbrev later_pulse : FoundBeam
-later_pulse = found (0 ∷ 0 ∷ 10 ∷ 0 ∷ 0 ∷ 20 ∷ [])
+abbrev later_pulse : List ℕ
+later_pulse = 0 ∷ 0 ∷ 10 ∷ 0 ∷ 0 ∷ 20 ∷ []
 
-abbrev nothing : FoundBeam
-nothing = found (0 ∷ 0 ∷ 0 ∷ 0 ∷ 0 ∷ 0 ∷ [])
+abbrev nothing : List ℕ
+nothing = 0 ∷ 0 ∷ 0 ∷ 0 ∷ 0 ∷ 0 ∷ []
 
-abbrev text_of : ℕ → ℕ → List FoundBeam → List ℕ
-text_of within more beams = beams_text (labels_of two_channels) within more beams
+abbrev text_of : ℕ → ℕ → List (List ℕ) → List ℕ
+text_of within more beams = searched_text two_channels plain_search within more beams
 
 -- two of three beams have the pulse, and one is the most
 marked : text_of 0 1 (pulse ∷ pulse ∷ nothing ∷ [])

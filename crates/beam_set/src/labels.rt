@@ -5,7 +5,7 @@ ghost use Rattle.beam_set.specs.Ends.{EndsRise};
 ghost use Rattle.beam_set.specs.Beams.{lists_in};
 
 use crate::ended::BeamEnd;
-use crate::marks::count_near;
+use crate::marks::marked_among;
 use candidate_book::{LineLabels, PulseWord};
 use obs_plan::Observation;
 
@@ -57,7 +57,7 @@ impl LineLabels for BeamLabels<'_> {
     }
 
     fn word(&self, end: u64) -> PulseWord {
-        if count_near(self.beams, end, self.within) > self.more as usize {
+        if marked_among(self.beams, end, self.within, self.more) {
             PulseWord::Rfi
         } else {
             PulseWord::Pulse

@@ -20,8 +20,8 @@ fn keeps_near(beam: &Option<BeamEnd>, spectrum: u64, within: u32) -> bool
     }
 }
 
-/// How many beams keep a pulse near a spectrum.
-pub(crate) fn count_near(beams: &[Option<BeamEnd>], spectrum: u64, within: u32) -> usize
+// How many beams keep a pulse near a spectrum.
+fn count_near(beams: &[Option<BeamEnd>], spectrum: u64, within: u32) -> usize
     requires { All EndsRise (lists_in beams.now) }
     ensures { result ≡ near_beams (lists_in beams.now) within spectrum }
 {
@@ -34,12 +34,20 @@ pub(crate) fn count_near(beams: &[Option<BeamEnd>], spectrum: u64, within: u32) 
     count
 }
 
+/// What `marked` answers, where the pulses of each list come first and are ordered by their ends.
+pub(crate) fn marked_among(beams: &[Option<BeamEnd>], end: u64, within: u32, more: u32) -> bool
+    requires { All EndsRise (lists_in beams.now) }
+    ensures { result ≡ is_marked (lists_in beams.now) within more end }
+{
+    count_near(beams, end, within) > more as usize
+}
+
 /// Whether a pulse that ends at the spectrum `end` is taken for interference: more than `more` of these beams keep a
 /// pulse whose end differs from it by at most `within` spectra, and the beam that has it counts. Pulses of every delay
-/// and width count, and folds don't.
+/// and width count, and folds don't. It takes no memory.
 pub fn marked(beams: &[Option<BeamEnd>], end: u64, within: u32, more: u32) -> bool
     requires { All IsRising (lists_in beams.now) }
     ensures { result ≡ is_marked (lists_in beams.now) within more end }
 {
-    count_near(beams, end, within) > more as usize
+    marked_among(beams, end, within, more)
 }
