@@ -2,6 +2,7 @@
 //! one text.
 #![tactic(auto)]
 
+mod asked;
 mod book;
 mod labels;
 mod laws;
@@ -14,6 +15,6 @@ mod page;
 pub use book::Book;
 pub use labels::{LineLabels, PlainLabels, PulseWord};
 pub use laws::books_have_a_merge;
-pub use listed::write_lines;
+pub use listed::{write_lines, write_text};
 pub use merged::{SinkStop, Totals, write_merged};
 pub use search_model::Candidate;

@@ -2,21 +2,24 @@
 ghost use Rattle.std.specs.Prelude.{◌≡◌, ◌+◌, ◌*◌, ◌≤◌, ◌<◌, ◌++◌, codes, decimal, length};
 ghost use Rattle.search_model.specs.CandidateText.{thousandths, candidate_line as line_of, end_line as end_line_of};
 ghost use Rattle.search_model.specs.Candidates.{cells_of};
+ghost use Rattle.candidate_book.specs.Asked.{HasWord};
 ghost use Rattle.candidate_book.specs.Conditions.{IsSearched};
 ghost use Rattle.candidate_book.specs.Labelled.{labels_with};
 
-use crate::labels::LineLabels;
+use crate::labels::{LineLabels, PulseWord};
 use obs_plan::Observation;
 use search_model::Candidate;
 use text_line::Line;
 
-/// The line of a candidate.
+/// The line of a candidate, whose word was asked for.
 pub(crate) fn candidate_line<L: LineLabels>(
     obs: &Observation,
     labels: &L,
+    word: PulseWord,
     candidate: &Candidate,
 ) -> Line
-    requires { IsSearched candidate.now }
+    requires searched { IsSearched candidate.now }
+    requires word { HasWord (L.word_at labels.now) candidate.now word }
     ensures text { result
         ≡ line_of (labels_with obs.now (L.cells_of_delay labels.now) (L.word_at labels.now))
         candidate.now }
@@ -32,7 +35,7 @@ pub(crate) fn candidate_line<L: LineLabels>(
             width,
             sum,
         } => {
-            line.push_str(labels.word(end).text());
+            line.push_str(word.text());
             line.push_str(" ");
             push_word(&mut line, end);
             push_word(&mut line, u64::from(delay));

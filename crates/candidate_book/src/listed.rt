@@ -2,10 +2,11 @@
 ghost use Rattle.std.specs.Prelude.{◌≡◌, [], All};
 ghost use Rattle.candidate_book.specs.Conditions.{IsSearched};
 ghost use Rattle.candidate_book.specs.Labelled.{labels_with};
-ghost use Rattle.candidate_book.specs.Merged.{Listed, WroteLines};
+ghost use Rattle.candidate_book.specs.Merged.{Listed, WroteLines, WroteText};
 
+use crate::asked::Asked;
 use crate::labels::LineLabels;
-use crate::lines::candidate_line;
+use crate::lines::{candidate_line, end_line};
 use crate::merged::{SinkStop, Totals};
 use crate::page::Page;
 use obs_plan::Observation;
@@ -30,9 +31,14 @@ fn pass_list<K: Sink, L: LineLabels>(
 {
     pieces_join();
     let mut totals = Totals::none();
+    let mut asked = Asked::at(labels, 0);
     for candidate in list {
         totals.count(candidate);
-        page.push(candidate_line(obs, labels, candidate).as_bytes(), sink)?;
+        let word = asked.of(labels, candidate);
+        page.push(
+            candidate_line(obs, labels, word, candidate).as_bytes(),
+            sink,
+        )?;
     }
     Ok(totals)
 }
@@ -53,6 +59,30 @@ pub fn write_lines<K: Sink, L: LineLabels>(
     pieces_join();
     let mut page = Page::new();
     let totals = pass_list(list, obs, labels, &mut page, sink)?;
+    page.flush(sink)?;
+    Ok(totals)
+}
+
+/// Writes the lines of candidates of an observation in the order of the list, with these labels, and the END line: how
+/// many pulses and folds there are, which it answers, and how many spectra were searched. After a fault the sink has
+/// taken the front of this text.
+pub fn write_text<K: Sink, L: LineLabels>(
+    list: &[Candidate],
+    obs: &Observation,
+    labels: &L,
+    spectra: u64,
+    sink: &mut K,
+) -> Result<Totals, SinkStop>
+    requires { All IsSearched list.now }
+    ensures { WroteText
+        (labels_with obs.now (L.cells_of_delay labels.now) (L.word_at labels.now)) spectra list.now
+        (K.seen sink.old) (K.seen sink.new) result }
+{
+    pieces_join();
+    let mut page = Page::new();
+    let totals = pass_list(list, obs, labels, &mut page, sink)?;
+    let line = end_line(totals.pulses, totals.folds, spectra);
+    page.push(line.as_bytes(), sink)?;
     page.flush(sink)?;
     Ok(totals)
 }

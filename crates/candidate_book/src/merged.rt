@@ -8,6 +8,7 @@ ghost use Rattle.search_model.specs.Observed.{labels_of};
 ghost use Rattle.candidate_book.specs.Labelled.{labels_with};
 ghost use Rattle.candidate_book.specs.Merged.{Listed, WroteText};
 
+use crate::asked::Asked;
 use crate::book::Book;
 use crate::labels::{LineLabels, PlainLabels};
 use crate::lines::{candidate_line, end_line};
@@ -86,11 +87,13 @@ fn pass_candidates<K: Sink, L: LineLabels>(
     order_is_strict();
     let mut places = [0; MOST_BOOKS];
     let mut totals = Totals::none();
+    let mut asked = Asked::at(labels, 0);
     while let Some(next) = first(books, &places) {
         advance(&mut places, next.book);
         totals.count(&next.candidate);
+        let word = asked.of(labels, &next.candidate);
         page.push(
-            candidate_line(obs, labels, &next.candidate).as_bytes(),
+            candidate_line(obs, labels, word, &next.candidate).as_bytes(),
             sink,
         )?;
     }

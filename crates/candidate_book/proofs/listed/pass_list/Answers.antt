@@ -44,6 +44,7 @@ loop-candidate-preserved g c =
     c.as_bytes.ensures ∙ c.candidate_line.ensures.text in
     let passed = (c.in_ok-push.ensures (candidate_lines labels (take i list)) old far.lines).pending in
     record {
+      asked = c.of-word.ensures.asked;
       passed = one_listed labels list i c.loop-candidate.totals c.count.new.self c.loop-candidate.page c.push.new.self old
           (g.K.Sink.seen c.loop-candidate.sink) new below far c.count.ensures.pulses c.count.ensures.folds
           (subst (λ text. Pending (candidate_lines labels (take i list) ++ text) c.push.new.self old new) line passed);

@@ -21,6 +21,7 @@ falls before after moved n more same seven small =
 
 pub loop-next-init : goal.loop-next-init
 loop-next-init g c = record {
+  asked = c.at-asked.ensures.word;
   seven = refl;
   fits = All-replicate (λ (place : ℕ). place ≤ 2 ^ 32) 7 0 (omega arith);
   counted = omega (arith, c.none-totals.ensures.pulses, c.none-totals.ensures.folds);
@@ -50,8 +51,8 @@ count-requires g c =
     let before = c.loop-next.invariant in
     omega (arith, before.counted, before.seven, sum_is_small c.loop-next.places (2 ^ 32) before.fits)
 
-pub candidate_line-requires : goal.candidate_line-requires
-candidate_line-requires g c =
+pub candidate_line-requires-clause-searched : goal.candidate_line-requires-clause-searched
+candidate_line-requires-clause-searched g c =
     found_is_searched c.args.books.now c.requires.books c.loop-next.places c.in-Some.next c.in-Some.ensures.first
 
 pub loop-next-smaller : goal.loop-next-smaller
@@ -87,6 +88,7 @@ loop-next-preserved g c =
     c.as_bytes.ensures ∙ c.candidate_line.ensures.text in
     let room : length books ≤ length places = omega (arith, c.requires.books.few, before.seven) in
     record {
+      asked = c.of-word.ensures.asked;
       seven = c.type_inv.places;
       fits = subst (All (λ place. place ≤ 2 ^ 32)) (sym moves)
           (moves_within places found.book (2 ^ 32) before.fits (c.in-Some.ensures.bound found refl));

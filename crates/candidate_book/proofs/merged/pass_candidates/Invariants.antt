@@ -2,6 +2,7 @@ use Rattle.std.proofs.Common.{◌≡◌, ◌+◌, ◌-◌, ◌*◌, ◌^◌, ◌
 use Rattle.std.specs.Prelude.{All}
 use Rattle.search_model.specs.declared.candidate.Candidate.{Candidate}
 use Rattle.search_model.specs.Order.{IsMergeOf}
+use Rattle.candidate_book.specs.Asked.{IsAsked}
 use Rattle.candidate_book.specs.Conditions.{kept_lists}
 use Rattle.candidate_book.specs.Labelled.{labels_with}
 use Rattle.candidate_book.proofs.Passing.{PassedOn}
@@ -14,6 +15,7 @@ invariant-loop-next g l =
     let seen = g.K.Sink.seen in
     let labels = labels_with l.obs (g.L.LineLabels.cells_of_delay l.labels) (g.L.LineLabels.word_at l.labels) in
     record {
+      asked : IsAsked (g.L.LineLabels.word_at l.labels) l.asked;
       seven : length l.places ≡ 7;
       fits : All (λ place. place ≤ 2 ^ 32) l.places;
       counted : l.totals.pulses + l.totals.folds ≡ sum_of l.places;
