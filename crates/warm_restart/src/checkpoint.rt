@@ -1,11 +1,16 @@
 // A checkpoint, as its text says it.
 ghost use Rattle.std.specs.Prelude.{◌≡◌, ◌≢◌, Err, IfSome, IfNone};
-ghost use Rattle.warm_restart.specs.Checkpoint.{IsCheckpointText, IsNoCheckpointText, IsJudged, judged_place, checkpoint_of};
+ghost use Rattle.psr_base.specs.Written.{Wrote};
+ghost use Rattle.search_model.specs.Parts.{check_line as check_line_of};
+ghost use Rattle.warm_restart.specs.Checkpoint.{IsCheckpointText, IsNoCheckpointText, IsJudged, CanBeSaid, judged_place, checkpoint_of};
 
 use crate::counts::count_in;
+use crate::lines::check_line;
 use crate::text::check_words;
-// A law: it does nothing when it runs, and the proofs use what it ensures.
-use crate::laws::texts_say_one;
+use candidate_book::SinkStop;
+use psr_base::{Sink, write_all};
+// Laws: they do nothing when they run, and the proofs use what they ensure.
+use crate::laws::{lines_are_read_back, texts_say_one};
 use thiserror::Error;
 
 /// From where a search is taken up again.
@@ -62,7 +67,33 @@ impl Checkpoint {
         }
     }
 
-    /// The same, where its place is before spectrum `until`.
+    /// The checkpoint that a text says, for a part that stops before spectrum `until`. It never answers `Failed`.
+    pub fn judge(text: &[u8], until: u64) -> Result<Checkpoint, CheckpointFault>
+        ensures judged { IsJudged text.now until result }
+        ensures reads_nothing { result ≢ Err CheckpointFault.Failed }
+    {
+        texts_say_one();
+        match Checkpoint::read(text) {
+            Some(checkpoint) => checkpoint.before(until),
+            None => Err(CheckpointFault::Form),
+        }
+    }
+
+    /// Writes the CHECK line of this checkpoint. After a fault the sink has taken the front of it.
+    pub fn write<K: Sink>(&self, sink: &mut K) -> Result<(), SinkStop>
+        ensures wrote { Wrote (check_line_of self.now.place self.now.pulses) (K.seen sink.old)
+            (K.seen sink.new) result }
+        ensures read_back { CanBeSaid self.now
+            → IsCheckpointText (check_line_of self.now.place self.now.pulses) self.now }
+    {
+        lines_are_read_back();
+        match write_all(sink, check_line(self.place, self.pulses).as_bytes()) {
+            Ok(()) => Ok(()),
+            Err(_) => Err(SinkStop::Fault),
+        }
+    }
+
+    // This checkpoint, where its place is before spectrum `until`.
     pub(crate) fn before(self, until: u64) -> Result<Checkpoint, CheckpointFault>
         ensures { result ≡ judged_place until self }
     {
@@ -73,18 +104,6 @@ impl Checkpoint {
                 place: self.place,
                 until,
             })
-        }
-    }
-
-    /// The checkpoint that a text says, for a part that stops before spectrum `until`. It never answers `Failed`.
-    pub fn judge(text: &[u8], until: u64) -> Result<Checkpoint, CheckpointFault>
-        ensures judged { IsJudged text.now until result }
-        ensures reads_nothing { result ≢ Err CheckpointFault.Failed }
-    {
-        texts_say_one();
-        match Checkpoint::read(text) {
-            Some(checkpoint) => checkpoint.before(until),
-            None => Err(CheckpointFault::Form),
         }
     }
 }
