@@ -1,0 +1,4 @@
+pub mod Splits
+pub mod Texts
+pub mod Judging
+pub mod Parts

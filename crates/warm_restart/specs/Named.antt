@@ -1,0 +1,25 @@
+-- The checkpoint that a word of a command names.
+-- Source: this project's choice.
+use Rattle.std.specs.Prelude.{◌≡◌, ℕ, ◌≤◌, ◌⊎◌, List, codes, Option, Some, if◌then◌else◌}
+use Rattle.std.specs.Str.{bytes_eq}
+use Rattle.psr_base.specs.Told.{Told, opened, moved_by}
+use Rattle.search_model.specs.Parts.{check_line}
+
+-- the word of a search that begins with the first spectrum
+abbrev pub new_word : List ℕ
+new_word = codes "new"
+
+-- how many bytes of a named file are read at most: one more than a text of 64
+abbrev pub most_read : ℕ
+most_read = 65
+
+-- The checkpoint text that a word stands for: `new` for spectrum 0 and no pulses, another word for the bytes under that
+-- name, where they are told.
+abbrev pub named_text : Told → List ℕ → Option (List ℕ)
+named_text told word =
+    if bytes_eq word new_word then Some (check_line 0 0) else told.bytes_under word
+
+-- no file was opened; or the named one, and its first bytes were read, which are few
+abbrev pub ReadsAtMost : ℕ → List ℕ → Told → Told → Type 0
+ReadsAtMost few name old new =
+    (new ≡ old) ⊎ ((n : ℕ) × (n ≤ few) × (new ≡ moved_by n (opened name old)))

@@ -1,0 +1,73 @@
+// The text of a part of a search, and what the part needs of the data.
+ghost use Rattle.std.specs.Prelude.{◌≡◌, ◌≤◌, List, All};
+ghost use Rattle.psr_base.specs.Written.{Wrote};
+ghost use Rattle.search_model.specs.declared.candidate.Candidate.{Candidate};
+ghost use Rattle.search_model.specs.Observed.{labels_of};
+ghost use Rattle.search_model.specs.Parts.{within_part, part_text, first_needed as first_needed_of};
+ghost use Rattle.candidate_book.specs.Conditions.{IsSearched};
+ghost use Rattle.warm_restart.specs.Counts.{greatest_count};
+ghost use Rattle.warm_restart.specs.LastLine.{last_line as last_line_of};
+
+use crate::checkpoint::Checkpoint;
+use crate::lines::last_line;
+use candidate_book::{Book, PlainLabels, SinkStop, write_lines};
+use obs_plan::Observation;
+use psr_base::{Sink, write_all};
+use search_model::Search;
+// A law: it does nothing when it runs, and the proofs use what it ensures.
+use psr_base::pieces_join;
+
+/// The first spectrum that is needed for the pulses that end at spectrum `place` and after it: the longest delay and
+/// the widest box before `place`, or 0 where that is before the first one.
+pub fn first_needed(search: &Search, place: u64) -> u64
+    ensures value { result ≡ first_needed_of search.now place }
+    ensures bound { result ≤ place }
+{
+    place.saturating_sub(u64::from(search.max_delay) + u64::from(search.widest))
+}
+
+/// Writes the last line of the text of a part that stops before spectrum `until`, of so many spectra in all: CHECK where
+/// more follow, and else END. `pulses` is how many end before `until`, from the first spectrum on. After a fault the
+/// sink has taken the front of the line.
+pub fn write_last_line<K: Sink>(
+    until: u64,
+    spectra: u64,
+    pulses: u64,
+    sink: &mut K,
+) -> Result<(), SinkStop>
+    ensures { Wrote (last_line_of until spectra pulses) (K.seen sink.old) (K.seen sink.new) result }
+{
+    match write_all(sink, last_line(until, spectra, pulses).as_bytes()) {
+        Ok(()) => Ok(()),
+        Err(_) => Err(SinkStop::Fault),
+    }
+}
+
+/// Writes the text of the part from a checkpoint on that stops before spectrum `until`, of so many spectra in all: the
+/// lines of the pulses that a book keeps, and the last line, which counts them on from those before the checkpoint.
+/// After a fault the sink has taken the front of this text.
+///
+/// The checkpoint counts at most 2^48 pulses, as each does that was read. Where the sum is more, which it can only be
+/// after a checkpoint that no search wrote, it is written all the same, and is no checkpoint for a further part.
+pub fn write_part<K: Sink>(
+    book: &Book,
+    obs: &Observation,
+    checkpoint: &Checkpoint,
+    until: u64,
+    spectra: u64,
+    sink: &mut K,
+) -> Result<(), SinkStop>
+    requires searched { All IsSearched book.now.kept }
+    requires pulses { checkpoint.now.pulses ≤ greatest_count }
+    ensures { let from = checkpoint.now in (list : List Candidate)
+        → book.now.kept ≡ within_part from.place until list
+        → Wrote (part_text (labels_of obs.now) spectra from.place until from.pulses list)
+        (K.seen sink.old) (K.seen sink.new) result }
+{
+    pieces_join();
+    let kept = book.kept();
+    match write_lines(kept, obs, &PlainLabels::of(obs), sink) {
+        Ok(_) => write_last_line(until, spectra, checkpoint.pulses + kept.len() as u64, sink),
+        Err(stop) => Err(stop),
+    }
+}
