@@ -25,10 +25,9 @@ left n (suc (suc (suc (suc (suc (suc (suc (suc (suc (suc (suc k)))))))))), below
     absurd (omega (arith, below))
 
 pub accepted_is_searched : (is_calm : Type 0) → AcceptedGoesOn is_calm → AcceptedIsSearched is_calm
-accepted_is_searched is_calm goes_on words inputs files_before files_after out_before out_after notes_before notes_after
-    ran o s files says are searched calm out_quiet files_quiet =
-    left ran.status o.known
-    (goes_on Searching words inputs ran.blocks ran.status o.judged o.read o.stopped s files says are searched.begins
-    searched.whole calm)
+accepted_is_searched is_calm goes_on words seen o s files says are searched calm out_quiet files_quiet =
+    left seen.ran.status o.known
+    (goes_on Searching words seen.inputs seen.ran.blocks seen.ran.status o.judged o.read o.stopped s files says are
+    searched.begins searched.whole calm)
     (λ e. let many = (o.too_many e s files says are).total in let few = searched.total in omega (arith, few, many))
     (λ e. out_quiet (o.written.failed e)) (λ e. files_quiet (o.recorded.failed e))

@@ -2,9 +2,7 @@
 use Rattle.std.proofs.Common.{◌≡◌, ◌<◌, ◌⊎◌, ℕ, zero, suc, List, [], ◌∷◌, inl, inr, true, sym, ◌∙◌, ap, subst, refl, Some, None, Contains, arith}
 use Rattle.std.specs.Prelude.{Option, IsSome}
 use Rattle.psr_base.specs.Count.{Rose}
-use Rattle.psr_base.specs.Told.{Told, InputsSeen}
-use Rattle.psr_base.specs.Made.{FilesSeen}
-use Rattle.psr_base.specs.Written.{SinkSeen}
+use Rattle.psr_base.specs.Told.{Told}
 use Rattle.ring_ends.specs.declared.finished.Finished.{Finished}
 use Rattle.search_words.specs.Settings.{SettingsSeen, SaySearch}
 use Rattle.stream_model.specs.Walk as walk
@@ -12,7 +10,6 @@ use Rattle.stream_model.specs.Walk.{FileStream, WalkStop, walk_stop}
 use Rattle.disk_feeder.specs.Plan.{AreTold}
 use Rattle.disk_feeder.specs.Filling.{HoldsAll}
 use Rattle.disk_feeder.specs.declared.answers.HeaderCause.{HeaderCause}
-use Rattle.search_session.specs.declared.ended.Ran.{Ran}
 use Rattle.run_stop.specs.declared.causes.PlanCause.{PlanCause}
 use Rattle.run_stop.specs.declared.causes.RecordingCause.{RecordingCause}
 use Rattle.run_stop.specs.declared.stop.Stop.{Stop}
@@ -20,7 +17,7 @@ use Rattle.run_stop.specs.declared.stop.Stop.TheVariants.{Header, Gap, TooLong}
 use Rattle.run_stop.specs.Texts.{status_of}
 use Rattle.run_stop.specs.Runs.{Searching, is_search, stream_for, stop_of_walk, CanBegin, RefusesFirstHeader, RefusesSearch, RefusesToRecord, StopsWalk, HasCandidates}
 use Rattle.run_stop.specs.Ends.{AcceptedIsNotRefused}
-use Rattle.psr_search.specs.Outcome.{Outcome, IsSearched}
+use Rattle.psr_search.specs.Outcome.{Outcome, SearchSeen, IsSearched}
 use Rattle.psr_search.specs.Causes.{Answers, EachIsAnswered, CausesAreAnswered, ToldRoomIsEnough}
 
 -- the bytes of all names are told
@@ -59,23 +56,23 @@ by_status P n (suc (suc (suc (suc (suc (suc (suc (suc (suc (suc (suc k))))))))))
     p10 p11 =
     absurd (omega (arith, below))
 
-module _ (words : List (List ℕ)) (inputs : InputsSeen) (is_calm : Type 0) (files_before files_after : FilesSeen)
-    (out_before out_after notes_before notes_after : SinkSeen) (ran : Ran)
-    (o : Outcome words inputs is_calm files_before files_after out_before out_after notes_before notes_after ran)
-    (s : SettingsSeen) (files : List (List ℕ)) (says : SaySearch words s) (are : AreTold inputs.told s.names files)
-    (not_refused : AcceptedIsNotRefused) where
+module _ (words : List (List ℕ)) (is_calm : Type 0) (seen : SearchSeen)
+    (o : Outcome words seen.inputs is_calm seen.files_before seen.files_after seen.out_before seen.out_after
+    seen.notes_before seen.notes_after seen.ran)
+    (s : SettingsSeen) (files : List (List ℕ)) (says : SaySearch words s)
+    (are : AreTold seen.inputs.told s.names files) (not_refused : AcceptedIsNotRefused) where
   abbrev w : FileStream
   w = stream_for s files
 
   abbrev n : ℕ
-  n = ran.status
+  n = seen.ran.status
 
   -- the inputs are calm, or count no fault
   abbrev Quiet : Type 0
-  Quiet = is_calm ⊎ (¬ Rose inputs.faults_before inputs.faults_after)
+  Quiet = is_calm ⊎ (¬ Rose seen.inputs.faults_before seen.inputs.faults_after)
 
   not_six : Quiet → n ≡ 6 → ⊥
-  not_six (inl is) e = o.read.serves is s says (holds_all inputs.told s.names files are) e
+  not_six (inl is) e = o.read.serves is s says (holds_all seen.inputs.told s.names files are) e
   not_six (inr still) e = still (o.read.failed e)
 
   -- ---- what each status says
@@ -87,7 +84,7 @@ module _ (words : List (List ℕ)) (inputs : InputsSeen) (is_calm : Type 0) (fil
   searched_at (inr e) = (o.written.text_too e s files says are).0
 
   -- it stopped at a header: at a first one, or where the walk stops
-  at_header : (blocks : Option Finished) → ran.blocks ≡ blocks → n ≡ 3 →
+  at_header : (blocks : Option Finished) → seen.ran.blocks ≡ blocks → n ≡ 3 →
       ((file : ℕ) × (cause : HeaderCause) × RefusesFirstHeader w file cause)
       ⊎ ((file : ℕ) × (cause : HeaderCause) × StopsWalk Searching s w (Header file cause))
   at_header None is e = inl (o.stopped.first_header e is s files says are)
@@ -133,7 +130,7 @@ module _ (words : List (List ℕ)) (inputs : InputsSeen) (is_calm : Type 0) (fil
         by_header (inr r) e = absurd (begins_not r.2.begins)
 
         at_three : n ≡ 3 → Answers n wanted
-        at_three e = by_header (at_header ran.blocks refl e) e
+        at_three e = by_header (at_header seen.ran.blocks refl e) e
 
   header : Quiet → (file : ℕ) (cause : HeaderCause) → RefusesFirstHeader w file cause → Answers n 3
   header calm file cause refuses = before_data calm
@@ -183,7 +180,7 @@ module _ (words : List (List ℕ)) (inputs : InputsSeen) (is_calm : Type 0) (fil
         by_header (inr r) e = stops (Header r.0 r.1) e r.2.stops
 
         at_three : n ≡ 3 → Answers n wanted
-        at_three e = by_header (at_header ran.blocks refl e) e
+        at_three e = by_header (at_header seen.ran.blocks refl e) e
 
         fits : ((c : PlanCause) × RefusesSearch s.search w c)
             ⊎ ((c : RecordingCause) × RefusesToRecord Searching s w c) → ⊥
@@ -211,16 +208,13 @@ module _ (words : List (List ℕ)) (inputs : InputsSeen) (is_calm : Type 0) (fil
   }
 
 pub causes_are_answered : (is_calm : Type 0) → AcceptedIsNotRefused → CausesAreAnswered is_calm
-causes_are_answered is_calm not_refused words inputs files_before files_after out_before out_after notes_before
-    notes_after ran o calm s files says are =
-    each words inputs is_calm files_before files_after out_before out_after notes_before notes_after ran o s files says
-    are not_refused calm
+causes_are_answered is_calm not_refused words seen o s files says are calm =
+    each words is_calm seen o s files says are not_refused calm
 
 -- ---- what has room
 
 pub told_room_is_enough : (is_calm : Type 0) → ToldRoomIsEnough is_calm
-told_room_is_enough is_calm words inputs files_before files_after out_before out_after notes_before notes_after ran o s
-    files says are =
+told_room_is_enough is_calm words seen o s files says are =
     record {
       output = λ room told enough e.
           let wrote = (o.written.front e s files says are).1 in

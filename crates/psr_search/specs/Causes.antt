@@ -1,24 +1,21 @@
 -- What stands against a search whose words are accepted is answered: the outcome read from the cause to the status.
 -- Source: this project's choice.
-use Rattle.std.specs.Prelude.{◌≡◌, ◌≢◌, ℕ, ◌≤◌, ◌<◌, ◌⊎◌, List, length, Some}
+use Rattle.std.specs.Prelude.{◌≡◌, ◌≢◌, ℕ, ◌≤◌, ◌<◌, ◌⊎◌, length, Some}
 use Rattle.psr_base.specs.Count.{Rose}
-use Rattle.psr_base.specs.Told.{InputsSeen}
 use Rattle.psr_base.specs.Made.{FilesSeen}
 use Rattle.psr_base.specs.Written.{SinkSeen}
-use Rattle.search_words.specs.Settings.{SettingsSeen, SaySearch}
+use Rattle.search_words.specs.Settings.{SettingsSeen}
 use Rattle.stream_model.specs.Walk.{FileStream}
-use Rattle.disk_feeder.specs.Plan.{AreTold}
 use Rattle.disk_feeder.specs.declared.answers.HeaderCause.{HeaderCause}
 use Rattle.dada_recorder.specs.Making.{Outset, BeginsAt, HasEnoughFor}
 use Rattle.transfer_text.specs.Searched.{searched_text}
-use Rattle.search_session.specs.declared.ended.Ran.{Ran}
 use Rattle.run_stop.specs.declared.causes.PlanCause.{PlanCause}
 use Rattle.run_stop.specs.declared.causes.RecordingCause.{RecordingCause}
 use Rattle.run_stop.specs.declared.stop.Stop.{Stop}
 use Rattle.run_stop.specs.Texts.{status_of}
-use Rattle.run_stop.specs.Runs.{Searching, stream_for, observed_transfers, RefusesFirstHeader, RefusesSearch, RefusesToRecord, StopsWalk, HasCandidates}
+use Rattle.run_stop.specs.Runs.{Searching, observed_transfers, RefusesFirstHeader, RefusesSearch, RefusesToRecord, StopsWalk, HasCandidates}
 use Rattle.run_stop.specs.Outcomes.{files_of_data}
-use Rattle.psr_search.specs.Outcome.{Outcome}
+use Rattle.psr_search.specs.Outcome.{ForOutcomes}
 
 -- the status is this one, or there was no memory
 abbrev pub Answers : ℕ → ℕ → Type 0
@@ -37,15 +34,9 @@ pub record EachIsAnswered (s : SettingsSeen) (w : FileStream) (status : ℕ) : T
 
 -- So it is over inputs that are calm and hold all files, or that count no fault.
 abbrev pub CausesAreAnswered : Type 0 → Type 0
-CausesAreAnswered is_calm = (words : List (List ℕ)) (inputs : InputsSeen)
-    (files_before files_after : FilesSeen)
-    (out_before out_after notes_before notes_after : SinkSeen)
-    (ran : Ran) →
-    Outcome words inputs is_calm files_before files_after out_before out_after notes_before
-    notes_after ran →
-    is_calm ⊎ ¬ Rose inputs.faults_before inputs.faults_after → (s : SettingsSeen)
-    (files : List (List ℕ)) → SaySearch words s →
-    AreTold inputs.told s.names files → EachIsAnswered s (stream_for s files) ran.status
+CausesAreAnswered is_calm = ForOutcomes is_calm (λ seen s w.
+    is_calm ⊎ ¬ Rose seen.inputs.faults_before seen.inputs.faults_after →
+    EachIsAnswered s w seen.ran.status)
 
 -- Who told enough room has no fault: 10 never comes where the output told room for the text, nor 11 where the files
 -- told enough for those of all data.
@@ -58,12 +49,5 @@ pub record HasNoFault (s : SettingsSeen) (w : FileStream) (files_before : FilesS
 
 -- So it is wherever the files are told that are read.
 abbrev pub ToldRoomIsEnough : Type 0 → Type 0
-ToldRoomIsEnough is_calm = (words : List (List ℕ)) (inputs : InputsSeen)
-    (files_before files_after : FilesSeen)
-    (out_before out_after notes_before notes_after : SinkSeen)
-    (ran : Ran) →
-    Outcome words inputs is_calm files_before files_after out_before out_after notes_before
-    notes_after ran →
-    (s : SettingsSeen) (files : List (List ℕ)) → SaySearch words s →
-    AreTold inputs.told s.names files →
-    HasNoFault s (stream_for s files) files_before out_before ran.status
+ToldRoomIsEnough is_calm = ForOutcomes is_calm (λ seen s w.
+    HasNoFault s w seen.files_before seen.out_before seen.ran.status)

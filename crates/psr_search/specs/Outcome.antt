@@ -74,17 +74,33 @@ pub record Outcome (words : List (List ℕ)) (inputs : InputsSeen) (is_calm : Ty
       ran.status
   pub noted : TellsNotes Searching words inputs.told notes_before notes_after ran.status
 
+-- ---- the other way round, from what is accepted or refused to the status
+
+-- what is seen of a search from outside: its inputs, its files, its output and its notes, and what it answered
+pub record SearchSeen : Type 0 where
+  pub inputs : InputsSeen
+  pub files_before : FilesSeen
+  pub files_after : FilesSeen
+  pub out_before : SinkSeen
+  pub out_after : SinkSeen
+  pub notes_before : SinkSeen
+  pub notes_after : SinkSeen
+  pub ran : Ran
+
+-- P holds of each outcome of a search over inputs that may be calm, where its words say settings and the bytes of all
+-- their files are told: of what is seen of it, and of the settings and the files as a walk sees them
+abbrev pub ForOutcomes : Type 0 → (SearchSeen → SettingsSeen → FileStream → Type 0) → Type 0
+ForOutcomes is_calm P = (words : List (List ℕ)) (seen : SearchSeen) →
+    Outcome words seen.inputs is_calm seen.files_before seen.files_after seen.out_before
+    seen.out_after seen.notes_before seen.notes_after seen.ran →
+    (s : SettingsSeen) (files : List (List ℕ)) → SaySearch words s →
+    AreTold seen.inputs.told s.names files → P seen s (stream_for s files)
+
 -- Words, headers, searches, recordings, data and candidates that are accepted are searched, over inputs that are calm
 -- or count no fault, and an output and files that count none: 0, or want of memory.
 abbrev pub AcceptedIsSearched : Type 0 → Type 0
-AcceptedIsSearched is_calm = (words : List (List ℕ)) (inputs : InputsSeen)
-    (files_before files_after : FilesSeen)
-    (out_before out_after notes_before notes_after : SinkSeen)
-    (ran : Ran) →
-    Outcome words inputs is_calm files_before files_after out_before out_after notes_before
-    notes_after ran →
-    (s : SettingsSeen) (files : List (List ℕ)) → SaySearch words s →
-    AreTold inputs.told s.names files → IsSearched s (stream_for s files) →
-    is_calm ⊎ ¬ Rose inputs.faults_before inputs.faults_after →
-    ¬ Rose out_before.faults out_after.faults → ¬ Rose files_before.faults files_after.faults →
-    (ran.status ≡ 0) ⊎ (ran.status ≡ 5)
+AcceptedIsSearched is_calm = ForOutcomes is_calm (λ seen s w. IsSearched s w →
+    is_calm ⊎ ¬ Rose seen.inputs.faults_before seen.inputs.faults_after →
+    ¬ Rose seen.out_before.faults seen.out_after.faults →
+    ¬ Rose seen.files_before.faults seen.files_after.faults →
+    (seen.ran.status ≡ 0) ⊎ (seen.ran.status ≡ 5))

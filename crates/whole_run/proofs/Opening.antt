@@ -4,22 +4,23 @@ use Rattle.std.specs.Prelude.{slice_get, IfErr, OnErr}
 use Rattle.psr_base.specs.Told.{Told}
 use Rattle.dada_model.specs.Fields.{HeaderText}
 use Rattle.dada_model.specs.Observation.{Observation}
-use Rattle.search_words.specs.Settings.{SettingsSeen, AllInRange}
+use Rattle.search_words.specs.Settings.{SettingsSeen}
 use Rattle.stream_model.specs.Walk.{FileStream}
 use Rattle.disk_feeder.specs.declared.feeder.Feeder.{Feeder}
-use Rattle.disk_feeder.specs.Feeder.{HasPlan, SamePlan, FeederFeeds, FeederFaultless, HasOpenFile, block_size, has_end, header_at, plan_at}
+use Rattle.disk_feeder.specs.Feeder.{SamePlan, IsBegun, FeederFeeds, FeederFaultless, HasOpenFile, block_size, has_end, header_at, plan_at}
 use Rattle.disk_feeder.specs.Feeding.{header_entries}
-use Rattle.search_opening.specs.First.{AreFirsts, AreHeadersOf, AreObserved, StopsFirsts}
+use Rattle.search_opening.specs.First.{OfFiles, AreFirsts, AreHeadersOf, AreObserved, StopsFirsts}
 use Rattle.search_opening.specs.Offsets.{AreOffsetsOf}
 use Rattle.search_opening.specs.Recordings.{IsOfRecording, StopsRecording}
 use Rattle.search_opening.specs.Space.{FeedsRings}
 use Rattle.run_stop.specs.declared.stop.Stop.{Stop}
 use Rattle.run_stop.specs.declared.stop.Stop.TheVariants.{Words, Value, Header, Plan, Recording, Memory, ReadFault, Gap, TooLong, TooMany, SinkFault, FileFault}
 use Rattle.run_stop.specs.Ends.{ComesBefore, SaysBefore}
-use Rattle.run_stop.specs.Runs.{Task, Searching, RecordingAlone, is_search, CanSearchFirst}
+use Rattle.run_stop.specs.Runs.{Task, Searching, is_search, CanSearchFirst}
 use Rattle.whole_run.specs.declared.spaces.Spaces.{Spaces}
-use Rattle.whole_run.specs.Wholes.{OfRun, task_of}
-use Rattle.whole_run.specs.Openings.{AreFit, IsRefused, IsOpened, AreSpaces, shape_for}
+use Rattle.whole_run.specs.Wholes.{CanBeDriven, OfRun, task_of}
+use Rattle.whole_run.specs.Openings.{HasFirsts, AreFit, IsRefused, IsOpened, AreSpaces, shape_for}
+use Rattle.whole_run.proofs.Told.{FeedsRun, of_plan}
 
 -- ---- what is refused
 
@@ -39,10 +40,6 @@ searching false is = absurd cc
 pub is_searching : (searches : Bool) → is_search (task_of searches) ≡ true → searches ≡ true
 is_searching true is = refl
 is_searching false is = is
-
-pub recording_alone : (searches : Bool) → task_of searches ≡ RecordingAlone → searches ≡ false
-recording_alone true is = absurd cc
-recording_alone false is = refl
 
 pub recording_refused : (task : Task) (s : SettingsSeen) (headers : List HeaderText)
     (observations : List (Option Observation)) (stop : Stop) →
@@ -100,9 +97,7 @@ firsts_say task s w FileFault says = says
 -- ---- what is opened
 
 -- the feeder of a run as it was before its observations were accepted, and after
-pub record IsAccepted {I : Type 0} (told : I → Told) (is_open : I → Type 0) (s : SettingsSeen) (old new : Feeder I) :
-    Type 0 where
-  pub plan : HasPlan old s.names s.starts s.size s.max_bytes
+pub record IsAccepted {I : Type 0} (told : I → Told) (old new : Feeder I) : Type 0 where
   pub same : SamePlan old new
   pub headers : header_at new ≡ header_at old
   pub inputs : new.inputs.now ≡ old.inputs.now
@@ -110,29 +105,48 @@ pub record IsAccepted {I : Type 0} (told : I → Told) (is_open : I → Type 0) 
   pub faultless : FeederFaultless new
   pub running : has_end new ≡ None
   pub reading : HasOpenFile new → HasOpenFile old
-  pub opened : HasOpenFile old → is_open old.inputs.now
 
-plan_stays : {I : Type 0} (told : I → Told) (is_open : I → Type 0) (s : SettingsSeen) (old new : Feeder I) →
-    IsAccepted told is_open s old new → HasPlan new s.names s.starts s.size s.max_bytes
-plan_stays told is_open s old new is = record {
-  files = is.same.names ∙ is.plan.files;
-  transfers = is.same.starts ∙ is.plan.transfers;
-  limit = is.same.limit ∙ is.plan.limit;
-  block = is.same.size ∙ is.plan.block;
-  headers = is.same.headers ∙ is.plan.headers;
+plan_stays : {I : Type 0} (s : SettingsSeen) (old new : Feeder I) → FeedsRun old s → SamePlan old new → FeedsRun new s
+plan_stays s old new plan same = record {
+  files = same.names ∙ plan.files;
+  transfers = same.starts ∙ plan.transfers;
+  limit = same.limit ∙ plan.limit;
+  block = same.size ∙ plan.block;
+  headers = same.headers ∙ plan.headers;
 }
 
+-- the first headers were read by the feeder of a run
+pub has_firsts : {I : Type 0} (told : I → Told) (is_open : I → Type 0) (s : SettingsSeen) (old new : Feeder I)
+    (observations : List (Option Observation)) → FeedsRun old s → SamePlan old new →
+    IsBegun (told new.inputs.now) new → (HasOpenFile new → is_open new.inputs.now) →
+    AreObserved (header_at new) observations →
+    OfFiles (told new.inputs.now) (plan_at new) (λ w. AreFirsts w observations) →
+    OfFiles (told new.inputs.now) (plan_at new) (λ w. AreHeadersOf w (header_at new)) →
+    HasFirsts told is_open s new observations
+has_firsts told is_open s old new observations plan same begun file observed firsts headers =
+    let now = told new.inputs.now in
+    let plan' = plan_stays s old new plan same in
+    record {
+      plan = plan';
+      begun = begun;
+      file = file;
+      observed = observed;
+      firsts = of_plan new s now now (λ w. AreFirsts w observations) plan' refl firsts;
+      headers = of_plan new s now now (λ w. AreHeadersOf w (header_at new)) plan' refl headers;
+    }
+
 feeds_rings : {I : Type 0} (told : I → Told) (is_open : I → Type 0) (s : SettingsSeen) (old new : Feeder I)
-    (header : HeaderText) (lanes : ℕ) → IsAccepted told is_open s old new →
+    (observations : List (Option Observation)) (header : HeaderText) (lanes : ℕ) →
+    HasFirsts told is_open s old observations → IsAccepted told old new →
     slice_get (header_at old) 0 ≡ Some header → FeedsRings told is_open (shape_for s lanes) header new
-feeds_rings told is_open s old new header lanes is first =
-    let plan = plan_stays told is_open s old new is in
+feeds_rings told is_open s old new observations header lanes read is first =
+    let plan = plan_stays s old new read.plan is.same in
     let Open : _ → Type 0 = is_open in
     record {
       first = ap (λ hs. slice_get hs 0) is.headers ∙ first;
       feeds = is.feeds;
       running = is.running;
-      file = λ open_file. subst Open (sym is.inputs) (is.opened (is.reading open_file));
+      file = λ open_file. subst Open (sym is.inputs) (read.file (is.reading open_file));
       size = sym plan.block;
       blocks = at_most _ _ (ap (λ n. n / block_size new + length (plan_at new).starts + 1) plan.limit
           ∙ ap (λ n. s.max_bytes / n + length (plan_at new).starts + 1) plan.block
@@ -144,38 +158,37 @@ feeds_rings told is_open s old new header lanes is first =
 
 pub is_opened : {I F : Type 0} (told : I → Told) (is_open : I → Type 0) (task : Task) (s : SettingsSeen)
     (old new : Feeder I) (observations given : List (Option Observation)) (offsets lent : List ℕ) (header : HeaderText)
-    (spaces : Spaces I F) → IsAccepted told is_open s old new → AllInRange s →
-    (task ≡ RecordingAlone → s.recording ≡ true) → slice_get (header_at old) 0 ≡ Some header →
-    given ≡ observations → lent ≡ offsets → AreSpaces task s given header lent spaces →
-    AreObserved (header_at old) observations → AreFit task s (header_at old) observations →
-    AreOffsetsOf observations offsets → OfRun (told old.inputs.now) s (λ w. AreFirsts w observations) →
-    OfRun (told old.inputs.now) s (λ w. AreHeadersOf w (header_at old)) →
-    IsOpened told is_open task s new observations spaces
-is_opened told is_open task s old new observations given offsets lent header spaces is range alone first same_given
-    same_lent spaces_are observed fit offsets_are firsts headers =
+    (spaces : Spaces I F) → HasFirsts told is_open s old observations → IsAccepted told old new → CanBeDriven task s →
+    slice_get (header_at old) 0 ≡ Some header → given ≡ observations → lent ≡ offsets →
+    AreSpaces task s given header lent spaces → AreFit task s (header_at old) observations →
+    AreOffsetsOf observations offsets → IsOpened told is_open task s new observations spaces
+is_opened told is_open task s old new observations given offsets lent header spaces read is can first same_given
+    same_lent spaces_are fit offsets_are =
     let spaces_are' = subst (λ os. AreSpaces task s os header offsets spaces) same_given
     (subst (λ ns. AreSpaces task s given header ns spaces) same_lent spaces_are) in
     let Observed : List HeaderText → Type 0 = λ hs. AreObserved hs observations in
     let Fit : List HeaderText → Type 0 = λ hs. AreFit task s hs observations in
+    let range = can.range in
     record {
       offsets = offsets;
       ready = record {
-        plan = plan_stays told is_open s old new is;
+        plan = plan_stays s old new read.plan is.same;
         faultless = is.faultless;
         some = range.transfers.some;
         few = range.most_transfers;
         most = omega (arith, range.most_bytes);
         range = range.search;
-        alone = alone;
+        alone = can.records;
         header = header;
         stage_is = spaces_are'.stage_is;
-        feeds = feeds_rings told is_open s old new header (length spaces_are'.stage_is.lanes.items) is first;
-        observed = subst Observed (sym is.headers) observed;
+        feeds = feeds_rings told is_open s old new observations header (length spaces_are'.stage_is.lanes.items) read
+            is first;
+        observed = subst Observed (sym is.headers) read.observed;
         fit = subst Fit (sym is.headers) fit;
         offsets_are = offsets_are;
-        firsts = subst (λ i. OfRun (told i) s (λ w. AreFirsts w observations)) (sym is.inputs) firsts;
+        firsts = subst (λ i. OfRun (told i) s (λ w. AreFirsts w observations)) (sym is.inputs) read.firsts;
         headers = subst (λ hs. OfRun (told new.inputs.now) s (λ w. AreHeadersOf w hs)) (sym is.headers)
-            (subst (λ i. OfRun (told i) s (λ w. AreHeadersOf w (header_at old))) (sym is.inputs) headers);
+            (subst (λ i. OfRun (told i) s (λ w. AreHeadersOf w (header_at old))) (sym is.inputs) read.headers);
       };
       recorder_is = spaces_are'.recorder_is;
     }

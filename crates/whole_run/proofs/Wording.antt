@@ -10,12 +10,12 @@ use Rattle.disk_feeder.specs.Feeding.{EndIs}
 use Rattle.disk_feeder.specs.Filling.{HoldsAll}
 use Rattle.disk_feeder.specs.Plan.{AreTold}
 use Rattle.run_stop.specs.declared.stop.Stop.{Stop}
-use Rattle.run_stop.specs.Ends.{WordsSayOnce, StopsBefore, SaysBefore, IsRunFed, IsRecorded}
+use Rattle.run_stop.specs.Ends.{WordsSayOnce, SaysBefore, IsRunFed, IsRecorded}
 use Rattle.run_stop.specs.Firsts.{LeavesData}
-use Rattle.run_stop.specs.Outcomes.{ReadsNoData, MadeAll, MadeFront, files_of_stream}
+use Rattle.run_stop.specs.Outcomes.{MadeAll, MadeFront, files_of_stream}
 use Rattle.run_stop.specs.Runs.{Task, Says, ForFiles, CanBegin, stream_for, observed_transfers}
 use Rattle.whole_run.specs.declared.found.Found.{Found}
-use Rattle.whole_run.specs.Wholes.{OfRun, ForWords, HoldsFound}
+use Rattle.whole_run.specs.Wholes.{OfRun, ForWords, HoldsFound, IsStopped, ReadsNone, IsDriven}
 use Rattle.whole_run.specs.Openings.{StopsEarly}
 use Rattle.whole_run.specs.Ends.{RecordsRun, GoesThrough}
 use Rattle.whole_run.proofs.Told.{before_reading}
@@ -29,18 +29,18 @@ for_files once task words s told P says holds t files says' are =
     (holds files (subst (λ (u : SettingsSeen). AreTold told u.names files) same are))
 
 pub stops_before : WordsSayOnce → (task : Task) (s : SettingsSeen) (told : Told) (stop : Stop) →
-    StopsEarly task s told stop → ForWords task s (λ words. StopsBefore task words told stop)
+    StopsEarly task s told stop → IsStopped task s told stop
 stops_before once task s told stop early words says = record {
   kind = early.kind;
   says = for_files once task words s told (λ t w. SaysBefore task t w stop) says early.says;
 }
 
 pub reads_no_data : WordsSayOnce → (task : Task) (s : SettingsSeen) (old new : Told) → OfRun old s (LeavesData new) →
-    ForWords task s (λ words. ReadsNoData task words old new)
+    ReadsNone task s old new
 reads_no_data once task s old new leaves words says =
     inr (for_files once task words s old (λ t w. LeavesData new w) says leaves)
 
-pub is_fed : WordsSayOnce → (task : Task) (s : SettingsSeen) (old new : Told) (before after : FilesSeen)
+is_fed : WordsSayOnce → (task : Task) (s : SettingsSeen) (old new : Told) (before after : FilesSeen)
     (found : Found) →
     new.bytes_under ≡ old.bytes_under → GoesThrough task s new before after found →
     ForWords task s (λ words. IsRunFed task words old found.blocks found.feed)
@@ -51,7 +51,7 @@ is_fed once task s old new before after found same through words says = record {
       (before_reading s old new (λ w. EndIs w s.size (sealed_at_end found.blocks) found.feed) same through.walked);
 }
 
-pub is_recorded : WordsSayOnce → (task : Task) (s : SettingsSeen) (old new : Told) (before after : FilesSeen)
+is_recorded : WordsSayOnce → (task : Task) (s : SettingsSeen) (old new : Told) (before after : FilesSeen)
     (found : Found) → new.bytes_under ≡ old.bytes_under → RecordsRun s new before after found →
     ForWords task s (λ words. IsRecorded task words old found.blocks found.recorded before after)
 is_recorded once task s old new before after found same by words says = record {
@@ -72,13 +72,24 @@ is_recorded once task s old new before after found same by words says = record {
   count = by.count;
 }
 
-pub still_held : (s : SettingsSeen) (old new : Told) (found : Found) → new.bytes_under ≡ old.bytes_under →
+still_held : (s : SettingsSeen) (old new : Told) (found : Found) → new.bytes_under ≡ old.bytes_under →
     HoldsFound s new found → HoldsFound s old found
 still_held s old new found same holds = record {
   transfers = holds.transfers;
   held = holds.held;
   total = holds.total;
   known = before_reading s old new (λ w. holds.transfers ≡ observed_transfers w) same holds.known;
+}
+
+-- a session that went through, over the files as they were told before
+pub is_driven : WordsSayOnce → (task : Task) (s : SettingsSeen) (old new : Told) (before after : FilesSeen)
+    (found : Found) → new.bytes_under ≡ old.bytes_under → GoesThrough task s new before after found →
+    IsDriven task s old before after found
+is_driven once task s old new before after found same through = record {
+  fed = is_fed once task s old new before after found same through;
+  recorded = is_recorded once task s old new before after found same through.recorded;
+  cleared = through.cleared;
+  held = λ searching bytes whole. still_held s old new found same (through.held searching bytes whole);
 }
 
 pub hold_still : (old new : Told) (names names' : List (List ℕ)) → new.bytes_under ≡ old.bytes_under →

@@ -11,7 +11,7 @@ use Rattle.stream_model.specs.Walk.{FileStream}
 use Rattle.ring_words.specs.declared.shape.RingShape.{RingShape}
 use Rattle.search_engine.specs.Engine.{most_fed}
 use Rattle.disk_feeder.specs.declared.feeder.Feeder.{Feeder}
-use Rattle.disk_feeder.specs.Feeder.{HasPlan, FeederFaultless, header_at}
+use Rattle.disk_feeder.specs.Feeder.{HasPlan, IsBegun, HasOpenFile, FeederFaultless, header_at}
 use Rattle.dada_recorder.specs.declared.recorder.Recorder.{Recorder}
 use Rattle.dada_recorder.specs.declared.space.RecorderSpace.{RecorderSpace}
 use Rattle.dada_recorder.specs.Blocks.{RecordPlan, record_plan}
@@ -36,6 +36,18 @@ use Rattle.whole_run.specs.Wholes.{OfRun}
 pub record StopsEarly (task : Task) (s : SettingsSeen) (told : Told) (stop : Stop) : Type 0 where
   pub kind : ComesBefore stop
   pub says : OfRun told s (λ w. SaysBefore task s w stop)
+
+-- ---- what is read
+
+-- The feeder of a run has read all first headers, and these are their observations.
+pub record HasFirsts {I : Type 0} (told : I → Told) (is_open : I → Type 0) (s : SettingsSeen)
+    (feeder : Feeder I) (observations : List (Option Observation)) : Type 0 where
+  pub plan : HasPlan feeder s.names s.starts s.size s.max_bytes
+  pub begun : IsBegun (told feeder.inputs.now) feeder
+  pub file : HasOpenFile feeder → is_open feeder.inputs.now
+  pub observed : AreObserved (header_at feeder) observations
+  pub firsts : OfRun (told feeder.inputs.now) s (λ w. AreFirsts w observations)
+  pub headers : OfRun (told feeder.inputs.now) s (λ w. AreHeadersOf w (header_at feeder))
 
 -- ---- what is judged
 

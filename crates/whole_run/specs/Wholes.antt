@@ -2,17 +2,20 @@
 -- Source: this project's choice.
 use Rattle.std.specs.Prelude.{◌≡◌, ◌≢◌, ℕ, ◌^◌, ◌<◌, Bool, true, false, List, map, Some, Result, Ok, Err}
 use Rattle.psr_base.specs.Told.{Told}
-use Rattle.search_words.specs.Settings.{SettingsSeen}
+use Rattle.psr_base.specs.Made.{FilesSeen}
+use Rattle.search_words.specs.Settings.{SettingsSeen, AllInRange}
 use Rattle.stream_model.specs.Walk.{FileStream}
 use Rattle.disk_feeder.specs.declared.answers.FeedEnd.TheVariants as feed
+use Rattle.disk_feeder.specs.declared.answers.FeedEnd.TheVariants.{Whole}
 use Rattle.disk_feeder.specs.Plan.{AreTold}
 use Rattle.dada_recorder.specs.declared.answers.RecordEnd.TheVariants.{FileFault}
 use Rattle.transfer_text.specs.Searched.{ObservedTransfer, candidate_total}
 use Rattle.transfer_text.specs.Found.{HoldTransfers}
 use Rattle.run_stop.specs.declared.stop.Stop.{Stop}
 use Rattle.run_stop.specs.declared.stop.Stop.TheVariants.{ReadFault}
+use Rattle.run_stop.specs.Ends.{StopsBefore, IsRunFed, IsRecorded}
 use Rattle.run_stop.specs.Runs.{Task, Searching, RecordingAlone, Alone, Says, stream_for, observed_transfers}
-use Rattle.run_stop.specs.Outcomes.{AllCleared}
+use Rattle.run_stop.specs.Outcomes.{ReadsNoData, AllCleared}
 use Rattle.whole_run.specs.declared.found.Found.{Found}
 
 -- whether files are searched, or recorded alone
@@ -26,6 +29,11 @@ shards_of Searching s = s.search.shards
 shards_of RecordingAlone s = 0
 shards_of (Alone lone) s = 1
 
+-- settings that a run can be driven by: every value lies in its range, and files that are recorded alone are recorded
+pub record CanBeDriven (task : Task) (s : SettingsSeen) : Type 0 where
+  pub range : AllInRange s
+  pub records : task ≡ RecordingAlone → s.recording ≡ true
+
 -- P holds of all words that say the settings
 abbrev pub ForWords : Task → SettingsSeen → (List (List ℕ) → Type 0) → Type 0
 ForWords task s P = (words : List (List ℕ)) → Says task words s → P words
@@ -33,6 +41,14 @@ ForWords task s P = (words : List (List ℕ)) → Says task words s → P words
 -- P holds of the files that the settings name, as a walk sees them, where the bytes of all are told
 abbrev pub OfRun : Told → SettingsSeen → (FileStream → Type 0) → Type 0
 OfRun told s P = (files : List (List ℕ)) → AreTold told s.names files → P (stream_for s files)
+
+-- a run was given up before its session, for all words that say its settings
+abbrev pub IsStopped : Task → SettingsSeen → Told → Stop → Type 0
+IsStopped task s told stop = ForWords task s (λ words. StopsBefore task words told stop)
+
+-- it read no data, for all words that say its settings
+abbrev pub ReadsNone : Task → SettingsSeen → Told → Told → Type 0
+ReadsNone task s before after = ForWords task s (λ words. ReadsNoData task words before after)
 
 -- the inputs failed
 abbrev pub FailsReading : Result Found Stop → Type 0
@@ -53,3 +69,13 @@ pub record HoldsFound (s : SettingsSeen) (told : Told) (found : Found) : Type 0 
       (map (λ row. row.items) found.books.items) found.spectra.items
   pub total : candidate_total s.search transfers < 2 ^ 64
   pub known : OfRun told s (λ w. transfers ≡ observed_transfers w)
+
+-- A run went to the end of its session. Its feeder and its recorder did, for all words that say its settings, what a
+-- run does; its readers cleared what was sealed; and its books hold what was searched, where all data were read.
+pub record IsDriven (task : Task) (s : SettingsSeen) (told : Told) (before after : FilesSeen)
+    (found : Found) : Type 0 where
+  pub fed : ForWords task s (λ words. IsRunFed task words told found.blocks found.feed)
+  pub recorded : ForWords task s (λ words.
+      IsRecorded task words told found.blocks found.recorded before after)
+  pub cleared : ClearsAll task s found
+  pub held : task ≡ Searching → (bytes : ℕ) → found.feed ≡ Whole bytes → HoldsFound s told found

@@ -1,13 +1,12 @@
 // What comes before the session of a run.
-ghost use Rattle.std.specs.Prelude.{◌≡◌, ◌≢◌, false, true, Err, IfOk, IfErr};
+ghost use Rattle.std.specs.Prelude.{◌≡◌, ◌≢◌, Err, IfOk, IfErr};
 ghost use Rattle.psr_base.specs.Inputs.{HasReadFrom};
-ghost use Rattle.search_words.specs.Settings.{AllInRange, settings_seen};
-ghost use Rattle.disk_feeder.specs.Feeder.{HasPlan, IsFresh, IsBegun, HasOpenFile, header_at};
+ghost use Rattle.search_words.specs.Settings.{settings_seen};
+ghost use Rattle.disk_feeder.specs.Feeder.{HasPlan, IsFresh};
 ghost use Rattle.disk_feeder.specs.Filling.{HoldsAll};
-ghost use Rattle.search_opening.specs.First.{AreFirsts, AreHeadersOf, AreObserved};
 ghost use Rattle.run_stop.specs.Firsts.{LeavesData};
-ghost use Rattle.whole_run.specs.Wholes.{task_of, OfRun};
-ghost use Rattle.whole_run.specs.Openings.{StopsEarly, IsOpened};
+ghost use Rattle.whole_run.specs.Wholes.{task_of, CanBeDriven, OfRun};
+ghost use Rattle.whole_run.specs.Openings.{StopsEarly, HasFirsts, IsOpened};
 
 use crate::judge::judge;
 use crate::spaces::Spaces;
@@ -37,17 +36,9 @@ fn open_begun<'a, I: Inputs, F: Files, R: Threads + Sync>(
     observations: ArrayVec<Option<Observation>, 8>,
     offsets: &'a mut ArrayVec<u64, 8>,
 ) -> Result<Opened<'a, I, F>, Stop>
-    requires range { AllInRange (settings_seen settings.now) }
-    requires records { searches ≡ false → settings.now.recording ≡ true }
-    requires plan { HasPlan feeder.old (settings_seen settings.now).names
-        settings.now.starts.items settings.now.size settings.now.max_bytes }
-    requires begun { IsBegun (I.told feeder.old.inputs.now) feeder.old }
-    requires is_open { HasOpenFile feeder.old → I.is_open feeder.old.inputs.now }
-    requires observed { AreObserved (header_at feeder.old) observations.items }
-    requires firsts { OfRun (I.told feeder.old.inputs.now) (settings_seen settings.now)
-        (λ w. AreFirsts w observations.items) }
-    requires headers { OfRun (I.told feeder.old.inputs.now) (settings_seen settings.now)
-        (λ w. AreHeadersOf w (header_at feeder.old)) }
+    requires drivable { CanBeDriven (task_of searches) (settings_seen settings.now) }
+    requires firsts { HasFirsts I.told I.is_open (settings_seen settings.now) feeder.old
+        observations.items }
     ensures same_reference { feeder.new.inputs.ghost_name ≡ feeder.old.inputs.ghost_name }
     ensures inputs { feeder.new.inputs.now ≡ feeder.old.inputs.now }
     ensures opened { IfOk result (λ o. IsOpened I.told I.is_open (task_of searches)
@@ -91,8 +82,7 @@ pub(crate) fn open_run<'a, I: Inputs, F: Files, R: Threads + Sync>(
     feeder: &mut Feeder<'a, I>,
     offsets: &'a mut ArrayVec<u64, 8>,
 ) -> Result<Opened<'a, I, F>, Stop>
-    requires range { AllInRange (settings_seen settings.now) }
-    requires records { searches ≡ false → settings.now.recording ≡ true }
+    requires drivable { CanBeDriven (task_of searches) (settings_seen settings.now) }
     requires plan { HasPlan feeder.old (settings_seen settings.now).names
         settings.now.starts.items settings.now.size settings.now.max_bytes }
     requires fresh { IsFresh feeder.old }

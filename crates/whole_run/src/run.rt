@@ -1,13 +1,9 @@
 // A run from its settings to the end of its session.
-ghost use Rattle.std.specs.Prelude.{◌≡◌, ℕ, true, false, Err, IfOk, IfErr, OnErr};
+ghost use Rattle.std.specs.Prelude.{◌≡◌, true, Err, IfOk, IfErr, OnErr};
 ghost use Rattle.psr_base.specs.Inputs.{HasReadFrom};
-ghost use Rattle.search_words.specs.Settings.{AllInRange, settings_seen};
-ghost use Rattle.disk_feeder.specs.declared.answers.FeedEnd.TheVariants.{Whole};
+ghost use Rattle.search_words.specs.Settings.{settings_seen};
 ghost use Rattle.disk_feeder.specs.Filling.{HoldsAll};
-ghost use Rattle.run_stop.specs.Ends.{StopsBefore, IsRunFed, IsRecorded};
-ghost use Rattle.run_stop.specs.Outcomes.{ReadsNoData};
-ghost use Rattle.run_stop.specs.Runs.{Searching};
-ghost use Rattle.whole_run.specs.Wholes.{task_of, ForWords, FailsReading, ClearsAll, HoldsFound};
+ghost use Rattle.whole_run.specs.Wholes.{task_of, CanBeDriven, FailsReading, IsStopped, ReadsNone, IsDriven};
 
 use crate::found::Found;
 use crate::lent::{Lent, give_back};
@@ -37,8 +33,7 @@ fn within<'a, I: Inputs + Send, F: Files + Send, G: Gate + Sync, R: Threads + Wa
     offsets: &'a mut ArrayVec<u64, 8>,
     gate: &G,
 ) -> Lent<'a, I, F, Result<Found, Stop>>
-    requires range { AllInRange (settings_seen settings.now) }
-    requires records { searches ≡ false → settings.now.recording ≡ true }
+    requires drivable { CanBeDriven (task_of searches) (settings_seen settings.now) }
     requires closed { settings.now.recording ≡ true → ¬ F.is_open files.old }
     ensures same_inputs { result.inputs.ghost_name ≡ inputs.entry.ghost_name }
     ensures same_files { result.files.ghost_name ≡ files.entry.ghost_name }
@@ -46,26 +41,15 @@ fn within<'a, I: Inputs + Send, F: Files + Send, G: Gate + Sync, R: Threads + Wa
         result.inputs.now }
     ensures serves { I.is_calm inputs.old
         → HoldsAll (I.told inputs.old) (settings_seen settings.now).names
-        → FailsReading result.done → ⊥ }
-    ensures stopped { IfErr result.done (λ stop. ForWords (task_of searches)
-        (settings_seen settings.now) (λ words.
-        StopsBefore (task_of searches) words (I.told inputs.old) stop)) }
+        → ¬ FailsReading result.done }
+    ensures stopped { IfErr result.done (IsStopped (task_of searches) (settings_seen settings.now)
+        (I.told inputs.old)) }
     ensures stands { OnErr result.done (result.files.now ≡ files.old) }
     ensures unread { result.done ≡ Err Stop.Memory
-        → ForWords (task_of searches) (settings_seen settings.now) (λ words. ReadsNoData
-        (task_of searches) words (I.told inputs.old) (I.told result.inputs.now)) }
-    ensures fed { IfOk result.done (λ found. ForWords (task_of searches)
-        (settings_seen settings.now) (λ words.
-        IsRunFed (task_of searches) words (I.told inputs.old) found.blocks found.feed)) }
-    ensures recorded { IfOk result.done (λ found. ForWords (task_of searches)
-        (settings_seen settings.now) (λ words. IsRecorded (task_of searches) words
-        (I.told inputs.old) found.blocks found.recorded (F.seen files.old)
-        (F.seen result.files.now))) }
-    ensures cleared { IfOk result.done
-        (ClearsAll (task_of searches) (settings_seen settings.now)) }
-    ensures found { IfOk result.done (λ found. task_of searches ≡ Searching → (bytes : ℕ)
-        → found.feed ≡ Whole bytes
-        → HoldsFound (settings_seen settings.now) (I.told inputs.old) found) }
+        → ReadsNone (task_of searches) (settings_seen settings.now) (I.told inputs.old)
+        (I.told result.inputs.now) }
+    ensures driven { IfOk result.done (IsDriven (task_of searches) (settings_seen settings.now)
+        (I.told inputs.old) (F.seen files.old) (F.seen result.files.now)) }
 {
     words_say_once();
     let space = match FeederSpace::take(
@@ -119,30 +103,21 @@ pub fn drive<I: Inputs + Send, F: Files + Send, G: Gate + Sync, R: Threads + Wai
     files: &mut F,
     gate: &G,
 ) -> Result<Found, Stop>
-    requires range { AllInRange (settings_seen settings.now) }
-    requires records { searches ≡ false → settings.now.recording ≡ true }
+    requires drivable { CanBeDriven (task_of searches) (settings_seen settings.now) }
     requires closed { settings.now.recording ≡ true → ¬ F.is_open files.old }
     ensures inputs { HasReadFrom I.told I.is_calm I.faults (FailsReading result) inputs.old
         inputs.new }
     ensures serves { I.is_calm inputs.old
         → HoldsAll (I.told inputs.old) (settings_seen settings.now).names
-        → FailsReading result → ⊥ }
-    ensures stopped { IfErr result (λ stop. ForWords (task_of searches)
-        (settings_seen settings.now) (λ words.
-        StopsBefore (task_of searches) words (I.told inputs.old) stop)) }
+        → ¬ FailsReading result }
+    ensures stopped { IfErr result (IsStopped (task_of searches) (settings_seen settings.now)
+        (I.told inputs.old)) }
     ensures stands { OnErr result (files.new ≡ files.old) }
     ensures unread { result ≡ Err Stop.Memory
-        → ForWords (task_of searches) (settings_seen settings.now) (λ words.
-        ReadsNoData (task_of searches) words (I.told inputs.old) (I.told inputs.new)) }
-    ensures fed { IfOk result (λ found. ForWords (task_of searches) (settings_seen settings.now)
-        (λ words. IsRunFed (task_of searches) words (I.told inputs.old) found.blocks found.feed)) }
-    ensures recorded { IfOk result (λ found. ForWords (task_of searches)
-        (settings_seen settings.now) (λ words. IsRecorded (task_of searches) words
-        (I.told inputs.old) found.blocks found.recorded (F.seen files.old) (F.seen files.new))) }
-    ensures cleared { IfOk result (ClearsAll (task_of searches) (settings_seen settings.now)) }
-    ensures found { IfOk result (λ found. task_of searches ≡ Searching → (bytes : ℕ)
-        → found.feed ≡ Whole bytes
-        → HoldsFound (settings_seen settings.now) (I.told inputs.old) found) }
+        → ReadsNone (task_of searches) (settings_seen settings.now) (I.told inputs.old)
+        (I.told inputs.new) }
+    ensures driven { IfOk result (IsDriven (task_of searches) (settings_seen settings.now)
+        (I.told inputs.old) (F.seen files.old) (F.seen files.new)) }
 {
     let mut offsets = ArrayVec::new();
     give_back(within(

@@ -2,8 +2,11 @@ use Rattle.std.proofs.Common.{None, refl, ap}
 use Rattle.psr_record.proofs.Endings.{records, at_short, after_session}
 use Rattle.psr_record.proofs.top.record_files.Goals as goal
 
-pub drive-requires-clause-records : goal.drive-requires-clause-records
-drive-requires-clause-records g c = λ lifetimes given alone. records _ _ c.in-Ok.ensures.says
+pub drive-requires-clause-drivable : goal.drive-requires-clause-drivable
+drive-requires-clause-drivable g c = λ lifetimes lives. record {
+  range = c.in-Ok.ensures.in_range;
+  records = λ alone. records _ _ c.in-Ok.ensures.says;
+}
 
 pub returns-in-Err-clause-ends : goal.returns-in-Err-clause-ends
 returns-in-Err-clause-ends g c =
@@ -14,15 +17,16 @@ returns-in-Err-clause-ends g c =
 pub returns-in-Ok-drive-clause-ends : goal.returns-in-Ok-drive-clause-ends
 returns-in-Ok-drive-clause-ends g c =
     let r = c.in-Ok-drive.ensures in
+    let driven = r.driven in
     let says = c.in-Ok.ensures.says in
     let found = c.in-Ok-drive.found in
     after_session _ _ _ _ _ _ found.blocks found.feed found.recorded (record {
       says = says;
-      fed = r.fed _ says;
-      recorded = r.recorded _ says;
+      fed = driven.fed _ says;
+      recorded = driven.recorded _ says;
       read = record { rose = r.inputs.rose; quiet = r.inputs.quiet; count = r.inputs.count; serves = r.serves };
     })
-    (r.cleared.recorder (records _ _ says)) (c.end_at_stop.ensures c.args.inputs.now)
+    (driven.cleared.recorder (records _ _ says)) (c.end_at_stop.ensures c.args.inputs.now)
     (c.end_after_whole.ensures c.args.inputs.now) c.stop_of-stop.result c.stop_of-stop.ensures
 
 pub returns-clause-ends : goal.returns-clause-ends

@@ -3,6 +3,12 @@ use Rattle.run_stop.specs.Conversions.{stop_of_feed}
 use Rattle.psr_search.proofs.Endings.{at_once, after_session}
 use Rattle.psr_search.proofs.top.search.Goals as goal
 
+pub drive-requires-clause-drivable : goal.drive-requires-clause-drivable
+drive-requires-clause-drivable g c = λ lifetimes lives. record {
+  range = c.in-Ok.ensures.in_range;
+  records = λ alone. absurd cc;
+}
+
 pub returns-in-Err-clause-ends : goal.returns-in-Err-clause-ends
 returns-in-Err-clause-ends g c =
     at_once _ _ _ _ _ c.of_words.result _
@@ -12,18 +18,18 @@ returns-in-Err-clause-ends g c =
 pub returns-in-Ok-drive-clause-ends : goal.returns-in-Ok-drive-clause-ends
 returns-in-Ok-drive-clause-ends g c =
     let r = c.in-Ok-drive.ensures in
+    let driven = r.driven in
     let says = c.in-Ok.ensures.says in
-    let cleared = r.cleared in
     let found = c.in-Ok-drive.found in
     after_session _ _ _ _ _ c.words_say_once.ensures _ found.blocks found.feed found.recorded (record {
       says = says;
-      fed = r.fed _ says;
-      recorded = r.recorded _ says;
+      fed = driven.fed _ says;
+      recorded = driven.recorded _ says;
       read = record { rose = r.inputs.rose; quiet = r.inputs.quiet; count = r.inputs.count; serves = r.serves };
     })
-    (cleared.shards refl) cleared.recorder (c.end_at_stop.ensures c.args.inputs.now)
+    (driven.cleared.shards refl) driven.cleared.recorder (c.end_at_stop.ensures c.args.inputs.now)
     (c.end_after_whole.ensures c.args.inputs.now) _ _ c.write_end-stop.result c.write_end-stop.ensures.stopped
-    (λ bytes is. let h = r.found refl bytes is in record {
+    (λ bytes is. let h = driven.held refl bytes is in record {
       transfers = h.transfers;
       known = h.known;
       ended = c.write_end-stop.ensures.ended h.transfers h.held;

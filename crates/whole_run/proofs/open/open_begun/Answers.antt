@@ -1,4 +1,4 @@
-use Rattle.std.proofs.Common.{List, Option, refl, sym, subst, ◌∙◌}
+use Rattle.std.proofs.Common.{List, Option, refl, sym, ap, subst, ◌∙◌}
 use Rattle.dada_model.specs.Observation.{Observation}
 use Rattle.disk_feeder.specs.Feeder.{header_at}
 use Rattle.search_opening.specs.First.{AreFirsts}
@@ -8,7 +8,7 @@ use Rattle.search_words.specs.Settings.{settings_seen}
 use Rattle.run_stop.specs.Runs.{stream_for}
 use Rattle.whole_run.specs.Wholes.{task_of}
 use Rattle.whole_run.proofs.Lists.{all_there}
-use Rattle.whole_run.proofs.Opening.{recording_alone, is_opened}
+use Rattle.whole_run.proofs.Opening.{is_opened}
 use Rattle.whole_run.proofs.open.open_begun.Goals as goal
 
 pub returns-in-Err-clause-stopped : goal.returns-in-Err-clause-stopped
@@ -17,17 +17,23 @@ returns-in-Err-clause-stopped g c = record {
   says = λ files are.
       let w = stream_for (settings_seen c.args.settings.now) files in
       let Firsts : List (Option Observation) → Type 0 = λ os. AreFirsts w os in
-      c.in-Err.ensures.refused.says w (subst Firsts (sym c.as_slice.ensures.value) (c.requires.firsts files are))
-      (c.requires.headers files are) refl;
+      c.in-Err.ensures.refused.says w
+      (subst Firsts (sym c.as_slice.ensures.value) (c.requires.firsts.firsts files are))
+      (c.requires.firsts.headers files are) refl;
 }
 
 pub first_offsets-requires-clause-there : goal.first_offsets-requires-clause-there
 first_offsets-requires-clause-there g c =
-    all_there c.requires.observed.said c.as_slice-2.result.now (c.as_slice-2.ensures.value ∙ c.requires.observed.here)
+    let observed = c.requires.firsts.observed in
+    all_there observed.said c.as_slice-2.result.now (c.as_slice-2.ensures.value ∙ observed.here)
 
 pub take-requires-clause-there : goal.take-requires-clause-there
 take-requires-clause-there g c = λ lifetimes lives.
-    all_there c.requires.observed.said c.as_slice-3.result.now (c.as_slice-3.ensures.value ∙ c.requires.observed.here)
+    let observed = c.requires.firsts.observed in
+    all_there observed.said c.as_slice-3.result.now (c.as_slice-3.ensures.value ∙ observed.here)
+
+pub take-requires-clause-records : goal.take-requires-clause-records
+take-requires-clause-records g c = λ lifetimes lives is. c.requires.drivable.records (ap task_of is)
 
 pub returns-in-Ok-take-clause-opened : goal.returns-in-Ok-take-clause-opened
 returns-in-Ok-take-clause-opened g c =
@@ -39,8 +45,8 @@ returns-in-Ok-take-clause-opened g c =
     is_opened g.I.Inputs.told g.I.Inputs.is_open task s c.args.feeder.now c.accept_all.new.feeder
     c.args.observations.items
     c.as_slice-3.result.now c.first_offsets.result.items c.as_slice-4.result.now c.header.result.now c.in-Ok-take.spaces
+    c.requires.firsts
     (record {
-      plan = c.requires.plan;
       same = c.accept_all.ensures.plan;
       headers = c.accept_all.ensures.headers;
       inputs = c.accept_all.ensures.inputs;
@@ -48,9 +54,7 @@ returns-in-Ok-take-clause-opened g c =
       faultless = c.accept_all.ensures.faultless;
       running = c.accept_all.ensures.running;
       reading = c.accept_all.ensures.reading;
-      opened = c.requires.is_open;
     })
-    c.requires.range (λ is. c.requires.records (recording_alone c.args.searches is)) c.header.ensures
-    c.as_slice-3.ensures.value c.as_slice-4.ensures.value c.in-Ok-take.ensures c.requires.observed
+    c.requires.drivable c.header.ensures c.as_slice-3.ensures.value c.as_slice-4.ensures.value c.in-Ok-take.ensures
     (subst Fit c.as_slice.ensures.value c.in-Ok.ensures.fit)
-    (subst Offsets c.as_slice-2.ensures.value c.first_offsets.ensures) c.requires.firsts c.requires.headers
+    (subst Offsets c.as_slice-2.ensures.value c.first_offsets.ensures)

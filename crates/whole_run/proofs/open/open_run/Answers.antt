@@ -4,10 +4,17 @@ use Rattle.stream_model.specs.Walk.{FileStream}
 use Rattle.run_stop.specs.Ends.{SaysBefore}
 use Rattle.whole_run.specs.Openings.{StopsEarly}
 use Rattle.whole_run.specs.Wholes.{task_of}
-use Rattle.whole_run.proofs.Opening.{firsts_say}
+use Rattle.whole_run.proofs.Opening.{has_firsts, firsts_say}
 use Rattle.whole_run.proofs.Results.{map_err}
 use Rattle.whole_run.proofs.Told.{of_plan, stops_before_reading}
 use Rattle.whole_run.proofs.open.open_run.Goals as goal
+
+pub open_begun-requires-clause-firsts : goal.open_begun-requires-clause-firsts
+open_begun-requires-clause-firsts g c = λ lifetimes lives.
+    let s = settings_seen c.args.settings.now in
+    has_firsts g.I.Inputs.told g.I.Inputs.is_open s c.args.feeder.now c.begin_feed.new.feeder
+    c.in-Ok.observations.items c.requires.plan c.in-Ok.ensures.plan c.in-Ok.ensures.begun c.in-Ok.ensures.open
+    c.in-Ok.ensures.observed c.in-Ok.ensures.firsts c.in-Ok.ensures.headers
 
 pub returns-in-Ok-clause-stopped : goal.returns-in-Ok-clause-stopped
 returns-in-Ok-clause-stopped g c =

@@ -3,7 +3,7 @@ use Rattle.std.specs.Prelude.{string_bytes}
 use Rattle.search_words.specs.Settings.{settings_seen}
 use Rattle.disk_feeder.specs.Feeder.{HasPlan, names_at}
 use Rattle.whole_run.specs.Wholes.{task_of}
-use Rattle.whole_run.proofs.Wording.{is_fed, is_recorded, still_held, hold_still}
+use Rattle.whole_run.proofs.Wording.{is_driven, hold_still}
 use Rattle.whole_run.proofs.run.within.Goals as goal
 
 pub open_run-requires-clause-plan : goal.open_run-requires-clause-plan
@@ -31,36 +31,12 @@ returns-in-Ok-open_run-clause-serves g c = λ calm holds.
     (hold_still (told c.args.inputs.now) (told c.open_run.new.feeder.inputs.now)
     (settings_seen c.args.settings.now).names (names_at c.open_run.new.feeder) names opened.ready.plan.files holds)
 
-pub returns-in-Ok-open_run-clause-fed : goal.returns-in-Ok-open_run-clause-fed
-returns-in-Ok-open_run-clause-fed g c =
+pub returns-in-Ok-open_run-clause-driven : goal.returns-in-Ok-open_run-clause-driven
+returns-in-Ok-open_run-clause-driven g c =
     let s = settings_seen c.args.settings.now in
     let task = task_of c.args.searches in
     let told = g.I.Inputs.told in
     let names = c.in-Ok-open_run.ensures.inputs.names ∙ ap (λ i. (told i).bytes_under) c.over-feeder.ensures.inputs in
-    is_fed c.words_say_once.ensures task s (told c.args.inputs.now) (told c.open_run.new.feeder.inputs.now)
+    is_driven c.words_say_once.ensures task s (told c.args.inputs.now) (told c.open_run.new.feeder.inputs.now)
     (g.F.Files.seen c.args.files.now) (g.F.Files.seen c.go_on-inputs.result.files.now) c.go_on-inputs.result.done
     names (c.go_on-inputs.ensures.went task s c.in-Ok-open_run.ensures.opened)
-
-pub returns-in-Ok-open_run-clause-recorded : goal.returns-in-Ok-open_run-clause-recorded
-returns-in-Ok-open_run-clause-recorded g c =
-    let s = settings_seen c.args.settings.now in
-    let task = task_of c.args.searches in
-    let told = g.I.Inputs.told in
-    let names = c.in-Ok-open_run.ensures.inputs.names ∙ ap (λ i. (told i).bytes_under) c.over-feeder.ensures.inputs in
-    is_recorded c.words_say_once.ensures task s (told c.args.inputs.now) (told c.open_run.new.feeder.inputs.now)
-    (g.F.Files.seen c.args.files.now) (g.F.Files.seen c.go_on-inputs.result.files.now) c.go_on-inputs.result.done names
-    (c.go_on-inputs.ensures.went task s c.in-Ok-open_run.ensures.opened).recorded
-
-pub returns-in-Ok-open_run-clause-cleared : goal.returns-in-Ok-open_run-clause-cleared
-returns-in-Ok-open_run-clause-cleared g c =
-    (c.go_on-inputs.ensures.went (task_of c.args.searches) (settings_seen c.args.settings.now)
-    c.in-Ok-open_run.ensures.opened).cleared
-
-pub returns-in-Ok-open_run-clause-found : goal.returns-in-Ok-open_run-clause-found
-returns-in-Ok-open_run-clause-found g c = λ searching bytes whole.
-    let s = settings_seen c.args.settings.now in
-    let task = task_of c.args.searches in
-    let told = g.I.Inputs.told in
-    let names = c.in-Ok-open_run.ensures.inputs.names ∙ ap (λ i. (told i).bytes_under) c.over-feeder.ensures.inputs in
-    still_held s (told c.args.inputs.now) (told c.open_run.new.feeder.inputs.now) c.go_on-inputs.result.done names
-    ((c.go_on-inputs.ensures.went task s c.in-Ok-open_run.ensures.opened).held searching bytes whole)
