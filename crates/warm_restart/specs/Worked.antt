@@ -1,9 +1,11 @@
 -- Worked values of the definitions, computed.
-use Rattle.std.specs.Prelude.{◌≡◌, ℕ, List, ◌++◌, length, replicate, Some, None, codes, refl}
+use Rattle.std.specs.Prelude.{◌≡◌, ℕ, List, ◌++◌, length, replicate, Some, None, Ok, Err, codes, refl}
 use Rattle.std.specs.Fmt.{digits}
-use Rattle.search_model.specs.Parts.{check_line}
+use Rattle.search_model.specs.Parts.{check_line, first_needed}
+use Rattle.search_model.specs.declared.search.Search.{Search}
 use Rattle.warm_restart.specs.Counts.{until_of}
-use Rattle.warm_restart.specs.Checkpoint.{checkpoint_of}
+use Rattle.warm_restart.specs.Checkpoint.{checkpoint_of, judged_place}
+use Rattle.warm_restart.specs.declared.checkpoint.CheckpointFault.TheVariants.{Place}
 use Rattle.warm_restart.specs.LastLine.{last_line}
 
 -- ---- texts that are accepted
@@ -133,3 +135,36 @@ stops_at_the_end = refl
 passes_the_greatest : last_line 2 3 281474976710657 ≡ codes "CHECK 2 281474976710657\n"
 unfolding digits
 passes_the_greatest = refl
+
+-- ---- the place of a checkpoint, and the first spectrum that is needed from it on
+
+goes_on : judged_place 9 (record { place = 2; pulses = 1 })
+    ≡ Ok (record { place = 2; pulses = 1 })
+goes_on = refl
+
+at_its_end : judged_place 2 (record { place = 2; pulses = 1 }) ≡ Err (Place 2 2)
+at_its_end = refl
+
+-- delays of at most 1 spectrum, and boxes of at most 2
+abbrev short_search : Search
+short_search = record {
+  min_delay = 0;
+  max_delay = 1;
+  widest = 2;
+  fold_min = 2;
+  fold_max = 0;
+  fold_rows = 6;
+  fold_step = 64;
+  chunk = 1024;
+  shards = 1;
+  max_candidates = 65536;
+  mean = 10000;
+  sd = 1000;
+  snr = 700;
+}
+
+needed_before_six : first_needed short_search 6 ≡ 3
+needed_before_six = refl
+
+needed_near_the_beginning : first_needed short_search 2 ≡ 0
+needed_near_the_beginning = refl

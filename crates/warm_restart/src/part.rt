@@ -26,9 +26,9 @@ pub fn first_needed(search: &Search, place: u64) -> u64
     place.saturating_sub(u64::from(search.max_delay) + u64::from(search.widest))
 }
 
-/// Writes the last line of the text of a part that stops before spectrum `until`, of so many spectra in all: CHECK where
-/// more follow, and else END. `pulses` is how many end before `until`, from the first spectrum on. After a fault the
-/// sink has taken the front of the line.
+/// Writes the last line of the text of a part that stops before spectrum `until`, of so many spectra in all: CHECK
+/// where more follow, and else END. `pulses` is how many end before `until`, from the first spectrum on. After a fault
+/// the sink has taken the front of the line.
 pub fn write_last_line<K: Sink>(
     until: u64,
     spectra: u64,
