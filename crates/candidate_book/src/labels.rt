@@ -43,7 +43,8 @@ pub trait LineLabels {
         ensures value { result ≡ cells_of_delay self.now delay }
         ensures bound { result ≤ 2 ^ 40 };
 
-    /// The first word of the line of a pulse that ends at a spectrum.
+    /// The first word of the line of a pulse that ends at a spectrum. Where pulses of one end follow one another, a
+    /// call that writes their lines asks once.
     fn word(&self, end: u64) -> PulseWord
         ensures { result ≡ word_at self.now end };
 }
