@@ -145,9 +145,9 @@ module _ {I F : Type 0} (hdu : Hdu) (transfers : ℕ) (lanes : List (Option Lane
       let stood : StandsAt o transfer (sealed_at_end end.blocks) f.0 =
       subst (λ (l : List Entry). StandsAt o transfer l f.0) cleared_all
       (f.2.stands o (none_stands o transfer e stands.part)) in
-      let over : HasEnded o (data_through end transfer) f.0 =
+      let through : HasEnded o (data_through end transfer) f.0 =
       subst (λ (b : Bool). Stands b o (data_through end transfer) f.0) below stood in
-      let done : HasSearched o (data_through end transfer) f.0 = over.searched (f.2.scope ∙ stands.whole) in
+      let done : HasSearched o (data_through end transfer) f.0 = through.searched (f.2.scope ∙ stands.whole) in
       record {
         book = subst (λ (b : BookContents). HasBook end.books.items transfer s b)
             (book_is o (data_through end transfer) e f.0 f.2.same done) (is_end.books transfer f.0 f.1);
