@@ -1,5 +1,5 @@
 -- Streams of samples that begin with given data bytes.
-use Rattle.std.proofs.Common.{◌≡◌, ℕ, ◌+◌, ◌-◌, ◌*◌, ◌/◌, ◌≤◌, ◌<◌, ◌⊎◌, inl, inr, Bool, true, false, cond, List, ◌++◌, length, refl, ◌∙◌, arith}
+use Rattle.std.proofs.Common.{◌≡◌, ℕ, ◌+◌, ◌-◌, ◌*◌, ◌/◌, ◌≤◌, ◌<◌, ◌⊎◌, inl, inr, Bool, true, false, cond, List, ◌++◌, length, refl, ◌∙◌, ap, arith}
 use Rattle.std.specs.Prelude.{All}
 use Rattle.std.proofs.Math.Nat.{div-mul-le_self, mul-le-mul_right}
 use Rattle.std.proofs.lemmas.Bool.{cases_lt}
@@ -7,8 +7,8 @@ use Rattle.dada_model.specs.Bounds.{ObservationInRange}
 use Rattle.dada_model.specs.Observation.{Observation}
 use Rattle.search_model.specs.Samples.{Filterbank, samples_of}
 use Rattle.search_model.specs.SampleLaws.{SamplesOfBytes}
-use Rattle.search_model.specs.Observed.{filterbank_of}
 use Rattle.search_engine.specs.Engine.{BeginsWith}
+use Rattle.search_engine.specs.Scope.{Scope, kept_by, searched}
 
 -- an accepted observation has 8 or 16 bits
 bits : (o : Observation) → ObservationInRange o → (o.nbit ≡ 8) ⊎ (o.nbit ≡ 16)
@@ -34,27 +34,34 @@ place_in_spectrum true c n channel = channel
 place_in_spectrum false c n channel = omega arith
 
 -- more bytes change no whole spectrum
-pub begins_before : SamplesOfBytes → (o : Observation) (bytes more : List ℕ) (u v : ℕ) (f : Filterbank) →
-    ObservationInRange o → u ≤ v → u ≤ (filterbank_of o bytes).spectra → BeginsWith o (bytes ++ more) v f →
-    BeginsWith o bytes u f
-begins_before law o bytes more u v f range before whole begins = record {
+pub begins_before : SamplesOfBytes → (o : Observation) (scope : Scope) (bytes more : List ℕ) (u v : ℕ) (f : Filterbank) →
+    ObservationInRange o → u ≤ v → u ≤ (searched o scope bytes).spectra →
+    BeginsWith o (searched o scope (bytes ++ more)) v f → BeginsWith o (searched o scope bytes) u f
+begins_before law o scope bytes more u v f range before whole begins = record {
   channels = begins.channels;
   small = begins.small;
   same = λ c t channel early.
       let some = range.few_polarisations in
       let place : ℕ = cond o.is_falling c (o.channels - 1 - c) in
       begins.same c t channel (omega arith)
-      ∙ law.kept o.nbit o.npol bytes more (t * o.channels + place) (bits o range) (omega arith)
+      ∙ ap (λ (n : ℕ). cond (kept_by scope.masked c) n 0)
+      (law.kept o.nbit o.npol bytes more (t * o.channels + place) (bits o range) (omega arith)
       (sample_is_there o.channels (length (samples_of o.nbit o.npol bytes)) u place t whole
-      (place_in_spectrum o.is_falling c o.channels channel) early);
+      (place_in_spectrum o.is_falling c o.channels channel) early));
 }
 
+-- a sample that is kept or 0 is no greater
+small_kept : (b : Bool) (n most : ℕ) → n ≤ most → cond b n 0 ≤ most
+small_kept true n most small = small
+small_kept false n most small = omega arith
+
 -- the samples of the data bytes themselves are such a stream
-pub data_begin : SamplesOfBytes → (o : Observation) (bytes : List ℕ) (u : ℕ) → ObservationInRange o →
-    All (λ byte. byte < 256) bytes → BeginsWith o bytes u (filterbank_of o bytes)
-data_begin law o bytes u range numbers = record {
+pub data_begin : SamplesOfBytes → (o : Observation) (scope : Scope) (bytes : List ℕ) (u : ℕ) → ObservationInRange o →
+    All (λ byte. byte < 256) bytes → BeginsWith o (searched o scope bytes) u (searched o scope bytes)
+data_begin law o scope bytes u range numbers = record {
   channels = refl;
-  small = λ c t. law.bounded o.nbit o.npol bytes (t * o.channels + cond o.is_falling c (o.channels - 1 - c))
-      (bits o range) numbers;
+  small = λ c t. small_kept (kept_by scope.masked c) _ _
+      (law.bounded o.nbit o.npol bytes (t * o.channels + cond o.is_falling c (o.channels - 1 - c))
+      (bits o range) numbers);
   same = λ c t channel early. refl;
 }

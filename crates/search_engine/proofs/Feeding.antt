@@ -8,12 +8,14 @@ use Rattle.dada_model.specs.Laws.{EdgesFall}
 use Rattle.dada_model.specs.Observation.{Observation, edges}
 use Rattle.fdmt_carry.specs.Carrying.{AreNext}
 use Rattle.fdmt_carry.specs.Tables.{Tables}
+use Rattle.search_model.specs.Masks.{kept_of}
 use Rattle.search_model.specs.Observed.{filterbank_of}
 use Rattle.search_model.specs.SampleLaws.{SamplesOfBytes}
 use Rattle.search_model.specs.Samples.{Filterbank, filterbank, samples_of}
 use Rattle.spectra_rows.specs.Unpacking.{OpenedAlike, Unpacking, StandsForBytes, spectrum_bytes, unpacked}
 use Rattle.subband_plan.specs.Nodes.{BandPlan}
 use Rattle.search_engine.specs.Engine.{EngineState, Searches, HoldsData, BeginsWith, most_fed}
+use Rattle.search_engine.specs.Scope.{kept_by, searched}
 use Rattle.shard_search.specs.Sums.{ShardState, StandsForStream, ContinuesStream, SumsAlike}
 use Rattle.search_engine.proofs.Data.{begins_before, data_begin}
 use Rattle.search_engine.proofs.Sizes.{size_of, size_some, whole_are, given_fit, held_fit}
@@ -35,6 +37,25 @@ unpacked_is o e bytes s =
     ∙ ap (λ n. filterbank o.channels o.is_falling (samples_of n u.npol bytes)) s.nbit
     ∙ ap (λ n. filterbank o.channels o.is_falling (samples_of o.nbit n bytes)) s.npol
 
+-- there are no more marks than channels, and few of them
+pub marks_fit : (o : Observation) (e : EngineState) → Searches o e → length e.scope.masked ≤ e.unpacker.channels
+marks_fit o e s = let marks = s.marks in let own = s.channels in omega (arith, marks, own)
+
+pub few_channels : (o : Observation) (e : EngineState) → Searches o e → e.unpacker.channels ≤ 4096
+few_channels o e s = let many = s.bounds.many_channels in let own = s.channels in omega (arith, many, own)
+
+-- the samples that an unpacker has after its masked rows were hidden
+pub kept_is : (o : Observation) (e : EngineState) (bytes : List ℕ) → Searches o e →
+    kept_of (kept_by e.scope.masked) (unpacked e.unpacker bytes) ≡ searched o e.scope bytes
+kept_is o e bytes s = ap (kept_of (kept_by e.scope.masked)) (unpacked_is o e bytes s)
+
+-- rows have the samples of the spectra that are held
+abbrev pub HasRows : EngineState → List ℕ → List ℕ → Type 0
+HasRows e bytes rows =
+    (c t : ℕ) → c < e.unpacker.channels → t < e.unpacker.whole
+    → slice_index rows (c * e.unpacker.chunk + t)
+    ≡ (kept_of (kept_by e.scope.masked) (unpacked e.unpacker bytes)).value c (e.sums.carry.fed + t)
+
 pub channels_are : EdgesFall → (o : Observation) (e : EngineState) → Searches o e →
     channels_of e.sums.carry.tables.plan.edges ≡ o.channels
 channels_are fall o e s =
@@ -49,6 +70,7 @@ searches_with o e u fed s alike = record {
   range = s.range;
   shard = s.shard;
   accepted = s.accepted;
+  marks = s.marks;
   channels = alike.channels ∙ s.channels;
   is_falling = alike.is_falling ∙ s.is_falling;
   nbit = alike.nbit ∙ s.nbit;
@@ -82,7 +104,7 @@ pushed_holds law o before piece e u n holds alike long pieces numbers most =
       count = omega (arith, count, both, long);
       most = most;
       held = pieces holds.held;
-      sums = λ f begins. holds.sums f (begins_before law o before piece e.sums.carry.fed e.sums.carry.fed f s.bounds
+      sums = λ f begins. holds.sums f (begins_before law o e.scope before piece e.sums.carry.fed e.sums.carry.fed f s.bounds
           (let l : e.sums.carry.fed ≤ e.sums.carry.fed = omega arith in l) whole begins);
     }
 
@@ -100,12 +122,12 @@ piece_holds law o before bytes e u n room holds count alike pieces numbers most 
 
 -- a stream that begins with more data begins with those before
 pub begins_old : SamplesOfBytes → (o : Observation) (before piece : List ℕ) (e : EngineState) (v : ℕ) (f : Filterbank) →
-    HoldsData o before e → e.sums.carry.fed ≤ v → BeginsWith o (before ++ piece) v f →
-    BeginsWith o before e.sums.carry.fed f
+    HoldsData o before e → e.sums.carry.fed ≤ v → BeginsWith o (searched o e.scope (before ++ piece)) v f →
+    BeginsWith o (searched o e.scope before) e.sums.carry.fed f
 begins_old law o before piece e v f holds less begins =
     let s = holds.searches in
     let P : ℕ → Type 0 = λ k. e.sums.carry.fed * k ≤ length before in
-    begins_before law o before piece e.sums.carry.fed v f s.bounds less
+    begins_before law o e.scope before piece e.sums.carry.fed v f s.bounds less
     (whole_are o s.bounds before e.sums.carry.fed (subst P (size_is o e s)
     (given_fit e.unpacker before e.sums.carry.fed holds.held))) begins
 
@@ -119,9 +141,9 @@ rows_long fall o e count s is =
     ∙ ap (λ n. channels_of e.sums.carry.tables.plan.edges * n) (s.chunk ∙ sym s.rows)
 
 -- a stream that begins with more of the data begins with less of them
-pub begins_less : (o : Observation) (bytes : List ℕ) (u v : ℕ) (f : Filterbank) → u ≤ v → BeginsWith o bytes v f →
-    BeginsWith o bytes u f
-begins_less o bytes u v f less begins = record {
+pub begins_less : (o : Observation) (g : Filterbank) (u v : ℕ) (f : Filterbank) → u ≤ v → BeginsWith o g v f →
+    BeginsWith o g u f
+begins_less o g u v f less begins = record {
   channels = begins.channels;
   small = begins.small;
   same = λ c t channel early. begins.same c t channel (omega arith);
@@ -129,9 +151,8 @@ begins_less o bytes u v f less begins = record {
 
 pub next_spectra : (o : Observation) (bytes rows : List ℕ) (e : EngineState) (r : ℕ) → HoldsData o bytes e →
     r ≤ e.unpacker.whole →
-    ((c t : ℕ) → c < e.unpacker.channels → t < e.unpacker.whole →
-    slice_index rows (c * e.unpacker.chunk + t) ≡ (unpacked e.unpacker bytes).value c (e.sums.carry.fed + t)) →
-    (f : Filterbank) → BeginsWith o bytes (e.sums.carry.fed + r) f → AreNext e.sums.carry f rows r
+    HasRows e bytes rows →
+    (f : Filterbank) → BeginsWith o (searched o e.scope bytes) (e.sums.carry.fed + r) f → AreNext e.sums.carry f rows r
 next_spectra o bytes rows e r holds few samples f begins = λ channel i within early.
     let s = holds.searches in
     let channels = begins.channels in
@@ -139,22 +160,21 @@ next_spectra o bytes rows e r holds few samples f begins = λ channel i within e
     let chunk : e.sums.carry.tables.chunk ≡ e.unpacker.chunk = s.rows ∙ sym s.chunk in
     ap (λ n. slice_index rows (channel * n + i)) chunk
     ∙ samples channel i (omega (arith, channels, own, within)) (omega (arith, few, early))
-    ∙ ap (λ (g : Filterbank). g.value channel (e.sums.carry.fed + i)) (unpacked_is o e bytes s)
+    ∙ ap (λ (g : Filterbank). g.value channel (e.sums.carry.fed + i)) (kept_is o e bytes s)
     ∙ sym (begins.same channel (e.sums.carry.fed + i) (omega (arith, channels, within)) (omega (arith, early)))
 
 pub goes_on : SamplesOfBytes → (o : Observation) (bytes rows : List ℕ) (e : EngineState) (r : ℕ) →
     HoldsData o bytes e → r ≤ e.unpacker.whole →
-    ((c t : ℕ) → c < e.unpacker.channels → t < e.unpacker.whole →
-    slice_index rows (c * e.unpacker.chunk + t) ≡ (unpacked e.unpacker bytes).value c (e.sums.carry.fed + t)) →
+    HasRows e bytes rows →
     ContinuesStream e.sums.carry rows r
 goes_on law o bytes rows e r holds few samples =
-    let f = filterbank_of o bytes in
+    let f = searched o e.scope bytes in
     let bounds = holds.searches.bounds in
     record {
       stream = f;
-      stands = (holds.sums f (data_begin law o bytes e.sums.carry.fed bounds holds.numbers)).carry;
+      stands = (holds.sums f (data_begin law o e.scope bytes e.sums.carry.fed bounds holds.numbers)).carry;
       next = next_spectra o bytes rows e r holds few samples f
-          (data_begin law o bytes (e.sums.carry.fed + r) bounds holds.numbers);
+          (data_begin law o e.scope bytes (e.sums.carry.fed + r) bounds holds.numbers);
     }
 
 -- there are few spectra in all
@@ -173,16 +193,15 @@ few_spectra o bytes e r holds few =
     omega (arith, fits, count, most, twice, few)
 
 pub searched_holds : (o : Observation) (bytes rows : List ℕ) (e : EngineState) (u : Unpacking) (t : ShardState)
-    (b : BookContents) (h : Bool) (r : ℕ) → HoldsData o bytes e → u ≡ record e.unpacker { whole = 0 } →
+    (b : BookContents) (h : Bool) (r : ℕ) → HoldsData o bytes e → OpenedAlike u e.unpacker →
     r ≡ e.unpacker.whole →
     (StandsForBytes e.unpacker bytes e.sums.carry.fed →
     StandsForBytes u bytes (e.sums.carry.fed + e.unpacker.whole)) →
     SumsAlike t e.sums → t.carry.fed ≡ e.sums.carry.fed + r →
-    ((c i : ℕ) → c < e.unpacker.channels → i < e.unpacker.whole →
-    slice_index rows (c * e.unpacker.chunk + i) ≡ (unpacked e.unpacker bytes).value c (e.sums.carry.fed + i)) →
+    HasRows e bytes rows →
     ((f : Filterbank) → StandsForStream e.sums f → AreNext e.sums.carry f rows r → StandsForStream t f) →
     HoldsData o bytes (record e { has_ended = h; unpacker = u; sums = t; book = b })
-searched_holds o bytes rows e u t b h r holds is whole given alike fed samples stands =
+searched_holds o bytes rows e u t b h r holds is_alike whole given alike fed samples stands =
     let s = holds.searches in
     let few : r ≤ e.unpacker.whole = omega (arith, whole) in
     let P : ℕ → Type 0 = λ n. StandsForBytes u bytes n in
@@ -193,11 +212,12 @@ searched_holds o bytes rows e u t b h r holds is whole given alike fed samples s
         range = s.range;
         shard = s.shard;
         accepted = s.accepted;
-        channels = ap (λ (v : Unpacking). v.channels) is ∙ s.channels;
-        is_falling = ap (λ (v : Unpacking). v.is_falling) is ∙ s.is_falling;
-        nbit = ap (λ (v : Unpacking). v.nbit) is ∙ s.nbit;
-        npol = ap (λ (v : Unpacking). v.npol) is ∙ s.npol;
-        chunk = ap (λ (v : Unpacking). v.chunk) is ∙ s.chunk;
+        marks = s.marks;
+        channels = is_alike.channels ∙ s.channels;
+        is_falling = is_alike.is_falling ∙ s.is_falling;
+        nbit = is_alike.nbit ∙ s.nbit;
+        npol = is_alike.npol ∙ s.npol;
+        chunk = is_alike.chunk ∙ s.chunk;
         plan = ap (λ (x : Tables). x.plan) alike.tables ∙ s.plan;
         rows = ap (λ (x : Tables). x.chunk) alike.tables ∙ s.rows;
         most = ap (λ (x : Tables). x.most) alike.tables ∙ s.most;
@@ -209,8 +229,8 @@ searched_holds o bytes rows e u t b h r holds is whole given alike fed samples s
       most = holds.most;
       held = subst P total (given holds.held);
       sums = λ f begins.
-          let B : ℕ → Type 0 = λ n. BeginsWith o bytes n f in
+          let B : ℕ → Type 0 = λ n. BeginsWith o (searched o e.scope bytes) n f in
           let later = subst B fed begins in
-          stands f (holds.sums f (begins_less o bytes e.sums.carry.fed (e.sums.carry.fed + r) f (omega arith) later))
+          stands f (holds.sums f (begins_less o (searched o e.scope bytes) e.sums.carry.fed (e.sums.carry.fed + r) f (omega arith) later))
           (next_spectra o bytes rows e r holds few samples f later);
     }

@@ -1,7 +1,10 @@
 pub mod Data
 pub mod Feeding
+pub mod Less
 pub mod Opening
 pub mod PlanFits
 pub mod Searched
+pub mod Silenced
 pub mod Sizes
+pub mod Whole
 pub mod WholeChunks

@@ -1,21 +1,19 @@
 -- What the book has after the spectra that are held were searched, and after the folds.
 use Rattle.std.proofs.Common.{◌≡◌, ℕ, ◌+◌, ◌-◌, ◌++◌, List, length, sym, ◌∙◌, ap, arith}
-use Rattle.std.specs.List.{range_with_len, flat_map}
-use Rattle.std.proofs.lemmas.List.Concat.{flat_map-append}
 use Rattle.candidate_book.specs.Book.{BookContents, book_of}
 use Rattle.dada_model.specs.Laws.{EdgesFall}
 use Rattle.dada_model.specs.Observation.{Observation, edges}
 use Rattle.search_model.specs.declared.candidate.Candidate.{Candidate}
 use Rattle.search_model.specs.declared.search.Search.{Search}
-use Rattle.search_model.specs.Candidates.{plain_cells, folds, within_delays, shard_part}
-use Rattle.search_model.specs.Observed.{filterbank_of, candidates_of}
+use Rattle.search_model.specs.Candidates.{plain_cells, candidates, folds, within_delays, shard_part}
 use Rattle.search_model.specs.Samples.{Filterbank}
 use Rattle.search_model.specs.Search.{shard_start}
 use Rattle.subband_plan.specs.Nodes.{BandPlan}
 use Rattle.search_engine.specs.Engine.{EngineState, Searches}
+use Rattle.search_engine.specs.Scope.{searched}
 use Rattle.shard_search.specs.Judging.{Adds}
 use Rattle.shard_search.specs.Laws.{ShardsAreListed}
-use Rattle.shard_search.specs.Pulses.{pulses_of_end, pulses_of_ends}
+use Rattle.shard_search.specs.Pulses.{pulses_of_ends}
 use Rattle.shard_search.specs.Sums.{sums_of, pulses_of_plan, folds_of_plan}
 use Rattle.search_engine.proofs.PlanFits.{shard_rises, shard_delays}
 
@@ -82,12 +80,13 @@ book_more listed fall o e f b u r s is adds =
 -- and with the folds it has the shard's part of all candidates
 pub book_of_all : ShardsAreListed → EdgesFall → (o : Observation) (e : EngineState) (bytes : List ℕ) (b c : BookContents) →
     Searches o e →
-    b ≡ book_of e.search.max_candidates (pulses_so_far o e.search e.shard (filterbank_of o bytes)
-    (filterbank_of o bytes).spectra) →
-    Adds b c (folds_of_plan (filterbank_of o bytes) e.sums.carry.tables.plan e.sums.pulses.search) →
-    c ≡ book_of e.search.max_candidates (shard_part e.search e.shard (candidates_of o e.search bytes))
+    b ≡ book_of e.search.max_candidates (pulses_so_far o e.search e.shard (searched o e.scope bytes)
+    (searched o e.scope bytes).spectra) →
+    Adds b c (folds_of_plan (searched o e.scope bytes) e.sums.carry.tables.plan e.sums.pulses.search) →
+    c ≡ book_of e.search.max_candidates (shard_part e.search e.shard
+    (candidates (searched o e.scope bytes) (edges o) (plain_cells o.channels) e.search))
 book_of_all listed fall o e bytes b c s is adds =
-    let f = filterbank_of o bytes in
+    let f = searched o e.scope bytes in
     let more = folds_of_plan f e.sums.carry.tables.plan e.sums.pulses.search in
     book_with b c e.search.max_candidates (pulses_so_far o e.search e.shard f f.spectra) more is adds
     ∙ ap (λ xs. book_of e.search.max_candidates (pulses_so_far o e.search e.shard f f.spectra ++ xs))

@@ -6,7 +6,7 @@ use Rattle.dada_model.specs.Observation.{Observation, edges, max_sample}
 use Rattle.search_model.specs.declared.search.Search.{Search}
 use Rattle.search_model.specs.Samples.{Filterbank}
 use Rattle.search_model.specs.Search.{SettingsInRange, shard_start}
-use Rattle.search_model.specs.Candidates.{shard_part}
+use Rattle.search_model.specs.Candidates.{plain_cells, candidates, shard_part}
 use Rattle.search_model.specs.Observed.{filterbank_of, candidates_of}
 use Rattle.search_model.specs.Plan.{plan_refusal}
 use Rattle.candidate_book.specs.Book.{BookContents, book_of}
@@ -17,11 +17,14 @@ use Rattle.fdmt_carry.specs.Carrying.{IsStream}
 use Rattle.shard_search.specs.Counts.{most_pulses_at_end, most_tables}
 use Rattle.shard_search.specs.Pulses.{pulses_of_ends}
 use Rattle.shard_search.specs.Sums.{ShardState, StandsForStream, sums_of}
+use Rattle.search_engine.specs.Scope.{Scope, searched, whole_scope}
 
--- The search of one shard: how many bytes it was fed, and whether it ended; what stands behind.
+-- The search of one shard: what of the observation is searched, how many bytes it was fed, and whether it ended; what
+-- stands behind.
 pub record EngineState : Type 0 where
   pub search : Search
   pub shard : ℕ
+  pub scope : Scope
   pub fed : ℕ
   pub has_ended : Bool
   pub unpacker : Unpacking
@@ -36,11 +39,11 @@ most_fed = 2 ^ 48 + 2 ^ 28
 abbrev pub chunk_of : Search → ℕ
 chunk_of s = min s.chunk 608
 
--- a stream of samples that begins with the first u spectra of an observation's data bytes
-pub record BeginsWith (o : Observation) (bytes : List ℕ) (u : ℕ) (f : Filterbank) : Type 0 where
+-- a stream of an observation's samples that begins with the first u spectra of the samples g
+pub record BeginsWith (o : Observation) (g : Filterbank) (u : ℕ) (f : Filterbank) : Type 0 where
   pub channels : f.channels ≡ o.channels
   pub small : (c t : ℕ) → f.value c t ≤ max_sample o
-  pub same : (c t : ℕ) → c < o.channels → t < u → f.value c t ≡ (filterbank_of o bytes).value c t
+  pub same : (c t : ℕ) → c < o.channels → t < u → f.value c t ≡ g.value c t
 
 -- the engine searches an observation: its parts are opened for the shard's delays
 pub record Searches (o : Observation) (e : EngineState) : Type 0 where
@@ -48,6 +51,7 @@ pub record Searches (o : Observation) (e : EngineState) : Type 0 where
   pub range : SettingsInRange e.search
   pub shard : e.shard < e.search.shards
   pub accepted : plan_refusal o e.search ≡ None
+  pub marks : length e.scope.masked ≤ o.channels
   pub channels : e.unpacker.channels ≡ o.channels
   pub is_falling : e.unpacker.is_falling ≡ o.is_falling
   pub nbit : e.unpacker.nbit ≡ o.nbit
@@ -67,22 +71,28 @@ pub record HoldsData (o : Observation) (bytes : List ℕ) (e : EngineState) : Ty
   pub count : length bytes ≡ e.fed
   pub most : e.fed ≤ most_fed
   pub held : StandsForBytes e.unpacker bytes e.sums.carry.fed
-  pub sums : (f : Filterbank) → BeginsWith o bytes e.sums.carry.fed f → StandsForStream e.sums f
+  pub sums : (f : Filterbank) → BeginsWith o (searched o e.scope bytes) e.sums.carry.fed f
+      → StandsForStream e.sums f
 
 -- and all full chunks of them were searched
 pub record HasTaken (o : Observation) (bytes : List ℕ) (e : EngineState) : Type 0 where
   pub holds : HoldsData o bytes e
   pub part : e.unpacker.whole < e.unpacker.chunk
 
--- the engine was fed these data bytes of an observation: whole chunks of them were searched, and its book has the
--- pulses that end at these spectra
-pub record StandsForData (o : Observation) (bytes : List ℕ) (e : EngineState) : Type 0 where
+-- the engine was fed these data bytes of an observation: of what is searched of them whole chunks were, and its book has
+-- the pulses that end at these spectra
+pub record StandsForPart (o : Observation) (bytes : List ℕ) (e : EngineState) : Type 0 where
   pub taken : HasTaken o bytes e
   pub chunks : e.sums.carry.fed % chunk_of e.search ≡ 0
-  pub book : (f : Filterbank) → BeginsWith o bytes e.sums.carry.fed f
+  pub book : (f : Filterbank) → BeginsWith o (searched o e.scope bytes) e.sums.carry.fed f
       → e.book ≡ book_of e.search.max_candidates
       (pulses_of_ends (sums_of f (edges o)) e.search o.channels (shard_start e.search e.shard)
       (shard_start e.search (e.shard + 1)) 0 e.sums.carry.fed)
+
+-- the same, where all of the observation is searched
+pub record StandsForData (o : Observation) (bytes : List ℕ) (e : EngineState) : Type 0 where
+  pub part : StandsForPart o bytes e
+  pub whole : e.scope ≡ whole_scope
 
 -- what always holds: there are bytes that it was fed; and as long as it has not ended, its book has room for more
 pub record EngineIsSound (e : EngineState) : Type 0 where
@@ -116,6 +126,18 @@ pub record HasSearched (o : Observation) (bytes : List ℕ) (e : EngineState) : 
   pub tables : e.sums.carry.has_tables ≡ true
   pub last : e.sums.carry.last
       ≡ min ((filterbank_of o bytes).spectra % chunk_of e.search) most_tables
+
+-- The same of what is searched: its book has the shard's part of the candidates among these samples.
+pub record HasFoundPart (o : Observation) (bytes : List ℕ) (e : EngineState) : Type 0 where
+  pub book : e.book ≡ book_of e.search.max_candidates (shard_part e.search e.shard
+      (candidates (searched o e.scope bytes) (edges o) (plain_cells o.channels) e.search))
+  pub spectra : e.sums.carry.fed ≡ (searched o e.scope bytes).spectra
+  pub plan : e.sums.carry.tables.plan
+      ≡ band_plan (edges o) (shard_start e.search e.shard) (shard_start e.search (e.shard + 1) - 1)
+  pub carry : carry.StandsForSamples e.sums.carry (searched o e.scope bytes)
+  pub tables : e.sums.carry.has_tables ≡ true
+  pub last : e.sums.carry.last
+      ≡ min ((searched o e.scope bytes).spectra % chunk_of e.search) most_tables
 
 -- an unpacker of an observation's data bytes, with no byte, whether its rows are of bytes or not
 abbrev pub IsOpenedUnpacker : Observation → ℕ → Unpacking → Type 0

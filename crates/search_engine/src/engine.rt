@@ -1,15 +1,18 @@
 // The engine: data bytes in, candidates out.
-ghost use Rattle.std.specs.Prelude.{◌≡◌, ℕ, ◌+◌, ◌-◌, ◌*◌, ◌/◌, ◌≤◌, ◌<◌, ◌++◌, [], true, false, None, OnOk, IfOk, IfErr, List, length, slice_index, take};
+ghost use Rattle.std.specs.Prelude.{◌≡◌, ℕ, ◌+◌, ◌-◌, ◌*◌, ◌/◌, ◌≤◌, ◌<◌, ◌++◌, [], true, false, None, OnOk, IfOk, IfErr, List, length, take};
 ghost use Rattle.dada_model.specs.Observation.{Observation as Described};
 ghost use Rattle.search_model.specs.Search.{SettingsInRange, shard_start as shard_start_of};
 ghost use Rattle.search_model.specs.Plan.{plan_refusal};
 ghost use Rattle.search_engine.specs.Plan.{Explains};
 ghost use Rattle.row_schedule.specs.Samples.{values_of};
-ghost use Rattle.spectra_rows.specs.Unpacking.{StandsForBytes, unpacked};
-ghost use Rattle.search_engine.specs.Engine.{EngineState, EngineIsSound, IsOpenedSums, StandsForData, HasSearched, IsOpenedEngine, IsOpenedUnpacker, SameShard, most_fed};
+ghost use Rattle.spectra_rows.specs.Unpacking.{StandsForBytes};
+ghost use Rattle.search_engine.specs.Engine.{EngineState, EngineIsSound, IsOpenedSums, StandsForData, StandsForPart, HasSearched, HasFoundPart, IsOpenedEngine, IsOpenedUnpacker, SameShard, most_fed};
+ghost use Rattle.search_engine.specs.Scope.{marks_of};
 
 use crate::fault::PlanFault;
+use crate::hiding::Masked;
 use crate::plan::check_plan;
+use crate::scope::Scope;
 use candidate_book::Book;
 use fdmt_carry::Carry;
 use obs_plan::Observation;
@@ -35,6 +38,7 @@ const MOST_CHUNK: u32 = 608;
 pub struct Engine {
     search: Search,
     shard: u32,
+    masked: Masked,
     fed: u64,
     has_ended: bool,
     chunk: u32,
@@ -49,6 +53,7 @@ impl Model for Engine {
     ghost view = { λ e. record {
       search = e.search;
       shard = e.shard;
+      scope = record { masked = marks_of e.masked };
       fed = e.fed;
       has_ended = e.has_ended;
       unpacker = e.unpacker;
@@ -59,6 +64,7 @@ impl Model for Engine {
     ghost invariant = { λ e. EngineIsSound (record {
       search = e.search;
       shard = e.shard;
+      scope = record { masked = marks_of e.masked };
       fed = e.fed;
       has_ended = e.has_ended;
       unpacker = e.unpacker;
@@ -82,6 +88,26 @@ impl Engine {
         ensures stands { IfOk result (StandsForData observation.now []) }
         ensures refused { IfErr result (Explains (plan_refusal observation.now search.now)) }
     {
+        Engine::open_for(alloc, observation, search, shard, Scope::whole())
+    }
+
+    /// The same for a search of what lies in a scope. The search is refused as one of the whole observation is.
+    pub fn open_for(
+        alloc: Global,
+        observation: &Observation,
+        search: &Search,
+        shard: u32,
+        scope: Scope,
+    ) -> Result<Engine, PlanFault>
+        requires range { SettingsInRange search.now }
+        requires shard { shard < search.now.shards }
+        requires marks { length scope.masked ≤ observation.now.channels }
+        ensures fits { OnOk result (plan_refusal observation.now search.now ≡ None) }
+        ensures opened { IfOk result (λ e. IsOpenedEngine e search.now shard) }
+        ensures scope { IfOk result (λ e. e.scope ≡ scope) }
+        ensures stands { IfOk result (StandsForPart observation.now []) }
+        ensures refused { IfErr result (Explains (plan_refusal observation.now search.now)) }
+    {
         check_plan(observation, search)?;
         observation.lies_in_range();
         edges_fall();
@@ -92,6 +118,7 @@ impl Engine {
         Ok(Engine {
             search: *search,
             shard,
+            masked: scope.masked,
             fed: 0,
             has_ended: false,
             chunk,
@@ -106,8 +133,11 @@ impl Engine {
         requires running { self.old.has_ended ≡ false }
         requires few { self.old.fed + length bytes.now ≤ most_fed }
         ensures same { SameShard self.new self.old }
+        ensures scope { self.new.scope ≡ self.old.scope }
         ensures running { self.new.has_ended ≡ false }
         ensures fed { self.new.fed ≡ self.old.fed + length bytes.now }
+        ensures part { (o : Described) (before : List ℕ) → StandsForPart o before self.old
+            → StandsForPart o (before ++ bytes.now) self.new }
         ensures stands { (o : Described) (before : List ℕ) → StandsForData o before self.old
             → StandsForData o (before ++ bytes.now) self.new }
     {
@@ -121,8 +151,11 @@ impl Engine {
     pub fn end(&mut self)
         requires { self.old.has_ended ≡ false }
         ensures same { SameShard self.new self.old }
+        ensures scope { self.new.scope ≡ self.old.scope }
         ensures ended { self.new.has_ended ≡ true }
         ensures fed { self.new.fed ≡ self.old.fed }
+        ensures found { (o : Described) (bytes : List ℕ) → StandsForPart o bytes self.old
+            → HasFoundPart o bytes self.new }
         ensures searched { (o : Described) (bytes : List ℕ) → StandsForData o bytes self.old
             → HasSearched o bytes self.new }
     {
@@ -130,6 +163,7 @@ impl Engine {
         samples_of_bytes();
         shards_are_listed();
         let spectra = self.unpacker.spectra();
+        self.masked.hide(&mut self.unpacker);
         self.sums
             .take(samples(&self.unpacker), spectra, &mut self.book);
         self.unpacker.taken();
@@ -188,10 +222,11 @@ impl Engine {
         ensures some { 0 < result }
         ensures most { result ≤ length bytes.now }
         ensures same { SameShard self.new self.old }
+        ensures scope { self.new.scope ≡ self.old.scope }
         ensures running { self.new.has_ended ≡ false }
         ensures fed { self.new.fed ≡ self.old.fed + result }
-        ensures stands { (o : Described) (before : List ℕ) → StandsForData o before self.old
-            → StandsForData o (before ++ take result bytes.now) self.new }
+        ensures part { (o : Described) (before : List ℕ) → StandsForPart o before self.old
+            → StandsForPart o (before ++ take result bytes.now) self.new }
     {
         edges_fall();
         samples_of_bytes();
@@ -199,6 +234,7 @@ impl Engine {
         let count = self.unpacker.push(bytes);
         self.fed += count as u64;
         if self.unpacker.spectra() == self.chunk {
+            self.masked.hide(&mut self.unpacker);
             let rows = samples(&self.unpacker);
             self.sums.pass(rows, self.chunk, &mut self.book);
             self.unpacker.taken();
@@ -251,10 +287,7 @@ fn open_unpacker(alloc: Global, observation: &Observation, chunk: u32) -> Result
 // The samples of the spectra that an unpacker holds.
 fn samples(unpacker: &Unpacker) -> Samples<'_>
     ensures long { length (values_of result) ≡ unpacker.now.channels * unpacker.now.chunk }
-    ensures samples { (bytes : List ℕ) (gone c t : ℕ) → StandsForBytes unpacker.now bytes gone
-        → c < unpacker.now.channels → t < unpacker.now.whole
-        → slice_index (values_of result) (c * unpacker.now.chunk + t)
-        ≡ (unpacked unpacker.now bytes).value c (gone + t) }
+    ensures rows { values_of result ≡ unpacker.now.rows }
 {
     if unpacker.in_bytes() {
         Samples::Bytes(unpacker.byte_rows())

@@ -3,8 +3,11 @@
 
 mod engine;
 mod fault;
+mod hiding;
 mod plan;
+mod scope;
 
 pub use engine::Engine;
 pub use fault::PlanFault;
 pub use plan::check_plan;
+pub use scope::Scope;

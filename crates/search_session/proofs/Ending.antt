@@ -15,7 +15,7 @@ use Rattle.ring_blocks.specs.declared.Entry.{Entry}
 use Rattle.ring_ends.specs.Ended.{sealed_at_end, cleared_at_end}
 use Rattle.dada_hdu.specs.declared.hdu.Hdu.{Hdu}
 use Rattle.stream_model.specs.Blocks.{ended_transfers, transfer_bytes, is_over}
-use Rattle.search_engine.specs.Engine.{EngineState, SameShard, StandsForData, HasSearched}
+use Rattle.search_engine.specs.Engine.{EngineState, SameShard, StandsForPart, StandsForData, HasSearched}
 use Rattle.disk_feeder.specs.declared.answers.FeedEnd.TheVariants.{Whole}
 use Rattle.disk_feeder.specs.Feeding.{IsEnding}
 use Rattle.search_session.specs.declared.lane.Lane.{Lane}
@@ -24,7 +24,7 @@ use Rattle.search_session.specs.declared.shard.ShardActor.{ShardActor}
 use Rattle.search_session.specs.declared.record.RecordActor.{RecordActor}
 use Rattle.search_session.specs.declared.hand.Hand.{Hand}
 use Rattle.search_session.specs.declared.ended.SessionEnd.{SessionEnd}
-use Rattle.search_session.specs.Lanes.{HasEngine, Stands}
+use Rattle.search_session.specs.Lanes.{HasEnded, HasEngine, Stands}
 use Rattle.search_session.specs.Shards.{StandsAt, EnginesFollow, shard_cleared, shard_number, ShardOn}
 use Rattle.search_session.specs.Feeds.{FeedOn}
 use Rattle.search_session.specs.Records.{RecordOn}
@@ -98,11 +98,11 @@ module _ {I F : Type 0} (told : I → Told) (is_open : I → Type 0) (files_open
 
 -- ---- the shards' ends
 
-pub none_stands : (o : Observation) (k : ℕ) (e : EngineState) → StandsForData o [] e → StandsAt o k [] e
+pub none_stands : (o : Observation) (k : ℕ) (e : EngineState) → StandsForPart o [] e → StandsAt o k [] e
 none_stands o k e stands =
     subst (λ (n : ℕ). Stands (nat_lt k n) o (transfer_bytes k []) e) (sym none_ended)
     (subst (λ (b : Bool). Stands b o (transfer_bytes k []) e) (sym (not_below_zero k))
-    (subst (λ (l : List ℕ). StandsForData o l e) (sym (nothing k)) stands))
+    (subst (λ (l : List ℕ). StandsForPart o l e) (sym (nothing k)) stands))
 
 pub below_true : (a b : ℕ) → a < b → nat_lt a b ≡ true
 below_true a b less = grind (arith, nat_tests)
@@ -144,9 +144,10 @@ module _ {I F : Type 0} (hdu : Hdu) (transfers : ℕ) (lanes : List (Option Lane
       below_true transfer (ended_transfers (sealed_at_end end.blocks)) (omega arith) in
       let stood : StandsAt o transfer (sealed_at_end end.blocks) f.0 =
       subst (λ (l : List Entry). StandsAt o transfer l f.0) cleared_all
-      (f.2.stands o (none_stands o transfer e stands)) in
-      let done : HasSearched o (data_through end transfer) f.0 =
+      (f.2.stands o (none_stands o transfer e stands.part)) in
+      let through : HasEnded o (data_through end transfer) f.0 =
       subst (λ (b : Bool). Stands b o (data_through end transfer) f.0) below stood in
+      let done : HasSearched o (data_through end transfer) f.0 = through.searched (f.2.scope ∙ stands.whole) in
       record {
         book = subst (λ (b : BookContents). HasBook end.books.items transfer s b)
             (book_is o (data_through end transfer) e f.0 f.2.same done) (is_end.books transfer f.0 f.1);

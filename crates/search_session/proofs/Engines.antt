@@ -10,7 +10,7 @@ use Rattle.ring_blocks.specs.declared.Entry.{Entry}
 use Rattle.ring_blocks.specs.declared.Mark.{Mark}
 use Rattle.stream_model.specs.Blocks.{is_end, ended_transfers, transfer_bytes}
 use Rattle.stream_model.specs.BlockLaws.{EndsAreCounted, EntriesAreOfTransfers}
-use Rattle.search_engine.specs.Engine.{EngineState, StandsForData}
+use Rattle.search_engine.specs.Engine.{EngineState, StandsForPart}
 use Rattle.search_session.specs.Lanes.{HasEngine, Stands, WasFed, WasFedAt, CanFeedAt}
 use Rattle.search_session.specs.Shards.{StandsAt, IsEngineAt, AreEnginesAt, EngineFollows, EnginesFollow}
 
@@ -96,9 +96,10 @@ module _ (counted : EndsAreCounted) (of : EntriesAreOfTransfers) (size : ℕ) (x
       EngineFollows (ended_transfers xs) xs (xs ++ e ∷ []) old new
   this_follows old new fed = record {
     same = fed.same;
+    scope = fed.scope;
     stands = λ o stands.
         let d = ended_transfers xs in
-        let was : StandsForData o (transfer_bytes d xs) old =
+        let was : StandsForPart o (transfer_bytes d xs) old =
         subst (λ (b : Bool). Stands b o (transfer_bytes d xs) old) (not_below_itself d) stands in
         subst (λ (l : List ℕ). Stands (nat_lt d (ended_transfers (xs ++ e ∷ []))) o l new) (sym (of.next d xs e refl))
         (subst (λ (b : Bool). Stands b o (transfer_bytes d xs ++ e.bytes) new)
@@ -130,6 +131,7 @@ module _ (counted : EndsAreCounted) (of : EntriesAreOfTransfers) (size : ℕ) (x
   other_follows : (k : ℕ) (f : EngineState) → k ≢ ended_transfers xs → EngineFollows k xs (xs ++ e ∷ []) f f
   other_follows k f other = record {
     same = record { search = refl; shard = refl };
+    scope = refl;
     stands = λ o stands. stands_same o k xs (xs ++ e ∷ []) f (ended_other k other) (bytes_other of k xs e other) stands;
   }
 
@@ -172,6 +174,7 @@ follow_still xs ys engines is = record {
     there,
     record {
       same = record { search = refl; shard = refl };
+      scope = refl;
       stands = λ o stands. subst (λ (l : List Entry). StandsAt o k l f) (sym is) stands;
     },
   );
@@ -191,6 +194,7 @@ follow_more xs ys zs a b c first second = record {
             search = g.2.same.search ∙ f.2.same.search;
             shard = g.2.same.shard ∙ f.2.same.shard;
           };
+          scope = g.2.scope ∙ f.2.scope;
           stands = λ o stands. g.2.stands o (f.2.stands o stands);
         },
       );
@@ -223,6 +227,7 @@ fed_and_ended e f g bytes b fed ended =
     let second = ended.fed in
     record {
       same = record { search = ended.same.search ∙ fed.same.search; shard = ended.same.shard ∙ fed.same.shard };
+      scope = ended.scope ∙ fed.scope;
       fed = omega arith;
       ended = ended.ended;
       stands = λ o before was. subst (λ (l : List ℕ). Stands b o l g) (append-nil (before ++ bytes))

@@ -106,6 +106,7 @@ module _ {I : Type 0} (laws : SessionLaws I) (told : I → Told) (is_calm : I �
         f.1,
         record {
           same = f.2.same;
+          scope = f.2.scope;
           fed = at.fed;
           ended = at.ended ∙ below;
           stands = λ o stood.

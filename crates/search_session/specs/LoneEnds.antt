@@ -43,6 +43,7 @@ session_end lent end = record {
 -- an engine that was fed nothing, as `e`, was fed these bytes, and ended then
 pub record WentThrough (e : EngineState) (bytes : List ℕ) (f : EngineState) : Type 0 where
   pub same : SameShard f e
+  pub scope : f.scope ≡ e.scope
   pub fed : f.fed ≡ length bytes
   pub ended : f.has_ended ≡ true
   pub stands : (o : Observation) → Stands false o [] e → Stands true o bytes f

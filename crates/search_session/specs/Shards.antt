@@ -45,6 +45,7 @@ AreEnginesAt size blocks engines = (k : ℕ) → k < length engines →
 pub record EngineFollows (transfer : ℕ) (before after : List Entry) (e f : EngineState) :
     Type 0 where
   pub same : SameShard f e
+  pub scope : f.scope ≡ e.scope
   pub stands : (o : Observation) → StandsAt o transfer before e → StandsAt o transfer after f
 
 -- each of the engines was, at its place

@@ -3,6 +3,7 @@ use Rattle.std.proofs.Common.{◌≡◌, ℕ, ◌+◌, ◌-◌, inl, inr, Bool, 
 use Rattle.std.specs.Prelude.{filter, sum_by}
 use Rattle.std.specs.List.{range_with_len, flat_map}
 use Rattle.std.proofs.lemmas.Bool.{cases_lt, cond-true, cond-false, le-leb, lt-leb}
+use Rattle.std.proofs.lemmas.Grind.{flat_map-append}
 use Rattle.std.proofs.lemmas.List.Elements.{filter-append}
 use Rattle.std.proofs.lemmas.List.Sums.{sum_by-cons}
 use Rattle.dada_model.specs.Edges.{AreEdges}
@@ -18,7 +19,7 @@ use Rattle.search_model.specs.Candidates.{plain_cells, if_detected, pulse_at, pu
 use Rattle.shard_search.specs.FoldSearch.{IsDelayRange}
 use Rattle.shard_search.specs.Pulses.{box_of, pulse_of, pulses_of_delay, pulses_of_end, pulses_of_ends}
 use Rattle.shard_search.specs.Sums.{sums_of, sums_from_delay}
-use Rattle.shard_search.proofs.Ranges.{flat_agree}
+use Rattle.shard_search.proofs.Ranges.{flat_agree, range_join}
 use Rattle.shard_search.proofs.Within.{keep_if, keep_flat, lies, has_delay, filter_flat, flat_part}
 
 -- ---- box sums

@@ -29,6 +29,6 @@ pub returns-clause-list : goal.returns-clause-list
 returns-clause-list c = λ cells s values from stands.
     let of = c.args.of in
     let piece : ℕ → List Candidate = λ j. folds_in_trial cells s of.delay of.period of.halvings j values in
-    let all : c.loop-trial.trial ≡ 2 ^ of.halvings = omega (arith, c.power-trial-end.ensures.value) in
+    let all : c.loop-trial.trial ≡ 2 ^ of.halvings = omega (arith, c.fold_row_count-trial-end.ensures.value) in
     adds_same c.args.book.now c.loop-trial.book _ _ (ap (λ n. flat_map piece (range_with_len 0 n)) all)
     (c.loop-trial.invariant.list cells s values from stands)

@@ -12,10 +12,10 @@ rows_of_cells rows rows' cells cells' power same_rows same_cells is =
 
 pub least-requires : goal.least-requires
 least-requires c =
-    let most : c.power.result * c.args.cells ≤ 4096 * c.args.cells =
-    mul-le-mul_right c.args.cells c.power.ensures.bound in
+    let most : c.fold_row_count.result * c.args.cells ≤ 4096 * c.args.cells =
+    mul-le-mul_right c.args.cells c.fold_row_count.ensures.bound in
     let few = c.requires.cells in
-    let same = rows_of_cells c.from-rows.result c.power.result c.from.result c.args.cells c.power.result
+    let same = rows_of_cells c.from-rows.result c.fold_row_count.result c.from.result c.args.cells c.fold_row_count.result
     c.from-rows.ensures c.from.ensures refl in
     omega (arith, most, few, same)
 
@@ -39,7 +39,7 @@ loop-halvings-preserved c =
             let is : at ≡ m = omega arith in
             subst R is
             (subst (P at) (sym (get_or-set_same old at c.least.result None room))
-            (subst Q (rows_of_cells c.from-rows.result c.power.result c.from.result c.args.cells (2 ^ at)
-            c.from-rows.ensures c.from.ensures c.power.ensures.value) c.least.ensures))
+            (subst Q (rows_of_cells c.from-rows.result c.fold_row_count.result c.from.result c.args.cells (2 ^ at)
+            c.from-rows.ensures c.from.ensures c.fold_row_count.ensures.value) c.least.ensures))
       ];
     }

@@ -1,27 +1,36 @@
-use Rattle.std.proofs.Common.{◌≡◌, ℕ, ◌+◌, ◌<◌, true, false, sym, ◌∙◌, ap, subst, arith}
+use Rattle.std.proofs.Common.{◌≡◌, ℕ, ◌+◌, ◌*◌, ◌<◌, true, false, sym, ◌∙◌, ap, subst, arith}
 use Rattle.candidate_book.specs.Book.{book_of}
 use Rattle.fdmt_carry.specs.Carrying as carry
 use Rattle.fdmt_carry.specs.Tables.{Tables}
 use Rattle.search_model.specs.declared.search.Search.{Search}
 use Rattle.row_schedule.specs.Samples.{values_of}
 use Rattle.search_model.specs.Samples.{Filterbank}
-use Rattle.search_model.specs.Observed.{filterbank_of}
 use Rattle.spectra_rows.specs.Unpacking.{Unpacking}
 use Rattle.shard_search.specs.Counts.{most_tables}
-use Rattle.search_engine.specs.Engine.{EngineState, HoldsData, StandsForData, chunk_of}
+use Rattle.search_engine.specs.Engine.{EngineState, HoldsData, StandsForPart, chunk_of}
+use Rattle.search_engine.specs.Scope.{Scope, kept_by, marks_of, searched}
 use Rattle.shard_search.specs.Judging.{Adds}
 use Rattle.shard_search.specs.Sums.{ShardState, folds_of_plan}
 use Rattle.search_engine.proofs.Data.{data_begin}
-use Rattle.search_engine.proofs.Feeding.{rows_long, next_spectra, goes_on, few_spectra, searched_holds, unpacked_is}
+use Rattle.search_engine.proofs.Feeding.{rows_long, next_spectra, goes_on, few_spectra, searched_holds, kept_is, marks_fit, few_channels}
+use Rattle.search_engine.proofs.Silenced.{IsHidden, hidden_alike, hidden_given, hidden_rows}
+use Rattle.search_engine.proofs.Whole.{has_searched}
 use Rattle.search_engine.proofs.WholeChunks.{last_are}
 use Rattle.search_engine.proofs.Searched.{book_more, book_of_all, pulses_so_far}
 use Rattle.search_engine.proofs.Sizes.{none_left}
 use Rattle.search_engine.proofs.engine.Engine.end.Goals as goal
 
+pub hide-requires-clause-count : goal.hide-requires-clause-count
+hide-requires-clause-count c = marks_fit c.self.invariant.0.observation _ c.self.invariant.0.taken.holds.searches
+
+pub hide-requires-clause-few : goal.hide-requires-clause-few
+hide-requires-clause-few c = few_channels c.self.invariant.0.observation _ c.self.invariant.0.taken.holds.searches
+
 pub take-requires-clause-rows : goal.take-requires-clause-rows
 take-requires-clause-rows c =
     let w = c.self.invariant.0 in
-    rows_long c.edges_fall.ensures w.observation _ _ w.taken.holds.searches c.samples.ensures.long
+    rows_long c.edges_fall.ensures w.observation _ _ w.taken.holds.searches
+    (c.samples.ensures.long ∙ ap (λ (x : Unpacking). x.channels * x.chunk) c.hide.ensures.same)
 
 pub take-requires-clause-few : goal.take-requires-clause-few
 take-requires-clause-few c =
@@ -35,7 +44,9 @@ take-requires-clause-stream c =
     let w = c.self.invariant.0 in
     let whole = c.spectra-spectra.ensures.whole in
     goes_on c.samples_of_bytes.ensures w.observation _ (values_of c.samples.result) _ c.spectra-spectra.result
-    w.taken.holds (omega (arith, whole)) (λ k t. c.samples.ensures.samples _ _ k t w.taken.holds.held)
+    w.taken.holds (omega (arith, whole)) (λ k t. hidden_rows _ c.self.inside.unpacker c.hide.new.unpacker
+    (values_of c.samples.result) _ _ k t c.hide.ensures.same c.samples.ensures.rows
+    (c.hide.ensures.kept _ _ w.taken.holds.held))
 
 pub take-requires-clause-room : goal.take-requires-clause-room
 take-requires-clause-room c =
@@ -62,9 +73,16 @@ invariant_of-self c =
     let whole = c.spectra-spectra.ensures.whole in
     let chunk = holds.searches.chunk in
     let least = holds.searches.range.parts.least_chunk in
+    let hidden : IsHidden (kept_by (marks_of i.masked)) i.unpacker c.hide.new.unpacker c.taken.new.self = record {
+      rows = c.hide.ensures.same;
+      none = c.taken.ensures.part;
+      kept_is = c.hide.ensures.kept;
+      given_up = c.taken.ensures.holds;
+    } in
     let P : ShardState → Type 0 = λ t. HoldsData w.observation w.bytes (record {
       search = i.search;
       shard = i.shard;
+      scope = record { masked = marks_of i.masked };
       fed = i.fed;
       has_ended = true;
       unpacker = c.taken.new.self;
@@ -72,37 +90,41 @@ invariant_of-self c =
       book = c.end.new.book;
     }) in
     let searched = searched_holds w.observation w.bytes (values_of c.samples.result) _ c.taken.new.self c.take.new.self
-    c.end.new.book true c.spectra-spectra.result holds c.taken.ensures.part whole (c.taken.ensures.given_up _ _)
-    c.take.ensures.taken.alike c.take.ensures.taken.fed (λ k t. c.samples.ensures.samples _ _ k t holds.held)
+    c.end.new.book true c.spectra-spectra.result holds (hidden_alike _ _ _ _ hidden) whole (hidden_given _ _ _ _ hidden _ _)
+    c.take.ensures.taken.alike c.take.ensures.taken.fed (λ k t. hidden_rows _ i.unpacker c.hide.new.unpacker (values_of c.samples.result) _ _ k t c.hide.ensures.same
+    c.samples.ensures.rows (c.hide.ensures.kept _ _ holds.held))
     c.take.ensures.taken.stands in (
       record {
         observation = w.observation;
         bytes = w.bytes;
         taken = record {
           holds = subst P (sym c.end.ensures.same) searched;
-          part = none_left i.unpacker c.taken.new.self c.taken.ensures.part (omega (arith, chunk, least));
+          part = none_left c.hide.new.unpacker c.taken.new.self c.taken.ensures.part
+              (let same = ap (λ (x : Unpacking). x.chunk) c.hide.ensures.same in omega (arith, same, chunk, least));
         };
         room = λ running. absurd (let other : true ≡ false = running in cc);
       },
-      c.self.invariant.1 ∙ sym (ap (λ (u : Unpacking). u.chunk) c.taken.ensures.part),
+      c.self.invariant.1 ∙ sym (hidden_alike _ _ _ _ hidden).chunk,
     )
 
-pub returns-clause-searched : goal.returns-clause-searched
-returns-clause-searched c = λ o bytes stands.
+pub returns-clause-found : goal.returns-clause-found
+returns-clause-found c = λ o bytes stands.
     let i = c.self.inside in
-    let P : EngineState → Type 0 = λ e. StandsForData o bytes e in
+    let P : EngineState → Type 0 = λ e. StandsForPart o bytes e in
     let old = subst P (sym c.self.view_is) stands in
     let holds = old.taken.holds in
     let s = holds.searches in
-    let f = filterbank_of o bytes in
+    let scope : Scope = record { masked = marks_of i.masked } in
+    let f = searched o scope bytes in
     let r = c.spectra-spectra.result in
     let u = i.sums.carry.fed in
     let whole = c.spectra-spectra.ensures.whole in
-    let begins = λ (v : ℕ). data_begin c.samples_of_bytes.ensures o bytes v s.bounds holds.numbers in
-    let all : f.spectra ≡ u + r = ap (λ (g : Filterbank). g.spectra) (sym (unpacked_is o _ bytes s))
+    let begins = λ (v : ℕ). data_begin c.samples_of_bytes.ensures o scope bytes v s.bounds holds.numbers in
+    let all : f.spectra ≡ u + r = ap (λ (g : Filterbank). g.spectra) (sym (kept_is o _ bytes s))
     ∙ c.spectra-spectra.ensures.counts bytes u holds.held in
     let next = next_spectra o bytes (values_of c.samples.result) _ r holds (omega (arith, whole))
-    (λ k t. c.samples.ensures.samples _ _ k t holds.held) f (begins (u + r)) in
+    (λ k t. hidden_rows _ i.unpacker c.hide.new.unpacker (values_of c.samples.result) _ _ k t c.hide.ensures.same
+    c.samples.ensures.rows (c.hide.ensures.kept _ _ holds.held)) f (begins (u + r)) in
     let before = holds.sums f (begins u) in
     let after = c.take.ensures.taken.stands f before next in
     let Q : ℕ → Type 0 = λ n. c.take.new.book ≡ book_of i.search.max_candidates
@@ -128,3 +150,8 @@ returns-clause-searched c = λ o bytes stands.
           ∙ last_are u r (chunk_of i.search) f.spectra most_tables i.sums.carry.tables.most s.most all old.chunks
           (subst (λ n. r < n) s.chunk (let part = old.taken.part in omega (arith, part, whole)));
     }
+
+pub returns-clause-searched : goal.returns-clause-searched
+returns-clause-searched c = λ o bytes stands.
+    has_searched o bytes _ (ap (λ (e : EngineState). e.scope) c.self.view_is ∙ stands.whole)
+    (returns-clause-found c o bytes stands.part)

@@ -1,7 +1,7 @@
 use Rattle.std.proofs.Common.{◌≡◌, ℕ, ◌+◌, ◌-◌, ◌++◌, List, length, take, drop, sym, ◌∙◌, ap, subst, arith, append_assoc, length-drop}
 use Rattle.std.proofs.lemmas.List.{take_all}
 use Rattle.std.proofs.Math.Seq.{take-add}
-use Rattle.search_engine.specs.Engine.{StandsForData}
+use Rattle.search_engine.specs.Engine.{StandsForPart}
 use Rattle.search_engine.proofs.engine.Engine.feed.Goals as goal
 
 -- the rest after d bytes
@@ -32,15 +32,22 @@ loop-done-preserved c =
     record {
       within = omega (arith, most, long, rest, within);
       same = record { search = t.same.search ∙ before.same.search; shard = t.same.shard ∙ before.same.shard };
+      scope = t.scope ∙ before.scope;
       running = t.running;
       fed = omega (arith, fed, all);
-      stands = λ o start stands.
-          let P : List ℕ → Type 0 = λ ys. StandsForData o ys c.take_piece-done.new.self in
-          subst P (next_bytes d n start xs) (t.stands o (start ++ take d xs) (before.stands o start stands));
+      part = λ o start stands.
+          let P : List ℕ → Type 0 = λ ys. StandsForPart o ys c.take_piece-done.new.self in
+          subst P (next_bytes d n start xs) (t.part o (start ++ take d xs) (before.part o start stands));
     }
 
-pub returns-clause-stands : goal.returns-clause-stands
-returns-clause-stands c = λ o start stands.
+pub returns-clause-part : goal.returns-clause-part
+returns-clause-part c = λ o start stands.
     let past = c.loop-done-test.false in
-    let P : List ℕ → Type 0 = λ xs. StandsForData o (start ++ xs) c.loop-done.self in
-    subst P (take_all c.loop-done.done c.args.bytes.now (omega arith)) (c.loop-done.invariant.stands o start stands)
+    let P : List ℕ → Type 0 = λ xs. StandsForPart o (start ++ xs) c.loop-done.self in
+    subst P (take_all c.loop-done.done c.args.bytes.now (omega arith)) (c.loop-done.invariant.part o start stands)
+
+pub returns-clause-stands : goal.returns-clause-stands
+returns-clause-stands c = λ o start stands. record {
+  part = returns-clause-part c o start stands.part;
+  whole = c.loop-done.invariant.scope ∙ stands.whole;
+}

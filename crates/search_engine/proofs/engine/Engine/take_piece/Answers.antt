@@ -1,10 +1,12 @@
-use Rattle.std.proofs.Common.{◌≡◌, ℕ, ◌+◌, ◌<◌, ◌++◌, All, List, take, get_or, Fits, w8, sym, ◌∙◌, ap, subst, arith}
+use Rattle.std.proofs.Common.{◌≡◌, ℕ, ◌+◌, ◌*◌, ◌<◌, ◌++◌, All, List, take, get_or, Fits, w8, sym, ◌∙◌, ap, subst, arith}
 use Rattle.std.proofs.lemmas.List.Elements.{All-from_get_or}
 use Rattle.spectra_rows.specs.Unpacking.{Unpacking}
 use Rattle.candidate_book.specs.Book.{book_of}
 use Rattle.row_schedule.specs.Samples.{values_of}
-use Rattle.search_engine.specs.Engine.{EngineState, BeginsWith, StandsForData, chunk_of}
-use Rattle.search_engine.proofs.Feeding.{piece_holds, begins_old, begins_less, rows_long, next_spectra, goes_on, few_spectra, searched_holds}
+use Rattle.search_engine.specs.Engine.{EngineState, BeginsWith, StandsForPart, chunk_of}
+use Rattle.search_engine.proofs.Feeding.{piece_holds, begins_old, begins_less, rows_long, next_spectra, goes_on, few_spectra, searched_holds, marks_fit, few_channels}
+use Rattle.search_engine.specs.Scope.{kept_by, marks_of, searched}
+use Rattle.search_engine.proofs.Silenced.{IsHidden, hidden_alike, hidden_given, hidden_rows}
 use Rattle.search_engine.proofs.WholeChunks.{chunk_more}
 use Rattle.search_engine.proofs.Searched.{book_more, pulses_so_far}
 use Rattle.search_engine.proofs.Sizes.{none_left, room_left}
@@ -12,6 +14,28 @@ use Rattle.search_engine.proofs.engine.Engine.take_piece.Goals as goal
 
 bytes_are : (bytes : List ℕ) → ((i : ℕ) → Fits w8 (get_or bytes i 0)) → All (λ b. b < 256) bytes
 bytes_are bytes fits = All-from_get_or (λ b. b < 256) bytes 0 (λ i _. let fit = fits i in omega (arith, fit))
+
+pub hide-requires-clause-count : goal.hide-requires-clause-count
+hide-requires-clause-count c =
+    let w = c.self.invariant.0 in
+    let most = c.requires.few in
+    let fed = ap (λ (e : EngineState). e.fed) c.self.view_is in
+    let numbers = bytes_are c.args.bytes.now c.type_inv.bytes in
+    let holds = piece_holds c.samples_of_bytes.ensures w.observation w.bytes c.args.bytes.now _ c.push-count.new.self
+    c.push-count.result _ w.taken.holds c.push-count.ensures.count c.push-count.ensures.alike
+    (λ p. c.push-count.ensures.pieces w.bytes _ p) numbers (omega (arith, most, fed)) in
+    marks_fit w.observation _ holds.searches
+
+pub hide-requires-clause-few : goal.hide-requires-clause-few
+hide-requires-clause-few c =
+    let w = c.self.invariant.0 in
+    let most = c.requires.few in
+    let fed = ap (λ (e : EngineState). e.fed) c.self.view_is in
+    let numbers = bytes_are c.args.bytes.now c.type_inv.bytes in
+    let holds = piece_holds c.samples_of_bytes.ensures w.observation w.bytes c.args.bytes.now _ c.push-count.new.self
+    c.push-count.result _ w.taken.holds c.push-count.ensures.count c.push-count.ensures.alike
+    (λ p. c.push-count.ensures.pieces w.bytes _ p) numbers (omega (arith, most, fed)) in
+    few_channels w.observation _ holds.searches
 
 pub pass-requires-clause-rows : goal.pass-requires-clause-rows
 pass-requires-clause-rows c =
@@ -22,7 +46,8 @@ pass-requires-clause-rows c =
     let holds = piece_holds c.samples_of_bytes.ensures w.observation w.bytes c.args.bytes.now _ c.push-count.new.self
     c.push-count.result _ w.taken.holds c.push-count.ensures.count c.push-count.ensures.alike
     (λ p. c.push-count.ensures.pieces w.bytes _ p) numbers (omega (arith, most, fed)) in
-    rows_long c.edges_fall.ensures w.observation _ _ holds.searches c.samples-rows.ensures.long
+    rows_long c.edges_fall.ensures w.observation _ _ holds.searches
+    (c.samples-rows.ensures.long ∙ ap (λ (x : Unpacking). x.channels * x.chunk) c.hide.ensures.same)
 
 pub pass-requires-clause-few : goal.pass-requires-clause-few
 pass-requires-clause-few c =
@@ -50,7 +75,8 @@ pass-requires-clause-stream c =
     let whole = c.spectra.ensures.whole in
     let full = c.if-spectra-self.true in
     goes_on c.samples_of_bytes.ensures w.observation _ (values_of c.samples-rows.result) _ c.self.inside.chunk holds
-    (omega (arith, whole, full)) (λ k t. c.samples-rows.ensures.samples _ _ k t holds.held)
+    (omega (arith, whole, full)) (λ k t. hidden_rows _ c.push-count.new.self c.hide.new.unpacker (values_of c.samples-rows.result) _ _ k t
+    c.hide.ensures.same c.samples-rows.ensures.rows (c.hide.ensures.kept _ _ holds.held))
 
 pub pass-requires-clause-room : goal.pass-requires-clause-room
 pass-requires-clause-room c =
@@ -78,6 +104,13 @@ invariant_of-self c =
     (λ p. c.push-count.ensures.pieces w.bytes _ p) numbers (omega (arith, most, fed)) in
     let whole = c.spectra.ensures.whole in
     let full = c.if-spectra-self.true in
+    let hidden : IsHidden (kept_by (marks_of c.self.inside.masked)) c.push-count.new.self c.hide.new.unpacker
+    c.taken.new.self = record {
+      rows = c.hide.ensures.same;
+      none = c.taken.ensures.part;
+      kept_is = c.hide.ensures.kept;
+      given_up = c.taken.ensures.holds;
+    } in
     let chunk = holds.searches.chunk in
     let least = holds.searches.range.parts.least_chunk in (
       record {
@@ -85,10 +118,13 @@ invariant_of-self c =
         bytes = w.bytes ++ take c.push-count.result c.args.bytes.now;
         taken = record {
           holds = searched_holds w.observation _ (values_of c.samples-rows.result) _ c.taken.new.self c.pass.new.self
-              c.pass.new.book c.self.inside.has_ended c.self.inside.chunk holds c.taken.ensures.part (sym full ∙ whole)
-              (c.taken.ensures.given_up _ _) c.pass.ensures.alike c.pass.ensures.fed
-              (λ k t. c.samples-rows.ensures.samples _ _ k t holds.held) c.pass.ensures.stands;
-          part = none_left c.push-count.new.self c.taken.new.self c.taken.ensures.part (omega (arith, chunk, least));
+              c.pass.new.book c.self.inside.has_ended c.self.inside.chunk holds (hidden_alike _ _ _ _ hidden)
+              (sym full ∙ whole)
+              (hidden_given _ _ _ _ hidden _ _) c.pass.ensures.alike c.pass.ensures.fed
+              (λ k t. hidden_rows _ c.push-count.new.self c.hide.new.unpacker (values_of c.samples-rows.result) _ _ k t
+              c.hide.ensures.same c.samples-rows.ensures.rows (c.hide.ensures.kept _ _ holds.held)) c.pass.ensures.stands;
+          part = none_left c.hide.new.unpacker c.taken.new.self c.taken.ensures.part
+              (let same = ap (λ (x : Unpacking). x.chunk) c.hide.ensures.same in omega (arith, same, chunk, least));
         };
         room = λ running.
             let room = w.room running in
@@ -97,7 +133,7 @@ invariant_of-self c =
             omega (arith, room, count, total);
       },
       c.self.invariant.1 ∙ sym c.push-count.ensures.alike.chunk
-          ∙ sym (ap (λ (u : Unpacking). u.chunk) c.taken.ensures.part),
+          ∙ sym (hidden_alike _ _ _ _ hidden).chunk,
     )
 
 pub invariant_of-self-else-spectra-self : goal.invariant_of-self-else-spectra-self
@@ -142,9 +178,9 @@ returns-else-spectra-self-clause-some c =
     let given = c.requires.some in
     omega (arith, room, count, given)
 
-pub returns-then-spectra-self-clause-stands : goal.returns-then-spectra-self-clause-stands
-returns-then-spectra-self-clause-stands c = λ o before stands.
-    let P : EngineState → Type 0 = λ e. StandsForData o before e in
+pub returns-then-spectra-self-clause-part : goal.returns-then-spectra-self-clause-part
+returns-then-spectra-self-clause-part c = λ o before stands.
+    let P : EngineState → Type 0 = λ e. StandsForPart o before e in
     let old = subst P (sym c.self.view_is) stands in
     let most = c.requires.few in
     let fed = ap (λ (e : EngineState). e.fed) c.self.view_is in
@@ -154,6 +190,13 @@ returns-then-spectra-self-clause-stands c = λ o before stands.
     (λ p. c.push-count.ensures.pieces before _ p) numbers (omega (arith, most, fed)) in
     let whole = c.spectra.ensures.whole in
     let full = c.if-spectra-self.true in
+    let hidden : IsHidden (kept_by (marks_of c.self.inside.masked)) c.push-count.new.self c.hide.new.unpacker
+    c.taken.new.self = record {
+      rows = c.hide.ensures.same;
+      none = c.taken.ensures.part;
+      kept_is = c.hide.ensures.kept;
+      given_up = c.taken.ensures.holds;
+    } in
     let chunk = holds.searches.chunk in
     let least = holds.searches.range.parts.least_chunk in
     let all = before ++ take c.push-count.result c.args.bytes.now in
@@ -162,15 +205,19 @@ returns-then-spectra-self-clause-stands c = λ o before stands.
     record {
       taken = record {
         holds = searched_holds o all (values_of c.samples-rows.result) _ c.taken.new.self c.pass.new.self
-            c.pass.new.book c.self.inside.has_ended r holds c.taken.ensures.part (sym full ∙ whole)
-            (c.taken.ensures.given_up _ _) c.pass.ensures.alike c.pass.ensures.fed
-            (λ k t. c.samples-rows.ensures.samples _ _ k t holds.held) c.pass.ensures.stands;
-        part = none_left c.push-count.new.self c.taken.new.self c.taken.ensures.part (omega (arith, chunk, least));
+            c.pass.new.book c.self.inside.has_ended r holds (hidden_alike _ _ _ _ hidden)
+            (sym full ∙ whole)
+            (hidden_given _ _ _ _ hidden _ _) c.pass.ensures.alike c.pass.ensures.fed
+            (λ k t. hidden_rows _ c.push-count.new.self c.hide.new.unpacker (values_of c.samples-rows.result) _ _ k t
+            c.hide.ensures.same c.samples-rows.ensures.rows (c.hide.ensures.kept _ _ holds.held)) c.pass.ensures.stands;
+        part = none_left c.hide.new.unpacker c.taken.new.self c.taken.ensures.part
+            (let same = ap (λ (x : Unpacking). x.chunk) c.hide.ensures.same in omega (arith, same, chunk, least));
       };
       chunks = chunk_more u r (chunk_of c.self.inside.search) c.pass.new.self.carry.fed
           (c.self.invariant.1 ∙ old.taken.holds.searches.chunk) c.pass.ensures.fed old.chunks;
       book = λ f begins.
-          let B : ℕ → Type 0 = λ n. BeginsWith o all n f in
+          let g = searched o (record { masked = marks_of c.self.inside.masked }) all in
+          let B : ℕ → Type 0 = λ n. BeginsWith o g n f in
           let later = subst B c.pass.ensures.fed begins in
           let Q : ℕ → Type 0 =
           λ n. c.pass.new.book ≡ book_of c.self.inside.search.max_candidates
@@ -179,14 +226,15 @@ returns-then-spectra-self-clause-stands c = λ o before stands.
           (book_more c.shards_are_listed.ensures c.edges_fall.ensures o _ f c.pass.new.book u r holds.searches
           (old.book f (begins_old c.samples_of_bytes.ensures o before _ _ (u + r) f old.taken.holds
           (omega arith) later))
-          (c.pass.ensures.pulses f (holds.sums f (begins_less o all u (u + r) f (omega arith) later))
+          (c.pass.ensures.pulses f (holds.sums f (begins_less o g u (u + r) f (omega arith) later))
           (next_spectra o all (values_of c.samples-rows.result) _ r holds (omega (arith, whole, full))
-          (λ k t. c.samples-rows.ensures.samples _ _ k t holds.held) f later)));
+          (λ k t. hidden_rows _ c.push-count.new.self c.hide.new.unpacker (values_of c.samples-rows.result) _ _ k t
+          c.hide.ensures.same c.samples-rows.ensures.rows (c.hide.ensures.kept _ _ holds.held)) f later)));
     }
 
-pub returns-else-spectra-self-clause-stands : goal.returns-else-spectra-self-clause-stands
-returns-else-spectra-self-clause-stands c = λ o before stands.
-    let P : EngineState → Type 0 = λ e. StandsForData o before e in
+pub returns-else-spectra-self-clause-part : goal.returns-else-spectra-self-clause-part
+returns-else-spectra-self-clause-part c = λ o before stands.
+    let P : EngineState → Type 0 = λ e. StandsForPart o before e in
     let old = subst P (sym c.self.view_is) stands in
     let most = c.requires.few in
     let fed = ap (λ (e : EngineState). e.fed) c.self.view_is in
