@@ -14,7 +14,7 @@ HasEngine engines transfer e = slice_get engines transfer ≡ Some (Some e)
 -- an engine that has ended found what it searches of these data bytes; where that is all, it has searched them
 pub record HasEnded (o : Observation) (bytes : List ℕ) (e : EngineState) : Type 0 where
   pub found : HasFoundPart o bytes e
-  pub searched : e.scope ≡ whole_scope → HasSearched o bytes e
+  pub searched : e.scope ≡ whole_scope o.channels → HasSearched o bytes e
 
 -- an engine stands for these data bytes of an observation: until it ended it was fed them, and then it has found what
 -- there is
