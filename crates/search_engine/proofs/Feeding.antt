@@ -59,6 +59,7 @@ searches_with o e u fed s alike = record {
   most = s.most;
   max_sample = s.max_sample;
   search = s.search;
+  sought = s.sought;
 }
 
 -- ---- bytes are pushed
@@ -203,6 +204,7 @@ searched_holds o bytes rows e u t b h r holds is whole given alike fed samples s
         most = ap (λ (x : Tables). x.most) alike.tables ∙ s.most;
         max_sample = alike.max_sample ∙ s.max_sample;
         search = alike.search ∙ s.search;
+        sought = alike.sought ∙ s.sought;
       };
       numbers = holds.numbers;
       count = holds.count;

@@ -12,6 +12,7 @@ use Rattle.candidate_book.specs.Book.{BookContents, book_of}
 use Rattle.spectra_rows.specs.Unpacking.{Unpacking, StandsForBytes}
 use Rattle.shard_search.specs.Counts.{most_tables}
 use Rattle.shard_search.specs.Pulses.{pulses_of_ends}
+use Rattle.shard_search.specs.Sought.{whole_of}
 use Rattle.shard_search.specs.Sums.{ShardState, sums_of}
 use Rattle.search_engine.specs.Engine.{EngineState, Searches, HoldsData, HasTaken, StandsForData, EngineIsSound, IsOpenedSums, IsOpenedUnpacker, chunk_of}
 
@@ -60,6 +61,7 @@ module _ (o : Observation) (s : Search) (k chunk : ℕ) (u : Unpacking) (sums : 
     most = p.path_sums.most ∙ ap (λ n. min n most_tables) p.chunk_is;
     max_sample = p.path_sums.greatest;
     search = p.path_sums.search_is;
+    sought = p.path_sums.sought_is;
   }
 
   -- no spectrum is held
@@ -90,8 +92,8 @@ module _ (o : Observation) (s : Search) (k chunk : ℕ) (u : Unpacking) (sums : 
   opened_stands = record {
     taken = opened_taken;
     chunks = ap (λ n. n % chunk_of s) p.path_sums.nothing_fed ∙ zero-mod (chunk_of s);
-    book = λ f begins. p.empty ∙ ap (λ n. book_of s.max_candidates (pulses_of_ends (sums_of f (edges o)) s o.channels
-        (shard_start s k) (shard_start s (k + 1)) 0 n)) (sym p.path_sums.nothing_fed);
+    book = λ f begins. p.empty ∙ ap (λ n. book_of s.max_candidates (pulses_of_ends (sums_of f (edges o)) s
+        (whole_of o.channels) (shard_start s k) (shard_start s (k + 1)) 0 n)) (sym p.path_sums.nothing_fed);
   }
 
   pub opened_sound : EngineIsSound (opened_state s k u sums book)

@@ -15,7 +15,8 @@ use Rattle.subband_plan.specs.Nodes.{BandPlan}
 use Rattle.search_engine.specs.Engine.{EngineState, Searches}
 use Rattle.shard_search.specs.Judging.{Adds}
 use Rattle.shard_search.specs.Laws.{ShardsAreListed}
-use Rattle.shard_search.specs.Pulses.{pulses_of_end, pulses_of_ends}
+use Rattle.shard_search.specs.Pulses.{pulses_of_ends}
+use Rattle.shard_search.specs.Sought.{Sought, cells_in, whole_of}
 use Rattle.shard_search.specs.Sums.{sums_of, pulses_of_plan, folds_of_plan}
 use Rattle.search_engine.proofs.PlanFits.{shard_rises, shard_delays}
 
@@ -29,54 +30,49 @@ book_with b c limit list more is adds =
 -- the pulses of the shard that end at the first u spectra
 abbrev pub pulses_so_far : Observation → Search → ℕ → Filterbank → ℕ → List Candidate
 pulses_so_far o s k f u =
-    pulses_of_ends (sums_of f (edges o)) s o.channels (shard_start s k) (shard_start s (k + 1)) 0 u
+    pulses_of_ends (sums_of f (edges o)) s (whole_of o.channels) (shard_start s k) (shard_start s (k + 1)) 0 u
 
 -- the delays of the carry are those of the shard
-pub pulses_are : EdgesFall → (o : Observation) (e : EngineState) (f : Filterbank) (m n : ℕ) → Searches o e →
-    pulses_of_plan f e.sums.carry.tables.plan e.sums.pulses.search m n
-    ≡ pulses_of_ends (sums_of f (edges o)) e.search o.channels (shard_start e.search e.shard)
+pub pulses_are : (o : Observation) (e : EngineState) (f : Filterbank) (m n : ℕ) → Searches o e →
+    pulses_of_plan f e.sums.carry.tables.plan e.sums.pulses.search e.sums.pulses.sought m n
+    ≡ pulses_of_ends (sums_of f (edges o)) e.search (whole_of o.channels) (shard_start e.search e.shard)
     (shard_start e.search (e.shard + 1)) m n
-pulses_are fall o e f m n s =
+pulses_are o e f m n s =
     let first = shard_start e.search e.shard in
     let end = shard_start e.search (e.shard + 1) in
     let y = sums_of f (edges o) in
     let rises = shard_rises o e.search e.shard s.range s.accepted in
-    let count = (fall o s.bounds).count in
-    let channels : length (edges o) - 1 ≡ o.channels = omega arith in
     let last : end - 1 + 1 ≡ end = omega arith in
-    ap (λ (p : BandPlan). pulses_of_plan f p e.sums.pulses.search m n) s.plan
-    ∙ ap (λ (t : Search). pulses_of_ends y t (length (edges o) - 1) first (end - 1 + 1) m n) s.search
-    ∙ ap (λ c. pulses_of_ends y e.search c first (end - 1 + 1) m n) channels
-    ∙ ap (λ b. pulses_of_ends y e.search o.channels first b m n) last
+    ap (λ (p : BandPlan). pulses_of_plan f p e.sums.pulses.search e.sums.pulses.sought m n) s.plan
+    ∙ ap (λ (t : Search). pulses_of_ends y t e.sums.pulses.sought first (end - 1 + 1) m n) s.search
+    ∙ ap (λ (c : Sought). pulses_of_ends y e.search c first (end - 1 + 1) m n) s.sought
+    ∙ ap (λ b. pulses_of_ends y e.search (whole_of o.channels) first b m n) last
 
-pub folds_are : EdgesFall → (o : Observation) (e : EngineState) (f : Filterbank) → Searches o e →
-    folds_of_plan f e.sums.carry.tables.plan e.sums.pulses.search
+pub folds_are : (o : Observation) (e : EngineState) (f : Filterbank) → Searches o e →
+    folds_of_plan f e.sums.carry.tables.plan e.sums.pulses.search e.sums.pulses.sought
     ≡ within_delays (shard_start e.search e.shard) (shard_start e.search (e.shard + 1))
     (folds f (edges o) (plain_cells o.channels) e.search)
-folds_are fall o e f s =
+folds_are o e f s =
     let first = shard_start e.search e.shard in
     let end = shard_start e.search (e.shard + 1) in
     let rises = shard_rises o e.search e.shard s.range s.accepted in
-    let count = (fall o s.bounds).count in
-    let channels : length (edges o) - 1 ≡ o.channels = omega arith in
     let last : end - 1 + 1 ≡ end = omega arith in
-    ap (λ (p : BandPlan). folds_of_plan f p e.sums.pulses.search) s.plan
-    ∙ ap (λ (t : Search). within_delays first (end - 1 + 1) (folds f (edges o) (plain_cells (length
-    (edges o) - 1)) t)) s.search
-    ∙ ap (λ c. within_delays first (end - 1 + 1) (folds f (edges o) (plain_cells c) e.search)) channels
+    ap (λ (p : BandPlan). folds_of_plan f p e.sums.pulses.search e.sums.pulses.sought) s.plan
+    ∙ ap (λ (t : Search). within_delays first (end - 1 + 1) (folds f (edges o) (cells_in e.sums.pulses.sought) t)) s.search
+    ∙ ap (λ (c : Sought). within_delays first (end - 1 + 1) (folds f (edges o) (cells_in c) e.search)) s.sought
     ∙ ap (λ b. within_delays first b (folds f (edges o) (plain_cells o.channels) e.search)) last
 
 -- the book has the pulses of the spectra that were searched
-pub book_more : ShardsAreListed → EdgesFall → (o : Observation) (e : EngineState) (f : Filterbank) (b : BookContents) (u r : ℕ) →
+pub book_more : ShardsAreListed → (o : Observation) (e : EngineState) (f : Filterbank) (b : BookContents) (u r : ℕ) →
     Searches o e → e.book ≡ book_of e.search.max_candidates (pulses_so_far o e.search e.shard f u) →
-    Adds e.book b (pulses_of_plan f e.sums.carry.tables.plan e.sums.pulses.search u r) →
+    Adds e.book b (pulses_of_plan f e.sums.carry.tables.plan e.sums.pulses.search e.sums.pulses.sought u r) →
     b ≡ book_of e.search.max_candidates (pulses_so_far o e.search e.shard f (u + r))
-book_more listed fall o e f b u r s is adds =
-    let more = pulses_of_plan f e.sums.carry.tables.plan e.sums.pulses.search u r in
+book_more listed o e f b u r s is adds =
+    let more = pulses_of_plan f e.sums.carry.tables.plan e.sums.pulses.search e.sums.pulses.sought u r in
     book_with e.book b e.search.max_candidates (pulses_so_far o e.search e.shard f u) more is adds
     ∙ ap (λ xs. book_of e.search.max_candidates (pulses_so_far o e.search e.shard f u ++ xs))
-    (pulses_are fall o e f u r s)
-    ∙ ap (λ xs. book_of e.search.max_candidates xs) (listed.ends (sums_of f (edges o)) e.search o.channels
+    (pulses_are o e f u r s)
+    ∙ ap (λ xs. book_of e.search.max_candidates xs) (listed.ends (sums_of f (edges o)) e.search (whole_of o.channels)
     (shard_start e.search e.shard) (shard_start e.search (e.shard + 1)) 0 u r u (omega arith))
 
 -- and with the folds it has the shard's part of all candidates
@@ -84,14 +80,15 @@ pub book_of_all : ShardsAreListed → EdgesFall → (o : Observation) (e : Engin
     Searches o e →
     b ≡ book_of e.search.max_candidates (pulses_so_far o e.search e.shard (filterbank_of o bytes)
     (filterbank_of o bytes).spectra) →
-    Adds b c (folds_of_plan (filterbank_of o bytes) e.sums.carry.tables.plan e.sums.pulses.search) →
+    Adds b c (folds_of_plan (filterbank_of o bytes) e.sums.carry.tables.plan e.sums.pulses.search e.sums.pulses.sought) →
     c ≡ book_of e.search.max_candidates (shard_part e.search e.shard (candidates_of o e.search bytes))
 book_of_all listed fall o e bytes b c s is adds =
     let f = filterbank_of o bytes in
-    let more = folds_of_plan f e.sums.carry.tables.plan e.sums.pulses.search in
+    let more = folds_of_plan f e.sums.carry.tables.plan e.sums.pulses.search e.sums.pulses.sought in
     book_with b c e.search.max_candidates (pulses_so_far o e.search e.shard f f.spectra) more is adds
     ∙ ap (λ xs. book_of e.search.max_candidates (pulses_so_far o e.search e.shard f f.spectra ++ xs))
-    (folds_are fall o e f s)
+    (folds_are o e f s)
     ∙ ap (λ xs. book_of e.search.max_candidates xs)
-    (listed.part f (edges o) o.channels e.search e.shard (fall o s.bounds)
-    (shard_delays o e.search e.shard s.range s.accepted s.shard))
+    (listed.part f (edges o) e.search (whole_of o.channels) e.shard (fall o s.bounds)
+    (shard_delays o e.search e.shard s.range s.accepted s.shard)
+    ∙ ap (shard_part e.search e.shard) (listed.whole o.channels (candidates_of o e.search bytes)))

@@ -16,6 +16,7 @@ use Rattle.fdmt_carry.specs.Carrying as carry
 use Rattle.fdmt_carry.specs.Carrying.{IsStream}
 use Rattle.shard_search.specs.Counts.{most_pulses_at_end, most_tables}
 use Rattle.shard_search.specs.Pulses.{pulses_of_ends}
+use Rattle.shard_search.specs.Sought.{whole_of}
 use Rattle.shard_search.specs.Sums.{ShardState, StandsForStream, sums_of}
 
 -- The search of one shard: how many bytes it was fed, and whether it ended; what stands behind.
@@ -59,6 +60,7 @@ pub record Searches (o : Observation) (e : EngineState) : Type 0 where
   pub most : e.sums.carry.tables.most ≡ min (chunk_of e.search) most_tables
   pub max_sample : e.sums.carry.max_sample ≡ max_sample o
   pub search : e.sums.pulses.search ≡ e.search
+  pub sought : e.sums.pulses.sought ≡ whole_of o.channels
 
 -- its parts were fed these data bytes
 pub record HoldsData (o : Observation) (bytes : List ℕ) (e : EngineState) : Type 0 where
@@ -81,8 +83,8 @@ pub record StandsForData (o : Observation) (bytes : List ℕ) (e : EngineState) 
   pub chunks : e.sums.carry.fed % chunk_of e.search ≡ 0
   pub book : (f : Filterbank) → BeginsWith o bytes e.sums.carry.fed f
       → e.book ≡ book_of e.search.max_candidates
-      (pulses_of_ends (sums_of f (edges o)) e.search o.channels (shard_start e.search e.shard)
-      (shard_start e.search (e.shard + 1)) 0 e.sums.carry.fed)
+      (pulses_of_ends (sums_of f (edges o)) e.search (whole_of o.channels)
+      (shard_start e.search e.shard) (shard_start e.search (e.shard + 1)) 0 e.sums.carry.fed)
 
 -- what always holds: there are bytes that it was fed; and as long as it has not ended, its book has room for more
 pub record EngineIsSound (e : EngineState) : Type 0 where
@@ -131,6 +133,7 @@ pub record IsOpenedSums (o : Observation) (search : Search) (k chunk : ℕ) (s :
   pub most : s.carry.tables.most ≡ min chunk most_tables
   pub greatest : s.carry.max_sample ≡ max_sample o
   pub search_is : s.pulses.search ≡ search
+  pub sought_is : s.pulses.sought ≡ whole_of o.channels
   pub nothing_fed : s.carry.fed ≡ 0
   pub stands : (f : Filterbank)
       → IsStream (band_plan (edges o) (shard_start search k) (shard_start search (k + 1) - 1))

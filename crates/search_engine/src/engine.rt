@@ -16,7 +16,7 @@ use obs_plan::Observation;
 use psr_base::Memory;
 use row_schedule::Samples;
 use search_model::Search;
-use shard_search::ShardSearch;
+use shard_search::{ShardSearch, Sought};
 use spectra_rows::Unpacker;
 use std::alloc::Global;
 use std::marker::Model;
@@ -285,6 +285,7 @@ fn open_sums(
         alloc,
         observation.edges(),
         search,
+        Sought::whole(observation.channels()),
         first,
         end,
         chunk,

@@ -10,6 +10,7 @@ use Rattle.spectra_rows.specs.Unpacking.{Unpacking}
 use Rattle.shard_search.specs.Counts.{most_tables}
 use Rattle.search_engine.specs.Engine.{EngineState, HoldsData, StandsForData, chunk_of}
 use Rattle.shard_search.specs.Judging.{Adds}
+use Rattle.shard_search.specs.Sought.{Sought}
 use Rattle.shard_search.specs.Sums.{ShardState, folds_of_plan}
 use Rattle.search_engine.proofs.Data.{data_begin}
 use Rattle.search_engine.proofs.Feeding.{rows_long, next_spectra, goes_on, few_spectra, searched_holds, unpacked_is}
@@ -107,14 +108,18 @@ returns-clause-searched c = λ o bytes stands.
     let after = c.take.ensures.taken.stands f before next in
     let Q : ℕ → Type 0 = λ n. c.take.new.book ≡ book_of i.search.max_candidates
     (pulses_so_far o i.search i.shard f n) in
-    let pulses = subst Q (sym all) (book_more c.shards_are_listed.ensures c.edges_fall.ensures o _ f c.take.new.book u r s (old.book f (begins u))
+    let pulses = subst Q (sym all) (book_more c.shards_are_listed.ensures o _ f c.take.new.book u r s (old.book f (begins u))
     (c.take.ensures.taken.pulses f before next)) in
     let F : ShardState → Type 0 = λ t. t.carry.fed ≡ f.spectra in
     let T : Tables → Type 0 = λ t. Adds c.take.new.book c.end.new.book
-    (folds_of_plan f t.plan c.take.new.self.pulses.search) in
-    let S : Search → Type 0 = λ t. Adds c.take.new.book c.end.new.book (folds_of_plan f i.sums.carry.tables.plan t) in
-    let folds = subst S c.take.ensures.taken.alike.search (subst T c.take.ensures.taken.alike.tables
-    (c.end.ensures.folds f after (all ∙ sym c.take.ensures.taken.fed))) in
+    (folds_of_plan f t.plan c.take.new.self.pulses.search c.take.new.self.pulses.sought) in
+    let S : Search → Type 0 = λ t. Adds c.take.new.book c.end.new.book
+    (folds_of_plan f i.sums.carry.tables.plan t c.take.new.self.pulses.sought) in
+    let C : Sought → Type 0 = λ t. Adds c.take.new.book c.end.new.book
+    (folds_of_plan f i.sums.carry.tables.plan i.sums.pulses.search t) in
+    let folds = subst C c.take.ensures.taken.alike.sought (subst S c.take.ensures.taken.alike.search
+    (subst T c.take.ensures.taken.alike.tables
+    (c.end.ensures.folds f after (all ∙ sym c.take.ensures.taken.fed)))) in
     let same = c.end.ensures.same in
     record {
       book = book_of_all c.shards_are_listed.ensures c.edges_fall.ensures o _ bytes c.take.new.book c.end.new.book s pulses

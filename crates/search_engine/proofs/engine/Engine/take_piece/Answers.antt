@@ -176,7 +176,7 @@ returns-then-spectra-self-clause-stands c = λ o before stands.
           λ n. c.pass.new.book ≡ book_of c.self.inside.search.max_candidates
           (pulses_so_far o c.self.inside.search c.self.inside.shard f n) in
           subst Q (sym c.pass.ensures.fed)
-          (book_more c.shards_are_listed.ensures c.edges_fall.ensures o _ f c.pass.new.book u r holds.searches
+          (book_more c.shards_are_listed.ensures o _ f c.pass.new.book u r holds.searches
           (old.book f (begins_old c.samples_of_bytes.ensures o before _ _ (u + r) f old.taken.holds
           (omega arith) later))
           (c.pass.ensures.pulses f (holds.sums f (begins_less o all u (u + r) f (omega arith) later))
