@@ -1,7 +1,5 @@
 -- What the book has after the spectra that are held were searched, and after the folds.
-use Rattle.std.proofs.Common.{◌≡◌, ℕ, ◌+◌, ◌-◌, ◌++◌, List, length, sym, ◌∙◌, ap, arith}
-use Rattle.std.specs.List.{range_with_len, flat_map}
-use Rattle.std.proofs.lemmas.List.Concat.{flat_map-append}
+use Rattle.std.proofs.Common.{◌≡◌, ℕ, ◌+◌, ◌-◌, ◌++◌, List, sym, ◌∙◌, ap, arith}
 use Rattle.candidate_book.specs.Book.{BookContents, book_of}
 use Rattle.dada_model.specs.Laws.{EdgesFall}
 use Rattle.dada_model.specs.Observation.{Observation, edges}
@@ -58,7 +56,8 @@ folds_are o e f s =
     let rises = shard_rises o e.search e.shard s.range s.accepted in
     let last : end - 1 + 1 ≡ end = omega arith in
     ap (λ (p : BandPlan). folds_of_plan f p e.sums.pulses.search e.sums.pulses.sought) s.plan
-    ∙ ap (λ (t : Search). within_delays first (end - 1 + 1) (folds f (edges o) (cells_in e.sums.pulses.sought) t)) s.search
+    ∙ ap (λ (t : Search). within_delays first (end - 1 + 1) (folds f (edges o) (cells_in e.sums.pulses.sought) t))
+    s.search
     ∙ ap (λ (c : Sought). within_delays first (end - 1 + 1) (folds f (edges o) (cells_in c) e.search)) s.sought
     ∙ ap (λ b. within_delays first b (folds f (edges o) (plain_cells o.channels) e.search)) last
 
@@ -76,11 +75,12 @@ book_more listed o e f b u r s is adds =
     (shard_start e.search e.shard) (shard_start e.search (e.shard + 1)) 0 u r u (omega arith))
 
 -- and with the folds it has the shard's part of all candidates
-pub book_of_all : ShardsAreListed → EdgesFall → (o : Observation) (e : EngineState) (bytes : List ℕ) (b c : BookContents) →
-    Searches o e →
+pub book_of_all : ShardsAreListed → EdgesFall → (o : Observation) (e : EngineState) (bytes : List ℕ)
+    (b c : BookContents) → Searches o e →
     b ≡ book_of e.search.max_candidates (pulses_so_far o e.search e.shard (filterbank_of o bytes)
     (filterbank_of o bytes).spectra) →
-    Adds b c (folds_of_plan (filterbank_of o bytes) e.sums.carry.tables.plan e.sums.pulses.search e.sums.pulses.sought) →
+    Adds b c
+    (folds_of_plan (filterbank_of o bytes) e.sums.carry.tables.plan e.sums.pulses.search e.sums.pulses.sought) →
     c ≡ book_of e.search.max_candidates (shard_part e.search e.shard (candidates_of o e.search bytes))
 book_of_all listed fall o e bytes b c s is adds =
     let f = filterbank_of o bytes in

@@ -117,7 +117,8 @@ pulses_within : LatePathSums → (f : Filterbank) (edges : List ℕ) (s : Search
     ≡ within_delays lo hi (sought_of c (pulses f edges (cells_in c) s))
 pulses_within law f edges s c lo hi edges_are are =
     let g : ℕ → List Candidate = λ u. pulses_ending f edges (cells_in c) s u in
-    sym (ap (filter (has_delay lo hi)) (sought_flat c g (λ u. sought_of c (g u)) (λ u. refl) (range_with_len 0 f.spectra))
+    sym (ap (filter (has_delay lo hi))
+    (sought_flat c g (λ u. sought_of c (g u)) (λ u. refl) (range_with_len 0 f.spectra))
     ∙ filter_pieces (has_delay lo hi) (λ u. sought_of c (g u)) (λ u. pulses_of_end (sums_of f edges) s c lo hi u)
     (λ u. one_end law f edges s c lo hi u edges_are are) (range_with_len 0 f.spectra))
 
@@ -135,7 +136,8 @@ part_is_both law f edges s c k edges_are are =
     let all = pulses f edges (cells_in c) s in
     let folded = folds f edges (cells_in c) s in
     ap (λ xs. xs ++ within_delays lo hi folded) (pulses_within law f edges s c lo hi edges_are are)
-    ∙ ap (λ xs. within_delays lo hi (sought_of c all) ++ within_delays lo hi xs) (sym (folds_stay c f edges (cells_in c) s))
+    ∙ ap (λ xs. within_delays lo hi (sought_of c all) ++ within_delays lo hi xs)
+    (sym (folds_stay c f edges (cells_in c) s))
     ∙ sym (filter-append (has_delay lo hi) (sought_of c all) (sought_of c folded))
     ∙ ap (within_delays lo hi) (sym (sought_append c all folded))
 

@@ -1,13 +1,12 @@
 -- The box of a hit, as a pulse.
 use Rattle.std.proofs.Common.{◌≡◌, ℕ, ◌+◌, ◌-◌, ◌*◌, ◌<◌, ◌≤◌, ◌^◌, ◌&&◌, ◌++◌, Bool, true, false, cond, List, [], ◌∷◌, Some, length, nat_le, refl, sym, ◌∙◌, ap, arith}
-use Rattle.std.specs.List.{range_with_len, flat_map}
+use Rattle.std.specs.List.{range_with_len}
 use Rattle.std.proofs.lemmas.Bool.{le-leb}
 use Rattle.std.proofs.lemmas.Bool.Decides.{nat_tests}
 use Rattle.std.proofs.lemmas.List.FromFn.{length-map-range_with_len}
 use Rattle.box_sums.specs.Rows.{SumsAddValues, sum_ending}
 use Rattle.detect_rule.specs.Noise.{StandOutFrom}
 use Rattle.search_model.specs.declared.search.Search.{Search}
-use Rattle.search_model.specs.declared.candidate.Candidate.{Candidate}
 use Rattle.search_model.specs.declared.candidate.Candidate.TheVariants.{Pulse}
 use Rattle.search_model.specs.Candidates.{if_detected}
 use Rattle.search_model.specs.Laws.{TestsDetection}
@@ -32,7 +31,8 @@ pub early_box : (y : ℕ → ℕ → ℕ) (s : Search) (c : Sought) (u d w : ℕ
 unfolding pulse_of
 early_box y s c u d w early =
     let no_way : nat_le (d + w) (u + 1) ≡ false = grind (arith, nat_tests) in
-    ap (λ b. cond (b && is_sought_end c u) (if_detected (cells_in c) s (Pulse (c.first + u) d w (box_of y d u w))) []) no_way
+    let found = if_detected (cells_in c) s (Pulse (c.first + u) d w (box_of y d u w)) in
+    ap (λ b. cond (b && is_sought_end c u) found []) no_way
 
 not_both : {X : Type 0} (b : Bool) (xs : List X) → cond (b && false) xs [] ≡ []
 not_both true xs = refl
@@ -43,8 +43,8 @@ unsought_box : (y : ℕ → ℕ → ℕ) (s : Search) (c : Sought) (u d w : ℕ)
     pulse_of y s c u d w ≡ []
 unfolding pulse_of
 unsought_box y s c u d w out =
-    ap (λ b. cond (nat_le (d + w) (u + 1) && b) (if_detected (cells_in c) s (Pulse (c.first + u) d w (box_of y d u w))) [])
-    out ∙ not_both (nat_le (d + w) (u + 1)) (if_detected (cells_in c) s (Pulse (c.first + u) d w (box_of y d u w)))
+    let found = if_detected (cells_in c) s (Pulse (c.first + u) d w (box_of y d u w)) in
+    ap (λ b. cond (nat_le (d + w) (u + 1) && b) found []) out ∙ not_both (nat_le (d + w) (u + 1)) found
 
 pub unsought_hits : (y : ℕ → ℕ → ℕ) (s : Search) (c : Sought) (u : ℕ) (hits : List Hit) → is_sought_end c u ≡ false →
     pulses_of_hits y s c u hits ≡ []

@@ -99,7 +99,8 @@ module _ (old new : ShardState) (mid : Carrying) (p : PulseState) (rows : List �
       }
 
   pulses_are_added : (f : Filterbank) → StandsForStream old f → AreNext old.carry f rows spectra →
-      Adds before after (pulses_of_plan f old.carry.tables.plan old.pulses.search old.pulses.sought old.carry.fed spectra)
+      Adds before after
+      (pulses_of_plan f old.carry.tables.plan old.pulses.search old.pulses.sought old.carry.fed spectra)
   pulses_are_added f stands next =
       let have = have_taken f stands next in
       let q = old.pulses in

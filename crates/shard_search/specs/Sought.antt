@@ -67,8 +67,8 @@ pub record CanBeSought (c : Sought) (channels end : ℕ) : Type 0 where
   pub cells : (d : ℕ) → d < end → cells_in c d ≤ channels + d
   pub early : c.first ≤ 2 ^ 61
 
--- of so many spectra, from spectrum `start` of the rows on, those from number `from` up to, but without, number `to` are
--- ends that are sought
+-- of so many spectra, from spectrum `start` of the rows on, those from number `from` on and before number `to` are ends
+-- that are sought
 pub record AreSoughtEnds (c : Sought) (start spectra from to : ℕ) : Type 0 where
   pub order : from ≤ to
   pub most : to ≤ spectra

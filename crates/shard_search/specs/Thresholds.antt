@@ -20,7 +20,9 @@ AreLeastSums s c first w least_sums =
     StandOutFrom (noise_of s) (w * cells_in c (first + i)) least
 
 -- they are of a width of the search: the least detected sums of the delays from `first` up to, but without, `end`
-pub record AreThresholds (s : Search) (c : Sought) (first end : ℕ) (thresholds : BoxThresholds) : Type 0 where
+pub record AreThresholds
+    (s : Search) (c : Sought) (first end : ℕ) (thresholds : BoxThresholds)
+    : Type 0 where
   pub width : IsWidth thresholds.width
   pub narrow : thresholds.width ≤ s.widest
   pub count : length thresholds.least_sums.items ≡ end - first

@@ -1,5 +1,5 @@
 // What is sought in the rows of a shard.
-ghost use Rattle.std.specs.Prelude.{◌≡◌, ℕ, ◌+◌, ◌^◌, ◌≤◌, ◌<◌, true, false, List, Option, slice_index};
+ghost use Rattle.std.specs.Prelude.{◌≡◌, ℕ, ◌+◌, ◌^◌, ◌≤◌, ◌<◌, true, false, Option, slice_index};
 ghost use Rattle.shard_search.specs.Sought.{whole_of, counted_of, part_of, cells_in, is_before, AreSoughtEnds};
 
 use std::marker::Model;
@@ -12,8 +12,8 @@ pub(crate) enum Cells {
     Counted(Vec<u32>),
 }
 
-/// What is sought in the rows of a shard: how many cells a path sum of each delay adds up, and the pulses of which ends.
-/// Ends count from the first spectrum of the observation, also where the rows begin with a later one.
+/// What is sought in the rows of a shard: how many cells a path sum of each delay adds up, and which ends of pulses. They
+/// count from the first spectrum of the observation, also where the rows begin with a later one.
 #[derive(Drop)]
 pub struct Sought {
     cells: Cells,

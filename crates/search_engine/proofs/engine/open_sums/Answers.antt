@@ -1,13 +1,12 @@
 use Rattle.search_model.specs.declared.search.Search.{Search}
 use Rattle.std.proofs.Common.{Result, Ok, Err, ◌-◌}
-use Rattle.std.proofs.Common.{◌≡◌, ◌∙◌, ℕ, ◌+◌, ◌*◌, ◌^◌, ◌<◌, List, sym, ap, subst, arith}
+use Rattle.std.proofs.Common.{◌≡◌, ◌∙◌, ℕ, ◌+◌, ◌*◌, List, sym, ap, subst, arith}
 use Rattle.band_paths.specs.Edges.{channels_of}
 use Rattle.dada_model.specs.Edges.{AreEdges}
 use Rattle.search_model.specs.Search.{shard_start}
 use Rattle.std.specs.Prelude.{IfOk}
 use Rattle.dada_model.specs.Observation.{Observation, edges, max_sample}
 use Rattle.fdmt_carry.specs.Carrying.{IsStream}
-use Rattle.search_model.specs.Samples.{Filterbank}
 use Rattle.subband_plan.specs.Nodes.{BandPlan}
 use Rattle.subband_plan.specs.Plans.{band_plan}
 use Rattle.search_engine.specs.Engine.{IsOpenedSums}

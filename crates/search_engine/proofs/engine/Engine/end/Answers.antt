@@ -108,7 +108,8 @@ returns-clause-searched c = λ o bytes stands.
     let after = c.take.ensures.taken.stands f before next in
     let Q : ℕ → Type 0 = λ n. c.take.new.book ≡ book_of i.search.max_candidates
     (pulses_so_far o i.search i.shard f n) in
-    let pulses = subst Q (sym all) (book_more c.shards_are_listed.ensures o _ f c.take.new.book u r s (old.book f (begins u))
+    let pulses = subst Q (sym all) (book_more c.shards_are_listed.ensures o _ f c.take.new.book u r s
+    (old.book f (begins u))
     (c.take.ensures.taken.pulses f before next)) in
     let F : ShardState → Type 0 = λ t. t.carry.fed ≡ f.spectra in
     let T : Tables → Type 0 = λ t. Adds c.take.new.book c.end.new.book
@@ -122,8 +123,8 @@ returns-clause-searched c = λ o bytes stands.
     (c.end.ensures.folds f after (all ∙ sym c.take.ensures.taken.fed)))) in
     let same = c.end.ensures.same in
     record {
-      book = book_of_all c.shards_are_listed.ensures c.edges_fall.ensures o _ bytes c.take.new.book c.end.new.book s pulses
-          folds;
+      book = book_of_all c.shards_are_listed.ensures c.edges_fall.ensures o _ bytes c.take.new.book c.end.new.book
+          s pulses folds;
       spectra = ap (λ (t : ShardState). t.carry.fed) same ∙ c.take.ensures.taken.fed ∙ sym all;
       plan = ap (λ (t : ShardState). t.carry.tables.plan) same
           ∙ ap (λ (t : Tables). t.plan) c.take.ensures.taken.alike.tables ∙ s.plan;

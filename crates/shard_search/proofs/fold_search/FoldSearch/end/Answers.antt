@@ -44,5 +44,6 @@ returns-clause-folds c = λ f edges.
     Adds c.args.book.now c.fold_fronts.new.book
     (within_delays seen.first seen.end (folds f edges (cells_in c.args.sought.now) seen.search)) in
     subst P c.self.view_is
-    (ended c.args.book.now c.fold_fronts.new.book (cells_in c.args.sought.now) _ c.as_slice.result.now f edges c.as_slice.ensures.value
+    (ended c.args.book.now c.fold_fronts.new.book (cells_in c.args.sought.now) _ c.as_slice.result.now f edges
+    c.as_slice.ensures.value
     c.self.invariant.count c.self.invariant.delays (c.fold_fronts.ensures.folds f edges))

@@ -3,9 +3,8 @@ use Rattle.std.specs.List.{range_with_len, flat_map}
 use Rattle.std.proofs.lemmas.Grind.{flat_map-append}
 use Rattle.std.proofs.lemmas.List.{append-nil}
 use Rattle.search_model.specs.declared.candidate.Candidate.{Candidate}
-use Rattle.shard_search.specs.Judging.{Adds}
 use Rattle.shard_search.specs.PulseSearch.{PulseState}
-use Rattle.shard_search.specs.Sought.{Sought, AreSoughtEnds, is_sought_end}
+use Rattle.shard_search.specs.Sought.{AreSoughtEnds, is_sought_end}
 use Rattle.shard_search.specs.Thresholds.{pulses_of_hits}
 use Rattle.shard_search.proofs.Adding.{adds_none, adds_same, adds_more}
 use Rattle.shard_search.proofs.Ranges.{flat_nothing, range_join}
@@ -35,7 +34,8 @@ loop-k-init c =
     record {
       count = omega arith;
       pulses = λ y kept. adds_same c.args.book.now c.args.book.now [] _
-          (sym (ap (λ a. flat_map (λ u. pulses_of_hits y s.search s.sought u s.hits) (range_with_len a c.ends-ends.result.from))
+          (sym (ap (λ a. flat_map (λ u. pulses_of_hits y s.search s.sought u s.hits)
+          (range_with_len a c.ends-ends.result.from))
           (let e : c.args.start ≡ c.args.start + 0 = omega arith in e)
           ∙ none_ends y s c.args.start 0 c.ends-ends.result.from (λ k _ below. ends.before k (omega arith))))
           (adds_none c.args.book.now);

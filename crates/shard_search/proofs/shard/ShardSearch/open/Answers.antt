@@ -10,7 +10,6 @@ use Rattle.subband_plan.specs.Plans.{band_plan}
 use Rattle.subband_plan.specs.Nodes.{BandPlan}
 use Rattle.shard_search.specs.FoldSearch.{Fronts, FoldsFor, IsDelayRange, KeepsFrontOf}
 use Rattle.shard_search.specs.PulseSearch.{PulseState, SearchesFor, RowsStandFor}
-use Rattle.shard_search.specs.Opening.{IsOpenedShard}
 use Rattle.shard_search.specs.Sought.{Sought}
 use Rattle.shard_search.specs.Sums.{FitTogether, sums_of}
 use Rattle.shard_search.proofs.Ends.{over_more}
@@ -18,7 +17,8 @@ use Rattle.shard_search.proofs.shard.ShardSearch.open.Goals as goal
 
 -- the parts that are opened search the same delays
 opened_fit : (s : Search) (x : Sought) (edges : List ℕ) (first end chunk most max_sample channels bound : ℕ)
-    (plan : BandPlan) (c : Carrying) (p : PulseState) (g : Fronts) → AreEdges (channels_of edges) edges → SettingsInRange s →
+    (plan : BandPlan) (c : Carrying) (p : PulseState) (g : Fronts) → AreEdges (channels_of edges) edges →
+    SettingsInRange s →
     IsDelayRange s first end → first < end → channels ≡ channels_of edges →
     bound ≡ max_sample * (channels + s.max_delay) → plan ≡ band_plan edges first (end - 1) →
     IsOpened c plan chunk most max_sample → SearchesFor p s x first end chunk bound →
@@ -60,7 +60,8 @@ opened_fit s x edges first end chunk most max_sample channels bound plan c p g b
 
 pub invariant_of-result : goal.invariant_of-result
 invariant_of-result c = (
-  opened_fit c.args.search.now c.args.sought c.args.edges.now c.args.first c.args.end c.args.chunk _ c.args.max_sample _ _
+  opened_fit c.args.search.now c.args.sought c.args.edges.now c.args.first c.args.end c.args.chunk _
+      c.args.max_sample _ _
       c.in_ok-plan.plan c.in_ok-carry.carry c.in_ok-pulses.pulses c.in_ok-folds.folds c.requires.band c.requires.range
       c.requires.delays c.requires.some_delays refl refl c.in_ok-plan.ensures c.in_ok-carry.ensures.opened
       c.in_ok-pulses.ensures.opened c.in_ok-folds.ensures.opened,
