@@ -8,7 +8,7 @@ use Rattle.dada_model.specs.Observation.{Observation}
 use Rattle.search_model.specs.Samples.{Filterbank, samples_of}
 use Rattle.search_model.specs.SampleLaws.{SamplesOfBytes}
 use Rattle.search_engine.specs.Engine.{BeginsWith}
-use Rattle.search_engine.specs.Scope.{Scope, kept_by, searched}
+use Rattle.search_engine.specs.Scope.{kept_by, kept_samples}
 
 -- an accepted observation has 8 or 16 bits
 bits : (o : Observation) → ObservationInRange o → (o.nbit ≡ 8) ⊎ (o.nbit ≡ 16)
@@ -34,17 +34,17 @@ place_in_spectrum true c n channel = channel
 place_in_spectrum false c n channel = omega arith
 
 -- more bytes change no whole spectrum
-pub begins_before : SamplesOfBytes → (o : Observation) (scope : Scope) (bytes more : List ℕ) (u v : ℕ) (f : Filterbank) →
-    ObservationInRange o → u ≤ v → u ≤ (searched o scope bytes).spectra →
-    BeginsWith o (searched o scope (bytes ++ more)) v f → BeginsWith o (searched o scope bytes) u f
-begins_before law o scope bytes more u v f range before whole begins = record {
+pub begins_before : SamplesOfBytes → (o : Observation) (masked : List Bool) (bytes more : List ℕ) (u v : ℕ) (f : Filterbank) →
+    ObservationInRange o → u ≤ v → u ≤ (kept_samples o masked bytes).spectra →
+    BeginsWith o (kept_samples o masked (bytes ++ more)) v f → BeginsWith o (kept_samples o masked bytes) u f
+begins_before law o masked bytes more u v f range before whole begins = record {
   channels = begins.channels;
   small = begins.small;
   same = λ c t channel early.
       let some = range.few_polarisations in
       let place : ℕ = cond o.is_falling c (o.channels - 1 - c) in
       begins.same c t channel (omega arith)
-      ∙ ap (λ (n : ℕ). cond (kept_by scope.masked c) n 0)
+      ∙ ap (λ (n : ℕ). cond (kept_by masked c) n 0)
       (law.kept o.nbit o.npol bytes more (t * o.channels + place) (bits o range) (omega arith)
       (sample_is_there o.channels (length (samples_of o.nbit o.npol bytes)) u place t whole
       (place_in_spectrum o.is_falling c o.channels channel) early));
@@ -56,11 +56,11 @@ small_kept true n most small = small
 small_kept false n most small = omega arith
 
 -- the samples of the data bytes themselves are such a stream
-pub data_begin : SamplesOfBytes → (o : Observation) (scope : Scope) (bytes : List ℕ) (u : ℕ) → ObservationInRange o →
-    All (λ byte. byte < 256) bytes → BeginsWith o (searched o scope bytes) u (searched o scope bytes)
-data_begin law o scope bytes u range numbers = record {
+pub data_begin : SamplesOfBytes → (o : Observation) (masked : List Bool) (bytes : List ℕ) (u : ℕ) → ObservationInRange o →
+    All (λ byte. byte < 256) bytes → BeginsWith o (kept_samples o masked bytes) u (kept_samples o masked bytes)
+data_begin law o masked bytes u range numbers = record {
   channels = refl;
-  small = λ c t. small_kept (kept_by scope.masked c) _ _
+  small = λ c t. small_kept (kept_by masked c) _ _
       (law.bounded o.nbit o.npol bytes (t * o.channels + cond o.is_falling c (o.channels - 1 - c))
       (bits o range) numbers);
   same = λ c t channel early. refl;

@@ -15,7 +15,7 @@ use Rattle.search_model.specs.Samples.{Filterbank, filterbank, samples_of}
 use Rattle.spectra_rows.specs.Unpacking.{OpenedAlike, Unpacking, StandsForBytes, spectrum_bytes, unpacked}
 use Rattle.subband_plan.specs.Nodes.{BandPlan}
 use Rattle.search_engine.specs.Engine.{EngineState, Searches, HoldsData, BeginsWith, most_fed}
-use Rattle.search_engine.specs.Scope.{kept_by, searched}
+use Rattle.search_engine.specs.Scope.{kept_by, kept_samples}
 use Rattle.shard_search.specs.Sums.{ShardState, StandsForStream, ContinuesStream, SumsAlike}
 use Rattle.search_engine.proofs.Data.{begins_before, data_begin}
 use Rattle.search_engine.proofs.Sizes.{size_of, size_some, whole_are, given_fit, held_fit}
@@ -38,7 +38,7 @@ unpacked_is o e bytes s =
     ∙ ap (λ n. filterbank o.channels o.is_falling (samples_of o.nbit n bytes)) s.npol
 
 -- there are no more marks than channels, and few of them
-pub marks_fit : (o : Observation) (e : EngineState) → Searches o e → length e.scope.masked ≤ e.unpacker.channels
+pub marks_fit : (o : Observation) (e : EngineState) → Searches o e → length e.masked ≤ e.unpacker.channels
 marks_fit o e s = let marks = s.marks in let own = s.channels in omega (arith, marks, own)
 
 pub few_channels : (o : Observation) (e : EngineState) → Searches o e → e.unpacker.channels ≤ 4096
@@ -46,15 +46,15 @@ few_channels o e s = let many = s.bounds.many_channels in let own = s.channels i
 
 -- the samples that an unpacker has after its masked rows were hidden
 pub kept_is : (o : Observation) (e : EngineState) (bytes : List ℕ) → Searches o e →
-    kept_of (kept_by e.scope.masked) (unpacked e.unpacker bytes) ≡ searched o e.scope bytes
-kept_is o e bytes s = ap (kept_of (kept_by e.scope.masked)) (unpacked_is o e bytes s)
+    kept_of (kept_by e.masked) (unpacked e.unpacker bytes) ≡ kept_samples o e.masked bytes
+kept_is o e bytes s = ap (kept_of (kept_by e.masked)) (unpacked_is o e bytes s)
 
 -- rows have the samples of the spectra that are held
 abbrev pub HasRows : EngineState → List ℕ → List ℕ → Type 0
 HasRows e bytes rows =
     (c t : ℕ) → c < e.unpacker.channels → t < e.unpacker.whole
     → slice_index rows (c * e.unpacker.chunk + t)
-    ≡ (kept_of (kept_by e.scope.masked) (unpacked e.unpacker bytes)).value c (e.sums.carry.fed + t)
+    ≡ (kept_of (kept_by e.masked) (unpacked e.unpacker bytes)).value c (e.sums.carry.fed + t)
 
 pub channels_are : EdgesFall → (o : Observation) (e : EngineState) → Searches o e →
     channels_of e.sums.carry.tables.plan.edges ≡ o.channels
@@ -104,7 +104,7 @@ pushed_holds law o before piece e u n holds alike long pieces numbers most =
       count = omega (arith, count, both, long);
       most = most;
       held = pieces holds.held;
-      sums = λ f begins. holds.sums f (begins_before law o e.scope before piece e.sums.carry.fed e.sums.carry.fed f s.bounds
+      sums = λ f begins. holds.sums f (begins_before law o e.masked before piece e.sums.carry.fed e.sums.carry.fed f s.bounds
           (let l : e.sums.carry.fed ≤ e.sums.carry.fed = omega arith in l) whole begins);
     }
 
@@ -122,12 +122,12 @@ piece_holds law o before bytes e u n room holds count alike pieces numbers most 
 
 -- a stream that begins with more data begins with those before
 pub begins_old : SamplesOfBytes → (o : Observation) (before piece : List ℕ) (e : EngineState) (v : ℕ) (f : Filterbank) →
-    HoldsData o before e → e.sums.carry.fed ≤ v → BeginsWith o (searched o e.scope (before ++ piece)) v f →
-    BeginsWith o (searched o e.scope before) e.sums.carry.fed f
+    HoldsData o before e → e.sums.carry.fed ≤ v → BeginsWith o (kept_samples o e.masked (before ++ piece)) v f →
+    BeginsWith o (kept_samples o e.masked before) e.sums.carry.fed f
 begins_old law o before piece e v f holds less begins =
     let s = holds.searches in
     let P : ℕ → Type 0 = λ k. e.sums.carry.fed * k ≤ length before in
-    begins_before law o e.scope before piece e.sums.carry.fed v f s.bounds less
+    begins_before law o e.masked before piece e.sums.carry.fed v f s.bounds less
     (whole_are o s.bounds before e.sums.carry.fed (subst P (size_is o e s)
     (given_fit e.unpacker before e.sums.carry.fed holds.held))) begins
 
@@ -152,7 +152,7 @@ begins_less o g u v f less begins = record {
 pub next_spectra : (o : Observation) (bytes rows : List ℕ) (e : EngineState) (r : ℕ) → HoldsData o bytes e →
     r ≤ e.unpacker.whole →
     HasRows e bytes rows →
-    (f : Filterbank) → BeginsWith o (searched o e.scope bytes) (e.sums.carry.fed + r) f → AreNext e.sums.carry f rows r
+    (f : Filterbank) → BeginsWith o (kept_samples o e.masked bytes) (e.sums.carry.fed + r) f → AreNext e.sums.carry f rows r
 next_spectra o bytes rows e r holds few samples f begins = λ channel i within early.
     let s = holds.searches in
     let channels = begins.channels in
@@ -168,13 +168,13 @@ pub goes_on : SamplesOfBytes → (o : Observation) (bytes rows : List ℕ) (e : 
     HasRows e bytes rows →
     ContinuesStream e.sums.carry rows r
 goes_on law o bytes rows e r holds few samples =
-    let f = searched o e.scope bytes in
+    let f = kept_samples o e.masked bytes in
     let bounds = holds.searches.bounds in
     record {
       stream = f;
-      stands = (holds.sums f (data_begin law o e.scope bytes e.sums.carry.fed bounds holds.numbers)).carry;
+      stands = (holds.sums f (data_begin law o e.masked bytes e.sums.carry.fed bounds holds.numbers)).carry;
       next = next_spectra o bytes rows e r holds few samples f
-          (data_begin law o e.scope bytes (e.sums.carry.fed + r) bounds holds.numbers);
+          (data_begin law o e.masked bytes (e.sums.carry.fed + r) bounds holds.numbers);
     }
 
 -- there are few spectra in all
@@ -229,8 +229,8 @@ searched_holds o bytes rows e u t b h r holds is_alike whole given alike fed sam
       most = holds.most;
       held = subst P total (given holds.held);
       sums = λ f begins.
-          let B : ℕ → Type 0 = λ n. BeginsWith o (searched o e.scope bytes) n f in
+          let B : ℕ → Type 0 = λ n. BeginsWith o (kept_samples o e.masked bytes) n f in
           let later = subst B fed begins in
-          stands f (holds.sums f (begins_less o (searched o e.scope bytes) e.sums.carry.fed (e.sums.carry.fed + r) f (omega arith) later))
+          stands f (holds.sums f (begins_less o (kept_samples o e.masked bytes) e.sums.carry.fed (e.sums.carry.fed + r) f (omega arith) later))
           (next_spectra o bytes rows e r holds few samples f later);
     }

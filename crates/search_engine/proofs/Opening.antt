@@ -1,5 +1,5 @@
 -- An engine that was opened, and fed nothing.
-use Rattle.std.proofs.Common.{◌≡◌, ◌∙◌, ℕ, ◌+◌, ◌%◌, ◌<◌, ◌≤◌, length, false, None, [], min, refl, sym, ap, subst, arith}
+use Rattle.std.proofs.Common.{◌≡◌, ◌∙◌, ℕ, ◌+◌, ◌%◌, ◌<◌, ◌≤◌, Bool, List, length, false, None, [], min, refl, sym, ap, subst, arith}
 use Rattle.std.proofs.Math.Nat.{zero-mod}
 use Rattle.std.proofs.lemmas.List.Elements.{All-nil}
 use Rattle.dada_model.specs.Bounds.{ObservationInRange}
@@ -12,32 +12,32 @@ use Rattle.candidate_book.specs.Book.{BookContents, book_of}
 use Rattle.spectra_rows.specs.Unpacking.{Unpacking, StandsForBytes}
 use Rattle.shard_search.specs.Counts.{most_tables}
 use Rattle.shard_search.specs.Pulses.{pulses_of_ends}
+use Rattle.shard_search.specs.Sought.{Sought}
 use Rattle.shard_search.specs.Sums.{ShardState, sums_of}
 use Rattle.search_engine.specs.Engine.{EngineState, Searches, HoldsData, HasTaken, StandsForPart, EngineIsSound, IsOpenedSums, IsOpenedUnpacker, chunk_of}
-use Rattle.search_engine.specs.Scope.{Scope}
 
 -- the parts of an engine
 pub record OpenedParts
-    (o : Observation) (s : Search) (k : ℕ) (scope : Scope) (chunk : ℕ) (u : Unpacking) (sums : ShardState)
+    (o : Observation) (s : Search) (k : ℕ) (masked : List Bool) (x : Sought) (chunk : ℕ) (u : Unpacking) (sums : ShardState)
     (book : BookContents) : Type 0 where
   pub bounds : ObservationInRange o
   pub band : AreEdges o.channels (edges o)
   pub range : SettingsInRange s
   pub shard : k < s.shards
   pub accepted : plan_refusal o s ≡ None
-  pub marks : length scope.masked ≤ o.channels
+  pub marks : length masked ≤ o.channels
   pub chunk_is : chunk ≡ chunk_of s
   pub unpacker : IsOpenedUnpacker o chunk u
   pub nothing : StandsForBytes u [] 0
-  pub path_sums : IsOpenedSums o s k chunk sums
+  pub path_sums : IsOpenedSums o s k chunk x sums
   pub empty : book ≡ book_of s.max_candidates []
 
 -- the engine of these parts
-abbrev pub opened_state : Search → ℕ → Scope → Unpacking → ShardState → BookContents → EngineState
-opened_state s k scope u sums book = record {
+abbrev pub opened_state : Search → ℕ → List Bool → Unpacking → ShardState → BookContents → EngineState
+opened_state s k masked u sums book = record {
   search = s;
   shard = k;
-  scope = scope;
+  masked = masked;
   fed = 0;
   has_ended = false;
   unpacker = u;
@@ -45,9 +45,9 @@ opened_state s k scope u sums book = record {
   book = book;
 }
 
-module _ (o : Observation) (s : Search) (k : ℕ) (scope : Scope) (chunk : ℕ) (u : Unpacking) (sums : ShardState)
-    (book : BookContents) (p : OpenedParts o s k scope chunk u sums book) where
-  opened_searches : Searches o (opened_state s k scope u sums book)
+module _ (o : Observation) (s : Search) (k : ℕ) (masked : List Bool) (x : Sought) (chunk : ℕ) (u : Unpacking) (sums : ShardState)
+    (book : BookContents) (p : OpenedParts o s k masked x chunk u sums book) where
+  opened_searches : Searches o (opened_state s k masked u sums book)
   opened_searches = record {
     bounds = p.bounds;
     range = p.range;
@@ -74,7 +74,7 @@ module _ (o : Observation) (s : Search) (k : ℕ) (scope : Scope) (chunk : ℕ) 
       let P : Unpacking → Type 0 = λ u. u.whole < u.chunk in
       subst P (sym p.unpacker) (omega arith)
 
-  opened_holds : HoldsData o [] (opened_state s k scope u sums book)
+  opened_holds : HoldsData o [] (opened_state s k masked u sums book)
   opened_holds = record {
     searches = opened_searches;
     numbers = All-nil (λ (byte : ℕ). byte < 256);
@@ -87,18 +87,18 @@ module _ (o : Observation) (s : Search) (k : ℕ) (scope : Scope) (chunk : ℕ) 
         p.path_sums.stands f (record { channels = omega arith; small = begins.small });
   }
 
-  opened_taken : HasTaken o [] (opened_state s k scope u sums book)
+  opened_taken : HasTaken o [] (opened_state s k masked u sums book)
   opened_taken = record { holds = opened_holds; part = opened_part }
 
-  pub opened_stands : StandsForPart o [] (opened_state s k scope u sums book)
+  pub opened_stands : StandsForPart o [] (opened_state s k masked u sums book)
   opened_stands = record {
     taken = opened_taken;
     chunks = ap (λ n. n % chunk_of s) p.path_sums.nothing_fed ∙ zero-mod (chunk_of s);
-    book = λ f begins. p.empty ∙ ap (λ n. book_of s.max_candidates (pulses_of_ends (sums_of f (edges o)) s o.channels
-        (shard_start s k) (shard_start s (k + 1)) 0 n)) (sym p.path_sums.nothing_fed);
+    book = λ f begins. p.empty ∙ ap (λ n. book_of s.max_candidates (pulses_of_ends (sums_of f (edges o)) s
+        sums.pulses.sought (shard_start s k) (shard_start s (k + 1)) 0 n)) (sym p.path_sums.nothing_fed);
   }
 
-  pub opened_sound : EngineIsSound (opened_state s k scope u sums book)
+  pub opened_sound : EngineIsSound (opened_state s k masked u sums book)
   opened_sound = record {
     observation = o;
     bytes = [];

@@ -8,6 +8,7 @@ use Rattle.search_model.specs.declared.search.Search.{Search}
 use Rattle.search_model.specs.Plan.{PlanRefusal, most_added, plan_refusal}
 use Rattle.search_model.specs.Search.{SettingsInRange, folds_are_on, fold_delays, delay_count, shard_start}
 use Rattle.shard_search.specs.FoldSearch.{FoldsFit, IsDelayRange}
+use Rattle.shard_search.specs.Opening.{SumsFit}
 
 -- the tests of a refusal, one after another
 refusal_after : (b : Bool) (refusal : PlanRefusal) (rest : Option PlanRefusal) →
@@ -37,14 +38,14 @@ part_fits bound part all few fits =
     omega (arith, most, less)
 
 -- box sums fit into 32 bits
-pub boxes_fit : (o : Observation) (s : Search) → plan_refusal o s ≡ None →
+boxes_fit : (o : Observation) (s : Search) → plan_refusal o s ≡ None →
     max_sample o * (o.channels + s.max_delay) * s.widest < 2 ^ 32
 boxes_fit o s none =
     part_fits (max_sample o * (o.channels + s.max_delay)) s.widest (most_added s) (omega arith)
     (not_refused o s none).sums
 
 -- and so do folds, where they are on
-pub folds_fit : (o : Observation) (s : Search) → plan_refusal o s ≡ None → IsTrue (folds_are_on s) →
+folds_fit : (o : Observation) (s : Search) → plan_refusal o s ≡ None → IsTrue (folds_are_on s) →
     FoldsFit s (max_sample o * (o.channels + s.max_delay))
 folds_fit o s none on =
     let not = not_refused o s none in
@@ -57,6 +58,10 @@ folds_fit o s none on =
       sums = part_fits (max_sample o * (o.channels + s.max_delay)) (2 ^ s.fold_rows) (most_added s)
           (omega (arith, added)) not.sums;
     }
+
+pub sums_fit : (o : Observation) (s : Search) → plan_refusal o s ≡ None →
+    SumsFit s (max_sample o * (o.channels + s.max_delay))
+sums_fit o s none = record { boxes = boxes_fit o s none; folds = folds_fit o s none }
 
 -- ---- the delays of a shard
 

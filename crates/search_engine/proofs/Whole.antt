@@ -1,21 +1,32 @@
--- A search of a part that is all of an observation.
-use Rattle.std.proofs.Common.{◌≡◌, ◌∙◌, ℕ, ◌%◌, List, min, ap, subst}
+-- What is searched: a scope, or all of an observation.
+use Rattle.std.proofs.Common.{◌≡◌, ◌∙◌, ℕ, Bool, List, sym, ap, subst}
 use Rattle.candidate_book.specs.Book.{book_of}
-use Rattle.dada_model.specs.Observation.{Observation, edges}
-use Rattle.fdmt_carry.specs.Carrying as carry
-use Rattle.search_model.specs.Candidates.{plain_cells, candidates, shard_part}
-use Rattle.search_engine.specs.Engine.{EngineState, HasFoundPart, HasSearched, chunk_of}
-use Rattle.search_engine.specs.Scope.{Scope, searched, whole_scope}
-use Rattle.shard_search.specs.Counts.{most_tables}
+use Rattle.dada_model.specs.Observation.{Observation}
+use Rattle.search_model.specs.Candidates.{shard_part}
+use Rattle.search_model.specs.Observed.{candidates_of}
+use Rattle.search_engine.specs.Engine.{EngineState, HasFoundIn, HasFoundPart, HasSearched, scope_of}
+use Rattle.search_engine.specs.Scope.{Scope, whole_scope}
+use Rattle.shard_search.specs.Laws.{ShardsAreListed}
+use Rattle.shard_search.specs.Sought.{Sought}
 
-pub has_searched : (o : Observation) (bytes : List ℕ) (e : EngineState) → e.scope ≡ whole_scope →
-    HasFoundPart o bytes e → HasSearched o bytes e
-has_searched o bytes e whole found = record {
-  book = found.book ∙ ap (λ (c : Scope). book_of e.search.max_candidates (shard_part e.search e.shard
-      (candidates (searched o c bytes) (edges o) (plain_cells o.channels) e.search))) whole;
-  spectra = found.spectra ∙ ap (λ (c : Scope). (searched o c bytes).spectra) whole;
-  plan = found.plan;
-  carry = subst (λ (c : Scope). carry.StandsForSamples e.sums.carry (searched o c bytes)) whole found.carry;
-  tables = found.tables;
-  last = found.last ∙ ap (λ (c : Scope). min ((searched o c bytes).spectra % chunk_of e.search) most_tables) whole;
-}
+abbrev pub scope_at : List Bool → Sought → Scope
+scope_at masked c = record { masked = masked; sought = c }
+
+pub found_in : (o : Observation) (c : Scope) (bytes : List ℕ) (e : EngineState) → scope_of e ≡ c →
+    HasFoundIn o c bytes e → HasFoundPart o bytes e
+found_in o c bytes e same found = subst (λ (x : Scope). HasFoundIn o x bytes e) (sym same) found
+
+pub has_searched : ShardsAreListed → (o : Observation) (bytes : List ℕ) (e : EngineState) →
+    scope_of e ≡ whole_scope o.channels → HasFoundPart o bytes e → HasSearched o bytes e
+has_searched listed o bytes e whole part =
+    let found : HasFoundIn o (whole_scope o.channels) bytes e =
+    subst (λ (x : Scope). HasFoundIn o x bytes e) whole part in
+    record {
+      book = found.book ∙ ap (λ xs. book_of e.search.max_candidates (shard_part e.search e.shard xs))
+          (listed.whole o.channels (candidates_of o e.search bytes));
+      spectra = found.spectra;
+      plan = found.plan;
+      carry = found.carry;
+      tables = found.tables;
+      last = found.last;
+    }

@@ -6,7 +6,7 @@ use Rattle.dada_model.specs.Observation.{Observation, edges, max_sample}
 use Rattle.search_model.specs.declared.search.Search.{Search}
 use Rattle.search_model.specs.Samples.{Filterbank}
 use Rattle.search_model.specs.Search.{SettingsInRange, shard_start}
-use Rattle.search_model.specs.Candidates.{plain_cells, candidates, shard_part}
+use Rattle.search_model.specs.Candidates.{shard_part}
 use Rattle.search_model.specs.Observed.{filterbank_of, candidates_of}
 use Rattle.search_model.specs.Plan.{plan_refusal}
 use Rattle.candidate_book.specs.Book.{BookContents, book_of}
@@ -16,20 +16,25 @@ use Rattle.fdmt_carry.specs.Carrying as carry
 use Rattle.fdmt_carry.specs.Carrying.{IsStream}
 use Rattle.shard_search.specs.Counts.{most_pulses_at_end, most_tables}
 use Rattle.shard_search.specs.Pulses.{pulses_of_ends}
+use Rattle.shard_search.specs.Sought.{Sought}
 use Rattle.shard_search.specs.Sums.{ShardState, StandsForStream, sums_of}
-use Rattle.search_engine.specs.Scope.{Scope, searched, whole_scope}
+use Rattle.search_engine.specs.Scope.{Scope, candidates_in, kept_samples, searched, whole_scope}
 
--- The search of one shard: what of the observation is searched, how many bytes it was fed, and whether it ended; what
--- stands behind.
+-- The search of one shard: which channels are masked, how many bytes it was fed, and whether it ended; what stands
+-- behind.
 pub record EngineState : Type 0 where
   pub search : Search
   pub shard : ℕ
-  pub scope : Scope
+  pub masked : List Bool
   pub fed : ℕ
   pub has_ended : Bool
   pub unpacker : Unpacking
   pub sums : ShardState
   pub book : BookContents
+
+-- what of an observation is searched
+abbrev pub scope_of : EngineState → Scope
+scope_of e = record { masked = e.masked; sought = e.sums.pulses.sought }
 
 -- the most bytes that an engine is fed
 abbrev pub most_fed : ℕ
@@ -51,7 +56,7 @@ pub record Searches (o : Observation) (e : EngineState) : Type 0 where
   pub range : SettingsInRange e.search
   pub shard : e.shard < e.search.shards
   pub accepted : plan_refusal o e.search ≡ None
-  pub marks : length e.scope.masked ≤ o.channels
+  pub marks : length e.masked ≤ o.channels
   pub channels : e.unpacker.channels ≡ o.channels
   pub is_falling : e.unpacker.is_falling ≡ o.is_falling
   pub nbit : e.unpacker.nbit ≡ o.nbit
@@ -71,7 +76,7 @@ pub record HoldsData (o : Observation) (bytes : List ℕ) (e : EngineState) : Ty
   pub count : length bytes ≡ e.fed
   pub most : e.fed ≤ most_fed
   pub held : StandsForBytes e.unpacker bytes e.sums.carry.fed
-  pub sums : (f : Filterbank) → BeginsWith o (searched o e.scope bytes) e.sums.carry.fed f
+  pub sums : (f : Filterbank) → BeginsWith o (kept_samples o e.masked bytes) e.sums.carry.fed f
       → StandsForStream e.sums f
 
 -- and all full chunks of them were searched
@@ -84,15 +89,15 @@ pub record HasTaken (o : Observation) (bytes : List ℕ) (e : EngineState) : Typ
 pub record StandsForPart (o : Observation) (bytes : List ℕ) (e : EngineState) : Type 0 where
   pub taken : HasTaken o bytes e
   pub chunks : e.sums.carry.fed % chunk_of e.search ≡ 0
-  pub book : (f : Filterbank) → BeginsWith o (searched o e.scope bytes) e.sums.carry.fed f
+  pub book : (f : Filterbank) → BeginsWith o (kept_samples o e.masked bytes) e.sums.carry.fed f
       → e.book ≡ book_of e.search.max_candidates
-      (pulses_of_ends (sums_of f (edges o)) e.search o.channels (shard_start e.search e.shard)
-      (shard_start e.search (e.shard + 1)) 0 e.sums.carry.fed)
+      (pulses_of_ends (sums_of f (edges o)) e.search e.sums.pulses.sought
+      (shard_start e.search e.shard) (shard_start e.search (e.shard + 1)) 0 e.sums.carry.fed)
 
 -- the same, where all of the observation is searched
 pub record StandsForData (o : Observation) (bytes : List ℕ) (e : EngineState) : Type 0 where
   pub part : StandsForPart o bytes e
-  pub whole : e.scope ≡ whole_scope
+  pub whole : scope_of e ≡ whole_scope o.channels
 
 -- what always holds: there are bytes that it was fed; and as long as it has not ended, its book has room for more
 pub record EngineIsSound (e : EngineState) : Type 0 where
@@ -127,17 +132,21 @@ pub record HasSearched (o : Observation) (bytes : List ℕ) (e : EngineState) : 
   pub last : e.sums.carry.last
       ≡ min ((filterbank_of o bytes).spectra % chunk_of e.search) most_tables
 
--- The same of what is searched: its book has the shard's part of the candidates among these samples.
-pub record HasFoundPart (o : Observation) (bytes : List ℕ) (e : EngineState) : Type 0 where
-  pub book : e.book ≡ book_of e.search.max_candidates (shard_part e.search e.shard
-      (candidates (searched o e.scope bytes) (edges o) (plain_cells o.channels) e.search))
-  pub spectra : e.sums.carry.fed ≡ (searched o e.scope bytes).spectra
+-- The same of what lies in a scope: its book has the shard's part of the candidates that are sought there.
+pub record HasFoundIn (o : Observation) (c : Scope) (bytes : List ℕ) (e : EngineState)
+    : Type 0 where
+  pub book : e.book ≡ book_of e.search.max_candidates
+      (shard_part e.search e.shard (candidates_in o c e.search bytes))
+  pub spectra : e.sums.carry.fed ≡ (searched o c bytes).spectra
   pub plan : e.sums.carry.tables.plan
       ≡ band_plan (edges o) (shard_start e.search e.shard) (shard_start e.search (e.shard + 1) - 1)
-  pub carry : carry.StandsForSamples e.sums.carry (searched o e.scope bytes)
+  pub carry : carry.StandsForSamples e.sums.carry (searched o c bytes)
   pub tables : e.sums.carry.has_tables ≡ true
-  pub last : e.sums.carry.last
-      ≡ min ((searched o e.scope bytes).spectra % chunk_of e.search) most_tables
+  pub last : e.sums.carry.last ≡ min ((searched o c bytes).spectra % chunk_of e.search) most_tables
+
+-- the engine has searched what it is to search in these data bytes
+abbrev pub HasFoundPart : Observation → List ℕ → EngineState → Type 0
+HasFoundPart o bytes e = HasFoundIn o (scope_of e) bytes e
 
 -- an unpacker of an observation's data bytes, with no byte, whether its rows are of bytes or not
 abbrev pub IsOpenedUnpacker : Observation → ℕ → Unpacking → Type 0
@@ -145,14 +154,15 @@ IsOpenedUnpacker o chunk u =
     u ≡ record (unpacking_of o.channels o.is_falling o.nbit o.npol chunk) { in_bytes = u.in_bytes }
 
 -- the search of the path sums of shard k, of which none is taken
-pub record IsOpenedSums (o : Observation) (search : Search) (k chunk : ℕ) (s : ShardState)
-    : Type 0 where
+pub record IsOpenedSums (o : Observation) (search : Search) (k chunk : ℕ) (c : Sought)
+    (s : ShardState) : Type 0 where
   pub plan : s.carry.tables.plan
       ≡ band_plan (edges o) (shard_start search k) (shard_start search (k + 1) - 1)
   pub rows : s.carry.tables.chunk ≡ chunk
   pub most : s.carry.tables.most ≡ min chunk most_tables
   pub greatest : s.carry.max_sample ≡ max_sample o
   pub search_is : s.pulses.search ≡ search
+  pub sought_is : s.pulses.sought ≡ c
   pub nothing_fed : s.carry.fed ≡ 0
   pub stands : (f : Filterbank)
       → IsStream (band_plan (edges o) (shard_start search k) (shard_start search (k + 1) - 1))

@@ -6,8 +6,9 @@ ghost use Rattle.search_model.specs.Plan.{plan_refusal};
 ghost use Rattle.search_engine.specs.Plan.{Explains};
 ghost use Rattle.row_schedule.specs.Samples.{values_of};
 ghost use Rattle.spectra_rows.specs.Unpacking.{StandsForBytes};
-ghost use Rattle.search_engine.specs.Engine.{EngineState, EngineIsSound, IsOpenedSums, StandsForData, StandsForPart, HasSearched, HasFoundPart, IsOpenedEngine, IsOpenedUnpacker, SameShard, most_fed};
-ghost use Rattle.search_engine.specs.Scope.{marks_of};
+ghost use Rattle.search_engine.specs.Engine.{EngineState, EngineIsSound, IsOpenedSums, StandsForData, StandsForPart, HasSearched, HasFoundPart, IsOpenedEngine, IsOpenedUnpacker, SameShard, most_fed, scope_of};
+ghost use Rattle.search_engine.specs.Scope.{FitsObservation, marks_of};
+ghost use Rattle.shard_search.specs.Sought.{CanBeSought};
 
 use crate::fault::PlanFault;
 use crate::hiding::Masked;
@@ -19,7 +20,7 @@ use obs_plan::Observation;
 use psr_base::Memory;
 use row_schedule::Samples;
 use search_model::Search;
-use shard_search::ShardSearch;
+use shard_search::{ShardSearch, Sought};
 use spectra_rows::Unpacker;
 use std::alloc::Global;
 use std::marker::Model;
@@ -53,7 +54,7 @@ impl Model for Engine {
     ghost view = { λ e. record {
       search = e.search;
       shard = e.shard;
-      scope = record { masked = marks_of e.masked };
+      masked = marks_of e.masked;
       fed = e.fed;
       has_ended = e.has_ended;
       unpacker = e.unpacker;
@@ -64,7 +65,7 @@ impl Model for Engine {
     ghost invariant = { λ e. EngineIsSound (record {
       search = e.search;
       shard = e.shard;
-      scope = record { masked = marks_of e.masked };
+      masked = marks_of e.masked;
       fed = e.fed;
       has_ended = e.has_ended;
       unpacker = e.unpacker;
@@ -88,7 +89,13 @@ impl Engine {
         ensures stands { IfOk result (StandsForData observation.now []) }
         ensures refused { IfErr result (Explains (plan_refusal observation.now search.now)) }
     {
-        Engine::open_for(alloc, observation, search, shard, Scope::whole())
+        Engine::open_for(
+            alloc,
+            observation,
+            search,
+            shard,
+            Scope::whole(observation.channels()),
+        )
     }
 
     /// The same for a search of what lies in a scope. The search is refused as one of the whole observation is.
@@ -101,10 +108,10 @@ impl Engine {
     ) -> Result<Engine, PlanFault>
         requires range { SettingsInRange search.now }
         requires shard { shard < search.now.shards }
-        requires marks { length scope.masked ≤ observation.now.channels }
+        requires scope { FitsObservation observation.now search.now scope }
         ensures fits { OnOk result (plan_refusal observation.now search.now ≡ None) }
         ensures opened { IfOk result (λ e. IsOpenedEngine e search.now shard) }
-        ensures scope { IfOk result (λ e. e.scope ≡ scope) }
+        ensures scope { IfOk result (λ e. scope_of e ≡ scope) }
         ensures stands { IfOk result (StandsForPart observation.now []) }
         ensures refused { IfErr result (Explains (plan_refusal observation.now search.now)) }
     {
@@ -114,7 +121,7 @@ impl Engine {
         let chunk = search.chunk.min(MOST_CHUNK);
         let unpacker = open_unpacker(alloc, observation, chunk)?;
         let book = Book::open(alloc, search.max_candidates)?;
-        let sums = open_sums(alloc, observation, search, shard, chunk)?;
+        let sums = open_sums(alloc, observation, search, shard, chunk, scope.sought)?;
         Ok(Engine {
             search: *search,
             shard,
@@ -133,7 +140,7 @@ impl Engine {
         requires running { self.old.has_ended ≡ false }
         requires few { self.old.fed + length bytes.now ≤ most_fed }
         ensures same { SameShard self.new self.old }
-        ensures scope { self.new.scope ≡ self.old.scope }
+        ensures scope { scope_of self.new ≡ scope_of self.old }
         ensures running { self.new.has_ended ≡ false }
         ensures fed { self.new.fed ≡ self.old.fed + length bytes.now }
         ensures part { (o : Described) (before : List ℕ) → StandsForPart o before self.old
@@ -151,7 +158,7 @@ impl Engine {
     pub fn end(&mut self)
         requires { self.old.has_ended ≡ false }
         ensures same { SameShard self.new self.old }
-        ensures scope { self.new.scope ≡ self.old.scope }
+        ensures scope { scope_of self.new ≡ scope_of self.old }
         ensures ended { self.new.has_ended ≡ true }
         ensures fed { self.new.fed ≡ self.old.fed }
         ensures found { (o : Described) (bytes : List ℕ) → StandsForPart o bytes self.old
@@ -222,7 +229,7 @@ impl Engine {
         ensures some { 0 < result }
         ensures most { result ≤ length bytes.now }
         ensures same { SameShard self.new self.old }
-        ensures scope { self.new.scope ≡ self.old.scope }
+        ensures scope { scope_of self.new ≡ scope_of self.old }
         ensures running { self.new.has_ended ≡ false }
         ensures fed { self.new.fed ≡ self.old.fed + result }
         ensures part { (o : Described) (before : List ℕ) → StandsForPart o before self.old
@@ -303,13 +310,15 @@ fn open_sums(
     search: &Search,
     shard: u32,
     chunk: u32,
+    sought: Sought,
 ) -> Result<ShardSearch, Memory>
     requires range { SettingsInRange search.now }
     requires shard { shard < search.now.shards }
     requires accepted { plan_refusal observation.now search.now ≡ None }
     requires some { 1 ≤ chunk }
     requires most { chunk ≤ 65536 }
-    ensures { IfOk result (IsOpenedSums observation.now search.now shard chunk) }
+    requires sought { CanBeSought sought observation.now.channels (search.now.max_delay + 1) }
+    ensures { IfOk result (IsOpenedSums observation.now search.now shard chunk sought) }
 {
     observation.lies_in_range();
     let first = shard_start(search, shard);
@@ -318,6 +327,7 @@ fn open_sums(
         alloc,
         observation.edges(),
         search,
+        sought,
         first,
         end,
         chunk,

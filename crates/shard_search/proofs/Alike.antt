@@ -6,7 +6,7 @@ use Rattle.shard_search.specs.PulseSearch.{PulseState, SearchAlike}
 pub pulses_alike : (p q r : PulseState) → SearchAlike r q → SearchAlike q p → SearchAlike r p
 pulses_alike p q r b a = record {
   search_is = b.search_is ∙ a.search_is;
-  channels_is = b.channels_is ∙ a.channels_is;
+  sought_is = b.sought_is ∙ a.sought_is;
   first_is = b.first_is ∙ a.first_is;
   end_is = b.end_is ∙ a.end_is;
   chunk_is = b.chunk_is ∙ a.chunk_is;
@@ -16,7 +16,6 @@ pulses_alike p q r b a = record {
 pub folds_alike : (f g h : Fronts) → FoldsAlike h g → FoldsAlike g f → FoldsAlike h f
 folds_alike f g h b a = record {
   search = b.search ∙ a.search;
-  channels = b.channels ∙ a.channels;
   first = b.first ∙ a.first;
   end = b.end ∙ a.end;
   bound = b.bound ∙ a.bound;

@@ -1,5 +1,5 @@
 -- Boxes over the sums of a stream, and which of them are detected.
-use Rattle.std.proofs.Common.{◌≡◌, ℕ, ◌+◌, ◌-◌, ◌*◌, ◌<◌, ◌≤◌, ◌^◌, Bool, true, false, cond, IsTrue, [], ◌∷◌, zero, suc, Option, Some, None, length, slice_index, nat_le, slice_get, get_or, sym, ◌∙◌, ap, subst, arith, refl}
+use Rattle.std.proofs.Common.{◌≡◌, ℕ, ◌+◌, ◌-◌, ◌*◌, ◌<◌, ◌≤◌, ◌^◌, ◌&&◌, Bool, true, false, cond, IsTrue, [], ◌∷◌, zero, suc, Option, Some, None, length, slice_index, nat_le, slice_get, get_or, sym, ◌∙◌, ap, subst, arith, refl}
 use Rattle.std.proofs.lemmas.Bool.{false≢true, le-leb}
 use Rattle.std.proofs.lemmas.List.FromFn.{length-map-range_with_len, get_or-map-range_with_len}
 use Rattle.std.proofs.lemmas.Option.{slice_get-get_or}
@@ -7,13 +7,14 @@ use Rattle.box_sums.specs.Rows.{IsWidth, SumsAddValues, sum_ending, value_before
 use Rattle.detect_rule.specs.Noise.{StandOutFrom}
 use Rattle.search_model.specs.declared.search.Search.{Search}
 use Rattle.search_model.specs.declared.candidate.Candidate.TheVariants.{Pulse}
-use Rattle.search_model.specs.Candidates.{if_detected, plain_cells}
+use Rattle.search_model.specs.Candidates.{if_detected}
 use Rattle.search_model.specs.Detection.{IsDetected, is_detected}
 use Rattle.search_model.specs.Laws.{TestsDetection}
 use Rattle.shard_search.specs.declared.thresholds.BoxThresholds.{BoxThresholds}
 use Rattle.shard_search.specs.Judging.{noise_of}
 use Rattle.shard_search.specs.Thresholds.{AreThresholds}
 use Rattle.shard_search.specs.Pulses.{first_sums, box_of, pulse_of}
+use Rattle.shard_search.specs.Sought.{Sought, cells_in, is_sought_end}
 use Rattle.shard_search.proofs.Terms.{one_term, same_terms}
 
 pub not_true : (b : Bool) → ¬ IsTrue b → b ≡ false
@@ -54,18 +55,18 @@ box_of_one y d u w is lt = ap (λ v. box_of y d u v) (width_one w is lt) ∙ sum
 -- ---- detection
 
 -- where the box isn't detected there is no pulse
-undetected : TestsDetection → (s : Search) (n u d w sum : ℕ) →
-    ¬ IsDetected s.mean s.sd s.snr sum (w * (n + d)) → if_detected (plain_cells n) s (Pulse u d w sum) ≡ []
-undetected tests s n u d w sum silent =
-    ap (λ b. cond b (Pulse u d w sum ∷ []) []) (not_true (is_detected s.mean s.sd s.snr sum (w * (n + d)))
-    (λ is. silent ((tests s.mean s.sd s.snr sum (w * (n + d))).0 is)))
+undetected : TestsDetection → (s : Search) (c : Sought) (u d w sum : ℕ) →
+    ¬ IsDetected s.mean s.sd s.snr sum (w * cells_in c d) → if_detected (cells_in c) s (Pulse u d w sum) ≡ []
+undetected tests s c u d w sum silent =
+    ap (λ b. cond b (Pulse u d w sum ∷ []) []) (not_true (is_detected s.mean s.sd s.snr sum (w * cells_in c d))
+    (λ is. silent ((tests s.mean s.sd s.snr sum (w * cells_in c d)).0 is)))
 
-pub no_pulse : TestsDetection → (y : ℕ → ℕ → ℕ) (s : Search) (n u d w : ℕ) →
-    ¬ IsDetected s.mean s.sd s.snr (box_of y d u w) (w * (n + d)) → pulse_of y s n u d w ≡ []
+pub no_pulse : TestsDetection → (y : ℕ → ℕ → ℕ) (s : Search) (c : Sought) (u d w : ℕ) →
+    ¬ IsDetected s.mean s.sd s.snr (box_of y d u w) (w * cells_in c d) → pulse_of y s c u d w ≡ []
 unfolding pulse_of
-no_pulse tests y s n u d w silent = elim (nat_le (d + w) (u + 1)) as (λ b.
-    cond b (if_detected (plain_cells n) s (Pulse u d w (box_of y d u w))) [] ≡ []) [
-      | true ↦ undetected tests s n u d w (box_of y d u w) silent
+no_pulse tests y s c u d w silent = elim (nat_le (d + w) (u + 1) && is_sought_end c u) as (λ b.
+    cond b (if_detected (cells_in c) s (Pulse (c.first + u) d w (box_of y d u w))) [] ≡ []) [
+      | true ↦ undetected tests s c (c.first + u) d w (box_of y d u w) silent
       | false ↦ refl
     ]
 
@@ -78,21 +79,21 @@ is_silent s cells sum (Some x) fits out below = λ is.
 is_silent s cells sum None fits out below = out sum fits
 
 -- a box that is at most a value below the least sum is no pulse
-pub quiet_box : TestsDetection → (y : ℕ → ℕ → ℕ) (s : Search) (n u d w most : ℕ) (least : Option ℕ) →
-    StandOutFrom (noise_of s) (w * (n + d)) least → box_of y d u w ≤ most → most < 2 ^ 32 →
-    ((x : ℕ) → least ≡ Some x → most < x) → pulse_of y s n u d w ≡ []
-quiet_box tests y s n u d w most least out bound fits below =
-    no_pulse tests y s n u d w (is_silent s (w * (n + d)) (box_of y d u w) least (omega arith) out
+pub quiet_box : TestsDetection → (y : ℕ → ℕ → ℕ) (s : Search) (c : Sought) (u d w most : ℕ) (least : Option ℕ) →
+    StandOutFrom (noise_of s) (w * cells_in c d) least → box_of y d u w ≤ most → most < 2 ^ 32 →
+    ((x : ℕ) → least ≡ Some x → most < x) → pulse_of y s c u d w ≡ []
+quiet_box tests y s c u d w most least out bound fits below =
+    no_pulse tests y s c u d w (is_silent s (w * cells_in c d) (box_of y d u w) least (omega arith) out
     (λ x e. let short = below x e in omega arith))
 
 -- the least sum of a delay
-pub least_at : (s : Search) (n first end d : ℕ) (thresholds : BoxThresholds) (least : Option ℕ) →
-    AreThresholds s n first end thresholds → first ≤ d → d < first + length thresholds.least_sums.items →
+pub least_at : (s : Search) (c : Sought) (first end d : ℕ) (thresholds : BoxThresholds) (least : Option ℕ) →
+    AreThresholds s c first end thresholds → first ≤ d → d < first + length thresholds.least_sums.items →
     least ≡ get_or thresholds.least_sums.items (d - first) least →
-    StandOutFrom (noise_of s) (thresholds.width * (n + d)) least
-least_at s n first end d thresholds least is above below read =
+    StandOutFrom (noise_of s) (thresholds.width * cells_in c d) least
+least_at s c first end d thresholds least is above below read =
     let place : first + (d - first) ≡ d = omega arith in
     let found : slice_get thresholds.least_sums.items (d - first) ≡ Some least =
     slice_get-get_or thresholds.least_sums.items (d - first) least (omega arith) ∙ ap Some (sym read) in
-    subst (λ e. StandOutFrom (noise_of s) (thresholds.width * (n + e)) least) place
+    subst (λ e. StandOutFrom (noise_of s) (thresholds.width * cells_in c e) least) place
     (is.least_sums (d - first) least found)

@@ -12,7 +12,6 @@ use Rattle.shard_search.specs.PulseSearch.{PulseState, SearchAlike, RowsStandFor
 use Rattle.shard_search.specs.Pulses.{pulses_of_delay, pulses_of_end, pulses_of_ends}
 use Rattle.shard_search.specs.Sums.{HaveTaken, sums_of, sums_from_delay, pulses_of_plan}
 use Rattle.subband_plan.specs.Nodes.{BandPlan}
-use Rattle.band_paths.specs.Edges.{channels_of}
 use Rattle.shard_search.proofs.Ranges.{flat_agree}
 
 -- before the first row
@@ -26,7 +25,7 @@ started y p q g m n first is at fold_at rows fronts =
       rows_from = λ e h from. rows e (record { above = h.above; below = h.below });
       folds_below = λ e h below. absurd (let above = h.above in omega arith);
       folds_from = λ e h from. fronts e h;
-      hits = λ k below. sym (ap (λ i. flat_map (λ d. pulses_of_delay y p.search p.channels (m + k) d)
+      hits = λ k below. sym (ap (λ i. flat_map (λ d. pulses_of_delay y p.search p.sought (m + k) d)
           (range_with_len p.first i)) none);
       kept = λ i h inside. absurd (omega arith);
     } in
@@ -66,36 +65,35 @@ all_kept y p g m n end have = λ i h inside. (have.kept i h inside).kept
 -- the pulses of the hits are those of all delays
 pub all_pulses : (y : ℕ → ℕ → ℕ) (p : PulseState) (g : Fronts) (m n end : ℕ) → HaveTaken y p g m n end →
     p.end ≡ end →
-    flat_map (λ u. pulses_of_hits y p.search p.channels u p.hits) (range_with_len m n)
-    ≡ pulses_of_ends y p.search p.channels p.first p.end m n
+    flat_map (λ u. pulses_of_hits y p.search p.sought u p.hits) (range_with_len m n)
+    ≡ pulses_of_ends y p.search p.sought p.first p.end m n
 all_pulses y p g m n end have at =
-    let A : ℕ → List Candidate = λ u. pulses_of_hits y p.search p.channels u p.hits in
-    let B : ℕ → List Candidate = λ u. pulses_of_end y p.search p.channels p.first p.end u in
+    let A : ℕ → List Candidate = λ u. pulses_of_hits y p.search p.sought u p.hits in
+    let B : ℕ → List Candidate = λ u. pulses_of_end y p.search p.sought p.first p.end u in
     flat_agree A B m n
     (λ u from to.
     let place : m + (u - m) ≡ u = omega arith in
-    let P : ℕ → Type 0 = λ v. pulses_of_hits y p.search p.channels v p.hits
-    ≡ pulses_of_end y p.search p.channels p.first p.end v in
-    let Q : ℕ → Type 0 = λ e. pulses_of_hits y p.search p.channels (m + (u - m)) p.hits
-    ≡ pulses_of_end y p.search p.channels p.first e (m + (u - m)) in
+    let P : ℕ → Type 0 = λ v. pulses_of_hits y p.search p.sought v p.hits
+    ≡ pulses_of_end y p.search p.sought p.first p.end v in
+    let Q : ℕ → Type 0 = λ e. pulses_of_hits y p.search p.sought (m + (u - m)) p.hits
+    ≡ pulses_of_end y p.search p.sought p.first e (m + (u - m)) in
     subst P place (subst Q (sym at) (have.hits (u - m) (omega arith))))
 
 pub same_ends : (y : ℕ → ℕ → ℕ) (p q : PulseState) (m n : ℕ) → SearchAlike q p →
-    pulses_of_ends y q.search q.channels q.first q.end m n ≡ pulses_of_ends y p.search p.channels p.first p.end m n
+    pulses_of_ends y q.search q.sought q.first q.end m n ≡ pulses_of_ends y p.search p.sought p.first p.end m n
 same_ends y p q m n alike =
-    ap (λ s. pulses_of_ends y s q.channels q.first q.end m n) alike.search_is
-    ∙ ap (λ c. pulses_of_ends y p.search c q.first q.end m n) alike.channels_is
-    ∙ ap (λ a. pulses_of_ends y p.search p.channels a q.end m n) alike.first_is
-    ∙ ap (λ b. pulses_of_ends y p.search p.channels p.first b m n) alike.end_is
+    ap (λ s. pulses_of_ends y s q.sought q.first q.end m n) alike.search_is
+    ∙ ap (λ c. pulses_of_ends y p.search c q.first q.end m n) alike.sought_is
+    ∙ ap (λ a. pulses_of_ends y p.search p.sought a q.end m n) alike.first_is
+    ∙ ap (λ b. pulses_of_ends y p.search p.sought p.first b m n) alike.end_is
 
 -- the delays of a search are those of its plan
-pub plan_pulses : (f : Filterbank) (p : BandPlan) (q : PulseState) (m n : ℕ) → q.channels ≡ channels_of p.edges →
-    q.first ≡ p.first → q.end ≡ p.last + 1 →
-    pulses_of_ends (sums_of f p.edges) q.search q.channels q.first q.end m n ≡ pulses_of_plan f p q.search m n
-plan_pulses f p q m n channels first end =
-    ap (λ c. pulses_of_ends (sums_of f p.edges) q.search c q.first q.end m n) channels
-    ∙ ap (λ a. pulses_of_ends (sums_of f p.edges) q.search (channels_of p.edges) a q.end m n) first
-    ∙ ap (λ b. pulses_of_ends (sums_of f p.edges) q.search (channels_of p.edges) p.first b m n) end
+pub plan_pulses : (f : Filterbank) (p : BandPlan) (q : PulseState) (m n : ℕ) → q.first ≡ p.first →
+    q.end ≡ p.last + 1 →
+    pulses_of_ends (sums_of f p.edges) q.search q.sought q.first q.end m n ≡ pulses_of_plan f p q.search q.sought m n
+plan_pulses f p q m n first end =
+    ap (λ a. pulses_of_ends (sums_of f p.edges) q.search q.sought a q.end m n) first
+    ∙ ap (λ b. pulses_of_ends (sums_of f p.edges) q.search q.sought p.first b m n) end
 
 -- how many pulses a chunk can have
 pub few_pulses : (hits spectra delays : ℕ) → hits ≤ 6 * delays → delays ≤ 8193 → spectra * hits ≤ 49158 * spectra

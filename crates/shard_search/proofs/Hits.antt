@@ -10,6 +10,7 @@ use Rattle.shard_search.specs.declared.thresholds.BoxThresholds.{BoxThresholds}
 use Rattle.shard_search.specs.Thresholds.{IsHit, AreThresholds, AreOfAllWidths, pulses_of_hits}
 use Rattle.shard_search.specs.PulseSearch.{PulseState, AddsHitsOf, HasBoxes, IsHitBelow}
 use Rattle.shard_search.specs.Pulses.{first_sums, pulse_of, pulses_of_delay}
+use Rattle.shard_search.specs.Sought.{Sought}
 use Rattle.shard_search.proofs.Pieces.{all_noted}
 use Rattle.shard_search.proofs.WidthCounts.{pulses_by_width}
 
@@ -31,9 +32,9 @@ one_noted d start before o adds own = record {
 }
 
 -- the boxes keep the row of a hit
-pub keeps_hit : (s : Search) (n first end : ℕ) (b : RowTails) (hit : Hit) → HasBoxes s first end b →
-    IsHit s n first end hit → KeepsRow b hit.delay
-keeps_hit s n first end b hit has is = record {
+pub keeps_hit : (s : Search) (c : Sought) (first end : ℕ) (b : RowTails) (hit : Hit) → HasBoxes s first end b →
+    IsHit s c first end hit → KeepsRow b hit.delay
+keeps_hit s c first end b hit has is = record {
   above = (let above = is.above in let row = has.first_row in omega (arith, above, row));
   below = (let below = is.below in let row = has.last_row in omega (arith, below, row));
 }
@@ -79,22 +80,22 @@ kept_same y b b' m n d old new adds few before same =
     (λ i h inside. absurd (omega (arith, inside, grown, both, few))))
 
 -- what is noted of a row are its pulses
-pub row_pulses : (y : ℕ → ℕ → ℕ) (s : Search) (n first end u d : ℕ) (old new : List Hit)
-    (by_width lent : List BoxThresholds) (p : PulseState) → AreOfAllWidths s n first end by_width → lent ≡ by_width →
-    (All (AreThresholds s n first end) lent → pulses_of_hits y s n u new
-    ≡ pulses_of_hits y s n u old ++ flat_map (λ (l : BoxThresholds). pulse_of y s n u d l.width) lent) →
-    s ≡ p.search → n ≡ p.channels → old ≡ p.hits →
-    pulses_of_hits y p.search p.channels u new
-    ≡ pulses_of_hits y p.search p.channels u p.hits ++ pulses_of_delay y p.search p.channels u d
-row_pulses y s n first end u d old new by_width lent p judges same noted search channels hits =
+pub row_pulses : (y : ℕ → ℕ → ℕ) (s : Search) (c : Sought) (first end u d : ℕ) (old new : List Hit)
+    (by_width lent : List BoxThresholds) (p : PulseState) → AreOfAllWidths s c first end by_width → lent ≡ by_width →
+    (All (AreThresholds s c first end) lent → pulses_of_hits y s c u new
+    ≡ pulses_of_hits y s c u old ++ flat_map (λ (l : BoxThresholds). pulse_of y s c u d l.width) lent) →
+    s ≡ p.search → c ≡ p.sought → old ≡ p.hits →
+    pulses_of_hits y p.search p.sought u new
+    ≡ pulses_of_hits y p.search p.sought u p.hits ++ pulses_of_delay y p.search p.sought u d
+row_pulses y s c first end u d old new by_width lent p judges same noted search sought hits =
     let S : Search → Type 0 =
-    λ t. pulses_of_hits y t n u new ≡ pulses_of_hits y t n u old ++ pulses_of_delay y t n u d in
-    let N : ℕ → Type 0 = λ i. pulses_of_hits y p.search i u new
-    ≡ pulses_of_hits y p.search i u old ++ pulses_of_delay y p.search i u d in
-    let H : List Hit → Type 0 = λ xs. pulses_of_hits y p.search p.channels u new
-    ≡ pulses_of_hits y p.search p.channels u xs ++ pulses_of_delay y p.search p.channels u d in
-    subst H hits (subst N channels (subst S search
-    (noted (subst (All (AreThresholds s n first end)) (sym same) judges.each)
-    ∙ ap (λ (ls : List BoxThresholds). pulses_of_hits y s n u old
-    ++ flat_map (λ (l : BoxThresholds). pulse_of y s n u d l.width) ls) same
-    ∙ ap (λ xs. pulses_of_hits y s n u old ++ xs) (pulses_by_width y s n first end u d by_width judges))))
+    λ t. pulses_of_hits y t c u new ≡ pulses_of_hits y t c u old ++ pulses_of_delay y t c u d in
+    let C : Sought → Type 0 = λ x. pulses_of_hits y p.search x u new
+    ≡ pulses_of_hits y p.search x u old ++ pulses_of_delay y p.search x u d in
+    let H : List Hit → Type 0 = λ xs. pulses_of_hits y p.search p.sought u new
+    ≡ pulses_of_hits y p.search p.sought u xs ++ pulses_of_delay y p.search p.sought u d in
+    subst H hits (subst C sought (subst S search
+    (noted (subst (All (AreThresholds s c first end)) (sym same) judges.each)
+    ∙ ap (λ (ls : List BoxThresholds). pulses_of_hits y s c u old
+    ++ flat_map (λ (l : BoxThresholds). pulse_of y s c u d l.width) ls) same
+    ∙ ap (λ xs. pulses_of_hits y s c u old ++ xs) (pulses_by_width y s c first end u d by_width judges))))

@@ -3,11 +3,11 @@ use Rattle.std.proofs.Common.{◌≡◌, ℕ, ◌+◌, ◌*◌, ◌≤◌, List,
 use Rattle.std.proofs.lemmas.List.{get_or-drop}
 use Rattle.fdmt_carry.specs.Carrying.{Carrying, AreNext}
 use Rattle.fdmt_carry.specs.Tables.{Tables}
-use Rattle.band_paths.specs.Edges.{channels_of}
 use Rattle.candidate_book.specs.Book.{BookContents}
 use Rattle.search_model.specs.declared.search.Search.{Search}
 use Rattle.search_model.specs.Samples.{Filterbank}
 use Rattle.shard_search.specs.Judging.{Adds}
+use Rattle.shard_search.specs.Sought.{Sought}
 use Rattle.shard_search.specs.Sums.{ShardState, SumsAlike, HasTakenNext, pulses_of_plan, sums_of}
 use Rattle.shard_search.proofs.Adding.{adds_both, adds_same}
 use Rattle.shard_search.proofs.PulseLists.{ends_join}
@@ -31,18 +31,21 @@ last_next c mid f rows m n k all tables fed next channel i within early =
 -- the pulses of both parts are those of the chunk
 both_add : (f : Filterbank) (old mid : ShardState) (m n k : ℕ) (a b c : BookContents) → m + k ≡ n → SumsAlike mid old →
     mid.carry.fed ≡ old.carry.fed + m →
-    Adds a b (pulses_of_plan f old.carry.tables.plan old.pulses.search old.carry.fed m) →
-    Adds b c (pulses_of_plan f mid.carry.tables.plan mid.pulses.search mid.carry.fed k) →
-    Adds a c (pulses_of_plan f old.carry.tables.plan old.pulses.search old.carry.fed n)
+    Adds a b (pulses_of_plan f old.carry.tables.plan old.pulses.search old.pulses.sought old.carry.fed m) →
+    Adds b c (pulses_of_plan f mid.carry.tables.plan mid.pulses.search mid.pulses.sought mid.carry.fed k) →
+    Adds a c (pulses_of_plan f old.carry.tables.plan old.pulses.search old.pulses.sought old.carry.fed n)
 both_add f old mid m n k a b c all alike fed first second =
     let p = old.carry.tables.plan in
     let s = old.pulses.search in
+    let x = old.pulses.sought in
     let u = old.carry.fed in
-    let same = ap (λ (t : Tables). pulses_of_plan f t.plan mid.pulses.search mid.carry.fed k) alike.tables
-    ∙ ap (λ (t : Search). pulses_of_plan f p t mid.carry.fed k) alike.search in
-    adds_same a c (pulses_of_plan f p s u m ++ pulses_of_plan f p s mid.carry.fed k) (pulses_of_plan f p s u n)
-    (ends_join (sums_of f p.edges) s (channels_of p.edges) p.first (p.last + 1) u m k mid.carry.fed (sym fed)
-    ∙ ap (pulses_of_plan f p s u) all)
+    let same = ap (λ (t : Tables). pulses_of_plan f t.plan mid.pulses.search mid.pulses.sought mid.carry.fed k)
+    alike.tables
+    ∙ ap (λ (t : Search). pulses_of_plan f p t mid.pulses.sought mid.carry.fed k) alike.search
+    ∙ ap (λ (t : Sought). pulses_of_plan f p s t mid.carry.fed k) alike.sought in
+    adds_same a c (pulses_of_plan f p s x u m ++ pulses_of_plan f p s x mid.carry.fed k) (pulses_of_plan f p s x u n)
+    (ends_join (sums_of f p.edges) s x p.first (p.last + 1) u m k mid.carry.fed (sym fed)
+    ∙ ap (pulses_of_plan f p s x u) all)
     (adds_both a b c _ _ first (adds_same b c _ _ same second))
 
 -- so both parts are one call
@@ -58,6 +61,7 @@ both_taken old mid new rows m n k a b c all one two =
         tables = two.alike.tables ∙ one.alike.tables;
         max_sample = two.alike.max_sample ∙ one.alike.max_sample;
         search = two.alike.search ∙ one.alike.search;
+        sought = two.alike.sought ∙ one.alike.sought;
       };
       fed = (let before = one.fed in let after = two.fed in omega arith);
       count = (let before = one.count in let after = two.count in omega arith);

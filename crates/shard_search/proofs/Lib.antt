@@ -3,6 +3,7 @@ pub mod Alike
 pub mod Bounds
 pub mod Boxes
 pub mod Chunks
+pub mod Ends
 pub mod FoldLists
 pub mod Fronts
 pub mod Halvings
@@ -14,6 +15,7 @@ pub mod PulseLists
 pub mod Ranges
 pub mod Reports
 pub mod Rows
+pub mod Seeking
 pub mod Taking
 pub mod Terms
 pub mod WidthCounts

@@ -1,5 +1,5 @@
 -- The pulses of a shard's delays, and its part of the candidate list.
-use Rattle.std.proofs.Common.{◌≡◌, ℕ, ◌+◌, ◌-◌, inl, inr, Bool, cond, List, [], ◌∷◌, ◌++◌, refl, sym, ap, ◌∙◌, arith, leb}
+use Rattle.std.proofs.Common.{◌≡◌, ℕ, ◌+◌, ◌-◌, ◌*◌, ◌&&◌, inl, inr, Bool, cond, List, [], ◌∷◌, ◌++◌, refl, sym, ap, ◌∙◌, arith, leb}
 use Rattle.std.specs.Prelude.{filter, sum_by}
 use Rattle.std.specs.List.{range_with_len, flat_map}
 use Rattle.std.proofs.lemmas.Bool.{cases_lt, cond-true, cond-false, le-leb, lt-leb}
@@ -11,15 +11,18 @@ use Rattle.search_model.specs.declared.candidate.Candidate.{Candidate}
 use Rattle.search_model.specs.declared.candidate.Candidate.TheVariants.{Pulse}
 use Rattle.search_model.specs.declared.search.Search.{Search}
 use Rattle.search_model.specs.Samples.{Filterbank}
+use Rattle.search_model.specs.Detection.{is_detected}
 use Rattle.search_model.specs.Sums.{late_path_sum, path_sum, box_sum}
 use Rattle.search_model.specs.SubbandLaws.{LatePathSums}
 use Rattle.search_model.specs.Folds.{series}
 use Rattle.search_model.specs.Search.{delays, widths, shard_start}
-use Rattle.search_model.specs.Candidates.{plain_cells, if_detected, pulse_at, pulses_at, pulses_ending, pulses, folds, candidates, within_delays, shard_part}
+use Rattle.search_model.specs.Candidates.{if_detected, pulse_at, pulses_at, pulses_ending, pulses, folds, candidates, within_delays, shard_part}
 use Rattle.shard_search.specs.FoldSearch.{IsDelayRange}
 use Rattle.shard_search.specs.Pulses.{box_of, pulse_of, pulses_of_delay, pulses_of_end, pulses_of_ends}
+use Rattle.shard_search.specs.Sought.{Sought, cells_in, is_sought_end, sought_of}
 use Rattle.shard_search.specs.Sums.{sums_of, sums_from_delay}
-use Rattle.shard_search.proofs.Ranges.{flat_agree, range_join}
+use Rattle.shard_search.proofs.Ranges.{range_join}
+use Rattle.shard_search.proofs.Seeking.{sought_append, sought_flat, sought_pulse, folds_stay}
 use Rattle.shard_search.proofs.Within.{keep_if, keep_flat, lies, has_delay, filter_flat, flat_part}
 
 -- ---- box sums
@@ -50,42 +53,54 @@ box_is_of law f edges u d w are =
 
 -- ---- pulses
 
-flat_same : {X : Type 0} (g h : ℕ → List X) → ((k : ℕ) → g k ≡ h k) → (ks : List ℕ) → flat_map g ks ≡ flat_map h ks
-flat_same g h same [] = refl
-flat_same g h same (k ∷ ks) =
-    ap (λ xs. xs ++ flat_map g ks) (same k) ∙ ap (λ xs. h k ++ xs) (flat_same g h same ks)
-
-pulse_is_of : LatePathSums → (f : Filterbank) (edges : List ℕ) (n : ℕ) (s : Search) (u d w : ℕ) →
-    AreEdges f.channels edges → pulse_at f edges (plain_cells n) s u d w ≡ pulse_of (sums_of f edges) s n u d w
+pulse_is_of : LatePathSums → (f : Filterbank) (edges : List ℕ) (s : Search) (c : Sought) (u d w : ℕ) →
+    AreEdges f.channels edges →
+    sought_of c (pulse_at f edges (cells_in c) s u d w) ≡ pulse_of (sums_of f edges) s c u d w
 unfolding pulse_of
-pulse_is_of law f edges n s u d w are =
-    ap (λ sum. cond (leb (d + w) (u + 1)) (if_detected (plain_cells n) s (Pulse u d w sum)) [])
-    (box_is_of law f edges u d w are)
+pulse_is_of law f edges s c u d w are =
+    sought_pulse c u d w (box_sum f edges u d w) (leb (d + w) (u + 1))
+    (is_detected s.mean s.sd s.snr (box_sum f edges u d w) (w * cells_in c d))
+    ∙ ap (λ sum. cond (leb (d + w) (u + 1) && is_sought_end c u)
+    (if_detected (cells_in c) s (Pulse (c.first + u) d w sum)) []) (box_is_of law f edges u d w are)
 
-one_delay : (f : Filterbank) (edges : List ℕ) (cells : ℕ → ℕ) (s : Search) (lo hi u d : ℕ) →
-    filter (has_delay lo hi) (pulses_at f edges cells s u d) ≡ cond (lies lo hi d) (pulses_at f edges cells s u d) []
-one_delay f edges cells s lo hi u d =
-    keep_flat (has_delay lo hi) (lies lo hi d) (λ w. pulse_at f edges cells s u d w)
-    (λ w. keep_if (has_delay lo hi) (lies lo hi d)
-    (if_detected cells s (Pulse u d w (box_sum f edges u d w)))
-    (keep_if (has_delay lo hi) (lies lo hi d) (Pulse u d w (box_sum f edges u d w) ∷ []) refl _)
-    (leb (d + w) (u + 1)))
+-- those of one end, of all delays
+all_delays : LatePathSums → (f : Filterbank) (edges : List ℕ) (s : Search) (c : Sought) (u : ℕ) →
+    AreEdges f.channels edges →
+    sought_of c (pulses_ending f edges (cells_in c) s u)
+    ≡ flat_map (λ d. pulses_of_delay (sums_of f edges) s c u d) (delays s)
+all_delays law f edges s c u are =
+    sought_flat c (λ d. pulses_at f edges (cells_in c) s u d) (λ d. pulses_of_delay (sums_of f edges) s c u d)
+    (λ d. sought_flat c (λ w. pulse_at f edges (cells_in c) s u d w) (λ w. pulse_of (sums_of f edges) s c u d w)
+    (λ w. pulse_is_of law f edges s c u d w are) (widths s))
+    (delays s)
+
+one_pulse : (y : ℕ → ℕ → ℕ) (s : Search) (c : Sought) (lo hi u d w : ℕ) →
+    filter (has_delay lo hi) (pulse_of y s c u d w) ≡ cond (lies lo hi d) (pulse_of y s c u d w) []
+unfolding pulse_of
+one_pulse y s c lo hi u d w =
+    keep_if (has_delay lo hi) (lies lo hi d)
+    (if_detected (cells_in c) s (Pulse (c.first + u) d w (box_of y d u w)))
+    (keep_if (has_delay lo hi) (lies lo hi d) (Pulse (c.first + u) d w (box_of y d u w) ∷ []) refl _)
+    (leb (d + w) (u + 1) && is_sought_end c u)
+
+one_delay : (y : ℕ → ℕ → ℕ) (s : Search) (c : Sought) (lo hi u d : ℕ) →
+    filter (has_delay lo hi) (pulses_of_delay y s c u d) ≡ cond (lies lo hi d) (pulses_of_delay y s c u d) []
+one_delay y s c lo hi u d =
+    keep_flat (has_delay lo hi) (lies lo hi d) (λ w. pulse_of y s c u d w) (λ w. one_pulse y s c lo hi u d w)
     (widths s)
 
-one_end : LatePathSums → (f : Filterbank) (edges : List ℕ) (n : ℕ) (s : Search) (lo hi u : ℕ) →
+one_end : LatePathSums → (f : Filterbank) (edges : List ℕ) (s : Search) (c : Sought) (lo hi u : ℕ) →
     AreEdges f.channels edges → IsDelayRange s lo hi →
-    filter (has_delay lo hi) (pulses_ending f edges (plain_cells n) s u)
-    ≡ pulses_of_end (sums_of f edges) s n lo hi u
-one_end law f edges n s lo hi u edges_are are =
+    filter (has_delay lo hi) (sought_of c (pulses_ending f edges (cells_in c) s u))
+    ≡ pulses_of_end (sums_of f edges) s c lo hi u
+one_end law f edges s c lo hi u edges_are are =
     let from = are.from in
     let order = are.order in
     let to = are.to in
-    let g : ℕ → List Candidate = λ d. pulses_at f edges (plain_cells n) s u d in
-    filter_flat (has_delay lo hi) (lies lo hi) g (λ d. one_delay f edges (plain_cells n) s lo hi u d) (delays s)
+    let g : ℕ → List Candidate = λ d. pulses_of_delay (sums_of f edges) s c u d in
+    ap (filter (has_delay lo hi)) (all_delays law f edges s c u edges_are)
+    ∙ filter_flat (has_delay lo hi) (lies lo hi) g (λ d. one_delay (sums_of f edges) s c lo hi u d) (delays s)
     ∙ flat_part g s.min_delay lo hi (s.max_delay + 1 - s.min_delay) from order (omega arith)
-    ∙ flat_agree g (λ d. pulses_of_delay (sums_of f edges) s n u d) lo (hi - lo)
-    (λ d _ _. flat_same (λ w. pulse_at f edges (plain_cells n) s u d w) (λ w. pulse_of (sums_of f edges) s n u d w)
-    (λ w. pulse_is_of law f edges n s u d w edges_are) (widths s))
 
 filter_pieces : {X : Type 0} (q : X → Bool) (g h : ℕ → List X) → ((k : ℕ) → filter q (g k) ≡ h k) → (ks : List ℕ) →
     filter q (flat_map g ks) ≡ flat_map h ks
@@ -95,29 +110,36 @@ filter_pieces q g h each (k ∷ ks) =
     ∙ ap (λ xs. xs ++ filter q (flat_map g ks)) (each k)
     ∙ ap (λ xs. h k ++ xs) (filter_pieces q g h each ks)
 
--- the pulses whose delays are a shard's, from those of all
-pub pulses_within : LatePathSums → (f : Filterbank) (edges : List ℕ) (n : ℕ) (s : Search) (lo hi : ℕ) →
+-- the pulses that are sought and whose delays are a shard's, from those of all
+pulses_within : LatePathSums → (f : Filterbank) (edges : List ℕ) (s : Search) (c : Sought) (lo hi : ℕ) →
     AreEdges f.channels edges → IsDelayRange s lo hi →
-    pulses_of_ends (sums_of f edges) s n lo hi 0 f.spectra
-    ≡ within_delays lo hi (pulses f edges (plain_cells n) s)
-pulses_within law f edges n s lo hi edges_are are =
-    sym (filter_pieces (has_delay lo hi) (λ u. pulses_ending f edges (plain_cells n) s u)
-    (λ u. pulses_of_end (sums_of f edges) s n lo hi u)
-    (λ u. one_end law f edges n s lo hi u edges_are are) (range_with_len 0 f.spectra))
+    pulses_of_ends (sums_of f edges) s c lo hi 0 f.spectra
+    ≡ within_delays lo hi (sought_of c (pulses f edges (cells_in c) s))
+pulses_within law f edges s c lo hi edges_are are =
+    let g : ℕ → List Candidate = λ u. pulses_ending f edges (cells_in c) s u in
+    sym (ap (filter (has_delay lo hi))
+    (sought_flat c g (λ u. sought_of c (g u)) (λ u. refl) (range_with_len 0 f.spectra))
+    ∙ filter_pieces (has_delay lo hi) (λ u. sought_of c (g u)) (λ u. pulses_of_end (sums_of f edges) s c lo hi u)
+    (λ u. one_end law f edges s c lo hi u edges_are are) (range_with_len 0 f.spectra))
 
 -- ---- a shard's part
 
--- its pulses and its folds are its part of the candidate list
-pub part_is_both : LatePathSums → (f : Filterbank) (edges : List ℕ) (n : ℕ) (s : Search) (k : ℕ) →
+-- its pulses that are sought and its folds are its part of what is sought in the candidate list
+pub part_is_both : LatePathSums → (f : Filterbank) (edges : List ℕ) (s : Search) (c : Sought) (k : ℕ) →
     AreEdges f.channels edges → IsDelayRange s (shard_start s k) (shard_start s (k + 1)) →
-    pulses_of_ends (sums_of f edges) s n (shard_start s k) (shard_start s (k + 1)) 0 f.spectra
-    ++ within_delays (shard_start s k) (shard_start s (k + 1)) (folds f edges (plain_cells n) s)
-    ≡ shard_part s k (candidates f edges (plain_cells n) s)
-part_is_both law f edges n s k edges_are are =
-    ap (λ xs. xs ++ within_delays (shard_start s k) (shard_start s (k + 1)) (folds f edges (plain_cells n) s))
-    (pulses_within law f edges n s (shard_start s k) (shard_start s (k + 1)) edges_are are)
-    ∙ sym (filter-append (has_delay (shard_start s k) (shard_start s (k + 1)))
-    (pulses f edges (plain_cells n) s) (folds f edges (plain_cells n) s))
+    pulses_of_ends (sums_of f edges) s c (shard_start s k) (shard_start s (k + 1)) 0 f.spectra
+    ++ within_delays (shard_start s k) (shard_start s (k + 1)) (folds f edges (cells_in c) s)
+    ≡ shard_part s k (sought_of c (candidates f edges (cells_in c) s))
+part_is_both law f edges s c k edges_are are =
+    let lo = shard_start s k in
+    let hi = shard_start s (k + 1) in
+    let all = pulses f edges (cells_in c) s in
+    let folded = folds f edges (cells_in c) s in
+    ap (λ xs. xs ++ within_delays lo hi folded) (pulses_within law f edges s c lo hi edges_are are)
+    ∙ ap (λ xs. within_delays lo hi (sought_of c all) ++ within_delays lo hi xs)
+    (sym (folds_stay c f edges (cells_in c) s))
+    ∙ sym (filter-append (has_delay lo hi) (sought_of c all) (sought_of c folded))
+    ∙ ap (within_delays lo hi) (sym (sought_append c all folded))
 
 -- ---- series
 
@@ -130,11 +152,11 @@ series_is f edges d = refl
 -- ---- ends
 
 -- the ends of so many spectra more
-pub ends_join : (y : ℕ → ℕ → ℕ) (s : Search) (n first end start m k j : ℕ) → start + m ≡ j →
-    pulses_of_ends y s n first end start m ++ pulses_of_ends y s n first end j k
-    ≡ pulses_of_ends y s n first end start (m + k)
-ends_join y s n first end start m k j at =
-    let g : ℕ → List Candidate = λ u. pulses_of_end y s n first end u in
+pub ends_join : (y : ℕ → ℕ → ℕ) (s : Search) (c : Sought) (first end start m k j : ℕ) → start + m ≡ j →
+    pulses_of_ends y s c first end start m ++ pulses_of_ends y s c first end j k
+    ≡ pulses_of_ends y s c first end start (m + k)
+ends_join y s c first end start m k j at =
+    let g : ℕ → List Candidate = λ u. pulses_of_end y s c first end u in
     sym (ap (flat_map g) (range_join start m k)
     ∙ flat_map-append g (range_with_len start m) (range_with_len (start + m) k)
     ∙ ap (λ a. flat_map g (range_with_len start m) ++ flat_map g (range_with_len a k)) at)

@@ -10,6 +10,7 @@ use Rattle.shard_search.specs.FoldSearch.{Fronts, HasDelay, FoldsAlike, KeepsFro
 use Rattle.shard_search.specs.Thresholds.{pulses_of_hits}
 use Rattle.shard_search.specs.PulseSearch.{PulseState, SearchesDelay, SearchAlike, WideRowHas, IsHitBelow}
 use Rattle.shard_search.specs.Pulses.{first_sums, IsRowOf, pulses_of_delay, pulses_of_end}
+use Rattle.shard_search.specs.Sought.{Sought}
 use Rattle.shard_search.specs.Sums.{sums_from_delay, HaveTaken}
 use Rattle.shard_search.proofs.Ranges.{flat_more}
 
@@ -59,8 +60,8 @@ pub taken_more : (y : ℕ → ℕ → ℕ) (p p' : PulseState) (g g' : Fronts) (
     ((xs : List ℕ) → KeepsFrontOf g d xs → KeepsFrontOf g' d (xs ++ part)) →
     ((e : ℕ) (xs : List ℕ) → HasDelay g e → e ≢ d → KeepsFrontOf g e xs → KeepsFrontOf g' e xs) →
     ((k : ℕ) → WideRowHas p.boxes d (first_sums y d m) → k < length row →
-    pulses_of_hits y p.search p.channels (m + k) p'.hits
-    ≡ pulses_of_hits y p.search p.channels (m + k) p.hits ++ pulses_of_delay y p.search p.channels (m + k) d) →
+    pulses_of_hits y p.search p.sought (m + k) p'.hits
+    ≡ pulses_of_hits y p.search p.sought (m + k) p.hits ++ pulses_of_delay y p.search p.sought (m + k) d) →
     (WideRowHas p.boxes d (first_sums y d m) → All (IsHitBelow y p.boxes m (length row) d) p.hits →
     All (IsHitBelow y p'.boxes m (length row) (d + 1)) p'.hits) →
     HaveTaken y p g m (length row) d → HaveTaken y p' g' m (length row) (d + 1)
@@ -108,19 +109,19 @@ taken_more y p p' g g' m d row part alike same has fold is_part is own others fo
       hits = λ k below.
           let u : ℕ = m + k in
           let above = has.above in
-          let all : pulses_of_hits y p.search p.channels u p'.hits
-          ≡ pulses_of_end y p.search p.channels p.first (d + 1) u =
+          let all : pulses_of_hits y p.search p.sought u p'.hits
+          ≡ pulses_of_end y p.search p.sought p.first (d + 1) u =
           hits k had below
-          ∙ ap (λ xs. xs ++ pulses_of_delay y p.search p.channels u d) (before.hits k below)
-          ∙ sym (flat_more (λ i. pulses_of_delay y p.search p.channels u i) p.first (d - p.first) d (omega arith))
-          ∙ ap (λ j. flat_map (λ i. pulses_of_delay y p.search p.channels u i) (range_with_len p.first j))
+          ∙ ap (λ xs. xs ++ pulses_of_delay y p.search p.sought u d) (before.hits k below)
+          ∙ sym (flat_more (λ i. pulses_of_delay y p.search p.sought u i) p.first (d - p.first) d (omega arith))
+          ∙ ap (λ j. flat_map (λ i. pulses_of_delay y p.search p.sought u i) (range_with_len p.first j))
           (let e : d - p.first + 1 ≡ d + 1 - p.first = omega arith in e) in
-          let S : Search → Type 0 = λ s. pulses_of_hits y s p.channels u p'.hits
-          ≡ pulses_of_end y s p.channels p.first (d + 1) u in
-          let N : ℕ → Type 0 = λ n. pulses_of_hits y p'.search n u p'.hits
-          ≡ pulses_of_end y p'.search n p.first (d + 1) u in
-          let F : ℕ → Type 0 = λ i. pulses_of_hits y p'.search p'.channels u p'.hits
-          ≡ pulses_of_end y p'.search p'.channels i (d + 1) u in
-          subst F (sym first) (subst N (sym alike.channels_is) (subst S (sym alike.search_is) all));
+          let S : Search → Type 0 = λ s. pulses_of_hits y s p.sought u p'.hits
+          ≡ pulses_of_end y s p.sought p.first (d + 1) u in
+          let C : Sought → Type 0 = λ c. pulses_of_hits y p'.search c u p'.hits
+          ≡ pulses_of_end y p'.search c p.first (d + 1) u in
+          let F : ℕ → Type 0 = λ i. pulses_of_hits y p'.search p'.sought u p'.hits
+          ≡ pulses_of_end y p'.search p'.sought i (d + 1) u in
+          subst F (sym first) (subst C (sym alike.sought_is) (subst S (sym alike.search_is) all));
       kept = kept had before.kept;
     }

@@ -40,7 +40,7 @@ pub record TakesRows
       HaveTaken (sums_of f mid.tables.plan.edges) new.pulses new.folds start mid.last end
   pub count : after.count ≤ before.count + spectra * length new.pulses.hits
   pub reported : (y : ℕ → ℕ → ℕ) → All (HitIsKept y new.pulses.boxes start spectra) new.pulses.hits →
-      Adds before after (flat_map (λ u. pulses_of_hits y new.pulses.search new.pulses.channels u new.pulses.hits)
+      Adds before after (flat_map (λ u. pulses_of_hits y new.pulses.search new.pulses.sought u new.pulses.hits)
       (range_with_len start spectra))
 
 pub delays_rise : (s : ShardState) (first end : ℕ) → FitTogether s → first ≡ s.pulses.first → end ≡ s.pulses.end →
@@ -99,7 +99,8 @@ module _ (old new : ShardState) (mid : Carrying) (p : PulseState) (rows : List �
       }
 
   pulses_are_added : (f : Filterbank) → StandsForStream old f → AreNext old.carry f rows spectra →
-      Adds before after (pulses_of_plan f old.carry.tables.plan old.pulses.search old.carry.fed spectra)
+      Adds before after
+      (pulses_of_plan f old.carry.tables.plan old.pulses.search old.pulses.sought old.carry.fed spectra)
   pulses_are_added f stands next =
       let have = have_taken f stands next in
       let q = old.pulses in
@@ -107,14 +108,18 @@ module _ (old new : ShardState) (mid : Carrying) (p : PulseState) (rows : List �
       adds_same before after _ _
       (all_pulses y new.pulses new.folds start spectra end have (same_search.end_is ∙ sym t.end_is)
       ∙ same_ends y q new.pulses start spectra same_search
-      ∙ ap (λ m. pulses_of_ends y q.search q.channels q.first q.end m spectra) t.start_is
-      ∙ plan_pulses f old.carry.tables.plan q old.carry.fed spectra t.fit.pulses.channels_is t.fit.pulses.first_is
-      t.fit.pulses.end_is)
+      ∙ ap (λ m. pulses_of_ends y q.search q.sought q.first q.end m spectra) t.start_is
+      ∙ plan_pulses f old.carry.tables.plan q old.carry.fed spectra t.fit.pulses.first_is t.fit.pulses.end_is)
       (t.reported y (all_kept y new.pulses new.folds start spectra end have))
 
   old_to_new : HasTakenNext old new rows spectra before after
   old_to_new = record {
-    alike = record { tables = t.tables; max_sample = t.max_sample; search = same_search.search_is };
+    alike = record {
+      tables = t.tables;
+      max_sample = t.max_sample;
+      search = same_search.search_is;
+      sought = same_search.sought_is;
+    };
     fed = t.fed;
     count = (let few = few_hits old (length new.pulses.hits) spectra first end t.fit t.end_is t.few in
         let count = t.count in omega (arith, few, count));

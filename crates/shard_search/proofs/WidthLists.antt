@@ -9,13 +9,14 @@ use Rattle.detect_rule.specs.Noise.{StandOutFrom}
 use Rattle.search_model.specs.declared.search.Search.{Search}
 use Rattle.shard_search.specs.declared.thresholds.BoxThresholds.{BoxThresholds}
 use Rattle.shard_search.specs.Judging.{noise_of}
+use Rattle.shard_search.specs.Sought.{Sought, cells_in}
 use Rattle.shard_search.specs.Thresholds.{AreLeastSums}
 
 -- the least sum of one delay more
-pub leasts_more : (s : Search) (n first w : ℕ) (least_sums : List (Option ℕ)) (x : Option ℕ) →
-    AreLeastSums s n first w least_sums → StandOutFrom (noise_of s) (w * (n + (first + length least_sums))) x →
-    AreLeastSums s n first w (least_sums ++ x ∷ [])
-leasts_more s n first w least_sums x are is =
+pub leasts_more : (s : Search) (c : Sought) (first w : ℕ) (least_sums : List (Option ℕ)) (x : Option ℕ) →
+    AreLeastSums s c first w least_sums → StandOutFrom (noise_of s) (w * cells_in c (first + length least_sums)) x →
+    AreLeastSums s c first w (least_sums ++ x ∷ [])
+leasts_more s c first w least_sums x are is =
     λ i u e.
     let within = slice_get_within (least_sums ++ x ∷ []) i u e in
     let value = get_or_from_slice_get (least_sums ++ x ∷ []) i u u e in
@@ -26,8 +27,8 @@ leasts_more s n first w least_sums x are is =
           are i u (slice_get-get_or least_sums i u before ∙ ap Some (sym same ∙ value))
       | inr last ↦
           let place : i ≡ length least_sums = omega arith in
-          let P : ℕ → Type 0 = λ k. StandOutFrom (noise_of s) (w * (n + (first + k))) u in
-          let Q : Option ℕ → Type 0 = λ o. StandOutFrom (noise_of s) (w * (n + (first + length least_sums))) o in
+          let P : ℕ → Type 0 = λ k. StandOutFrom (noise_of s) (w * cells_in c (first + k)) u in
+          let Q : Option ℕ → Type 0 = λ o. StandOutFrom (noise_of s) (w * cells_in c (first + length least_sums)) o in
           let same : x ≡ u = sym (get_or-append_seam least_sums x [] u)
           ∙ ap (λ k. get_or (least_sums ++ x ∷ []) k u) (sym place) ∙ value in
           subst P (sym place) (subst Q same is)

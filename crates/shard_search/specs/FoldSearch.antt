@@ -11,11 +11,10 @@ use Rattle.search_model.specs.Candidates.{folds_of_delay}
 use Rattle.shard_search.specs.Counts.{most_folded}
 use Rattle.shard_search.specs.Series.{Front, no_front, IsFrontOf}
 
--- what contracts see: the settings, how many channels there are; the delays from `first` up to, but without, `end`; no
--- path sum is above the bound; the front of the series of each delay, one after another
+-- what contracts see: the settings; the delays from `first` up to, but without, `end`; no path sum is above the bound;
+-- the front of the series of each delay, one after another
 pub record Fronts : Type 0 where
   pub search : Search
-  pub channels : ℕ
   pub first : ℕ
   pub end : ℕ
   pub bound : ℕ
@@ -37,15 +36,13 @@ KeepsFrontOf f d xs = IsFrontOf (front_of f d) xs
 -- both are opened alike
 pub record FoldsAlike (f g : Fronts) : Type 0 where
   pub search : f.search ≡ g.search
-  pub channels : f.channels ≡ g.channels
   pub first : f.first ≡ g.first
   pub end : f.end ≡ g.end
   pub bound : f.bound ≡ g.bound
 
 -- opened with these
-pub record FoldsFor (f : Fronts) (search : Search) (channels first end bound : ℕ) : Type 0 where
+pub record FoldsFor (f : Fronts) (search : Search) (first end bound : ℕ) : Type 0 where
   pub search_is : f.search ≡ search
-  pub channels_is : f.channels ≡ channels
   pub first_is : f.first ≡ first
   pub end_is : f.end ≡ end
   pub bound_is : f.bound ≡ bound
@@ -100,10 +97,9 @@ FrontsAreUpTo bound fronts =
 
 -- what stands behind is as large as it has to be
 pub record IsReady
-    (s : Search) (channels first end bound : ℕ) (kept : List Front) (longest most : ℕ)
+    (s : Search) (first end bound : ℕ) (kept : List Front) (longest most : ℕ)
     : Type 0 where
   pub range : SettingsInRange s
-  pub few : channels ≤ 4096
   pub delays : IsDelayRange s first end
   pub fits : IsTrue (folds_are_on s) → FoldsFit s bound
   pub count : length kept ≡ end - first

@@ -9,12 +9,13 @@ use Rattle.shard_search.specs.declared.thresholds.Hit.{Hit}
 use Rattle.shard_search.specs.declared.thresholds.BoxThresholds.{BoxThresholds}
 use Rattle.shard_search.specs.Thresholds.{AreOfAllWidths, IsHit}
 use Rattle.shard_search.specs.Pulses.{first_sums, IsRowOf}
+use Rattle.shard_search.specs.Sought.{Sought, CanBeSought}
 
--- a search over n channels of the delays from `first` up to, but without, `end`; its boxes over the rows of these
--- delays; and the rows in which a box that ends at one of the last spectra may be detected
+-- a search of the delays from `first` up to, but without, `end`, and what is sought in their rows; its boxes over these
+-- rows; and the rows in which a box that ends at one of the last spectra may be detected
 pub record PulseState : Type 0 where
   pub search : Search
-  pub channels : ℕ
+  pub sought : Sought
   pub first : ℕ
   pub end : ℕ
   pub boxes : RowTails
@@ -35,17 +36,19 @@ pub record HasBoxes (s : Search) (first end : ℕ) (b : RowTails) : Type 0 where
 pub record PulsesAreSound (p : PulseState) (by_width : List BoxThresholds) (capacity : ℕ)
     : Type 0 where
   pub range : SettingsInRange p.search
-  pub few_channels : p.channels ≤ 4096
+  pub sought : CanBeSought p.sought 4096 p.end
   pub few_delays : p.end ≤ 8193
   pub boxes : HasBoxes p.search p.first p.end p.boxes
-  pub judges : AreOfAllWidths p.search p.channels p.first p.end by_width
-  pub hits : All (IsHit p.search p.channels p.first p.end) p.hits
+  pub judges : AreOfAllWidths p.search p.sought p.first p.end by_width
+  pub hits : All (IsHit p.search p.sought p.first p.end) p.hits
   pub room : 6 * (p.end - p.first) ≤ capacity
 
 -- opened for such a search, with boxes over feeds of up to `chunk` sums of up to `bound`
-pub record SearchesFor (p : PulseState) (s : Search) (n first end chunk bound : ℕ) : Type 0 where
+pub record SearchesFor
+    (p : PulseState) (s : Search) (c : Sought) (first end chunk bound : ℕ)
+    : Type 0 where
   pub search_is : p.search ≡ s
-  pub channels_is : p.channels ≡ n
+  pub sought_is : p.sought ≡ c
   pub first_is : p.first ≡ first
   pub end_is : p.end ≡ end
   pub chunk_is : p.boxes.chunk ≡ chunk
@@ -53,7 +56,7 @@ pub record SearchesFor (p : PulseState) (s : Search) (n first end chunk bound : 
 
 -- both search for the same
 abbrev pub SearchAlike : PulseState → PulseState → Type 0
-SearchAlike p q = SearchesFor p q.search q.channels q.first q.end q.boxes.chunk q.boxes.bound
+SearchAlike p q = SearchesFor p q.search q.sought q.first q.end q.boxes.chunk q.boxes.bound
 
 -- where boxes are wider than one sum, xs are the values that were fed of row d
 abbrev pub WideRowHas : RowTails → ℕ → List ℕ → Type 0

@@ -8,7 +8,7 @@ use Rattle.fdmt_carry.specs.Carrying as carry
 use Rattle.fdmt_carry.specs.Carrying.{Carrying, AreNext}
 use Rattle.search_model.specs.declared.candidate.Candidate.{Candidate}
 use Rattle.search_model.specs.declared.search.Search.{Search}
-use Rattle.search_model.specs.Candidates.{plain_cells, folds, within_delays}
+use Rattle.search_model.specs.Candidates.{folds, within_delays}
 use Rattle.search_model.specs.Samples.{Filterbank}
 use Rattle.search_model.specs.Search.{SettingsInRange}
 use Rattle.search_model.specs.Sums.{path_sum}
@@ -20,6 +20,7 @@ use Rattle.shard_search.specs.FoldSearch.{Fronts, HasDelay, FoldsFor, KeepsFront
 use Rattle.shard_search.specs.Thresholds.{pulses_of_hits}
 use Rattle.shard_search.specs.PulseSearch.{PulseState, SearchesDelay, SearchesFor, WideRowHas, RowsStandFor, IsHitBelow}
 use Rattle.shard_search.specs.Pulses.{first_sums, pulses_of_end, pulses_of_ends}
+use Rattle.shard_search.specs.Sought.{Sought, cells_in}
 
 -- a carry over the delays of a shard, and the searches for pulses and for folds in its rows
 pub record ShardState : Type 0 where
@@ -39,17 +40,17 @@ sums_from_delay y d m = map (λ i. y d (d + i)) (range_with_len 0 (m - d))
 abbrev pub sum_bound : Carrying → Search → ℕ
 sum_bound c s = c.max_sample * (channels_of c.tables.plan.edges + s.max_delay)
 
--- the parts search the same delays, over as many channels, in as large chunks
+-- the parts search the same delays, in as large chunks
 pub record FitTogether (s : ShardState) : Type 0 where
   pub band : AreEdges (channels_of s.carry.tables.plan.edges) s.carry.tables.plan.edges
   pub range : SettingsInRange s.pulses.search
   pub order : s.carry.tables.plan.first ≤ s.carry.tables.plan.last
   pub within : s.carry.tables.plan.last ≤ s.pulses.search.max_delay
-  pub pulses : SearchesFor s.pulses s.pulses.search (channels_of s.carry.tables.plan.edges)
+  pub pulses : SearchesFor s.pulses s.pulses.search s.pulses.sought
       s.carry.tables.plan.first (s.carry.tables.plan.last + 1) s.carry.tables.chunk
       (sum_bound s.carry s.pulses.search)
-  pub folds : FoldsFor s.folds s.pulses.search (channels_of s.carry.tables.plan.edges)
-      s.carry.tables.plan.first (s.carry.tables.plan.last + 1) (sum_bound s.carry s.pulses.search)
+  pub folds : FoldsFor s.folds s.pulses.search s.carry.tables.plan.first
+      (s.carry.tables.plan.last + 1) (sum_bound s.carry s.pulses.search)
 
 -- The parts were fed the sums of a stream: for the delays below d, n more than those that end at the first m spectra.
 -- The hits are those of these n spectra, for the delays below d, and their rows are kept.
@@ -59,8 +60,8 @@ pub record HaveTaken (y : ℕ → ℕ → ℕ) (p : PulseState) (g : Fronts) (m 
   pub rows_from : (e : ℕ) → SearchesDelay p e → d ≤ e → WideRowHas p.boxes e (first_sums y e m)
   pub folds_below : (e : ℕ) → HasDelay g e → e < d → KeepsFrontOf g e (sums_from_delay y e (m + n))
   pub folds_from : (e : ℕ) → HasDelay g e → d ≤ e → KeepsFrontOf g e (sums_from_delay y e m)
-  pub hits : (k : ℕ) → k < n → pulses_of_hits y p.search p.channels (m + k) p.hits
-      ≡ pulses_of_end y p.search p.channels p.first d (m + k)
+  pub hits : (k : ℕ) → k < n → pulses_of_hits y p.search p.sought (m + k) p.hits
+      ≡ pulses_of_end y p.search p.sought p.first d (m + k)
   pub kept : All (IsHitBelow y p.boxes m n d) p.hits
 
 -- all parts were fed the first spectra of a stream
@@ -101,16 +102,16 @@ pub record SumsAlike (s t : ShardState) : Type 0 where
   pub tables : s.carry.tables ≡ t.carry.tables
   pub max_sample : s.carry.max_sample ≡ t.carry.max_sample
   pub search : s.pulses.search ≡ t.pulses.search
+  pub sought : s.pulses.sought ≡ t.pulses.sought
 
--- the pulses of a plan's delays that end at so many spectra, from spectrum `start` on
-abbrev pub pulses_of_plan : Filterbank → BandPlan → Search → ℕ → ℕ → List Candidate
-pulses_of_plan f p s start count =
-    pulses_of_ends (sums_of f p.edges) s (channels_of p.edges) p.first (p.last + 1) start count
+-- the pulses of a plan's delays that are sought and end at so many spectra, from spectrum `start` on
+abbrev pub pulses_of_plan : Filterbank → BandPlan → Search → Sought → ℕ → ℕ → List Candidate
+pulses_of_plan f p s c start count =
+    pulses_of_ends (sums_of f p.edges) s c p.first (p.last + 1) start count
 
 -- and their folds
-abbrev pub folds_of_plan : Filterbank → BandPlan → Search → List Candidate
-folds_of_plan f p s =
-    within_delays p.first (p.last + 1) (folds f p.edges (plain_cells (channels_of p.edges)) s)
+abbrev pub folds_of_plan : Filterbank → BandPlan → Search → Sought → List Candidate
+folds_of_plan f p s c = within_delays p.first (p.last + 1) (folds f p.edges (cells_in c) s)
 
 -- The next spectra were taken, and the pulses that end at them added to a book: for each stream whose first spectra
 -- were taken before, and that goes on with these rows, they are taken after it.
@@ -126,4 +127,5 @@ pub record HasTakenNext
       → StandsForStream new f
   pub pulses : (f : Filterbank) → StandsForStream old f → AreNext old.carry f rows spectra
       → Adds before after
-      (pulses_of_plan f old.carry.tables.plan old.pulses.search old.carry.fed spectra)
+      (pulses_of_plan f old.carry.tables.plan old.pulses.search old.pulses.sought old.carry.fed
+      spectra)

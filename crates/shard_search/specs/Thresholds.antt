@@ -11,38 +11,42 @@ use Rattle.shard_search.specs.declared.thresholds.Hit.{Hit}
 use Rattle.shard_search.specs.declared.thresholds.BoxThresholds.{BoxThresholds}
 use Rattle.shard_search.specs.Judging.{noise_of}
 use Rattle.shard_search.specs.Pulses.{pulse_of}
+use Rattle.shard_search.specs.Sought.{Sought, cells_in}
 
--- place i has the least detected sum of w path sums of delay first + i over n channels
-abbrev pub AreLeastSums : Search → ℕ → ℕ → ℕ → List (Option ℕ) → Type 0
-AreLeastSums s n first w least_sums =
+-- place i has the least detected sum of w path sums of delay first + i
+abbrev pub AreLeastSums : Search → Sought → ℕ → ℕ → List (Option ℕ) → Type 0
+AreLeastSums s c first w least_sums =
     (i : ℕ) (least : Option ℕ) → slice_get least_sums i ≡ Some least →
-    StandOutFrom (noise_of s) (w * (n + (first + i))) least
+    StandOutFrom (noise_of s) (w * cells_in c (first + i)) least
 
 -- they are of a width of the search: the least detected sums of the delays from `first` up to, but without, `end`
-pub record AreThresholds (s : Search) (n first end : ℕ) (thresholds : BoxThresholds) : Type 0 where
+pub record AreThresholds
+    (s : Search) (c : Sought) (first end : ℕ) (thresholds : BoxThresholds)
+    : Type 0 where
   pub width : IsWidth thresholds.width
   pub narrow : thresholds.width ≤ s.widest
   pub count : length thresholds.least_sums.items ≡ end - first
-  pub least_sums : AreLeastSums s n first thresholds.width thresholds.least_sums.items
+  pub least_sums : AreLeastSums s c first thresholds.width thresholds.least_sums.items
 
 -- there are thresholds for each width
-pub record AreOfAllWidths (s : Search) (n first end : ℕ) (by_width : List BoxThresholds)
+pub record AreOfAllWidths
+    (s : Search) (c : Sought) (first end : ℕ) (by_width : List BoxThresholds)
     : Type 0 where
   pub widths : map (λ thresholds. thresholds.width) by_width ≡ widths s
-  pub each : All (AreThresholds s n first end) by_width
+  pub each : All (AreThresholds s c first end) by_width
 
 -- a row of boxes, with the least sum that is detected there
-pub record IsHit (s : Search) (n first end : ℕ) (hit : Hit) : Type 0 where
+pub record IsHit (s : Search) (c : Sought) (first end : ℕ) (hit : Hit) : Type 0 where
   pub above : first ≤ hit.delay
   pub below : hit.delay < end
   pub width : IsWidth hit.width
   pub narrow : hit.width ≤ s.widest
-  pub least : StandOutFrom (noise_of s) (hit.width * (n + hit.delay)) (Some hit.least)
+  pub least : StandOutFrom (noise_of s) (hit.width * cells_in c hit.delay) (Some hit.least)
 
--- the pulse of such a row that ends at spectrum u, if it is detected
-abbrev pub pulse_of_hit : (ℕ → ℕ → ℕ) → Search → ℕ → ℕ → Hit → List Candidate
-pulse_of_hit y s n u hit = pulse_of y s n u hit.delay hit.width
+-- the pulse of such a row that ends at spectrum u, if it is sought and detected
+abbrev pub pulse_of_hit : (ℕ → ℕ → ℕ) → Search → Sought → ℕ → Hit → List Candidate
+pulse_of_hit y s c u hit = pulse_of y s c u hit.delay hit.width
 
 -- those of several rows
-abbrev pub pulses_of_hits : (ℕ → ℕ → ℕ) → Search → ℕ → ℕ → List Hit → List Candidate
-pulses_of_hits y s n u hits = flat_map (λ hit. pulse_of_hit y s n u hit) hits
+abbrev pub pulses_of_hits : (ℕ → ℕ → ℕ) → Search → Sought → ℕ → List Hit → List Candidate
+pulses_of_hits y s c u hits = flat_map (λ hit. pulse_of_hit y s c u hit) hits

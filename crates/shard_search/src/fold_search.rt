@@ -3,15 +3,17 @@ ghost use Rattle.std.specs.Prelude.{◌≡◌, ℕ, ◌+◌, ◌-◌, ◌*◌, �
 ghost use Rattle.search_model.specs.Samples.{Filterbank};
 ghost use Rattle.search_model.specs.Search.{SettingsInRange, folds_are_on};
 ghost use Rattle.search_model.specs.Folds.{series};
-ghost use Rattle.search_model.specs.Candidates.{plain_cells, folds, within_delays};
+ghost use Rattle.search_model.specs.Candidates.{folds, within_delays};
 ghost use Rattle.fast_fold.specs.Folding.{HaveSameRoom};
 ghost use Rattle.shard_search.specs.Counts.{most_folded, most_folds, most_folds_of_delay};
 ghost use Rattle.shard_search.specs.Judging.{Adds};
 ghost use Rattle.shard_search.specs.Series.{no_front, IsFrontOf};
 ghost use Rattle.shard_search.specs.FoldSearch.{Fronts, HasDelay, KeepsFrontOf, FoldsAlike, FoldsFor, FoldsFit, IsDelayRange, AreFronts, AreOfSeries, CanFold, IsReady, is_folded as is_folded_of, most_used as most_used_of, FitFolds, folds_if_folded, folds_of_delays};
+ghost use Rattle.shard_search.specs.Sought.{CanBeSought, cells_in};
 
 use crate::judging::fold_values;
 use crate::series::Series;
+use crate::sought::Sought;
 use candidate_book::Book;
 use fast_fold::{Folder, folds_see_rows};
 use psr_base::Memory;
@@ -23,7 +25,6 @@ use std::marker::Model;
 #[derive(Drop)]
 pub(crate) struct FoldSearch {
     search: Search,
-    channels: u32,
     first: u32,
     end: u32,
     bound: u32,
@@ -36,38 +37,33 @@ impl Model for FoldSearch {
 
     ghost view = { λ f. record {
       search = f.search;
-      channels = f.channels;
       first = f.first;
       end = f.end;
       bound = f.bound;
       fronts = f.fronts.items;
     } };
 
-    ghost invariant = { λ f. IsReady f.search f.channels f.first f.end f.bound f.fronts.items
-        f.folder.longest f.folder.most };
+    ghost invariant = { λ f. IsReady f.search f.first f.end f.bound f.fronts.items f.folder.longest
+        f.folder.most };
 }
 
 impl FoldSearch {
-    /// Takes the memory for the delays from `first` up to, but without, `end`, whose path sums over so many channels
-    /// are at most `bound`.
+    /// Takes the memory for the delays from `first` up to, but without, `end`, whose path sums are at most `bound`.
     pub(crate) fn open(
         alloc: Global,
         search: &Search,
-        channels: u32,
         first: u32,
         end: u32,
         bound: u32,
     ) -> Result<FoldSearch, Memory>
         requires range { SettingsInRange search.now }
-        requires few { channels ≤ 4096 }
         requires delays { IsDelayRange search.now first end }
         requires fits { IsTrue (folds_are_on search.now) → FoldsFit search.now bound }
-        ensures opened { IfOk result (λ f. FoldsFor f search.now channels first end bound) }
+        ensures opened { IfOk result (λ f. FoldsFor f search.now first end bound) }
         ensures none { IfOk result (λ f. (d : ℕ) → HasDelay f d → KeepsFrontOf f d []) }
     {
         Ok(FoldSearch {
             search: *search,
-            channels,
             first,
             end,
             bound,
@@ -92,14 +88,15 @@ impl FoldSearch {
     }
 
     /// Adds the detected folds of the delays to a book, in the order of the candidate list.
-    pub(crate) fn end(&mut self, book: &mut Book)
-        requires { book.old.count + most_folds ≤ 2 ^ 63 }
+    pub(crate) fn end(&mut self, sought: &Sought, book: &mut Book)
+        requires sought { CanBeSought sought.now 4096 self.old.end }
+        requires room { book.old.count + most_folds ≤ 2 ^ 63 }
         ensures same { self.new ≡ self.old }
         ensures count { book.new.count ≤ book.old.count + most_folds }
         ensures folds { (f : Filterbank) (edges : List ℕ)
             → ((d : ℕ) → HasDelay self.old d → KeepsFrontOf self.old d (series f edges d))
             → Adds book.old book.new (within_delays self.old.first self.old.end
-            (folds f edges (plain_cells self.old.channels) self.old.search)) }
+            (folds f edges (cells_in sought.now) self.old.search)) }
     {
         fold_fronts(
             book,
@@ -107,7 +104,7 @@ impl FoldSearch {
             &self.search,
             self.fronts.as_slice(),
             self.first,
-            self.channels,
+            sought,
         );
     }
 }
@@ -171,12 +168,12 @@ fn fold_front(
     search: &Search,
     front: &Series,
     delay: u32,
-    channels: u32,
+    sought: &Sought,
 )
     requires range { SettingsInRange search.now }
     requires from { search.now.min_delay ≤ delay }
     requires to { delay ≤ search.now.max_delay }
-    requires few { channels ≤ 4096 }
+    requires cells { cells_in sought.now delay ≤ 12288 }
     requires folder { IsTrue (folds_are_on search.now)
         → CanFold search.now folder.old.longest folder.old.most }
     requires most { front.now.most ≡ most_used_of search.now delay }
@@ -186,11 +183,11 @@ fn fold_front(
     ensures count { book.new.count ≤ book.old.count + most_folds_of_delay }
     ensures folds { (f : Filterbank) (edges : List ℕ) → IsFrontOf front.now (series f edges delay)
         → Adds book.old book.new
-        (folds_if_folded f edges (plain_cells channels) search.now delay) }
+        (folds_if_folded f edges (cells_in sought.now) search.now delay) }
 {
     if is_folded(search, delay) {
         folds_see_rows();
-        fold_values(book, folder, search, front.values(), delay, channels);
+        fold_values(book, folder, search, front.values(), delay, sought);
     }
 }
 
@@ -201,11 +198,11 @@ fn fold_fronts(
     search: &Search,
     fronts: &[Series],
     first: u32,
-    channels: u32,
+    sought: &Sought,
 )
     requires range { SettingsInRange search.now }
     requires delays { IsDelayRange search.now first (first + length fronts.now) }
-    requires few { channels ≤ 4096 }
+    requires sought { CanBeSought sought.now 4096 (first + length fronts.now) }
     requires folder { IsTrue (folds_are_on search.now)
         → CanFold search.now folder.old.longest folder.old.most }
     requires fronts { AreFronts search.now first fronts.now }
@@ -215,17 +212,10 @@ fn fold_fronts(
     ensures room { HaveSameRoom folder.new folder.old }
     ensures count { book.new.count ≤ book.old.count + most_folds }
     ensures folds { (f : Filterbank) (edges : List ℕ) → AreOfSeries fronts.now f edges first
-        → Adds book.old book.new (folds_of_delays f edges (plain_cells channels) search.now first
+        → Adds book.old book.new (folds_of_delays f edges (cells_in sought.now) search.now first
         (length fronts.now)) }
 {
     for at in 0..fronts.len() {
-        fold_front(
-            book,
-            folder,
-            search,
-            &fronts[at],
-            first + at as u32,
-            channels,
-        );
+        fold_front(book, folder, search, &fronts[at], first + at as u32, sought);
     }
 }

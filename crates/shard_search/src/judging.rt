@@ -3,13 +3,14 @@ ghost use Rattle.std.specs.Prelude.{◌≡◌, ℕ, ◌+◌, ◌-◌, ◌*◌, �
 ghost use Rattle.search_model.specs.declared.search.Search.{Search};
 ghost use Rattle.search_model.specs.Folds.{halvings as halvings_of};
 ghost use Rattle.search_model.specs.Search.{SettingsInRange};
-ghost use Rattle.search_model.specs.Candidates.{plain_cells};
 ghost use Rattle.detect_rule.specs.Noise.{StandOutFrom};
 ghost use Rattle.fast_fold.specs.Folding.{StandsForSeries, IsAt, IsLoaded, HaveSameRoom};
 ghost use Rattle.shard_search.specs.Counts.{most_folded, most_folds_of_delay};
 ghost use Rattle.shard_search.specs.Judging.{Adds, AreFoldThresholds, reaching_folds, detected_folds, noise_of, folds_in_trials, folds_in_period, folds_in_values};
 ghost use Rattle.shard_search.specs.FoldSearch.{CanFold, FitFolds};
+ghost use Rattle.shard_search.specs.Sought.{cells_in};
 
+use crate::sought::Sought;
 use candidate_book::Book;
 use detect_rule::Rule;
 use fast_fold::{Folder, folds_see_rows};
@@ -173,25 +174,24 @@ fn fold_period(
     judge_trials(book, folder, least[halvings as usize], of);
 }
 
-/// Adds the detected folds of the values of a delay's series, over all periods of a search of so many channels.
+/// Adds the detected folds of the values of a delay's series, over all periods of a search.
 pub(crate) fn fold_values(
     book: &mut Book,
     folder: &mut Folder,
     search: &Search,
     values: &[u32],
     delay: u32,
-    channels: u32,
+    sought: &Sought,
 )
     requires range { SettingsInRange search.now }
     requires on { search.now.fold_min ≤ search.now.fold_max }
     requires folder { CanFold search.now folder.old.longest folder.old.most }
     requires fits { FitFolds search.now values.now }
-    requires delay { delay ≤ 8192 }
-    requires channels { channels ≤ 4096 }
+    requires cells { cells_in sought.now delay ≤ 12288 }
     requires room { book.old.count + most_folds_of_delay ≤ 2 ^ 63 }
     ensures room { HaveSameRoom folder.new folder.old }
     ensures list { Adds book.old book.new
-        (folds_in_values (plain_cells channels) search.now delay values.now) }
+        (folds_in_values (cells_in sought.now) search.now delay values.now) }
     ensures count { book.new.count ≤ book.old.count + most_folds_of_delay }
 {
     let rule = Rule {
@@ -199,7 +199,7 @@ pub(crate) fn fold_values(
         sd: search.sd,
         snr: search.snr,
     };
-    let least = least_sums(&rule, channels + delay, search.fold_rows);
+    let least = least_sums(&rule, sought.cells(delay), search.fold_rows);
     for period in search.fold_min..search.fold_max + 1 {
         fold_period(book, folder, search, values, &least, delay, period);
     }

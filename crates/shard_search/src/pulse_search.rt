@@ -1,5 +1,5 @@
 // The search for pulses in the path sums of a shard.
-ghost use Rattle.std.specs.Prelude.{◌≡◌, ◌≢◌, ℕ, ◌+◌, ◌-◌, ◌*◌, ◌^◌, ◌≤◌, ◌<◌, ◌++◌, [], All, List, IfOk, length, vec_len, vec_capacity, option_to_list};
+ghost use Rattle.std.specs.Prelude.{◌≡◌, ◌≢◌, ℕ, ◌+◌, ◌-◌, ◌*◌, ◌^◌, ◌≤◌, ◌<◌, ◌++◌, [], true, All, List, IfOk, length, vec_len, vec_capacity, option_to_list};
 ghost use Rattle.std.specs.List.{flat_map, range_with_len};
 ghost use Rattle.box_sums.specs.Tails.{KeepsRow, AreAlike, IsNewest, IsKept};
 ghost use Rattle.search_model.specs.Search.{SettingsInRange};
@@ -8,7 +8,9 @@ ghost use Rattle.shard_search.specs.Thresholds.{IsHit, AreThresholds, pulses_of_
 ghost use Rattle.shard_search.specs.PulseSearch.{PulseState, PulsesAreSound, SearchesDelay, SearchesFor, SearchAlike, RowsStandFor, CanJudge, WideRowHas, IsTakenRow, HitIsKept, IsHitBelow, AddsHitsOf};
 ghost use Rattle.search_model.specs.declared.search.Search.{Search};
 ghost use Rattle.shard_search.specs.Pulses.{first_sums, IsRowOf, pulse_of, pulses_of_delay};
+ghost use Rattle.shard_search.specs.Sought.{Sought as Described, CanBeSought, is_sought_end};
 
+use crate::sought::Sought;
 use crate::thresholds::{BoxThresholds, Hit};
 use box_sums::Boxes;
 use candidate_book::Book;
@@ -27,7 +29,7 @@ const MOST_WIDTHS: usize = 6;
 #[derive(Drop)]
 pub(crate) struct PulseSearch {
     search: Search,
-    channels: u32,
+    sought: Sought,
     first: u32,
     end: u32,
     boxes: Boxes,
@@ -40,7 +42,7 @@ impl Model for PulseSearch {
 
     ghost view = { λ p. record {
       search = p.search;
-      channels = p.channels;
+      sought = p.sought;
       first = p.first;
       end = p.end;
       boxes = p.boxes;
@@ -49,7 +51,7 @@ impl Model for PulseSearch {
 
     ghost invariant = { λ p. PulsesAreSound (record {
       search = p.search;
-      channels = p.channels;
+      sought = p.sought;
       first = p.first;
       end = p.end;
       boxes = p.boxes;
@@ -59,37 +61,45 @@ impl Model for PulseSearch {
 
 impl PulseSearch {
     /// Takes the memory for the delays from `first` up to, but without, `end`, for rows of up to `chunk` path sums of
-    /// up to `bound` over so many channels.
+    /// up to `bound`.
     pub(crate) fn open(
         alloc: Global,
         search: &Search,
-        channels: u32,
+        sought: Sought,
         first: u32,
         end: u32,
         chunk: u32,
         bound: u32,
     ) -> Result<PulseSearch, Memory>
         requires range { SettingsInRange search.now }
-        requires few_channels { channels ≤ 4096 }
+        requires sought { CanBeSought sought 4096 end }
         requires order { first < end }
         requires few_delays { end ≤ 8193 }
         requires some_spectra { 1 ≤ chunk }
         requires most_spectra { chunk ≤ 65536 }
         requires fits { bound * search.now.widest < 2 ^ 32 }
         ensures opened { IfOk result (λ p.
-            SearchesFor p search.now channels first end chunk bound) }
+            SearchesFor p search.now sought first end chunk bound) }
         ensures stands { IfOk result (λ p. (y : ℕ → ℕ → ℕ) → RowsStandFor y p 0) }
     {
         let delays = (end - first) as usize;
         Ok(PulseSearch {
             search: *search,
-            channels,
             first,
             end,
             boxes: Boxes::open(alloc, first, end - 1, chunk, search.widest, bound)?,
-            by_width: BoxThresholds::up_to(alloc, search, channels, first, end)?,
+            by_width: BoxThresholds::up_to(alloc, search, &sought, first, end)?,
             hits: Vec::with_capacity(alloc, MOST_WIDTHS * delays)?,
+            sought,
         })
+    }
+
+    /// What is sought in the rows.
+    pub(crate) fn sought(&self) -> &Sought
+        ensures value { result.now ≡ self.now.sought }
+        ensures fits { CanBeSought result.now 4096 self.now.end }
+    {
+        &self.sought
     }
 
     /// Forgets the hits of the spectra before.
@@ -114,9 +124,9 @@ impl PulseSearch {
             → WideRowHas self.old.boxes e xs → WideRowHas self.new.boxes e xs }
         ensures hits { (y : ℕ → ℕ → ℕ) (m k : ℕ) → IsRowOf y d m row.now
             → WideRowHas self.old.boxes d (first_sums y d m) → k < length row.now
-            → pulses_of_hits y self.old.search self.old.channels (m + k) self.new.hits
-            ≡ pulses_of_hits y self.old.search self.old.channels (m + k) self.old.hits
-            ++ pulses_of_delay y self.old.search self.old.channels (m + k) d }
+            → pulses_of_hits y self.old.search self.old.sought (m + k) self.new.hits
+            ≡ pulses_of_hits y self.old.search self.old.sought (m + k) self.old.hits
+            ++ pulses_of_delay y self.old.search self.old.sought (m + k) d }
         ensures kept { (y : ℕ → ℕ → ℕ) (m : ℕ) → IsRowOf y d m row.now
             → WideRowHas self.old.boxes d (first_sums y d m)
             → All (IsHitBelow y self.old.boxes m (length row.now) d) self.old.hits
@@ -137,8 +147,8 @@ impl PulseSearch {
         }
     }
 
-    /// Adds the detected boxes of the hits that end at the spectra that were taken last, of which the first is `start`,
-    /// to a book: by end, then in the order in which the hits were noted.
+    /// Adds the detected boxes of the hits that end at those of the spectra that were taken last which are sought, to a
+    /// book: by end, then in the order in which the hits were noted. The first of the spectra is `start`.
     pub(crate) fn report(&self, start: u64, spectra: u32, book: &mut Book)
         requires short { spectra ≤ self.now.boxes.chunk }
         requires early { start + spectra < 2 ^ 62 }
@@ -147,24 +157,26 @@ impl PulseSearch {
         ensures pulses { (y : ℕ → ℕ → ℕ)
             → All (HitIsKept y self.now.boxes start spectra) self.now.hits
             → Adds book.old book.new (flat_map
-            (λ u. pulses_of_hits y self.now.search self.now.channels u self.now.hits)
+            (λ u. pulses_of_hits y self.now.search self.now.sought u self.now.hits)
             (range_with_len start spectra)) }
     {
-        for k in 0..spectra {
+        let ends = self.sought.ends(start, spectra);
+        for k in ends.from..ends.to {
             self.report_end(start, k, book);
         }
     }
 
-    // Adds those that end at the k-th of these spectra.
+    // Adds those that end at the k-th of these spectra, which is sought.
     fn report_end(&self, start: u64, k: u32, book: &mut Book)
         requires spectrum { k < self.now.boxes.chunk }
         requires early { start + k < 2 ^ 62 }
+        requires sought { is_sought_end self.now.sought (start + k) ≡ true }
         requires room { book.old.count + length self.now.hits < 2 ^ 63 }
         ensures count { book.new.count ≤ book.old.count + length self.now.hits }
         ensures pulses { (y : ℕ → ℕ → ℕ) (n : ℕ) → k < n
             → All (HitIsKept y self.now.boxes start n) self.now.hits
             → Adds book.old book.new
-            (pulses_of_hits y self.now.search self.now.channels (start + k) self.now.hits) }
+            (pulses_of_hits y self.now.search self.now.sought (start + k) self.now.hits) }
     {
         for at in 0..self.hits.len() {
             let hit = self.hits[at];
@@ -174,14 +186,15 @@ impl PulseSearch {
 
     // Adds the box of a hit, if it begins at the delay or later and is detected.
     fn report_hit(&self, hit: &Hit, start: u64, k: u32, book: &mut Book)
-        requires hit { IsHit self.now.search self.now.channels self.now.first self.now.end hit.now }
+        requires hit { IsHit self.now.search self.now.sought self.now.first self.now.end hit.now }
         requires spectrum { k < self.now.boxes.chunk }
         requires early { start + k < 2 ^ 62 }
+        requires sought { is_sought_end self.now.sought (start + k) ≡ true }
         requires room { book.old.count < 2 ^ 63 }
         ensures count { book.new.count ≤ book.old.count + 1 }
         ensures pulse { (y : ℕ → ℕ → ℕ) (n : ℕ) → k < n → HitIsKept y self.now.boxes start n hit.now
             → Adds book.old book.new
-            (pulse_of_hit y self.now.search self.now.channels (start + k) hit.now) }
+            (pulse_of_hit y self.now.search self.now.sought (start + k) hit.now) }
     {
         tests_detection();
         sums_add_values();
@@ -197,7 +210,7 @@ impl PulseSearch {
         let sum = self.boxes.kept_sum(delay, k, width);
         if sum >= least {
             book.add(Candidate::Pulse {
-                end,
+                end: self.sought.first() + end,
                 delay,
                 width,
                 sum,
@@ -264,15 +277,16 @@ fn note_hits(
     requires room { vec_len hits.old + length by_width.now ≤ vec_capacity hits.old }
     ensures capacity { vec_capacity hits.new ≡ vec_capacity hits.old }
     ensures few { length hits.new.items ≤ length hits.old.items + length by_width.now }
-    ensures hits { (s : Search) (n end : ℕ) → All (AreThresholds s n first end) by_width.now
-        → All (IsHit s n first end) hits.old.items → All (IsHit s n first end) hits.new.items }
+    ensures hits { (s : Search) (c : Described) (end : ℕ)
+        → All (AreThresholds s c first end) by_width.now
+        → All (IsHit s c first end) hits.old.items → All (IsHit s c first end) hits.new.items }
     ensures own { AddsHitsOf d hits.old.items hits.new.items }
-    ensures pulses { (s : Search) (n end m k : ℕ) (y : ℕ → ℕ → ℕ)
-        → All (AreThresholds s n first end) by_width.now
+    ensures pulses { (s : Search) (c : Described) (end m k : ℕ) (y : ℕ → ℕ → ℕ)
+        → All (AreThresholds s c first end) by_width.now
         → IsTakenRow y boxes.now d m row.now → k < length row.now
-        → pulses_of_hits y s n (m + k) hits.new.items
-        ≡ pulses_of_hits y s n (m + k) hits.old.items
-        ++ flat_map (λ thresholds. pulse_of y s n (m + k) d thresholds.width) by_width.now }
+        → pulses_of_hits y s c (m + k) hits.new.items
+        ≡ pulses_of_hits y s c (m + k) hits.old.items
+        ++ flat_map (λ thresholds. pulse_of y s c (m + k) d thresholds.width) by_width.now }
 {
     for thresholds in by_width {
         note(hits, thresholds.hit(boxes, row, first, d));

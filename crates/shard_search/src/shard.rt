@@ -1,21 +1,23 @@
 // The search of a shard's path sums, chunk by chunk.
-ghost use Rattle.std.specs.Prelude.{◌≡◌, ℕ, ◌+◌, ◌-◌, ◌*◌, ◌^◌, ◌≤◌, ◌<◌, [], true, false, All, IfOk, IsTrue, length, drop, min};
+ghost use Rattle.std.specs.Prelude.{◌≡◌, ℕ, ◌+◌, ◌-◌, ◌*◌, ◌^◌, ◌≤◌, ◌<◌, [], true, false, All, IfOk, length, drop, min};
 ghost use Rattle.band_paths.specs.Edges.{channels_of};
 ghost use Rattle.fdmt_carry.specs.Carrying.{AreNext, AreThere, IsOpened, IsStream, StandsForSamples, StandsMidway};
 ghost use Rattle.row_schedule.specs.Samples.{values_of};
 ghost use Rattle.search_model.specs.Samples.{Filterbank};
-ghost use Rattle.search_model.specs.Search.{SettingsInRange, folds_are_on};
+ghost use Rattle.search_model.specs.Search.{SettingsInRange};
 ghost use Rattle.dada_model.specs.Edges.{AreEdges};
-ghost use Rattle.subband_plan.specs.Plans.{band_plan};
 ghost use Rattle.shard_search.specs.Counts.{most_pulses_at_end, most_folds, most_tables};
-ghost use Rattle.shard_search.specs.FoldSearch.{IsDelayRange, FoldsFit, HasDelay, FoldsAlike};
+ghost use Rattle.shard_search.specs.FoldSearch.{IsDelayRange, HasDelay, FoldsAlike};
 ghost use Rattle.shard_search.specs.Judging.{Adds};
+ghost use Rattle.shard_search.specs.Opening.{SumsFit, IsOpenedShard};
 ghost use Rattle.shard_search.specs.PulseSearch.{SearchesDelay, SearchAlike};
 ghost use Rattle.shard_search.specs.Pulses.{IsRowOf};
+ghost use Rattle.shard_search.specs.Sought.{CanBeSought};
 ghost use Rattle.shard_search.specs.Sums.{ShardState, FitTogether, StandsForStream, HasStream, ContinuesStream, PassesStream, IsPassedTo, HaveTaken, HasTakenNext, sums_of, folds_of_plan};
 
 use crate::fold_search::FoldSearch;
 use crate::pulse_search::PulseSearch;
+use crate::sought::Sought;
 use candidate_book::Book;
 use fdmt_carry::Carry;
 use psr_base::Memory;
@@ -55,11 +57,12 @@ impl Model for ShardSearch {
 
 impl ShardSearch {
     /// Takes the memory for the delays from `first` up to, but without, `end`, over a band whose edges are in kHz, the
-    /// highest first, in chunks of up to `chunk` spectra of samples up to `max_sample`.
+    /// highest first, in chunks of up to `chunk` spectra of samples up to `max_sample`; and what is sought in them.
     pub fn open(
         alloc: Global,
         edges: &[u32],
         search: &Search,
+        sought: Sought,
         first: u32,
         end: u32,
         chunk: u32,
@@ -72,25 +75,16 @@ impl ShardSearch {
         requires some_delays { first < end }
         requires some_spectra { 1 ≤ chunk }
         requires most_spectra { chunk ≤ 65536 }
-        requires fits { max_sample * (channels_of edges.now + search.now.max_delay)
-            * search.now.widest < 2 ^ 32 }
-        requires folds_fit { IsTrue (folds_are_on search.now) → FoldsFit search.now
+        requires fits { SumsFit search.now
             (max_sample * (channels_of edges.now + search.now.max_delay)) }
-        ensures plan { IfOk result (λ s. s.carry.tables.plan
-            ≡ band_plan edges.now first (end - 1)) }
-        ensures chunk { IfOk result (λ s. s.carry.tables.chunk ≡ chunk) }
-        ensures most { IfOk result (λ s. s.carry.tables.most ≡ min chunk most_tables) }
-        ensures max_sample { IfOk result (λ s. s.carry.max_sample ≡ max_sample) }
-        ensures search { IfOk result (λ s. s.pulses.search ≡ search.now) }
-        ensures nothing { IfOk result (λ s. s.carry.fed ≡ 0) }
-        ensures stands { IfOk result (λ s. (f : Filterbank)
-            → IsStream (band_plan edges.now first (end - 1)) max_sample f
-            → StandsForStream s f) }
+        requires sought { CanBeSought sought (channels_of edges.now) end }
+        ensures { IfOk result
+            (IsOpenedShard edges.now search.now sought first end chunk max_sample) }
     {
         let channels = (edges.len() - 1) as u32;
         let bound = max_sample * (channels + search.max_delay);
-        let pulses = PulseSearch::open(alloc, search, channels, first, end, chunk, bound)?;
-        let folds = FoldSearch::open(alloc, search, channels, first, end, bound)?;
+        let pulses = PulseSearch::open(alloc, search, sought, first, end, chunk, bound)?;
+        let folds = FoldSearch::open(alloc, search, first, end, bound)?;
         let plan = Plan::open(alloc, edges, first, end - 1)?;
         let carry = open_carry(alloc, plan, chunk, max_sample)?;
         Ok(ShardSearch {
@@ -185,9 +179,10 @@ impl ShardSearch {
         ensures folds { (f : Filterbank) → StandsForStream self.old f
             → f.spectra ≡ self.old.carry.fed
             → Adds book.old book.new
-            (folds_of_plan f self.old.carry.tables.plan self.old.pulses.search) }
+            (folds_of_plan f self.old.carry.tables.plan self.old.pulses.search
+            self.old.pulses.sought) }
     {
-        self.folds.end(book);
+        self.folds.end(self.pulses.sought(), book);
     }
 
     /// How many spectra were taken.

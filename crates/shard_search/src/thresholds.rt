@@ -5,7 +5,9 @@ ghost use Rattle.search_model.specs.declared.search.Search.{Search};
 ghost use Rattle.search_model.specs.Search.{SettingsInRange};
 ghost use Rattle.shard_search.specs.PulseSearch.{IsTakenRow};
 ghost use Rattle.shard_search.specs.Pulses.{box_of, pulse_of};
+ghost use Rattle.shard_search.specs.Sought.{Sought as Described, CanBeSought};
 
+use crate::sought::Sought;
 use box_sums::Boxes;
 use detect_rule::Rule;
 use fdmt_rows::greatest;
@@ -38,26 +40,25 @@ pub(crate) struct BoxThresholds {
 impl BoxThresholds {
     ghost use Rattle.shard_search.specs.Thresholds.{AreThresholds, AreOfAllWidths, IsHit, pulses_of_hits};
 
-    /// The thresholds of each width of a search over so many channels, for the delays from `first` up to, but without,
-    /// `end`.
+    /// The thresholds of each width of a search, for the delays from `first` up to, but without, `end`.
     pub(crate) fn up_to(
         alloc: Global,
         search: &Search,
-        channels: u32,
+        sought: &Sought,
         first: u32,
         end: u32,
     ) -> Result<Vec<BoxThresholds>, Memory>
         requires range { SettingsInRange search.now }
-        requires few_channels { channels ≤ 4096 }
+        requires sought { CanBeSought sought.now 4096 end }
         requires order { first ≤ end }
         requires few_delays { end ≤ 8193 }
         ensures { IfOk result (λ by_width.
-            AreOfAllWidths search.now channels first end by_width.items) }
+            AreOfAllWidths search.now sought.now first end by_width.items) }
     {
         let mut by_width = Vec::with_capacity(alloc, WIDTHS.len())?;
         for width in WIDTHS {
             if width <= search.widest {
-                let thresholds = BoxThresholds::open(alloc, search, channels, first, end, width)?;
+                let thresholds = BoxThresholds::open(alloc, search, sought, first, end, width)?;
                 by_width.push(thresholds)?;
             }
         }
@@ -68,19 +69,19 @@ impl BoxThresholds {
     fn open(
         alloc: Global,
         search: &Search,
-        channels: u32,
+        sought: &Sought,
         first: u32,
         end: u32,
         width: u32,
     ) -> Result<BoxThresholds, Memory>
         requires range { SettingsInRange search.now }
-        requires few_channels { channels ≤ 4096 }
+        requires sought { CanBeSought sought.now 4096 end }
         requires order { first ≤ end }
         requires few_delays { end ≤ 8193 }
         requires width { IsWidth width }
         requires narrow { width ≤ search.now.widest }
         ensures width { IfOk result (λ thresholds. thresholds.width ≡ width) }
-        ensures thresholds { IfOk result (AreThresholds search.now channels first end) }
+        ensures thresholds { IfOk result (AreThresholds search.now sought.now first end) }
     {
         let rule = Rule {
             mean: search.mean,
@@ -89,7 +90,7 @@ impl BoxThresholds {
         };
         let mut least_sums = Vec::with_capacity(alloc, (end - first) as usize)?;
         for d in first..end {
-            let cells = u64::from(width) * (u64::from(channels) + u64::from(d));
+            let cells = u64::from(width) * u64::from(sought.cells(d));
             least_sums.push(rule.least(cells))?;
         }
         Ok(BoxThresholds { width, least_sums })
@@ -103,13 +104,13 @@ impl BoxThresholds {
         requires width { IsWidth self.now.width }
         requires narrow { self.now.width ≤ boxes.now.widest }
         ensures own { IfSome result (λ hit. hit.delay ≡ d) }
-        ensures hit { (s : Search) (n end : ℕ) → AreThresholds s n first end self.now
-            → IfSome result (IsHit s n first end) }
-        ensures pulses { (s : Search) (n end m k : ℕ) (y : ℕ → ℕ → ℕ)
-            → AreThresholds s n first end self.now
+        ensures hit { (s : Search) (c : Described) (end : ℕ) → AreThresholds s c first end self.now
+            → IfSome result (IsHit s c first end) }
+        ensures pulses { (s : Search) (c : Described) (end m k : ℕ) (y : ℕ → ℕ → ℕ)
+            → AreThresholds s c first end self.now
             → IsTakenRow y boxes.now d m row.now → k < length row.now
-            → pulses_of_hits y s n (m + k) (option_to_list result)
-            ≡ pulse_of y s n (m + k) d self.now.width }
+            → pulses_of_hits y s c (m + k) (option_to_list result)
+            ≡ pulse_of y s c (m + k) d self.now.width }
     {
         tests_detection();
         let most = greatest_box(boxes, row, self.width);

@@ -1,9 +1,10 @@
 use Rattle.std.proofs.Common.{◌≡◌, ◌∙◌, ◌*◌, ◌^◌, true, [], sym, ap, arith}
 use Rattle.std.proofs.lemmas.Bool.{cond-true}
 use Rattle.search_model.specs.Folds.{series}
-use Rattle.search_model.specs.Candidates.{plain_cells, folds_of_delay}
+use Rattle.search_model.specs.Candidates.{folds_of_delay}
 use Rattle.shard_search.specs.Judging.{folds_in_values}
 use Rattle.shard_search.specs.FoldSearch.{is_folded, folds_if_folded}
+use Rattle.shard_search.specs.Sought.{cells_in}
 use Rattle.shard_search.proofs.Adding.{adds_same}
 use Rattle.shard_search.proofs.Fronts.{values_front, delay_folds}
 use Rattle.shard_search.proofs.fold_search.fold_front.Goals as goal
@@ -12,7 +13,7 @@ pub returns-then-is_folded-clause-folds : goal.returns-then-is_folded-clause-fol
 returns-then-is_folded-clause-folds c = λ f edges front.
     let s = c.args.search.now in
     let d = c.args.delay in
-    let cells = plain_cells c.args.channels in
+    let cells = (cells_in c.args.sought.now) in
     let folded : is_folded s d ≡ true = sym c.is_folded.ensures ∙ c.if-is_folded.true in
     let most : c.args.front.now.most ≡ s.fold_max * 2 ^ s.fold_rows =
     c.requires.most ∙ cond-true (is_folded s d) (s.fold_max * 2 ^ s.fold_rows) 0 folded in

@@ -1,11 +1,19 @@
 use Rattle.std.proofs.Common.{◌≡◌, ◌∙◌, ℕ, ◌+◌, ◌<◌, length, sym, ap, subst, refl, arith}
 use Rattle.std.proofs.lemmas.List.{get_or_read}
 use Rattle.search_model.specs.Folds.{series}
-use Rattle.search_model.specs.Candidates.{plain_cells}
 use Rattle.shard_search.specs.Series.{Front, no_front, IsFrontOf}
 use Rattle.shard_search.specs.FoldSearch.{folds_if_folded, folds_of_delays}
+use Rattle.shard_search.specs.Sought.{cells_in}
 use Rattle.shard_search.proofs.Adding.{adds_more, adds_same}
+use Rattle.shard_search.proofs.Ends.{few_cells}
 use Rattle.shard_search.proofs.fold_search.fold_fronts.Goals as goal
+
+pub fold_front-requires-clause-cells : goal.fold_front-requires-clause-cells
+fold_front-requires-clause-cells c =
+    let to = c.requires.delays.to in
+    let most = c.requires.range.delays.most in
+    few_cells c.args.sought.now (c.args.first + length c.args.fronts.now) (c.args.first + c.loop-at.at)
+    c.requires.sought (omega arith) (omega (arith, to, most))
 
 pub loop-at-preserved : goal.loop-at-preserved
 loop-at-preserved c =
@@ -22,7 +30,7 @@ loop-at-preserved c =
       };
       folds = λ f edges are.
           adds_more c.args.book.now c.loop-at.book c.fold_front.new.book
-          (λ d. folds_if_folded f edges (plain_cells c.args.channels) c.args.search.now d) c.args.first at
+          (λ d. folds_if_folded f edges (cells_in c.args.sought.now) c.args.search.now d) c.args.first at
           (c.args.first + at) refl (before.folds f edges are)
           (c.fold_front.ensures.folds f edges
           (subst (λ (front : Front). IsFrontOf front (series f edges (c.args.first + at))) (sym is) (are at small)));
@@ -33,5 +41,5 @@ pub returns-clause-folds : goal.returns-clause-folds
 returns-clause-folds c = λ f edges are.
     let all : c.loop-at.at ≡ length c.args.fronts.now = omega arith in
     adds_same c.args.book.now c.loop-at.book _ _
-    (ap (folds_of_delays f edges (plain_cells c.args.channels) c.args.search.now c.args.first) all)
+    (ap (folds_of_delays f edges (cells_in c.args.sought.now) c.args.search.now c.args.first) all)
     (c.loop-at.invariant.folds f edges are)

@@ -1,8 +1,8 @@
-use Rattle.std.proofs.Common.{◌≡◌, ℕ, ◌+◌, ◌-◌, List, ap, ◌∙◌, arith}
+use Rattle.std.proofs.Common.{◌≡◌, ℕ, ◌+◌, ◌-◌, List, ap, subst, ◌∙◌, arith}
 use Rattle.std.specs.List.{range_with_len, flat_map}
 use Rattle.search_model.specs.declared.candidate.Candidate.{Candidate}
-use Rattle.search_model.specs.Candidates.{plain_cells}
-use Rattle.shard_search.specs.Judging.{folds_in_period}
+use Rattle.shard_search.specs.Judging.{AreFoldThresholds, folds_in_period, noise_of}
+use Rattle.shard_search.specs.Sought.{cells_in}
 use Rattle.shard_search.proofs.Adding.{adds_more, adds_same}
 use Rattle.shard_search.proofs.judging.fold_values.Goals as goal
 
@@ -14,7 +14,7 @@ loop-period-preserved c =
     let from = c.loop-period.auto.period in
     let room = c.fold_period.ensures.room in
     let piece : ℕ → List Candidate =
-    λ p. folds_in_period (plain_cells c.args.channels) s c.args.delay p c.args.values.now in
+    λ p. folds_in_period (cells_in c.args.sought.now) s c.args.delay p c.args.values.now in
     let at : s.fold_min + (p - s.fold_min) ≡ p = omega arith in
     let next : p - s.fold_min + 1 ≡ p + 1 - s.fold_min = omega arith in
     record {
@@ -25,6 +25,8 @@ loop-period-preserved c =
       list = adds_same c.args.book.now c.fold_period.new.book _ _
           (ap (λ n. flat_map piece (range_with_len s.fold_min n)) next)
           (adds_more c.args.book.now c.loop-period.book c.fold_period.new.book piece s.fold_min (p - s.fold_min) p at
-          before.list (c.fold_period.ensures.list (plain_cells c.args.channels) c.least_sums-least.ensures));
+          before.list (c.fold_period.ensures.list (cells_in c.args.sought.now)
+          (subst (λ n. AreFoldThresholds (noise_of s) n s.fold_rows c.least_sums-least.result) c.cells.ensures
+          c.least_sums-least.ensures)));
       count = let count = c.fold_period.ensures.count in omega (arith, before.count, count, next);
     }

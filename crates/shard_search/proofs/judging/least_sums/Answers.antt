@@ -15,8 +15,8 @@ least-requires c =
     let most : c.fold_row_count.result * c.args.cells ≤ 4096 * c.args.cells =
     mul-le-mul_right c.args.cells c.fold_row_count.ensures.bound in
     let few = c.requires.cells in
-    let same = rows_of_cells c.from-rows.result c.fold_row_count.result c.from.result c.args.cells c.fold_row_count.result
-    c.from-rows.ensures c.from.ensures refl in
+    let same = rows_of_cells c.from-rows.result c.fold_row_count.result c.from.result c.args.cells
+    c.fold_row_count.result c.from-rows.ensures c.from.ensures refl in
     omega (arith, most, few, same)
 
 pub loop-halvings-preserved : goal.loop-halvings-preserved

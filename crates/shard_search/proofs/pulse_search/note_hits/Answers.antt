@@ -31,24 +31,24 @@ loop-thresholds-preserved c =
           let one = one_at_most c.hit.result in let few = before.few in
           subst (λ (xs : List Hit). length xs ≤ length a.hits.now.items + (i + 1)) (sym c.note.ensures.items)
           (omega arith);
-      hits = λ s n end all start. subst (All (IsHit s n a.first end)) (sym c.note.ensures.items)
-          (all_noted (IsHit s n a.first end) c.loop-thresholds.hits.items c.hit.result (before.hits s n end all start)
-          (c.hit.ensures.hit s n end (P (AreThresholds s n a.first end) all)));
+      hits = λ s x end all start. subst (All (IsHit s x a.first end)) (sym c.note.ensures.items)
+          (all_noted (IsHit s x a.first end) c.loop-thresholds.hits.items c.hit.result (before.hits s x end all start)
+          (c.hit.ensures.hit s x end (P (AreThresholds s x a.first end) all)));
       own = subst (AddsHitsOf a.d a.hits.now.items) (sym c.note.ensures.items)
           (one_noted a.d a.hits.now.items c.loop-thresholds.hits.items c.hit.result before.own c.hit.ensures.own);
-      pulses = λ s n end m k y all stands below.
-          noted_more (λ hit. pulse_of_hit y s n (m + k) hit) (λ (l : BoxThresholds). pulse_of y s n (m + k) a.d l.width)
+      pulses = λ s x end m k y all stands below.
+          noted_more (λ hit. pulse_of_hit y s x (m + k) hit) (λ (l : BoxThresholds). pulse_of y s x (m + k) a.d l.width)
           a.hits.now.items c.loop-thresholds.hits.items c.note.new.hits.items c.hit.result a.by_width.now i thresholds
-          c.note.ensures.items (before.pulses s n end m k y all stands below)
-          (c.hit.ensures.pulses s n end m k y (P (AreThresholds s n a.first end) all) stands below)
+          c.note.ensures.items (before.pulses s x end m k y all stands below)
+          (c.hit.ensures.pulses s x end m k y (P (AreThresholds s x a.first end) all) stands below)
           inside c.thresholds-item.is;
     }
 
 pub returns-clause-pulses : goal.returns-clause-pulses
-returns-clause-pulses c = λ s n end m k y all stands below.
+returns-clause-pulses c = λ s x end m k y all stands below.
     let a = c.args in
     let i = c.loop-thresholds.thresholds-index in
     let past = c.loop-thresholds-test.false in
-    c.loop-thresholds.invariant.pulses s n end m k y all stands below
-    ∙ ap (λ (ls : List BoxThresholds). pulses_of_hits y s n (m + k) a.hits.now.items
-    ++ flat_map (λ (l : BoxThresholds). pulse_of y s n (m + k) a.d l.width) ls) (take_all i a.by_width.now past)
+    c.loop-thresholds.invariant.pulses s x end m k y all stands below
+    ∙ ap (λ (ls : List BoxThresholds). pulses_of_hits y s x (m + k) a.hits.now.items
+    ++ flat_map (λ (l : BoxThresholds). pulse_of y s x (m + k) a.d l.width) ls) (take_all i a.by_width.now past)

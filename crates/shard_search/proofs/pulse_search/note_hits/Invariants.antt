@@ -4,6 +4,7 @@ use Rattle.search_model.specs.declared.search.Search.{Search}
 use Rattle.shard_search.specs.Thresholds.{IsHit, AreThresholds, pulses_of_hits}
 use Rattle.shard_search.specs.PulseSearch.{IsTakenRow, AddsHitsOf}
 use Rattle.shard_search.specs.Pulses.{pulse_of}
+use Rattle.shard_search.specs.Sought.{Sought}
 use Rattle.shard_search.proofs.pulse_search.note_hits.Given as goal
 
 -- the hits of the first widths
@@ -11,11 +12,11 @@ abbrev pub invariant-loop-thresholds : goal.invariant-loop-thresholds
 invariant-loop-thresholds l = record {
   capacity : vec_capacity l.hits ≡ vec_capacity l.fn.hits;
   few : length l.hits.items ≤ length l.fn.hits.items + l.thresholds-index;
-  hits : (s : Search) (n end : ℕ) → All (AreThresholds s n l.first end) l.by_width
-      → All (IsHit s n l.first end) l.fn.hits.items → All (IsHit s n l.first end) l.hits.items;
+  hits : (s : Search) (c : Sought) (end : ℕ) → All (AreThresholds s c l.first end) l.by_width
+      → All (IsHit s c l.first end) l.fn.hits.items → All (IsHit s c l.first end) l.hits.items;
   own : AddsHitsOf l.d l.fn.hits.items l.hits.items;
-  pulses : (s : Search) (n end m k : ℕ) (y : ℕ → ℕ → ℕ) → All (AreThresholds s n l.first end) l.by_width
+  pulses : (s : Search) (c : Sought) (end m k : ℕ) (y : ℕ → ℕ → ℕ) → All (AreThresholds s c l.first end) l.by_width
       → IsTakenRow y l.boxes l.d m l.row → k < length l.row
-      → pulses_of_hits y s n (m + k) l.hits.items ≡ pulses_of_hits y s n (m + k) l.fn.hits.items
-      ++ flat_map (λ thresholds. pulse_of y s n (m + k) l.d thresholds.width) (take l.thresholds-index l.by_width);
+      → pulses_of_hits y s c (m + k) l.hits.items ≡ pulses_of_hits y s c (m + k) l.fn.hits.items
+      ++ flat_map (λ thresholds. pulse_of y s c (m + k) l.d thresholds.width) (take l.thresholds-index l.by_width);
 }

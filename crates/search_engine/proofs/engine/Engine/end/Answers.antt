@@ -1,4 +1,4 @@
-use Rattle.std.proofs.Common.{◌≡◌, ℕ, ◌+◌, ◌*◌, ◌<◌, true, false, sym, ◌∙◌, ap, subst, arith}
+use Rattle.std.proofs.Common.{◌≡◌, ℕ, ◌+◌, ◌*◌, ◌<◌, true, false, refl, sym, ◌∙◌, ap, subst, arith}
 use Rattle.candidate_book.specs.Book.{book_of}
 use Rattle.fdmt_carry.specs.Carrying as carry
 use Rattle.fdmt_carry.specs.Tables.{Tables}
@@ -7,14 +7,15 @@ use Rattle.row_schedule.specs.Samples.{values_of}
 use Rattle.search_model.specs.Samples.{Filterbank}
 use Rattle.spectra_rows.specs.Unpacking.{Unpacking}
 use Rattle.shard_search.specs.Counts.{most_tables}
-use Rattle.search_engine.specs.Engine.{EngineState, HoldsData, StandsForPart, chunk_of}
+use Rattle.search_engine.specs.Engine.{EngineState, HasFoundIn, HoldsData, StandsForPart, chunk_of, scope_of}
 use Rattle.search_engine.specs.Scope.{Scope, kept_by, marks_of, searched}
 use Rattle.shard_search.specs.Judging.{Adds}
+use Rattle.shard_search.specs.Sought.{Sought}
 use Rattle.shard_search.specs.Sums.{ShardState, folds_of_plan}
 use Rattle.search_engine.proofs.Data.{data_begin}
 use Rattle.search_engine.proofs.Feeding.{rows_long, next_spectra, goes_on, few_spectra, searched_holds, kept_is, marks_fit, few_channels}
 use Rattle.search_engine.proofs.Silenced.{IsHidden, hidden_alike, hidden_given, hidden_rows}
-use Rattle.search_engine.proofs.Whole.{has_searched}
+use Rattle.search_engine.proofs.Whole.{found_in, has_searched, scope_at}
 use Rattle.search_engine.proofs.WholeChunks.{last_are}
 use Rattle.search_engine.proofs.Searched.{book_more, book_of_all, pulses_so_far}
 use Rattle.search_engine.proofs.Sizes.{none_left}
@@ -82,7 +83,7 @@ invariant_of-self c =
     let P : ShardState → Type 0 = λ t. HoldsData w.observation w.bytes (record {
       search = i.search;
       shard = i.shard;
-      scope = record { masked = marks_of i.masked };
+      masked = marks_of i.masked;
       fed = i.fed;
       has_ended = true;
       unpacker = c.taken.new.self;
@@ -114,12 +115,12 @@ returns-clause-found c = λ o bytes stands.
     let old = subst P (sym c.self.view_is) stands in
     let holds = old.taken.holds in
     let s = holds.searches in
-    let scope : Scope = record { masked = marks_of i.masked } in
+    let scope : Scope = scope_at (marks_of i.masked) i.sums.pulses.sought in
     let f = searched o scope bytes in
     let r = c.spectra-spectra.result in
     let u = i.sums.carry.fed in
     let whole = c.spectra-spectra.ensures.whole in
-    let begins = λ (v : ℕ). data_begin c.samples_of_bytes.ensures o scope bytes v s.bounds holds.numbers in
+    let begins = λ (v : ℕ). data_begin c.samples_of_bytes.ensures o (marks_of i.masked) bytes v s.bounds holds.numbers in
     let all : f.spectra ≡ u + r = ap (λ (g : Filterbank). g.spectra) (sym (kept_is o _ bytes s))
     ∙ c.spectra-spectra.ensures.counts bytes u holds.held in
     let next = next_spectra o bytes (values_of c.samples.result) _ r holds (omega (arith, whole))
@@ -128,19 +129,35 @@ returns-clause-found c = λ o bytes stands.
     let before = holds.sums f (begins u) in
     let after = c.take.ensures.taken.stands f before next in
     let Q : ℕ → Type 0 = λ n. c.take.new.book ≡ book_of i.search.max_candidates
-    (pulses_so_far o i.search i.shard f n) in
-    let pulses = subst Q (sym all) (book_more c.shards_are_listed.ensures c.edges_fall.ensures o _ f c.take.new.book u r s (old.book f (begins u))
+    (pulses_so_far o i.search i.sums.pulses.sought i.shard f n) in
+    let pulses = subst Q (sym all) (book_more c.shards_are_listed.ensures o _ f c.take.new.book u r s
+    (old.book f (begins u))
     (c.take.ensures.taken.pulses f before next)) in
     let F : ShardState → Type 0 = λ t. t.carry.fed ≡ f.spectra in
     let T : Tables → Type 0 = λ t. Adds c.take.new.book c.end.new.book
-    (folds_of_plan f t.plan c.take.new.self.pulses.search) in
-    let S : Search → Type 0 = λ t. Adds c.take.new.book c.end.new.book (folds_of_plan f i.sums.carry.tables.plan t) in
-    let folds = subst S c.take.ensures.taken.alike.search (subst T c.take.ensures.taken.alike.tables
-    (c.end.ensures.folds f after (all ∙ sym c.take.ensures.taken.fed))) in
+    (folds_of_plan f t.plan c.take.new.self.pulses.search c.take.new.self.pulses.sought) in
+    let S : Search → Type 0 = λ t. Adds c.take.new.book c.end.new.book
+    (folds_of_plan f i.sums.carry.tables.plan t c.take.new.self.pulses.sought) in
+    let C : Sought → Type 0 = λ t. Adds c.take.new.book c.end.new.book
+    (folds_of_plan f i.sums.carry.tables.plan i.sums.pulses.search t) in
+    let folds = subst C c.take.ensures.taken.alike.sought (subst S c.take.ensures.taken.alike.search
+    (subst T c.take.ensures.taken.alike.tables
+    (c.end.ensures.folds f after (all ∙ sym c.take.ensures.taken.fed)))) in
     let same = c.end.ensures.same in
-    record {
-      book = book_of_all c.shards_are_listed.ensures c.edges_fall.ensures o _ bytes c.take.new.book c.end.new.book s pulses
-          folds;
+    let sought = ap (λ (t : ShardState). t.pulses.sought) same ∙ c.take.ensures.taken.alike.sought in
+    let new : EngineState = record {
+      search = i.search;
+      shard = i.shard;
+      masked = marks_of i.masked;
+      fed = i.fed;
+      has_ended = true;
+      unpacker = c.taken.new.self;
+      sums = c.end.new.self;
+      book = c.end.new.book;
+    } in
+    let found : HasFoundIn o scope bytes new = record {
+      book = book_of_all c.shards_are_listed.ensures c.edges_fall.ensures o _ f c.take.new.book c.end.new.book s refl
+          pulses folds;
       spectra = ap (λ (t : ShardState). t.carry.fed) same ∙ c.take.ensures.taken.fed ∙ sym all;
       plan = ap (λ (t : ShardState). t.carry.tables.plan) same
           ∙ ap (λ (t : Tables). t.plan) c.take.ensures.taken.alike.tables ∙ s.plan;
@@ -149,9 +166,15 @@ returns-clause-found c = λ o bytes stands.
       last = ap (λ (t : ShardState). t.carry.last) same ∙ c.take.ensures.last
           ∙ last_are u r (chunk_of i.search) f.spectra most_tables i.sums.carry.tables.most s.most all old.chunks
           (subst (λ n. r < n) s.chunk (let part = old.taken.part in omega (arith, part, whole)));
-    }
+    } in
+    found_in o scope bytes new (ap (scope_at (marks_of i.masked)) sought) found
+
+pub returns-clause-scope : goal.returns-clause-scope
+returns-clause-scope c =
+    ap (scope_at (marks_of c.self.inside.masked)) (ap (λ (t : ShardState). t.pulses.sought) c.end.ensures.same
+    ∙ c.take.ensures.taken.alike.sought) ∙ ap scope_of c.self.view_is
 
 pub returns-clause-searched : goal.returns-clause-searched
 returns-clause-searched c = λ o bytes stands.
-    has_searched o bytes _ (ap (λ (e : EngineState). e.scope) c.self.view_is ∙ stands.whole)
+    has_searched c.shards_are_listed.ensures o bytes _ (returns-clause-scope c ∙ stands.whole)
     (returns-clause-found c o bytes stands.part)

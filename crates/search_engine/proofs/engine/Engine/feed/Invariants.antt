@@ -1,6 +1,6 @@
 use Rattle.std.proofs.Common.{◌≡◌, ◌+◌, ◌-◌, ◌≤◌, ◌++◌, List, ℕ, false, length, take}
 use Rattle.dada_model.specs.Observation.{Observation}
-use Rattle.search_engine.specs.Engine.{SameShard, StandsForPart}
+use Rattle.search_engine.specs.Engine.{SameShard, StandsForPart, scope_of}
 use Rattle.search_engine.proofs.engine.Engine.feed.Given as goal
 
 -- the first bytes were taken
@@ -8,7 +8,7 @@ abbrev pub invariant-loop-done : goal.invariant-loop-done
 invariant-loop-done l = record {
   within : l.done ≤ length l.bytes;
   same : SameShard l.self l.fn.self;
-  scope : l.self.scope ≡ l.fn.self.scope;
+  scope : scope_of l.self ≡ scope_of l.fn.self;
   running : l.self.has_ended ≡ false;
   fed : l.self.fed ≡ l.fn.self.fed + l.done;
   part : (o : Observation) (before : List ℕ) → StandsForPart o before l.fn.self

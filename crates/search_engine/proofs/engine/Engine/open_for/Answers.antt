@@ -1,6 +1,6 @@
-use Rattle.std.proofs.Common.{◌≤◌, length, sym, ap, subst}
+use Rattle.std.proofs.Common.{sym, ap, subst}
 use Rattle.spectra_rows.specs.Unpacking.{Unpacking}
-use Rattle.search_engine.specs.Scope.{Scope, marks_of}
+use Rattle.search_engine.specs.Scope.{Scope, FitsObservation, marks_of}
 use Rattle.search_engine.proofs.Opening.{OpenedParts, opened_stands, opened_sound}
 use Rattle.search_engine.proofs.engine.Engine.open_for.Goals as goal
 
@@ -8,22 +8,21 @@ pub invariant_of-result : goal.invariant_of-result
 invariant_of-result c =
     let o = c.args.observation.now in
     let s = c.args.search.now in
-    let scope : Scope = record { masked = marks_of c.scope.inside.masked } in
-    let parts : OpenedParts o s c.args.shard scope c.min-chunk.result c.in_ok-unpacker.unpacker c.in_ok-sums.sums
+    let parts : OpenedParts o s c.args.shard (marks_of c.scope.inside.masked) c.scope.inside.sought c.min-chunk.result c.in_ok-unpacker.unpacker c.in_ok-sums.sums
     c.in_ok-book.book = record {
       bounds = c.lies_in_range.ensures;
       band = c.edges_fall.ensures o c.lies_in_range.ensures;
       range = c.requires.range;
       shard = c.requires.shard;
       accepted = c.in_ok-check_plan.ensures.fits;
-      marks = subst (λ (x : Scope). length x.masked ≤ o.channels) (sym c.scope.view_is) c.requires.marks;
+      marks = (subst (λ (x : Scope). FitsObservation o s x) (sym c.scope.view_is) c.requires.scope).marks;
       chunk_is = c.min-chunk.ensures;
       unpacker = c.in_ok-unpacker.ensures.opened;
       nothing = c.in_ok-unpacker.ensures.nothing;
       path_sums = c.in_ok-sums.ensures;
       empty = c.in_ok-book.ensures;
     } in (
-      opened_sound o s c.args.shard scope c.min-chunk.result _ _ _ parts,
+      opened_sound o s c.args.shard (marks_of c.scope.inside.masked) c.scope.inside.sought c.min-chunk.result _ _ _ parts,
       sym (ap (λ (u : Unpacking). u.chunk) c.in_ok-unpacker.ensures.opened),
     )
 
@@ -31,19 +30,18 @@ pub returns-clause-stands : goal.returns-clause-stands
 returns-clause-stands c =
     let o = c.args.observation.now in
     let s = c.args.search.now in
-    let scope : Scope = record { masked = marks_of c.scope.inside.masked } in
-    let parts : OpenedParts o s c.args.shard scope c.min-chunk.result c.in_ok-unpacker.unpacker c.in_ok-sums.sums
+    let parts : OpenedParts o s c.args.shard (marks_of c.scope.inside.masked) c.scope.inside.sought c.min-chunk.result c.in_ok-unpacker.unpacker c.in_ok-sums.sums
     c.in_ok-book.book = record {
       bounds = c.lies_in_range.ensures;
       band = c.edges_fall.ensures o c.lies_in_range.ensures;
       range = c.requires.range;
       shard = c.requires.shard;
       accepted = c.in_ok-check_plan.ensures.fits;
-      marks = subst (λ (x : Scope). length x.masked ≤ o.channels) (sym c.scope.view_is) c.requires.marks;
+      marks = (subst (λ (x : Scope). FitsObservation o s x) (sym c.scope.view_is) c.requires.scope).marks;
       chunk_is = c.min-chunk.ensures;
       unpacker = c.in_ok-unpacker.ensures.opened;
       nothing = c.in_ok-unpacker.ensures.nothing;
       path_sums = c.in_ok-sums.ensures;
       empty = c.in_ok-book.ensures;
     } in
-    opened_stands o s c.args.shard scope c.min-chunk.result _ _ _ parts
+    opened_stands o s c.args.shard (marks_of c.scope.inside.masked) c.scope.inside.sought c.min-chunk.result _ _ _ parts

@@ -3,10 +3,12 @@ use Rattle.std.proofs.lemmas.List.Elements.{All-from_get_or}
 use Rattle.spectra_rows.specs.Unpacking.{Unpacking}
 use Rattle.candidate_book.specs.Book.{book_of}
 use Rattle.row_schedule.specs.Samples.{values_of}
-use Rattle.search_engine.specs.Engine.{EngineState, BeginsWith, StandsForPart, chunk_of}
+use Rattle.search_engine.specs.Engine.{EngineState, BeginsWith, StandsForPart, chunk_of, scope_of}
 use Rattle.search_engine.proofs.Feeding.{piece_holds, begins_old, begins_less, rows_long, next_spectra, goes_on, few_spectra, searched_holds, marks_fit, few_channels}
-use Rattle.search_engine.specs.Scope.{kept_by, marks_of, searched}
+use Rattle.search_engine.specs.Scope.{kept_by, kept_samples, marks_of}
 use Rattle.search_engine.proofs.Silenced.{IsHidden, hidden_alike, hidden_given, hidden_rows}
+use Rattle.shard_search.specs.Sought.{Sought}
+use Rattle.search_engine.proofs.Whole.{scope_at}
 use Rattle.search_engine.proofs.WholeChunks.{chunk_more}
 use Rattle.search_engine.proofs.Searched.{book_more, pulses_so_far}
 use Rattle.search_engine.proofs.Sizes.{none_left, room_left}
@@ -216,20 +218,23 @@ returns-then-spectra-self-clause-part c = λ o before stands.
       chunks = chunk_more u r (chunk_of c.self.inside.search) c.pass.new.self.carry.fed
           (c.self.invariant.1 ∙ old.taken.holds.searches.chunk) c.pass.ensures.fed old.chunks;
       book = λ f begins.
-          let g = searched o (record { masked = marks_of c.self.inside.masked }) all in
+          let g = kept_samples o (marks_of c.self.inside.masked) all in
           let B : ℕ → Type 0 = λ n. BeginsWith o g n f in
           let later = subst B c.pass.ensures.fed begins in
           let Q : ℕ → Type 0 =
           λ n. c.pass.new.book ≡ book_of c.self.inside.search.max_candidates
-          (pulses_so_far o c.self.inside.search c.self.inside.shard f n) in
-          subst Q (sym c.pass.ensures.fed)
-          (book_more c.shards_are_listed.ensures c.edges_fall.ensures o _ f c.pass.new.book u r holds.searches
+          (pulses_so_far o c.self.inside.search c.self.inside.sums.pulses.sought c.self.inside.shard f n) in
+          let R : Sought → Type 0 =
+          λ x. c.pass.new.book ≡ book_of c.self.inside.search.max_candidates
+          (pulses_so_far o c.self.inside.search x c.self.inside.shard f c.pass.new.self.carry.fed) in
+          subst R (sym c.pass.ensures.alike.sought) (subst Q (sym c.pass.ensures.fed)
+          (book_more c.shards_are_listed.ensures o _ f c.pass.new.book u r holds.searches
           (old.book f (begins_old c.samples_of_bytes.ensures o before _ _ (u + r) f old.taken.holds
           (omega arith) later))
           (c.pass.ensures.pulses f (holds.sums f (begins_less o g u (u + r) f (omega arith) later))
           (next_spectra o all (values_of c.samples-rows.result) _ r holds (omega (arith, whole, full))
           (λ k t. hidden_rows _ c.push-count.new.self c.hide.new.unpacker (values_of c.samples-rows.result) _ _ k t
-          c.hide.ensures.same c.samples-rows.ensures.rows (c.hide.ensures.kept _ _ holds.held)) f later)));
+          c.hide.ensures.same c.samples-rows.ensures.rows (c.hide.ensures.kept _ _ holds.held)) f later))));
     }
 
 pub returns-else-spectra-self-clause-part : goal.returns-else-spectra-self-clause-part
@@ -255,3 +260,7 @@ returns-else-spectra-self-clause-part c = λ o before stands.
       book = λ f begins. old.book f (begins_old c.samples_of_bytes.ensures o before _ _ u f old.taken.holds
           (omega arith) begins);
     }
+
+pub returns-then-spectra-self-clause-scope : goal.returns-then-spectra-self-clause-scope
+returns-then-spectra-self-clause-scope c =
+    ap (scope_at (marks_of c.self.inside.masked)) c.pass.ensures.alike.sought ∙ ap scope_of c.self.view_is

@@ -1,11 +1,12 @@
 use Rattle.std.proofs.Common.{◌≡◌, ◌∙◌, ℕ, ◌+◌, ◌-◌, List, length, get_or, sym, ap, subst, arith}
 use Rattle.search_model.specs.Samples.{Filterbank}
 use Rattle.search_model.specs.Folds.{series}
-use Rattle.search_model.specs.Candidates.{plain_cells, folds, within_delays}
+use Rattle.search_model.specs.Candidates.{folds, within_delays}
 use Rattle.candidate_book.specs.Book.{BookContents}
 use Rattle.shard_search.specs.Judging.{Adds}
 use Rattle.shard_search.specs.Series.{Front, no_front, IsFrontOf}
 use Rattle.shard_search.specs.FoldSearch.{Fronts, HasDelay, KeepsFrontOf, IsDelayRange, AreOfSeries, folds_of_delays}
+use Rattle.shard_search.specs.Sought.{cells_in}
 use Rattle.shard_search.proofs.Adding.{adds_same}
 use Rattle.shard_search.proofs.FoldLists.{folds_within}
 use Rattle.shard_search.proofs.fold_search.FoldSearch.end.Goals as goal
@@ -23,16 +24,17 @@ of_series seen fronts f edges same count all = λ k small.
     (subst Q at (all (seen.first + k) (record { above = omega arith; below = omega arith })))
 
 -- what is added over all delays
-ended : (old new : BookContents) (seen : Fronts) (fronts : List Front) (f : Filterbank) (edges : List ℕ) →
+ended : (old new : BookContents) (cells : ℕ → ℕ) (seen : Fronts) (fronts : List Front) (f : Filterbank)
+    (edges : List ℕ) →
     fronts ≡ seen.fronts → length seen.fronts ≡ seen.end - seen.first → IsDelayRange seen.search seen.first seen.end →
     (AreOfSeries fronts f edges seen.first →
-    Adds old new (folds_of_delays f edges (plain_cells seen.channels) seen.search seen.first (length fronts))) →
+    Adds old new (folds_of_delays f edges cells seen.search seen.first (length fronts))) →
     ((d : ℕ) → HasDelay seen d → KeepsFrontOf seen d (series f edges d)) →
-    Adds old new (within_delays seen.first seen.end (folds f edges (plain_cells seen.channels) seen.search))
-ended old new seen fronts f edges same count delays adds all =
+    Adds old new (within_delays seen.first seen.end (folds f edges cells seen.search))
+ended old new cells seen fronts f edges same count delays adds all =
     adds_same old new _ _
-    (ap (folds_of_delays f edges (plain_cells seen.channels) seen.search seen.first) (ap length same ∙ count)
-    ∙ folds_within f edges (plain_cells seen.channels) seen.search seen.first seen.end delays)
+    (ap (folds_of_delays f edges cells seen.search seen.first) (ap length same ∙ count)
+    ∙ folds_within f edges cells seen.search seen.first seen.end delays)
     (adds (of_series seen fronts f edges same count all))
 
 pub returns-clause-folds : goal.returns-clause-folds
@@ -40,7 +42,8 @@ returns-clause-folds c = λ f edges.
     let inside = c.self.inside in
     let P : Fronts → Type 0 = λ seen. ((d : ℕ) → HasDelay seen d → KeepsFrontOf seen d (series f edges d)) →
     Adds c.args.book.now c.fold_fronts.new.book
-    (within_delays seen.first seen.end (folds f edges (plain_cells seen.channels) seen.search)) in
+    (within_delays seen.first seen.end (folds f edges (cells_in c.args.sought.now) seen.search)) in
     subst P c.self.view_is
-    (ended c.args.book.now c.fold_fronts.new.book _ c.as_slice.result.now f edges c.as_slice.ensures.value
+    (ended c.args.book.now c.fold_fronts.new.book (cells_in c.args.sought.now) _ c.as_slice.result.now f edges
+    c.as_slice.ensures.value
     c.self.invariant.count c.self.invariant.delays (c.fold_fronts.ensures.folds f edges))

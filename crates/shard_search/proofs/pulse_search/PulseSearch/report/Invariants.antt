@@ -10,5 +10,5 @@ abbrev pub invariant-loop-k : goal.invariant-loop-k
 invariant-loop-k l = record {
   count : l.book.count ≤ l.fn.book.count + l.k * length l.self.hits;
   pulses : (y : ℕ → ℕ → ℕ) → All (HitIsKept y l.self.boxes l.start l.spectra) l.self.hits → Adds l.fn.book l.book
-      (flat_map (λ u. pulses_of_hits y l.self.search l.self.channels u l.self.hits) (range_with_len l.start l.k));
+      (flat_map (λ u. pulses_of_hits y l.self.search l.self.sought u l.self.hits) (range_with_len l.start l.k));
 }

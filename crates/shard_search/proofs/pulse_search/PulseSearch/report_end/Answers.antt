@@ -26,7 +26,7 @@ loop-at-preserved c =
       count = let more = c.report_hit.ensures.count in let few = before.count in omega (arith, more, few);
       pulses = λ y n below kept.
           let u = c.args.start + c.args.k in
-          let piece = λ (h : Hit). pulse_of_hit y s.search s.channels u h in
+          let piece = λ (h : Hit). pulse_of_hit y s.search s.sought u h in
           let mine = subst (HitIsKept y s.boxes c.args.start n) (sym is)
           (All-get_or (HitIsKept y s.boxes c.args.start n) s.hits at hit inside kept) in
           adds_same c.args.book.now c.report_hit.new.book _ _ (sym (flat_take_more piece s.hits at hit inside is))
@@ -43,5 +43,5 @@ returns-clause-pulses c = λ y n below kept.
     let long = ap (λ (p : PulseState). length p.hits) c.self.view_is in
     let count = c.len-at-end.ensures in
     subst (λ (xs : List Hit). Adds c.args.book.now c.loop-at.book
-    (pulses_of_hits y s.search s.channels (c.args.start + c.args.k) xs))
+    (pulses_of_hits y s.search s.sought (c.args.start + c.args.k) xs))
     (take_all c.loop-at.at s.hits (omega arith)) (c.loop-at.invariant.pulses y n below kept)

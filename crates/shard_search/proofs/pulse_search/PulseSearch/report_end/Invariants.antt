@@ -10,5 +10,5 @@ invariant-loop-at l = record {
   count : l.book.count ≤ l.fn.book.count + l.at;
   pulses : (y : ℕ → ℕ → ℕ) (n : ℕ) → l.k < n → All (HitIsKept y l.self.boxes l.start n) l.self.hits
       → Adds l.fn.book l.book
-      (pulses_of_hits y l.self.search l.self.channels (l.start + l.k) (take l.at l.self.hits));
+      (pulses_of_hits y l.self.search l.self.sought (l.start + l.k) (take l.at l.self.hits));
 }

@@ -18,13 +18,17 @@ sum_seen adds y d start n k w sum inside seen same kept below is =
     kept) below
     ∙ ending_is_box adds y d start n k w below
 
+-- the end, as the observation counts it
+end_seen : (start k k' first first' : ℕ) → first ≡ first' → k' ≡ k → first + (start + k') ≡ first' + (start + k)
+end_seen start k k' first first' ef ek = ap (λ n. n + (start + k')) ef ∙ ap (λ n. first' + (start + n)) ek
+
 pub returns-then-from-end-clause-pulse : goal.returns-then-from-end-clause-pulse
 returns-then-from-end-clause-pulse c = λ y n below kept.
     let h = c.args.hit.now in
     let s = c.args.self.now in
     let early = c.if-from-end.true in
     adds_same c.args.book.now c.args.book.now [] _
-    (sym (early_box y s.search s.channels (c.args.start + c.args.k) h.delay h.width
+    (sym (early_box y s.search s.sought (c.args.start + c.args.k) h.delay h.width
     (let k = c.from.ensures in let d = c.from-2.ensures in let w = c.from-3.ensures in omega arith)))
     (adds_none c.args.book.now)
 
@@ -36,10 +40,11 @@ returns-then-sum-least-clause-pulse c = λ y n below kept.
     let is = sum_seen c.sums_add_values.ensures y h.delay c.args.start n c.args.k h.width c.kept_sum-sum.result
     c.self.inside.boxes s.boxes (ap (λ (p : PulseState). p.boxes) c.self.view_is) kept below c.kept_sum-sum.ensures in
     adds_same c.args.book.now c.add.new.self _ _
-    (ap (λ u. Pulse u h.delay h.width c.kept_sum-sum.result ∷ []) (ap (λ k. c.args.start + k) c.from.ensures)
-    ∙ reported_box c.tests_detection.ensures y s.search s.channels (c.args.start + c.args.k) h.delay h.width
+    (ap (λ u. Pulse u h.delay h.width c.kept_sum-sum.result ∷ []) (end_seen c.args.start c.args.k _ _ s.sought.first
+    (c.first.ensures ∙ ap (λ (p : PulseState). p.sought.first) c.self.view_is) c.from.ensures)
+    ∙ reported_box c.tests_detection.ensures y s.search s.sought (c.args.start + c.args.k) h.delay h.width
     c.kept_sum-sum.result h.least is c.kept_sum-sum.type_inv c.requires.hit.least c.if-sum-least.true
-    (let k = c.from.ensures in let d = c.from-2.ensures in let w = c.from-3.ensures in omega arith))
+    (let k = c.from.ensures in let d = c.from-2.ensures in let w = c.from-3.ensures in omega arith) c.requires.sought)
     c.add.ensures.list
 
 pub returns-else-sum-least-clause-pulse : goal.returns-else-sum-least-clause-pulse
@@ -49,6 +54,6 @@ returns-else-sum-least-clause-pulse c = λ y n below kept.
     let is = sum_seen c.sums_add_values.ensures y h.delay c.args.start n c.args.k h.width c.kept_sum-sum.result
     c.self.inside.boxes s.boxes (ap (λ (p : PulseState). p.boxes) c.self.view_is) kept below c.kept_sum-sum.ensures in
     adds_same c.args.book.now c.args.book.now [] _
-    (sym (missed_box c.tests_detection.ensures y s.search s.channels (c.args.start + c.args.k) h.delay h.width
+    (sym (missed_box c.tests_detection.ensures y s.search s.sought (c.args.start + c.args.k) h.delay h.width
     c.kept_sum-sum.result h.least is c.kept_sum-sum.type_inv c.requires.hit.least c.if-sum-least.false))
     (adds_none c.args.book.now)

@@ -27,7 +27,7 @@ note_hits-requires-clause-room c =
     let hits = ap (λ (p : PulseState). length p.hits) c.self.view_is in
     let first = ap (λ (p : PulseState). p.first) c.self.view_is in
     let end = ap (λ (p : PulseState). p.end) c.self.view_is in
-    let few = widths_few f.search f.channels f.first f.end f.by_width.items c.self.invariant.judges in
+    let few = widths_few f.search f.sought f.first f.end f.by_width.items c.self.invariant.judges in
     let by_width = ap (λ (xs : List BoxThresholds). length xs) c.as_slice.ensures.value in
     let len : vec_len f.hits ≡ length f.hits.items = search rules in
     let room = c.requires.room in
@@ -42,7 +42,7 @@ invariant_of-self c =
     let kept = c.keep_row.ensures.alike in
     record {
       range = i.range;
-      few_channels = i.few_channels;
+      sought = i.sought;
       few_delays = i.few_delays;
       boxes = record {
         first_row = kept.first ∙ fed.first ∙ i.boxes.first_row;
@@ -50,8 +50,8 @@ invariant_of-self c =
         widest = kept.widest ∙ fed.widest ∙ i.boxes.widest;
       };
       judges = i.judges;
-      hits = c.note_hits.ensures.hits f.search f.channels f.end
-          (subst (All (AreThresholds f.search f.channels f.first f.end))
+      hits = c.note_hits.ensures.hits f.search f.sought f.end
+          (subst (All (AreThresholds f.search f.sought f.first f.end))
           (sym c.as_slice.ensures.value) i.judges.each) i.hits;
       room = let same = c.note_hits.ensures.capacity in let room = i.room in omega (arith, same, room);
     }
@@ -60,7 +60,7 @@ pub returns-then-len-before-clause-few : goal.returns-then-len-before-clause-few
 returns-then-len-before-clause-few c =
     let f = c.self.inside in
     let hits = ap (λ (p : PulseState). length p.hits) c.self.view_is in
-    let few = widths_few f.search f.channels f.first f.end f.by_width.items c.self.invariant.judges in
+    let few = widths_few f.search f.sought f.first f.end f.by_width.items c.self.invariant.judges in
     let by_width = ap (λ (xs : List BoxThresholds). length xs) c.as_slice.ensures.value in
     let more = c.note_hits.ensures.few in
     omega (arith, hits, few, by_width, more)
@@ -71,10 +71,10 @@ returns-then-len-before-clause-hits c = λ y m k is has below.
     let s = c.args.self.now in
     let taken = taken_row y f.boxes s.boxes c.feed_boxes.new.boxes c.args.d m c.args.row.now
     (ap (λ (p : PulseState). p.boxes) c.self.view_is) is has c.feed_boxes.ensures.newest in
-    row_pulses y f.search f.channels f.first f.end (m + k) c.args.d f.hits.items c.note_hits.new.hits.items
+    row_pulses y f.search f.sought f.first f.end (m + k) c.args.d f.hits.items c.note_hits.new.hits.items
     f.by_width.items c.as_slice.result.now s c.self.invariant.judges c.as_slice.ensures.value
-    (λ all. c.note_hits.ensures.pulses f.search f.channels f.end m k y all taken below)
-    (ap (λ (p : PulseState). p.search) c.self.view_is) (ap (λ (p : PulseState). p.channels) c.self.view_is)
+    (λ all. c.note_hits.ensures.pulses f.search f.sought f.end m k y all taken below)
+    (ap (λ (p : PulseState). p.search) c.self.view_is) (ap (λ (p : PulseState). p.sought) c.self.view_is)
     (ap (λ (p : PulseState). p.hits) c.self.view_is)
 
 pub returns-else-len-before-clause-hits : goal.returns-else-len-before-clause-hits
@@ -83,10 +83,10 @@ returns-else-len-before-clause-hits c = λ y m k is has below.
     let s = c.args.self.now in
     let taken = taken_row y f.boxes s.boxes c.feed_boxes.new.boxes c.args.d m c.args.row.now
     (ap (λ (p : PulseState). p.boxes) c.self.view_is) is has c.feed_boxes.ensures.newest in
-    row_pulses y f.search f.channels f.first f.end (m + k) c.args.d f.hits.items c.note_hits.new.hits.items
+    row_pulses y f.search f.sought f.first f.end (m + k) c.args.d f.hits.items c.note_hits.new.hits.items
     f.by_width.items c.as_slice.result.now s c.self.invariant.judges c.as_slice.ensures.value
-    (λ all. c.note_hits.ensures.pulses f.search f.channels f.end m k y all taken below)
-    (ap (λ (p : PulseState). p.search) c.self.view_is) (ap (λ (p : PulseState). p.channels) c.self.view_is)
+    (λ all. c.note_hits.ensures.pulses f.search f.sought f.end m k y all taken below)
+    (ap (λ (p : PulseState). p.search) c.self.view_is) (ap (λ (p : PulseState). p.sought) c.self.view_is)
     (ap (λ (p : PulseState). p.hits) c.self.view_is)
 
 -- the hits before are those of the fields
@@ -107,7 +107,7 @@ returns-then-len-before-clause-kept c = λ y m is has before.
     (ap (λ (p : PulseState). p.boxes) c.self.view_is) is has c.feed_boxes.ensures.newest in
     let sums = sums_more y d m c.args.row.now is in
     kept_more y f.boxes c.keep_row.new.boxes m n d f.hits.items c.note_hits.new.hits.items c.note_hits.ensures.own
-    (λ j h inside. keeps_hit f.search f.channels f.first f.end f.boxes (get_or f.hits.items j h) i.boxes
+    (λ j h inside. keeps_hit f.search f.sought f.first f.end f.boxes (get_or f.hits.items j h) i.boxes
     (i.hits j h inside))
     (hits_seen y m n d _ c.args.self.now c.self.view_is before)
     (λ e keeps apart kept. c.keep_row.ensures.others e n (first_sums y e (m + n))

@@ -1,23 +1,29 @@
 use Rattle.std.proofs.Common.{◌≡◌, ℕ, List, sym, ◌∙◌, ap, subst}
 use Rattle.search_model.specs.declared.search.Search.{Search}
 use Rattle.search_model.specs.Samples.{Filterbank}
-use Rattle.search_model.specs.Candidates.{plain_cells, folds, within_delays}
+use Rattle.search_model.specs.Candidates.{folds, within_delays}
 use Rattle.shard_search.specs.FoldSearch.{KeepsFrontOf}
 use Rattle.shard_search.specs.Judging.{Adds}
+use Rattle.shard_search.specs.Sought.{Sought, CanBeSought, cells_in}
 use Rattle.shard_search.specs.Sums.{ShardState, StandsForStream, sums_of, sums_from_delay, folds_of_plan}
 use Rattle.shard_search.proofs.Adding.{adds_same}
 use Rattle.shard_search.proofs.PulseLists.{series_is}
 use Rattle.shard_search.proofs.shard.ShardSearch.end.Goals as goal
 
-same_folds : (f : Filterbank) (edges : List ℕ) (first first' end end' n n' : ℕ) (s s' : Search) → first ≡ first' →
-    end ≡ end' → n ≡ n' → s ≡ s' →
-    within_delays first end (folds f edges (plain_cells n) s)
-    ≡ within_delays first' end' (folds f edges (plain_cells n') s')
-same_folds f edges first first' end end' n n' s s' ef ee en es =
-    ap (λ a. within_delays a end (folds f edges (plain_cells n) s)) ef
-    ∙ ap (λ b. within_delays first' b (folds f edges (plain_cells n) s)) ee
-    ∙ ap (λ k. within_delays first' end' (folds f edges (plain_cells k) s)) en
-    ∙ ap (λ t. within_delays first' end' (folds f edges (plain_cells n') t)) es
+same_folds : (f : Filterbank) (edges : List ℕ) (first first' end end' : ℕ) (c c' : Sought) (s s' : Search) →
+    first ≡ first' → end ≡ end' → c ≡ c' → s ≡ s' →
+    within_delays first end (folds f edges (cells_in c) s) ≡ within_delays first' end' (folds f edges (cells_in c') s')
+same_folds f edges first first' end end' c c' s s' ef ee ec es =
+    ap (λ a. within_delays a end (folds f edges (cells_in c) s)) ef
+    ∙ ap (λ b. within_delays first' b (folds f edges (cells_in c) s)) ee
+    ∙ ap (λ (x : Sought). within_delays first' end' (folds f edges (cells_in x) s)) ec
+    ∙ ap (λ t. within_delays first' end' (folds f edges (cells_in c') t)) es
+
+pub end-requires-clause-sought : goal.end-requires-clause-sought
+end-requires-clause-sought c =
+    let fit = c.self.invariant.0 in
+    let same = fit.pulses.end_is ∙ sym fit.folds.end_is in
+    subst (λ n. CanBeSought c.sought.result.now 4096 n) same c.sought.ensures.fits
 
 pub returns-clause-folds : goal.returns-clause-folds
 returns-clause-folds c = λ f stands whole.
@@ -29,11 +35,11 @@ returns-clause-folds c = λ f stands whole.
     let all = subst W (sym c.self.view_is) whole in
     let edges = i.carry.tables.plan.edges in
     let T : ShardState → Type 0 = λ s. Adds c.args.book.now c.end.new.book
-    (folds_of_plan f s.carry.tables.plan s.pulses.search) in
+    (folds_of_plan f s.carry.tables.plan s.pulses.search s.pulses.sought) in
     subst T c.self.view_is
     (adds_same c.args.book.now c.end.new.book _ _
-    (same_folds f edges i.folds.first _ i.folds.end _ i.folds.channels _ i.folds.search i.pulses.search
-    fit.folds.first_is fit.folds.end_is fit.folds.channels_is fit.folds.search_is)
+    (same_folds f edges i.folds.first _ i.folds.end _ c.sought.result.now i.pulses.sought i.folds.search i.pulses.search
+    fit.folds.first_is fit.folds.end_is c.sought.ensures.value fit.folds.search_is)
     (c.end.ensures.folds f edges
     (λ d h. subst (KeepsFrontOf i.folds d)
     (sym (series_is f edges d ∙ ap (sums_from_delay (sums_of f edges) d) all)) (before.folds d h))))

@@ -6,5 +6,5 @@ use Rattle.shard_search.proofs.thresholds.BoxThresholds.open.Given as goal
 abbrev pub invariant-loop-d : goal.invariant-loop-d
 invariant-loop-d l = record {
   count : length l.least_sums.items ≡ l.d - l.first;
-  least_sums : AreLeastSums l.search l.channels l.first l.width l.least_sums.items;
+  least_sums : AreLeastSums l.search l.sought l.first l.width l.least_sums.items;
 }

@@ -26,8 +26,8 @@ loop-width-preserved c =
             widths = ap (λ xs. map (λ (l : BoxThresholds). l.width) xs) items ∙ widths_more p box_widths
                 c.loop-width.by_width.items w.in_ok-thresholds.thresholds i inside before.widths
                 w.in_ok-thresholds.ensures.width (le-leb _ _ w.if-width-search.true);
-            each = subst (λ xs. All (AreThresholds a.search.now a.channels a.first a.end) xs) (sym items)
-                (All-push (AreThresholds a.search.now a.channels a.first a.end)
+            each = subst (λ xs. All (AreThresholds a.search.now a.sought.now a.first a.end) xs) (sym items)
+                (All-push (AreThresholds a.search.now a.sought.now a.first a.end)
                 c.loop-width.by_width.items w.in_ok-thresholds.thresholds
                 before.each w.in_ok-thresholds.ensures.thresholds);
           }
@@ -36,6 +36,6 @@ loop-width-preserved c =
           record {
             widths = ap (λ xs. map (λ (l : BoxThresholds). l.width) xs) items ∙ widths_same p box_widths _ i inside
                 before.widths (is_above _ _ w.if-width-search.false);
-            each = subst (λ xs. All (AreThresholds a.search.now a.channels a.first a.end) xs) (sym items) before.each;
+            each = subst (λ xs. All (AreThresholds a.search.now a.sought.now a.first a.end) xs) (sym items) before.each;
           }
     ]

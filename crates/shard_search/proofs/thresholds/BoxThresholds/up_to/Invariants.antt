@@ -9,5 +9,5 @@ abbrev pub invariant-loop-width : goal.invariant-loop-width
 invariant-loop-width l = record {
   widths : map (λ thresholds. thresholds.width) l.by_width.items
       ≡ filter (λ w. nat_le w l.search.widest) (take l.width-index box_widths);
-  each : All (AreThresholds l.search l.channels l.first l.end) l.by_width.items;
+  each : All (AreThresholds l.search l.sought l.first l.end) l.by_width.items;
 }

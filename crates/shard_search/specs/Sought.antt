@@ -1,0 +1,77 @@
+-- What is sought in the rows of a shard.
+-- Source: this project's choice.
+use Rattle.std.specs.Prelude.{◌≡◌, ℕ, ◌+◌, ◌^◌, ◌≤◌, ◌<◌, ◌&&◌, Bool, true, false, List, Option, Some, None, map, filter, slice_index, nat_le, nat_lt}
+use Rattle.search_model.specs.declared.candidate.Candidate.{Candidate}
+use Rattle.search_model.specs.declared.candidate.Candidate.TheVariants.{Pulse, Fold}
+use Rattle.search_model.specs.Candidates.{plain_cells}
+use Rattle.search_model.specs.Parts.{later}
+
+-- the cells that path sums add up: all of each path over so many channels; or as many as were counted, by delay from 0
+-- on, and none past the last of these
+pub data CellCounts : Type 0 where
+  Plain : ℕ → CellCounts
+  Counted : List ℕ → CellCounts
+
+-- how many a path sum of each delay adds up
+abbrev pub cells_by : CellCounts → ℕ → ℕ
+cells_by (Plain n) = plain_cells n
+cells_by (Counted counts) = λ d. slice_index counts d
+
+-- How many cells path sums add up; with which spectrum of the observation the rows begin; and which ends are searched,
+-- as the observation counts them: those from `place` on and, where there is a limit, before it.
+pub record Sought : Type 0 where
+  pub counts : CellCounts
+  pub first : ℕ
+  pub place : ℕ
+  pub until : Option ℕ
+
+-- how many cells a path sum of each delay adds up
+abbrev pub cells_in : Sought → ℕ → ℕ
+cells_in c = cells_by c.counts
+
+-- all ends, over a whole band of n channels
+abbrev pub whole_of : ℕ → Sought
+whole_of n = record { counts = Plain n; first = 0; place = 0; until = None }
+
+-- all ends, where a path sum of each delay adds up so many cells
+abbrev pub counted_of : List ℕ → Sought
+counted_of counts =
+    record { counts = Counted counts; first = 0; place = 0; until = None }
+
+-- the ends from `place` until `until`, over a whole band of n channels, in rows that begin with spectrum `first`
+abbrev pub part_of : ℕ → ℕ → ℕ → ℕ → Sought
+part_of n first place until =
+    record { counts = Plain n; first = first; place = place; until = Some until }
+
+-- whether a spectrum comes before a limit, where there is one
+abbrev pub is_before : Option ℕ → ℕ → Bool
+is_before None spectrum = true
+is_before (Some limit) spectrum = nat_lt spectrum limit
+
+-- whether a pulse that ends at spectrum u of the rows is sought
+abbrev pub is_sought_end : Sought → ℕ → Bool
+is_sought_end c u = nat_le c.place (c.first + u) && is_before c.until (c.first + u)
+
+-- whether a candidate of the rows is sought; each fold is
+abbrev pub is_sought : Sought → Candidate → Bool
+is_sought c (Pulse end _ _ _) = is_sought_end c end
+is_sought c (Fold _ _ _ _ _ _) = true
+
+-- the candidates of the rows that are sought, with their ends as the observation counts them
+abbrev pub sought_of : Sought → List Candidate → List Candidate
+sought_of c list = map (later c.first) (filter (is_sought c) list)
+
+-- This can be sought in the rows of the delays below `end`: their path sums add up no more cells than there are over
+-- so many channels, and the rows begin so early that their ends can be counted.
+pub record CanBeSought (c : Sought) (channels end : ℕ) : Type 0 where
+  pub cells : (d : ℕ) → d < end → cells_in c d ≤ channels + d
+  pub early : c.first ≤ 2 ^ 61
+
+-- of so many spectra, from spectrum `start` of the rows on, those from number `from` on and before number `to` are ends
+-- that are sought
+pub record AreSoughtEnds (c : Sought) (start spectra from to : ℕ) : Type 0 where
+  pub order : from ≤ to
+  pub most : to ≤ spectra
+  pub before : (k : ℕ) → k < from → is_sought_end c (start + k) ≡ false
+  pub within : (k : ℕ) → from ≤ k → k < to → is_sought_end c (start + k) ≡ true
+  pub past : (k : ℕ) → to ≤ k → k < spectra → is_sought_end c (start + k) ≡ false

@@ -1,0 +1,134 @@
+// What is sought in the rows of a shard.
+ghost use Rattle.std.specs.Prelude.{◌≡◌, ℕ, ◌+◌, ◌^◌, ◌≤◌, ◌<◌, true, false, Option, slice_index};
+ghost use Rattle.shard_search.specs.Sought.{whole_of, counted_of, part_of, cells_in, is_before, AreSoughtEnds};
+
+use std::marker::Model;
+
+/// How many cells a path sum of each delay adds up: all of its path over so many channels, or as many as were counted
+/// for each delay from 0 on, and none past the last of these.
+#[derive(Drop)]
+pub(crate) enum Cells {
+    Plain(u32),
+    Counted(Vec<u32>),
+}
+
+/// What is sought in the rows of a shard: how many cells a path sum of each delay adds up, and which ends of pulses. They
+/// count from the first spectrum of the observation, also where the rows begin with a later one.
+#[derive(Drop)]
+pub struct Sought {
+    cells: Cells,
+    first: u64,
+    place: u64,
+    until: Option<u64>,
+}
+
+/// Numbers of some spectra: those from the first on and before the second.
+#[derive(Clone, Copy)]
+pub(crate) struct Ends {
+    pub(crate) from: u32,
+    pub(crate) to: u32,
+}
+
+impl Model for Sought {
+    ghost use Rattle.shard_search.specs.Cells.{counts_of};
+    ghost use Rattle.shard_search.specs.Sought.{Sought as Described};
+
+    ghost Value = { Described };
+
+    ghost view = { λ s. record {
+      counts = counts_of s.cells;
+      first = s.first;
+      place = s.place;
+      until = s.until;
+    } };
+}
+
+impl Sought {
+    /// All ends, over all of so many channels.
+    pub fn whole(channels: u32) -> Sought
+        ensures { result ≡ whole_of channels }
+    {
+        Sought {
+            cells: Cells::Plain(channels),
+            first: 0,
+            place: 0,
+            until: None,
+        }
+    }
+
+    /// All ends, where a path sum of each delay, from 0 on, adds up so many cells.
+    pub fn counted(counts: Vec<u32>) -> Sought
+        ensures { result ≡ counted_of counts.items }
+    {
+        Sought {
+            cells: Cells::Counted(counts),
+            first: 0,
+            place: 0,
+            until: None,
+        }
+    }
+
+    /// The ends from spectrum `place` of the observation up to, but without, spectrum `until`, over all of so many
+    /// channels; the rows begin with spectrum `first`.
+    pub fn of_part(channels: u32, first: u64, place: u64, until: u64) -> Sought
+        ensures { result ≡ part_of channels first place until }
+    {
+        Sought {
+            cells: Cells::Plain(channels),
+            first,
+            place,
+            until: Some(until),
+        }
+    }
+
+    /// How many cells a path sum of a delay adds up.
+    pub(crate) fn cells(&self, delay: u32) -> u32
+        requires { cells_in self.now delay < 2 ^ 32 }
+        ensures { result ≡ cells_in self.now delay }
+    {
+        match &self.cells {
+            Cells::Plain(channels) => *channels + delay,
+            Cells::Counted(counts) => count_at(counts.as_slice(), delay),
+        }
+    }
+
+    /// With which spectrum of the observation the rows begin.
+    pub(crate) fn first(&self) -> u64
+        ensures { result ≡ self.now.first }
+    {
+        self.first
+    }
+
+    /// Which of so many spectra, from spectrum `start` of the rows on, are ends that are sought.
+    pub(crate) fn ends(&self, start: u64, spectra: u32) -> Ends
+        requires { self.now.first + start < 2 ^ 63 }
+        ensures { AreSoughtEnds self.now start spectra result.from result.to }
+    {
+        let start = self.first + start;
+        let to = spectra_before(self.until, start, spectra);
+        let from = spectra_before(Some(self.place), start, spectra).min(to);
+        Ends { from, to }
+    }
+}
+
+// The count of a delay, 0 past the last.
+fn count_at(counts: &[u32], delay: u32) -> u32
+    ensures { result ≡ slice_index counts.now delay }
+{
+    match counts.get(delay as usize) {
+        Some(count) => *count,
+        None => 0,
+    }
+}
+
+// How many of so many spectra, from spectrum `start` on, come before a limit, where there is one.
+fn spectra_before(limit: Option<u64>, start: u64, spectra: u32) -> u32
+    ensures most { result ≤ spectra }
+    ensures before { (k : ℕ) → k < result → is_before limit (start + k) ≡ true }
+    ensures past { (k : ℕ) → result ≤ k → k < spectra → is_before limit (start + k) ≡ false }
+{
+    match limit {
+        Some(limit) => limit.saturating_sub(start).min(u64::from(spectra)) as u32,
+        None => spectra,
+    }
+}
