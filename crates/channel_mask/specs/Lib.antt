@@ -1,4 +1,5 @@
 pub mod Texts
+pub mod TextLaws
 pub mod Fronts
 pub mod FrontLaws
 pub mod Masks

@@ -2,7 +2,9 @@
 ghost use Rattle.std.specs.Prelude.{◌≡◌, true, false, IfNone, IfSome};
 ghost use Rattle.channel_mask.specs.Texts.{is_mask_text};
 ghost use Rattle.channel_mask.specs.Fronts.{StopsAt, one_digit_more, after_number as after_number_of, after_digits as after_digits_of, after_letters as after_letters_of, with_byte as with_byte_of, is_whole as is_whole_of};
-ghost use Rattle.channel_mask.specs.FrontLaws.{FrontsAreRead};
+
+// A law: it does nothing when it runs, and the proofs use what it ensures.
+use crate::laws::fronts_are_read;
 
 // The text of the mask of no channels.
 const NONE: &[u8; 4] = b"none";
@@ -100,11 +102,6 @@ impl Front {
         }
     }
 }
-
-/// Read byte by byte, a text stops where it stops being the front of a mask text.
-pub fn fronts_are_read()
-    ensures { FrontsAreRead }
-{}
 
 /// The place of the first byte with which a text stops being the front of a mask text, or its length; and nothing where
 /// it is a mask text.

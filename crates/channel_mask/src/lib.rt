@@ -5,9 +5,10 @@
 mod cells;
 mod fault;
 mod front;
+mod laws;
 mod mask;
 mod ranges;
 
 pub use fault::MaskFault;
-pub use front::fronts_are_read;
+pub use laws::{fronts_are_read, masks_are_spelled};
 pub use mask::Mask;

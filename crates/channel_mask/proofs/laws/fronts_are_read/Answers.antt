@@ -1,5 +1,5 @@
 use Rattle.channel_mask.proofs.FrontReads.{stops, whole}
-use Rattle.channel_mask.proofs.front.fronts_are_read.Goals as goal
+use Rattle.channel_mask.proofs.laws.fronts_are_read.Goals as goal
 
 pub returns : goal.returns
 returns c = record { stops = stops; whole = whole }
