@@ -1,2 +1,3 @@
 mod Rising
 mod Placed
+mod Found

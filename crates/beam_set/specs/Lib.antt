@@ -4,3 +4,4 @@ pub mod Searched
 pub mod Ends
 pub mod Beams
 pub mod Worked
+pub mod Laws

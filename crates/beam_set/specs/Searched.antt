@@ -14,6 +14,6 @@ found_by o s bytes = record {
 }
 
 -- the text of the search of all beams of an observation
-abbrev pub searched_text : Observation → Search → ℕ → ℕ → List (List ℕ) → List ℕ
-searched_text o s within more beams =
+abbrev pub searched_beams_text : Observation → Search → ℕ → ℕ → List (List ℕ) → List ℕ
+searched_beams_text o s within more beams =
     beams_text (labels_of o) within more (map (found_by o s) beams)

@@ -8,7 +8,7 @@ use Rattle.search_model.specs.declared.search.Search.{Search}
 use Rattle.search_model.specs.Paths.{entry, path}
 use Rattle.beam_set.specs.Marks.{near_beams}
 use Rattle.beam_set.specs.Text.{beam_line}
-use Rattle.beam_set.specs.Searched.{searched_text}
+use Rattle.beam_set.specs.Searched.{searched_beams_text}
 
 abbrev plain_search : Search
 plain_search = record {
@@ -38,7 +38,7 @@ abbrev nothing : List ℕ
 nothing = 0 ∷ 0 ∷ 0 ∷ 0 ∷ 0 ∷ 0 ∷ []
 
 abbrev text_of : ℕ → ℕ → List (List ℕ) → List ℕ
-text_of within more beams = searched_text two_channels plain_search within more beams
+text_of within more beams = searched_beams_text two_channels plain_search within more beams
 
 -- two of three beams have the pulse, and one is the most
 marked : text_of 0 1 (pulse ∷ pulse ∷ nothing ∷ [])

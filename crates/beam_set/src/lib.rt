@@ -3,11 +3,13 @@
 
 mod ended;
 mod labels;
+mod laws;
 mod marks;
 mod near;
 mod texts;
 
 pub use candidate_book::SinkStop;
 pub use ended::BeamEnd;
+pub use laws::searched_beams_are_found;
 pub use marks::marked;
 pub use texts::write_beams;
