@@ -95,14 +95,16 @@ items_there (item ∷ items) are =
 items_are : (items : List (List ℕ)) → All SpellsItem items → list_all is_item items ≡ true
 items_are [] are = refl
 items_are (item ∷ items) are =
-    and_from _ _ (item_is item (All-head SpellsItem item items are)) (items_are items (All-tail SpellsItem item items are))
+    and_from _ _ (item_is item (All-head SpellsItem item items are))
+    (items_are items (All-tail SpellsItem item items are))
 
 split_again : (items : List (List ℕ)) → 0 < length items → All SpellsItem items →
     slice_split is_comma (join_with_byte 44 items) ≡ items
 split_again [] some are = absurd (omega arith)
 split_again (item ∷ []) some are = slice_split_none is_comma item (no_comma item (All-head SpellsItem item [] are))
 split_again (item ∷ next ∷ more) some are =
-    slice_split_at is_comma item 44 (join_with_byte 44 (next ∷ more)) (no_comma item (All-head SpellsItem item (next ∷ more) are)) refl
+    slice_split_at is_comma item 44 (join_with_byte 44 (next ∷ more))
+    (no_comma item (All-head SpellsItem item (next ∷ more) are)) refl
     ∙ ap (λ items. item ∷ items) (split_again (next ∷ more) (omega arith) (All-tail SpellsItem item (next ∷ more) are))
 
 spelled_there : (text : List ℕ) (none : Bool) → bytes_eq text (codes "none") ≡ none →
@@ -119,7 +121,8 @@ spelled_is : (text : List ℕ) (none : Bool) → SpellsItems text →
     list_all is_item (cond none [] (slice_split is_comma text)) ≡ true
 spelled_is text true spelled = refl
 spelled_is text false spelled =
-    ap (list_all is_item) (ap (slice_split is_comma) spelled.joined ∙ split_again spelled.items spelled.some spelled.each)
+    ap (list_all is_item)
+    (ap (slice_split is_comma) spelled.joined ∙ split_again spelled.items spelled.some spelled.each)
     ∙ items_are spelled.items spelled.each
 
 pub spelled : MasksAreSpelled

@@ -2,6 +2,7 @@
 use Rattle.std.specs.Prelude.{◌≡◌, true, false, [], ◌∷◌, map, Some, None, codes, refl}
 use Rattle.channel_mask.specs.Texts.{is_mask_text, names_channel, numbers_in, first_outside}
 use Rattle.channel_mask.specs.Fronts.{stop_of}
+use Rattle.channel_mask.specs.Masks.{place_in_file}
 
 -- where texts stop being the front of a mask text: another letter of `none`, or more than it
 stops_in_none : map stop_of (codes "nope" ∷ codes "nonex" ∷ codes "none,1" ∷ codes "1,none" ∷ []) ≡ 2 ∷ 4 ∷ 4 ∷ 2 ∷ []
@@ -35,3 +36,10 @@ named = refl
 
 nothing_named : map (names_channel (codes "none")) (0 ∷ 1 ∷ []) ≡ false ∷ false ∷ []
 nothing_named = refl
+
+-- where the channels of a falling band and of a rising one stand in the file, from the highest frequency down
+falling : map (place_in_file 4 true) (0 ∷ 1 ∷ 2 ∷ 3 ∷ []) ≡ 0 ∷ 1 ∷ 2 ∷ 3 ∷ []
+falling = refl
+
+rising : map (place_in_file 4 false) (0 ∷ 1 ∷ 2 ∷ 3 ∷ []) ≡ 3 ∷ 2 ∷ 1 ∷ 0 ∷ []
+rising = refl

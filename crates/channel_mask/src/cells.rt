@@ -85,7 +85,7 @@ fn counts(alloc: Global, edges: &[u32], masked: &[bool], max_delay: u32) -> Resu
 
 impl Mask {
     /// How many cells the path of each delay from 0 to `max_delay` has in channels that are kept. They are counted by
-    /// the dispersion transform itself, over as many spectra as the longest delay.
+    /// the dispersion transform itself, over spectra that are 1 in these channels and 0 in all others.
     pub fn count_cells(
         &self,
         alloc: Global,

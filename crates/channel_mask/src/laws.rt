@@ -1,5 +1,5 @@
-// Laws of mask texts, which the contracts of functions that do nothing carry. A caller whose proof needs a law calls its
-// function.
+// Laws of mask texts, which the contracts of functions that do nothing carry. A caller whose proof needs a law calls
+// its function.
 ghost use Rattle.channel_mask.specs.FrontLaws.{FrontsAreRead};
 ghost use Rattle.channel_mask.specs.TextLaws.{MasksAreSpelled};
 

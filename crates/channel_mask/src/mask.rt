@@ -1,5 +1,5 @@
 // The mask of an observation.
-ghost use Rattle.std.specs.Prelude.{◌≡◌, ◌-◌, ◌<◌, Bool, List, length, map, IfErr, IfOk};
+ghost use Rattle.std.specs.Prelude.{◌≡◌, ◌<◌, Bool, List, length, map, IfErr, IfOk};
 ghost use Rattle.std.specs.List.{list_all, range_with_len};
 ghost use Rattle.channel_mask.specs.Masks.{place_in_file as place_of_channel, is_masked, IsMaskOf, ExplainsMask};
 ghost use Rattle.channel_mask.specs.Ranges.{mark_of};
@@ -48,7 +48,8 @@ impl Mask {
         Ok(Mask { masked })
     }
 
-    /// Whether channel `c` is masked, counted from the highest frequency.
+    /// Whether channel `c` is masked, counted from the highest frequency. Where the band rises, that is the channel of
+    /// the file with as many behind it.
     pub fn masked(&self, c: u32) -> bool
         requires { c < length self.now }
         ensures { result ≡ is_masked self.now c }
