@@ -1,5 +1,5 @@
 -- What an engine holds after bytes were pushed, and after its spectra were searched.
-use Rattle.std.proofs.Common.{◌≡◌, ℕ, ◌+◌, ◌-◌, ◌*◌, ◌^◌, ◌<◌, ◌≤◌, ◌++◌, All, Bool, List, length, min, take, length-take-le, slice_index, sym, ◌∙◌, ap, subst, arith, length-append}
+use Rattle.std.proofs.Common.{◌≡◌, ℕ, ◌+◌, ◌-◌, ◌*◌, ◌^◌, ◌<◌, ◌≤◌, ◌++◌, All, Bool, List, length, min, take, length-take-le, slice_index, refl, sym, ◌∙◌, ap, subst, arith, length-append}
 use Rattle.std.proofs.Math.Nat.{mul-le-mul_left}
 use Rattle.std.proofs.lemmas.List.Elements.{All-append, All-take}
 use Rattle.band_paths.specs.Edges.{channels_of}
@@ -14,14 +14,14 @@ use Rattle.search_model.specs.SampleLaws.{SamplesOfBytes}
 use Rattle.search_model.specs.Samples.{Filterbank, filterbank, samples_of}
 use Rattle.spectra_rows.specs.Unpacking.{OpenedAlike, Unpacking, StandsForBytes, spectrum_bytes, unpacked}
 use Rattle.subband_plan.specs.Nodes.{BandPlan}
-use Rattle.search_engine.specs.Engine.{EngineState, Searches, HoldsData, BeginsWith, most_fed}
-use Rattle.search_engine.specs.Scope.{kept_by, kept_samples}
+use Rattle.search_engine.specs.Engine.{EngineState, EngineIsSound, Searches, HoldsData, HasTakenChunks, BeginsWith, most_fed}
+use Rattle.search_engine.specs.Scope.{kept_by, kept_samples, spectrum_size}
 use Rattle.shard_search.specs.Sums.{ShardState, StandsForStream, ContinuesStream, SumsAlike}
 use Rattle.search_engine.proofs.Data.{begins_before, data_begin}
-use Rattle.search_engine.proofs.Sizes.{size_of, size_some, whole_are, given_fit, held_fit}
+use Rattle.search_engine.proofs.Sizes.{size_some, whole_are, given_fit, held_fit}
 
 -- the unpacker's spectra are those of the observation
-pub size_is : (o : Observation) (e : EngineState) → Searches o e → spectrum_bytes e.unpacker ≡ size_of o
+pub size_is : (o : Observation) (e : EngineState) → Searches o e → spectrum_bytes e.unpacker ≡ spectrum_size o
 size_is o e s =
     let a = s.channels in
     let b = s.nbit in
@@ -83,6 +83,49 @@ searches_with o e u fed s alike = record {
   search = s.search;
 }
 
+-- ---- bytes are passed over
+
+-- that more bytes were fed changes nothing
+more_holds : (o : Observation) (taken : List ℕ) (e : EngineState) (n : ℕ) → HoldsData o taken e →
+    e.fed + n ≤ most_fed → HoldsData o taken (record e { fed = e.fed + n })
+more_holds o taken e n holds most =
+    let few = holds.few in
+    record {
+      searches = searches_with o e e.unpacker (e.fed + n) holds.searches (record {
+        channels = refl;
+        is_falling = refl;
+        nbit = refl;
+        npol = refl;
+        chunk = refl;
+        in_bytes = refl;
+      });
+      numbers = holds.numbers;
+      few = omega (arith, few);
+      most = most;
+      held = holds.held;
+      sums = holds.sums;
+    }
+
+pub more_taken : (o : Observation) (taken : List ℕ) (e : EngineState) (n : ℕ) → HasTakenChunks o taken e →
+    e.fed + n ≤ most_fed → HasTakenChunks o taken (record e { fed = e.fed + n })
+more_taken o taken e n has most = record {
+  taken = record { holds = more_holds o taken e n has.taken.holds most; part = has.taken.part };
+  chunks = has.chunks;
+  book = has.book;
+}
+
+pub more_sound : (e : EngineState) (n : ℕ) → EngineIsSound e → e.fed + n ≤ most_fed →
+    EngineIsSound (record e { fed = e.fed + n })
+more_sound e n sound most = record {
+  observation = sound.observation;
+  bytes = sound.bytes;
+  taken = record {
+    holds = more_holds sound.observation sound.bytes e n sound.taken.holds most;
+    part = sound.taken.part;
+  };
+  room = sound.room;
+}
+
 -- ---- bytes are pushed
 
 pub pushed_holds : SamplesOfBytes → (o : Observation) (before piece : List ℕ) (e : EngineState) (u : Unpacking)
@@ -96,12 +139,12 @@ pushed_holds law o before piece e u n holds alike long pieces numbers most =
     let size = size_is o e s in
     let P : ℕ → Type 0 = λ k. e.sums.carry.fed * k ≤ length before in
     let whole = whole_are o s.bounds before e.sums.carry.fed (subst P size gone) in
-    let count = holds.count in
+    let count = holds.few in
     let both = length-append before piece in
     record {
       searches = searches_with o e u (e.fed + n) s alike;
       numbers = All-append (λ byte. byte < 256) before piece holds.numbers numbers;
-      count = omega (arith, count, both, long);
+      few = omega (arith, count, both, long);
       most = most;
       held = pieces holds.held;
       sums = λ f begins. holds.sums f (begins_before law o e.masked before piece e.sums.carry.fed e.sums.carry.fed f s.bounds
@@ -185,7 +228,7 @@ few_spectra o bytes e r holds few =
     let fits = held_fit e.unpacker bytes e.sums.carry.fed holds.held in
     let some = size_some o s.bounds in
     let size = size_is o e s in
-    let count = holds.count in
+    let count = holds.few in
     let most = holds.most in
     let all : ℕ = e.sums.carry.fed + e.unpacker.whole in
     let twice : all * 2 ≤ all * spectrum_bytes e.unpacker =
@@ -225,7 +268,7 @@ searched_holds o bytes rows e u t b h r holds is_alike whole given alike fed sam
         search = alike.search ∙ s.search;
       };
       numbers = holds.numbers;
-      count = holds.count;
+      few = holds.few;
       most = holds.most;
       held = subst P total (given holds.held);
       sums = λ f begins.

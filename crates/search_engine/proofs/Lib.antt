@@ -6,5 +6,6 @@ pub mod PlanFits
 pub mod Searched
 pub mod Silenced
 pub mod Sizes
+pub mod Slices
 pub mod Whole
 pub mod WholeChunks

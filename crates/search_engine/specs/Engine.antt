@@ -1,24 +1,24 @@
 -- What contracts see of an engine, and the data bytes that it stands for.
 -- Source: this project's choice.
-use Rattle.std.specs.Prelude.{◌≡◌, ℕ, ◌+◌, ◌-◌, ◌*◌, ◌%◌, ◌^◌, ◌≤◌, ◌<◌, All, Bool, true, false, List, None, length, min}
+use Rattle.std.specs.Prelude.{◌≡◌, ℕ, ◌+◌, ◌-◌, ◌*◌, ◌/◌, ◌%◌, ◌^◌, ◌≤◌, ◌<◌, All, Bool, true, false, List, Option, None, length, min}
 use Rattle.dada_model.specs.Bounds.{ObservationInRange}
 use Rattle.dada_model.specs.Observation.{Observation, edges, max_sample}
 use Rattle.search_model.specs.declared.search.Search.{Search}
 use Rattle.search_model.specs.Samples.{Filterbank}
 use Rattle.search_model.specs.Search.{SettingsInRange, shard_start}
-use Rattle.search_model.specs.Candidates.{shard_part}
+use Rattle.search_model.specs.Candidates.{candidates, shard_part}
 use Rattle.search_model.specs.Observed.{filterbank_of, candidates_of}
 use Rattle.search_model.specs.Plan.{plan_refusal}
 use Rattle.candidate_book.specs.Book.{BookContents, book_of}
-use Rattle.spectra_rows.specs.Unpacking.{Unpacking, StandsForBytes, unpacking_of}
+use Rattle.spectra_rows.specs.Unpacking.{Unpacking, StandsForBytes, spectrum_bytes, unpacking_of}
 use Rattle.subband_plan.specs.Plans.{band_plan}
 use Rattle.fdmt_carry.specs.Carrying as carry
 use Rattle.fdmt_carry.specs.Carrying.{IsStream}
 use Rattle.shard_search.specs.Counts.{most_pulses_at_end, most_tables}
 use Rattle.shard_search.specs.Pulses.{pulses_of_ends}
-use Rattle.shard_search.specs.Sought.{Sought}
+use Rattle.shard_search.specs.Sought.{Sought, cells_in, sought_of}
 use Rattle.shard_search.specs.Sums.{ShardState, StandsForStream, sums_of}
-use Rattle.search_engine.specs.Scope.{Scope, candidates_in, kept_samples, searched, whole_scope}
+use Rattle.search_engine.specs.Scope.{Scope, bytes_in, candidates_in, kept_samples, limit_in_bytes, searched, whole_scope}
 
 -- The search of one shard: which channels are masked, how many bytes it was fed, and whether it ended; what stands
 -- behind.
@@ -35,6 +35,18 @@ pub record EngineState : Type 0 where
 -- what of an observation is searched
 abbrev pub scope_of : EngineState → Scope
 scope_of e = record { masked = e.masked; sought = e.sums.pulses.sought }
+
+-- how many whole spectra the bytes are that it was fed
+abbrev pub spectra_fed : EngineState → ℕ
+spectra_fed e = e.fed / spectrum_bytes e.unpacker
+
+-- the sizes in bytes that an engine keeps
+pub record KnowsSizes
+    (chunk spectrum skipped : ℕ) (stop : Option ℕ) (u : Unpacking) (c : Sought) : Type 0 where
+  pub chunk_is : chunk ≡ u.chunk
+  pub spectrum_is : spectrum ≡ spectrum_bytes u
+  pub skipped_is : skipped ≡ c.first * spectrum_bytes u
+  pub stop_is : stop ≡ limit_in_bytes (spectrum_bytes u) c.until
 
 -- the most bytes that an engine is fed
 abbrev pub most_fed : ℕ
@@ -69,11 +81,11 @@ pub record Searches (o : Observation) (e : EngineState) : Type 0 where
   pub max_sample : e.sums.carry.max_sample ≡ max_sample o
   pub search : e.sums.pulses.search ≡ e.search
 
--- its parts were fed these data bytes
+-- its parts took these data bytes, which are some of those that it was fed
 pub record HoldsData (o : Observation) (bytes : List ℕ) (e : EngineState) : Type 0 where
   pub searches : Searches o e
   pub numbers : All (λ byte. byte < 256) bytes
-  pub count : length bytes ≡ e.fed
+  pub few : length bytes ≤ e.fed
   pub most : e.fed ≤ most_fed
   pub held : StandsForBytes e.unpacker bytes e.sums.carry.fed
   pub sums : (f : Filterbank) → BeginsWith o (kept_samples o e.masked bytes) e.sums.carry.fed f
@@ -84,9 +96,8 @@ pub record HasTaken (o : Observation) (bytes : List ℕ) (e : EngineState) : Typ
   pub holds : HoldsData o bytes e
   pub part : e.unpacker.whole < e.unpacker.chunk
 
--- the engine was fed these data bytes of an observation: of what is searched of them whole chunks were, and its book has
--- the pulses that end at these spectra
-pub record StandsForPart (o : Observation) (bytes : List ℕ) (e : EngineState) : Type 0 where
+-- so that whole chunks of them were searched, and its book has the pulses that end at these spectra
+pub record HasTakenChunks (o : Observation) (bytes : List ℕ) (e : EngineState) : Type 0 where
   pub taken : HasTaken o bytes e
   pub chunks : e.sums.carry.fed % chunk_of e.search ≡ 0
   pub book : (f : Filterbank) → BeginsWith o (kept_samples o e.masked bytes) e.sums.carry.fed f
@@ -94,12 +105,18 @@ pub record StandsForPart (o : Observation) (bytes : List ℕ) (e : EngineState) 
       (pulses_of_ends (sums_of f (edges o)) e.search e.sums.pulses.sought
       (shard_start e.search e.shard) (shard_start e.search (e.shard + 1)) 0 e.sums.carry.fed)
 
+-- the engine was fed these data bytes of an observation, and took those that it is to search
+pub record StandsForPart (o : Observation) (bytes : List ℕ) (e : EngineState) : Type 0 where
+  pub numbers : All (λ byte. byte < 256) bytes
+  pub count : length bytes ≡ e.fed
+  pub chunks : HasTakenChunks o (bytes_in o e.sums.pulses.sought bytes) e
+
 -- the same, where all of the observation is searched
 pub record StandsForData (o : Observation) (bytes : List ℕ) (e : EngineState) : Type 0 where
   pub part : StandsForPart o bytes e
   pub whole : scope_of e ≡ whole_scope o.channels
 
--- what always holds: there are bytes that it was fed; and as long as it has not ended, its book has room for more
+-- what always holds: there are bytes that it took; and as long as it has not ended, its book has room for more
 pub record EngineIsSound (e : EngineState) : Type 0 where
   pub observation : Observation
   pub bytes : List ℕ
@@ -132,7 +149,8 @@ pub record HasSearched (o : Observation) (bytes : List ℕ) (e : EngineState) : 
   pub last : e.sums.carry.last
       ≡ min ((filterbank_of o bytes).spectra % chunk_of e.search) most_tables
 
--- The same of what lies in a scope: its book has the shard's part of the candidates that are sought there.
+-- The same of what lies in a scope: its book has the shard's part of the candidates that are sought there. That is the
+-- same for all streams that begin with these samples. And how many whole spectra there are in all.
 pub record HasFoundIn (o : Observation) (c : Scope) (bytes : List ℕ) (e : EngineState)
     : Type 0 where
   pub book : e.book ≡ book_of e.search.max_candidates
@@ -143,6 +161,11 @@ pub record HasFoundIn (o : Observation) (c : Scope) (bytes : List ℕ) (e : Engi
   pub carry : carry.StandsForSamples e.sums.carry (searched o c bytes)
   pub tables : e.sums.carry.has_tables ≡ true
   pub last : e.sums.carry.last ≡ min ((searched o c bytes).spectra % chunk_of e.search) most_tables
+  pub all : spectra_fed e ≡ (filterbank_of o bytes).spectra
+  pub alike : (f : Filterbank) → BeginsWith o (searched o c bytes) e.sums.carry.fed f
+      → f.spectra ≡ e.sums.carry.fed
+      → e.book ≡ book_of e.search.max_candidates (shard_part e.search e.shard
+      (sought_of c.sought (candidates f (edges o) (cells_in c.sought) e.search)))
 
 -- the engine has searched what it is to search in these data bytes
 abbrev pub HasFoundPart : Observation → List ℕ → EngineState → Type 0

@@ -1,13 +1,14 @@
 // The engine: data bytes in, candidates out.
-ghost use Rattle.std.specs.Prelude.{◌≡◌, ℕ, ◌+◌, ◌-◌, ◌*◌, ◌/◌, ◌≤◌, ◌<◌, ◌++◌, [], true, false, None, OnOk, IfOk, IfErr, List, length, take};
+ghost use Rattle.std.specs.Prelude.{◌≡◌, ℕ, ◌+◌, ◌-◌, ◌*◌, ◌/◌, ◌^◌, ◌≤◌, ◌<◌, ◌++◌, [], true, false, None, OnOk, IfOk, IfErr, IfSome, List, length, take};
 ghost use Rattle.dada_model.specs.Observation.{Observation as Described};
 ghost use Rattle.search_model.specs.Search.{SettingsInRange, shard_start as shard_start_of};
 ghost use Rattle.search_model.specs.Plan.{plan_refusal};
 ghost use Rattle.search_engine.specs.Plan.{Explains};
 ghost use Rattle.row_schedule.specs.Samples.{values_of};
 ghost use Rattle.spectra_rows.specs.Unpacking.{StandsForBytes};
-ghost use Rattle.search_engine.specs.Engine.{EngineState, EngineIsSound, IsOpenedSums, StandsForData, StandsForPart, HasSearched, HasFoundPart, IsOpenedEngine, IsOpenedUnpacker, SameShard, most_fed, scope_of};
-ghost use Rattle.search_engine.specs.Scope.{FitsObservation, marks_of};
+ghost use Rattle.search_engine.specs.Engine.{EngineState, EngineIsSound, IsOpenedSums, StandsForData, StandsForPart, HasTakenChunks, KnowsSizes, HasSearched, HasFoundPart, IsOpenedEngine, IsOpenedUnpacker, SameShard, most_fed, scope_of, spectra_fed};
+ghost use Rattle.search_engine.specs.Scope.{FitsObservation, marks_of, count_before as count_before_of, limit_in_bytes as limit_in_bytes_of, spectrum_size as spectrum_size_of};
+ghost use Rattle.search_model.specs.Observed.{filterbank_of};
 ghost use Rattle.shard_search.specs.Sought.{CanBeSought};
 
 use crate::fault::PlanFault;
@@ -40,6 +41,10 @@ pub struct Engine {
     search: Search,
     shard: u32,
     masked: Masked,
+    // how many bytes a spectrum has; how many are left out at first, and before which one the search ends
+    spectrum: u64,
+    skipped: u64,
+    stop: Option<u64>,
     fed: u64,
     has_ended: bool,
     chunk: u32,
@@ -71,7 +76,7 @@ impl Model for Engine {
       unpacker = e.unpacker;
       sums = e.sums;
       book = e.book;
-    }) × (e.chunk ≡ e.unpacker.chunk) };
+    }) × (KnowsSizes e.chunk e.spectrum e.skipped e.stop e.unpacker e.sums.pulses.sought) };
 }
 
 impl Engine {
@@ -119,6 +124,9 @@ impl Engine {
         observation.lies_in_range();
         edges_fall();
         let chunk = search.chunk.min(MOST_CHUNK);
+        let spectrum = spectrum_size(observation);
+        let skipped = scope.first * spectrum;
+        let stop = limit_in_bytes(scope.until, spectrum);
         let unpacker = open_unpacker(alloc, observation, chunk)?;
         let book = Book::open(alloc, search.max_candidates)?;
         let sums = open_sums(alloc, observation, search, shard, chunk, scope.sought)?;
@@ -126,6 +134,9 @@ impl Engine {
             search: *search,
             shard,
             masked: scope.masked,
+            spectrum,
+            skipped,
+            stop,
             fed: 0,
             has_ended: false,
             chunk,
@@ -147,6 +158,24 @@ impl Engine {
             → StandsForPart o (before ++ bytes.now) self.new }
         ensures stands { (o : Described) (before : List ℕ) → StandsForData o before self.old
             → StandsForData o (before ++ bytes.now) self.new }
+    {
+        let to = count_before(self.stop, self.fed, bytes.len());
+        let from = count_before(Some(self.skipped), self.fed, to);
+        self.fed += from as u64;
+        self.take_pieces(&bytes[from..to]);
+        self.fed += (bytes.len() - to) as u64;
+    }
+
+    // Takes bytes that are searched.
+    fn take_pieces(&mut self, bytes: &[u8])
+        requires running { self.old.has_ended ≡ false }
+        requires few { self.old.fed + length bytes.now ≤ most_fed }
+        ensures same { SameShard self.new self.old }
+        ensures scope { scope_of self.new ≡ scope_of self.old }
+        ensures running { self.new.has_ended ≡ false }
+        ensures fed { self.new.fed ≡ self.old.fed + length bytes.now }
+        ensures taken { (o : Described) (before : List ℕ) → HasTakenChunks o before self.old
+            → HasTakenChunks o (before ++ bytes.now) self.new }
     {
         let mut done = 0;
         while done < bytes.len() {
@@ -192,7 +221,16 @@ impl Engine {
         self.has_ended
     }
 
-    /// How many spectra were searched: after `end`, all whole spectra of the bytes that were fed.
+    /// How many whole spectra the bytes are that were fed, those that are not searched among them.
+    pub fn whole_spectra(&self) -> u64
+        ensures value { result ≡ spectra_fed self.now }
+        ensures all { (o : Described) (bytes : List ℕ) → StandsForPart o bytes self.now
+            → result ≡ (filterbank_of o bytes).spectra }
+    {
+        self.fed / self.spectrum
+    }
+
+    /// How many spectra were searched: after `end`, all whole spectra of the bytes that were fed and are to be searched.
     pub fn spectra(&self) -> u64
         ensures { result ≡ self.now.sums.carry.fed }
     {
@@ -232,8 +270,8 @@ impl Engine {
         ensures scope { scope_of self.new ≡ scope_of self.old }
         ensures running { self.new.has_ended ≡ false }
         ensures fed { self.new.fed ≡ self.old.fed + result }
-        ensures part { (o : Described) (before : List ℕ) → StandsForPart o before self.old
-            → StandsForPart o (before ++ take result bytes.now) self.new }
+        ensures taken { (o : Described) (before : List ℕ) → HasTakenChunks o before self.old
+            → HasTakenChunks o (before ++ take result bytes.now) self.new }
     {
         edges_fall();
         samples_of_bytes();
@@ -257,6 +295,38 @@ fn shard_start(search: &Search, shard: u32) -> u32
     ensures { result ≡ shard_start_of search.now shard }
 {
     search.min_delay + shard * (search.max_delay + 1 - search.min_delay) / search.shards
+}
+
+// How many bytes a spectrum of an observation has.
+fn spectrum_size(observation: &Observation) -> u64
+    ensures value { result ≡ spectrum_size_of observation.now }
+    ensures most { result ≤ 2 ^ 14 }
+{
+    observation.lies_in_range();
+    u64::from(observation.channels()) * u64::from(observation.npol() * observation.nbit() / 8)
+}
+
+// A limit of so many spectra, in bytes.
+fn limit_in_bytes(limit: Option<u64>, spectrum: u64) -> Option<u64>
+    requires few { IfSome limit (λ m. m ≤ 2 ^ 48) }
+    requires small { spectrum ≤ 2 ^ 14 }
+    ensures { result ≡ limit_in_bytes_of spectrum limit }
+{
+    match limit {
+        Some(limit) => Some(limit * spectrum),
+        None => None,
+    }
+}
+
+// How many of `count` bytes that follow after so many come before a limit, where there is one.
+fn count_before(limit: Option<u64>, past: u64, count: usize) -> usize
+    ensures value { result ≡ count_before_of limit past count }
+    ensures most { result ≤ count }
+{
+    match limit {
+        Some(limit) => limit.saturating_sub(past).min(count as u64) as usize,
+        None => count,
+    }
 }
 
 // Whether each sample is a byte.

@@ -1,6 +1,6 @@
 // What of an observation is searched.
-ghost use Rattle.std.specs.Prelude.{◌≡◌, ℕ, List};
-ghost use Rattle.search_engine.specs.Scope.{Scope as Described, marks_of, scope_of_channels, whole_scope};
+ghost use Rattle.std.specs.Prelude.{◌≡◌, ◌≤◌, ◌^◌, ℕ, List};
+ghost use Rattle.search_engine.specs.Scope.{Scope as Described, marks_of, scope_of_channels, scope_of_part, whole_scope};
 
 use crate::hiding::Masked;
 use shard_search::Sought;
@@ -12,12 +12,17 @@ use std::marker::Model;
 pub struct Scope {
     pub(crate) masked: Masked,
     pub(crate) sought: Sought,
+    // the first spectrum that is searched, and before which one the search ends
+    pub(crate) first: u64,
+    pub(crate) until: Option<u64>,
 }
 
 impl Model for Scope {
     ghost Value = { Described };
 
     ghost view = { λ s. record { masked = marks_of s.masked; sought = s.sought } };
+
+    ghost invariant = { λ s. (s.first ≡ s.sought.first) × (s.until ≡ s.sought.until) };
 }
 
 impl Scope {
@@ -28,6 +33,8 @@ impl Scope {
         Scope {
             masked: Masked::Nothing,
             sought: Sought::whole(channels),
+            first: 0,
+            until: None,
         }
     }
 
@@ -39,6 +46,21 @@ impl Scope {
         Scope {
             masked: Masked::Marked(masked),
             sought: Sought::counted(counts),
+            first: 0,
+            until: None,
+        }
+    }
+
+    /// The pulses that end at spectrum `place` or after it and before spectrum `until`, over all of so many channels, in
+    /// the spectra from `first` on. All of these count from the first spectrum of the observation.
+    pub fn of_part(channels: u32, first: u64, place: u64, until: u64) -> Scope
+        ensures { result ≡ scope_of_part channels first place until }
+    {
+        Scope {
+            masked: Masked::Nothing,
+            sought: Sought::of_part(channels, first, place, until),
+            first,
+            until: Some(until),
         }
     }
 }

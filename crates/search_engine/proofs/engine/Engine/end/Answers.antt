@@ -1,24 +1,27 @@
-use Rattle.std.proofs.Common.{◌≡◌, ℕ, ◌+◌, ◌*◌, ◌<◌, true, false, refl, sym, ◌∙◌, ap, subst, arith}
+use Rattle.std.proofs.Common.{◌≡◌, ℕ, ◌+◌, ◌*◌, ◌/◌, ◌<◌, Bool, List, true, false, sym, ◌∙◌, ap, subst, arith}
 use Rattle.candidate_book.specs.Book.{book_of}
+use Rattle.dada_model.specs.Observation.{edges}
 use Rattle.fdmt_carry.specs.Carrying as carry
+use Rattle.fdmt_carry.specs.Carrying.{AreNext}
+use Rattle.search_model.specs.Candidates.{candidates, shard_part}
 use Rattle.fdmt_carry.specs.Tables.{Tables}
 use Rattle.search_model.specs.declared.search.Search.{Search}
 use Rattle.row_schedule.specs.Samples.{values_of}
 use Rattle.search_model.specs.Samples.{Filterbank}
 use Rattle.spectra_rows.specs.Unpacking.{Unpacking}
 use Rattle.shard_search.specs.Counts.{most_tables}
-use Rattle.search_engine.specs.Engine.{EngineState, HasFoundIn, HoldsData, StandsForPart, chunk_of, scope_of}
-use Rattle.search_engine.specs.Scope.{Scope, kept_by, marks_of, searched}
+use Rattle.search_engine.specs.Engine.{BeginsWith, EngineState, HasFoundIn, HoldsData, StandsForPart, chunk_of, scope_of}
+use Rattle.search_engine.specs.Scope.{Scope, bytes_in, kept_by, kept_samples, marks_of, spectrum_size}
 use Rattle.shard_search.specs.Judging.{Adds}
-use Rattle.shard_search.specs.Sought.{Sought}
-use Rattle.shard_search.specs.Sums.{ShardState, folds_of_plan}
+use Rattle.shard_search.specs.Sought.{Sought, cells_in, sought_of}
+use Rattle.shard_search.specs.Sums.{ShardState, StandsForStream, folds_of_plan}
 use Rattle.search_engine.proofs.Data.{data_begin}
-use Rattle.search_engine.proofs.Feeding.{rows_long, next_spectra, goes_on, few_spectra, searched_holds, kept_is, marks_fit, few_channels}
+use Rattle.search_engine.proofs.Feeding.{begins_less, size_is, rows_long, next_spectra, goes_on, few_spectra, searched_holds, kept_is, marks_fit, few_channels}
 use Rattle.search_engine.proofs.Silenced.{IsHidden, hidden_alike, hidden_given, hidden_rows}
 use Rattle.search_engine.proofs.Whole.{found_in, has_searched, scope_at}
 use Rattle.search_engine.proofs.WholeChunks.{last_are}
 use Rattle.search_engine.proofs.Searched.{book_more, book_of_all, pulses_so_far}
-use Rattle.search_engine.proofs.Sizes.{none_left}
+use Rattle.search_engine.proofs.Sizes.{none_left, same_size, sizes_kept, spectra_are}
 use Rattle.search_engine.proofs.engine.Engine.end.Goals as goal
 
 pub hide-requires-clause-count : goal.hide-requires-clause-count
@@ -105,35 +108,46 @@ invariant_of-self c =
         };
         room = λ running. absurd (let other : true ≡ false = running in cc);
       },
-      c.self.invariant.1 ∙ sym (hidden_alike _ _ _ _ hidden).chunk,
+      sizes_kept _ _ _ _ i.unpacker c.taken.new.self i.sums.pulses.sought c.end.new.self.pulses.sought
+          c.self.invariant.1 (hidden_alike _ _ _ _ hidden)
+          (ap (λ (t : ShardState). t.pulses.sought) c.end.ensures.same ∙ c.take.ensures.taken.alike.sought),
     )
 
 pub returns-clause-found : goal.returns-clause-found
 returns-clause-found c = λ o bytes stands.
     let i = c.self.inside in
     let P : EngineState → Type 0 = λ e. StandsForPart o bytes e in
-    let old = subst P (sym c.self.view_is) stands in
+    let part = subst P (sym c.self.view_is) stands in
+    let old = part.chunks in
     let holds = old.taken.holds in
     let s = holds.searches in
-    let scope : Scope = scope_at (marks_of i.masked) i.sums.pulses.sought in
-    let f = searched o scope bytes in
+    let masked : List Bool = marks_of i.masked in
+    let sought : Sought = i.sums.pulses.sought in
+    let xs : List ℕ = bytes_in o sought bytes in
+    let g : Filterbank = kept_samples o masked xs in
     let r = c.spectra-spectra.result in
     let u = i.sums.carry.fed in
     let whole = c.spectra-spectra.ensures.whole in
-    let begins = λ (v : ℕ). data_begin c.samples_of_bytes.ensures o (marks_of i.masked) bytes v s.bounds holds.numbers in
-    let all : f.spectra ≡ u + r = ap (λ (g : Filterbank). g.spectra) (sym (kept_is o _ bytes s))
-    ∙ c.spectra-spectra.ensures.counts bytes u holds.held in
-    let next = next_spectra o bytes (values_of c.samples.result) _ r holds (omega (arith, whole))
+    let all : g.spectra ≡ u + r = ap (λ (g : Filterbank). g.spectra) (sym (kept_is o _ xs s))
+    ∙ c.spectra-spectra.ensures.counts xs u holds.held in
+    let next : (f : Filterbank) → BeginsWith o g (u + r) f → AreNext i.sums.carry f (values_of c.samples.result) r =
+    next_spectra o xs (values_of c.samples.result) _ r holds (omega (arith, whole))
     (λ k t. hidden_rows _ i.unpacker c.hide.new.unpacker (values_of c.samples.result) _ _ k t c.hide.ensures.same
-    c.samples.ensures.rows (c.hide.ensures.kept _ _ holds.held)) f (begins (u + r)) in
-    let before = holds.sums f (begins u) in
-    let after = c.take.ensures.taken.stands f before next in
+    c.samples.ensures.rows (c.hide.ensures.kept _ _ holds.held)) in
+    let less : (f : Filterbank) → BeginsWith o g (u + r) f → BeginsWith o g u f =
+    λ f begins. begins_less o g u (u + r) f (omega arith) begins in
+    let after : (f : Filterbank) → BeginsWith o g (u + r) f → StandsForStream c.take.new.self f =
+    λ f begins. c.take.ensures.taken.stands f (holds.sums f (less f begins)) (next f begins) in
+    let same = c.end.ensures.same in
+    let fed : c.end.new.self.carry.fed ≡ u + r = ap (λ (t : ShardState). t.carry.fed) same ∙ c.take.ensures.taken.fed in
+    let book : (f : Filterbank) → BeginsWith o g (u + r) f → f.spectra ≡ u + r → c.end.new.book
+    ≡ book_of i.search.max_candidates (shard_part i.search i.shard
+    (sought_of sought (candidates f (edges o) (cells_in sought) i.search))) = λ f begins long.
     let Q : ℕ → Type 0 = λ n. c.take.new.book ≡ book_of i.search.max_candidates
-    (pulses_so_far o i.search i.sums.pulses.sought i.shard f n) in
-    let pulses = subst Q (sym all) (book_more c.shards_are_listed.ensures o _ f c.take.new.book u r s
-    (old.book f (begins u))
-    (c.take.ensures.taken.pulses f before next)) in
-    let F : ShardState → Type 0 = λ t. t.carry.fed ≡ f.spectra in
+    (pulses_so_far o i.search sought i.shard f n) in
+    let pulses = subst Q (sym long) (book_more c.shards_are_listed.ensures o _ f c.take.new.book u r s
+    (old.book f (less f begins))
+    (c.take.ensures.taken.pulses f (holds.sums f (less f begins)) (next f begins))) in
     let T : Tables → Type 0 = λ t. Adds c.take.new.book c.end.new.book
     (folds_of_plan f t.plan c.take.new.self.pulses.search c.take.new.self.pulses.sought) in
     let S : Search → Type 0 = λ t. Adds c.take.new.book c.end.new.book
@@ -142,9 +156,12 @@ returns-clause-found c = λ o bytes stands.
     (folds_of_plan f i.sums.carry.tables.plan i.sums.pulses.search t) in
     let folds = subst C c.take.ensures.taken.alike.sought (subst S c.take.ensures.taken.alike.search
     (subst T c.take.ensures.taken.alike.tables
-    (c.end.ensures.folds f after (all ∙ sym c.take.ensures.taken.fed)))) in
-    let same = c.end.ensures.same in
-    let sought = ap (λ (t : ShardState). t.pulses.sought) same ∙ c.take.ensures.taken.alike.sought in
+    (c.end.ensures.folds f (after f begins) (long ∙ sym c.take.ensures.taken.fed)))) in
+    book_of_all c.shards_are_listed.ensures c.edges_fall.ensures o _ f c.take.new.book c.end.new.book s
+    begins.channels pulses folds in
+    let own : BeginsWith o g (u + r) g =
+    data_begin c.samples_of_bytes.ensures o masked xs (u + r) s.bounds holds.numbers in
+    let scope : Scope = scope_at masked sought in
     let new : EngineState = record {
       search = i.search;
       shard = i.shard;
@@ -155,19 +172,29 @@ returns-clause-found c = λ o bytes stands.
       sums = c.end.new.self;
       book = c.end.new.book;
     } in
+    let hidden : IsHidden (kept_by masked) i.unpacker c.hide.new.unpacker c.taken.new.self = record {
+      rows = c.hide.ensures.same;
+      none = c.taken.ensures.part;
+      kept_is = c.hide.ensures.kept;
+      given_up = c.taken.ensures.holds;
+    } in
     let found : HasFoundIn o scope bytes new = record {
-      book = book_of_all c.shards_are_listed.ensures c.edges_fall.ensures o _ f c.take.new.book c.end.new.book s refl
-          pulses folds;
-      spectra = ap (λ (t : ShardState). t.carry.fed) same ∙ c.take.ensures.taken.fed ∙ sym all;
+      book = book g own all;
+      spectra = fed ∙ sym all;
       plan = ap (λ (t : ShardState). t.carry.tables.plan) same
           ∙ ap (λ (t : Tables). t.plan) c.take.ensures.taken.alike.tables ∙ s.plan;
-      carry = subst (λ (t : ShardState). carry.StandsForSamples t.carry f) (sym same) after.carry;
+      carry = subst (λ (t : ShardState). carry.StandsForSamples t.carry g) (sym same) (after g own).carry;
       tables = ap (λ (t : ShardState). t.carry.has_tables) same ∙ c.take.ensures.tables;
       last = ap (λ (t : ShardState). t.carry.last) same ∙ c.take.ensures.last
-          ∙ last_are u r (chunk_of i.search) f.spectra most_tables i.sums.carry.tables.most s.most all old.chunks
+          ∙ last_are u r (chunk_of i.search) g.spectra most_tables i.sums.carry.tables.most s.most all old.chunks
           (subst (λ n. r < n) s.chunk (let part = old.taken.part in omega (arith, part, whole)));
+      all = ap (λ n. i.fed / n) (same_size _ _ (hidden_alike _ _ _ _ hidden) ∙ size_is o _ s)
+          ∙ ap (λ n. n / spectrum_size o) (sym part.count) ∙ sym (spectra_are o bytes);
+      alike = λ f begins long.
+          book f (subst (λ n. BeginsWith o g n f) fed begins) (long ∙ fed);
     } in
-    found_in o scope bytes new (ap (scope_at (marks_of i.masked)) sought) found
+    found_in o scope bytes new (ap (scope_at (marks_of i.masked))
+    (ap (λ (t : ShardState). t.pulses.sought) same ∙ c.take.ensures.taken.alike.sought)) found
 
 pub returns-clause-scope : goal.returns-clause-scope
 returns-clause-scope c =

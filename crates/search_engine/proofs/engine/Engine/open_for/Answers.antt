@@ -1,7 +1,6 @@
-use Rattle.std.proofs.Common.{sym, ap, subst}
-use Rattle.spectra_rows.specs.Unpacking.{Unpacking}
+use Rattle.std.proofs.Common.{sym, subst}
 use Rattle.search_engine.specs.Scope.{Scope, FitsObservation, marks_of}
-use Rattle.search_engine.proofs.Opening.{OpenedParts, opened_stands, opened_sound}
+use Rattle.search_engine.proofs.Opening.{OpenedParts, opened_stands, opened_sound, opened_sizes}
 use Rattle.search_engine.proofs.engine.Engine.open_for.Goals as goal
 
 pub invariant_of-result : goal.invariant_of-result
@@ -23,7 +22,10 @@ invariant_of-result c =
       empty = c.in_ok-book.ensures;
     } in (
       opened_sound o s c.args.shard (marks_of c.scope.inside.masked) c.scope.inside.sought c.min-chunk.result _ _ _ parts,
-      sym (ap (λ (u : Unpacking). u.chunk) c.in_ok-unpacker.ensures.opened),
+      opened_sizes o c.in_ok-unpacker.unpacker c.in_ok-sums.sums c.scope.inside.sought c.min-chunk.result
+          c.spectrum_size-spectrum.result c.scope.inside.first c.scope.inside.until _ c.in_ok-unpacker.ensures.opened
+          c.in_ok-sums.ensures.sought_is c.spectrum_size-spectrum.ensures.value c.scope.invariant.0
+          c.scope.invariant.1 c.limit_in_bytes-stop.ensures,
     )
 
 pub returns-clause-stands : goal.returns-clause-stands

@@ -1,21 +1,18 @@
-use Rattle.std.proofs.Common.{◌≡◌, ℕ, ◌+◌, ◌*◌, ◌<◌, ◌++◌, All, List, take, get_or, Fits, w8, sym, ◌∙◌, ap, subst, arith}
-use Rattle.std.proofs.lemmas.List.Elements.{All-from_get_or}
+use Rattle.std.proofs.Common.{◌≡◌, ℕ, ◌+◌, ◌*◌, ◌++◌, take, refl, sym, ◌∙◌, ap, subst, arith}
 use Rattle.spectra_rows.specs.Unpacking.{Unpacking}
 use Rattle.candidate_book.specs.Book.{book_of}
 use Rattle.row_schedule.specs.Samples.{values_of}
-use Rattle.search_engine.specs.Engine.{EngineState, BeginsWith, StandsForPart, chunk_of, scope_of}
+use Rattle.search_engine.specs.Engine.{EngineState, BeginsWith, HasTakenChunks, chunk_of, scope_of}
 use Rattle.search_engine.proofs.Feeding.{piece_holds, begins_old, begins_less, rows_long, next_spectra, goes_on, few_spectra, searched_holds, marks_fit, few_channels}
 use Rattle.search_engine.specs.Scope.{kept_by, kept_samples, marks_of}
 use Rattle.search_engine.proofs.Silenced.{IsHidden, hidden_alike, hidden_given, hidden_rows}
 use Rattle.shard_search.specs.Sought.{Sought}
 use Rattle.search_engine.proofs.Whole.{scope_at}
+use Rattle.search_engine.proofs.Slices.{bytes_are}
 use Rattle.search_engine.proofs.WholeChunks.{chunk_more}
 use Rattle.search_engine.proofs.Searched.{book_more, pulses_so_far}
-use Rattle.search_engine.proofs.Sizes.{none_left, room_left}
+use Rattle.search_engine.proofs.Sizes.{none_left, room_left, sizes_kept}
 use Rattle.search_engine.proofs.engine.Engine.take_piece.Goals as goal
-
-bytes_are : (bytes : List ℕ) → ((i : ℕ) → Fits w8 (get_or bytes i 0)) → All (λ b. b < 256) bytes
-bytes_are bytes fits = All-from_get_or (λ b. b < 256) bytes 0 (λ i _. let fit = fits i in omega (arith, fit))
 
 pub hide-requires-clause-count : goal.hide-requires-clause-count
 hide-requires-clause-count c =
@@ -134,8 +131,11 @@ invariant_of-self c =
             let total = c.pass.ensures.fed in
             omega (arith, room, count, total);
       },
-      c.self.invariant.1 ∙ sym c.push-count.ensures.alike.chunk
-          ∙ sym (hidden_alike _ _ _ _ hidden).chunk,
+      sizes_kept _ _ _ _ c.push-count.new.self c.taken.new.self c.self.inside.sums.pulses.sought
+          c.pass.new.self.pulses.sought
+          (sizes_kept _ _ _ _ c.self.inside.unpacker c.push-count.new.self c.self.inside.sums.pulses.sought
+          c.self.inside.sums.pulses.sought c.self.invariant.1 c.push-count.ensures.alike refl)
+          (hidden_alike _ _ _ _ hidden) c.pass.ensures.alike.sought,
     )
 
 pub invariant_of-self-else-spectra-self : goal.invariant_of-self-else-spectra-self
@@ -144,7 +144,7 @@ invariant_of-self-else-spectra-self c =
     let most = c.requires.few in
     let fed = ap (λ (e : EngineState). e.fed) c.self.view_is in
     let numbers = bytes_are c.args.bytes.now c.type_inv.bytes in
-    let chunk = c.self.invariant.1 ∙ sym c.push-count.ensures.alike.chunk in
+    let chunk = c.self.invariant.1.chunk_is ∙ sym c.push-count.ensures.alike.chunk in
     let whole = c.spectra.ensures.whole in
     let within = c.spectra.ensures.room in
     let other = c.if-spectra-self.false in (
@@ -159,7 +159,8 @@ invariant_of-self-else-spectra-self c =
         };
         room = λ running. w.room running;
       },
-      chunk,
+      sizes_kept _ _ _ _ c.self.inside.unpacker c.push-count.new.self c.self.inside.sums.pulses.sought
+          c.self.inside.sums.pulses.sought c.self.invariant.1 c.push-count.ensures.alike refl,
     )
 
 pub returns-then-spectra-self-clause-some : goal.returns-then-spectra-self-clause-some
@@ -180,9 +181,9 @@ returns-else-spectra-self-clause-some c =
     let given = c.requires.some in
     omega (arith, room, count, given)
 
-pub returns-then-spectra-self-clause-part : goal.returns-then-spectra-self-clause-part
-returns-then-spectra-self-clause-part c = λ o before stands.
-    let P : EngineState → Type 0 = λ e. StandsForPart o before e in
+pub returns-then-spectra-self-clause-taken : goal.returns-then-spectra-self-clause-taken
+returns-then-spectra-self-clause-taken c = λ o before stands.
+    let P : EngineState → Type 0 = λ e. HasTakenChunks o before e in
     let old = subst P (sym c.self.view_is) stands in
     let most = c.requires.few in
     let fed = ap (λ (e : EngineState). e.fed) c.self.view_is in
@@ -216,7 +217,7 @@ returns-then-spectra-self-clause-part c = λ o before stands.
             (let same = ap (λ (x : Unpacking). x.chunk) c.hide.ensures.same in omega (arith, same, chunk, least));
       };
       chunks = chunk_more u r (chunk_of c.self.inside.search) c.pass.new.self.carry.fed
-          (c.self.invariant.1 ∙ old.taken.holds.searches.chunk) c.pass.ensures.fed old.chunks;
+          (c.self.invariant.1.chunk_is ∙ old.taken.holds.searches.chunk) c.pass.ensures.fed old.chunks;
       book = λ f begins.
           let g = kept_samples o (marks_of c.self.inside.masked) all in
           let B : ℕ → Type 0 = λ n. BeginsWith o g n f in
@@ -237,14 +238,14 @@ returns-then-spectra-self-clause-part c = λ o before stands.
           c.hide.ensures.same c.samples-rows.ensures.rows (c.hide.ensures.kept _ _ holds.held)) f later))));
     }
 
-pub returns-else-spectra-self-clause-part : goal.returns-else-spectra-self-clause-part
-returns-else-spectra-self-clause-part c = λ o before stands.
-    let P : EngineState → Type 0 = λ e. StandsForPart o before e in
+pub returns-else-spectra-self-clause-taken : goal.returns-else-spectra-self-clause-taken
+returns-else-spectra-self-clause-taken c = λ o before stands.
+    let P : EngineState → Type 0 = λ e. HasTakenChunks o before e in
     let old = subst P (sym c.self.view_is) stands in
     let most = c.requires.few in
     let fed = ap (λ (e : EngineState). e.fed) c.self.view_is in
     let numbers = bytes_are c.args.bytes.now c.type_inv.bytes in
-    let chunk = c.self.invariant.1 ∙ sym c.push-count.ensures.alike.chunk in
+    let chunk = c.self.invariant.1.chunk_is ∙ sym c.push-count.ensures.alike.chunk in
     let whole = c.spectra.ensures.whole in
     let within = c.spectra.ensures.room in
     let other = c.if-spectra-self.false in

@@ -1,7 +1,7 @@
 use Rattle.std.proofs.Common.{◌≡◌, ◌+◌, ◌-◌, ◌≤◌, ◌++◌, List, ℕ, false, length, take}
 use Rattle.dada_model.specs.Observation.{Observation}
-use Rattle.search_engine.specs.Engine.{SameShard, StandsForPart, scope_of}
-use Rattle.search_engine.proofs.engine.Engine.feed.Given as goal
+use Rattle.search_engine.specs.Engine.{SameShard, HasTakenChunks, scope_of}
+use Rattle.search_engine.proofs.engine.Engine.take_pieces.Given as goal
 
 -- the first bytes were taken
 abbrev pub invariant-loop-done : goal.invariant-loop-done
@@ -11,8 +11,8 @@ invariant-loop-done l = record {
   scope : scope_of l.self ≡ scope_of l.fn.self;
   running : l.self.has_ended ≡ false;
   fed : l.self.fed ≡ l.fn.self.fed + l.done;
-  part : (o : Observation) (before : List ℕ) → StandsForPart o before l.fn.self
-      → StandsForPart o (before ++ take l.done l.bytes) l.self;
+  taken : (o : Observation) (before : List ℕ) → HasTakenChunks o before l.fn.self
+      → HasTakenChunks o (before ++ take l.done l.bytes) l.self;
 }
 
 abbrev pub decreases-loop-done : goal.decreases-loop-done
