@@ -3,7 +3,7 @@
 use Rattle.std.specs.Prelude.{◌≡◌, ◌≢◌, ℕ, ◌+◌, ◌≤◌, Bool, true, false, List, ◌++◌, length, slice_get, Option, Some}
 use Rattle.dada_model.specs.Observation.{Observation}
 use Rattle.ring_blocks.specs.declared.Entry.{Entry}
-use Rattle.search_engine.specs.Engine.{EngineState, StandsForPart, HasFoundPart, HasSearched, SameShard, most_fed}
+use Rattle.search_engine.specs.Engine.{EngineState, StandsForPart, HasFoundPart, HasSearched, SameShard, scope_of, most_fed}
 use Rattle.search_engine.specs.Scope.{whole_scope}
 use Rattle.search_session.specs.declared.lane.Lane.{Lane}
 
@@ -14,7 +14,7 @@ HasEngine engines transfer e = slice_get engines transfer ≡ Some (Some e)
 -- an engine that has ended found what it searches of these data bytes; where that is all, it has searched them
 pub record HasEnded (o : Observation) (bytes : List ℕ) (e : EngineState) : Type 0 where
   pub found : HasFoundPart o bytes e
-  pub searched : e.scope ≡ whole_scope o.channels → HasSearched o bytes e
+  pub searched : scope_of e ≡ whole_scope o.channels → HasSearched o bytes e
 
 -- an engine stands for these data bytes of an observation: until it ended it was fed them, and then it has found what
 -- there is
@@ -26,7 +26,7 @@ Stands true o bytes e = HasEnded o bytes e
 pub record WasFed (old : EngineState) (bytes : List ℕ) (is_last : Bool) (new : EngineState) :
     Type 0 where
   pub same : SameShard new old
-  pub scope : new.scope ≡ old.scope
+  pub scope : scope_of new ≡ scope_of old
   pub fed : new.fed ≡ old.fed + length bytes
   pub ended : new.has_ended ≡ is_last
   pub stands : (o : Observation) (before : List ℕ) → StandsForPart o before old → Stands is_last o

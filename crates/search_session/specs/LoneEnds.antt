@@ -6,7 +6,7 @@ use Rattle.dada_model.specs.Observation.{Observation}
 use Rattle.ring_words.specs.Ring.{Begins}
 use Rattle.ring_ends.specs.Ended.{sealed_at_end, cleared_at_end}
 use Rattle.stream_model.specs.Blocks.{transfer_bytes}
-use Rattle.search_engine.specs.Engine.{EngineState, SameShard}
+use Rattle.search_engine.specs.Engine.{EngineState, SameShard, scope_of}
 use Rattle.disk_feeder.specs.declared.answers.FeedEnd.TheVariants.{Whole}
 use Rattle.disk_feeder.specs.Resting.{feeder_over}
 use Rattle.disk_feeder.specs.Turns.{sealed_blocks}
@@ -43,7 +43,7 @@ session_end lent end = record {
 -- an engine that was fed nothing, as `e`, was fed these bytes, and ended then
 pub record WentThrough (e : EngineState) (bytes : List ℕ) (f : EngineState) : Type 0 where
   pub same : SameShard f e
-  pub scope : f.scope ≡ e.scope
+  pub scope : scope_of f ≡ scope_of e
   pub fed : f.fed ≡ length bytes
   pub ended : f.has_ended ≡ true
   pub stands : (o : Observation) → Stands false o [] e → Stands true o bytes f

@@ -15,7 +15,7 @@ use Rattle.dada_hdu.specs.declared.ended.HduEnded.{HduEnded}
 use Rattle.dada_hdu.specs.declared.ended.HduEnded.TheVariants.{Here, Away, Retired}
 use Rattle.dada_hdu.specs.Passes.{data_shape, data_end, number_of, tries_of, EndedFromBoth}
 use Rattle.stream_model.specs.Blocks.{ended_transfers, is_over, transfer_bytes}
-use Rattle.search_engine.specs.Engine.{EngineState, SameShard, most_fed}
+use Rattle.search_engine.specs.Engine.{EngineState, SameShard, scope_of, most_fed}
 use Rattle.search_session.specs.declared.lane.Lane.{Lane}
 use Rattle.search_session.specs.declared.shard.ShardActor.{ShardActor}
 use Rattle.search_session.specs.Lanes.{HasEngine, Stands, WasFedBlock}
@@ -45,7 +45,7 @@ AreEnginesAt size blocks engines = (k : ℕ) → k < length engines →
 pub record EngineFollows (transfer : ℕ) (before after : List Entry) (e f : EngineState) :
     Type 0 where
   pub same : SameShard f e
-  pub scope : f.scope ≡ e.scope
+  pub scope : scope_of f ≡ scope_of e
   pub stands : (o : Observation) → StandsAt o transfer before e → StandsAt o transfer after f
 
 -- each of the engines was, at its place

@@ -1,12 +1,12 @@
 use Rattle.std.proofs.Common.{◌≡◌, ℕ, ◌+◌, Bool, true, false, List, ◌++◌, length, refl, sym, subst, ◌∙◌}
 use Rattle.dada_model.specs.Observation.{Observation}
-use Rattle.search_engine.specs.Engine.{EngineState, SameShard, StandsForPart, StandsForData, HasFoundPart, HasSearched}
+use Rattle.search_engine.specs.Engine.{EngineState, SameShard, StandsForPart, StandsForData, HasFoundPart, HasSearched, scope_of}
 use Rattle.search_session.specs.Lanes.{Stands, WasFed}
 use Rattle.search_session.proofs.lane.feed_slot.Goals as goal
 
 -- an engine was fed, and goes on
 goes_on : (e f : EngineState) (bytes : List ℕ) (is_last : Bool) → is_last ≡ false → SameShard f e →
-    f.scope ≡ e.scope → f.has_ended ≡ false → f.fed ≡ e.fed + length bytes →
+    scope_of f ≡ scope_of e → f.has_ended ≡ false → f.fed ≡ e.fed + length bytes →
     ((o : Observation) (before : List ℕ) → StandsForPart o before e → StandsForPart o (before ++ bytes) f) →
     WasFed e bytes is_last f
 goes_on e f bytes is_last is same scope running fed stands = record {
@@ -19,9 +19,9 @@ goes_on e f bytes is_last is same scope running fed stands = record {
 
 -- it was fed, and then ended
 ends : (e f g : EngineState) (bytes : List ℕ) (is_last : Bool) → is_last ≡ true → SameShard f e →
-    f.scope ≡ e.scope → f.fed ≡ e.fed + length bytes →
+    scope_of f ≡ scope_of e → f.fed ≡ e.fed + length bytes →
     ((o : Observation) (before : List ℕ) → StandsForPart o before e → StandsForPart o (before ++ bytes) f) →
-    SameShard g f → g.scope ≡ f.scope → g.has_ended ≡ true → g.fed ≡ f.fed →
+    SameShard g f → scope_of g ≡ scope_of f → g.has_ended ≡ true → g.fed ≡ f.fed →
     ((o : Observation) (all : List ℕ) → StandsForPart o all f → HasFoundPart o all g) →
     ((o : Observation) (all : List ℕ) → StandsForData o all f → HasSearched o all g) → WasFed e bytes is_last g
 ends e f g bytes is_last is same scope fed stands same' scope' ended fed' found searched = record {
