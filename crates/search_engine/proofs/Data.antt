@@ -11,7 +11,7 @@ use Rattle.search_engine.specs.Engine.{BeginsWith}
 use Rattle.search_engine.specs.Scope.{kept_by, kept_samples}
 
 -- an accepted observation has 8 or 16 bits
-bits : (o : Observation) → ObservationInRange o → (o.nbit ≡ 8) ⊎ (o.nbit ≡ 16)
+pub bits : (o : Observation) → ObservationInRange o → (o.nbit ≡ 8) ⊎ (o.nbit ≡ 16)
 bits o range =
     let whole = range.whole_bytes in
     let few = range.few_bits in
@@ -22,14 +22,14 @@ bits o range =
     ]
 
 -- a channel of a whole spectrum is among the samples
-sample_is_there : (n count spectra c t : ℕ) → spectra ≤ count / n → c < n → t < spectra → t * n + c < count
+pub sample_is_there : (n count spectra c t : ℕ) → spectra ≤ count / n → c < n → t < spectra → t * n + c < count
 sample_is_there n count spectra c t whole channel early =
     let most = div-mul-le_self count n in
     let rows = mul-le-mul_right n (let next : t + 1 ≤ count / n = omega arith in next) in
     omega (arith, most, rows)
 
 -- either order of the channels
-place_in_spectrum : (is_falling : Bool) (c n : ℕ) → c < n → cond is_falling c (n - 1 - c) < n
+pub place_in_spectrum : (is_falling : Bool) (c n : ℕ) → c < n → cond is_falling c (n - 1 - c) < n
 place_in_spectrum true c n channel = channel
 place_in_spectrum false c n channel = omega arith
 

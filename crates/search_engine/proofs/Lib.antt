@@ -2,6 +2,9 @@ pub mod Data
 pub mod Feeding
 pub mod Less
 pub mod Opening
+pub mod PartFound
+pub mod PartLists
+pub mod PartSamples
 pub mod PlanFits
 pub mod Searched
 pub mod Silenced

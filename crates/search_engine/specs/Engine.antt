@@ -153,6 +153,8 @@ pub record HasSearched (o : Observation) (bytes : List ℕ) (e : EngineState) : 
 -- same for all streams that begin with these samples. And how many whole spectra there are in all.
 pub record HasFoundIn (o : Observation) (c : Scope) (bytes : List ℕ) (e : EngineState)
     : Type 0 where
+  pub bounds : ObservationInRange o
+  pub numbers : All (λ byte. byte < 256) bytes
   pub book : e.book ≡ book_of e.search.max_candidates
       (shard_part e.search e.shard (candidates_in o c e.search bytes))
   pub spectra : e.sums.carry.fed ≡ (searched o c bytes).spectra

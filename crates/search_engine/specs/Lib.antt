@@ -1,3 +1,4 @@
 pub mod Scope
 pub mod Engine
 pub mod Plan
+pub mod Laws

@@ -4,10 +4,12 @@
 mod engine;
 mod fault;
 mod hiding;
+mod laws;
 mod plan;
 mod scope;
 
 pub use engine::Engine;
 pub use fault::PlanFault;
+pub use laws::scopes_are_found;
 pub use plan::check_plan;
 pub use scope::Scope;

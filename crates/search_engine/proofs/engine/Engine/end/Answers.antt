@@ -179,6 +179,8 @@ returns-clause-found c = λ o bytes stands.
       given_up = c.taken.ensures.holds;
     } in
     let found : HasFoundIn o scope bytes new = record {
+      bounds = s.bounds;
+      numbers = part.numbers;
       book = book g own all;
       spectra = fed ∙ sym all;
       plan = ap (λ (t : ShardState). t.carry.tables.plan) same
