@@ -1,0 +1,5 @@
+mod Results
+mod Told
+mod Opening
+mod Wording
+mod Through

@@ -1,0 +1,237 @@
+-- The session of a lone run: before its first turn, and what it left.
+use Rattle.std.proofs.Common.{◌≡◌, ℕ, ◌+◌, ◌/◌, ◌^◌, ◌≤◌, List, [], ◌∷◌, Option, Some, length, sym, ap, ◌∙◌, subst, arith}
+use Rattle.std.specs.Prelude.{slice_get}
+use Rattle.std.specs.List.{sum_by, range_with_len}
+use Rattle.std.proofs.lemmas.Bool.{true≢false}
+use Rattle.psr_base.specs.Told.{Told}
+use Rattle.dada_model.specs.Observation.{Observation}
+use Rattle.search_words.specs.Settings.{SettingsSeen}
+use Rattle.ring_blocks.specs.declared.Entry.{Entry}
+use Rattle.ring_ends.specs.Ended.{sealed_at_end, cleared_at_end}
+use Rattle.stream_model.specs.Blocks.{transfer_bytes}
+use Rattle.stream_model.specs.Walk.{FileStream, transfer_data}
+use Rattle.search_engine.specs.Scope.{Scope}
+use Rattle.search_engine.specs.Engine.{EngineState, HasFoundIn, scope_of}
+use Rattle.disk_feeder.specs.declared.answers.FeedEnd.{FeedEnd}
+use Rattle.disk_feeder.specs.declared.answers.FeedEnd.TheVariants.{Whole}
+use Rattle.disk_feeder.specs.declared.feeder.Feeder.{Feeder}
+use Rattle.disk_feeder.specs.declared.feeder.FeederSpace.{FeederSpace}
+use Rattle.disk_feeder.specs.declared.stream.Stream.{Stream}
+use Rattle.disk_feeder.specs.Feeder.{stream_at, plan_at, block_size}
+use Rattle.disk_feeder.specs.Feeding.{EndIs, IsEnded, SealedAs}
+use Rattle.disk_feeder.specs.Plan.{Plan}
+use Rattle.disk_feeder.specs.Resting.{stream_in, feeder_over}
+use Rattle.search_session.specs.declared.lane.Lane.{Lane}
+use Rattle.search_session.specs.declared.lone_space.LoneSpace.{LoneSpace}
+use Rattle.search_session.specs.declared.lone.LoneEnd.{LoneEnd}
+use Rattle.search_session.specs.Lanes.{HasEngine}
+use Rattle.search_session.specs.Stages.{IsUnfed}
+use Rattle.search_session.specs.Sessions.{FeedAnswers}
+use Rattle.search_session.specs.Lone.{IsLoneSpace, IsLoneReady, lane_in}
+use Rattle.search_session.specs.LoneEnds.{LaneAnswers, session_end}
+use Rattle.search_opening.specs.First.{AreFirsts}
+use Rattle.run_stop.specs.Outcomes.{AllCleared}
+use Rattle.run_stop.specs.Runs.{first_observation, stream_for}
+use Rattle.whole_run.specs.Wholes.{OfRun}
+use Rattle.lone_run.specs.declared.found.LoneFound.{LoneFound}
+use Rattle.lone_run.specs.Scopes.{IsLaneOf}
+use Rattle.lone_run.specs.Openings.{IsOpenedAlone, shape_for}
+use Rattle.lone_run.specs.Found.{GoesAlone}
+use Rattle.lone_run.proofs.Told.{of_plan}
+
+-- ---- a feeder that is taken apart
+
+-- a feeder of this stream over these inputs
+abbrev over : {I : Type 0} → I → Stream → Feeder I
+over lent stream = record { inputs = record { ref_ptr = (0, 0); ghost_name = 0; now = lent }; stream = stream }
+
+-- where its inputs lie plays no part
+rested : {I : Type 0} (told : I → Told) (is_open : I → Type 0) (s : SettingsSeen) (f : Feeder I) (o : Observation)
+    (scope : Scope) (space : LoneSpace) → IsOpenedAlone told is_open s f o scope space →
+    IsOpenedAlone told is_open s (over f.inputs.now (stream_at f)) o scope space
+rested told is_open s f o scope space opened = record {
+  one = opened.one;
+  most = opened.most;
+  header = opened.header;
+  feeder = record {
+    plan = record {
+      files = opened.feeder.plan.files;
+      transfers = opened.feeder.plan.transfers;
+      limit = opened.feeder.plan.limit;
+      block = opened.feeder.plan.block;
+      headers = opened.feeder.plan.headers;
+    };
+    first = opened.feeder.first;
+    feeds = opened.feeder.feeds;
+    faultless = opened.feeder.faultless;
+    running = opened.feeder.running;
+    file = opened.feeder.file;
+  };
+  lane = opened.lane;
+  lane_is = opened.lane_is;
+  space_is = opened.space_is;
+  total = opened.total;
+  firsts = opened.firsts;
+  fits = opened.fits;
+}
+
+pub opened_over : {I : Type 0} (told : I → Told) (is_open : I → Type 0) (s : SettingsSeen) (f : Feeder I) (lent : I)
+    (rest : FeederSpace) (o : Observation) (scope : Scope) (space : LoneSpace) → lent ≡ f.inputs.now →
+    stream_in rest ≡ stream_at f → IsOpenedAlone told is_open s f o scope space →
+    IsOpenedAlone told is_open s (feeder_over lent rest) o scope space
+opened_over told is_open s f lent rest o scope space inputs stream opened =
+    subst (λ i. IsOpenedAlone told is_open s (over i (stream_in rest)) o scope space) (sym inputs)
+    (subst (λ x. IsOpenedAlone told is_open s (over f.inputs.now x) o scope space) (sym stream)
+    (rested told is_open s f o scope space opened))
+
+-- ---- before the first turn
+
+-- the engine of a lane that has it alone
+has_engine : (e : EngineState) (engines : List (Option EngineState)) → engines ≡ Some e ∷ [] → HasEngine engines 0 e
+has_engine e engines is = ap (λ es. slice_get es 0) is
+
+is_unfed : (s : SettingsSeen) (o : Observation) (scope : Scope) (lane : Lane) (n : ℕ) → n ≡ 1 →
+    IsLaneOf s.search o scope lane → IsUnfed n lane
+is_unfed s o scope lane n one is = record {
+  count = ap length is.alone ∙ sym one;
+  each = λ k below.
+      let first : k ≡ 0 = omega (arith, below, one) in (
+        is.engine,
+        subst (λ j. HasEngine lane.engines.value.items j is.engine) (sym first)
+            (has_engine is.engine lane.engines.value.items is.alone),
+        is.opened.nothing_fed,
+        is.opened.running,
+      );
+}
+
+pub lone_ready : {I : Type 0} (told : I → Told) (is_open : I → Type 0) (s : SettingsSeen) (lent : I)
+    (feeder : FeederSpace) (o : Observation) (scope : Scope) (space : LoneSpace) →
+    IsOpenedAlone told is_open s (feeder_over lent feeder) o scope space → IsLoneReady (told lent) space feeder
+lone_ready told is_open s lent feeder o scope space opened =
+    let f = feeder_over lent feeder in
+    let plan = opened.feeder.plan in
+    let transfers : length (plan_at f).starts ≡ 1 = ap length plan.transfers ∙ opened.one.transfer in
+    let same : lane_in space ≡ opened.lane = opened.space_is.lane_is in
+    record {
+      shape = shape_for s;
+      header = opened.header;
+      space_is = subst (λ l. IsLoneSpace l (shape_for s) opened.header space) (sym same) opened.space_is;
+      feeds = record {
+        first = opened.feeder.first;
+        feeds = opened.feeder.feeds;
+        running = opened.feeder.running;
+        faultless = opened.feeder.faultless;
+        size = sym plan.block;
+        blocks = at_most _ _ (ap (λ n. n / block_size f + length (plan_at f).starts + 1) plan.limit
+            ∙ ap (λ n. s.max_bytes / n + length (plan_at f).starts + 1) plan.block
+            ∙ ap (λ n. s.max_bytes / s.size + n + 1) transfers);
+      };
+      transfers = omega (arith, transfers);
+      engines = subst (λ l. IsUnfed (length (plan_at f).starts) l) (sym same)
+          (is_unfed s o scope opened.lane (length (plan_at f).starts) transfers opened.lane_is);
+      few = opened.total;
+    }
+  where
+    at_most : (a b : ℕ) → a ≡ b → a ≤ b
+    at_most a b same = omega (arith, same)
+
+-- ---- what it left
+
+-- the engine that searched, which was that of the lane
+pub lane_engine : {I : Type 0} (told : I → Told) (is_open : I → Type 0) (s : SettingsSeen) (lent : I)
+    (feeder : FeederSpace) (o : Observation) (scope : Scope) (space : LoneSpace) (start : Lane) (end : LoneEnd) →
+    IsOpenedAlone told is_open s (feeder_over lent feeder) o scope space → start ≡ lane_in space →
+    LaneAnswers start end → (f : EngineState) × HasEngine end.lane.engines.value.items 0 f
+lane_engine told is_open s lent feeder o scope space start end opened same answers =
+    let is = opened.lane_is in
+    let engines = ap (λ (l : Lane). l.engines.value.items) (same ∙ opened.space_is.lane_is) ∙ is.alone in
+    let f = answers.engines.each 0 is.engine (has_engine is.engine start.engines.value.items engines) in
+    (f.0, f.1)
+
+-- the data that an end tells of
+few_bytes : (plan : Plan) (told : Told) (size : ℕ) (headers blocks : List Entry) (end : FeedEnd) (bytes limit : ℕ) →
+    IsEnded plan told size headers blocks end → end ≡ Whole bytes → plan.max_bytes ≡ limit → limit ≤ 2 ^ 48 →
+    bytes ≤ 2 ^ 48
+few_bytes plan told size headers blocks end bytes limit is whole same most =
+    let By : FeedEnd → Type 0 = λ e. SealedAs plan size is.before is.current headers blocks e in
+    let sealed = subst By whole is.sealed in
+    let few = is.few in
+    let count = sealed.3 in
+    omega (arith, few, count, same, most)
+
+-- the sum over one place
+one_place : (f : ℕ → ℕ) (n m : ℕ) → n ≡ 1 → sum_by f (range_with_len 0 n) ≡ m → f 0 ≡ m
+one_place f n m one sum =
+    let only : sum_by f (range_with_len 0 1) ≡ m = subst (λ k. sum_by f (range_with_len 0 k) ≡ m) one sum in
+    omega (arith, only)
+
+first_is : (w : FileStream) (o : Observation) (n : ℕ) → AreFirsts w (Some o ∷ []) → length w.starts ≡ 1 →
+    first_observation w 0 ≡ o
+first_is w o n firsts one =
+    let at = firsts.each 0 (omega (arith, one)) in
+    sym (inside o (first_observation w 0) at)
+  where
+    inside : (a b : Observation) → slice_get (Some a ∷ []) 0 ≡ Some (Some b) → a ≡ b
+    inside a b is = cc
+
+pub goes_alone : {I : Type 0} (told : I → Told) (is_open is_calm : I → Type 0) (faults : I → ℕ) (s : SettingsSeen)
+    (lent after : I) (feeder : FeederSpace) (o : Observation) (scope : Scope) (space : LoneSpace) (start : Lane)
+    (end : LoneEnd) (found : LoneFound) →
+    IsOpenedAlone told is_open s (feeder_over lent feeder) o scope space → start ≡ lane_in space →
+    FeedAnswers told is_calm faults (feeder_over lent feeder) (session_end after end) → LaneAnswers start end →
+    found.feed ≡ end.feed → found.observation ≡ o → found.blocks ≡ end.blocks →
+    ((e : EngineState) → HasEngine end.lane.engines.value.items 0 e → found.engine ≡ e) →
+    GoesAlone s (told lent) o scope found
+goes_alone told is_open is_calm faults s lent after feeder o scope space start end found opened same fed lane feed
+    observed blocks engine =
+    let f = feeder_over lent feeder in
+    let plan = opened.feeder.plan in
+    let is = opened.lane_is in
+    let engines = ap (λ (l : Lane). l.engines.value.items) (same ∙ opened.space_is.lane_is) ∙ is.alone in
+    let sealed = sealed_at_end end.blocks in
+    let transfers : length (plan_at f).starts ≡ 1 = ap length plan.transfers ∙ opened.one.transfer in
+    let End : ℕ → Type 0 = λ size. OfRun (told lent) s (λ w. EndIs w size sealed end.feed) in
+    let Blocks : _ → Type 0 = λ b. AllCleared b 0 1 in
+    record {
+      begun = λ lone files are.
+          let firsts = opened.firsts files are in
+          record {
+            accepted = firsts.walked;
+            searched = λ task. opened.fits (stream_for s files) firsts;
+            recorded = λ on. absurd (true≢false (sym on ∙ opened.one.unrecorded));
+          };
+      walked = subst (λ b. OfRun (told lent) s (λ w. EndIs w s.size (sealed_at_end b) found.feed)) (sym blocks)
+          (subst (λ e. OfRun (told lent) s (λ w. EndIs w s.size sealed e)) (sym feed)
+          (subst End plan.block
+          (of_plan f s (told lent) (told after) (λ w. EndIs w (block_size f) sealed end.feed) plan fed.names
+          fed.sealed.known)));
+      observed = observed;
+      first = λ files are. first_is (stream_for s files) o 0 (opened.firsts files are) opened.one.transfer ∙ sym observed;
+      cleared = subst Blocks (sym blocks) (λ k below.
+          let at : k ≡ 0 = omega (arith, below) in
+          subst (λ j. cleared_at_end end.blocks (0 + j) ≡ sealed) (sym at) lane.cleared);
+      held = λ bytes whole.
+          let feed_whole : end.feed ≡ Whole bytes = sym feed ∙ whole in
+          let through = transfer_bytes 0 sealed in
+          let went = lane.searched bytes feed_whole 0 is.engine
+          (has_engine is.engine start.engines.value.items engines) in
+          let at = engine went.0 went.1 in
+          let scope_is = ap scope_of at ∙ went.2.scope ∙ is.scope_is in
+          let count = one_place (λ k. length (transfer_bytes k sealed)) (length (plan_at f).starts) bytes transfers
+          (fed.parts bytes feed_whole) in
+          let few = few_bytes (plan_at f) (told after) (block_size f) _ _ end.feed bytes s.max_bytes fed.sealed feed_whole
+          plan.limit opened.most in
+          record {
+            bytes = through;
+            few = omega (arith, count, few);
+            scope_is = scope_is;
+            search_is = ap (λ (e : EngineState). e.search) at ∙ went.2.same.search ∙ is.opened.search_is;
+            shard_is = ap (λ (e : EngineState). e.shard) at ∙ went.2.same.shard ∙ is.opened.shard_is;
+            ended = ap (λ (e : EngineState). e.has_ended) at ∙ went.2.ended;
+            searched = subst (λ x. HasFoundIn x scope through found.engine) (sym observed)
+                (subst (λ c. HasFoundIn o c through found.engine) scope_is
+                (subst (λ e. HasFoundIn o (scope_of e) through e) (sym at) (went.2.stands o is.stands)));
+            known = of_plan f s (told lent) (told after) (λ w. through ≡ transfer_data w 0) plan fed.names
+                (λ files are. fed.walked bytes feed_whole files are 0 (omega (arith, transfers)));
+          };
+    }

@@ -1,0 +1,72 @@
+use Rattle.std.proofs.Common.{◌≡◌, Result, Err, refl, sym, subst, ◌∙◌}
+use Rattle.search_words.specs.Settings.{settings_seen}
+use Rattle.disk_feeder.specs.Feeder.{header_at}
+use Rattle.dada_model.specs.Observation.{Observation}
+use Rattle.search_opening.specs.First.{AreFirsts}
+use Rattle.lone_run.specs.Openings.{OpensScope}
+use Rattle.lone_run.proofs.Opening.{only_observed, lane_stops, lane_readable, is_opened}
+use Rattle.lone_run.proofs.open.open_begun.Goals as goal
+
+pub lane_for-requires-clause-one : goal.lane_for-requires-clause-one
+lane_for-requires-clause-one g c =
+    let begun = c.requires.begun in
+    let only = only_observed (header_at c.args.feeder.now) c.args.observations.items begun.observed
+    (begun.plan.headers ∙ c.requires.one.transfer) in
+    (only.0, c.as_slice.ensures.value ∙ only.1)
+
+pub returns-in-Err-clause-stopped : goal.returns-in-Err-clause-stopped
+returns-in-Err-clause-stopped g c =
+    let begun = c.requires.begun in
+    let only = only_observed (header_at c.args.feeder.now) c.args.observations.items begun.observed
+    (begun.plan.headers ∙ c.requires.one.transfer) in
+    lane_stops g.I.Inputs.told g.I.Inputs.is_open _ _ (settings_seen c.args.settings.now) c.args.feeder.now
+    c.args.observations.items only.0 c.in-Err.stop begun only.1
+    (c.in-Err.ensures.stopped only.0 (c.as_slice.ensures.value ∙ only.1))
+
+pub only_one-requires : goal.only_one-requires
+only_one-requires g c =
+    let begun = c.requires.begun in
+    only_observed (header_at c.args.feeder.now) c.args.observations.items begun.observed
+    (begun.plan.headers ∙ c.requires.one.transfer)
+
+pub returns-in-Err-clause-readable : goal.returns-in-Err-clause-readable
+returns-in-Err-clause-readable g c = λ same.
+    let begun = c.requires.begun in
+    let only = only_observed (header_at c.args.feeder.now) c.args.observations.items begun.observed
+    (begun.plan.headers ∙ c.requires.one.transfer) in
+    lane_readable (g.S.Scoping.scopes c.args.scoping.now) (g.S.Scoping.refuses c.args.scoping.now)
+    c.args.settings.now.search only.0 c.in-Err.stop
+    (c.in-Err.ensures.stopped only.0 (c.as_slice.ensures.value ∙ only.1)) (inside _ _ _ refl same)
+  where
+    inside : {T E : Type 0} (a b : E) (r : Result T E) → r ≡ Err a → r ≡ Err b → a ≡ b
+    inside a b r one other = cc
+
+pub returns-in-Ok-take_space-clause-opened : goal.returns-in-Ok-take_space-clause-opened
+returns-in-Ok-take_space-clause-opened g c =
+    let begun = c.requires.begun in
+    let s = settings_seen c.args.settings.now in
+    let only = only_observed (header_at c.args.feeder.now) c.args.observations.items begun.observed
+    (begun.plan.headers ∙ c.requires.one.transfer) in
+    let o = only.0 in
+    let lane = c.in-Ok.ensures.opened o (c.as_slice.ensures.value ∙ only.1) in
+    let is = c.only_one.ensures o only.1 in
+    let Opens : Observation → Type 0 = λ x. OpensScope (g.S.Scoping.scopes c.args.scoping.now) g.I.Inputs.told
+    g.I.Inputs.is_open s c.accept_all.new.feeder x c.in-Ok-take_space.space in
+    subst Opens (sym is) (
+      lane.0,
+      lane.1,
+      is_opened g.I.Inputs.told g.I.Inputs.is_open s c.args.feeder.now c.accept_all.new.feeder c.args.observations.items
+          o lane.0 c.in-Ok.lane c.header.result.now c.in-Ok-take_space.space (record {
+            same = c.accept_all.ensures.plan;
+            headers = c.accept_all.ensures.headers;
+            inputs = c.accept_all.ensures.inputs;
+            feeds = c.accept_all.ensures.feeds;
+            faultless = c.accept_all.ensures.faultless;
+            running = c.accept_all.ensures.running;
+            reading = c.accept_all.ensures.reading;
+          })
+          begun only.1 c.requires.range c.requires.one c.header.ensures lane.2 c.in-Ok-take_space.ensures.space
+          c.in-Ok-take_space.ensures.total
+          (λ w firsts. c.in-Ok.ensures.fits w
+          (subst (λ os. AreFirsts w os) (sym (c.as_slice.ensures.value ∙ only.1)) firsts)),
+    )

@@ -1,0 +1,15 @@
+use Rattle.std.proofs.Common.{rules, ◌≡◌, sym, ◌∙◌, subst}
+use Rattle.search_words.specs.Settings.{settings_seen}
+use Rattle.run_stop.specs.Outcomes.{ReadsNoData}
+use Rattle.run_stop.specs.Runs.{Alone}
+use Rattle.whole_run.specs.Wholes.{ForWords}
+use Rattle.lone_run.proofs.run.drive_alone.Goals as goal
+
+pub returns-clause-unread : goal.returns-clause-unread
+returns-clause-unread g c = λ want lone.
+    let told = g.I.Inputs.told in
+    let s = settings_seen c.args.settings.now in
+    let Reads : _ → Type 0 = λ i. ForWords (Alone lone) s
+    (λ words. ReadsNoData (Alone lone) words (told c.args.inputs.now) (told i)) in
+    let back : c.inputs-1.given.0 ≡ c.within.result.inputs.now = search rules in
+    subst Reads (sym back) (c.within.ensures.unread (sym c.give_back.ensures.done ∙ want) lone)

@@ -1,0 +1,4 @@
+pub mod Scopes
+pub mod Stops
+pub mod Openings
+pub mod Found

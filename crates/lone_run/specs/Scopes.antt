@@ -1,0 +1,32 @@
+-- What a program that searches alone makes of an observation: its scope, and the engine that searches it.
+-- Source: this project's choice.
+use Rattle.std.specs.Prelude.{◌≡◌, ⊤, [], ◌∷◌, Some}
+use Rattle.dada_model.specs.Observation.{Observation}
+use Rattle.search_model.specs.declared.search.Search.{Search}
+use Rattle.search_engine.specs.Scope.{Scope}
+use Rattle.search_engine.specs.Engine.{EngineState, IsOpenedEngine, StandsForPart, scope_of}
+use Rattle.search_session.specs.declared.lane.Lane.{Lane}
+use Rattle.lone_run.specs.declared.scoping.ScopeFault.{ScopeFault}
+use Rattle.lone_run.specs.declared.scoping.ScopeFault.TheVariants.{Refused, Memory}
+
+-- the program finds something to search in an observation: `scopes` tells what this may be
+abbrev pub IsScoped : (Observation → Search → Scope → Type 0) → Search → Observation → Type 0
+IsScoped scopes s o = (scope : Scope) × scopes o s scope
+
+-- what a fault says of an observation: it is the program's own refusal, or want of memory
+abbrev pub ExplainsScope : {F : Type 0} → (Observation → F → Type 0) → Observation → ScopeFault F →
+    Type 0
+ExplainsScope refuses o (Refused refusal) = refuses o refusal
+ExplainsScope refuses o Memory = ⊤
+
+-- all delays in one shard, however many the settings ask for
+abbrev pub in_one_shard : Search → Search
+in_one_shard s = record s { shards = 1 }
+
+-- the lane has one engine, which searches a scope of an observation, and was fed nothing
+pub record IsLaneOf (s : Search) (o : Observation) (scope : Scope) (lane : Lane) : Type 0 where
+  pub engine : EngineState
+  pub alone : lane.engines.value.items ≡ Some engine ∷ []
+  pub opened : IsOpenedEngine engine (in_one_shard s) 0
+  pub scope_is : scope_of engine ≡ scope
+  pub stands : StandsForPart o [] engine

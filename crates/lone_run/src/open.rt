@@ -1,0 +1,224 @@
+// What comes before the session of a lone run.
+ghost use Rattle.std.specs.Prelude.{◌≡◌, ◌≢◌, ◌*◌, ◌≤◌, ◌∷◌, [], None, Some, Err, IfOk, IfErr, OnOk, length};
+ghost use Rattle.dada_model.specs.Observation.{Observation as Described};
+ghost use Rattle.psr_base.specs.Inputs.{HasReadFrom};
+ghost use Rattle.search_model.specs.Search.{SettingsInRange};
+ghost use Rattle.search_model.specs.Plan.{plan_refusal};
+ghost use Rattle.search_words.specs.Settings.{AllInRange, settings_seen};
+ghost use Rattle.stream_model.specs.Walk.{FileStream};
+ghost use Rattle.search_engine.specs.Scope.{Scope as Sought, FitsObservation};
+ghost use Rattle.search_engine.specs.Engine.{most_fed, IsOpenedEngine, StandsForPart, scope_of};
+ghost use Rattle.disk_feeder.specs.Filling.{HoldsAll};
+ghost use Rattle.search_session.specs.Lone.{IsLoneSpace};
+ghost use Rattle.search_opening.specs.First.{AreFirsts};
+ghost use Rattle.run_stop.specs.Firsts.{LeavesData};
+ghost use Rattle.run_stop.specs.Lone.{IsOfOne};
+ghost use Rattle.run_stop.specs.Runs.{CanSearchFirst};
+ghost use Rattle.whole_run.specs.Wholes.{OfRun};
+ghost use Rattle.lone_run.specs.Scopes.{in_one_shard as in_one_shard_of, IsLaneOf};
+ghost use Rattle.lone_run.specs.Stops.{StopsEarly, StopsLane};
+ghost use Rattle.lone_run.specs.Openings.{IsFreshFor, HasBegun, OpensScope, shape_for};
+
+use crate::scoping::{ScopeFault, Scoping};
+use crate::stop::LoneStop;
+use arrayvec::ArrayVec;
+use dada_header::Header;
+use disk_feeder::Feeder;
+use obs_plan::Observation;
+use psr_base::{Inputs, Memory};
+use run_stop::Stop;
+use search_engine::{Engine, PlanFault, Scope};
+use search_model::Search;
+use search_opening::{accept_all, begin_feed, check_plans, run_shape};
+use search_session::{Lane, LoneSpace};
+use search_words::Settings;
+use std::alloc::Global;
+
+/// A lone run of which all is opened.
+pub(crate) struct OpenedAlone {
+    pub(crate) observation: Observation,
+    pub(crate) space: LoneSpace,
+}
+
+// All delays in one shard.
+fn in_one_shard(search: &Search) -> Search
+    ensures { result ≡ in_one_shard_of search.now }
+{
+    let mut alone = *search;
+    alone.shards = 1;
+    alone
+}
+
+// The engine of all delays of a search that fits.
+fn open_engine(
+    alloc: Global,
+    observation: &Observation,
+    search: &Search,
+    scope: Scope,
+) -> Result<Engine, Memory>
+    requires range { SettingsInRange search.now }
+    requires fits { plan_refusal observation.now search.now ≡ None }
+    requires scope { FitsObservation observation.now search.now scope }
+    ensures opened { IfOk result (λ e. IsOpenedEngine e (in_one_shard_of search.now) 0) }
+    ensures scope { IfOk result (λ e. scope_of e ≡ scope) }
+    ensures stands { IfOk result (StandsForPart observation.now []) }
+{
+    match Engine::open_for(alloc, observation, &in_one_shard(search), 0, scope) {
+        Ok(engine) => Ok(engine),
+        Err(PlanFault::Memory) => Err(Memory),
+        // The plan fits.
+        Err(_) => unreachable!(),
+    }
+}
+
+// The lane that has it alone.
+fn open_lane(
+    alloc: Global,
+    observation: &Observation,
+    search: &Search,
+    scope: Scope,
+) -> Result<Lane, Memory>
+    requires range { SettingsInRange search.now }
+    requires fits { plan_refusal observation.now search.now ≡ None }
+    requires scope { FitsObservation observation.now search.now scope }
+    ensures { IfOk result (IsLaneOf search.now observation.now scope) }
+{
+    let engine = open_engine(alloc, observation, search, scope)?;
+    let mut engines = ArrayVec::new();
+    engines.push(Some(engine));
+    match Box::new(alloc, engines) {
+        Ok(engines) => Ok(Lane { engines }),
+        Err(_memory) => Err(Memory),
+    }
+}
+
+// The lane that searches what the program finds in the observation of a transfer, where the plan of the search fits.
+fn lane_for<S: Scoping>(
+    alloc: Global,
+    scoping: &S,
+    observations: &[Option<Observation>],
+    search: &Search,
+) -> Result<Lane, LoneStop<S::Refusal>>
+    requires range { SettingsInRange search.now }
+    requires one { (o : Described) × (observations.now ≡ Some o ∷ []) }
+    ensures opened { IfOk result (λ lane. (o : Described) → observations.now ≡ Some o ∷ []
+        → (scope : Sought) × S.scopes scoping.now o search.now scope
+        × IsLaneOf search.now o scope lane) }
+    ensures fits { OnOk result ((w : FileStream) → AreFirsts w observations.now
+        → CanSearchFirst search.now w (length w.starts)) }
+    ensures stopped { IfErr result (λ stop. (o : Described) → observations.now ≡ Some o ∷ []
+        → StopsLane (S.scopes scoping.now) (S.refuses scoping.now) search.now o stop) }
+{
+    let Some(observation) = &observations[0] else {
+        unreachable!()
+    };
+    let scope = match scoping.scope(alloc, observation, search) {
+        Ok(scope) => scope,
+        Err(ScopeFault::Refused(refusal)) => return Err(LoneStop::Unscoped(refusal)),
+        Err(ScopeFault::Memory) => return Err(LoneStop::Run(Stop::Memory)),
+    };
+    match check_plans(observations, search) {
+        Ok(()) => {}
+        Err(stop) => return Err(LoneStop::Run(stop)),
+    }
+    match open_lane(alloc, observation, search, scope) {
+        Ok(lane) => Ok(lane),
+        Err(_memory) => Err(LoneStop::Run(Stop::Memory)),
+    }
+}
+
+// The space of the session of a lane, under this first header.
+fn take_space(
+    alloc: Global,
+    settings: &Settings,
+    lane: Lane,
+    header: &Header,
+) -> Result<LoneSpace, Memory>
+    requires { AllInRange (settings_seen settings.now) }
+    ensures space { IfOk result
+        (IsLoneSpace lane (shape_for (settings_seen settings.now)) header.now) }
+    ensures total { OnOk result ((shape_for (settings_seen settings.now)).max_blocks
+        * settings.now.size ≤ most_fed) }
+{
+    let shape = run_shape(settings.buffers, settings.size, 1, settings.max_bytes, 1);
+    LoneSpace::take(alloc, lane, shape, header)
+}
+
+// The observation of a transfer.
+fn only_one(mut observations: ArrayVec<Option<Observation>, 8>) -> Observation
+    requires { (o : Described) × (observations.items ≡ Some o ∷ []) }
+    ensures { (o : Described) → observations.items ≡ Some o ∷ [] → result ≡ o }
+{
+    let Some(Some(observation)) = observations.pop_at(0) else {
+        unreachable!()
+    };
+    observation
+}
+
+// Finds what is searched, judges the plan of it, and takes all memory.
+fn open_begun<'a, I: Inputs, S: Scoping>(
+    alloc: Global,
+    settings: &Settings,
+    scoping: &S,
+    feeder: &mut Feeder<'a, I>,
+    observations: ArrayVec<Option<Observation>, 8>,
+) -> Result<OpenedAlone, LoneStop<S::Refusal>>
+    requires range { AllInRange (settings_seen settings.now) }
+    requires one { IsOfOne (settings_seen settings.now) }
+    requires begun { HasBegun I.told I.is_open (settings_seen settings.now) feeder.old
+        observations.items }
+    ensures same_reference { feeder.new.inputs.ghost_name ≡ feeder.old.inputs.ghost_name }
+    ensures inputs { feeder.new.inputs.now ≡ feeder.old.inputs.now }
+    ensures opened { IfOk result (λ r. OpensScope (S.scopes scoping.now) I.told I.is_open
+        (settings_seen settings.now) feeder.new r.observation r.space) }
+    ensures stopped { IfErr result (StopsEarly (S.scopes scoping.now) (S.refuses scoping.now)
+        (settings_seen settings.now) (I.told feeder.old.inputs.now)) }
+    ensures readable { result ≢ Err (LoneStop.Run Stop.ReadFault) }
+{
+    let lane = match lane_for(alloc, scoping, observations.as_slice(), &settings.search) {
+        Ok(lane) => lane,
+        Err(stop) => return Err(stop),
+    };
+    match take_space(alloc, settings, lane, feeder.header(0)) {
+        Ok(space) => {
+            accept_all(feeder, observations.as_slice());
+            Ok(OpenedAlone {
+                observation: only_one(observations),
+                space,
+            })
+        }
+        Err(_memory) => Err(LoneStop::Run(Stop::Memory)),
+    }
+}
+
+/// Reads the first header, finds what is searched of its observation, judges the plan of the search, and takes all
+/// memory.
+pub(crate) fn open_alone<'a, I: Inputs, S: Scoping>(
+    alloc: Global,
+    settings: &Settings,
+    scoping: &S,
+    feeder: &mut Feeder<'a, I>,
+) -> Result<OpenedAlone, LoneStop<S::Refusal>>
+    requires range { AllInRange (settings_seen settings.now) }
+    requires one { IsOfOne (settings_seen settings.now) }
+    requires fresh { IsFreshFor (settings_seen settings.now) feeder.old }
+    ensures same_reference { feeder.new.inputs.ghost_name ≡ feeder.old.inputs.ghost_name }
+    ensures inputs { HasReadFrom I.told I.is_calm I.faults
+        (result ≡ Err (LoneStop.Run Stop.ReadFault)) feeder.old.inputs.now
+        feeder.new.inputs.now }
+    ensures serves { I.is_calm feeder.old.inputs.now
+        → HoldsAll (I.told feeder.old.inputs.now) (settings_seen settings.now).names
+        → result ≢ Err (LoneStop.Run Stop.ReadFault) }
+    ensures opened { IfOk result (λ r. OpensScope (S.scopes scoping.now) I.told I.is_open
+        (settings_seen settings.now) feeder.new r.observation r.space) }
+    ensures stopped { IfErr result (StopsEarly (S.scopes scoping.now) (S.refuses scoping.now)
+        (settings_seen settings.now) (I.told feeder.old.inputs.now)) }
+    ensures unread { result ≡ Err (LoneStop.Run Stop.Memory)
+        → OfRun (I.told feeder.old.inputs.now) (settings_seen settings.now)
+        (LeavesData (I.told feeder.new.inputs.now)) }
+{
+    match begin_feed(alloc, feeder, settings.starts.as_slice()) {
+        Ok(observations) => open_begun(alloc, settings, scoping, feeder, observations),
+        Err(stop) => Err(LoneStop::Run(stop)),
+    }
+}

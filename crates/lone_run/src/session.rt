@@ -1,0 +1,71 @@
+// The session of a lone run.
+ghost use Rattle.std.specs.Prelude.{◌≡◌, ◌≢◌, ◌∷◌};
+ghost use Rattle.psr_base.specs.Inputs.{HasReadFrom};
+ghost use Rattle.search_words.specs.Settings.{SettingsSeen};
+ghost use Rattle.search_engine.specs.Scope.{Scope};
+ghost use Rattle.search_engine.specs.Engine.{EngineState};
+ghost use Rattle.disk_feeder.specs.declared.answers.FeedEnd.TheVariants.{ReadFault};
+ghost use Rattle.disk_feeder.specs.Feeder.{names_at};
+ghost use Rattle.disk_feeder.specs.Filling.{HoldsAll};
+ghost use Rattle.disk_feeder.specs.Resting.{feeder_over};
+ghost use Rattle.search_session.specs.Lanes.{HasEngine};
+ghost use Rattle.lone_run.specs.Openings.{IsOpenedAlone};
+ghost use Rattle.lone_run.specs.Found.{GoesAlone};
+
+use crate::found::LoneFound;
+use crate::open::OpenedAlone;
+use arrayvec::ArrayVec;
+use disk_feeder::FeederSpace;
+use psr_base::Inputs;
+use search_engine::Engine;
+use search_session::{Lane, NoGate, run_alone};
+use std::sync::Wait;
+
+// The first engine of a list.
+fn first_of(engines: &mut ArrayVec<Option<Engine>, 8>) -> Engine
+    requires { (e : EngineState) × HasEngine engines.old.items 0 e }
+    ensures { (e : EngineState) → HasEngine engines.old.items 0 e → result ≡ e }
+{
+    let Some(Some(engine)) = engines.pop_at(0) else {
+        unreachable!()
+    };
+    engine
+}
+
+// The engine of a lane that has one.
+fn engine_of(lane: Lane) -> Engine
+    requires { (e : EngineState) × HasEngine lane.engines.value.items 0 e }
+    ensures { (e : EngineState) → HasEngine lane.engines.value.items 0 e → result ≡ e }
+{
+    let Lane { mut engines } = lane;
+    first_of(&mut engines)
+}
+
+/// Drives the session of a lone run of which all is opened.
+pub(crate) fn go_on<'a, I: Inputs, R: Wait>(
+    rt: &R,
+    opened: OpenedAlone,
+    feeder: FeederSpace<'a>,
+    inputs: &mut I,
+) -> LoneFound
+    requires opened { (s : SettingsSeen) × (scope : Scope) × IsOpenedAlone I.told I.is_open s
+        (feeder_over inputs.old feeder) opened.observation scope opened.space }
+    ensures inputs { HasReadFrom I.told I.is_calm I.faults (result.feed ≡ ReadFault) inputs.old
+        inputs.new }
+    ensures serves { I.is_calm inputs.old
+        → HoldsAll (I.told inputs.old) (names_at (feeder_over inputs.old feeder.entry))
+        → result.feed ≢ ReadFault }
+    ensures went { (s : SettingsSeen) (scope : Scope) → IsOpenedAlone I.told I.is_open s
+        (feeder_over inputs.old feeder.entry) opened.observation scope opened.space
+        → GoesAlone s (I.told inputs.old) opened.observation scope result }
+{
+    let OpenedAlone { observation, space } = opened;
+    let session = space.session(feeder);
+    let end = run_alone(rt, session, inputs, &NoGate, 0);
+    LoneFound {
+        feed: end.feed,
+        observation,
+        engine: engine_of(end.lane),
+        blocks: end.blocks,
+    }
+}
