@@ -230,7 +230,7 @@ goes_alone told is_open is_calm faults s lent after feeder o scope space start e
             ended = ap (λ (e : EngineState). e.has_ended) at ∙ went.2.ended;
             searched = subst (λ x. HasFoundIn x scope through found.engine) (sym observed)
                 (subst (λ c. HasFoundIn o c through found.engine) scope_is
-                (subst (λ e. HasFoundIn o (scope_of e) through e) (sym at) (went.2.stands o is.stands)));
+                (subst (λ e. HasFoundIn o (scope_of e) through e) (sym at) (went.2.stands o is.stands).found));
             known = of_plan f s (told lent) (told after) (λ w. through ≡ transfer_data w 0) plan fed.names
                 (λ files are. fed.walked bytes feed_whole files are 0 (omega (arith, transfers)));
           };

@@ -1,5 +1,5 @@
 // The session of a lone run.
-ghost use Rattle.std.specs.Prelude.{◌≡◌, ◌≢◌, ◌∷◌};
+ghost use Rattle.std.specs.Prelude.{◌≡◌, ◌≢◌};
 ghost use Rattle.psr_base.specs.Inputs.{HasReadFrom};
 ghost use Rattle.search_words.specs.Settings.{SettingsSeen};
 ghost use Rattle.search_engine.specs.Scope.{Scope};
