@@ -34,8 +34,7 @@ unfed_lane s shard headers observations lane n observed engines count = record {
   each = λ k below.
       let is = observation_at_place headers observations k observed (omega (arith, below, count)) in
       let engine = engines.each k is.0 is.1 in
-      let fed = engine.2.stands.taken.holds.count in
-      (engine.0, engine.1, sym fed, engine.2.opened.running);
+      (engine.0, engine.1, engine.2.opened.nothing_fed, engine.2.opened.running);
 }
 
 unfed_lanes : (task : Task) (s : SettingsSeen) (headers : List _) (observations : List (Option Observation))
