@@ -1,5 +1,5 @@
 // Masked channels, whose samples are left out.
-ghost use Rattle.std.specs.Prelude.{◌≡◌, ℕ, ◌≤◌, Bool, List, length};
+ghost use Rattle.std.specs.Prelude.{◌≡◌, ℕ, ◌≤◌, List, length};
 ghost use Rattle.spectra_rows.specs.Unpacking.{StandsForBytes, StandsForKept};
 ghost use Rattle.search_engine.specs.Scope.{kept_by, marks_of};
 

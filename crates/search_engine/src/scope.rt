@@ -1,5 +1,5 @@
 // What of an observation is searched.
-ghost use Rattle.std.specs.Prelude.{◌≡◌, ◌≤◌, ◌^◌, ℕ, List};
+ghost use Rattle.std.specs.Prelude.{◌≡◌};
 ghost use Rattle.search_engine.specs.Scope.{Scope as Described, marks_of, scope_of_channels, scope_of_part, whole_scope};
 
 use crate::hiding::Masked;
