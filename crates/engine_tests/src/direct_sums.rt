@@ -118,10 +118,11 @@ fn sums_of(
     Ok(row)
 }
 
-/// The path sums of one delay, by the spectrum at which they end.
+/// The path sums of one delay, by the spectrum at which they end, and how many cells each adds up.
 #[derive(Drop)]
 pub struct Row {
     pub delay: u32,
+    pub cells: u32,
     pub sums: Vec<u32>,
 }
 
@@ -135,7 +136,9 @@ pub fn rows(
     let mut rows = Vec::new(alloc);
     for delay in search.min_delay..search.max_delay.saturating_add(1) {
         let sums = sums_of(alloc, samples, delay, spectra)?;
-        rows.push(Row { delay, sums })?;
+        let channels = u32::try_from(samples.channels).unwrap_or(0);
+        let cells = channels.wrapping_add(delay);
+        rows.push(Row { delay, cells, sums })?;
     }
     Ok(rows)
 }
@@ -173,12 +176,11 @@ pub fn is_detected(search: &Search, sum: u32, cells: u64) -> bool {
 fn list_boxes(
     list: &mut Vec<Candidate>,
     search: &Search,
-    channels: u32,
     row: &Row,
     end: u32,
 ) -> Result<(), Memory> {
     for width in [1_u32, 2, 4, 8, 16, 32] {
-        let cells = u64::from(width).saturating_mul(u64::from(channels) + u64::from(row.delay));
+        let cells = u64::from(width).saturating_mul(u64::from(row.cells));
         if let Some(sum) = box_sum(row, end, width) {
             if width <= search.widest && is_detected(search, sum, cells) {
                 list.push(Candidate::Pulse {
@@ -197,13 +199,12 @@ fn list_boxes(
 pub fn list_pulses(
     list: &mut Vec<Candidate>,
     search: &Search,
-    channels: u32,
     rows: &[Row],
     spectra: u32,
 ) -> Result<(), Memory> {
     for end in 0..spectra {
         for row in rows {
-            list_boxes(list, search, channels, row, end)?;
+            list_boxes(list, search, row, end)?;
         }
     }
     Ok(())

@@ -11,4 +11,6 @@ mod made;
 #[cfg(test)]
 mod plans;
 #[cfg(test)]
+mod scopes;
+#[cfg(test)]
 mod whole;

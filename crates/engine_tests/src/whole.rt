@@ -45,7 +45,7 @@ const SEARCH: Search = Search {
 };
 
 // Bytes that look like noise.
-fn noise(alloc: Global, count: usize) -> Result<Vec<u8>, Memory> {
+pub fn noise(alloc: Global, count: usize) -> Result<Vec<u8>, Memory> {
     let mut bytes = Vec::new(alloc);
     let mut state: u32 = 14;
     for _byte in 0..count {
@@ -63,7 +63,7 @@ fn feed_piece(engine: &mut Engine, piece: &[u8]) {
 }
 
 // Feeds bytes in pieces of these lengths, over and over.
-fn feed_cut(engine: &mut Engine, bytes: &[u8], lengths: &[usize]) {
+pub fn feed_cut(engine: &mut Engine, bytes: &[u8], lengths: &[usize]) {
     let mut rest = bytes;
     for turn in 0..bytes.len() {
         let length = lengths.get(turn % lengths.len().max(1)).copied();
@@ -105,17 +105,11 @@ fn searched(
 }
 
 // Lists the detected folds of all delays.
-fn list_folds(
-    list: &mut Vec<Candidate>,
-    search: &Search,
-    channels: u32,
-    rows: &[Row],
-) -> Result<(), Memory> {
+fn list_folds(list: &mut Vec<Candidate>, search: &Search, rows: &[Row]) -> Result<(), Memory> {
     for row in rows {
         let series = row.sums.as_slice().get(row.delay as usize..).unwrap_or(&[]);
         if is_folded(search, row.delay) {
-            let cells = channels.saturating_add(row.delay);
-            list_delay(list, search, series, row.delay, cells)?;
+            list_delay(list, search, series, row.delay, row.cells)?;
         }
     }
     Ok(())
@@ -135,8 +129,8 @@ fn list_all(
     };
     let rows = rows(alloc, samples, search, SPECTRA as usize)?;
     let mut list = Vec::new(alloc);
-    list_pulses(&mut list, search, CHANNELS, rows.as_slice(), SPECTRA)?;
-    list_folds(&mut list, search, CHANNELS, rows.as_slice())?;
+    list_pulses(&mut list, search, rows.as_slice(), SPECTRA)?;
+    list_folds(&mut list, search, rows.as_slice())?;
     Ok(list)
 }
 
@@ -238,7 +232,7 @@ const CUTS: &str = "
 65536 3 | 11099 5
 ";
 
-fn lengths_of(alloc: Global, words: &str) -> Result<Vec<usize>, Memory> {
+pub fn lengths_of(alloc: Global, words: &str) -> Result<Vec<usize>, Memory> {
     let mut lengths = Vec::new(alloc);
     for word in words.split_whitespace() {
         lengths.push(word.parse::<usize>().unwrap_or(0))?;
