@@ -1,5 +1,5 @@
 // Searches of some channels against direct sums, and of a part against the plain search.
-ghost use Rattle.std.specs.Prelude.{◌≡◌, ℕ, ◌+◌, ◌^◌, ◌≤◌, ◌<◌, IsTrue, length, slice_index};
+ghost use Rattle.std.specs.Prelude.{ℕ, ◌+◌, ◌≤◌, ◌<◌, IsTrue, length, slice_index};
 ghost use Rattle.search_model.specs.Search.{SettingsInRange};
 
 use crate::direct_sums::{Row, Samples, list_pulses, rows};
