@@ -5,6 +5,7 @@ ghost use Rattle.search_model.specs.Search.{SettingsInRange};
 use crate::direct_sums::{Row, Samples, list_pulses, rows};
 use crate::made::{fields_of, observation};
 use crate::whole::{feed_cut, lengths_of, noise};
+use candidate_book::Book;
 use obs_plan::Observation;
 use psr_base::Memory;
 use search_engine::{Engine, PlanFault, Scope};
@@ -193,13 +194,29 @@ fn direct(
     Ok(list)
 }
 
-// Feeds bytes in pieces of these lengths, over and over, and ends the search.
-fn run(engine: &mut Engine, bytes: &[u8], lengths: &[usize]) -> bool {
-    feed_cut(engine, bytes, lengths);
+// Bytes that look random, up to 63.
+fn low_noise(alloc: Global, count: usize) -> Result<Vec<u8>, Memory> {
+    let mut samples = noise(alloc, count)?;
+    for sample in samples.as_mut_slice() {
+        *sample /= 4;
+    }
+    Ok(samples)
+}
+
+// What an engine finds in bytes that are fed in pieces of these lengths, over and over; nothing where it counts other
+// spectra.
+fn found(mut engine: Engine, bytes: &[u8], lengths: &[usize]) -> Option<Book> {
+    feed_cut(&mut engine, bytes, lengths);
     if !engine.has_ended() {
         engine.end();
     }
-    engine.whole_spectra() == SPECTRA as u64
+    let spectra = engine.whole_spectra();
+    let book = engine.into_book();
+    if spectra == SPECTRA as u64 {
+        Some(book)
+    } else {
+        None
+    }
 }
 
 // Whether there are no more cells than on a path.
@@ -231,6 +248,56 @@ fn open_channels(
     Engine::open_for(alloc, observation, search, 0, scope)
 }
 
+// What the search of some channels finds, if it can be opened.
+fn find_kept(
+    alloc: Global,
+    observation: &Observation,
+    marks: Vec<bool>,
+    counts: Vec<u32>,
+    bytes: &[u8],
+    lengths: &[usize],
+) -> Option<Book> {
+    let search = SEARCH;
+    if !search.in_range() || marks.len() > observation.channels() as usize {
+        return None;
+    }
+    if !fit(counts.as_slice(), observation.channels()) {
+        return None;
+    }
+    match open_channels(alloc, observation, &search, marks, counts) {
+        Ok(engine) => found(engine, bytes, lengths),
+        Err(_) => None,
+    }
+}
+
+// Whether the search of some channels finds these candidates.
+fn finds(
+    alloc: Global,
+    observation: &Observation,
+    marks: Vec<bool>,
+    counts: Vec<u32>,
+    bytes: &[u8],
+    lengths: &[usize],
+    wanted: &[Candidate],
+) -> bool {
+    match find_kept(alloc, observation, marks, counts, bytes, lengths) {
+        Some(book) => book.kept() == wanted,
+        None => false,
+    }
+}
+
+// The direct candidates of the channels that are kept.
+fn direct_of(
+    alloc: Global,
+    observation: &Observation,
+    samples: &[u8],
+    marks: &[bool],
+    counts: &[u32],
+) -> Result<Vec<Candidate>, Memory> {
+    let kept = without(alloc, samples, marks)?;
+    direct(alloc, observation, kept.as_slice(), counts)
+}
+
 // Whether the search of some channels finds the direct candidates of these alone.
 fn finds_kept(
     alloc: Global,
@@ -238,28 +305,26 @@ fn finds_kept(
     marks: Vec<bool>,
     lengths: &[usize],
 ) -> Result<bool, Memory> {
-    let mut samples = noise(alloc, SPECTRA * CHANNELS)?;
-    for sample in samples.as_mut_slice() {
-        *sample /= 4;
-    }
+    let samples = low_noise(alloc, SPECTRA * CHANNELS)?;
     let bytes = data_of(alloc, observation, samples.as_slice(), marks.as_slice())?;
-    let kept = without(alloc, samples.as_slice(), marks.as_slice())?;
     let counts = counts_of(alloc, observation, marks.as_slice())?;
-    let wanted = direct(alloc, observation, kept.as_slice(), counts.as_slice())?;
-    let search = SEARCH;
-    if !search.in_range() || marks.len() > observation.channels() as usize {
-        return Ok(false);
-    }
-    if !fit(counts.as_slice(), observation.channels()) || wanted.len() < 50 {
-        return Ok(false);
-    }
-    match open_channels(alloc, observation, &search, marks, counts) {
-        Ok(mut engine) => {
-            let whole = run(&mut engine, bytes.as_slice(), lengths);
-            Ok(whole && engine.book().kept() == wanted.as_slice())
-        }
-        Err(_) => Err(Memory),
-    }
+    let wanted = direct_of(
+        alloc,
+        observation,
+        samples.as_slice(),
+        marks.as_slice(),
+        counts.as_slice(),
+    )?;
+    let found = finds(
+        alloc,
+        observation,
+        marks,
+        counts,
+        bytes.as_slice(),
+        lengths,
+        wanted.as_slice(),
+    );
+    Ok(found && wanted.len() >= 50)
 }
 
 // An observation, the marks of its channels, and the lengths of the pieces that are fed, over and over.
@@ -290,22 +355,26 @@ fn masked_channels_are_not_searched(rt: HostRuntime) -> Result<(), Memory> {
     Ok(())
 }
 
-// The pulses of a list that end within a part.
-fn ends_within(
-    alloc: Global,
-    list: &[Candidate],
-    place: u64,
-    until: u64,
-) -> Result<Vec<Candidate>, Memory> {
-    let mut part = Vec::new(alloc);
-    for candidate in list {
-        if let Candidate::Pulse { end, .. } = candidate {
-            if place <= *end && *end < until {
-                part.push(*candidate)?;
+// Whether a candidate is a pulse that ends within a part.
+fn ends_within(candidate: &Candidate, place: u32, until: u32) -> bool {
+    match *candidate {
+        Candidate::Pulse { end, .. } => u64::from(place) <= end && end < u64::from(until),
+        Candidate::Fold { .. } => false,
+    }
+}
+
+// Whether a list has just those candidates of another that end within a part.
+fn is_part_of(part: &[Candidate], all: &[Candidate], place: u32, until: u32) -> bool {
+    let mut next = 0_usize;
+    for candidate in all {
+        if ends_within(candidate, place, until) {
+            if part.get(next) != Some(candidate) {
+                return false;
             }
+            next = next.wrapping_add(1);
         }
     }
-    Ok(part)
+    next == part.len()
 }
 
 // An engine over a part.
@@ -329,6 +398,53 @@ fn open_part(
     Engine::open_for(alloc, observation, search, 0, scope)
 }
 
+// What the search of all finds.
+fn find_all(alloc: Global, observation: &Observation, bytes: &[u8]) -> Option<Book> {
+    let search = SEARCH;
+    if !search.in_range() {
+        return None;
+    }
+    match Engine::open(alloc, observation, &search, 0) {
+        Ok(engine) => found(engine, bytes, &[20000]),
+        Err(_) => None,
+    }
+}
+
+// What the search of a part finds.
+fn find_part(
+    alloc: Global,
+    observation: &Observation,
+    place: u32,
+    until: u32,
+    bytes: &[u8],
+    lengths: &[usize],
+) -> Option<Book> {
+    let search = SEARCH;
+    if !search.in_range() {
+        return None;
+    }
+    match open_part(alloc, observation, &search, place, until) {
+        Ok(engine) => found(engine, bytes, lengths),
+        Err(_) => None,
+    }
+}
+
+// Whether the search of a part finds that part of these candidates.
+fn finds_part_of(
+    alloc: Global,
+    observation: &Observation,
+    place: u32,
+    until: u32,
+    bytes: &[u8],
+    lengths: &[usize],
+    all: &[Candidate],
+) -> bool {
+    match find_part(alloc, observation, place, until, bytes, lengths) {
+        Some(book) => all.len() > 100 && is_part_of(book.kept(), all, place, until),
+        None => false,
+    }
+}
+
 // Whether the search of a part finds the part of what the search of all finds.
 fn finds_part(
     alloc: Global,
@@ -336,22 +452,21 @@ fn finds_part(
     place: u32,
     until: u32,
     lengths: &[usize],
-) -> Result<bool, PlanFault> {
-    let search = SEARCH;
-    if !search.in_range() {
-        return Ok(false);
+) -> Result<bool, Memory> {
+    let samples = low_noise(alloc, SPECTRA * CHANNELS + 3)?;
+    let bytes = samples.as_slice();
+    match find_all(alloc, observation, bytes) {
+        Some(book) => Ok(finds_part_of(
+            alloc,
+            observation,
+            place,
+            until,
+            bytes,
+            lengths,
+            book.kept(),
+        )),
+        None => Ok(false),
     }
-    let mut samples = noise(alloc, SPECTRA * CHANNELS + 3)?;
-    for sample in samples.as_mut_slice() {
-        *sample /= 4;
-    }
-    let mut whole = Engine::open(alloc, observation, &search, 0)?;
-    let mut part = open_part(alloc, observation, &search, place, until)?;
-    let both = run(&mut whole, samples.as_slice(), &[20000])
-        && run(&mut part, samples.as_slice(), lengths);
-    let all = whole.book().kept();
-    let wanted = ends_within(alloc, all, u64::from(place), u64::from(until))?;
-    Ok(both && all.len() > 100 && part.book().kept() == wanted.as_slice())
 }
 
 // From and before which spectrum pulses end, and the lengths of the pieces that are fed, over and over.
@@ -365,7 +480,7 @@ const PARTS: &str = "0 90 | 20000
 89 4000 | 31
 95 99 | 100";
 
-fn part_is_met(alloc: Global, line: &'static str) -> Result<bool, PlanFault> {
+fn part_is_met(alloc: Global, line: &'static str) -> Result<bool, Memory> {
     let [ends, lengths, _] = fields_of(line);
     let (place, until) = ends.split_once(' ').unwrap_or((ends, ""));
     let place = place.parse::<u32>().unwrap_or(0);
@@ -378,7 +493,7 @@ fn part_is_met(alloc: Global, line: &'static str) -> Result<bool, PlanFault> {
 }
 
 #[test]
-fn a_part_is_that_of_the_whole_list(rt: HostRuntime) -> Result<(), PlanFault> {
+fn a_part_is_that_of_the_whole_list(rt: HostRuntime) -> Result<(), Memory> {
     for line in PARTS.lines() {
         assert!(rt; part_is_met(rt.alloc(), line)?, "{line}");
     }
