@@ -5,3 +5,5 @@ pub mod Digits
 pub mod Items
 pub mod Marks
 pub mod Counts
+pub mod Kept
+pub mod Written

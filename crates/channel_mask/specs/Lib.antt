@@ -5,4 +5,5 @@ pub mod FrontLaws
 pub mod Masks
 pub mod Ranges
 pub mod Counting
+pub mod Masked
 pub mod Worked
