@@ -3,5 +3,7 @@ pub mod Counts
 pub mod Checkpoint
 pub mod Named
 pub mod LastLine
+pub mod Warm
 pub mod Laws
+pub mod Joins
 pub mod Worked

@@ -9,9 +9,11 @@ mod lines;
 mod named;
 mod part;
 mod text;
+mod warm;
 
 pub use checkpoint::{Checkpoint, CheckpointFault};
 pub use counts::until_of_word;
-pub use laws::{lines_are_read_back, texts_say_one};
+pub use laws::{lines_are_read_back, part_texts_join, texts_say_one};
 pub use named::read_checkpoint;
 pub use part::{first_needed, write_last_line, write_part};
+pub use warm::Warm;
