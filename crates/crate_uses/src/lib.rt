@@ -5,6 +5,7 @@
 pub mod calls;
 pub mod folding;
 pub mod headers;
+pub mod masked;
 pub mod ring;
 pub mod search;
 #[cfg(test)]
