@@ -12,7 +12,8 @@ use Rattle.search_model.specs.Samples.{Filterbank}
 use Rattle.search_model.specs.Sums.{path_sum}
 use Rattle.search_model.specs.Masks.{kept_cells}
 use Rattle.search_model.specs.MaskLaws.{PathSumsCountCells}
-use Rattle.channel_mask.specs.Masks.{is_masked, kept_by}
+use Rattle.channel_mask.specs.Masks.{is_masked}
+use Rattle.search_engine.specs.Scope.{kept_by}
 use Rattle.channel_mask.specs.Counting.{chunk, mark_sample, AreMarks, Repeats, TakesChunks, TookChunks, EndWith}
 
 -- ---- chunks

@@ -27,7 +27,7 @@ use Rattle.search_engine.specs.Laws.{ScopesAreFound}
 use Rattle.search_engine.specs.Plan.{Explains}
 use Rattle.search_engine.specs.declared.fault.PlanFault.{PlanFault}
 use Rattle.search_engine.specs.Scope.{FitsObservation, Scope, candidates_in, scope_of_channels}
-use Rattle.channel_mask.specs.Masks.{kept_by}
+use Rattle.search_engine.specs.Scope.{kept_by}
 use Rattle.channel_mask.specs.Masked.{AreCells, HasFoundKept, MaskState, SearchesKept, in_one_shard}
 
 -- ---- one shard

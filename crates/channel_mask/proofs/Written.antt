@@ -20,7 +20,7 @@ use Rattle.candidate_book.specs.Merged.{WroteText}
 use Rattle.candidate_book.specs.declared.labels.PulseWord.{PulseWord}
 use Rattle.candidate_book.specs.declared.merged.Totals.{Totals}
 use Rattle.search_engine.specs.Engine.{spectra_fed}
-use Rattle.channel_mask.specs.Masks.{kept_by}
+use Rattle.search_engine.specs.Scope.{kept_by}
 use Rattle.channel_mask.specs.Masked.{HasFoundKept, MaskState, WroteMasked}
 use Rattle.channel_mask.proofs.Kept.{all_early}
 

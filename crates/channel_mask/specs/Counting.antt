@@ -5,7 +5,7 @@ use Rattle.band_paths.specs.Edges.{channels_of}
 use Rattle.fdmt_carry.specs.Carrying.{Carrying, StandsForSamples}
 use Rattle.search_model.specs.Samples.{Filterbank}
 use Rattle.search_model.specs.Sums.{path_sum}
-use Rattle.channel_mask.specs.Masks.{kept_by}
+use Rattle.search_engine.specs.Scope.{kept_by}
 
 -- how many spectra are added up at a time
 abbrev pub chunk : ℕ

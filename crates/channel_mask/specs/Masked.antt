@@ -13,7 +13,7 @@ use Rattle.candidate_book.specs.Merged.{WroteText}
 use Rattle.candidate_book.specs.declared.merged.Totals.{Totals}
 use Rattle.search_engine.specs.Engine.{EngineState, StandsForPart, scope_of, spectra_fed}
 use Rattle.search_engine.specs.Scope.{scope_of_channels}
-use Rattle.channel_mask.specs.Masks.{kept_by}
+use Rattle.search_engine.specs.Scope.{kept_by}
 
 -- the same search by one shard
 abbrev pub in_one_shard : Search → Search

@@ -1,6 +1,6 @@
 -- What the mask of an observation is, and why a text gives none.
 -- Source: this project's choice; the order of channels in a file is that of the sign of its BW (PSRDADA manual).
-use Rattle.std.specs.Prelude.{◌≡◌, ℕ, ◌-◌, ◌<◌, Bool, true, false, not, List, length, slice_index_or, Some, None, if◌then◌else◌}
+use Rattle.std.specs.Prelude.{◌≡◌, ℕ, ◌-◌, ◌<◌, Bool, true, false, List, length, slice_index_or, Some, None, if◌then◌else◌}
 use Rattle.dada_model.specs.Observation.{Observation}
 use Rattle.channel_mask.specs.declared.fault.MaskFault.{MaskFault}
 use Rattle.channel_mask.specs.declared.fault.MaskFault.TheVariants.{BadMask, OutOfRange, AllMasked, Memory}
@@ -17,10 +17,6 @@ file_channel o c = place_in_file o.channels o.is_falling c
 -- whether channel c is masked, counted from the highest frequency
 abbrev pub is_masked : List Bool → ℕ → Bool
 is_masked mask c = slice_index_or mask c false
-
--- the channels that are kept
-abbrev pub kept_by : List Bool → ℕ → Bool
-kept_by mask c = not (is_masked mask c)
 
 -- the text masks channels of the observation, and leaves one
 pub record IsMaskOf (o : Observation) (text : List ℕ) (mask : List Bool) : Type 0 where

@@ -4,7 +4,7 @@ ghost use Rattle.dada_model.specs.Bounds.{most_delay};
 ghost use Rattle.dada_model.specs.Edges.{AreEdges};
 ghost use Rattle.dada_model.specs.Observation.{edges as edges_of};
 ghost use Rattle.search_model.specs.Masks.{kept_cells};
-ghost use Rattle.channel_mask.specs.Masks.{kept_by};
+ghost use Rattle.search_engine.specs.Scope.{kept_by};
 ghost use Rattle.channel_mask.specs.Counting.{chunk, AreMarks, TakesChunks, TookChunks, EndWith};
 
 use crate::mask::Mask;

@@ -8,7 +8,7 @@ ghost use Rattle.search_model.specs.Search.{SettingsInRange};
 ghost use Rattle.search_engine.specs.Engine.{IsOpenedEngine, SameShard, most_fed, spectra_fed};
 ghost use Rattle.search_engine.specs.Plan.{Explains};
 ghost use Rattle.search_engine.specs.Scope.{scope_of_channels};
-ghost use Rattle.channel_mask.specs.Masks.{kept_by};
+ghost use Rattle.search_engine.specs.Scope.{kept_by};
 ghost use Rattle.channel_mask.specs.Masked.{HasFoundKept, SearchesKept, StandsForKept, in_one_shard as in_one_shard_of};
 
 use crate::mask::Mask;

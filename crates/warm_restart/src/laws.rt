@@ -16,8 +16,8 @@ pub fn lines_are_read_back()
     ensures { LinesAreReadBack }
 {}
 
-/// The text of two parts, one after the other and without the first one's last line, is that of both; and the text of the
-/// part that has all spectra is that of the whole search.
+/// The text of two parts, one after the other and without the first one's last line, is that of both; and the text of
+/// the part that has all spectra is that of the whole search.
 pub fn part_texts_join()
     ensures { PartTextsJoin }
 {

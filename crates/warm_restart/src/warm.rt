@@ -22,9 +22,9 @@ use std::alloc::Global;
 use search_engine::scopes_are_found;
 use search_model::{candidates_are_listed, one_shard_is_all};
 
-/// The search of a part of an observation, from a checkpoint on: data bytes are fed in pieces that are cut anywhere, from
-/// the first spectrum of the observation on, and the pulses that end in the part are kept in a book. All memory is taken
-/// by `open`.
+/// The search of a part of an observation, from a checkpoint on: data bytes are fed in pieces that are cut anywhere,
+/// from the first spectrum of the observation on, and the pulses that end in the part are kept in a book. All memory
+/// is taken by `open`.
 #[derive(Drop)]
 pub struct Warm {
     search: Search,

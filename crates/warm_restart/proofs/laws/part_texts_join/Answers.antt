@@ -13,5 +13,6 @@ returns c = record {
       until from.pulses (c.candidates_rise.ensures (filterbank_of o bytes) (edges o) (plain_cells o.channels) s) first
       second;
   whole = λ o s until bytes off all.
-      c.parts_join.ensures.whole (labels_of o) (filterbank_of o bytes) (edges o) (plain_cells o.channels) s until off all;
+      c.parts_join.ensures.whole (labels_of o) (filterbank_of o bytes) (edges o) (plain_cells o.channels) s until
+      off all;
 }
