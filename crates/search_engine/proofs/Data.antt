@@ -34,8 +34,8 @@ place_in_spectrum true c n channel = channel
 place_in_spectrum false c n channel = omega arith
 
 -- more bytes change no whole spectrum
-pub begins_before : SamplesOfBytes → (o : Observation) (masked : List Bool) (bytes more : List ℕ) (u v : ℕ) (f : Filterbank) →
-    ObservationInRange o → u ≤ v → u ≤ (kept_samples o masked bytes).spectra →
+pub begins_before : SamplesOfBytes → (o : Observation) (masked : List Bool) (bytes more : List ℕ) (u v : ℕ)
+    (f : Filterbank) → ObservationInRange o → u ≤ v → u ≤ (kept_samples o masked bytes).spectra →
     BeginsWith o (kept_samples o masked (bytes ++ more)) v f → BeginsWith o (kept_samples o masked bytes) u f
 begins_before law o masked bytes more u v f range before whole begins = record {
   channels = begins.channels;
@@ -56,8 +56,9 @@ small_kept true n most small = small
 small_kept false n most small = omega arith
 
 -- the samples of the data bytes themselves are such a stream
-pub data_begin : SamplesOfBytes → (o : Observation) (masked : List Bool) (bytes : List ℕ) (u : ℕ) → ObservationInRange o →
-    All (λ byte. byte < 256) bytes → BeginsWith o (kept_samples o masked bytes) u (kept_samples o masked bytes)
+pub data_begin : SamplesOfBytes → (o : Observation) (masked : List Bool) (bytes : List ℕ) (u : ℕ) →
+    ObservationInRange o → All (λ byte. byte < 256) bytes →
+    BeginsWith o (kept_samples o masked bytes) u (kept_samples o masked bytes)
 data_begin law o masked bytes u range numbers = record {
   channels = refl;
   small = λ c t. small_kept (kept_by masked c) _ _

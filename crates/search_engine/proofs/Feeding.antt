@@ -147,8 +147,8 @@ pushed_holds law o before piece e u n holds alike long pieces numbers most =
       few = omega (arith, count, both, long);
       most = most;
       held = pieces holds.held;
-      sums = λ f begins. holds.sums f (begins_before law o e.masked before piece e.sums.carry.fed e.sums.carry.fed f s.bounds
-          (let l : e.sums.carry.fed ≤ e.sums.carry.fed = omega arith in l) whole begins);
+      sums = λ f begins. holds.sums f (begins_before law o e.masked before piece e.sums.carry.fed e.sums.carry.fed f
+          s.bounds (let l : e.sums.carry.fed ≤ e.sums.carry.fed = omega arith in l) whole begins);
     }
 
 -- the same of bytes of which n are taken
@@ -195,7 +195,8 @@ begins_less o g u v f less begins = record {
 pub next_spectra : (o : Observation) (bytes rows : List ℕ) (e : EngineState) (r : ℕ) → HoldsData o bytes e →
     r ≤ e.unpacker.whole →
     HasRows e bytes rows →
-    (f : Filterbank) → BeginsWith o (kept_samples o e.masked bytes) (e.sums.carry.fed + r) f → AreNext e.sums.carry f rows r
+    (f : Filterbank) → BeginsWith o (kept_samples o e.masked bytes) (e.sums.carry.fed + r) f →
+    AreNext e.sums.carry f rows r
 next_spectra o bytes rows e r holds few samples f begins = λ channel i within early.
     let s = holds.searches in
     let channels = begins.channels in
@@ -274,6 +275,8 @@ searched_holds o bytes rows e u t b h r holds is_alike whole given alike fed sam
       sums = λ f begins.
           let B : ℕ → Type 0 = λ n. BeginsWith o (kept_samples o e.masked bytes) n f in
           let later = subst B fed begins in
-          stands f (holds.sums f (begins_less o (kept_samples o e.masked bytes) e.sums.carry.fed (e.sums.carry.fed + r) f (omega arith) later))
+          stands f
+          (holds.sums f (begins_less o (kept_samples o e.masked bytes) e.sums.carry.fed (e.sums.carry.fed + r) f
+          (omega arith) later))
           (next_spectra o bytes rows e r holds few samples f later);
     }

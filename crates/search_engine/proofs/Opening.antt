@@ -20,8 +20,8 @@ use Rattle.search_engine.specs.Scope.{limit_in_bytes, spectrum_size}
 
 -- the parts of an engine
 pub record OpenedParts
-    (o : Observation) (s : Search) (k : ℕ) (masked : List Bool) (x : Sought) (chunk : ℕ) (u : Unpacking) (sums : ShardState)
-    (book : BookContents) : Type 0 where
+    (o : Observation) (s : Search) (k : ℕ) (masked : List Bool) (x : Sought) (chunk : ℕ) (u : Unpacking)
+    (sums : ShardState) (book : BookContents) : Type 0 where
   pub bounds : ObservationInRange o
   pub band : AreEdges o.channels (edges o)
   pub range : SettingsInRange s
@@ -47,8 +47,8 @@ opened_state s k masked u sums book = record {
   book = book;
 }
 
-module _ (o : Observation) (s : Search) (k : ℕ) (masked : List Bool) (x : Sought) (chunk : ℕ) (u : Unpacking) (sums : ShardState)
-    (book : BookContents) (p : OpenedParts o s k masked x chunk u sums book) where
+module _ (o : Observation) (s : Search) (k : ℕ) (masked : List Bool) (x : Sought) (chunk : ℕ) (u : Unpacking)
+    (sums : ShardState) (book : BookContents) (p : OpenedParts o s k masked x chunk u sums book) where
   opened_searches : Searches o (opened_state s k masked u sums book)
   opened_searches = record {
     bounds = p.bounds;

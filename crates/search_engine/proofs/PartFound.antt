@@ -18,8 +18,9 @@ use Rattle.search_engine.proofs.PartLists.{all_counted, cut_part}
 use Rattle.search_engine.proofs.PartSamples.{part_samples, part_spectra, length_take}
 use Rattle.search_engine.proofs.Sizes.{sample_some, size_some, spectra_are}
 use Rattle.shard_search.specs.Laws.{ShardsAreListed}
-use Rattle.shard_search.specs.Sought.{CellCounts, counted_of, sought_of}
-use Rattle.shard_search.specs.Sought.CellCounts.{Plain}
+use Rattle.shard_search.specs.Sought.{counted_of, sought_of}
+use Rattle.fold_search.specs.Cells.{CellCounts}
+use Rattle.fold_search.specs.Cells.CellCounts.{Plain}
 
 -- ---- some channels
 
@@ -83,8 +84,8 @@ module _ (law : SamplesOfBytes) (o : Observation) (bytes : List ℕ) (e : Engine
       let P : ℕ → Type 0 = λ k. t * n + at < length (samples_of o.nbit o.npol (drop k ys)) in
       let sum : a * n + (t * n + at) ≡ (a + t) * n + at = omega arith in
       sym (ap (λ k. slice_index (samples_of o.nbit o.npol (drop k ys)) (t * n + at)) turned
-      ∙ part_samples law o.nbit o.npol bytes (a * n) (until * z) (t * n + at) (bits o found.bounds) (omega (arith, some))
-      (omega (arith, positive)) (subst P turned within)
+      ∙ part_samples law o.nbit o.npol bytes (a * n) (until * z) (t * n + at) (bits o found.bounds)
+      (omega (arith, some)) (omega (arith, positive)) (subst P turned within)
       ∙ ap (λ i. slice_index (samples_of o.nbit o.npol bytes) i) sum)
 
   begins : BeginsWith o own e.sums.carry.fed needed

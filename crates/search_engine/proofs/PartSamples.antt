@@ -25,7 +25,8 @@ rest_is z n a some = elim (cases_lt (n / z) a) [
       let sum : n / z ≡ k + a = omega arith in
       let most = div-mul-le_self n z in
       let below : n < n / z * z + z = lt-div-mul-add some in
-      let both : n / z * z ≡ k * z + a * z = ap (λ m. m * z) sum ∙ (let d : (k + a) * z ≡ k * z + a * z = omega arith in d) in
+      let both : n / z * z ≡ k * z + a * z = ap (λ m. m * z) sum
+      ∙ (let d : (k + a) * z ≡ k * z + a * z = omega arith in d) in
       div-eq_of_lt-le z (omega (arith, most, both)) (omega (arith, below, both))
 ]
 
@@ -92,7 +93,8 @@ part_samples law nbit npol bytes k t i bits some positive within =
     let count = length-map-range_with_len (λ j. sample_at nbit npol zs j) 0 (length zs / g) in
     let here : i < length zs / g = omega (arith, within, count) in
     let most = div-mul-le_self (length zs) g in
-    let room : (i + 1) * g ≤ length zs / g * g = mul-le-mul_right g (let l : i + 1 ≤ length zs / g = omega (arith, here) in l) in
+    let room : (i + 1) * g ≤ length zs / g * g =
+    mul-le-mul_right g (let l : i + 1 ≤ length zs / g = omega (arith, here) in l) in
     let long = length-drop (k * g) ys in
     let fits : (k + i + 1) * g ≤ length ys = omega (arith, most, room, long, positive) in
     let there : k + i + 1 ≤ length ys / g = le-div (k + i + 1) (length ys) g positive fits in

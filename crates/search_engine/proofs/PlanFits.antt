@@ -7,7 +7,7 @@ use Rattle.dada_model.specs.Observation.{Observation, max_sample}
 use Rattle.search_model.specs.declared.search.Search.{Search}
 use Rattle.search_model.specs.Plan.{PlanRefusal, most_added, plan_refusal}
 use Rattle.search_model.specs.Search.{SettingsInRange, folds_are_on, fold_delays, delay_count, shard_start}
-use Rattle.shard_search.specs.FoldSearch.{FoldsFit, IsDelayRange}
+use Rattle.fold_search.specs.FoldSearch.{FoldsFit, IsDelayRange}
 use Rattle.shard_search.specs.Opening.{SumsFit}
 
 -- the tests of a refusal, one after another

@@ -11,7 +11,7 @@ use Rattle.search_model.specs.Samples.{Filterbank}
 use Rattle.search_model.specs.Search.{shard_start}
 use Rattle.subband_plan.specs.Nodes.{BandPlan}
 use Rattle.search_engine.specs.Engine.{EngineState, Searches}
-use Rattle.shard_search.specs.Judging.{Adds}
+use Rattle.fold_search.specs.Judging.{Adds}
 use Rattle.shard_search.specs.Laws.{ShardsAreListed}
 use Rattle.shard_search.specs.Pulses.{pulses_of_ends}
 use Rattle.shard_search.specs.Sought.{Sought, cells_in, sought_of}
@@ -61,7 +61,8 @@ folds_are o e f s =
 
 -- the book has the pulses of the spectra that were searched
 pub book_more : ShardsAreListed → (o : Observation) (e : EngineState) (f : Filterbank) (b : BookContents) (u r : ℕ) →
-    Searches o e → e.book ≡ book_of e.search.max_candidates (pulses_so_far o e.search e.sums.pulses.sought e.shard f u) →
+    Searches o e →
+    e.book ≡ book_of e.search.max_candidates (pulses_so_far o e.search e.sums.pulses.sought e.shard f u) →
     Adds e.book b (pulses_of_plan f e.sums.carry.tables.plan e.sums.pulses.search e.sums.pulses.sought u r) →
     b ≡ book_of e.search.max_candidates (pulses_so_far o e.search e.sums.pulses.sought e.shard f (u + r))
 book_more listed o e f b u r s is adds =

@@ -25,8 +25,8 @@ size_some o range =
     omega (arith, product)
 
 -- so many spectra are whole
-pub whole_are : (o : Observation) → ObservationInRange o → (bytes : List ℕ) (g : ℕ) → g * spectrum_size o ≤ length bytes →
-    g ≤ (filterbank_of o bytes).spectra
+pub whole_are : (o : Observation) → ObservationInRange o → (bytes : List ℕ) (g : ℕ) →
+    g * spectrum_size o ≤ length bytes → g ≤ (filterbank_of o bytes).spectra
 whole_are o range bytes g fits =
     let s : ℕ = sample_bytes o.nbit o.npol in
     let some = sample_some o range in

@@ -18,7 +18,8 @@ CountsKept o s masked counts =
     → slice_index counts d ≡ kept_cells (kept_by masked) (edges o) o.channels d
 
 -- The search of some channels samples no other, and where its cells are counted, finds the masked candidates. And where
--- nothing is folded, the search of a part of the spectra that the part needs finds the part of the whole candidate list.
+-- nothing is folded, the search of a part of the spectra that the part needs finds the part of the whole candidate
+-- list.
 pub record ScopesAreFound : Type 0 where
   pub samples : (o : Observation) (masked : List Bool) (counts bytes : List ℕ) →
       searched o (scope_of_channels masked counts) bytes ≡ kept_samples o masked bytes

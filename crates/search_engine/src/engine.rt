@@ -9,7 +9,7 @@ ghost use Rattle.spectra_rows.specs.Unpacking.{StandsForBytes};
 ghost use Rattle.search_engine.specs.Engine.{EngineState, EngineIsSound, IsOpenedSums, StandsForData, StandsForPart, HasTakenChunks, KnowsSizes, HasSearched, HasFoundPart, IsOpenedEngine, IsOpenedUnpacker, SameShard, most_fed, scope_of, spectra_fed};
 ghost use Rattle.search_engine.specs.Scope.{FitsObservation, marks_of, count_before as count_before_of, limit_in_bytes as limit_in_bytes_of, spectrum_size as spectrum_size_of};
 ghost use Rattle.search_model.specs.Observed.{filterbank_of};
-ghost use Rattle.shard_search.specs.Sought.{CanBeSought};
+ghost use Rattle.shard_search.specs.Sought.{CanBeSought, cells_in};
 
 use crate::fault::PlanFault;
 use crate::hiding::Masked;
@@ -230,7 +230,8 @@ impl Engine {
         self.fed / self.spectrum
     }
 
-    /// How many spectra were searched: after `end`, all whole spectra of the bytes that were fed and are to be searched.
+    /// How many spectra were searched: after `end`, all whole spectra of the bytes that were fed and are to be
+    /// searched.
     pub fn spectra(&self) -> u64
         ensures { result ≡ self.now.sums.carry.fed }
     {
@@ -249,6 +250,14 @@ impl Engine {
         ensures { result ≡ self.book }
     {
         self.book
+    }
+
+    /// How many cells a path sum of a delay adds up.
+    pub fn cells(&self, delay: u32) -> u32
+        requires { cells_in (scope_of self.now).sought delay < 2 ^ 32 }
+        ensures { result ≡ cells_in (scope_of self.now).sought delay }
+    {
+        self.sums.cells(delay)
     }
 
     /// The path sums of the shard's delays: after `end`, over all whole spectra. The tables of all nodes stand for the

@@ -3,13 +3,13 @@ ghost use Rattle.std.specs.Prelude.{◌≡◌, ◌+◌, ◌-◌, ◌*◌, ◌^�
 ghost use Rattle.dada_model.specs.Observation.{max_sample as max_sample_of};
 ghost use Rattle.search_model.specs.Search.{SettingsInRange, fold_delays, folds_are_on as folds_are_on_of};
 ghost use Rattle.search_model.specs.Plan.{plan_refusal, most_added as most_added_of};
-ghost use Rattle.shard_search.specs.Counts.{most_folded};
+ghost use Rattle.fold_search.specs.Counts.{most_folded};
 ghost use Rattle.search_engine.specs.Plan.{IsRefusedFirst};
 
 use crate::fault::PlanFault;
+use fold_search::fold_row_count;
 use obs_plan::Observation;
 use search_model::Search;
-use shard_search::fold_row_count;
 
 /// The greatest sum that fits into 32 bits.
 const MOST_SUM: u64 = (1 << 32) - 1;

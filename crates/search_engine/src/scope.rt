@@ -51,8 +51,8 @@ impl Scope {
         }
     }
 
-    /// The pulses that end at spectrum `place` or after it and before spectrum `until`, over all of so many channels, in
-    /// the spectra from `first` on. All of these count from the first spectrum of the observation.
+    /// The pulses that end at spectrum `place` or after it and before spectrum `until`, over all of so many channels,
+    /// in the spectra from `first` on. All of these count from the first spectrum of the observation.
     pub fn of_part(channels: u32, first: u64, place: u64, until: u64) -> Scope
         ensures { result ≡ scope_of_part channels first place until }
     {

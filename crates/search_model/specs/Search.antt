@@ -35,6 +35,10 @@ delay_count s = s.max_delay + 1 - s.min_delay
 abbrev pub shard_start : Search → ℕ → ℕ
 shard_start s k = s.min_delay + k * delay_count s / s.shards
 
+-- the same search by one shard, which has all delays
+abbrev pub in_one_shard : Search → Search
+in_one_shard s = record s { shards = 1 }
+
 -- the longest period of a fold, in spectra
 abbrev pub longest_period : ℕ
 longest_period = 1048576

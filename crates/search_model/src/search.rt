@@ -1,5 +1,5 @@
 // The settings of a search.
-ghost use Rattle.std.specs.Prelude.{◌↔◌, IsTrue};
+ghost use Rattle.std.specs.Prelude.{◌≡◌, ◌↔◌, IsTrue};
 
 /// The longest delay of a search, in spectra.
 pub const MOST_DELAY: u32 = 8192;
@@ -56,7 +56,7 @@ pub struct Search {
 }
 
 impl Search {
-    ghost use Rattle.search_model.specs.Search.{SettingsInRange, DelaysInRange, FoldsInRange, PartsInRange, NoiseInRange};
+    ghost use Rattle.search_model.specs.Search.{SettingsInRange, DelaysInRange, FoldsInRange, PartsInRange, NoiseInRange, in_one_shard as in_one_shard_of};
 
     /// Whether each setting lies in its range.
     pub fn in_range(&self) -> bool
@@ -66,6 +66,13 @@ impl Search {
             && self.folds_in_range()
             && self.parts_in_range()
             && self.noise_in_range()
+    }
+
+    /// The same search by one shard, which has all delays.
+    pub fn in_one_shard(&self) -> Search
+        ensures { result ≡ in_one_shard_of self.now }
+    {
+        Search { shards: 1, ..*self }
     }
 
     // The delays, and the widest box.

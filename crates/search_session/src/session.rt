@@ -110,8 +110,8 @@ impl Pace {
         if self.single == 0 { hands.max(1) } else { 1 }
     }
 
-    // The rounds after the next one. Where a hand had no thread of its own in it, the hands go on in one thread, as
-    // fast as a session of one hand does.
+    // The rounds after the next one. Where a hand had no thread of its own in it, the hands go on in one thread for
+    // some rounds.
     fn after<R: Threads>(self, rt: &R, had_threads: bool) -> Pace {
         if self.single > 1 {
             return Pace {

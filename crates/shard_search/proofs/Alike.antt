@@ -1,7 +1,8 @@
 -- Two that search for the same as a third.
-use Rattle.std.proofs.Common.{◌∙◌}
-use Rattle.shard_search.specs.FoldSearch.{Fronts, FoldsAlike}
+use Rattle.std.proofs.Common.{ℕ, ◌+◌, ◌≤◌, length, ◌∙◌, arith}
+use Rattle.fold_search.specs.FoldSearch.{Fronts, FoldsAlike}
 use Rattle.shard_search.specs.PulseSearch.{PulseState, SearchAlike}
+use Rattle.shard_search.specs.Sums.{GoOnAlike}
 
 pub pulses_alike : (p q r : PulseState) → SearchAlike r q → SearchAlike q p → SearchAlike r p
 pulses_alike p q r b a = record {
@@ -19,4 +20,13 @@ folds_alike f g h b a = record {
   first = b.first ∙ a.first;
   end = b.end ∙ a.end;
   bound = b.bound ∙ a.bound;
+}
+
+-- the row of one delay more was taken
+pub on_alike : (p q r : PulseState) (f g h : Fronts) (first d : ℕ) → first ≤ d → GoOnAlike p q f g first d →
+    SearchAlike r q → FoldsAlike h g → length r.hits ≤ length q.hits + 6 → GoOnAlike p r f h first (d + 1)
+on_alike p q r f g h first d from before pulses folds few = record {
+  pulses = pulses_alike p q r pulses before.pulses;
+  folds = folds_alike f g h folds before.folds;
+  few = let all = before.few in omega (arith, few, all, from);
 }

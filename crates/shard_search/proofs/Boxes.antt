@@ -11,7 +11,7 @@ use Rattle.search_model.specs.Candidates.{if_detected}
 use Rattle.search_model.specs.Detection.{IsDetected, is_detected}
 use Rattle.search_model.specs.Laws.{TestsDetection}
 use Rattle.shard_search.specs.declared.thresholds.BoxThresholds.{BoxThresholds}
-use Rattle.shard_search.specs.Judging.{noise_of}
+use Rattle.fold_search.specs.Judging.{noise_of}
 use Rattle.shard_search.specs.Thresholds.{AreThresholds}
 use Rattle.shard_search.specs.Pulses.{first_sums, box_of, pulse_of}
 use Rattle.shard_search.specs.Sought.{Sought, cells_in, is_sought_end}

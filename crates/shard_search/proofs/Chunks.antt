@@ -6,7 +6,7 @@ use Rattle.fdmt_carry.specs.Carrying.{Carrying}
 use Rattle.fdmt_carry.specs.Tables.{Tables}
 use Rattle.search_model.specs.declared.candidate.Candidate.{Candidate}
 use Rattle.search_model.specs.Samples.{Filterbank}
-use Rattle.shard_search.specs.FoldSearch.{Fronts, HasDelay, KeepsFrontOf}
+use Rattle.fold_search.specs.FoldSearch.{Fronts, HasDelay, KeepsFrontOf}
 use Rattle.shard_search.specs.Thresholds.{pulses_of_hits}
 use Rattle.shard_search.specs.PulseSearch.{PulseState, SearchAlike, RowsStandFor, HitIsKept}
 use Rattle.shard_search.specs.Pulses.{pulses_of_delay, pulses_of_end, pulses_of_ends}

@@ -1,7 +1,7 @@
--- Which spectra are ends that are sought, and how many cells there are at most.
+-- Which spectra are ends that are sought.
 use Rattle.std.proofs.Common.{◌≡◌, ℕ, ◌+◌, ◌<◌, ◌≤◌, true, false, Some, min, sym, ◌∙◌, ap, arith, leb, ltb}
 use Rattle.std.proofs.lemmas.Bool.{and_from, and_left, and_right, le-leb, lt-leb, ltb-true, ltb-false}
-use Rattle.shard_search.specs.Sought.{Sought, CanBeSought, cells_in, AreSoughtEnds, is_before, is_sought_end}
+use Rattle.shard_search.specs.Sought.{Sought, CanBeSought, AreSoughtEnds, is_before, is_sought_end}
 
 -- an end before `place`
 unsought_before : (c : Sought) (u v : ℕ) → v ≡ c.first + u → ltb v c.place ≡ true → is_sought_end c u ≡ false
@@ -47,6 +47,3 @@ over_more c n m end more can = record {
   cells = λ d below. let few = can.cells d below in omega (arith, few, more);
   early = can.early;
 }
-
-pub few_cells : (c : Sought) (end d : ℕ) → CanBeSought c 4096 end → d < end → d ≤ 8192 → cells_in c d ≤ 12288
-few_cells c end d can below short = let few = can.cells d below in omega (arith, few, short)

@@ -6,7 +6,7 @@ use Rattle.fdmt_carry.specs.Tables.{Tables}
 use Rattle.candidate_book.specs.Book.{BookContents}
 use Rattle.search_model.specs.declared.search.Search.{Search}
 use Rattle.search_model.specs.Samples.{Filterbank}
-use Rattle.shard_search.specs.Judging.{Adds}
+use Rattle.fold_search.specs.Judging.{Adds}
 use Rattle.shard_search.specs.Sought.{Sought}
 use Rattle.shard_search.specs.Sums.{ShardState, SumsAlike, HasTakenNext, pulses_of_plan, sums_of}
 use Rattle.shard_search.proofs.Adding.{adds_both, adds_same}

@@ -4,9 +4,6 @@ pub mod Bounds
 pub mod Boxes
 pub mod Chunks
 pub mod Ends
-pub mod FoldLists
-pub mod Fronts
-pub mod Halvings
 pub mod Hits
 pub mod Lasting
 pub mod Passing
@@ -20,5 +17,4 @@ pub mod Taking
 pub mod Terms
 pub mod WidthCounts
 pub mod WidthLists
-pub mod Within
 pub mod Worked

@@ -1,10 +1,10 @@
 -- The pulses of a shard's delays, and its part of the candidate list.
-use Rattle.std.proofs.Common.{◌≡◌, ℕ, ◌+◌, ◌-◌, ◌*◌, ◌&&◌, inl, inr, Bool, cond, List, [], ◌∷◌, ◌++◌, refl, sym, ap, ◌∙◌, arith, leb}
-use Rattle.std.specs.Prelude.{filter, sum_by}
+use Rattle.std.proofs.Common.{◌≡◌, ℕ, ◌+◌, ◌-◌, ◌*◌, ◌&&◌, inl, inr, All, Bool, true, false, cond, List, [], ◌∷◌, ◌++◌, refl, sym, ap, ◌∙◌, arith, leb, ltb}
+use Rattle.std.specs.Prelude.{sum_by}
 use Rattle.std.specs.List.{range_with_len, flat_map}
 use Rattle.std.proofs.lemmas.Bool.{cases_lt, cond-true, cond-false, le-leb, lt-leb}
 use Rattle.std.proofs.lemmas.Grind.{flat_map-append}
-use Rattle.std.proofs.lemmas.List.Elements.{filter-append}
+use Rattle.std.proofs.lemmas.List.Elements.{All-append, All-cons, All-nil, filter-append}
 use Rattle.std.proofs.lemmas.List.Sums.{sum_by-cons}
 use Rattle.dada_model.specs.Edges.{AreEdges}
 use Rattle.search_model.specs.declared.candidate.Candidate.{Candidate}
@@ -16,14 +16,14 @@ use Rattle.search_model.specs.Sums.{late_path_sum, path_sum, box_sum}
 use Rattle.search_model.specs.SubbandLaws.{LatePathSums}
 use Rattle.search_model.specs.Folds.{series}
 use Rattle.search_model.specs.Search.{delays, widths, shard_start}
-use Rattle.search_model.specs.Candidates.{if_detected, pulse_at, pulses_at, pulses_ending, pulses, folds, candidates, within_delays, shard_part}
-use Rattle.shard_search.specs.FoldSearch.{IsDelayRange}
+use Rattle.search_model.specs.Candidates.{delay_of, if_detected, pulse_at, pulses_at, pulses_ending, pulses, folds, candidates, within_delays, shard_part}
+use Rattle.fold_search.specs.FoldSearch.{IsDelayRange}
+use Rattle.fold_search.specs.Laws.{DelaysArePart}
 use Rattle.shard_search.specs.Pulses.{box_of, pulse_of, pulses_of_delay, pulses_of_end, pulses_of_ends}
 use Rattle.shard_search.specs.Sought.{Sought, cells_in, is_sought_end, sought_of}
 use Rattle.shard_search.specs.Sums.{sums_of, sums_from_delay}
 use Rattle.shard_search.proofs.Ranges.{range_join}
 use Rattle.shard_search.proofs.Seeking.{sought_append, sought_flat, sought_pulse, folds_stay}
-use Rattle.shard_search.proofs.Within.{keep_if, keep_flat, lies, has_delay, filter_flat, flat_part}
 
 -- ---- box sums
 
@@ -74,71 +74,83 @@ all_delays law f edges s c u are =
     (λ w. pulse_is_of law f edges s c u d w are) (widths s))
     (delays s)
 
-one_pulse : (y : ℕ → ℕ → ℕ) (s : Search) (c : Sought) (lo hi u d w : ℕ) →
-    filter (has_delay lo hi) (pulse_of y s c u d w) ≡ cond (lies lo hi d) (pulse_of y s c u d w) []
+-- they are of their delay
+abbrev AreOf : ℕ → List Candidate → Type 0
+AreOf d list = All (λ (x : Candidate). delay_of x ≡ d) list
+
+own_if : (d : ℕ) (b : Bool) (list : List Candidate) → AreOf d list → AreOf d (cond b list [])
+own_if d true list own = own
+own_if d false list own = All-nil (λ (x : Candidate). delay_of x ≡ d)
+
+own_pulse : (y : ℕ → ℕ → ℕ) (s : Search) (c : Sought) (u d w : ℕ) → AreOf d (pulse_of y s c u d w)
 unfolding pulse_of
-one_pulse y s c lo hi u d w =
-    keep_if (has_delay lo hi) (lies lo hi d)
-    (if_detected (cells_in c) s (Pulse (c.first + u) d w (box_of y d u w)))
-    (keep_if (has_delay lo hi) (lies lo hi d) (Pulse (c.first + u) d w (box_of y d u w) ∷ []) refl _)
-    (leb (d + w) (u + 1) && is_sought_end c u)
+own_pulse y s c u d w =
+    let P : Candidate → Type 0 = λ (x : Candidate). delay_of x ≡ d in
+    let pulse = Pulse (c.first + u) d w (box_of y d u w) in
+    own_if d (leb (d + w) (u + 1) && is_sought_end c u) (if_detected (cells_in c) s pulse)
+    (own_if d (is_detected s.mean s.sd s.snr (box_of y d u w) (w * cells_in c d)) (pulse ∷ [])
+    (All-cons P pulse [] refl (All-nil P)))
 
-one_delay : (y : ℕ → ℕ → ℕ) (s : Search) (c : Sought) (lo hi u d : ℕ) →
-    filter (has_delay lo hi) (pulses_of_delay y s c u d) ≡ cond (lies lo hi d) (pulses_of_delay y s c u d) []
-one_delay y s c lo hi u d =
-    keep_flat (has_delay lo hi) (lies lo hi d) (λ w. pulse_of y s c u d w) (λ w. one_pulse y s c lo hi u d w)
-    (widths s)
+own_widths : (y : ℕ → ℕ → ℕ) (s : Search) (c : Sought) (u d : ℕ) (ws : List ℕ) →
+    AreOf d (flat_map (λ w. pulse_of y s c u d w) ws)
+own_widths y s c u d [] = All-nil (λ (x : Candidate). delay_of x ≡ d)
+own_widths y s c u d (w ∷ ws) =
+    All-append (λ (x : Candidate). delay_of x ≡ d) (pulse_of y s c u d w) (flat_map (λ w. pulse_of y s c u d w) ws)
+    (own_pulse y s c u d w) (own_widths y s c u d ws)
 
-one_end : LatePathSums → (f : Filterbank) (edges : List ℕ) (s : Search) (c : Sought) (lo hi u : ℕ) →
+one_end : LatePathSums → DelaysArePart → (f : Filterbank) (edges : List ℕ) (s : Search) (c : Sought) (lo hi u : ℕ) →
     AreEdges f.channels edges → IsDelayRange s lo hi →
-    filter (has_delay lo hi) (sought_of c (pulses_ending f edges (cells_in c) s u))
+    within_delays lo hi (sought_of c (pulses_ending f edges (cells_in c) s u))
     ≡ pulses_of_end (sums_of f edges) s c lo hi u
-one_end law f edges s c lo hi u edges_are are =
+one_end law part f edges s c lo hi u edges_are are =
     let from = are.from in
     let order = are.order in
     let to = are.to in
-    let g : ℕ → List Candidate = λ d. pulses_of_delay (sums_of f edges) s c u d in
-    ap (filter (has_delay lo hi)) (all_delays law f edges s c u edges_are)
-    ∙ filter_flat (has_delay lo hi) (lies lo hi) g (λ d. one_delay (sums_of f edges) s c lo hi u d) (delays s)
-    ∙ flat_part g s.min_delay lo hi (s.max_delay + 1 - s.min_delay) from order (omega arith)
+    ap (within_delays lo hi) (all_delays law f edges s c u edges_are)
+    ∙ part (λ d. pulses_of_delay (sums_of f edges) s c u d) s.min_delay lo hi (s.max_delay + 1 - s.min_delay)
+    (λ d. own_widths (sums_of f edges) s c u d (widths s)) from order (omega arith)
 
-filter_pieces : {X : Type 0} (q : X → Bool) (g h : ℕ → List X) → ((k : ℕ) → filter q (g k) ≡ h k) → (ks : List ℕ) →
-    filter q (flat_map g ks) ≡ flat_map h ks
-filter_pieces q g h each [] = refl
-filter_pieces q g h each (k ∷ ks) =
-    filter-append q (g k) (flat_map g ks)
-    ∙ ap (λ xs. xs ++ filter q (flat_map g ks)) (each k)
-    ∙ ap (λ xs. h k ++ xs) (filter_pieces q g h each ks)
+within_join : (lo hi : ℕ) (xs ys : List Candidate) →
+    within_delays lo hi (xs ++ ys) ≡ within_delays lo hi xs ++ within_delays lo hi ys
+within_join lo hi xs ys = filter-append (λ x. leb lo (delay_of x) && ltb (delay_of x) hi) xs ys
+
+within_pieces : (lo hi : ℕ) (g h : ℕ → List Candidate) → ((k : ℕ) → within_delays lo hi (g k) ≡ h k) →
+    (ks : List ℕ) → within_delays lo hi (flat_map g ks) ≡ flat_map h ks
+within_pieces lo hi g h each [] = refl
+within_pieces lo hi g h each (k ∷ ks) =
+    within_join lo hi (g k) (flat_map g ks)
+    ∙ ap (λ xs. xs ++ within_delays lo hi (flat_map g ks)) (each k)
+    ∙ ap (λ xs. h k ++ xs) (within_pieces lo hi g h each ks)
 
 -- the pulses that are sought and whose delays are a shard's, from those of all
-pulses_within : LatePathSums → (f : Filterbank) (edges : List ℕ) (s : Search) (c : Sought) (lo hi : ℕ) →
+pulses_within : LatePathSums → DelaysArePart → (f : Filterbank) (edges : List ℕ) (s : Search) (c : Sought) (lo hi : ℕ) →
     AreEdges f.channels edges → IsDelayRange s lo hi →
     pulses_of_ends (sums_of f edges) s c lo hi 0 f.spectra
     ≡ within_delays lo hi (sought_of c (pulses f edges (cells_in c) s))
-pulses_within law f edges s c lo hi edges_are are =
+pulses_within law part f edges s c lo hi edges_are are =
     let g : ℕ → List Candidate = λ u. pulses_ending f edges (cells_in c) s u in
-    sym (ap (filter (has_delay lo hi))
+    sym (ap (within_delays lo hi)
     (sought_flat c g (λ u. sought_of c (g u)) (λ u. refl) (range_with_len 0 f.spectra))
-    ∙ filter_pieces (has_delay lo hi) (λ u. sought_of c (g u)) (λ u. pulses_of_end (sums_of f edges) s c lo hi u)
-    (λ u. one_end law f edges s c lo hi u edges_are are) (range_with_len 0 f.spectra))
+    ∙ within_pieces lo hi (λ u. sought_of c (g u)) (λ u. pulses_of_end (sums_of f edges) s c lo hi u)
+    (λ u. one_end law part f edges s c lo hi u edges_are are) (range_with_len 0 f.spectra))
 
 -- ---- a shard's part
 
 -- its pulses that are sought and its folds are its part of what is sought in the candidate list
-pub part_is_both : LatePathSums → (f : Filterbank) (edges : List ℕ) (s : Search) (c : Sought) (k : ℕ) →
+pub part_is_both : LatePathSums → DelaysArePart → (f : Filterbank) (edges : List ℕ) (s : Search) (c : Sought) (k : ℕ) →
     AreEdges f.channels edges → IsDelayRange s (shard_start s k) (shard_start s (k + 1)) →
     pulses_of_ends (sums_of f edges) s c (shard_start s k) (shard_start s (k + 1)) 0 f.spectra
     ++ within_delays (shard_start s k) (shard_start s (k + 1)) (folds f edges (cells_in c) s)
     ≡ shard_part s k (sought_of c (candidates f edges (cells_in c) s))
-part_is_both law f edges s c k edges_are are =
+part_is_both law part f edges s c k edges_are are =
     let lo = shard_start s k in
     let hi = shard_start s (k + 1) in
     let all = pulses f edges (cells_in c) s in
     let folded = folds f edges (cells_in c) s in
-    ap (λ xs. xs ++ within_delays lo hi folded) (pulses_within law f edges s c lo hi edges_are are)
+    ap (λ xs. xs ++ within_delays lo hi folded) (pulses_within law part f edges s c lo hi edges_are are)
     ∙ ap (λ xs. within_delays lo hi (sought_of c all) ++ within_delays lo hi xs)
     (sym (folds_stay c f edges (cells_in c) s))
-    ∙ sym (filter-append (has_delay lo hi) (sought_of c all) (sought_of c folded))
+    ∙ sym (within_join lo hi (sought_of c all) (sought_of c folded))
     ∙ ap (within_delays lo hi) (sym (sought_append c all folded))
 
 -- ---- series

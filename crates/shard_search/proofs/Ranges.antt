@@ -1,6 +1,5 @@
 -- Lists that are put together over a range of numbers.
-use Rattle.std.proofs.Common.{◌≡◌, ℕ, ◌+◌, ◌≤◌, ◌<◌, Bool, cond, List, [], ◌∷◌, ◌++◌, zero, suc, refl, ap, ◌∙◌, arith}
-use Rattle.std.specs.Prelude.{filter}
+use Rattle.std.proofs.Common.{◌≡◌, ℕ, ◌+◌, ◌≤◌, ◌<◌, List, [], ◌∷◌, ◌++◌, zero, suc, refl, ap, ◌∙◌, arith}
 use Rattle.std.specs.List.{range_with_len, flat_map}
 use Rattle.std.proofs.lemmas.Grind.{flat_map-append}
 use Rattle.std.proofs.lemmas.List.{append-nil}
@@ -40,12 +39,3 @@ flat_nothing g a zero none = refl
 flat_nothing g a (suc n) none =
     ap (λ xs. xs ++ flat_map g (range_with_len (a + 1) n)) (none a (omega arith) (omega arith))
     ∙ flat_nothing g (a + 1) n (λ k from to. none k (omega arith) (omega arith))
-
--- filters agree where their tests do
-pub filter_agree : (p q : ℕ → Bool) (a n : ℕ) → ((k : ℕ) → a ≤ k → k < a + n → p k ≡ q k) →
-    filter p (range_with_len a n) ≡ filter q (range_with_len a n)
-filter_agree p q a zero same = refl
-filter_agree p q a (suc n) same =
-    let rest = filter p (range_with_len (a + 1) n) in
-    ap (λ b. cond b (a ∷ rest) rest) (same a (omega arith) (omega arith))
-    ∙ ap (λ xs. cond (q a) (a ∷ xs) xs) (filter_agree p q (a + 1) n (λ k from to. same k (omega arith) (omega arith)))

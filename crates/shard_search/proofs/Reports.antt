@@ -1,6 +1,5 @@
 -- The box of a hit, as a pulse.
 use Rattle.std.proofs.Common.{◌≡◌, ℕ, ◌+◌, ◌-◌, ◌*◌, ◌<◌, ◌≤◌, ◌^◌, ◌&&◌, ◌++◌, Bool, true, false, cond, List, [], ◌∷◌, Some, length, nat_le, refl, sym, ◌∙◌, ap, arith}
-use Rattle.std.specs.List.{range_with_len}
 use Rattle.std.proofs.lemmas.Bool.{le-leb}
 use Rattle.std.proofs.lemmas.Bool.Decides.{nat_tests}
 use Rattle.std.proofs.lemmas.List.FromFn.{length-map-range_with_len}
@@ -10,7 +9,7 @@ use Rattle.search_model.specs.declared.search.Search.{Search}
 use Rattle.search_model.specs.declared.candidate.Candidate.TheVariants.{Pulse}
 use Rattle.search_model.specs.Candidates.{if_detected}
 use Rattle.search_model.specs.Laws.{TestsDetection}
-use Rattle.shard_search.specs.Judging.{noise_of}
+use Rattle.fold_search.specs.Judging.{noise_of}
 use Rattle.shard_search.specs.Pulses.{first_sums, box_of, pulse_of}
 use Rattle.shard_search.specs.Sought.{Sought, cells_in, is_sought_end}
 use Rattle.shard_search.specs.Thresholds.{pulses_of_hits}

@@ -6,7 +6,7 @@ use Rattle.std.proofs.lemmas.List.{get_or_append_left, get_or-append_right, get_
 use Rattle.std.proofs.lemmas.List.FromFn.{length-map-range_with_len, get_or-map-range_with_len}
 use Rattle.std.proofs.lemmas.Grind.{same_number_lists}
 use Rattle.search_model.specs.declared.search.Search.{Search}
-use Rattle.shard_search.specs.FoldSearch.{Fronts, HasDelay, FoldsAlike, KeepsFrontOf}
+use Rattle.fold_search.specs.FoldSearch.{Fronts, HasDelay, FoldsAlike, KeepsFrontOf}
 use Rattle.shard_search.specs.Thresholds.{pulses_of_hits}
 use Rattle.shard_search.specs.PulseSearch.{PulseState, SearchesDelay, SearchAlike, WideRowHas, IsHitBelow}
 use Rattle.shard_search.specs.Pulses.{first_sums, IsRowOf, pulses_of_delay, pulses_of_end}

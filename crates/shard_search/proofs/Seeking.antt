@@ -15,8 +15,8 @@ use Rattle.search_model.specs.Candidates.{pulse_at, pulses_at, pulses_ending, pu
 use Rattle.search_model.specs.Parts.{PartsNeedNoMore, later, first_needed, without_first, ends_within, within_part}
 use Rattle.search_model.specs.Detection.{is_detected}
 use Rattle.search_model.specs.Sums.{box_sum}
-use Rattle.shard_search.specs.Sought.{CellCounts, Sought, cells_by, whole_of, is_sought_end, is_sought, sought_of}
-use Rattle.shard_search.proofs.Within.{keep_none}
+use Rattle.fold_search.specs.Cells.{CellCounts, cells_by}
+use Rattle.shard_search.specs.Sought.{Sought, whole_of, is_sought_end, is_sought, sought_of}
 
 -- ---- pieces of a list
 
@@ -38,6 +38,10 @@ sought_flat c g h each (k ∷ ks) =
 kept_one : (g : Candidate → Candidate) (x : Candidate) (b : Bool) → map g (cond b (x ∷ []) []) ≡ cond b (g x ∷ []) []
 kept_one g x true = refl
 kept_one g x false = refl
+
+keep_none : {X : Type 0} (b : Bool) → let none : List X = [] in none ≡ cond b none none
+keep_none true = refl
+keep_none false = refl
 
 pub sought_pulse : (c : Sought) (u d w sum : ℕ) (begins found : Bool) →
     sought_of c (cond begins (cond found (Pulse u d w sum ∷ []) []) [])

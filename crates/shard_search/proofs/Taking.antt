@@ -6,12 +6,12 @@ use Rattle.fdmt_carry.specs.Carrying.{Carrying, AreNext, StandsForSamples}
 use Rattle.fdmt_carry.specs.Tables.{Tables}
 use Rattle.search_model.specs.Samples.{Filterbank}
 use Rattle.shard_search.specs.Counts.{most_pulses_at_end}
-use Rattle.shard_search.specs.FoldSearch.{FoldsAlike, HasDelay, KeepsFrontOf}
-use Rattle.shard_search.specs.Judging.{Adds}
+use Rattle.fold_search.specs.FoldSearch.{FoldsAlike, HasDelay, KeepsFrontOf}
+use Rattle.fold_search.specs.Judging.{Adds}
 use Rattle.shard_search.specs.PulseSearch.{PulseState, SearchAlike, RowsStandFor, HitIsKept}
 use Rattle.shard_search.specs.Pulses.{pulses_of_ends}
 use Rattle.shard_search.specs.Thresholds.{pulses_of_hits}
-use Rattle.shard_search.specs.Sums.{ShardState, FitTogether, HasTakenNext, HaveTaken, StandsForStream, pulses_of_plan, sums_from_delay, sums_of}
+use Rattle.shard_search.specs.Sums.{ShardState, AreDelaysOf, FitTogether, HasTakenNext, HaveTaken, StandsForStream, pulses_of_plan, sums_from_delay, sums_of}
 use Rattle.shard_search.proofs.Adding.{adds_same}
 use Rattle.shard_search.proofs.Chunks.{begun, all_rows, all_fronts, all_kept, all_pulses, same_ends, plan_pulses, few_pulses}
 
@@ -43,13 +43,18 @@ pub record TakesRows
       Adds before after (flat_map (λ u. pulses_of_hits y new.pulses.search new.pulses.sought u new.pulses.hits)
       (range_with_len start spectra))
 
-pub delays_rise : (s : ShardState) (first end : ℕ) → FitTogether s → first ≡ s.pulses.first → end ≡ s.pulses.end →
-    first ≤ end
-delays_rise s first end fit first_is end_is =
+-- the delays of a shard, when its hits are forgotten
+pub delays_are : (s : ShardState) (first end : ℕ) (p : PulseState) → FitTogether s → first ≡ s.pulses.first →
+    end ≡ s.pulses.end → p ≡ record s.pulses { hits = [] } → AreDelaysOf p first end
+delays_are s first end p fit first_is end_is forgot =
     let from = fit.pulses.first_is in
     let to = fit.pulses.end_is in
     let order = fit.order in
-    omega (arith, first_is, end_is, from, to, order)
+    record {
+      first_is = ap (λ (q : PulseState). q.first) forgot ∙ sym first_is;
+      end_is = ap (λ (q : PulseState). q.end) forgot ∙ sym end_is;
+      order = omega (arith, first_is, end_is, from, to, order);
+    }
 
 -- the hits of a chunk are few
 few_hits : (s : ShardState) (hits spectra first end : ℕ) → FitTogether s → end ≡ s.pulses.end →

@@ -8,7 +8,7 @@ use Rattle.std.proofs.lemmas.Option.{slice_get_within, get_or_from_slice_get, sl
 use Rattle.detect_rule.specs.Noise.{StandOutFrom}
 use Rattle.search_model.specs.declared.search.Search.{Search}
 use Rattle.shard_search.specs.declared.thresholds.BoxThresholds.{BoxThresholds}
-use Rattle.shard_search.specs.Judging.{noise_of}
+use Rattle.fold_search.specs.Judging.{noise_of}
 use Rattle.shard_search.specs.Sought.{Sought, cells_in}
 use Rattle.shard_search.specs.Thresholds.{AreLeastSums}
 

@@ -8,9 +8,10 @@ use Rattle.search_model.specs.Samples.{Filterbank}
 use Rattle.search_model.specs.Search.{shard_start}
 use Rattle.search_model.specs.Candidates.{folds, candidates, within_delays, shard_part}
 use Rattle.search_model.specs.Parts.{first_needed, without_first, within_part}
-use Rattle.shard_search.specs.FoldSearch.{IsDelayRange}
+use Rattle.fold_search.specs.Cells.{CellCounts, cells_by}
+use Rattle.fold_search.specs.FoldSearch.{IsDelayRange}
 use Rattle.shard_search.specs.Pulses.{pulses_of_ends}
-use Rattle.shard_search.specs.Sought.{CellCounts, Sought, cells_by, cells_in, whole_of, sought_of}
+use Rattle.shard_search.specs.Sought.{Sought, cells_in, whole_of, sought_of}
 use Rattle.shard_search.specs.Sums.{sums_of}
 
 -- The pulses of some ends, and those of the ends after them; all pulses of a shard, and its folds. Where all is sought,

@@ -1,12 +1,8 @@
-pub mod Cells
 pub mod Counts
-pub mod FoldSearch
-pub mod Judging
 pub mod Laws
 pub mod Opening
 pub mod PulseSearch
 pub mod Pulses
-pub mod Series
 pub mod Sought
 pub mod Sums
 pub mod Thresholds

@@ -7,7 +7,7 @@ use Rattle.search_model.specs.Samples.{Filterbank}
 use Rattle.search_model.specs.Search.{folds_are_on}
 use Rattle.subband_plan.specs.Plans.{band_plan}
 use Rattle.shard_search.specs.Counts.{most_tables}
-use Rattle.shard_search.specs.FoldSearch.{FoldsFit}
+use Rattle.fold_search.specs.FoldSearch.{FoldsFit}
 use Rattle.shard_search.specs.Sought.{Sought}
 use Rattle.shard_search.specs.Sums.{ShardState, StandsForStream}
 

@@ -1,21 +1,10 @@
 -- What is sought in the rows of a shard.
 -- Source: this project's choice.
-use Rattle.std.specs.Prelude.{◌≡◌, ℕ, ◌+◌, ◌^◌, ◌≤◌, ◌<◌, ◌&&◌, Bool, true, false, List, Option, Some, None, map, filter, slice_index, nat_le, nat_lt}
+use Rattle.std.specs.Prelude.{◌≡◌, ℕ, ◌+◌, ◌^◌, ◌≤◌, ◌<◌, ◌&&◌, Bool, true, false, List, Option, Some, None, map, filter, nat_le, nat_lt}
 use Rattle.search_model.specs.declared.candidate.Candidate.{Candidate}
 use Rattle.search_model.specs.declared.candidate.Candidate.TheVariants.{Pulse, Fold}
-use Rattle.search_model.specs.Candidates.{plain_cells}
 use Rattle.search_model.specs.Parts.{later}
-
--- the cells that path sums add up: all of each path over so many channels; or as many as were counted, by delay from 0
--- on, and none past the last of these
-pub data CellCounts : Type 0 where
-  Plain : ℕ → CellCounts
-  Counted : List ℕ → CellCounts
-
--- how many a path sum of each delay adds up
-abbrev pub cells_by : CellCounts → ℕ → ℕ
-cells_by (Plain n) = plain_cells n
-cells_by (Counted counts) = λ d. slice_index counts d
+use Rattle.fold_search.specs.Cells.{CellCounts, Plain, Counted, AreFewCells, cells_by}
 
 -- How many cells path sums add up; with which spectrum of the observation the rows begin; and which ends are searched,
 -- as the observation counts them: those from `place` on and, where there is a limit, before it.
@@ -64,7 +53,7 @@ sought_of c list = map (later c.first) (filter (is_sought c) list)
 -- This can be sought in the rows of the delays below `end`: their path sums add up no more cells than there are over
 -- so many channels, and the rows begin so early that their ends can be counted.
 pub record CanBeSought (c : Sought) (channels end : ℕ) : Type 0 where
-  pub cells : (d : ℕ) → d < end → cells_in c d ≤ channels + d
+  pub cells : AreFewCells c.counts channels end
   pub early : c.first ≤ 2 ^ 61
 
 -- of so many spectra, from spectrum `start` of the rows on, those from number `from` on and before number `to` are ends

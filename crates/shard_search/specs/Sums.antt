@@ -1,6 +1,6 @@
 -- What contracts see of the search of a shard's path sums.
 -- Source: this project's choice.
-use Rattle.std.specs.Prelude.{◌≡◌, ℕ, ◌+◌, ◌-◌, ◌*◌, ◌≤◌, ◌<◌, true, All, List, map}
+use Rattle.std.specs.Prelude.{◌≡◌, ℕ, ◌+◌, ◌-◌, ◌*◌, ◌≤◌, ◌<◌, true, All, List, length, map}
 use Rattle.std.specs.List.{range_with_len}
 use Rattle.band_paths.specs.Edges.{channels_of}
 use Rattle.subband_plan.specs.Nodes.{BandPlan}
@@ -15,10 +15,10 @@ use Rattle.search_model.specs.Sums.{path_sum}
 use Rattle.dada_model.specs.Edges.{AreEdges}
 use Rattle.candidate_book.specs.Book.{BookContents}
 use Rattle.shard_search.specs.Counts.{most_pulses_at_end}
-use Rattle.shard_search.specs.Judging.{Adds}
-use Rattle.shard_search.specs.FoldSearch.{Fronts, HasDelay, FoldsFor, KeepsFrontOf}
+use Rattle.fold_search.specs.Judging.{Adds}
+use Rattle.fold_search.specs.FoldSearch.{Fronts, FoldsAlike, HasDelay, FoldsFor, KeepsFrontOf}
 use Rattle.shard_search.specs.Thresholds.{pulses_of_hits}
-use Rattle.shard_search.specs.PulseSearch.{PulseState, SearchesDelay, SearchesFor, WideRowHas, RowsStandFor, IsHitBelow}
+use Rattle.shard_search.specs.PulseSearch.{PulseState, SearchAlike, SearchesDelay, SearchesFor, WideRowHas, RowsStandFor, IsHitBelow}
 use Rattle.shard_search.specs.Pulses.{first_sums, pulses_of_end, pulses_of_ends}
 use Rattle.shard_search.specs.Sought.{Sought, cells_in}
 
@@ -51,6 +51,18 @@ pub record FitTogether (s : ShardState) : Type 0 where
       (sum_bound s.carry s.pulses.search)
   pub folds : FoldsFor s.folds s.pulses.search s.carry.tables.plan.first
       (s.carry.tables.plan.last + 1) (sum_bound s.carry s.pulses.search)
+
+-- the delays of a search are those from `first` up to, but without, `end`
+pub record AreDelaysOf (p : PulseState) (first end : ℕ) : Type 0 where
+  pub first_is : p.first ≡ first
+  pub end_is : p.end ≡ end
+  pub order : first ≤ end
+
+-- both parts go on as they were opened, and these delays have no more hits than each has widths
+pub record GoOnAlike (p p' : PulseState) (g g' : Fronts) (first end : ℕ) : Type 0 where
+  pub pulses : SearchAlike p' p
+  pub folds : FoldsAlike g' g
+  pub few : length p'.hits ≤ 6 * (end - first)
 
 -- The parts were fed the sums of a stream: for the delays below d, n more than those that end at the first m spectra.
 -- The hits are those of these n spectra, for the delays below d, and their rows are kept.
@@ -87,6 +99,13 @@ pub record PassesStream (c : Carrying) (rows : List ℕ) : Type 0 where
   pub stream : Filterbank
   pub stands : carry.StandsMidway c stream
   pub next : AreNext c stream rows c.last
+
+-- a pass over no more spectra than a chunk has, from spectrum `start` on, comes to the row of delay d
+pub record IsAtRow (c : Carrying) (d start : ℕ) : Type 0 where
+  pub passing : c.is_passing ≡ true
+  pub next_is : c.next ≡ d
+  pub short : c.last ≤ c.tables.chunk
+  pub start_is : start ≡ c.fed
 
 -- the pass goes on, and has made the rows of the delays below d
 pub record IsPassedTo (before after : Carrying) (d : ℕ) : Type 0 where

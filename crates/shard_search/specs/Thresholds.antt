@@ -9,7 +9,7 @@ use Rattle.search_model.specs.declared.search.Search.{Search}
 use Rattle.search_model.specs.Search.{widths}
 use Rattle.shard_search.specs.declared.thresholds.Hit.{Hit}
 use Rattle.shard_search.specs.declared.thresholds.BoxThresholds.{BoxThresholds}
-use Rattle.shard_search.specs.Judging.{noise_of}
+use Rattle.fold_search.specs.Judging.{noise_of}
 use Rattle.shard_search.specs.Pulses.{pulse_of}
 use Rattle.shard_search.specs.Sought.{Sought, cells_in}
 

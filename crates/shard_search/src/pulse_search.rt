@@ -3,7 +3,7 @@ ghost use Rattle.std.specs.Prelude.{◌≡◌, ◌≢◌, ℕ, ◌+◌, ◌-◌,
 ghost use Rattle.std.specs.List.{flat_map, range_with_len};
 ghost use Rattle.box_sums.specs.Tails.{KeepsRow, AreAlike, IsNewest, IsKept};
 ghost use Rattle.search_model.specs.Search.{SettingsInRange};
-ghost use Rattle.shard_search.specs.Judging.{Adds};
+ghost use Rattle.fold_search.specs.Judging.{Adds};
 ghost use Rattle.shard_search.specs.Thresholds.{IsHit, AreThresholds, pulses_of_hits, pulse_of_hit};
 ghost use Rattle.shard_search.specs.PulseSearch.{PulseState, PulsesAreSound, SearchesDelay, SearchesFor, SearchAlike, RowsStandFor, CanJudge, WideRowHas, IsTakenRow, HitIsKept, IsHitBelow, AddsHitsOf};
 ghost use Rattle.search_model.specs.declared.search.Search.{Search};

@@ -6,20 +6,21 @@ ghost use Rattle.row_schedule.specs.Samples.{values_of};
 ghost use Rattle.search_model.specs.Samples.{Filterbank};
 ghost use Rattle.search_model.specs.Search.{SettingsInRange};
 ghost use Rattle.dada_model.specs.Edges.{AreEdges};
-ghost use Rattle.shard_search.specs.Counts.{most_pulses_at_end, most_folds, most_tables};
-ghost use Rattle.shard_search.specs.FoldSearch.{IsDelayRange, HasDelay, FoldsAlike};
-ghost use Rattle.shard_search.specs.Judging.{Adds};
+ghost use Rattle.fold_search.specs.Counts.{most_folds};
+ghost use Rattle.shard_search.specs.Counts.{most_pulses_at_end, most_tables};
+ghost use Rattle.fold_search.specs.FoldSearch.{IsDelayRange, HasDelay, FoldsAlike};
+ghost use Rattle.fold_search.specs.Judging.{Adds};
 ghost use Rattle.shard_search.specs.Opening.{SumsFit, IsOpenedShard};
 ghost use Rattle.shard_search.specs.PulseSearch.{SearchesDelay, SearchAlike};
 ghost use Rattle.shard_search.specs.Pulses.{IsRowOf};
-ghost use Rattle.shard_search.specs.Sought.{CanBeSought};
-ghost use Rattle.shard_search.specs.Sums.{ShardState, FitTogether, StandsForStream, HasStream, ContinuesStream, PassesStream, IsPassedTo, HaveTaken, HasTakenNext, sums_of, folds_of_plan};
+ghost use Rattle.shard_search.specs.Sought.{CanBeSought, cells_in};
+ghost use Rattle.shard_search.specs.Sums.{ShardState, FitTogether, StandsForStream, HasStream, ContinuesStream, PassesStream, AreDelaysOf, IsAtRow, GoOnAlike, IsPassedTo, HaveTaken, HasTakenNext, sums_of, folds_of_plan};
 
-use crate::fold_search::FoldSearch;
 use crate::pulse_search::PulseSearch;
 use crate::sought::Sought;
 use candidate_book::Book;
 use fdmt_carry::Carry;
+use fold_search::FoldSearch;
 use psr_base::Memory;
 use row_schedule::Samples;
 use search_model::Search;
@@ -182,7 +183,7 @@ impl ShardSearch {
             (folds_of_plan f self.old.carry.tables.plan self.old.pulses.search
             self.old.pulses.sought) }
     {
-        self.folds.end(self.pulses.sought(), book);
+        self.folds.end(self.pulses.sought().counts(), book);
     }
 
     /// How many spectra were taken.
@@ -190,6 +191,14 @@ impl ShardSearch {
         ensures { result ≡ self.now.carry.fed }
     {
         self.carry.fed()
+    }
+
+    /// How many cells a path sum of a delay adds up.
+    pub fn cells(&self, delay: u32) -> u32
+        requires { cells_in self.now.pulses.sought delay < 2 ^ 32 }
+        ensures { result ≡ cells_in self.now.pulses.sought delay }
+    {
+        self.pulses.sought().cells(delay)
     }
 
     /// The carry.
@@ -223,26 +232,19 @@ fn pass_rows(
     first: u32,
     end: u32,
 )
-    requires first { pulses.old.first ≡ first }
-    requires end { pulses.old.end ≡ end }
-    requires order { first ≤ end }
+    requires delays { AreDelaysOf pulses.old first end }
     requires fit { FitTogether (record {
       carry = carry.old;
       pulses = pulses.old;
       folds = folds.old;
     }) }
-    requires passing { carry.old.is_passing ≡ true }
-    requires next { carry.old.next ≡ first }
-    requires short { carry.old.last ≤ carry.old.tables.chunk }
-    requires start { start ≡ carry.old.fed }
+    requires begun { IsAtRow carry.old first start }
     requires rows { length (values_of samples)
         ≡ channels_of carry.old.tables.plan.edges * carry.old.tables.chunk }
     requires stream { PassesStream carry.old (values_of samples) }
     requires none { pulses.old.hits ≡ [] }
     ensures carry { IsPassedTo carry.old carry.new end }
-    ensures pulses { SearchAlike pulses.new pulses.old }
-    ensures folds { FoldsAlike folds.new folds.old }
-    ensures few { length pulses.new.hits ≤ 6 * (end - first) }
+    ensures alike { GoOnAlike pulses.old pulses.new folds.old folds.new first end }
     ensures stands { (f : Filterbank) → StandsMidway carry.old f
         → AreNext carry.old f (values_of samples.entry) carry.old.last
         → StandsMidway carry.new f }
@@ -269,9 +271,7 @@ fn take_rows(
     first: u32,
     end: u32,
 )
-    requires first { pulses.old.first ≡ first }
-    requires end { pulses.old.end ≡ end }
-    requires order { first ≤ end }
+    requires delays { AreDelaysOf pulses.old first end }
     requires fit { FitTogether (record {
       carry = carry.now;
       pulses = pulses.old;
@@ -282,9 +282,7 @@ fn take_rows(
     requires start { start + carry.now.last ≡ carry.now.fed }
     requires stream { HasStream carry.now }
     requires none { pulses.old.hits ≡ [] }
-    ensures pulses { SearchAlike pulses.new pulses.old }
-    ensures folds { FoldsAlike folds.new folds.old }
-    ensures few { length pulses.new.hits ≤ 6 * (end - first) }
+    ensures alike { GoOnAlike pulses.old pulses.new folds.old folds.new first end }
     ensures taken { (f : Filterbank) → StandsForSamples carry.now f
         → HaveTaken (sums_of f carry.now.tables.plan.edges) pulses.old folds.old start
         carry.now.last first

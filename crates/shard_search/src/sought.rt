@@ -1,19 +1,12 @@
 // What is sought in the rows of a shard.
-ghost use Rattle.std.specs.Prelude.{◌≡◌, ℕ, ◌+◌, ◌^◌, ◌≤◌, ◌<◌, true, false, Option, slice_index};
+ghost use Rattle.std.specs.Prelude.{◌≡◌, ℕ, ◌+◌, ◌^◌, ◌≤◌, ◌<◌, true, false, Option};
 ghost use Rattle.shard_search.specs.Sought.{whole_of, counted_of, part_of, cells_in, is_before, AreSoughtEnds};
 
+use fold_search::Cells;
 use std::marker::Model;
 
-/// How many cells a path sum of each delay adds up: all of its path over so many channels, or as many as were counted
-/// for each delay from 0 on, and none past the last of these.
-#[derive(Drop)]
-pub(crate) enum Cells {
-    Plain(u32),
-    Counted(Vec<u32>),
-}
-
-/// What is sought in the rows of a shard: how many cells a path sum of each delay adds up, and which ends of pulses. They
-/// count from the first spectrum of the observation, also where the rows begin with a later one.
+/// What is sought in the rows of a shard: how many cells a path sum of each delay adds up, and which ends of pulses.
+/// They count from the first spectrum of the observation, also where the rows begin with a later one.
 #[derive(Drop)]
 pub struct Sought {
     cells: Cells,
@@ -30,13 +23,12 @@ pub(crate) struct Ends {
 }
 
 impl Model for Sought {
-    ghost use Rattle.shard_search.specs.Cells.{counts_of};
     ghost use Rattle.shard_search.specs.Sought.{Sought as Described};
 
     ghost Value = { Described };
 
     ghost view = { λ s. record {
-      counts = counts_of s.cells;
+      counts = s.cells;
       first = s.first;
       place = s.place;
       until = s.until;
@@ -49,7 +41,7 @@ impl Sought {
         ensures { result ≡ whole_of channels }
     {
         Sought {
-            cells: Cells::Plain(channels),
+            cells: Cells::plain(channels),
             first: 0,
             place: 0,
             until: None,
@@ -61,7 +53,7 @@ impl Sought {
         ensures { result ≡ counted_of counts.items }
     {
         Sought {
-            cells: Cells::Counted(counts),
+            cells: Cells::counted(counts),
             first: 0,
             place: 0,
             until: None,
@@ -74,7 +66,7 @@ impl Sought {
         ensures { result ≡ part_of channels first place until }
     {
         Sought {
-            cells: Cells::Plain(channels),
+            cells: Cells::plain(channels),
             first,
             place,
             until: Some(until),
@@ -86,10 +78,14 @@ impl Sought {
         requires { cells_in self.now delay < 2 ^ 32 }
         ensures { result ≡ cells_in self.now delay }
     {
-        match &self.cells {
-            Cells::Plain(channels) => *channels + delay,
-            Cells::Counted(counts) => count_at(counts.as_slice(), delay),
-        }
+        self.cells.at(delay)
+    }
+
+    /// How many cells the path sums of all delays add up.
+    pub(crate) fn counts(&self) -> &Cells
+        ensures { result.now ≡ self.now.counts }
+    {
+        &self.cells
     }
 
     /// With which spectrum of the observation the rows begin.
@@ -108,16 +104,6 @@ impl Sought {
         let to = spectra_before(self.until, start, spectra);
         let from = spectra_before(Some(self.place), start, spectra).min(to);
         Ends { from, to }
-    }
-}
-
-// The count of a delay, 0 past the last.
-fn count_at(counts: &[u32], delay: u32) -> u32
-    ensures { result ≡ slice_index counts.now delay }
-{
-    match counts.get(delay as usize) {
-        Some(count) => *count,
-        None => 0,
     }
 }
 

@@ -10,7 +10,7 @@ use Rattle.fdmt_carry.specs.Carrying.{IsStream}
 use Rattle.subband_plan.specs.Nodes.{BandPlan}
 use Rattle.subband_plan.specs.Plans.{band_plan}
 use Rattle.search_engine.specs.Engine.{IsOpenedSums}
-use Rattle.shard_search.specs.FoldSearch.{IsDelayRange}
+use Rattle.fold_search.specs.FoldSearch.{IsDelayRange}
 use Rattle.shard_search.specs.Opening.{SumsFit, IsOpenedShard}
 use Rattle.shard_search.specs.Sought.{Sought, CanBeSought}
 use Rattle.shard_search.specs.Sums.{ShardState}

@@ -19,8 +19,8 @@ loop-channel-preserved c =
           record {
             same = subst (λ (x : Unpacking). x ≡ record old { rows = x.rows }) (sym w.unpacker-is)
                 (s.without.same ∙ ap (λ (x : Unpacking). record x { rows = w.silence.new.self.rows }) inv.same);
-            kept = λ bytes gone stands. subst (λ (x : Unpacking). StandsForKept (kept_below masked (i + 1)) x bytes gone)
-                (sym w.unpacker-is)
+            kept = λ bytes gone stands.
+                subst (λ (x : Unpacking). StandsForKept (kept_below masked (i + 1)) x bytes gone) (sym w.unpacker-is)
                 (s.kept (kept_below masked i) (kept_below masked (i + 1)) bytes gone
                 (leaves_out masked i u.channels (ap not w.if-marks-channel.true)) (inv.kept bytes gone stands));
           }
@@ -28,8 +28,8 @@ loop-channel-preserved c =
           let old = c.args.unpacker.now in
           record {
             same = subst (λ (x : Unpacking). x ≡ record old { rows = x.rows }) (sym w.unpacker-is) inv.same;
-            kept = λ bytes gone stands. subst (λ (x : Unpacking). StandsForKept (kept_below masked (i + 1)) x bytes gone)
-                (sym w.unpacker-is)
+            kept = λ bytes gone stands.
+                subst (λ (x : Unpacking). StandsForKept (kept_below masked (i + 1)) x bytes gone) (sym w.unpacker-is)
                 (same_kept u bytes gone (kept_below masked i) (kept_below masked (i + 1))
                 (λ k here. keeps masked i k (ap not w.if-marks-channel.false)) (inv.kept bytes gone stands));
           }

@@ -1,19 +1,14 @@
-use Rattle.std.proofs.Common.{◌-◌, ◌*◌, ◌≤◌, length}
 use Rattle.fdmt_carry.specs.Carrying.{StandsMidway, AreNext}
 use Rattle.row_schedule.specs.Samples.{values_of}
 use Rattle.search_model.specs.Samples.{Filterbank}
-use Rattle.shard_search.specs.FoldSearch.{FoldsAlike}
-use Rattle.shard_search.specs.PulseSearch.{SearchAlike}
-use Rattle.shard_search.specs.Sums.{HaveTaken, IsPassedTo, sums_of}
+use Rattle.shard_search.specs.Sums.{GoOnAlike, HaveTaken, IsPassedTo, sums_of}
 use Rattle.shard_search.proofs.shard.pass_rows.Given as goal
 
 -- the rows of the first delays
 abbrev pub invariant-loop-d : goal.invariant-loop-d
 invariant-loop-d l = record {
   carry : IsPassedTo l.fn.carry l.carry l.d;
-  pulses : SearchAlike l.pulses l.fn.pulses;
-  folds : FoldsAlike l.folds l.fn.folds;
-  few : length l.pulses.hits ≤ 6 * (l.d - l.first);
+  alike : GoOnAlike l.fn.pulses l.pulses l.fn.folds l.folds l.first l.d;
   stands : (f : Filterbank) → StandsMidway l.fn.carry f → AreNext l.fn.carry f (values_of l.samples) l.fn.carry.last
       → StandsMidway l.carry f;
   taken : (f : Filterbank) → StandsMidway l.fn.carry f → AreNext l.fn.carry f (values_of l.samples) l.fn.carry.last

@@ -12,7 +12,7 @@ use Rattle.spectra_rows.specs.Unpacking.{Unpacking}
 use Rattle.shard_search.specs.Counts.{most_tables}
 use Rattle.search_engine.specs.Engine.{BeginsWith, EngineState, HasFoundIn, HoldsData, StandsForPart, chunk_of, scope_of}
 use Rattle.search_engine.specs.Scope.{Scope, bytes_in, kept_by, kept_samples, marks_of, spectrum_size}
-use Rattle.shard_search.specs.Judging.{Adds}
+use Rattle.fold_search.specs.Judging.{Adds}
 use Rattle.shard_search.specs.Sought.{Sought, cells_in, sought_of}
 use Rattle.shard_search.specs.Sums.{ShardState, StandsForStream, folds_of_plan}
 use Rattle.search_engine.proofs.Data.{data_begin}
@@ -94,8 +94,9 @@ invariant_of-self c =
       book = c.end.new.book;
     }) in
     let searched = searched_holds w.observation w.bytes (values_of c.samples.result) _ c.taken.new.self c.take.new.self
-    c.end.new.book true c.spectra-spectra.result holds (hidden_alike _ _ _ _ hidden) whole (hidden_given _ _ _ _ hidden _ _)
-    c.take.ensures.taken.alike c.take.ensures.taken.fed (λ k t. hidden_rows _ i.unpacker c.hide.new.unpacker (values_of c.samples.result) _ _ k t c.hide.ensures.same
+    c.end.new.book true c.spectra-spectra.result holds (hidden_alike _ _ _ _ hidden) whole
+    (hidden_given _ _ _ _ hidden _ _) c.take.ensures.taken.alike c.take.ensures.taken.fed
+    (λ k t. hidden_rows _ i.unpacker c.hide.new.unpacker (values_of c.samples.result) _ _ k t c.hide.ensures.same
     c.samples.ensures.rows (c.hide.ensures.kept _ _ holds.held))
     c.take.ensures.taken.stands in (
       record {

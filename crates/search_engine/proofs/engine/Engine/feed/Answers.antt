@@ -55,8 +55,8 @@ returns-clause-part c = λ o before stands.
     record {
       numbers = All-append (λ byte. byte < 256) before bytes old.numbers (bytes_are bytes c.type_inv.bytes);
       count = omega (arith, count, both, most, less, long, then, now);
-      chunks = subst (λ ys. HasTakenChunks o ys new) (sym (ap (λ (c : Sought). bytes_in o c (before ++ bytes)) same ∙ is))
-          four;
+      chunks = subst (λ ys. HasTakenChunks o ys new)
+          (sym (ap (λ (c : Sought). bytes_in o c (before ++ bytes)) same ∙ is)) four;
     }
 
 pub returns-clause-stands : goal.returns-clause-stands

@@ -7,8 +7,9 @@ pub invariant_of-result : goal.invariant_of-result
 invariant_of-result c =
     let o = c.args.observation.now in
     let s = c.args.search.now in
-    let parts : OpenedParts o s c.args.shard (marks_of c.scope.inside.masked) c.scope.inside.sought c.min-chunk.result c.in_ok-unpacker.unpacker c.in_ok-sums.sums
-    c.in_ok-book.book = record {
+    let masked = marks_of c.scope.inside.masked in
+    let parts : OpenedParts o s c.args.shard masked c.scope.inside.sought c.min-chunk.result
+    c.in_ok-unpacker.unpacker c.in_ok-sums.sums c.in_ok-book.book = record {
       bounds = c.lies_in_range.ensures;
       band = c.edges_fall.ensures o c.lies_in_range.ensures;
       range = c.requires.range;
@@ -21,7 +22,7 @@ invariant_of-result c =
       path_sums = c.in_ok-sums.ensures;
       empty = c.in_ok-book.ensures;
     } in (
-      opened_sound o s c.args.shard (marks_of c.scope.inside.masked) c.scope.inside.sought c.min-chunk.result _ _ _ parts,
+      opened_sound o s c.args.shard masked c.scope.inside.sought c.min-chunk.result _ _ _ parts,
       opened_sizes o c.in_ok-unpacker.unpacker c.in_ok-sums.sums c.scope.inside.sought c.min-chunk.result
           c.spectrum_size-spectrum.result c.scope.inside.first c.scope.inside.until _ c.in_ok-unpacker.ensures.opened
           c.in_ok-sums.ensures.sought_is c.spectrum_size-spectrum.ensures.value c.scope.invariant.0
@@ -32,8 +33,9 @@ pub returns-clause-stands : goal.returns-clause-stands
 returns-clause-stands c =
     let o = c.args.observation.now in
     let s = c.args.search.now in
-    let parts : OpenedParts o s c.args.shard (marks_of c.scope.inside.masked) c.scope.inside.sought c.min-chunk.result c.in_ok-unpacker.unpacker c.in_ok-sums.sums
-    c.in_ok-book.book = record {
+    let masked = marks_of c.scope.inside.masked in
+    let parts : OpenedParts o s c.args.shard masked c.scope.inside.sought c.min-chunk.result
+    c.in_ok-unpacker.unpacker c.in_ok-sums.sums c.in_ok-book.book = record {
       bounds = c.lies_in_range.ensures;
       band = c.edges_fall.ensures o c.lies_in_range.ensures;
       range = c.requires.range;

@@ -74,7 +74,8 @@ pass-requires-clause-stream c =
     let whole = c.spectra.ensures.whole in
     let full = c.if-spectra-self.true in
     goes_on c.samples_of_bytes.ensures w.observation _ (values_of c.samples-rows.result) _ c.self.inside.chunk holds
-    (omega (arith, whole, full)) (λ k t. hidden_rows _ c.push-count.new.self c.hide.new.unpacker (values_of c.samples-rows.result) _ _ k t
+    (omega (arith, whole, full))
+    (λ k t. hidden_rows _ c.push-count.new.self c.hide.new.unpacker (values_of c.samples-rows.result) _ _ k t
     c.hide.ensures.same c.samples-rows.ensures.rows (c.hide.ensures.kept _ _ holds.held))
 
 pub pass-requires-clause-room : goal.pass-requires-clause-room
@@ -121,7 +122,8 @@ invariant_of-self c =
               (sym full ∙ whole)
               (hidden_given _ _ _ _ hidden _ _) c.pass.ensures.alike c.pass.ensures.fed
               (λ k t. hidden_rows _ c.push-count.new.self c.hide.new.unpacker (values_of c.samples-rows.result) _ _ k t
-              c.hide.ensures.same c.samples-rows.ensures.rows (c.hide.ensures.kept _ _ holds.held)) c.pass.ensures.stands;
+              c.hide.ensures.same c.samples-rows.ensures.rows (c.hide.ensures.kept _ _ holds.held))
+              c.pass.ensures.stands;
           part = none_left c.hide.new.unpacker c.taken.new.self c.taken.ensures.part
               (let same = ap (λ (x : Unpacking). x.chunk) c.hide.ensures.same in omega (arith, same, chunk, least));
         };
@@ -212,7 +214,8 @@ returns-then-spectra-self-clause-taken c = λ o before stands.
             (sym full ∙ whole)
             (hidden_given _ _ _ _ hidden _ _) c.pass.ensures.alike c.pass.ensures.fed
             (λ k t. hidden_rows _ c.push-count.new.self c.hide.new.unpacker (values_of c.samples-rows.result) _ _ k t
-            c.hide.ensures.same c.samples-rows.ensures.rows (c.hide.ensures.kept _ _ holds.held)) c.pass.ensures.stands;
+            c.hide.ensures.same c.samples-rows.ensures.rows (c.hide.ensures.kept _ _ holds.held))
+            c.pass.ensures.stands;
         part = none_left c.hide.new.unpacker c.taken.new.self c.taken.ensures.part
             (let same = ap (λ (x : Unpacking). x.chunk) c.hide.ensures.same in omega (arith, same, chunk, least));
       };

@@ -1,6 +1,6 @@
 use Rattle.std.proofs.Common.{◌+◌, ◌*◌, ◌≤◌, ℕ, All, length}
 use Rattle.std.specs.List.{flat_map, range_with_len}
-use Rattle.shard_search.specs.Judging.{Adds}
+use Rattle.fold_search.specs.Judging.{Adds}
 use Rattle.shard_search.specs.Thresholds.{pulses_of_hits}
 use Rattle.shard_search.specs.PulseSearch.{HitIsKept}
 use Rattle.shard_search.proofs.pulse_search.PulseSearch.report.Given as goal

@@ -2,7 +2,7 @@ use Rattle.std.proofs.Common.{◌≡◌, ◌+◌, ◌<◌, List, length, vec_len
 use Rattle.std.proofs.lemmas.List.{take_all}
 use Rattle.std.proofs.lemmas.List.Elements.{All-get_or}
 use Rattle.shard_search.specs.declared.thresholds.Hit.{Hit}
-use Rattle.shard_search.specs.Judging.{Adds}
+use Rattle.fold_search.specs.Judging.{Adds}
 use Rattle.shard_search.specs.Thresholds.{pulses_of_hits, pulse_of_hit}
 use Rattle.shard_search.specs.PulseSearch.{PulseState, HitIsKept}
 use Rattle.shard_search.proofs.Adding.{adds_both, adds_same}

@@ -1,5 +1,5 @@
 use Rattle.std.proofs.Common.{◌+◌, ◌<◌, ◌≤◌, ℕ, All, take}
-use Rattle.shard_search.specs.Judging.{Adds}
+use Rattle.fold_search.specs.Judging.{Adds}
 use Rattle.shard_search.specs.Thresholds.{pulses_of_hits}
 use Rattle.shard_search.specs.PulseSearch.{HitIsKept}
 use Rattle.shard_search.proofs.pulse_search.PulseSearch.report_end.Given as goal

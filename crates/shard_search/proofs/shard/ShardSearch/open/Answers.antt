@@ -8,7 +8,7 @@ use Rattle.search_model.specs.Samples.{Filterbank}
 use Rattle.search_model.specs.Search.{SettingsInRange}
 use Rattle.subband_plan.specs.Plans.{band_plan}
 use Rattle.subband_plan.specs.Nodes.{BandPlan}
-use Rattle.shard_search.specs.FoldSearch.{Fronts, FoldsFor, IsDelayRange, KeepsFrontOf}
+use Rattle.fold_search.specs.FoldSearch.{Fronts, FoldsFor, IsDelayRange, KeepsFrontOf}
 use Rattle.shard_search.specs.PulseSearch.{PulseState, SearchesFor, RowsStandFor}
 use Rattle.shard_search.specs.Sought.{Sought}
 use Rattle.shard_search.specs.Sums.{FitTogether, sums_of}

@@ -1,12 +1,12 @@
 use Rattle.std.proofs.Common.{sym, subst}
 use Rattle.row_schedule.specs.Samples.{values_of}
 use Rattle.shard_search.specs.Sums.{ShardState, ContinuesStream}
-use Rattle.shard_search.proofs.Taking.{delays_rise, room_for_hits, takes_next}
+use Rattle.shard_search.proofs.Taking.{delays_are, room_for_hits, takes_next}
 use Rattle.shard_search.proofs.shard.ShardSearch.take_tables.Goals as goal
 
-pub take_rows-requires-clause-order : goal.take_rows-requires-clause-order
-take_rows-requires-clause-order c =
-    delays_rise _ _ _ c.self.invariant.0 c.self.invariant.1 c.self.invariant.2
+pub take_rows-requires-clause-delays : goal.take_rows-requires-clause-delays
+take_rows-requires-clause-delays c =
+    delays_are _ _ _ _ c.self.invariant.0 c.self.invariant.1 c.self.invariant.2 c.begin.ensures
 
 pub take_rows-requires-clause-stream : goal.take_rows-requires-clause-stream
 take_rows-requires-clause-stream c =
@@ -17,7 +17,7 @@ take_rows-requires-clause-stream c =
 pub report-requires-clause-room : goal.report-requires-clause-room
 report-requires-clause-room c =
     room_for_hits _ _ c.args.spectra c.self.inside.first _ _ c.self.invariant.0 c.self.invariant.2
-    c.take_rows.ensures.few c.requires.room
+    c.take_rows.ensures.alike.few c.requires.room
 
 pub returns-clause-taken : goal.returns-clause-taken
 returns-clause-taken c =
@@ -35,9 +35,9 @@ returns-clause-taken c =
       tables = fed.tables;
       max_sample = fed.max_sample;
       fed = fed.fed;
-      pulses = c.take_rows.ensures.pulses;
-      folds = c.take_rows.ensures.folds;
-      few = c.take_rows.ensures.few;
+      pulses = c.take_rows.ensures.alike.pulses;
+      folds = c.take_rows.ensures.alike.folds;
+      few = c.take_rows.ensures.alike.few;
       carried = c.take.ensures.stands;
       taken = λ f stands next. c.take_rows.ensures.taken f (c.take.ensures.stands f stands next);
       count = c.report.ensures.count;

@@ -1,6 +1,6 @@
 use Rattle.std.proofs.Common.{◌≡◌, ℕ, ◌+◌, ◌*◌, ◌<◌, Option, Some, None, ◌∙◌, sym, subst, arith}
 use Rattle.detect_rule.specs.Noise.{StandOutFrom}
-use Rattle.shard_search.specs.Judging.{noise_of}
+use Rattle.fold_search.specs.Judging.{noise_of}
 use Rattle.shard_search.specs.Sought.{cells_in}
 use Rattle.shard_search.proofs.Boxes.{quiet_box, least_at}
 use Rattle.shard_search.proofs.thresholds.BoxThresholds.hit.Goals as goal

@@ -1,6 +1,6 @@
 use Rattle.std.proofs.Common.{◌≡◌, ℕ, ◌+◌, ◌-◌, ◌*◌, ◌++◌, List, [], ◌∷◌, length, Option, subst, sym, ap, ◌∙◌, arith, length-append}
 use Rattle.detect_rule.specs.Noise.{StandOutFrom}
-use Rattle.shard_search.specs.Judging.{noise_of}
+use Rattle.fold_search.specs.Judging.{noise_of}
 use Rattle.shard_search.specs.Thresholds.{AreLeastSums}
 use Rattle.shard_search.specs.Sought.{cells_in}
 use Rattle.shard_search.proofs.WidthLists.{leasts_more}
