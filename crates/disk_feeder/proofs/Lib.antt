@@ -16,3 +16,4 @@ pub mod Turning
 pub mod Standing
 pub mod Endings
 pub mod Beginnings
+pub mod Accepting

@@ -27,8 +27,10 @@ pub struct FeederSpace<'a> {
 }
 
 impl<'a> FeederSpace<'a> {
-    ghost use Rattle.disk_feeder.specs.Feeder.{IsSpaceFor, has_end};
-    ghost use Rattle.disk_feeder.specs.Resting.{feeder_over, FeederStands, FeederKept};
+    ghost use Rattle.disk_feeder.specs.Feeder.{HasPlan, SamePlan, IsSpaceFor, IsFresh, IsBegun, FirstsLeft, RefusesAt, HasOpenFile, has_end, header_at, names_at, AcceptsAt, AllAccepted, FeederFeeds, FeederFaultless};
+    ghost use Rattle.disk_feeder.specs.Feeding.{header_entries};
+    ghost use Rattle.disk_feeder.specs.Resting.{feeder_over, at_rest, FeederStands, FeederKept};
+    ghost use Rattle.psr_base.specs.Told.{Told};
 
     /// Takes all space, for blocks of so many bytes. Transfer k begins with file `starts[k]`; all files together may
     /// have `max_bytes` data bytes at most.
@@ -49,6 +51,65 @@ impl<'a> FeederSpace<'a> {
     {
         let stream = Stream::open(alloc, names, starts, block as usize, max_bytes)?;
         Ok(FeederSpace { stream })
+    }
+
+    /// What the feeder at rest is to read, where its space was taken for these files and nothing was read.
+    pub fn rests(&self)
+        ensures { (names : List (List ℕ)) (starts : List ℕ) (size max_bytes : ℕ)
+            → IsSpaceFor self.now names starts size max_bytes
+            → HasPlan (at_rest self.now) names starts size max_bytes
+            × IsFresh (at_rest self.now) }
+    {
+        let _ = &self.stream;
+    }
+
+    /// Opens the first file of each transfer in order and reads its header, as `Feeder::begin` does, over inputs that
+    /// are lent to the feeder at rest for this call.
+    pub fn begin<I: Inputs>(&mut self, inputs: &mut I) -> Result<(), FeedFault>
+        requires fresh { IsFresh (at_rest self.old) }
+        ensures plan { SamePlan (at_rest self.old) (at_rest self.new) }
+        ensures begun { OnOk result (IsBegun (I.told inputs.new) (at_rest self.new)) }
+        ensures open { OnOk result (HasOpenFile (at_rest self.new) → I.is_open inputs.new) }
+        ensures left { OnOk result (FirstsLeft (I.told inputs.old) (at_rest self.old)
+            (I.told inputs.new)) }
+        ensures refused { IfErr result (RefusesAt (I.told inputs.old) (at_rest self.old)) }
+        ensures inputs { HasReadFrom I.told I.is_calm I.faults (result ≡ Err FeedFault.ReadFault)
+            inputs.old inputs.new }
+        ensures serves { I.is_calm inputs.old
+            → HoldsAll (I.told inputs.old) (names_at (at_rest self.old))
+            → result ≢ Err FeedFault.ReadFault }
+    {
+        self.stream.begin(inputs)
+    }
+
+    /// The first header of a transfer.
+    pub fn header(&self, transfer: usize) -> &Header
+        requires { transfer < length (header_at (at_rest self.now)) }
+        ensures { slice_get (header_at (at_rest self.now)) transfer ≡ Some result.now }
+    {
+        self.stream.header_of(transfer)
+    }
+
+    /// Keeps the observation of a transfer's first header, as `Feeder::accept` does, whatever is lent.
+    pub fn accept(&mut self, transfer: usize, observation: &Observation)
+        requires there { transfer < length (header_at (at_rest self.old)) }
+        requires begun { (told : Told) × IsBegun told (at_rest self.old) }
+        requires accepted { (header : _) → slice_get (header_at (at_rest self.old)) transfer
+            ≡ Some header → observation_of (fields_of header.text) ≡ Ok observation.now }
+        ensures plan { SamePlan (at_rest self.old) (at_rest self.new) }
+        ensures headers { header_at (at_rest self.new) ≡ header_at (at_rest self.old) }
+        ensures feeds { (told : Told) → IsBegun told (at_rest self.old)
+            → AllAccepted (at_rest self.new) → FeederFeeds told (at_rest self.new)
+            (header_entries (take 1 (header_at (at_rest self.new)))) [] }
+        ensures faultless { FeederFaultless (at_rest self.new) }
+        ensures running { has_end (at_rest self.new) ≡ None }
+        ensures accepts { AcceptsAt (at_rest self.old) transfer (at_rest self.new) }
+        ensures reading { HasOpenFile (at_rest self.new) → HasOpenFile (at_rest self.old) }
+    {
+        first_files_continue();
+        data_grow();
+        data_none();
+        self.stream.accept(transfer, observation);
     }
 
     /// Takes a turn of the feeder at rest, as `Feeder::turn` does, over inputs that are lent to it for this call. They

@@ -16,4 +16,4 @@ pub use ends::{
 };
 pub use laws::{runs_record_blocks, whole_runs_record_data};
 pub use stop::Stop;
-pub use telling::tell;
+pub use telling::{tell, tell_line};

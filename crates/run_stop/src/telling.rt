@@ -1,24 +1,36 @@
 // How the user is told.
-ghost use Rattle.std.specs.Prelude.{◌≡◌, ℕ, List};
+ghost use Rattle.std.specs.Prelude.{◌≡◌, ℕ, List, None, IfSome};
 ghost use Rattle.psr_base.specs.Told.{Told};
+ghost use Rattle.psr_base.specs.Written.{Noted};
 ghost use Rattle.run_stop.specs.Runs.{Task};
 ghost use Rattle.run_stop.specs.Outcomes.{TellsNotes};
 ghost use Rattle.run_stop.specs.Ends.{end_status, IsSaid};
+ghost use Rattle.run_stop.specs.Texts.{note_of};
 
 use crate::stop::Stop;
 use psr_base::{Sink, write_all};
+use text_line::Line;
+
+/// Tells the user one line, by the notes. A fault of theirs changes nothing: they have taken its front.
+pub fn tell_line<E: Sink>(line: &Line, notes: &mut E)
+    ensures { Noted line.now (E.seen notes.old) (E.seen notes.new) }
+{
+    let _ = write_all(notes, line.as_bytes());
+}
 
 /// Tells why a run stopped, by a line to the notes, and answers the exit status. Where it came to no stop that is 0,
 /// and the notes take nothing. A fault of the notes changes nothing.
 pub fn tell<E: Sink>(stop: Option<Stop>, notes: &mut E) -> u8
     ensures status { result ≡ end_status stop }
+    ensures silent { stop ≡ None → E.seen notes.new ≡ E.seen notes.old }
+    ensures line { IfSome stop (λ s. Noted (note_of s) (E.seen notes.old) (E.seen notes.new)) }
     ensures told { (task : Task) (words : List (List ℕ)) (told : Told)
         → IsSaid task words told stop
         → TellsNotes task words told (E.seen notes.old) (E.seen notes.new) result }
 {
     match stop {
         Some(stop) => {
-            let _ = write_all(notes, stop.note().as_bytes());
+            tell_line(&stop.note(), notes);
             stop.status()
         }
         None => 0,
