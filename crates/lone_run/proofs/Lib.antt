@@ -3,3 +3,4 @@ mod Told
 mod Opening
 mod Wording
 mod Through
+mod Endings

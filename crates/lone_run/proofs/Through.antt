@@ -206,7 +206,8 @@ goes_alone told is_open is_calm faults s lent after feeder o scope space start e
           (of_plan f s (told lent) (told after) (λ w. EndIs w (block_size f) sealed end.feed) plan fed.names
           fed.sealed.known)));
       observed = observed;
-      first = λ files are. first_is (stream_for s files) o 0 (opened.firsts files are) opened.one.transfer ∙ sym observed;
+      first = λ files are. first_is (stream_for s files) o 0 (opened.firsts files are) opened.one.transfer
+          ∙ sym observed;
       cleared = subst Blocks (sym blocks) (λ k below.
           let at : k ≡ 0 = omega (arith, below) in
           subst (λ j. cleared_at_end end.blocks (0 + j) ≡ sealed) (sym at) lane.cleared);
@@ -219,8 +220,8 @@ goes_alone told is_open is_calm faults s lent after feeder o scope space start e
           let scope_is = ap scope_of at ∙ went.2.scope ∙ is.scope_is in
           let count = one_place (λ k. length (transfer_bytes k sealed)) (length (plan_at f).starts) bytes transfers
           (fed.parts bytes feed_whole) in
-          let few = few_bytes (plan_at f) (told after) (block_size f) _ _ end.feed bytes s.max_bytes fed.sealed feed_whole
-          plan.limit opened.most in
+          let few = few_bytes (plan_at f) (told after) (block_size f) _ _ end.feed bytes s.max_bytes fed.sealed
+          feed_whole plan.limit opened.most in
           record {
             bytes = through;
             few = omega (arith, count, few);

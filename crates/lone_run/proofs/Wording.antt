@@ -44,7 +44,8 @@ stops_alone once scopes refuses s told (Run stop) early lone words says = (
   λ plan. for_files once lone words s told (ScopesFirst scopes) says (λ files are. (early.says lone files are).1 plan),
 )
 stops_alone once scopes refuses s told (Unscoped refusal) early lone words says =
-    for_files once lone words s told (λ t w. RefusesFirst refuses w refusal) says (λ files are. early.says lone files are)
+    for_files once lone words s told (λ t w. RefusesFirst refuses w refusal) says
+    (λ files are. early.says lone files are)
 
 pub reads_no_data : WordsSayOnce → (s : SettingsSeen) (old new : Told) → OfRun old s (LeavesData new) →
     (lone : LoneSearch) → ForWords (Alone lone) s (λ words. ReadsNoData (Alone lone) words old new)

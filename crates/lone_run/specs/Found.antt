@@ -4,6 +4,7 @@ use Rattle.std.specs.Prelude.{◌≡◌, ℕ, ◌^◌, ◌≤◌, true, List, le
 use Rattle.psr_base.specs.Told.{Told}
 use Rattle.dada_model.specs.Observation.{Observation}
 use Rattle.search_model.specs.declared.search.Search.{Search}
+use Rattle.search_model.specs.Search.{in_one_shard}
 use Rattle.search_words.specs.Settings.{SettingsSeen}
 use Rattle.stream_model.specs.Walk.{transfer_data}
 use Rattle.ring_ends.specs.Ended.{sealed_at_end}
@@ -16,7 +17,6 @@ use Rattle.run_stop.specs.Outcomes.{AllCleared}
 use Rattle.run_stop.specs.Runs.{Alone, CanBegin, first_observation}
 use Rattle.whole_run.specs.Wholes.{OfRun}
 use Rattle.lone_run.specs.declared.found.LoneFound.{LoneFound}
-use Rattle.lone_run.specs.Scopes.{in_one_shard}
 
 -- The engine has searched a scope of all data, which are those of the transfer's files where these are told.
 pub record HasFoundAll (s : SettingsSeen) (told : Told) (scope : Scope) (found : LoneFound) :

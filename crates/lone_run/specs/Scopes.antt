@@ -3,6 +3,7 @@
 use Rattle.std.specs.Prelude.{◌≡◌, ⊤, [], ◌∷◌, Some}
 use Rattle.dada_model.specs.Observation.{Observation}
 use Rattle.search_model.specs.declared.search.Search.{Search}
+use Rattle.search_model.specs.Search.{in_one_shard}
 use Rattle.search_engine.specs.Scope.{Scope}
 use Rattle.search_engine.specs.Engine.{EngineState, IsOpenedEngine, StandsForPart, scope_of}
 use Rattle.search_session.specs.declared.lane.Lane.{Lane}
@@ -18,10 +19,6 @@ abbrev pub ExplainsScope : {F : Type 0} → (Observation → F → Type 0) → O
     Type 0
 ExplainsScope refuses o (Refused refusal) = refuses o refusal
 ExplainsScope refuses o Memory = ⊤
-
--- all delays in one shard, however many the settings ask for
-abbrev pub in_one_shard : Search → Search
-in_one_shard s = record s { shards = 1 }
 
 -- the lane has one engine, which searches a scope of an observation, and was fed nothing
 pub record IsLaneOf (s : Search) (o : Observation) (scope : Scope) (lane : Lane) : Type 0 where

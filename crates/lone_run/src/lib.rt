@@ -2,6 +2,7 @@
 //! of its session. What of the observation it searches, the program says.
 #![tactic(auto)]
 
+mod ends;
 mod found;
 mod lent;
 mod open;
@@ -11,6 +12,9 @@ mod session;
 mod stop;
 mod words;
 
+pub use ends::{
+    alone_after_whole, alone_at_feed_stop, alone_at_own_stop, alone_at_words, alone_before_session,
+};
 pub use found::LoneFound;
 pub use run::drive_alone;
 pub use scoping::{ScopeFault, Scoping};

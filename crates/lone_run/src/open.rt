@@ -2,7 +2,7 @@
 ghost use Rattle.std.specs.Prelude.{◌≡◌, ◌≢◌, ◌*◌, ◌≤◌, ◌∷◌, [], None, Some, Err, IfOk, IfErr, OnOk, length};
 ghost use Rattle.dada_model.specs.Observation.{Observation as Described};
 ghost use Rattle.psr_base.specs.Inputs.{HasReadFrom};
-ghost use Rattle.search_model.specs.Search.{SettingsInRange};
+ghost use Rattle.search_model.specs.Search.{SettingsInRange, in_one_shard as in_one_shard_of};
 ghost use Rattle.search_model.specs.Plan.{plan_refusal};
 ghost use Rattle.search_words.specs.Settings.{AllInRange, settings_seen};
 ghost use Rattle.stream_model.specs.Walk.{FileStream};
@@ -15,7 +15,7 @@ ghost use Rattle.run_stop.specs.Firsts.{LeavesData};
 ghost use Rattle.run_stop.specs.Lone.{IsOfOne};
 ghost use Rattle.run_stop.specs.Runs.{CanSearchFirst};
 ghost use Rattle.whole_run.specs.Wholes.{OfRun};
-ghost use Rattle.lone_run.specs.Scopes.{in_one_shard as in_one_shard_of, IsLaneOf};
+ghost use Rattle.lone_run.specs.Scopes.{IsLaneOf};
 ghost use Rattle.lone_run.specs.Stops.{StopsEarly, StopsLane};
 ghost use Rattle.lone_run.specs.Openings.{IsFreshFor, HasBegun, OpensScope, shape_for};
 
@@ -40,15 +40,6 @@ pub(crate) struct OpenedAlone {
     pub(crate) space: LoneSpace,
 }
 
-// All delays in one shard.
-fn in_one_shard(search: &Search) -> Search
-    ensures { result ≡ in_one_shard_of search.now }
-{
-    let mut alone = *search;
-    alone.shards = 1;
-    alone
-}
-
 // The engine of all delays of a search that fits.
 fn open_engine(
     alloc: Global,
@@ -63,7 +54,7 @@ fn open_engine(
     ensures scope { IfOk result (λ e. scope_of e ≡ scope) }
     ensures stands { IfOk result (StandsForPart observation.now []) }
 {
-    match Engine::open_for(alloc, observation, &in_one_shard(search), 0, scope) {
+    match Engine::open_for(alloc, observation, &search.in_one_shard(), 0, scope) {
         Ok(engine) => Ok(engine),
         Err(PlanFault::Memory) => Err(Memory),
         // The plan fits.

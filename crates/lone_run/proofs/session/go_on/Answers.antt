@@ -12,8 +12,8 @@ session-session-requires g c =
     record {
       ready = (
         g.I.Inputs.told c.args.inputs.now,
-        lone_ready g.I.Inputs.told g.I.Inputs.is_open at.0 c.args.inputs.now c.args.feeder c.args.opened.observation at.1
-            c.args.opened.space at.2,
+        lone_ready g.I.Inputs.told g.I.Inputs.is_open at.0 c.args.inputs.now c.args.feeder c.args.opened.observation
+            at.1 c.args.opened.space at.2,
       );
     }
 
@@ -43,5 +43,6 @@ returns-clause-went g c = λ s scope opened.
     (feeder_over c.args.inputs.now space) (session_end c.run_alone-end.new.inputs c.run_alone-end.result) in
     let fed = subst Fed c.session-session.ensures.feeder c.run_alone-end.ensures.feed in
     goes_alone g.I.Inputs.told g.I.Inputs.is_open g.I.Inputs.is_calm g.I.Inputs.faults s c.args.inputs.now
-    c.run_alone-end.new.inputs c.args.feeder c.args.opened.observation scope c.args.opened.space _ c.run_alone-end.result _
-    opened c.session-session.ensures.lane fed c.run_alone-end.ensures.lane refl refl refl c.engine_of.ensures
+    c.run_alone-end.new.inputs c.args.feeder c.args.opened.observation scope c.args.opened.space _
+    c.run_alone-end.result _ opened c.session-session.ensures.lane fed c.run_alone-end.ensures.lane refl refl refl
+    c.engine_of.ensures

@@ -1,0 +1,59 @@
+// Laws of how a program that searches alone ends, which the contracts of functions that do nothing carry. A caller
+// whose proof needs a law calls its function. Each stands for inputs that may be calm, and for those that may be calm
+// and hold more names than those of the words.
+ghost use Rattle.std.specs.Prelude.{ℕ, List};
+ghost use Rattle.psr_base.specs.Told.{Told};
+ghost use Rattle.disk_feeder.specs.Filling.{HoldsAll};
+ghost use Rattle.lone_run.specs.EndLaws.{AloneAtWords, AloneBeforeSession, AloneAtOwnStop, AloneAtFeedStop, AloneAfterWhole};
+
+use psr_base::Inputs;
+// Laws: they do nothing when they run, and the proofs use what they ensure.
+use run_stop::{end_after_whole, end_at_stop, end_at_words, end_before_session, words_say_once};
+
+/// What the exit status says where the words say no settings of the program's searches.
+pub fn alone_at_words<I: Inputs>()
+    ensures plain { (inputs : I) → AloneAtWords (I.is_calm inputs) }
+    ensures with_more { (inputs : I) (told : Told) (more : List (List ℕ))
+        → AloneAtWords (I.is_calm inputs × HoldsAll told more) }
+{
+    end_at_words::<I>();
+}
+
+/// What it says where a program stops between its words and its session, as any run: no block was sealed.
+pub fn alone_before_session<I: Inputs>()
+    ensures plain { (inputs : I) → AloneBeforeSession (I.is_calm inputs) }
+    ensures with_more { (inputs : I) (told : Told) (more : List (List ℕ))
+        → AloneBeforeSession (I.is_calm inputs × HoldsAll told more) }
+{
+    words_say_once();
+    end_before_session::<I>();
+}
+
+/// What it says where a program comes there to a stop of its own.
+pub fn alone_at_own_stop<I: Inputs>()
+    ensures plain { (inputs : I) → AloneAtOwnStop (I.is_calm inputs) }
+    ensures with_more { (inputs : I) (told : Told) (more : List (List ℕ))
+        → AloneAtOwnStop (I.is_calm inputs × HoldsAll told more) }
+{
+    words_say_once();
+}
+
+/// What it says where the feeder of the session was stopped.
+pub fn alone_at_feed_stop<I: Inputs>()
+    ensures plain { (inputs : I) → AloneAtFeedStop (I.is_calm inputs) }
+    ensures with_more { (inputs : I) (told : Told) (more : List (List ℕ))
+        → AloneAtFeedStop (I.is_calm inputs × HoldsAll told more) }
+{
+    words_say_once();
+    end_at_stop::<I>();
+}
+
+/// What it says of words, inputs, files and data ring, once all data were sealed.
+pub fn alone_after_whole<I: Inputs>()
+    ensures plain { (inputs : I) → AloneAfterWhole (I.is_calm inputs) }
+    ensures with_more { (inputs : I) (told : Told) (more : List (List ℕ))
+        → AloneAfterWhole (I.is_calm inputs × HoldsAll told more) }
+{
+    words_say_once();
+    end_after_whole::<I>();
+}
