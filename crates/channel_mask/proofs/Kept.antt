@@ -1,16 +1,17 @@
 -- The search of the channels that a mask keeps: it can be opened, and finds their candidates.
-use Rattle.std.proofs.Common.{lit≤, ◌≡◌, ℕ, ◌+◌, ◌≤◌, true, false, Bool, cond, List, [], ◌∷◌, length, slice_index, get_or, filter, sum_by, Option, Some, None, refl, sym, ap, subst, ◌∙◌, arith}
+use Rattle.std.proofs.Common.{lit<, lit≤, ◌≡◌, ℕ, zero, suc, ◌+◌, ◌<◌, ◌≤◌, true, false, Bool, cond, List, [], ◌∷◌, length, slice_index, get_or, filter, sum_by, Option, Some, None, refl, sym, ap, subst, ◌∙◌, arith}
 use Rattle.std.specs.Prelude.{All, Contains, ◌-◌, ◌*◌, ◌^◌, ◌&&◌, nat_lt}
 use Rattle.std.specs.List.{range_with_len}
 use Rattle.std.proofs.lemmas.Bool.{le-ltb}
 use Rattle.std.proofs.lemmas.List.Sums.{sum_by-cons}
 use Rattle.std.proofs.lemmas.List.Elements.{All-take, Contains-get_or}
 use Rattle.dada_model.specs.Edges.{AreEdges}
+use Rattle.dada_model.specs.Laws.{EdgesFall}
 use Rattle.dada_model.specs.Observation.{Observation, edges, max_sample}
 use Rattle.search_model.specs.declared.candidate.Candidate.{Candidate}
 use Rattle.search_model.specs.declared.candidate.Candidate.TheVariants.{Pulse, Fold}
 use Rattle.search_model.specs.declared.search.Search.{Search}
-use Rattle.search_model.specs.Search.{SettingsInRange, delay_count, fold_delays, folds_are_on}
+use Rattle.search_model.specs.Search.{SettingsInRange, delay_count, fold_delays, folds_are_on, in_one_shard}
 use Rattle.search_model.specs.CandidateLaws.{CandidatesAreListed, IsCandidate, OneShardIsAll}
 use Rattle.search_model.specs.Masks.{kept_cells, kept_of, masked_candidates_of}
 use Rattle.search_model.specs.MaskLaws.{PlainIsUnmasked}
@@ -22,13 +23,13 @@ use Rattle.search_model.specs.Sums.{between}
 use Rattle.search_model.specs.Candidates.{delay_of, shard_part}
 use Rattle.candidate_book.specs.Book.{BookContents, book_of}
 use Rattle.candidate_book.specs.Conditions.{IsSearched}
-use Rattle.search_engine.specs.Engine.{HasFoundPart, SameShard, scope_of}
+use Rattle.shard_search.specs.Sought.{cells_in}
+use Rattle.search_engine.specs.Engine.{EngineState, HasFoundPart, SameShard, scope_of}
 use Rattle.search_engine.specs.Laws.{ScopesAreFound}
 use Rattle.search_engine.specs.Plan.{Explains}
 use Rattle.search_engine.specs.declared.fault.PlanFault.{PlanFault}
-use Rattle.search_engine.specs.Scope.{FitsObservation, Scope, candidates_in, scope_of_channels}
-use Rattle.search_engine.specs.Scope.{kept_by}
-use Rattle.channel_mask.specs.Masked.{AreCells, HasFoundKept, MaskState, SearchesKept, in_one_shard}
+use Rattle.search_engine.specs.Scope.{FitsObservation, Scope, candidates_in, kept_by, scope_of_channels}
+use Rattle.channel_mask.specs.Masked.{AreCells, HasFoundKept, IsScopeOf, SearchesKept, TellsCells}
 
 -- ---- one shard
 
@@ -94,20 +95,49 @@ few_cells law kept band n d are =
     (range_with_len 0 n) in
     subst (λ m. kept_cells kept band n d ≤ m) (law.cells (λ c. true) band n d are (λ c. refl)) less
 
-pub fits : PlainIsUnmasked → (o : Observation) (s : Search) (mask : List Bool) (counts : List ℕ) →
-    AreEdges o.channels (edges o) → length mask ≡ o.channels → AreCells o s mask counts →
-    FitsObservation o (in_one_shard s) (scope_of_channels mask counts)
-fits law o s mask counts are long cells = record {
+pub fits : PlainIsUnmasked → (o : Observation) (max_delay : ℕ) (mask : List Bool) (counts : List ℕ) →
+    AreEdges o.channels (edges o) → length mask ≡ o.channels → AreCells o max_delay mask counts → (s : Search) →
+    s.max_delay ≡ max_delay → FitsObservation o s (scope_of_channels mask counts)
+fits law o max_delay mask counts are long cells s most = record {
   marks = omega (arith, long);
   sought = record {
     cells = λ d below.
-        subst (λ m. m ≤ o.channels + d) (sym (cells.each d (omega (arith, below))))
+        subst (λ m. m ≤ o.channels + d) (sym (cells.each d (omega (arith, below, most))))
         (few_cells law (kept_by mask) (edges o) o.channels d are);
     early = lit≤ tt;
   };
   first = lit≤ tt;
   until = tt;
 }
+
+-- counts that rise no faster than their places
+small_counts : (counts : List ℕ) (n : ℕ) → ((d : ℕ) → d < length counts → slice_index counts d ≤ n + d) →
+    n + length counts ≤ 2 ^ 32 → (d : ℕ) → slice_index counts d < 2 ^ 32
+small_counts [] n few most d = lit< tt
+small_counts (x ∷ xs) n few most zero =
+    let here : x ≤ n + 0 = few 0 (omega arith) in
+    omega (arith, here, most)
+small_counts (x ∷ xs) n few most (suc d) =
+    small_counts xs (n + 1)
+    (λ i below. let next : slice_index xs i ≤ n + suc i = few (suc i) (omega (arith, below)) in omega (arith, next))
+    (omega (arith, most)) d
+
+pub tells_cells : EdgesFall → PlainIsUnmasked → (o : Observation) (s : Search) (mask : List Bool) (e : EngineState) →
+    SearchesKept o s mask e → TellsCells e
+tells_cells fall law o s mask e searches d =
+    let scope = searches.scope in
+    let cells = scope.cells in
+    let channels : o.channels ≤ 4096 = searches.bounds.many_channels in
+    let delay : s.max_delay ≤ 8192 = searches.range.delays.most in
+    let count = cells.count in
+    subst (λ (c : Scope). cells_in c.sought d < 2 ^ 32) (sym scope.value)
+    (small_counts scope.counts o.channels (λ i below.
+    subst (λ m. m ≤ o.channels + i) (sym (cells.each i (omega (arith, below, count))))
+    (few_cells law (kept_by mask) (edges o) o.channels i (fall o searches.bounds)))
+    (omega (arith, channels, delay, count)) d)
+
+pub tells_still : (old new : EngineState) → scope_of new ≡ scope_of old → TellsCells old → TellsCells new
+tells_still old new same tells d = subst (λ (c : Scope). cells_in c.sought d < 2 ^ 32) (sym same) (tells d)
 
 -- ---- what is found
 
@@ -144,30 +174,29 @@ module _ (listed : CandidatesAreListed) (o : Observation) (s : Search) (range : 
   all_early c there = early c (is_found c there)
 
 -- the search goes on in the same engine
-pub same_searches : (o : Observation) (s : Search) (mask : List Bool) (old new : MaskState) →
-    SameShard new.engine old.engine → scope_of new.engine ≡ scope_of old.engine → new.counts ≡ old.counts →
-    SearchesKept o s mask old → SearchesKept o s mask new
-same_searches o s mask old new same scope counts searches = record {
+pub same_searches : (o : Observation) (s : Search) (mask : List Bool) (old new : EngineState) → SameShard new old →
+    scope_of new ≡ scope_of old → SearchesKept o s mask old → SearchesKept o s mask new
+same_searches o s mask old new same scope searches = record {
+  bounds = searches.bounds;
   range = searches.range;
   search_is = same.search ∙ searches.search_is;
   shard_is = same.shard ∙ searches.shard_is;
-  scope_is = scope ∙ searches.scope_is ∙ ap (λ (c : List ℕ). scope_of_channels mask c) (sym counts);
-  cells = subst (λ (c : List ℕ). AreCells o s mask c) (sym counts) searches.cells;
+  scope = subst (IsScopeOf o s.max_delay mask) (sym scope) searches.scope;
 }
 
 pub kept_found : CandidatesAreListed → OneShardIsAll → ScopesAreFound → (o : Observation) (s : Search)
-    (mask : List Bool) (bytes : List ℕ) (m : MaskState) → SearchesKept o s mask m → HasFoundPart o bytes m.engine →
-    HasFoundKept o s mask bytes m
-kept_found listed one scopes o s mask bytes m searches part =
-    let e = m.engine in
+    (mask : List Bool) (bytes : List ℕ) (e : EngineState) → SearchesKept o s mask e → HasFoundPart o bytes e →
+    HasFoundKept o s mask bytes e
+kept_found listed one scopes o s mask bytes e searches part =
     let one_of = in_one_shard s in
+    let counts = searches.scope.counts in
     let all : List Candidate = masked_candidates_of o s (kept_by mask) bytes in
     let of_scope : Scope → List Candidate = λ c. candidates_in o c e.search bytes in
     let is : Search → ℕ → List Candidate → BookContents = λ t k list. book_of t.max_candidates (shard_part t k list) in
     let list : of_scope (scope_of e) ≡ all =
-    ap of_scope searches.scope_is
-    ∙ ap (λ (t : Search). candidates_in o (scope_of_channels mask m.counts) t bytes) searches.search_is
-    ∙ scopes.channels o one_of mask m.counts bytes (λ d from to. searches.cells.each d to) in
+    ap of_scope searches.scope.value
+    ∙ ap (λ (t : Search). candidates_in o (scope_of_channels mask counts) t bytes) searches.search_is
+    ∙ scopes.channels o one_of mask counts bytes (λ d from to. searches.scope.cells.each d to) in
     let book : e.book ≡ book_of s.max_candidates all =
     part.book ∙ ap (is e.search e.shard) list ∙ ap (λ (t : Search). is t e.shard all) searches.search_is
     ∙ ap (λ (k : ℕ). is one_of k all) searches.shard_is

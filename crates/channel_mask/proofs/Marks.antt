@@ -8,7 +8,9 @@ use Rattle.dada_model.specs.Observation.{Observation}
 use Rattle.channel_mask.specs.declared.ranges.ChannelRange.{ChannelRange}
 use Rattle.channel_mask.specs.Texts.{items_of, is_mask_text, names_channel, first_outside}
 use Rattle.channel_mask.specs.Ranges.{range_of, ends_of, mark_of}
-use Rattle.channel_mask.specs.Masks.{place_in_file, file_channel, is_masked, IsMaskOf}
+use Rattle.channel_mask.specs.MaskLaws.{MasksAreNotRefused}
+use Rattle.channel_mask.specs.declared.fault.MaskFault.TheVariants.{BadMask, OutOfRange, AllMasked, Memory}
+use Rattle.channel_mask.specs.Masks.{place_in_file, file_channel, is_masked, mask_of, IsMaskOf}
 use Rattle.channel_mask.proofs.Items.{first_of_ranges, named_by_ranges}
 
 -- the channel of a file is found again by the same count
@@ -53,6 +55,12 @@ one_mark_more ranges n f c marks more mark so_far pushed is =
     ∙ ap (λ ms. ms ++ mark_of ranges n f c ∷ []) so_far
     ∙ sym (map-range_with_len_more (mark_of ranges n f) 0 c c (omega arith))
 
+-- two tests that answer alike make the same marks
+map_alike : (f g : ℕ → Bool) → ((c : ℕ) → f c ≡ g c) → (xs : List ℕ) → map f xs ≡ map g xs
+map_alike f g same [] = refl
+map_alike f g same (x ∷ xs) =
+    ap (λ b. b ∷ map f xs) (same x) ∙ ap (λ bs. g x ∷ bs) (map_alike f g same xs)
+
 -- ---- of an observation
 
 pub outside_is : (n : ℕ) (text : List ℕ) (ranges : List ChannelRange) → is_mask_text text ≡ true →
@@ -87,11 +95,17 @@ module _ (o : Observation) (text : List ℕ) (marks : List Bool) (are : AreMarks
       ap length are.marks_are ∙ length-map (range_with_len 0 o.channels) mark_at
       ∙ length-range_with_len 0 o.channels
 
+  -- what a mark says does not ask whether there is such a channel
+  marks_say : marks ≡ mask_of o text
+  marks_say =
+      are.marks_are
+      ∙ map_alike mark_at (λ c. names_channel text (file_channel o c))
+      (λ c. named_by_ranges (file_channel o c) (items_of text) are.is_text) (range_with_len 0 o.channels)
+
   named_at : (c : ℕ) → c < o.channels → is_masked marks c ≡ names_channel text (file_channel o c)
   named_at c small =
-      ap (λ ms. is_masked ms c) are.marks_are
-      ∙ get_or-map-range_with_len mark_at 0 o.channels c c false small (omega arith)
-      ∙ named_by_ranges (file_channel o c) (items_of text) are.is_text
+      ap (λ ms. is_masked ms c) marks_say
+      ∙ get_or-map-range_with_len (λ x. names_channel text (file_channel o x)) 0 o.channels c c false small (omega arith)
 
   pub mask_is : list_all (λ mark. mark) marks ≡ false → IsMaskOf o text marks
   mask_is some =
@@ -100,8 +114,8 @@ module _ (o : Observation) (text : List ℕ) (marks : List Bool) (are : AreMarks
       record {
         is_text = are.is_text;
         within = are.within;
+        mask_is = marks_say;
         channels = count;
-        named = named_at;
         leaves = (left.0, omega (arith, count), left.2);
       }
 
@@ -111,3 +125,26 @@ module _ (o : Observation) (text : List ℕ) (marks : List Bool) (are : AreMarks
       let fits = file_channel_fits o c small in
       ap (names_channel text) (sym (file_channel_twice o c small)) ∙ sym (named_at d fits)
       ∙ all_marked marks all d (omega (arith, count, fits))
+
+-- ---- a mask is not refused
+
+marked_at : (o : Observation) (text : List ℕ) (c : ℕ) → c < o.channels →
+    is_masked (mask_of o text) c ≡ names_channel text (file_channel o c)
+marked_at o text c small =
+    get_or-map-range_with_len (λ x. names_channel text (file_channel o x)) 0 o.channels c c false small (omega arith)
+
+pub not_refused : MasksAreNotRefused
+not_refused o text mask (BadMask place) is why = let text_is = is.is_text in let not = why.0 in absurd cc
+not_refused o text mask (OutOfRange channel channels) is why =
+    let within = is.within in let not = why.1 in absurd cc
+not_refused o text mask AllMasked is why =
+    let left = is.leaves in
+    let kept : is_masked (mask_of o text) left.0 ≡ false =
+    ap (λ ms. is_masked ms left.0) (sym is.mask_is) ∙ left.2 in
+    let named : names_channel text (file_channel o left.0) ≡ true =
+    why.2 (file_channel o left.0) (file_channel_fits o left.0 left.1) in
+    absurd (apart (sym kept ∙ marked_at o text left.0 left.1 ∙ named))
+  where
+    apart : false ≡ true → ⊥
+    apart e = cc
+not_refused o text mask Memory is why = refl

@@ -1,5 +1,5 @@
 -- The lines of what was found in the channels that a mask keeps.
-use Rattle.std.proofs.Common.{◌≡◌, ℕ, ◌≤◌, Bool, List, [], ◌∷◌, ◌++◌, length, slice_index, get_or, Result, refl, sym, ap, subst, ◌∙◌, arith}
+use Rattle.std.proofs.Common.{◌≡◌, ℕ, ◌≤◌, Bool, List, [], ◌∷◌, ◌++◌, length, get_or, Result, refl, sym, ap, subst, ◌∙◌, arith}
 use Rattle.std.specs.Prelude.{All, count_by}
 use Rattle.std.proofs.lemmas.List.{take_all}
 use Rattle.std.proofs.lemmas.List.Concat.{flat_map-cons}
@@ -19,9 +19,10 @@ use Rattle.candidate_book.specs.Labelled.{labels_with}
 use Rattle.candidate_book.specs.Merged.{WroteText}
 use Rattle.candidate_book.specs.declared.labels.PulseWord.{PulseWord}
 use Rattle.candidate_book.specs.declared.merged.Totals.{Totals}
-use Rattle.search_engine.specs.Engine.{spectra_fed}
-use Rattle.search_engine.specs.Scope.{kept_by}
-use Rattle.channel_mask.specs.Masked.{HasFoundKept, MaskState, WroteMasked}
+use Rattle.shard_search.specs.Sought.{cells_in}
+use Rattle.search_engine.specs.Engine.{EngineState, scope_of, spectra_fed}
+use Rattle.search_engine.specs.Scope.{Scope, kept_by}
+use Rattle.channel_mask.specs.Masked.{HasFoundKept, WroteMasked}
 use Rattle.channel_mask.proofs.Kept.{all_early}
 
 module _ (o : Observation) where
@@ -51,24 +52,27 @@ module _ (o : Observation) where
       ∙ sym (flat_map-cons there c list)
 
 pub wrote_masked : {E : Type 0} → CandidatesAreListed → (o : Observation) (s : Search) (mask : List Bool) (bytes : List ℕ)
-    (m : MaskState) → HasFoundKept o s mask bytes m → m.engine.book.count ≤ s.max_candidates →
+    (e : EngineState) → HasFoundKept o s mask bytes e → e.book.count ≤ s.max_candidates →
     (old new : SinkSeen) (result : Result Totals E) →
-    WroteText (cell_labels o (λ d. slice_index m.counts d)) (spectra_fed m.engine) m.engine.book.kept old new result →
+    WroteText (cell_labels o (cells_in (scope_of e).sought)) (spectra_fed e) e.book.kept old new result →
     WroteMasked o s mask bytes old new result
-wrote_masked listed o s mask bytes m found few old new result wrote =
+wrote_masked listed o s mask bytes e found few old new result wrote =
     let all : List Candidate = masked_candidates_of o s (kept_by mask) bytes in
-    let counted : ℕ → ℕ = λ d. slice_index m.counts d in
+    let scope = found.searches.scope in
+    let counted : ℕ → ℕ = cells_in (scope_of e).sought in
     let cells : ℕ → ℕ = kept_cells (kept_by mask) (edges o) o.channels in
     let n : ℕ = (filterbank_of o bytes).spectra in
-    let count : m.engine.book.count ≡ length all = ap (λ (b : BookContents). b.count) found.book in
-    let kept : m.engine.book.kept ≡ all =
+    let count : e.book.count ≡ length all = ap (λ (b : BookContents). b.count) found.book in
+    let kept : e.book.kept ≡ all =
     ap (λ (b : BookContents). b.kept) found.book ∙ take_all s.max_candidates all (omega (arith, few, count)) in
     let there : WroteText (cell_labels o counted) n all old new result =
     subst (λ (xs : List Candidate). WroteText (cell_labels o counted) n xs old new result) kept
-    (subst (λ (k : ℕ). WroteText (cell_labels o counted) k m.engine.book.kept old new result) found.spectra wrote) in
+    (subst (λ (k : ℕ). WroteText (cell_labels o counted) k e.book.kept old new result) found.spectra wrote) in
     let lines = same_lines o counted cells all (λ i d within.
-    found.searches.cells.each (delay_of (get_or all i d))
-    (all_early listed o s found.searches.range mask bytes (get_or all i d) (Contains-get_or all i d within))) in
+    let c = get_or all i d in
+    ap (λ (x : Scope). cells_in x.sought (delay_of c)) scope.value
+    ∙ scope.cells.each (delay_of c)
+    (all_early listed o s found.searches.range mask bytes c (Contains-get_or all i d within))) in
     record {
       text = subst (λ (t : List ℕ). Wrote t old new result)
           (ap (λ (l : List ℕ). l ++ end_line (count_by is_pulse all) (count_by is_fold all) n) lines) there.text;

@@ -3,6 +3,7 @@ pub mod TextLaws
 pub mod Fronts
 pub mod FrontLaws
 pub mod Masks
+pub mod MaskLaws
 pub mod Ranges
 pub mod Counting
 pub mod Masked

@@ -1,6 +1,7 @@
 -- What the mask of an observation is, and why a text gives none.
 -- Source: this project's choice; the order of channels in a file is that of the sign of its BW (PSRDADA manual).
-use Rattle.std.specs.Prelude.{◌≡◌, ℕ, ◌-◌, ◌<◌, Bool, true, false, List, length, slice_index_or, Some, None, if◌then◌else◌}
+use Rattle.std.specs.Prelude.{◌≡◌, ℕ, ◌-◌, ◌<◌, Bool, true, false, List, length, map, slice_index_or, Some, None, if◌then◌else◌}
+use Rattle.std.specs.List.{range_with_len}
 use Rattle.dada_model.specs.Observation.{Observation}
 use Rattle.channel_mask.specs.declared.fault.MaskFault.{MaskFault}
 use Rattle.channel_mask.specs.declared.fault.MaskFault.TheVariants.{BadMask, OutOfRange, AllMasked, Memory}
@@ -14,6 +15,16 @@ place_in_file channels is_falling c = if is_falling then c else channels - 1 - c
 abbrev pub file_channel : Observation → ℕ → ℕ
 file_channel o c = place_in_file o.channels o.is_falling c
 
+-- the marks that a text gives so many channels, one for each from the highest frequency on
+abbrev pub marks_for : ℕ → Bool → List ℕ → List Bool
+marks_for channels is_falling text =
+    map (λ c. names_channel text (place_in_file channels is_falling c))
+    (range_with_len 0 channels)
+
+-- the mask that a text says of an observation
+abbrev pub mask_of : Observation → List ℕ → List Bool
+mask_of o text = marks_for o.channels o.is_falling text
+
 -- whether channel c is masked, counted from the highest frequency
 abbrev pub is_masked : List Bool → ℕ → Bool
 is_masked mask c = slice_index_or mask c false
@@ -22,8 +33,8 @@ is_masked mask c = slice_index_or mask c false
 pub record IsMaskOf (o : Observation) (text : List ℕ) (mask : List Bool) : Type 0 where
   pub is_text : is_mask_text text ≡ true
   pub within : first_outside o.channels text ≡ None
+  pub mask_is : mask ≡ mask_of o text
   pub channels : length mask ≡ o.channels
-  pub named : (c : ℕ) → c < o.channels → is_masked mask c ≡ names_channel text (file_channel o c)
   pub leaves : (c : ℕ) × (c < o.channels) × (is_masked mask c ≡ false)
 
 -- what a fault says of a text

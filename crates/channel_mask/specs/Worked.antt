@@ -2,7 +2,7 @@
 use Rattle.std.specs.Prelude.{◌≡◌, true, false, [], ◌∷◌, map, Some, None, codes, refl}
 use Rattle.channel_mask.specs.Texts.{is_mask_text, names_channel, numbers_in, first_outside}
 use Rattle.channel_mask.specs.Fronts.{stop_of}
-use Rattle.channel_mask.specs.Masks.{place_in_file}
+use Rattle.channel_mask.specs.Masks.{place_in_file, marks_for}
 
 -- where texts stop being the front of a mask text: another letter of `none`, or more than it
 stops_in_none : map stop_of (codes "nope" ∷ codes "nonex" ∷ codes "none,1" ∷ codes "1,none" ∷ []) ≡ 2 ∷ 4 ∷ 4 ∷ 2 ∷ []
@@ -43,3 +43,13 @@ falling = refl
 
 rising : map (place_in_file 4 false) (0 ∷ 1 ∷ 2 ∷ 3 ∷ []) ≡ 3 ∷ 2 ∷ 1 ∷ 0 ∷ []
 rising = refl
+
+-- the marks that the same text gives four channels of either band
+marks_falling : marks_for 4 true (codes "0,2-3") ≡ true ∷ false ∷ true ∷ true ∷ []
+marks_falling = refl
+
+marks_rising : marks_for 4 false (codes "0,2-3") ≡ true ∷ true ∷ false ∷ true ∷ []
+marks_rising = refl
+
+marks_none : marks_for 4 true (codes "none") ≡ false ∷ false ∷ false ∷ false ∷ []
+marks_none = refl

@@ -10,9 +10,10 @@ mod laws;
 mod lines;
 mod mask;
 mod ranges;
+mod scope;
 
 pub use engine::MaskEngine;
 pub use fault::MaskFault;
-pub use laws::{fronts_are_read, masks_are_spelled};
+pub use laws::{fronts_are_read, masks_are_not_refused, masks_are_spelled};
 pub use lines::write_masked;
 pub use mask::Mask;

@@ -1,0 +1,285 @@
+-- From what stands against a search to its status: at no other status it could stand there.
+use Rattle.std.proofs.Common.{◌≡◌, ◌<◌, ◌⊎◌, ℕ, zero, suc, List, [], ◌∷◌, Bool, true, false, inl, inr, sym, ◌∙◌, ap, subst, refl, Some, None, Contains, arith}
+use Rattle.std.specs.Prelude.{Option, IsSome, nat_le, ◌&&◌, ◌||◌, ◌==◌}
+use Rattle.psr_base.specs.Count.{Rose}
+use Rattle.psr_base.specs.Told.{Told}
+use Rattle.ring_ends.specs.declared.finished.Finished.{Finished}
+use Rattle.search_words.specs.Settings.{SettingsSeen}
+use Rattle.stream_model.specs.Walk as walk
+use Rattle.stream_model.specs.Walk.{FileStream, WalkStop, walk_stop}
+use Rattle.disk_feeder.specs.Plan.{AreTold}
+use Rattle.disk_feeder.specs.Filling.{HoldsAll}
+use Rattle.disk_feeder.specs.declared.answers.HeaderCause.{HeaderCause}
+use Rattle.channel_mask.specs.MaskLaws.{MasksAreNotRefused}
+use Rattle.channel_mask.specs.Masks.{mask_of}
+use Rattle.channel_mask.specs.declared.fault.MaskFault.TheVariants as fault
+use Rattle.run_stop.specs.declared.causes.PlanCause.{PlanCause}
+use Rattle.run_stop.specs.declared.causes.RecordingCause.{RecordingCause}
+use Rattle.run_stop.specs.declared.stop.Stop.{Stop}
+use Rattle.run_stop.specs.declared.stop.Stop.TheVariants.{Header, Gap, TooLong}
+use Rattle.run_stop.specs.Texts.{status_of}
+use Rattle.run_stop.specs.Lone.{SayAlone}
+use Rattle.run_stop.specs.Runs.{Alone, is_search, first_observation, stream_for, stop_of_walk, CanBegin, RefusesFirstHeader, RefusesSearch, RefusesToRecord, StopsWalk}
+use Rattle.run_stop.specs.Ends.{AcceptedIsNotRefused}
+use Rattle.psr_mask.specs.Masking.{AcceptsFirst, RefusesFiles, fault_of, mask_search, mask_word}
+use Rattle.psr_mask.specs.Notes.{mask_status}
+use Rattle.psr_mask.specs.Outcome.{Outcome, SearchSeen, HasMasked, IsSearched}
+use Rattle.psr_mask.specs.Causes.{Answers, EachIsAnswered, CausesAreAnswered, ToldRoomIsEnough}
+use Rattle.psr_mask.specs.declared.refusal.MaskRefusal.{MaskRefusal}
+use Rattle.psr_mask.specs.declared.refusal.MaskRefusal.TheVariants.{BadMask, OutOfRange, AllMasked}
+use Rattle.psr_mask.proofs.Statuses.{by_status}
+
+-- the bytes of all names are told
+holds_all : (told : Told) (names files : List (List ℕ)) → AreTold told names files → HoldsAll told names
+holds_all told names files are k below = subst IsSome (sym (are.each k below)) refl
+
+-- a whole walk has no stop
+no_stop : (limit : ℕ) (at : WalkStop) (stop : Stop) → at ≡ walk.Whole → stop_of_walk limit at ≡ Some stop → ⊥
+no_stop limit at stop whole stops = let none : stop_of_walk limit at ≡ None = ap (stop_of_walk limit) whole in cc
+
+-- a walk has one stop
+one_stop : (limit : ℕ) (at : WalkStop) (a b : Stop) → stop_of_walk limit at ≡ Some a → stop_of_walk limit at ≡ Some b →
+    status_of a ≡ status_of b
+one_stop limit at a b x y = let same : a ≡ b = cc in ap status_of same
+
+-- ---- the mask
+
+no_want : (refusal : MaskRefusal) → fault_of refusal ≡ fault.Memory → ⊥
+no_want (BadMask place) e = cc
+no_want (OutOfRange channel channels) e = cc
+no_want AllMasked e = cc
+
+-- a mask that is accepted is not refused
+pub mask_not_refused : MasksAreNotRefused → (words : List (List ℕ)) (w : FileStream) → AcceptsFirst words w →
+    (refusal : MaskRefusal) → RefusesFiles words w refusal → ⊥
+mask_not_refused masks words w accepts refusal refuses =
+    let o = first_observation w 0 in
+    let text = mask_word words in
+    no_want refusal (masks o text (mask_of o text) (fault_of refusal) accepts refuses.1)
+
+-- ---- the statuses
+
+-- those of a search with no data ring
+abbrev early : List ℕ
+early = 2 ∷ 3 ∷ 4 ∷ 5 ∷ 6 ∷ mask_status ∷ []
+
+-- those that come only where there is one
+abbrev is_late : ℕ → Bool
+is_late k = nat_le k 10 && (k == 0 || nat_le 7 k)
+
+no_two : false ≡ true → ⊥
+no_two e = cc
+
+early_is_not_late : (k : ℕ) → Contains early k → is_late k ≡ true → ⊥
+early_is_not_late k (zero, below, at) late = no_two (subst (λ m. is_late m ≡ true) (sym at) late)
+early_is_not_late k (suc zero, below, at) late = no_two (subst (λ m. is_late m ≡ true) (sym at) late)
+early_is_not_late k (suc (suc zero), below, at) late = no_two (subst (λ m. is_late m ≡ true) (sym at) late)
+early_is_not_late k (suc (suc (suc zero)), below, at) late = no_two (subst (λ m. is_late m ≡ true) (sym at) late)
+early_is_not_late k (suc (suc (suc (suc zero))), below, at) late = no_two (subst (λ m. is_late m ≡ true) (sym at) late)
+early_is_not_late k (suc (suc (suc (suc (suc zero)))), below, at) late =
+    no_two (subst (λ m. is_late m ≡ true) (sym at) late)
+early_is_not_late k (suc (suc (suc (suc (suc (suc i))))), below, at) late = omega (arith, below)
+
+module _ (words : List (List ℕ)) (is_calm : Type 0) (seen : SearchSeen)
+    (outcome : Outcome words seen.inputs is_calm seen.out_before seen.out_after seen.notes_before seen.notes_after
+    seen.ran)
+    (s : SettingsSeen) (files : List (List ℕ)) (says : SayAlone (mask_search words) words s)
+    (are : AreTold seen.inputs.told s.names files) (not_refused : AcceptedIsNotRefused) (masks : MasksAreNotRefused) where
+  abbrev w : FileStream
+  w = stream_for s files
+
+  abbrev n : ℕ
+  n = seen.ran.status
+
+  abbrev Begins : Type 0
+  Begins = CanBegin (Alone (mask_search words)) s w
+
+  -- the inputs are calm, or count no fault
+  abbrev Quiet : Type 0
+  Quiet = is_calm ⊎ (¬ Rose seen.inputs.faults_before seen.inputs.faults_after)
+
+  not_six : Quiet → n ≡ 6 → ⊥
+  not_six (inl is) e =
+      outcome.answered.run.read.serves is s says (holds_all seen.inputs.told s.names files are) e
+  not_six (inr still) e = still (outcome.answered.run.read.failed e)
+
+  -- ---- what each status says
+
+  -- all data were read, with so few candidates
+  searched_at : (n ≡ 0) ⊎ (n ≡ 10) → IsSearched words s w
+  searched_at (inl e) = (outcome.answered.written.text e s files says are).0
+  searched_at (inr e) = (outcome.answered.written.front e s files says are).0
+
+  -- it stopped at a header: at a first one, or where the walk stops
+  at_header : (blocks : Option Finished) → seen.ran.blocks ≡ blocks → n ≡ 3 →
+      ((file : ℕ) × (cause : HeaderCause) × RefusesFirstHeader w file cause)
+      ⊎ (IsSome seen.ran.blocks × (file : ℕ) × (cause : HeaderCause)
+      × StopsWalk (Alone (mask_search words)) s w (Header file cause))
+  at_header None is e =
+      inl (outcome.answered.run.stopped.first_header e is s files says are)
+  at_header (Some b) is e =
+      let some : IsSome seen.ran.blocks = subst IsSome (sym is) refl in
+      let r = outcome.answered.run.stopped.later_header e some s files says are in inr (some, r.0, r.1, r.2)
+
+  -- the plan was refused: a search alone makes no recording
+  at_plan : n ≡ 4 → (cause : PlanCause) × RefusesSearch s.search w cause
+  at_plan e = by_cause (outcome.answered.run.stopped.plan e s files says are)
+    where
+      by_cause : ((cause : PlanCause) × (is_search (Alone (mask_search words)) ≡ true)
+          × RefusesSearch s.search w cause)
+          ⊎ ((cause : RecordingCause) × RefusesToRecord (Alone (mask_search words)) s w cause) →
+          (cause : PlanCause) × RefusesSearch s.search w cause
+      by_cause (inl r) = (r.0, r.2)
+      by_cause (inr r) =
+          let on = r.1.records in
+          let off = says.search.one.unrecorded in absurd cc
+
+  -- where all data or the walk were read, there is a data ring
+  ring_at : (k : ℕ) → n ≡ k → is_late k ≡ true → (b : Option Finished) → seen.ran.blocks ≡ b → IsSome seen.ran.blocks
+  ring_at k e late (Some b) is = subst IsSome (sym is) refl
+  ring_at k e late None is =
+      absurd (early_is_not_late k (subst (Contains early) e (outcome.answered.run.sealed.none is)) late)
+
+  -- so the mask was accepted
+  accepted_at : (k : ℕ) → n ≡ k → is_late k ≡ true → AcceptsFirst words w
+  accepted_at k e late =
+      outcome.answered.mask.accepted (inr (ring_at k e late seen.ran.blocks refl)) s files says are
+
+  -- ---- each cause against each status
+
+  -- Where a search stops before its data are read, each status that comes later has a run that begins.
+  module _ (calm : Quiet) (begins_not : Begins → ⊥) (wanted : ℕ)
+      (first : n ≡ 3 → (file : ℕ) (cause : HeaderCause) → RefusesFirstHeader w file cause → Answers n wanted)
+      (plan : n ≡ 4 → Answers n wanted) (own : n ≡ 12 → Answers n wanted) where
+    before_data : Answers n wanted
+    before_data = by_status (λ k. n ≡ k → Answers n wanted) n outcome.answered.known
+        (λ e. absurd (begins_not (searched_at (inl e)).begins))
+        (λ e. absurd (outcome.answered.run.judged.refused e s says))
+        at_three
+        plan
+        (λ e. inr e)
+        (λ e. absurd (not_six calm e))
+        (λ e. absurd (begins_not (outcome.answered.run.stopped.gap e s files says are).3.begins))
+        (λ e. absurd (begins_not (outcome.answered.run.stopped.too_long e s files says are).begins))
+        (λ e. absurd (begins_not (outcome.answered.too_many e s files says are).begins))
+        (λ e. absurd (begins_not (searched_at (inr e)).begins))
+        own
+        refl
+      where
+        by_header : ((file : ℕ) × (cause : HeaderCause) × RefusesFirstHeader w file cause)
+            ⊎ (IsSome seen.ran.blocks × (file : ℕ) × (cause : HeaderCause)
+            × StopsWalk (Alone (mask_search words)) s w (Header file cause)) → n ≡ 3 → Answers n wanted
+        by_header (inl r) e = first e r.0 r.1 r.2
+        by_header (inr r) e = absurd (begins_not r.3.begins)
+
+        at_three : n ≡ 3 → Answers n wanted
+        at_three e = by_header (at_header seen.ran.blocks refl e) e
+
+  header : Quiet → (file : ℕ) (cause : HeaderCause) → RefusesFirstHeader w file cause → Answers n 3
+  header calm file cause refuses = before_data calm
+      (λ begins. not_refused.header w file cause begins.accepted refuses) 3 (λ e file cause again. inl e)
+      (λ e. absurd (not_refused.header w file cause (at_plan e).1.accepted refuses))
+      (λ e. absurd (not_refused.header w file cause
+      ((outcome.answered.mask.refused e).1 s files says are).1.0 refuses))
+
+  -- 12 does not come where the mask is accepted
+  no_mask : AcceptsFirst words w → n ≡ 12 → ⊥
+  no_mask accepts e =
+      let refused = (outcome.answered.mask.refused e).1 s files says are in
+      mask_not_refused masks words w accepts refused.0 refused.1
+
+  plan : Quiet → AcceptsFirst words w → (cause : PlanCause) → RefusesSearch s.search w cause → Answers n 4
+  plan calm accepts cause refuses = before_data calm
+      (λ begins. not_refused.search s.search w cause (begins.searched refl) refuses) 4
+      (λ e file first again. absurd (not_refused.header w file first refuses.accepted again)) (λ e. inl e)
+      (λ e. absurd (no_mask accepts e))
+
+  -- where it is refused
+  module _ (calm : Quiet) (refusal : MaskRefusal) (refuses : RefusesFiles words w refusal) where
+    not_accepted : AcceptsFirst words w → ⊥
+    not_accepted accepts = mask_not_refused masks words w accepts refusal refuses
+
+    by_mask : Answers n mask_status
+    by_mask = by_status (λ k. n ≡ k → Answers n mask_status) n outcome.answered.known
+        (λ e. absurd (not_accepted (accepted_at 0 e refl)))
+        (λ e. absurd (outcome.answered.run.judged.refused e s says))
+        (λ e. absurd (no_header (at_header seen.ran.blocks refl e)))
+        (λ e. absurd (not_accepted (outcome.answered.mask.accepted (inl e) s files says are)))
+        (λ e. inr e)
+        (λ e. absurd (not_six calm e))
+        (λ e. absurd (not_accepted (accepted_at 7 e refl)))
+        (λ e. absurd (not_accepted (accepted_at 8 e refl)))
+        (λ e. absurd (not_accepted (accepted_at 9 e refl)))
+        (λ e. absurd (not_accepted (accepted_at 10 e refl)))
+        (λ e. inl e)
+        refl
+      where
+        no_header : ((file : ℕ) × (cause : HeaderCause) × RefusesFirstHeader w file cause)
+            ⊎ (IsSome seen.ran.blocks × (file : ℕ) × (cause : HeaderCause)
+            × StopsWalk (Alone (mask_search words)) s w (Header file cause)) → ⊥
+        no_header (inl r) = not_refused.header w r.0 r.1 refuses.0 r.2
+        no_header (inr r) = not_accepted (outcome.answered.mask.accepted (inr r.0) s files says are)
+
+  -- Where a run begins, nothing is refused before its data are read.
+  module _ (calm : Quiet) (accepts : AcceptsFirst words w) (begins : Begins) (wanted : ℕ)
+      (searched : IsSearched words s w → Answers n wanted)
+      (stops : (stop : Stop) → n ≡ status_of stop → stop_of_walk w.max_bytes (walk_stop w) ≡ Some stop →
+      Answers n wanted)
+      (nine : n ≡ 9 → Answers n wanted) where
+    after_begin : Answers n wanted
+    after_begin = by_status (λ k. n ≡ k → Answers n wanted) n outcome.answered.known
+        (λ e. searched (searched_at (inl e)))
+        (λ e. absurd (outcome.answered.run.judged.refused e s says))
+        at_three
+        (λ e. let r = at_plan e in absurd (not_refused.search s.search w r.0 (begins.searched refl) r.1))
+        (λ e. inr e)
+        (λ e. absurd (not_six calm e))
+        (λ e. let r = outcome.answered.run.stopped.gap e s files says are in stops (Gap r.0 r.1 r.2) e r.3.stops)
+        (λ e. stops (TooLong s.max_bytes) e (outcome.answered.run.stopped.too_long e s files says are).stops)
+        nine
+        (λ e. searched (searched_at (inr e)))
+        (λ e. absurd (no_mask accepts e))
+        refl
+      where
+        by_header : ((file : ℕ) × (cause : HeaderCause) × RefusesFirstHeader w file cause)
+            ⊎ (IsSome seen.ran.blocks × (file : ℕ) × (cause : HeaderCause)
+            × StopsWalk (Alone (mask_search words)) s w (Header file cause)) → n ≡ 3 → Answers n wanted
+        by_header (inl r) e = absurd (not_refused.header w r.0 r.1 begins.accepted r.2)
+        by_header (inr r) e = stops (Header r.1 r.2) e r.3.stops
+
+        at_three : n ≡ 3 → Answers n wanted
+        at_three e = by_header (at_header seen.ran.blocks refl e) e
+
+  walk_stops : Quiet → AcceptsFirst words w → (stop : Stop) → StopsWalk (Alone (mask_search words)) s w stop →
+      Answers n (status_of stop)
+  walk_stops calm accepts stop at = after_begin calm accepts at.begins (status_of stop)
+      (λ searched. absurd (no_stop w.max_bytes (walk_stop w) stop searched.whole at.stops))
+      (λ other e is. inl (e ∙ one_stop w.max_bytes (walk_stop w) other stop is at.stops))
+      (λ e. absurd (no_stop w.max_bytes (walk_stop w) stop (outcome.answered.too_many e s files says are).whole at.stops))
+
+  too_many : Quiet → AcceptsFirst words w → HasMasked words s w (λ total. s.search.max_candidates < total) →
+      Answers n 9
+  too_many calm accepts many = after_begin calm accepts many.begins 9
+      (λ searched. let least = many.total in let most = searched.total in absurd (omega (arith, least, most)))
+      (λ stop e is. absurd (no_stop w.max_bytes (walk_stop w) stop many.whole is)) (λ e. inl e)
+
+  each : Quiet → EachIsAnswered words s w n
+  each calm = record {
+    header = header calm;
+    mask = by_mask calm;
+    plan = plan calm;
+    walk = walk_stops calm;
+    too_many = too_many calm;
+  }
+
+pub causes_are_answered : (is_calm : Type 0) → AcceptedIsNotRefused → MasksAreNotRefused → CausesAreAnswered is_calm
+causes_are_answered is_calm not_refused masks words seen o s files says are calm =
+    each words is_calm seen o s files says are not_refused masks calm
+
+-- ---- what has room
+
+pub told_room_is_enough : (is_calm : Type 0) → ToldRoomIsEnough is_calm
+told_room_is_enough is_calm words seen o s files says are room told enough e =
+    let wrote = (o.answered.written.front e s files says are).1 in
+    let short = wrote.short room told in
+    omega (arith, short, enough)

@@ -1,0 +1,424 @@
+-- How a search without masked channels ends: at its words, before all data were sealed, or with its text.
+use Rattle.std.proofs.Common.{◌≡◌, ◌≢◌, ◌⊎◌, ℕ, zero, suc, ◌≤◌, ◌<◌, Bool, List, [], ◌∷◌, ◌++◌, length, inl, inr, refl, sym, ap, ◌∙◌, subst, Some, None, Err, Contains, lit<, arith}
+use Rattle.std.proofs.lemmas.List.Elements.{Contains-append_left, Contains-append_right}
+use Rattle.std.specs.Prelude.{Option, IfSome, IsSome}
+use Rattle.dada_model.specs.Observation.{Observation}
+use Rattle.psr_base.specs.Told.{Told, InputsSeen}
+use Rattle.psr_base.specs.Written.{SinkSeen, WroteAll, WroteFront}
+use Rattle.ring_ends.specs.declared.finished.Finished.{Finished}
+use Rattle.search_model.specs.declared.candidate.Candidate.{Candidate}
+use Rattle.search_model.specs.Search.{SettingsInRange}
+use Rattle.search_model.specs.Masks.{masked_candidates_of, masked_text}
+use Rattle.search_engine.specs.Engine.{HasFoundIn}
+use Rattle.search_engine.specs.Scope.{Scope, kept_by}
+use Rattle.channel_mask.specs.Masks.{mask_of}
+use Rattle.channel_mask.specs.Masked.{IsScopeOf}
+use Rattle.search_words.specs.declared.fault.WordFault.{WordFault}
+use Rattle.search_words.specs.declared.fault.WordFault.TheVariants as words_fault
+use Rattle.search_words.specs.Settings.{SettingsSeen}
+use Rattle.stream_model.specs.Walk as walk
+use Rattle.stream_model.specs.Walk.{FileStream, walk_stop}
+use Rattle.disk_feeder.specs.Plan.{AreTold}
+use Rattle.run_stop.specs.declared.stop.Stop.{Stop}
+use Rattle.run_stop.specs.declared.stop.Stop.TheVariants.{Words, Value, Header, Plan, Recording, Memory, ReadFault, Gap, TooLong, TooMany, SinkFault, FileFault}
+use Rattle.run_stop.specs.Texts.{status_of}
+use Rattle.run_stop.specs.Conversions.{stop_of_words, stop_of_feed}
+use Rattle.run_stop.specs.Lone.{SayAlone}
+use Rattle.run_stop.specs.Runs.{Alone, CanBegin, first_observation, stream_for}
+use Rattle.run_stop.specs.Ends.{CountsFaults, StopsBefore, WordsSayOnce, short_statuses}
+use Rattle.search_opening.specs.Plans.{IsOfPlan}
+use Rattle.lone_run.specs.declared.found.LoneFound.{LoneFound}
+use Rattle.lone_run.specs.declared.stop.LoneStop.{LoneStop}
+use Rattle.lone_run.specs.declared.stop.LoneStop.TheVariants.{Run, Unscoped}
+use Rattle.lone_run.specs.Found.{IsFoundAlone, HasFoundAll}
+use Rattle.lone_run.specs.Stops.{StopsAlone, FailsReading}
+use Rattle.lone_run.specs.Outcomes.{RunsAlone, EndsAlone}
+use Rattle.lone_run.specs.EndLaws.{AloneBeforeSession, AloneAtOwnStop, AloneAtFeedStop, AloneAfterWhole, GoesThrough}
+use Rattle.psr_mask.specs.Masking.{ForMask, AcceptsFirst, AcceptsMask, RefusesMask, RefusesFiles, ScopesMask, mask_search, mask_word, masked_list, text_without}
+use Rattle.psr_mask.specs.Notes.{mask_status, end_status}
+use Rattle.psr_mask.specs.Outcome.{Answered, HasMasked, HasText, JudgesMask, Outcome, TellsMask, WritesMasked}
+use Rattle.psr_mask.specs.Ends.{Ends, EndsFed, EndsKept, HoldsKept, as_alone}
+use Rattle.psr_mask.specs.declared.refusal.MaskRefusal.{MaskRefusal}
+use Rattle.psr_mask.proofs.Statuses.{whole_is}
+
+no_ring : IsSome {T = Finished} None → ⊥
+no_ring some = cc
+
+-- the statuses of a search whose data were all sealed
+abbrev late_statuses : List ℕ
+late_statuses = 0 ∷ 9 ∷ 10 ∷ 12 ∷ []
+
+is_done : Contains late_statuses 0
+is_done = (0, lit< tt, refl)
+
+is_crowded : Contains late_statuses 9
+is_crowded = (1, lit< tt, refl)
+
+is_broken_off : Contains late_statuses 10
+is_broken_off = (2, lit< tt, refl)
+
+module _ (words : List (List ℕ)) where
+  -- what was told of the files that the words name
+  pub for_settings : (told : Told) → WordsSayOnce → (s0 : SettingsSeen) →
+      SayAlone (mask_search words) words s0 → (P : SettingsSeen → FileStream → Type 0) →
+      ((files : List (List ℕ)) → AreTold told s0.names files → P s0 (stream_for s0 files)) → ForMask words told P
+  for_settings told once s0 says0 P holds s files says are =
+      subst (λ (t : SettingsSeen). (files : List (List ℕ)) → AreTold told t.names files → P t (stream_for t files))
+      (once (Alone (mask_search words)) words s0 s says0 says) holds files are
+
+  none_written : (told : Told) (n : ℕ) (before after : SinkSeen) → n ≢ 0 → n ≢ 10 → after ≡ before →
+      WritesMasked words told before after n
+  none_written told n before after zeroth tenth same = record {
+    text = λ e. absurd (zeroth e);
+    front = λ e. absurd (tenth e);
+    failed = λ e. absurd (tenth e);
+    quiet = λ e. ap (λ (s : SinkSeen). s.faults) same;
+    untouched = λ e f. same;
+  }
+
+-- a plan that is refused, and no recording: a search alone makes none
+plan_is : (words : List (List ℕ)) (told : Told) (s : SettingsSeen) (files : List (List ℕ)) (stop : Stop) →
+    StopsBefore (Alone (mask_search words)) words told stop → status_of stop ≡ 4 →
+    SayAlone (mask_search words) words s → AreTold told s.names files → IsOfPlan stop
+plan_is words told s files Words b e says are = absurd (omega (arith, e))
+plan_is words told s files (Value opt) b e says are = absurd (omega (arith, e))
+plan_is words told s files (Header file cause) b e says are = absurd (omega (arith, e))
+plan_is words told s files (Plan cause) b e says are = (cause, refl)
+plan_is words told s files (Recording cause) b e says are =
+    let on = (b.says s files says are).records in
+    let off = says.search.one.unrecorded in absurd cc
+plan_is words told s files Memory b e says are = absurd (omega (arith, e))
+plan_is words told s files ReadFault b e says are = absurd (omega (arith, e))
+plan_is words told s files (Gap file expected found) b e says are = absurd (omega (arith, e))
+plan_is words told s files (TooLong limit) b e says are = absurd (omega (arith, e))
+plan_is words told s files (TooMany count limit) b e says are = absurd (omega (arith, e))
+plan_is words told s files SinkFault b e says are = absurd (omega (arith, e))
+plan_is words told s files FileFault b e says are = absurd (omega (arith, e))
+
+-- the engine of a run that went through has searched the channels that the mask keeps
+pub holds : (words : List (List ℕ)) (told : Told) (s0 : SettingsSeen) (found : LoneFound)
+    (is : IsFoundAlone (ScopesMask (mask_word words)) s0 told found) → SettingsInRange s0.search →
+    (all : HasFoundAll s0 told is.scope found) →
+    HoldsKept found.observation s0.search (mask_of found.observation (mask_word words)) all.bytes found.engine
+holds words told s0 found is range all = record {
+  searches = record {
+    bounds = all.searched.bounds;
+    range = range;
+    search_is = all.search_is;
+    shard_is = all.shard_is;
+    scope = subst
+        (IsScopeOf found.observation s0.search.max_delay (mask_of found.observation (mask_word words)))
+        (sym all.scope_is) is.scoped.kept;
+  };
+  found = subst (λ (c : Scope). HasFoundIn found.observation c all.bytes found.engine) (sym all.scope_is) all.searched;
+}
+
+module _ (words : List (List ℕ)) (inputs : InputsSeen) (is_calm : Type 0) where
+  -- ---- before all data were sealed
+
+  -- where the plan is refused, and once there is a data ring, the mask is accepted
+  abbrev Accepts : Option Finished → ℕ → Type 0
+  Accepts blocks n = (n ≡ 4) ⊎ IsSome blocks → ForMask words inputs.told (λ s w. AcceptsFirst words w)
+
+  at_short : (blocks : Option Finished) (stop : Stop) (before after : SinkSeen) →
+      EndsAlone mask_status (mask_search words) words inputs is_calm blocks stop → Accepts blocks (status_of stop) →
+      after ≡ before → Ends words inputs is_calm before after (Some (Run stop)) blocks
+  at_short blocks stop before after e accepted same =
+      let least = e.least in
+      let most = e.most in
+      record {
+        answered = record {
+          known = Contains-append_right (0 ∷ []) (short_statuses ++ 9 ∷ 10 ∷ 12 ∷ []) (status_of stop)
+              (Contains-append_left short_statuses (9 ∷ 10 ∷ 12 ∷ []) (status_of stop) e.known);
+          written = none_written words inputs.told (status_of stop) before after (λ is. omega (arith, is, least))
+              (λ is. omega (arith, is, most)) same;
+          run = e.run;
+          mask = record { refused = λ is. absurd (omega (arith, is, most)); accepted = accepted };
+          too_many = λ is. absurd (omega (arith, is, most));
+        };
+        said = e.said;
+      }
+
+  -- at the words
+  pub at_words : (fault : WordFault) (stop : Stop) (out : SinkSeen) → stop ≡ stop_of_words fault →
+      EndsAlone mask_status (mask_search words) words inputs is_calm None stop →
+      Ends words inputs is_calm out out (Some (Run stop)) None
+  at_words fault stop out is e = at_short None stop out out e (λ why. absurd (not_accepted why)) refl
+    where
+      other : (f : WordFault) → status_of (stop_of_words f) ≢ 4
+      other words_fault.Refused four = omega (arith, four)
+      other (words_fault.OutOfRange opt) four = omega (arith, four)
+      other words_fault.Memory four = omega (arith, four)
+
+      not_accepted : (status_of stop ≡ 4) ⊎ IsSome {T = Finished} None → ⊥
+      not_accepted (inl four) = other fault (sym (ap status_of is) ∙ four)
+      not_accepted (inr some) = no_ring some
+
+  -- ---- between the words and the session
+
+  module _ (s0 : SettingsSeen) (says0 : SayAlone (mask_search words) words s0) where
+    run_before : AloneBeforeSession is_calm → (stop : Stop) (out : SinkSeen) →
+        StopsAlone (ScopesMask (mask_word words)) (RefusesMask (mask_word words)) (mask_search words) words
+        inputs.told (Run stop) → CountsFaults inputs is_calm s0.names (stop ≡ ReadFault) →
+        Ends words inputs is_calm out out (Some (Run stop)) None
+    run_before law stop out stops read =
+        at_short None stop out out (law mask_status (mask_search words) words s0 inputs stop says0 stops.0 read)
+        accepted refl
+      where
+        by_plan : status_of stop ≡ 4 → ForMask words inputs.told (λ s w. AcceptsFirst words w)
+        by_plan four s files says are =
+            (stops.1 (plan_is words inputs.told s files stop stops.0 four says are) s files says are).1.accepted
+
+        accepted : Accepts None (status_of stop)
+        accepted (inl four) = by_plan four
+        accepted (inr some) = absurd (no_ring some)
+
+    own_before : AloneAtOwnStop is_calm → (refusal : MaskRefusal) (out : SinkSeen) →
+        ForMask words inputs.told (λ s w. RefusesFiles words w refusal) → CountsFaults inputs is_calm s0.names ⊥ →
+        Ends words inputs is_calm out out (Some (Unscoped refusal)) None
+    own_before law refusal out refused read = record {
+      answered = record {
+        known = (10, lit< tt, refl);
+        written = none_written words inputs.told 12 out out (λ e. omega (arith, e)) (λ e. omega (arith, e)) refl;
+        run = law mask_status (mask_search words) words s0 inputs (lit< tt) says0 read;
+        mask = record {
+          refused = λ e. (refl, λ s files says are. (refusal, refused s files says are));
+          accepted = not_accepted;
+        };
+        too_many = λ e. absurd (omega (arith, e));
+      };
+      said = refused;
+    }
+      where
+        not_accepted : Accepts None 12
+        not_accepted (inl four) = absurd (omega (arith, four))
+        not_accepted (inr some) = absurd (no_ring some)
+
+    pub before_session : AloneBeforeSession is_calm → AloneAtOwnStop is_calm → (stop : LoneStop MaskRefusal)
+        (out : SinkSeen) →
+        StopsAlone (ScopesMask (mask_word words)) (RefusesMask (mask_word words)) (mask_search words) words
+        inputs.told stop → CountsFaults inputs is_calm s0.names
+        (FailsReading {F = MaskRefusal} (Err stop)) →
+        Ends words inputs is_calm out out (Some stop) None
+    before_session law own (Run stop) out stops read = run_before law stop out stops read
+    before_session law own (Unscoped refusal) out stops read = own_before own refusal out stops read
+
+  -- ---- after the session
+
+  module _ (once : WordsSayOnce) (s0 : SettingsSeen) (found : LoneFound)
+      (is : IsFoundAlone (ScopesMask (mask_word words)) s0 inputs.told found)
+      (through : GoesThrough (mask_search words) words s0 inputs is_calm found.blocks found.feed) where
+    abbrev text : List ℕ
+    text = mask_word words
+
+    accepts : ForMask words inputs.told (λ s w. AcceptsFirst words w)
+    accepts = for_settings words inputs.told once s0 through.says (λ s w. AcceptsFirst words w) (λ files are.
+        subst (AcceptsMask text) (sym (is.first files are)) is.scoped.accepted)
+
+    stopped : AloneAtFeedStop is_calm → (stop : Stop) (before after : SinkSeen) → stop_of_feed found.feed ≡ Some stop →
+        after ≡ before → Ends words inputs is_calm before after (Some (Run stop)) (Some found.blocks)
+    stopped law stop before after fed same = at_short (Some found.blocks) stop before after
+        (law mask_status (mask_search words) words s0 inputs found.blocks found.feed stop through fed) (λ why. accepts)
+        same
+
+    -- ---- with all data
+
+    -- the mask of the observation that was searched
+    abbrev mask : List Bool
+    mask = mask_of found.observation text
+
+    module _ (law : AloneAfterWhole is_calm) (whole : stop_of_feed found.feed ≡ None)
+        (all : HasFoundAll s0 inputs.told is.scope found) where
+      abbrev list_of : Observation → List ℕ → List Candidate
+      list_of o bytes = masked_candidates_of o s0.search (kept_by (mask_of o text)) bytes
+
+      abbrev text_of : Observation → List ℕ → List ℕ
+      text_of o bytes = masked_text o s0.search (kept_by (mask_of o text)) bytes
+
+      abbrev list : List Candidate
+      list = list_of found.observation all.bytes
+
+      abbrev lines : List ℕ
+      lines = text_of found.observation all.bytes
+
+      list_is : (files : List (List ℕ)) → AreTold inputs.told s0.names files →
+          list ≡ masked_list words s0 (stream_for s0 files)
+      list_is files are =
+          ap (λ (o : Observation). list_of o all.bytes) (sym (is.first files are))
+          ∙ ap (list_of (first_observation (stream_for s0 files) 0)) (all.known files are)
+
+      lines_are : (files : List (List ℕ)) → AreTold inputs.told s0.names files →
+          lines ≡ text_without words s0 (stream_for s0 files)
+      lines_are files are =
+          ap (λ (o : Observation). text_of o all.bytes) (sym (is.first files are))
+          ∙ ap (text_of (first_observation (stream_for s0 files) 0)) (all.known files are)
+
+      late : (n : ℕ) → Contains late_statuses n →
+          RunsAlone mask_status (mask_search words) words inputs is_calm (Some found.blocks) n
+          × ForMask words inputs.told (λ s w. CanBegin (Alone (mask_search words)) s w × (walk_stop w ≡ walk.Whole))
+      late n known = law mask_status (mask_search words) words s0 inputs found.blocks found.feed n (lit< tt) through whole
+          known
+
+      -- how many candidates there are
+      counts : (n : ℕ) → Contains late_statuses n → (P : SettingsSeen → ℕ → Type 0) → P s0 (length list) →
+          ForMask words inputs.told (λ s w. HasMasked words s w (P s))
+      counts n known P p =
+          for_settings words inputs.told once s0 through.says (λ s w. HasMasked words s w (P s)) (λ files are.
+          let b = (late n known).1 s0 files through.says are in
+          record {
+            begins = b.0;
+            whole = b.1;
+            total = subst (λ (xs : List Candidate). P s0 (length xs)) (list_is files are) p;
+          })
+
+      has_text : (n : ℕ) → Contains late_statuses n → (P : List ℕ → Type 0) →
+          length list ≤ s0.search.max_candidates → P lines → ForMask words inputs.told (HasText words P)
+      has_text n known P few p = for_settings words inputs.told once s0 through.says (HasText words P) (λ files are. (
+        counts n known (λ s total. total ≤ s.search.max_candidates) few s0 files through.says are,
+        subst P (lines_are files are) p,
+      ))
+
+      judges : (n : ℕ) → n ≢ 12 → JudgesMask words inputs.told (Some found.blocks) n
+      judges n other = record { refused = λ e. absurd (other e); accepted = λ why. accepts }
+
+      -- the whole text, or its front, or no text
+      done : (before after : SinkSeen) → length list ≤ s0.search.max_candidates → WroteAll lines before after →
+          Ends words inputs is_calm before after None (Some found.blocks)
+      done before after few wrote =
+          record {
+            answered = record {
+              known = (0, lit< tt, refl);
+              written = record {
+                text = λ e. has_text 0 is_done (λ t. WroteAll t before after) few wrote;
+                front = λ e. absurd (omega (arith, e));
+                failed = λ e. absurd (omega (arith, e));
+                quiet = λ e. wrote.faults;
+                untouched = λ e. absurd (e refl);
+              };
+              run = (late 0 is_done).0;
+              mask = judges 0 (λ e. omega (arith, e));
+              too_many = λ e. absurd (omega (arith, e));
+            };
+            said = tt;
+          }
+
+      broken_off : (before after : SinkSeen) → length list ≤ s0.search.max_candidates → WroteFront lines before after →
+          Ends words inputs is_calm before after (Some (Run SinkFault)) (Some found.blocks)
+      broken_off before after few wrote =
+          record {
+            answered = record {
+              known = (9, lit< tt, refl);
+              written = record {
+                text = λ e. absurd (omega (arith, e));
+                front = λ e. has_text 10 is_broken_off (λ t. WroteFront t before after) few wrote;
+                failed = λ e. wrote.rose;
+                quiet = λ e. absurd (e refl);
+                untouched = λ e f. absurd (f refl);
+              };
+              run = (late 10 is_broken_off).0;
+              mask = judges 10 (λ e. omega (arith, e));
+              too_many = λ e. absurd (omega (arith, e));
+            };
+            said = (tt, λ s files says are. tt);
+          }
+
+      crowded : (before after : SinkSeen) (n limit : ℕ) → length list ≡ n → limit ≡ s0.search.max_candidates →
+          limit < n → after ≡ before →
+          Ends words inputs is_calm before after (Some (Run (TooMany n limit))) (Some found.blocks)
+      crowded before after n limit total most many same =
+          record {
+            answered = record {
+              known = (8, lit< tt, refl);
+              written = none_written words inputs.told 9 before after (λ e. omega (arith, e)) (λ e. omega (arith, e))
+                  same;
+              run = (late 9 is_crowded).0;
+              mask = judges 9 (λ e. omega (arith, e));
+              too_many = λ e. counts 9 is_crowded (λ s t. s.search.max_candidates < t) (omega (arith, total, most, many));
+            };
+            said = (
+              tt,
+              counts 9 is_crowded (λ s t. (t ≡ n) × (limit ≡ s.search.max_candidates) × (limit < n)) (total, most, many),
+            );
+          }
+
+      at_text : (before after : SinkSeen) (stop : Option Stop) → EndsKept s0.search list lines before after stop →
+          Ends words inputs is_calm before after (as_alone stop) (Some found.blocks)
+      at_text before after None (few, wrote) = done before after few wrote
+      at_text before after (Some SinkFault) (few, wrote) = broken_off before after few wrote
+      at_text before after (Some (TooMany n limit)) (total, most, many, same) =
+          crowded before after n limit total most many same
+      at_text before after (Some Words) e = absurd e
+      at_text before after (Some (Value opt)) e = absurd e
+      at_text before after (Some (Header file cause)) e = absurd e
+      at_text before after (Some (Plan cause)) e = absurd e
+      at_text before after (Some (Recording cause)) e = absurd e
+      at_text before after (Some Memory) e = absurd e
+      at_text before after (Some ReadFault) e = absurd e
+      at_text before after (Some (Gap file expected found)) e = absurd e
+      at_text before after (Some (TooLong limit)) e = absurd e
+      at_text before after (Some FileFault) e = absurd e
+
+    pub after_session : AloneAtFeedStop is_calm → AloneAfterWhole is_calm → SettingsInRange s0.search →
+        (before after : SinkSeen) (stop : Option Stop) →
+        IfSome (stop_of_feed found.feed) (λ fed. (stop ≡ Some fed) × (after ≡ before)) →
+        ((mask : List Bool) (bytes : List ℕ) → HoldsKept found.observation s0.search mask bytes found.engine →
+        EndsFed (stop_of_feed found.feed) found.observation s0.search mask bytes before after stop) →
+        (fed : Option Stop) → stop_of_feed found.feed ≡ fed →
+        Ends words inputs is_calm before after (as_alone stop) (Some found.blocks)
+    after_session stops wholes range before after stop at ended (Some fed) same =
+        let two = subst (λ (x : Option Stop). IfSome x (λ f. (stop ≡ Some f) × (after ≡ before))) same at in
+        subst (λ (x : Option Stop). Ends words inputs is_calm before after (as_alone x) (Some found.blocks)) (sym two.0)
+        (stopped stops fed before after same two.1)
+    after_session stops wholes range before after stop at ended None same =
+        let w = whole_is found.feed same in
+        let all = is.held w.0 w.1 in
+        at_text wholes same all before after stop
+        (subst
+        (λ (x : Option Stop). EndsFed x found.observation s0.search mask all.bytes before after stop) same
+        (ended mask all.bytes (holds words inputs.told s0 found is range all)))
+
+-- ---- want of memory
+
+abbrev ring_statuses : List ℕ
+ring_statuses = 0 ∷ 3 ∷ 6 ∷ 7 ∷ 8 ∷ 9 ∷ 10 ∷ 12 ∷ []
+
+with_ring : Contains ring_statuses 5 → ⊥
+with_ring (zero, below, is) = omega (arith, is)
+with_ring (suc zero, below, is) = omega (arith, is)
+with_ring (suc (suc zero), below, is) = omega (arith, is)
+with_ring (suc (suc (suc zero)), below, is) = omega (arith, is)
+with_ring (suc (suc (suc (suc zero))), below, is) = omega (arith, is)
+with_ring (suc (suc (suc (suc (suc zero)))), below, is) = omega (arith, is)
+with_ring (suc (suc (suc (suc (suc (suc zero))))), below, is) = omega (arith, is)
+with_ring (suc (suc (suc (suc (suc (suc (suc zero)))))), below, is) = omega (arith, is)
+with_ring (suc (suc (suc (suc (suc (suc (suc (suc k))))))), below, is) = omega (arith, below)
+
+-- it comes before there is a data ring
+pub memory_is_early : (words : List (List ℕ)) (inputs : InputsSeen) (is_calm : Type 0) (before after : SinkSeen)
+    (stop : Option (LoneStop MaskRefusal)) (blocks : Finished) →
+    Ends words inputs is_calm before after stop (Some blocks) → stop ≡ Some (Run Memory) → ⊥
+memory_is_early words inputs is_calm before after stop blocks e is =
+    let P : Option (LoneStop MaskRefusal) → Type 0 = λ x. Contains ring_statuses (end_status x) in
+    with_ring (subst P is (e.answered.run.sealed.some refl))
+
+-- an answer that is such a stop
+pub answered_so : (words : List (List ℕ)) (inputs : InputsSeen) (is_calm : Type 0) (before after : SinkSeen)
+    (stop : Option Stop) (result : Option (LoneStop MaskRefusal)) (blocks : Option Finished) → result ≡ as_alone stop →
+    Ends words inputs is_calm before after (as_alone stop) blocks →
+    Ends words inputs is_calm before after result blocks
+answered_so words inputs is_calm before after stop result blocks is e =
+    let P : Option (LoneStop MaskRefusal) → Type 0 = λ x. Ends words inputs is_calm before after x blocks in
+    subst P (sym is) e
+
+-- ---- with the notes
+
+pub outcome : (words : List (List ℕ)) (inputs : InputsSeen) (is_calm : Type 0)
+    (out_before out_after notes_before notes_after : SinkSeen) (stop : Option (LoneStop MaskRefusal))
+    (blocks : Option Finished) (status : ℕ) → Ends words inputs is_calm out_before out_after stop blocks →
+    status ≡ end_status stop → TellsMask words inputs.told notes_before notes_after status →
+    Outcome words inputs is_calm out_before out_after notes_before notes_after
+    (record { status = status; blocks = blocks })
+outcome words inputs is_calm out_before out_after notes_before notes_after stop blocks status e is noted = record {
+  answered = subst (λ n. Answered words inputs is_calm out_before out_after blocks n) (sym is) e.answered;
+  noted = noted;
+}

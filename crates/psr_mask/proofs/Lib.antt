@@ -1,0 +1,5 @@
+pub mod Accepted
+pub mod Causes
+pub mod Endings
+pub mod SampleText
+pub mod Statuses

@@ -1,0 +1,128 @@
+-- The sample, computed.
+use Rattle.std.proofs.Common.{◌≡◌, ℕ, List, [], ◌∷◌, Ok, Some, false, refl, ap, subst, ◌∙◌, arith, zero, suc, ◌<◌, slice_index_or}
+use Rattle.std.specs.Prelude.{codes}
+use Rattle.std.specs.Fmt.{digits}
+use Rattle.psr_base.specs.Told.{Told}
+use Rattle.psr_base.specs.Written.{WroteAll}
+use Rattle.dada_model.specs.Number.{number_value}
+use Rattle.dada_model.specs.Fields.{HeaderText, is_white, without_comment, words_of, fields_of, value_of, header_size, header_of}
+use Rattle.dada_model.specs.Observation.{Observation, number_of, observation_in, signed_edge, edge, edges, refusal_at, refusals, observation_of, dispersion_span, dm}
+use Rattle.dada_model.specs.Worked.{two_channels}
+use Rattle.search_model.specs.declared.search.Search.{Search}
+use Rattle.search_model.specs.Masks.{masked_text}
+use Rattle.search_model.specs.Paths.{entry, path}
+use Rattle.search_engine.specs.Scope.{kept_by}
+use Rattle.channel_mask.specs.Masks.{mask_of}
+use Rattle.clap.proofs.OnLiterals.{clap_on_literals}
+use Rattle.search_words.specs.Settings.{SettingsSeen}
+use Rattle.stream_model.specs.Walk.{FileStream, data_of, data_between, observation_at, transfer_data}
+use Rattle.disk_feeder.specs.Plan.{AreTold}
+use Rattle.run_stop.specs.Lone.{SayAlone}
+use Rattle.run_stop.specs.Runs.{first_observation, stream_for}
+use Rattle.psr_mask.specs.Masking.{mask_search, text_without}
+use Rattle.psr_mask.specs.Sample.{sample_words, sample_header, sample_data, sample_file, sample_text, SampleIsFound}
+
+header : HeaderText
+header = record { size = 4096; text = sample_header }
+
+header_is : header_of sample_file ≡ Ok header
+unfolding header header_of header_size fields_of value_of words_of without_comment is_white number_value
+header_is = refl
+
+observation : Observation
+observation = two_channels
+
+observation_is : observation_of (fields_of sample_header) ≡ Ok observation
+unfolding observation fields_of value_of words_of without_comment is_white number_value number_of observation_in
+    signed_edge edge refusal_at refusals observation_of
+observation_is = refl
+
+search : Search
+search = record {
+  min_delay = 0;
+  max_delay = 1;
+  widest = 1;
+  fold_min = 2;
+  fold_max = 0;
+  fold_rows = 6;
+  fold_step = 64;
+  chunk = 1024;
+  shards = 1;
+  max_candidates = 65536;
+  mean = 1000;
+  sd = 2000;
+  snr = 700;
+}
+
+settings : SettingsSeen
+settings = record {
+  search = search;
+  buffers = 4;
+  size = 524288;
+  hands = 1;
+  turns = 64;
+  recording = false;
+  file_size = 1073741824;
+  max_bytes = 1099511627776;
+  names = codes "pulse.dada" ∷ [];
+  starts = 0 ∷ [];
+}
+
+-- the text of a search of an observation and its data without its first channel
+abbrev text_of : Observation → List ℕ → List ℕ
+text_of o bytes = masked_text o search (kept_by (mask_of o (codes "0"))) bytes
+
+text_is : text_of observation sample_data ≡ sample_text
+unfolding observation search edges edge signed_edge path entry dm dispersion_span digits
+text_is = refl
+
+says : SayAlone (mask_search sample_words) sample_words settings
+unfolding settings search number_value clap_on_literals
+says = record {
+  form = refl;
+  search = record {
+    says = record { taken = refl; in_range = refl; values = refl };
+    one = record { transfer = refl; unrecorded = refl };
+  };
+  made = refl;
+}
+
+-- the bytes of the one file are told
+there : (told : Told) → told.bytes_under (codes "pulse.dada") ≡ Some sample_file → (k : ℕ) → k < 1 →
+    told.bytes_under (slice_index_or (codes "pulse.dada" ∷ []) k []) ≡ Some (slice_index_or (sample_file ∷ []) k [])
+there told known zero below = known
+there told known (suc k) below = absurd (omega (arith, below))
+
+are_told : (told : Told) → told.bytes_under (codes "pulse.dada") ≡ Some sample_file →
+    AreTold told (codes "pulse.dada" ∷ []) (sample_file ∷ [])
+are_told told known = record { count = refl; each = there told known }
+
+are_told_of_settings : (told : Told) → told.bytes_under (codes "pulse.dada") ≡ Some sample_file →
+    AreTold told settings.names (sample_file ∷ [])
+unfolding settings
+are_told_of_settings told known = are_told told known
+
+sample_stream : FileStream
+sample_stream = record { files = sample_file ∷ []; starts = 0 ∷ []; max_bytes = 1099511627776 }
+
+first_is : first_observation sample_stream 0 ≡ observation
+unfolding sample_stream observation observation_at header_of header_size fields_of value_of words_of without_comment
+    is_white number_value number_of observation_in
+first_is = refl
+
+data_is : transfer_data sample_stream 0 ≡ sample_data
+unfolding sample_stream data_between data_of header_of header_size fields_of value_of words_of without_comment is_white
+    number_value
+data_is = refl
+
+searched_is : text_without sample_words settings (stream_for settings (sample_file ∷ [])) ≡ sample_text
+unfolding settings sample_stream
+searched_is =
+    ap (λ (o : Observation). text_of o (transfer_data sample_stream 0)) first_is
+    ∙ ap (text_of observation) data_is ∙ text_is
+
+pub found : (is_calm : Type 0) → SampleIsFound is_calm
+found is_calm inputs out_before out_after notes_before notes_after ran known outcome zeroth =
+    let are = are_told_of_settings inputs.told known in
+    let wrote = (outcome.answered.written.text zeroth settings (sample_file ∷ []) says are).1 in
+    (subst (λ (text : List ℕ). WroteAll text out_before out_after) searched_is wrote).written

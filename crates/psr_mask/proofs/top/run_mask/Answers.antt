@@ -1,0 +1,13 @@
+use Rattle.std.proofs.Common.{sym, ◌∙◌}
+use Rattle.psr_mask.proofs.Endings.{outcome}
+use Rattle.psr_mask.proofs.Statuses.{memory_is}
+use Rattle.psr_mask.proofs.top.run_mask.Goals as goal
+
+pub returns-clause-outcome : goal.returns-clause-outcome
+returns-clause-outcome g c =
+    outcome _ _ _ _ _ _ _ c.search-stop.result.stop _ c.tell_mask-status.result c.search-stop.ensures.ends
+    c.tell_mask-status.ensures.status (c.tell_mask-status.ensures.told _ _ c.search-stop.ensures.ends.said)
+
+pub returns-clause-early : goal.returns-clause-early
+returns-clause-early g c = λ five.
+    c.search-stop.ensures.early (memory_is _ (sym c.tell_mask-status.ensures.status ∙ five))

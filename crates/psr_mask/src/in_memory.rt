@@ -1,0 +1,37 @@
+// A search over objects in memory.
+ghost use Rattle.std.specs.Prelude.{◌≡◌, [], map, string_bytes};
+ghost use Rattle.psr_base.specs.InMemory.{told_of, calls_of, sink_seen};
+ghost use Rattle.run_stop.specs.Outcomes.{ReadsNoData};
+ghost use Rattle.run_stop.specs.Runs.{Alone};
+ghost use Rattle.psr_mask.specs.Masking.{mask_search};
+ghost use Rattle.psr_mask.specs.Outcome.{Outcome};
+
+use crate::top::run_mask;
+use psr_base::{MemInputs, MemSink};
+use search_session::Ran;
+use std::alloc::Global;
+use std::sync::Wait;
+
+/// Searches files in memory, as `run_mask` does. The inputs are calm where none of their calls is to fail.
+pub fn run_mask_in_memory<R: Wait>(
+    rt: &R,
+    alloc: Global,
+    words: &[String],
+    inputs: &mut MemInputs,
+    out: &mut MemSink,
+    notes: &mut MemSink,
+) -> Ran
+    ensures outcome { Outcome (map string_bytes words.now)
+        (record {
+          told = told_of inputs.old;
+          faults_before = (calls_of inputs.old).faults;
+          faults_after = (calls_of inputs.new).faults;
+        })
+        ((calls_of inputs.old).fail ≡ []) (sink_seen out.old) (sink_seen out.new)
+        (sink_seen notes.old) (sink_seen notes.new) result }
+    ensures early { result.status ≡ 5
+        → ReadsNoData (Alone (mask_search (map string_bytes words.now)))
+        (map string_bytes words.now) (told_of inputs.old) (told_of inputs.new) }
+{
+    run_mask(rt, alloc, words, inputs, out, notes)
+}

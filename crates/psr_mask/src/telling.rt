@@ -1,0 +1,31 @@
+// How the user is told.
+ghost use Rattle.std.specs.Prelude.{◌≡◌, ℕ, List};
+ghost use Rattle.psr_base.specs.Told.{Told};
+ghost use Rattle.psr_mask.specs.Notes.{end_status};
+ghost use Rattle.psr_mask.specs.Ends.{IsSaidOf};
+ghost use Rattle.psr_mask.specs.Outcome.{TellsMask};
+
+use crate::refusal::MaskRefusal;
+use lone_run::LoneStop;
+use psr_base::Sink;
+use run_stop::{tell, tell_line};
+
+// The exit status of a mask that is refused.
+const MASK_REFUSED: u8 = 12;
+
+/// Tells why a search stopped, by a line to the notes, and answers the exit status. Where it came to no stop that is 0,
+/// and the notes take nothing. A fault of the notes changes nothing.
+pub(crate) fn tell_mask<E: Sink>(stop: Option<LoneStop<MaskRefusal>>, notes: &mut E) -> u8
+    ensures status { result ≡ end_status stop }
+    ensures told { (words : List (List ℕ)) (told : Told) → IsSaidOf words told stop
+        → TellsMask words told (E.seen notes.old) (E.seen notes.new) result }
+{
+    match stop {
+        Some(LoneStop::Run(stop)) => tell(Some(stop), notes),
+        Some(LoneStop::Unscoped(refusal)) => {
+            tell_line(&refusal.note(), notes);
+            MASK_REFUSED
+        }
+        None => 0,
+    }
+}

@@ -1,0 +1,29 @@
+//! `psr_mask`: searches files in the DADA form for dispersed pulses and folded periods, without masked channels.
+#![tactic(auto)]
+
+use psr_base::{NoWords, RealInputs, RealSink, TakenStreams, command_words};
+use psr_mask::run_mask;
+use run_stop::{Stop, tell};
+use std::env;
+use std::process::ExitCode;
+
+fn main(rt: HostRuntime) -> ExitCode {
+    let _streams = TakenStreams::take(&rt);
+    let mut notes = RealSink::notes(&rt);
+    let words = match command_words(env::args(&rt), rt.alloc()) {
+        Ok(words) => words,
+        Err(NoWords::Refused) => return ExitCode::from(tell(Some(Stop::Words), &mut notes)),
+        Err(NoWords::Memory) => return ExitCode::from(tell(Some(Stop::Memory), &mut notes)),
+    };
+    let mut inputs = RealInputs::new(&rt);
+    let mut out = RealSink::out(&rt);
+    let ran = run_mask(
+        &rt,
+        rt.alloc(),
+        words.as_slice(),
+        &mut inputs,
+        &mut out,
+        &mut notes,
+    );
+    ExitCode::from(ran.status)
+}
