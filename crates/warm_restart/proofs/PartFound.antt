@@ -8,7 +8,7 @@ use Rattle.psr_base.specs.Written.{SinkSeen, Wrote}
 use Rattle.search_model.specs.declared.candidate.Candidate.{Candidate}
 use Rattle.search_model.specs.declared.candidate.Candidate.TheVariants.{Pulse, Fold}
 use Rattle.search_model.specs.declared.search.Search.{Search}
-use Rattle.search_model.specs.Search.{SettingsInRange}
+use Rattle.search_model.specs.Search.{SettingsInRange, in_one_shard}
 use Rattle.search_model.specs.Candidates.{plain_cells, shard_part}
 use Rattle.search_model.specs.CandidateLaws.{CandidatesAreListed, IsCandidate, OneShardIsAll}
 use Rattle.search_model.specs.Observed.{filterbank_of, candidates_of, labels_of}
@@ -18,7 +18,7 @@ use Rattle.candidate_book.specs.Conditions.{IsSearched}
 use Rattle.search_engine.specs.Engine.{EngineState, HasFoundPart, HasFoundIn, scope_of}
 use Rattle.search_engine.specs.Laws.{ScopesAreFound}
 use Rattle.search_engine.specs.Scope.{FitsObservation, Scope, scope_of_part}
-use Rattle.warm_restart.specs.Warm.{HasFound, KeepsPart, SearchesPart, in_one_shard, part_scope, text_of_part}
+use Rattle.warm_restart.specs.Warm.{HasFound, KeepsPart, SearchesPart, part_scope, text_of_part}
 use Rattle.warm_restart.specs.declared.warm.Warm.{Warm}
 
 -- ---- two tests, in either order

@@ -3,11 +3,11 @@
 use Rattle.std.specs.Prelude.{◌≡◌, ℕ, ◌≤◌, ◌<◌, Bool, false, List}
 use Rattle.dada_model.specs.Observation.{Observation}
 use Rattle.search_model.specs.declared.search.Search.{Search}
-use Rattle.search_model.specs.Search.{SettingsInRange}
+use Rattle.search_model.specs.Search.{SettingsInRange, in_one_shard}
 use Rattle.search_model.specs.Observed.{filterbank_of, candidates_of, labels_of}
 use Rattle.search_model.specs.Parts.{first_needed, part_text, within_part}
 use Rattle.candidate_book.specs.Book.{BookContents, book_of}
-use Rattle.search_engine.specs.Engine.{StandsForPart, scope_of, spectra_fed}
+use Rattle.search_engine.specs.Engine.{EngineState, HasFoundIn, StandsForPart, scope_of, spectra_fed}
 use Rattle.search_engine.specs.Scope.{Scope, scope_of_part}
 use Rattle.warm_restart.specs.Counts.{greatest_count}
 use Rattle.warm_restart.specs.declared.checkpoint.Checkpoint.{Checkpoint}
@@ -29,10 +29,6 @@ pub record IsPart (checkpoint : Checkpoint) (until : ℕ) : Type 0 where
   pub until_bound : until ≤ greatest_count
   pub pulses_bound : checkpoint.pulses ≤ greatest_count
 
--- all delays in one shard, however many the settings ask for
-abbrev pub in_one_shard : Search → Search
-in_one_shard s = record s { shards = 1 }
-
 -- what of an observation is searched for a part: its ends, in the spectra that it needs
 abbrev pub part_scope : Observation → Search → ℕ → ℕ → Scope
 part_scope o s place until = scope_of_part o.channels (first_needed s place) place until
@@ -51,6 +47,25 @@ pub record IsOpenedWarm (s : Search) (checkpoint : Checkpoint) (until : ℕ) (w 
   pub until_is : w.until ≡ until
   pub nothing_fed : fed_of w ≡ 0
   pub running : has_ended w ≡ false
+
+-- the search of a part that an engine has searched
+pub record IsWarmOf (s : Search) (checkpoint : Checkpoint) (until : ℕ) (e : EngineState) (w : Warm)
+    : Type 0 where
+  pub search_is : w.search ≡ s
+  pub checkpoint_is : w.checkpoint ≡ checkpoint
+  pub until_is : w.until ≡ until
+  pub engine_is : w.engine ≡ e
+
+-- an engine of all delays has searched the part in these data bytes of an observation, of which nothing is folded
+pub record SearchedPart (o : Observation) (s : Search) (checkpoint : Checkpoint) (until : ℕ)
+    (bytes : List ℕ) (e : EngineState) : Type 0 where
+  pub range : SettingsInRange s
+  pub unfolded : s.fold_max < s.fold_min
+  pub part : IsPart checkpoint until
+  pub search : e.search ≡ in_one_shard s
+  pub shard : e.shard ≡ 0
+  pub scope : scope_of e ≡ part_scope o s checkpoint.place until
+  pub found : HasFoundIn o (part_scope o s checkpoint.place until) bytes e
 
 -- it searches an observation, of which nothing is folded: its engine searches all delays for the part
 pub record SearchesPart (o : Observation) (w : Warm) : Type 0 where

@@ -16,4 +16,4 @@ pub use counts::until_of_word;
 pub use laws::{lines_are_read_back, part_texts_join, texts_say_one};
 pub use named::read_checkpoint;
 pub use part::{first_needed, write_last_line, write_part};
-pub use warm::Warm;
+pub use warm::{Warm, part_scope};

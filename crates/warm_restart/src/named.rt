@@ -1,5 +1,5 @@
 // The checkpoint that a word of a command names.
-ghost use Rattle.std.specs.Prelude.{◌≡◌, ◌≢◌, ◌≤◌, ◌<◌, length, take, Err, IfOk, IsErr, IsOk, IsSome};
+ghost use Rattle.std.specs.Prelude.{◌≡◌, ◌≢◌, ℕ, ◌≤◌, ◌<◌, length, take, Err, IfOk, IsErr, IsOk, IsSome};
 ghost use Rattle.std.specs.Option.{ForSome};
 ghost use Rattle.psr_base.specs.Inputs.{HasReadFrom};
 ghost use Rattle.psr_base.specs.Told.{OfFile};
@@ -42,6 +42,8 @@ pub fn read_checkpoint<I: Inputs>(
         → ForSome (named_text (I.told inputs.old) word.now) (λ text. IsJudged text until result) }
     ensures within { IfOk result (λ checkpoint.
         CanBeSaid checkpoint × (checkpoint.place < until)) }
+    ensures late { (place limit : ℕ) → result ≡ Err (CheckpointFault.Place place limit)
+        → (until ≡ limit) × (until ≤ place) }
     ensures new { word.now ≡ new_word
         → (inputs.new ≡ inputs.old) × (result ≢ Err CheckpointFault.Failed) }
     ensures touched { OfFile (I.told inputs.old) word.now

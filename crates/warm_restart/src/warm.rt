@@ -2,13 +2,13 @@
 ghost use Rattle.std.specs.Prelude.{◌≡◌, ℕ, ◌+◌, ◌^◌, ◌++◌, ◌≤◌, ◌<◌, [], List, true, false, None, OnOk, IfOk, IfErr, length};
 ghost use Rattle.dada_model.specs.Observation.{Observation as Described};
 ghost use Rattle.psr_base.specs.Written.{Wrote};
-ghost use Rattle.search_model.specs.Search.{SettingsInRange};
+ghost use Rattle.search_model.specs.Search.{SettingsInRange, in_one_shard as in_one_shard_of};
 ghost use Rattle.search_model.specs.Plan.{plan_refusal};
 ghost use Rattle.search_model.specs.Observed.{filterbank_of};
 ghost use Rattle.search_engine.specs.Engine.{IsOpenedEngine, StandsForPart, most_fed, scope_of, spectra_fed};
 ghost use Rattle.search_engine.specs.Plan.{Explains};
 ghost use Rattle.search_engine.specs.Scope.{FitsObservation};
-ghost use Rattle.warm_restart.specs.Warm.{HasFound, IsOpenedWarm, IsPart, KeepsPart, SamePart, WasFed, book_in, fed_of, has_ended as has_ended_of, in_one_shard as in_one_shard_of, part_scope as part_scope_of, text_of_part};
+ghost use Rattle.warm_restart.specs.Warm.{HasFound, IsOpenedWarm, IsPart, IsWarmOf, KeepsPart, SamePart, SearchedPart, WasFed, book_in, fed_of, has_ended as has_ended_of, part_scope as part_scope_of, text_of_part};
 
 use crate::checkpoint::Checkpoint;
 use crate::part::{first_needed, write_part};
@@ -61,6 +61,23 @@ impl Warm {
                 engine,
             }),
             Err(_memory) => Err(PlanFault::Memory),
+        }
+    }
+
+    /// The search of the part from a checkpoint on that stops before spectrum `until`, by an engine that has searched
+    /// it: one of all delays, opened for the scope that `part_scope` answers.
+    pub fn of_engine(search: &Search, checkpoint: Checkpoint, until: u64, engine: Engine) -> Warm
+        ensures is { IsWarmOf search.now checkpoint until engine result }
+        ensures found { (o : Described) (bytes : List ℕ)
+            → SearchedPart o search.now checkpoint until bytes engine → HasFound o bytes result }
+    {
+        scopes_are_found();
+        one_shard_is_all();
+        Warm {
+            search: *search,
+            checkpoint,
+            until,
+            engine,
         }
     }
 
@@ -144,17 +161,9 @@ impl Warm {
     }
 }
 
-// All delays in one shard.
-fn in_one_shard(search: &Search) -> Search
-    ensures { result ≡ in_one_shard_of search.now }
-{
-    let mut alone = *search;
-    alone.shards = 1;
-    alone
-}
-
-// What of an observation is searched for a part.
-fn part_scope(observation: &Observation, search: &Search, place: u64, until: u64) -> Scope
+/// What of an observation is searched for the part from spectrum `place` on that stops before spectrum `until`: the
+/// ends of the part, in the spectra that it needs.
+pub fn part_scope(observation: &Observation, search: &Search, place: u64, until: u64) -> Scope
     requires place { place ≤ 2 ^ 48 }
     requires until { until ≤ 2 ^ 48 }
     ensures value { result ≡ part_scope_of observation.now search.now place until }
@@ -182,7 +191,7 @@ fn open_engine(
     ensures stands { IfOk result (StandsForPart observation.now []) }
 {
     let scope = part_scope(observation, search, place, until);
-    match Engine::open_for(alloc, observation, &in_one_shard(search), 0, scope) {
+    match Engine::open_for(alloc, observation, &search.in_one_shard(), 0, scope) {
         Ok(engine) => Ok(engine),
         Err(PlanFault::Memory) => Err(Memory),
         // The plan fits.

@@ -43,3 +43,16 @@ returns-in-Ok-clause-judged g c never text named =
 
 pub returns-in-Ok-clause-within : goal.returns-in-Ok-clause-within
 returns-in-Ok-clause-within g c = accepted_can _ c.args.until c.judge.result c.judge.ensures.judged
+
+pub returns-then-eq-clause-late : goal.returns-then-eq-clause-late
+returns-then-eq-clause-late g c place limit e =
+    let said = c.lines_are_read_back.ensures.line (record { place = 0; pulses = 0 })
+    (record { place = omega arith; pulses = omega arith }) in
+    let judged = judged_said c.texts_say_one.ensures (check_line 0 0) c.args.until
+    (record { place = 0; pulses = 0 }) said in
+    let result = c.before-then-eq.ensures ∙ ap (judged_place c.args.until) c.first.ensures in
+    let h = (judged.place place limit).0 (sym result ∙ e) in (h.3, h.4)
+
+pub returns-in-Ok-clause-late : goal.returns-in-Ok-clause-late
+returns-in-Ok-clause-late g c place limit e =
+    let h = (c.judge.ensures.judged.place place limit).0 e in (h.3, h.4)

@@ -1,0 +1,437 @@
+-- How the search of a part ends: at its words or its checkpoint, before all data were sealed, or with its text.
+use Rattle.std.proofs.Common.{◌≡◌, ◌≢◌, ℕ, zero, suc, ◌≤◌, ◌<◌, List, [], ◌∷◌, ◌++◌, refl, sym, ap, ◌∙◌, subst, Some, None, Contains, lit<, arith}
+use Rattle.std.proofs.lemmas.List.Elements.{Contains-append_left, Contains-append_right}
+use Rattle.std.specs.Prelude.{Option, IfSome, Err}
+use Rattle.std.specs.Option.{ForSome}
+use Rattle.dada_model.specs.Observation.{Observation}
+use Rattle.psr_base.specs.Told.{Told, InputsSeen}
+use Rattle.psr_base.specs.Written.{SinkSeen, WroteAll, WroteFront}
+use Rattle.ring_ends.specs.declared.finished.Finished.{Finished}
+use Rattle.search_model.specs.declared.search.Search.{Search}
+use Rattle.search_words.specs.declared.fault.WordFault.{WordFault}
+use Rattle.search_words.specs.declared.fault.WordFault.TheVariants as word
+use Rattle.search_words.specs.Settings.{SettingsSeen}
+use Rattle.stream_model.specs.Walk as walk
+use Rattle.stream_model.specs.Walk.{FileStream, transfer_data, walk_stop}
+use Rattle.disk_feeder.specs.declared.answers.FeedEnd.{FeedEnd}
+use Rattle.disk_feeder.specs.declared.answers.FeedEnd.TheVariants as feed
+use Rattle.disk_feeder.specs.Filling.{HoldsAll}
+use Rattle.disk_feeder.specs.Plan.{AreTold}
+use Rattle.warm_restart.specs.declared.checkpoint.Checkpoint.{Checkpoint}
+use Rattle.warm_restart.specs.declared.checkpoint.CheckpointFault.{CheckpointFault}
+use Rattle.warm_restart.specs.declared.checkpoint.CheckpointFault.TheVariants as check
+use Rattle.warm_restart.specs.Checkpoint.{IsJudged}
+use Rattle.warm_restart.specs.Warm.{text_of_part}
+use Rattle.run_stop.specs.declared.stop.Stop.{Stop}
+use Rattle.run_stop.specs.declared.stop.Stop.TheVariants.{Words, Value, Header, Plan, Recording, Memory, ReadFault, Gap, TooLong, TooMany, SinkFault, FileFault}
+use Rattle.run_stop.specs.Texts.{status_of}
+use Rattle.run_stop.specs.Conversions.{stop_of_words, stop_of_feed}
+use Rattle.run_stop.specs.Lone.{SayAlone, ExplainsAlone}
+use Rattle.run_stop.specs.Runs.{stream_for, first_observation, CanBegin, FindsAlone, IsTooMany}
+use Rattle.run_stop.specs.Ends.{short_statuses, CountsFaults, WordsSayOnce}
+use Rattle.lone_run.specs.Outcomes.{RunsAlone, EndsAlone}
+use Rattle.lone_run.specs.EndLaws.{AloneAtWords, AloneBeforeSession, AloneAtOwnStop, AloneAtFeedStop, AloneAfterWhole, GoesThrough}
+use Rattle.psr_part.specs.declared.stop.CheckpointRefusal.{CheckpointRefusal}
+use Rattle.psr_part.specs.declared.stop.CheckpointRefusal.TheVariants.{Form, Place, Beyond}
+use Rattle.psr_part.specs.declared.stop.PartStop.{PartStop}
+use Rattle.psr_part.specs.declared.stop.PartStop.TheVariants.{Run, Refused}
+use Rattle.psr_part.specs.Texts.{stop_of_checkpoint, end_status, statuses}
+use Rattle.psr_part.specs.Part.{until_in, check_names, check_text_of, GoesOnFrom, spectra_in, part_search, searching, ForPart}
+use Rattle.psr_part.specs.Outcome.{WritesPart, IsCrowded, HasText, IsRefused, TellsPart, later_statuses, Outcome}
+use Rattle.psr_part.specs.Ends.{spectra_of, count_of, FitsPart, EndsText, EndsFed, IsPartSaid, Ends}
+
+-- ---- statuses
+
+abbrev IsEarly : ℕ → Type 0
+IsEarly n = (n ≢ 2) × (n ≢ 5) × (n ≢ 6) × (n ≢ 13)
+
+-- those that come after the checkpoint is accepted are none of these
+pub later_apart : (n : ℕ) → Contains later_statuses n → IsEarly n
+later_apart n (zero, below, is) = subst IsEarly is
+    ((λ e. omega (arith, e)), (λ e. omega (arith, e)), (λ e. omega (arith, e)), (λ e. omega (arith, e)))
+later_apart n (suc zero, below, is) = subst IsEarly is
+    ((λ e. omega (arith, e)), (λ e. omega (arith, e)), (λ e. omega (arith, e)), (λ e. omega (arith, e)))
+later_apart n (suc (suc zero), below, is) = subst IsEarly is
+    ((λ e. omega (arith, e)), (λ e. omega (arith, e)), (λ e. omega (arith, e)), (λ e. omega (arith, e)))
+later_apart n (suc (suc (suc zero)), below, is) = subst IsEarly is
+    ((λ e. omega (arith, e)), (λ e. omega (arith, e)), (λ e. omega (arith, e)), (λ e. omega (arith, e)))
+later_apart n (suc (suc (suc (suc zero))), below, is) = subst IsEarly is
+    ((λ e. omega (arith, e)), (λ e. omega (arith, e)), (λ e. omega (arith, e)), (λ e. omega (arith, e)))
+later_apart n (suc (suc (suc (suc (suc zero)))), below, is) = subst IsEarly is
+    ((λ e. omega (arith, e)), (λ e. omega (arith, e)), (λ e. omega (arith, e)), (λ e. omega (arith, e)))
+later_apart n (suc (suc (suc (suc (suc (suc zero))))), below, is) = subst IsEarly is
+    ((λ e. omega (arith, e)), (λ e. omega (arith, e)), (λ e. omega (arith, e)), (λ e. omega (arith, e)))
+later_apart n (suc (suc (suc (suc (suc (suc (suc k)))))), below, is) = absurd (omega (arith, below))
+
+-- words that are refused stop a search before its checkpoint
+word_apart : (f : WordFault) → Contains later_statuses (status_of (stop_of_words f)) → ⊥
+word_apart word.Refused h = (later_apart 2 h).0 refl
+word_apart (word.OutOfRange opt) h = (later_apart 2 h).0 refl
+word_apart word.Memory h = (later_apart 5 h).1 refl
+
+-- where none is accepted, any one serves
+no_checkpoint : Checkpoint
+no_checkpoint = record { place = 0; pulses = 0 }
+
+-- a run's own stops have no status of 13
+pub no_thirteen : (stop : Stop) → status_of stop ≢ 13
+no_thirteen Words e = omega (arith, e)
+no_thirteen (Value opt) e = omega (arith, e)
+no_thirteen (Header file cause) e = omega (arith, e)
+no_thirteen (Plan cause) e = omega (arith, e)
+no_thirteen (Recording cause) e = omega (arith, e)
+no_thirteen Memory e = omega (arith, e)
+no_thirteen ReadFault e = omega (arith, e)
+no_thirteen (Gap file expected found) e = omega (arith, e)
+no_thirteen (TooLong limit) e = omega (arith, e)
+no_thirteen (TooMany count limit) e = omega (arith, e)
+no_thirteen SinkFault e = omega (arith, e)
+no_thirteen FileFault e = omega (arith, e)
+
+-- a stop with the status of want of memory is that
+only_memory : (stop : Stop) → status_of stop ≡ 5 → stop ≡ Memory
+only_memory Words e = absurd (omega (arith, e))
+only_memory (Value opt) e = absurd (omega (arith, e))
+only_memory (Header file cause) e = absurd (omega (arith, e))
+only_memory (Plan cause) e = absurd (omega (arith, e))
+only_memory (Recording cause) e = absurd (omega (arith, e))
+only_memory Memory e = refl
+only_memory ReadFault e = absurd (omega (arith, e))
+only_memory (Gap file expected found) e = absurd (omega (arith, e))
+only_memory (TooLong limit) e = absurd (omega (arith, e))
+only_memory (TooMany count limit) e = absurd (omega (arith, e))
+only_memory SinkFault e = absurd (omega (arith, e))
+only_memory FileFault e = absurd (omega (arith, e))
+
+pub memory_stop : (stop : Option PartStop) → end_status stop ≡ 5 → stop ≡ Some (Run Memory)
+memory_stop None e = absurd (omega (arith, e))
+memory_stop (Some (Run stop)) e = ap (λ (s : Stop). Some (Run s)) (only_memory stop e)
+memory_stop (Some (Refused refusal)) e = absurd (omega (arith, e))
+
+-- ---- parts of the outcome
+
+module _ (words : List (List ℕ)) where
+  -- what was told of the files that the words name
+  for_settings : (from : Checkpoint) (told : Told) → WordsSayOnce → (s0 : SettingsSeen) →
+      SayAlone (part_search words from) words s0 → (P : SettingsSeen → FileStream → Type 0) →
+      ((files : List (List ℕ)) → AreTold told s0.names files → P s0 (stream_for s0 files)) →
+      ForPart words from told P
+  for_settings from told once s0 says0 P holds s files says are =
+      subst (λ (t : SettingsSeen). (files : List (List ℕ)) → AreTold told t.names files → P t (stream_for t files))
+      (once (searching words from) words s0 s says0 says) holds files are
+
+  none_written : (from : Checkpoint) (told : Told) (n : ℕ) (before after : SinkSeen) → n ≢ 0 → n ≢ 10 →
+      after ≡ before → WritesPart words from told before after n
+  none_written from told n before after zeroth tenth same = record {
+    text = λ e. absurd (zeroth e);
+    front = λ e. absurd (tenth e);
+    failed = λ e. absurd (tenth e);
+    quiet = λ e. ap (λ (s : SinkSeen). s.faults) same;
+    untouched = λ e f. same;
+  }
+
+module _ (words : List (List ℕ)) (inputs : InputsSeen) (is_calm : Type 0) where
+  -- calm inputs that hold CHECK
+  abbrev Calm : Type 0
+  Calm = is_calm × HoldsAll inputs.told (check_names words)
+
+  -- ---- before all data were sealed
+
+  pub at_stop : (from : Checkpoint) (blocks : Option Finished) (stop : Stop) (before after : SinkSeen) →
+      EndsAlone 13 (part_search words from) words inputs Calm blocks stop →
+      (Contains later_statuses (status_of stop) → GoesOnFrom inputs.told words from) → after ≡ before →
+      Ends words inputs is_calm before after (Some (Run stop)) blocks
+  at_stop from blocks stop before after e accepted same =
+      let least = e.least in
+      let most = e.most in
+      record {
+        from = from;
+        accepted = accepted;
+        known = Contains-append_right (0 ∷ []) (short_statuses ++ 9 ∷ 10 ∷ 13 ∷ []) (status_of stop)
+            (Contains-append_left short_statuses (9 ∷ 10 ∷ 13 ∷ []) (status_of stop) e.known);
+        written = none_written words from inputs.told (status_of stop) before after (λ is. omega (arith, is, least))
+            (λ is. omega (arith, is, most)) same;
+        run = e.run;
+        too_many = λ is. absurd (omega (arith, is, most));
+        said = e.said;
+      }
+
+  pub at_words : AloneAtWords Calm → (fault : WordFault) (stop : Stop) →
+      ((from : Checkpoint) → ExplainsAlone (part_search words from) words fault) → stop ≡ stop_of_words fault →
+      inputs.faults_after ≡ inputs.faults_before → (out : SinkSeen) →
+      Ends words inputs is_calm out out (Some (Run stop)) None
+  at_words law fault stop explains is same out =
+      at_stop no_checkpoint None stop out out
+      (law 13 (part_search words no_checkpoint) words inputs fault stop (explains no_checkpoint) is same)
+      (λ later. absurd (word_apart fault (subst (λ (x : Stop). Contains later_statuses (status_of x)) is later))) refl
+
+  -- the checkpoint is refused
+  at_refusal : (from : Checkpoint) (blocks : Option Finished) (refusal : CheckpointRefusal) (before after : SinkSeen) →
+      RunsAlone 13 (part_search words from) words inputs Calm blocks 13 →
+      IsRefused words from inputs.told blocks refusal → after ≡ before →
+      Ends words inputs is_calm before after (Some (Refused refusal)) blocks
+  at_refusal from blocks refusal before after run refused same = record {
+    from = from;
+    accepted = λ later. absurd ((later_apart 13 later).3 refl);
+    known = (10, lit< tt, refl);
+    written = none_written words from inputs.told 13 before after (λ is. omega (arith, is)) (λ is. omega (arith, is))
+        same;
+    run = run;
+    too_many = λ is. absurd (omega (arith, is));
+    said = refused;
+  }
+
+  -- what CHECK was judged by where no checkpoint was read
+  pub at_checkpoint : AloneBeforeSession Calm → AloneAtOwnStop Calm → (s : SettingsSeen) (until : ℕ) →
+      until ≡ until_in words → ((from : Checkpoint) → SayAlone (part_search words from) words s) →
+      (fault : CheckpointFault) → (fault ≡ check.Failed → CountsFaults inputs Calm s.names (ReadFault ≡ ReadFault)) →
+      (fault ≢ check.Failed → CountsFaults inputs Calm s.names ⊥) →
+      (fault ≢ check.Failed → ForSome (check_text_of inputs.told words) (λ text. IsJudged text until (Err fault))) →
+      ((place limit : ℕ) → fault ≡ check.Place place limit → (until ≡ limit) × (until ≤ place)) →
+      (stop : PartStop) → stop ≡ stop_of_checkpoint fault → (out : SinkSeen) →
+      Ends words inputs is_calm out out (Some stop) None
+  at_checkpoint before own s until same says check.Failed failed quiet judged late stop is out =
+      let lone = part_search words no_checkpoint in
+      subst (λ (x : PartStop). Ends words inputs is_calm out out (Some x) None) (sym is)
+      (at_stop no_checkpoint None ReadFault out out
+      (before 13 lone words s inputs ReadFault (says no_checkpoint)
+      (record { kind = tt; says = λ t files said are. tt }) (failed refl))
+      (λ later. absurd ((later_apart 6 later).2 refl)) refl)
+  at_checkpoint before own s until same says check.Form failed quiet judged late stop is out =
+      let lone = part_search words no_checkpoint in
+      subst (λ (x : PartStop). Ends words inputs is_calm out out (Some x) None) (sym is)
+      (at_refusal no_checkpoint None Form out out
+      (own 13 lone words s inputs (omega arith) (says no_checkpoint) (quiet (λ e. absurd cc)))
+      (refl, (λ text told. (judged (λ e. absurd cc) text told).form.0 refl)) refl)
+  at_checkpoint before own s until same says (check.Place place limit) failed quiet judged late stop is out =
+      let lone = part_search words no_checkpoint in
+      let other : check.Place place limit ≢ check.Failed = λ e. absurd cc in
+      subst (λ (x : PartStop). Ends words inputs is_calm out out (Some x) None) (sym is)
+      (at_refusal no_checkpoint None (Place place limit) out out
+      (own 13 lone words s inputs (omega arith) (says no_checkpoint) (quiet other)) (
+        refl,
+        sym (late place limit refl).0 ∙ same,
+        (let l = late place limit refl in let first = l.0 in let second = l.1 in omega (arith, first, second)),
+        (λ text told. let h = ((judged other text told).place place limit).0 refl in (h.0, h.1, h.2)),
+      ) refl)
+
+  -- ---- after the session
+
+  module _ (from : Checkpoint) (once : WordsSayOnce) (s0 : SettingsSeen) (blocks : Finished) (end : FeedEnd)
+      (through : GoesThrough (part_search words from) words s0 inputs Calm blocks end)
+      (goes : GoesOnFrom inputs.told words from) where
+    -- ---- with all data
+
+    module _ (law : AloneAfterWhole Calm) (whole : stop_of_feed end ≡ None) (o : Observation) (bytes : List ℕ)
+        (known : (files : List (List ℕ)) → AreTold inputs.told s0.names files →
+        (o ≡ first_observation (stream_for s0 files) 0) × (bytes ≡ transfer_data (stream_for s0 files) 0)) where
+      late : (n : ℕ) → Contains (0 ∷ 9 ∷ 10 ∷ 13 ∷ []) n →
+          RunsAlone 13 (part_search words from) words inputs Calm (Some blocks) n
+          × ForPart words from inputs.told (λ s w. CanBegin (searching words from) s w × (walk_stop w ≡ walk.Whole))
+      late n at = law 13 (part_search words from) words s0 inputs blocks end n (omega arith) through whole at
+
+      -- what holds of the data that were searched holds of those of the files
+      of_data : (n : ℕ) → Contains (0 ∷ 9 ∷ 10 ∷ 13 ∷ []) n → (Q : Observation → List ℕ → Type 0) → Q o bytes →
+          (P : SettingsSeen → FileStream → Type 0) →
+          ((w : FileStream) → CanBegin (searching words from) s0 w → walk_stop w ≡ walk.Whole →
+          Q (first_observation w 0) (transfer_data w 0) → P s0 w) → ForPart words from inputs.told P
+      of_data n at Q q P holds =
+          for_settings words from inputs.told once s0 through.says P (λ files are.
+          let w = stream_for s0 files in
+          let k = known files are in
+          let b = (late n at).1 s0 files through.says are in
+          holds w b.0 b.1
+          (subst (λ b. Q (first_observation w 0) b) k.1 (subst (λ x. Q x bytes) k.0 q)))
+
+      text_of : (n : ℕ) → Contains (0 ∷ 9 ∷ 10 ∷ 13 ∷ []) n → (P : List ℕ → Type 0) →
+          FitsPart o s0.search from (until_in words) bytes → P (text_of_part o s0.search from (until_in words) bytes) →
+          ForPart words from inputs.told (HasText words from P)
+      text_of n at P fits p =
+          of_data n at (λ x b. FitsPart x s0.search from (until_in words) b
+          × P (text_of_part x s0.search from (until_in words) b)) (fits, p) (HasText words from P)
+          (λ w begins ends q. (
+            record { finds = record { begins = begins; whole = ends; total = q.0.1 }; within = q.0.0 },
+            q.1,
+          ))
+
+      -- the whole text, or its front, or no text
+      done : (before after : SinkSeen) → FitsPart o s0.search from (until_in words) bytes →
+          WroteAll (text_of_part o s0.search from (until_in words) bytes) before after →
+          Ends words inputs is_calm before after None (Some blocks)
+      done before after fits wrote =
+          let late_one : Contains (0 ∷ 9 ∷ 10 ∷ 13 ∷ []) 0 = (0, lit< tt, refl) in
+          record {
+            from = from;
+            accepted = λ later. goes;
+            known = (0, lit< tt, refl);
+            written = record {
+              text = λ e. text_of 0 late_one (λ text. WroteAll text before after) fits wrote;
+              front = λ e. absurd (omega (arith, e));
+              failed = λ e. absurd (omega (arith, e));
+              quiet = λ e. wrote.faults;
+              untouched = λ e. absurd (e refl);
+            };
+            run = (late 0 late_one).0;
+            too_many = λ e. absurd (omega (arith, e));
+            said = tt;
+          }
+
+      broken_off : (before after : SinkSeen) → FitsPart o s0.search from (until_in words) bytes →
+          WroteFront (text_of_part o s0.search from (until_in words) bytes) before after →
+          Ends words inputs is_calm before after (Some (Run SinkFault)) (Some blocks)
+      broken_off before after fits wrote =
+          let late_one : Contains (0 ∷ 9 ∷ 10 ∷ 13 ∷ []) 10 = (2, lit< tt, refl) in
+          record {
+            from = from;
+            accepted = λ later. goes;
+            known = (9, lit< tt, refl);
+            written = record {
+              text = λ e. absurd (omega (arith, e));
+              front = λ e. text_of 10 late_one (λ text. WroteFront text before after) fits wrote;
+              failed = λ e. wrote.rose;
+              quiet = λ e. absurd (e refl);
+              untouched = λ e f. absurd (f refl);
+            };
+            run = (late 10 late_one).0;
+            too_many = λ e. absurd (omega (arith, e));
+            said = (tt, λ s files says are. tt);
+          }
+
+      crowded : (before after : SinkSeen) (count limit : ℕ) → from.place ≤ spectra_of o bytes →
+          count_of o s0.search from (until_in words) bytes ≡ count → limit ≡ s0.search.max_candidates →
+          limit < count → after ≡ before →
+          Ends words inputs is_calm before after (Some (Run (TooMany count limit))) (Some blocks)
+      crowded before after count limit within total most many same =
+          let late_one : Contains (0 ∷ 9 ∷ 10 ∷ 13 ∷ []) 9 = (1, lit< tt, refl) in
+          let more : s0.search.max_candidates < count_of o s0.search from (until_in words) bytes =
+          omega (arith, total, most, many) in
+          record {
+            from = from;
+            accepted = λ later. goes;
+            known = (8, lit< tt, refl);
+            written = none_written words from inputs.told 9 before after (λ e. omega (arith, e))
+                (λ e. omega (arith, e)) same;
+            run = (late 9 late_one).0;
+            too_many = λ e. of_data 9 late_one (λ x b. (from.place ≤ spectra_of x b)
+                × (s0.search.max_candidates < count_of x s0.search from (until_in words) b)) (within, more)
+                (IsCrowded words from) (λ w begins ends q. record {
+                  finds = record { begins = begins; whole = ends; total = q.1 };
+                  within = q.0;
+                });
+            said = (
+              tt,
+              of_data 9 late_one (λ x b. (count_of x s0.search from (until_in words) b ≡ count)
+                  × (limit ≡ s0.search.max_candidates) × (limit < count)) (total, most, many)
+                  (λ s w. FindsAlone (part_search words from) s w (IsTooMany s count limit))
+                  (λ w begins ends q. record { begins = begins; whole = ends; total = q }),
+            );
+          }
+
+      behind : (before after : SinkSeen) (place spectra : ℕ) → place ≡ from.place → spectra ≡ spectra_of o bytes →
+          spectra < place → after ≡ before →
+          Ends words inputs is_calm before after (Some (Refused (Beyond place spectra))) (Some blocks)
+      behind before after place spectra at_place has less same =
+          let late_one : Contains (0 ∷ 9 ∷ 10 ∷ 13 ∷ []) 13 = (3, lit< tt, refl) in
+          at_refusal from (Some blocks) (Beyond place spectra) before after (late 13 late_one).0 (
+            refl,
+            at_place,
+            less,
+            goes,
+            of_data 13 late_one (λ x b. spectra ≡ spectra_of x b) has
+                (λ s w. FindsAlone (part_search words from) s w (λ total. spectra ≡ spectra_in w))
+                (λ w begins ends q. record { begins = begins; whole = ends; total = q }),
+          ) same
+
+      at_text : (before after : SinkSeen) (stop : Option PartStop) →
+          EndsText o s0.search from (until_in words) bytes before after stop →
+          Ends words inputs is_calm before after stop (Some blocks)
+      at_text before after None (fits, wrote) = done before after fits wrote
+      at_text before after (Some (Run SinkFault)) (fits, wrote) = broken_off before after fits wrote
+      at_text before after (Some (Run (TooMany count limit))) (within, total, most, many, same) =
+          crowded before after count limit within total most many same
+      at_text before after (Some (Refused (Beyond place spectra))) (at, has, less, same) =
+          behind before after place spectra at has less same
+      at_text before after (Some (Refused Form)) e = absurd e
+      at_text before after (Some (Refused (Place place until))) e = absurd e
+      at_text before after (Some (Run Words)) e = absurd e
+      at_text before after (Some (Run (Value opt))) e = absurd e
+      at_text before after (Some (Run (Header file cause))) e = absurd e
+      at_text before after (Some (Run (Plan cause))) e = absurd e
+      at_text before after (Some (Run (Recording cause))) e = absurd e
+      at_text before after (Some (Run Memory)) e = absurd e
+      at_text before after (Some (Run ReadFault)) e = absurd e
+      at_text before after (Some (Run (Gap file expected found))) e = absurd e
+      at_text before after (Some (Run (TooLong limit))) e = absurd e
+      at_text before after (Some (Run FileFault)) e = absurd e
+
+    -- all data were sealed where the feeder has no stop
+    whole_is : (e : FeedEnd) → stop_of_feed e ≡ None → (count : ℕ) × (e ≡ feed.Whole count)
+    whole_is (feed.Whole count) is = (count, refl)
+    whole_is feed.ReadFault is = absurd cc
+    whole_is (feed.BadHeader file cause) is = absurd cc
+    whole_is (feed.Gap file expected found) is = absurd cc
+    whole_is (feed.TooLong limit) is = absurd cc
+
+    -- what is known once all data were sealed
+    pub record IsFound (before after : SinkSeen) (stop : Option PartStop) : Type 0 where
+      pub observation : Observation
+      pub bytes : List ℕ
+      pub known : (files : List (List ℕ)) → AreTold inputs.told s0.names files →
+          (observation ≡ first_observation (stream_for s0 files) 0)
+          × (bytes ≡ transfer_data (stream_for s0 files) 0)
+      pub ended : EndsFed (stop_of_feed end) observation s0.search from (until_in words) bytes before after stop
+
+    pub after_session : AloneAtFeedStop Calm → AloneAfterWhole Calm → (before after : SinkSeen)
+        (stop : Option PartStop) →
+        IfSome (stop_of_feed end) (λ fed. (stop ≡ Some (Run fed)) × (after ≡ before)) →
+        ((count : ℕ) → end ≡ feed.Whole count → IsFound before after stop) → (fed : Option Stop) →
+        stop_of_feed end ≡ fed → Ends words inputs is_calm before after stop (Some blocks)
+    after_session stops wholes before after stop stopped found (Some fed) is =
+        let e = stops 13 (part_search words from) words s0 inputs blocks end fed through is in
+        let two = subst (λ (x : Option Stop). IfSome x (λ f. (stop ≡ Some (Run f)) × (after ≡ before))) is stopped in
+        subst (λ (x : Option PartStop). Ends words inputs is_calm before after x (Some blocks)) (sym two.0)
+        (at_stop from (Some blocks) fed before after e (λ later. goes) two.1)
+    after_session stops wholes before after stop stopped found None is =
+        let w = whole_is end is in
+        let f = found w.0 w.1 in
+        at_text wholes is f.observation f.bytes f.known before after stop
+        (subst (λ (x : Option Stop). EndsFed x f.observation s0.search from (until_in words) f.bytes before after stop)
+        is f.ended)
+
+-- ---- want of memory is none of the ends of a session
+
+pub never_memory : (end : FeedEnd) (stop : Option PartStop) (o : Observation) (s : Search) (from : Checkpoint) (until : ℕ) (before after : SinkSeen) →
+    IfSome (stop_of_feed end) (λ fed. (stop ≡ Some (Run fed)) × (after ≡ before)) →
+    ((count : ℕ) → end ≡ feed.Whole count → (bytes : List ℕ)
+    × EndsFed (stop_of_feed end) o s from until bytes before after stop) → stop ≡ Some (Run Memory) → ⊥
+never_memory (feed.Whole count) stop o s from until before after stopped ended is =
+    let e = ended count refl in
+    subst (λ (x : Option PartStop). EndsText o s from until e.0 before after x) is e.1
+never_memory feed.ReadFault stop o s from until before after stopped ended is = let e = stopped.0 in absurd cc
+never_memory (feed.BadHeader file cause) stop o s from until before after stopped ended is =
+    let e = stopped.0 in absurd cc
+never_memory (feed.Gap file expected found) stop o s from until before after stopped ended is =
+    let e = stopped.0 in absurd cc
+never_memory (feed.TooLong limit) stop o s from until before after stopped ended is =
+    let e = stopped.0 in absurd cc
+
+-- ---- with the notes
+
+pub outcome : (words : List (List ℕ)) (inputs : InputsSeen) (is_calm : Type 0)
+    (out_before out_after notes_before notes_after : SinkSeen) (stop : Option PartStop) (blocks : Option Finished)
+    (status : ℕ) → Ends words inputs is_calm out_before out_after stop blocks → status ≡ end_status stop →
+    ((from : Checkpoint) → IsPartSaid words from inputs.told blocks stop →
+    TellsPart words from inputs.told blocks notes_before notes_after status) →
+    Outcome words inputs is_calm out_before out_after notes_before notes_after
+    (record { status = status; blocks = blocks })
+outcome words inputs is_calm out_before out_after notes_before notes_after stop blocks status e is noted =
+    record {
+      from = e.from;
+      accepted = λ later. e.accepted (subst (λ n. Contains later_statuses n) is later);
+      known = subst (λ n. Contains statuses n) (sym is) e.known;
+      written = subst (λ n. WritesPart words e.from inputs.told out_before out_after n) (sym is) e.written;
+      run = subst (λ n. RunsAlone 13 (part_search words e.from) words inputs
+          (is_calm × HoldsAll inputs.told (check_names words)) blocks n) (sym is) e.run;
+      too_many = λ nine. e.too_many (sym is ∙ nine);
+      noted = noted e.from e.said;
+    }

@@ -1,0 +1,232 @@
+-- A run of the search of a part: CHECK is read, and then the search is driven.
+use Rattle.std.proofs.Common.{◌≡◌, ◌≢◌, ℕ, ◌<◌, ◌≤◌, List, Option, Some, None, Result, Ok, Err, refl, sym, ap, ◌∙◌, subst}
+use Rattle.std.specs.Prelude.{IsSome, IfSome}
+use Rattle.std.specs.Option.{ForSome}
+use Rattle.dada_model.specs.Observation.{Observation}
+use Rattle.psr_base.specs.Inputs.{HasReadFrom}
+use Rattle.psr_base.specs.Told.{Told, InputsSeen, OfFile}
+use Rattle.psr_base.specs.Written.{SinkSeen}
+use Rattle.search_words.specs.Settings.{SettingsSeen, AllInRange}
+use Rattle.ring_ends.specs.declared.finished.Finished.{Finished}
+use Rattle.stream_model.specs.Walk.{transfer_data}
+use Rattle.disk_feeder.specs.declared.answers.FeedEnd.TheVariants as feed
+use Rattle.disk_feeder.specs.Filling.{HoldsAll}
+use Rattle.search_engine.specs.Scope.{Scope}
+use Rattle.search_engine.specs.Engine.{EngineState, HasFoundIn}
+use Rattle.warm_restart.specs.declared.checkpoint.Checkpoint.{Checkpoint}
+use Rattle.warm_restart.specs.declared.checkpoint.CheckpointFault.{CheckpointFault}
+use Rattle.warm_restart.specs.declared.checkpoint.CheckpointFault.TheVariants as check
+use Rattle.warm_restart.specs.Checkpoint.{IsJudged, CanBeSaid}
+use Rattle.warm_restart.specs.Counts.{greatest_count}
+use Rattle.warm_restart.specs.Named.{most_read, named_text, new_word, ReadsAtMost}
+use Rattle.search_model.specs.declared.search.Search.{Search}
+use Rattle.warm_restart.specs.declared.warm.Warm.{Warm}
+use Rattle.warm_restart.specs.Warm.{IsPart, IsWarmOf, SearchedPart, part_scope}
+use Rattle.run_stop.specs.declared.stop.Stop.{Stop}
+use Rattle.run_stop.specs.declared.stop.Stop.TheVariants.{Memory, ReadFault}
+use Rattle.run_stop.specs.Conversions.{stop_of_feed}
+use Rattle.run_stop.specs.Lone.{SayAlone}
+use Rattle.run_stop.specs.Runs.{first_observation}
+use Rattle.run_stop.specs.Ends.{StopsBefore, WordsSayOnce, IsRunFed}
+use Rattle.run_stop.specs.Outcomes.{AllCleared}
+use Rattle.whole_run.specs.Wholes.{OfRun}
+use Rattle.lone_run.specs.declared.found.LoneFound.{LoneFound}
+use Rattle.lone_run.specs.declared.stop.LoneStop.{LoneStop}
+use Rattle.lone_run.specs.declared.stop.LoneStop.TheVariants as lone
+use Rattle.lone_run.specs.Stops.{FailsReading, StopsAlone}
+use Rattle.lone_run.specs.Found.{HasFoundAll, IsFoundAlone}
+use Rattle.lone_run.specs.EndLaws.{AloneBeforeSession, AloneAtOwnStop, AloneAtFeedStop, AloneAfterWhole}
+use Rattle.psr_part.specs.declared.stop.PartStop.{PartStop}
+use Rattle.psr_part.specs.declared.stop.PartStop.TheVariants.{Run}
+use Rattle.psr_part.specs.Texts.{stop_of_checkpoint}
+use Rattle.psr_part.specs.Part.{until_in, check_word, check_names, GoesOnFrom, part_search, searching}
+use Rattle.psr_part.specs.Outcome.{ReadsCheck}
+use Rattle.psr_part.specs.Ends.{EndsFed, Ends}
+use Rattle.psr_part.proofs.Moved.{of_run, stops_before, is_run_fed, counts_through, counts_failed, counts_none, check_held}
+use Rattle.psr_part.proofs.Endings.{at_stop, at_checkpoint, after_session}
+
+abbrev fails_so : {F : Type 0} → LoneStop F → Result LoneFound (LoneStop F)
+fails_so stop = Err stop
+
+abbrev fails : CheckpointFault → Result Checkpoint CheckpointFault
+fails f = Err f
+
+-- a checkpoint that was read is no fault
+pub never : (from : Checkpoint) → Ok from ≡ fails check.Failed → ⊥
+never from e = cc
+
+-- an accepted checkpoint is the one that CHECK says
+pub goes_on : (told : Told) (words : List (List ℕ)) (word : List ℕ) (until : ℕ) (from : Checkpoint) →
+    word ≡ check_word words → until ≡ until_in words → from.place < until →
+    (Ok from ≢ Err check.Failed → ForSome (named_text told word) (λ text. IsJudged text until (Ok from))) →
+    GoesOnFrom told words from
+goes_on told words word until from is same before judged = record {
+  text = λ text named.
+      (((judged (λ e. absurd cc) text
+      (subst (λ (x : List ℕ). named_text told x ≡ Some text) (sym is) named)).accepted from).0 refl).0;
+  before = subst (λ (n : ℕ). from.place < n) same before;
+}
+
+-- CHECK was read
+pub reads_check : {I : Type 0} (told : I → Told) (words : List (List ℕ)) (word : List ℕ) (old new : I) →
+    word ≡ check_word words → (word ≡ new_word → new ≡ old) →
+    OfFile (told old) word (λ _. ReadsAtMost most_read word (told old) (told new)) →
+    ReadsCheck words (told old) (told new)
+reads_check told words word old new is none few =
+    subst (λ (x : List ℕ). (x ≡ new_word → told new ≡ told old)
+    × OfFile (told old) x (λ _. ReadsAtMost most_read x (told old) (told new))
+    → ReadsCheck words (told old) (told new)) (sym is)
+    (λ both. record { new = both.0; named = both.1 })
+    ((λ e. ap told (none e)), few)
+
+-- the scope of a part
+pub scope_is : (o : Observation) (s : Search) (scope : Scope) (p u place until : ℕ) → scope ≡ part_scope o s p u →
+    p ≡ place → u ≡ until → scope ≡ part_scope o s place until
+scope_is o s scope p u place until is a b =
+    is ∙ (ap (λ (n : ℕ). part_scope o s n u) a ∙ ap (λ (n : ℕ). part_scope o s place n) b)
+
+-- the engine has searched the part
+pub searched_part : (s : SettingsSeen) (told : Told) (found : LoneFound) (scope : Scope) (from : Checkpoint)
+    (until : ℕ) → AllInRange s → s.search.fold_max < s.search.fold_min → IsPart from until →
+    scope ≡ part_scope found.observation s.search from.place until → (all : HasFoundAll s told scope found) →
+    SearchedPart found.observation s.search from until all.bytes found.engine
+searched_part s told found scope from until range unfolded part is all = record {
+  range = range.search;
+  unfolded = unfolded;
+  part = part;
+  search = all.search_is;
+  shard = all.shard_is;
+  scope = all.scope_is ∙ is;
+  found = subst (λ (x : Scope). HasFoundIn found.observation x all.bytes found.engine) is all.searched;
+}
+
+-- what was searched, and that it is the part in all data of the files
+pub part_found : (s : SettingsSeen) (told : Told) (found : LoneFound) (from : Checkpoint) (until p u : ℕ) →
+    CanBeSaid from × (from.place < until) → until ≤ greatest_count → s.search.fold_max < s.search.fold_min →
+    AllInRange s → p ≡ from.place → u ≡ until →
+    IsFoundAlone (λ o x scope. scope ≡ part_scope o x p u) s told found → (count : ℕ) →
+    found.feed ≡ feed.Whole count →
+    (bytes : List ℕ) × OfRun told s (λ w. bytes ≡ transfer_data w 0)
+    × SearchedPart found.observation s.search from until bytes found.engine
+part_found s told found from until p u within bound unfolded range a b is count whole =
+    let held = is.held count whole in (
+      held.bytes,
+      held.known,
+      searched_part s told found is.scope from until range unfolded
+          (record { before = within.1; until_bound = bound; pulses_bound = within.0.pulses })
+          (scope_is found.observation s.search is.scope p u from.place until is.scoped a b) held,
+    )
+
+-- want of memory before the session
+pub is_memory : {F : Type 0} (x : LoneStop F) (stop : Stop) → x ≡ lone.Run stop →
+    Some (Run stop) ≡ Some (Run Memory) → fails_so x ≡ fails_so (lone.Run Memory)
+is_memory x stop is same = let e : stop ≡ Memory = cc in ap fails_so (is ∙ ap lone.Run e)
+
+pub with_blocks : (words : List (List ℕ)) (inputs : InputsSeen) (is_calm : Type 0) (before after : SinkSeen)
+    (stop : Option PartStop) (blocks : Finished) (all : Option Finished) → all ≡ Some blocks →
+    Ends words inputs is_calm before after stop (Some blocks) → Ends words inputs is_calm before after stop all
+with_blocks words inputs is_calm before after stop blocks all is ends =
+    subst (λ (x : Option Finished). Ends words inputs is_calm before after stop x) (sym is) ends
+
+-- an end speaks of the search that the engine was made for
+pub ends_for : (fed : Option Stop) (o : Observation) (w : Warm) (s : Search) (from : Checkpoint) (until : ℕ)
+    (e : EngineState) (bytes : List ℕ) (before after : SinkSeen) (stop : Option PartStop) → IsWarmOf s from until e w →
+    EndsFed fed o w.search w.checkpoint w.until bytes before after stop →
+    EndsFed fed o s from until bytes before after stop
+ends_for fed o w s from until e bytes before after stop is ended =
+    subst (λ (x : Search). EndsFed fed o x from until bytes before after stop) is.search_is
+    (subst (λ (x : Checkpoint). EndsFed fed o w.search x until bytes before after stop) is.checkpoint_is
+    (subst (λ (x : ℕ). EndsFed fed o w.search w.checkpoint x bytes before after stop) is.until_is ended))
+
+module _ {I : Type 0} (told : I → Told) (is_calm : I → Type 0) (faults : I → ℕ) (words : List (List ℕ)) (old : I) where
+  abbrev seen : I → InputsSeen
+  seen new = record { told = told old; faults_before = faults old; faults_after = faults new }
+
+  abbrev Calm : Type 0
+  Calm = is_calm old × HoldsAll (told old) (check_names words)
+
+  -- no checkpoint was read
+  pub where_refused : (new : I) (s : SettingsSeen) (word : List ℕ) (until : ℕ) → word ≡ check_word words →
+      until ≡ until_in words → ((from : Checkpoint) → SayAlone (part_search words from) words s) →
+      (fault : CheckpointFault) →
+      (fails fault ≢ fails check.Failed →
+      ForSome (named_text (told old) word) (λ text. IsJudged text until (fails fault))) →
+      ((place limit : ℕ) → fails fault ≡ fails (check.Place place limit) →
+      (until ≡ limit) × (until ≤ place)) →
+      HasReadFrom told is_calm faults (fails fault ≡ fails check.Failed) old new →
+      (is_calm old → IsSome (named_text (told old) word) → fails fault ≢ fails check.Failed) →
+      AloneBeforeSession Calm → AloneAtOwnStop Calm → (stop : PartStop) → stop ≡ stop_of_checkpoint fault →
+      (out : SinkSeen) → Ends words (seen new) (is_calm old) out out (Some stop) None
+  where_refused new s word until is same says fault judged late read serves before own stop stopped out =
+      at_checkpoint words (seen new) (is_calm old) before own s until same says fault
+      (λ failed. counts_failed told is_calm faults _ old new s.names Calm read (ap fails failed)
+      (λ calm. serves calm.0 (subst (λ (x : List ℕ). IsSome (named_text (told old) x)) (sym is)
+      (check_held (told old) words calm.1)) (ap fails failed)))
+      (λ not. counts_none told is_calm faults _ old new s.names Calm read (λ e. not (inner fault check.Failed e)))
+      (λ not. subst (λ (x : List ℕ). ForSome (named_text (told old) x) (λ text. IsJudged text until (fails fault))) is
+      (judged (λ e. not (inner fault check.Failed e))))
+      (λ place limit e. late place limit (ap fails e)) stop stopped out
+    where
+      inner : (a b : CheckpointFault) → fails a ≡ fails b → a ≡ b
+      inner a b e = cc
+
+  -- one was, without a fault
+  module _ (mid new : I) (First : Type 0) (s : SettingsSeen) (from : Checkpoint)
+      (goes : GoesOnFrom (told old) words from) (says : SayAlone (part_search words from) words s)
+      (first : HasReadFrom told is_calm faults First old mid) (not : First → ⊥) where
+    -- and the search was stopped before its session
+    pub where_stopped : (stop : Stop) → HasReadFrom told is_calm faults (stop ≡ ReadFault) mid new →
+        (is_calm mid → HoldsAll (told mid) s.names → stop ≡ ReadFault → ⊥) →
+        StopsBefore (searching words from) words (told mid) stop → AloneBeforeSession Calm → (out : SinkSeen) →
+        Ends words (seen new) (is_calm old) out out (Some (Run stop)) None
+    where_stopped stop more serves stops law out =
+        at_stop words (seen new) (is_calm old) from None stop out out
+        (law 13 (part_search words from) words s (seen new) stop says
+        (stops_before (searching words from) words (told old) (told mid) stop first.names stops)
+        (counts_through told is_calm faults First (stop ≡ ReadFault) old mid new s.names (check_names words) first not
+        more serves)) (λ later. goes) refl
+
+    pub where_lone : {F : Type 0} (scopes : Observation → Search → Scope → Type 0) (refuses : Observation → F → Type 0)
+        (x : LoneStop F) (stop : Stop) → x ≡ lone.Run stop →
+        HasReadFrom told is_calm faults (FailsReading (fails_so x)) mid new →
+        (is_calm mid → HoldsAll (told mid) s.names → FailsReading (fails_so x) → ⊥) →
+        StopsAlone scopes refuses (part_search words from) words (told mid) x → AloneBeforeSession Calm →
+        (out : SinkSeen) → Ends words (seen new) (is_calm old) out out (Some (Run stop)) None
+    where_lone {F} scopes refuses x stop is more serves stops law out =
+        where_stopped stop
+        (subst (λ (y : LoneStop F). HasReadFrom told is_calm faults (FailsReading (fails_so y)) mid new) is more)
+        (subst (λ (y : LoneStop F). is_calm mid → HoldsAll (told mid) s.names → FailsReading (fails_so y) → ⊥) is
+        serves)
+        (subst (λ (y : LoneStop F). StopsAlone scopes refuses (part_search words from) words (told mid) y) is stops).0
+        law out
+
+    -- or its session went through
+    pub where_driven : (found : LoneFound) → HasReadFrom told is_calm faults (found.feed ≡ feed.ReadFault) mid new →
+        (is_calm mid → HoldsAll (told mid) s.names → found.feed ≡ feed.ReadFault → ⊥) →
+        IsRunFed (searching words from) words (told mid) found.blocks found.feed → AllCleared found.blocks 0 1 →
+        OfRun (told mid) s (λ w. first_observation w 0 ≡ found.observation) → WordsSayOnce →
+        AloneAtFeedStop Calm → AloneAfterWhole Calm → (before after : SinkSeen) (stop : Option PartStop) →
+        IfSome (stop_of_feed found.feed) (λ fed. (stop ≡ Some (Run fed)) × (after ≡ before)) →
+        (until : ℕ) → until ≡ until_in words →
+        ((count : ℕ) → found.feed ≡ feed.Whole count → (bytes : List ℕ)
+        × OfRun (told mid) s (λ w. bytes ≡ transfer_data w 0)
+        × EndsFed (stop_of_feed found.feed) found.observation s.search from until bytes before after stop) →
+        Ends words (seen new) (is_calm old) before after stop (Some found.blocks)
+    where_driven found more serves fed cleared observed once stops wholes before after stop stopped until same ended =
+        after_session words (seen new) (is_calm old) from once s found.blocks found.feed (record {
+          says = says;
+          fed = is_run_fed (searching words from) words (told old) (told mid) found.blocks found.feed first.names fed;
+          read = counts_through told is_calm faults First (found.feed ≡ feed.ReadFault) old mid new s.names
+              (check_names words) first not more serves;
+          cleared = cleared;
+        }) goes stops wholes before after stop stopped (λ count is. let e = ended count is in record {
+          observation = found.observation;
+          bytes = e.0;
+          known = λ files are. (
+            sym (of_run s (told old) (told mid) (λ w. first_observation w 0 ≡ found.observation) first.names observed
+                files are),
+            of_run s (told old) (told mid) (λ w. e.0 ≡ transfer_data w 0) first.names e.1 files are,
+          );
+          ended = subst (λ (n : ℕ). EndsFed (stop_of_feed found.feed) found.observation s.search from n e.0 before
+              after stop) same e.2;
+        }) (stop_of_feed found.feed) refl

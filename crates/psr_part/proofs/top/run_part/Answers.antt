@@ -1,0 +1,7 @@
+use Rattle.psr_part.proofs.Endings.{outcome}
+use Rattle.psr_part.proofs.top.run_part.Goals as goal
+
+pub returns-clause-outcome : goal.returns-clause-outcome
+returns-clause-outcome g c =
+    outcome _ _ _ _ _ _ _ _ _ c.tell_part-status.result c.search-stop.ensures.ends c.tell_part-status.ensures.status
+    (λ from said. c.tell_part-status.ensures.told _ from _ _ said)

@@ -1,0 +1,55 @@
+// Laws of the outcome, which the contracts of functions that do nothing carry. A caller whose proof needs a law calls
+// its function.
+ghost use Rattle.psr_part.specs.Causes.{AcceptedIsSearched, CausesAreAnswered, ToldRoomIsEnough};
+ghost use Rattle.psr_part.specs.Joins.{PartsAreJoined};
+ghost use Rattle.psr_part.specs.Sample.{SampleIsFound};
+
+use psr_base::Inputs;
+// Laws: they do nothing when they run, and the proofs use what they ensure.
+use run_stop::{accepted_goes_on, accepted_is_not_refused};
+use warm_restart::{lines_are_read_back, part_texts_join, texts_say_one};
+
+/// Words, a checkpoint, headers and data that are accepted are searched, or there is no memory, where neither the
+/// inputs nor the output count a fault.
+pub fn accepted_is_searched<I: Inputs>()
+    ensures { (inputs : I) → AcceptedIsSearched (I.is_calm inputs) }
+{
+    texts_say_one();
+    accepted_goes_on::<I>();
+}
+
+/// What stands against a search whose words are accepted is answered, over inputs that are calm and hold all files, or
+/// that count no fault: a checkpoint that is refused by 13; from one that is accepted, a refused first header by 3, a
+/// refused search by 4, the stop of the walk of the files by its status, a place behind all data by 13, and too many
+/// pulses by 9; or there is no memory.
+pub fn causes_are_answered<I: Inputs>()
+    ensures { (inputs : I) → CausesAreAnswered (I.is_calm inputs) }
+{
+    texts_say_one();
+    accepted_is_not_refused();
+}
+
+/// Where the files are told that are read, 10 never comes over an output that told enough room for the text.
+pub fn told_room_is_enough<I: Inputs>()
+    ensures { (inputs : I) → ToldRoomIsEnough (I.is_calm inputs) }
+{
+    texts_say_one();
+}
+
+/// The lines of a part from the first spectrum on, and then the text of the part from its CHECK line on, are the text
+/// of the whole search.
+pub fn parts_are_joined<I: Inputs>()
+    ensures { (inputs : I) → PartsAreJoined (I.is_calm inputs) }
+{
+    texts_say_one();
+    lines_are_read_back();
+    part_texts_join();
+}
+
+/// The sample of this crate is found: a search of it that ends with status 0 has written its two lines.
+pub fn sample_is_found<I: Inputs>()
+    ensures { (inputs : I) → SampleIsFound (I.is_calm inputs) }
+{
+    texts_say_one();
+    lines_are_read_back();
+}

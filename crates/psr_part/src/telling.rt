@@ -1,0 +1,30 @@
+// How the user is told.
+ghost use Rattle.std.specs.Prelude.{◌≡◌, ℕ, List, Option};
+ghost use Rattle.psr_base.specs.Told.{Told};
+ghost use Rattle.ring_ends.specs.declared.finished.Finished.{Finished};
+ghost use Rattle.warm_restart.specs.declared.checkpoint.Checkpoint.{Checkpoint};
+ghost use Rattle.psr_part.specs.Texts.{end_status};
+ghost use Rattle.psr_part.specs.Outcome.{TellsPart};
+ghost use Rattle.psr_part.specs.Ends.{IsPartSaid};
+
+use crate::stop::PartStop;
+use psr_base::Sink;
+use run_stop::{tell, tell_line};
+
+/// Tells why the search of a part stopped, by a line to the notes, and answers the exit status. Where it came to no
+/// stop that is 0, and the notes take nothing. A fault of the notes changes nothing.
+pub(crate) fn tell_part<E: Sink>(stop: Option<PartStop>, notes: &mut E) -> u8
+    ensures status { result ≡ end_status stop }
+    ensures told { (words : List (List ℕ)) (from : Checkpoint) (told : Told)
+        (blocks : Option Finished) → IsPartSaid words from told blocks stop
+        → TellsPart words from told blocks (E.seen notes.old) (E.seen notes.new) result }
+{
+    match stop {
+        Some(PartStop::Refused(refusal)) => {
+            tell_line(&refusal.note(), notes);
+            13
+        }
+        Some(PartStop::Run(stop)) => tell(Some(stop), notes),
+        None => tell(None, notes),
+    }
+}
