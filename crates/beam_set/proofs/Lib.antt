@@ -1,3 +1,9 @@
 mod Rising
 mod Placed
 mod Found
+mod Headers
+mod Opened
+mod Pairing
+mod Turned
+mod Closing
+mod Answering

@@ -5,3 +5,7 @@ pub mod Ends
 pub mod Beams
 pub mod Worked
 pub mod Laws
+pub mod Later
+pub mod Beam
+pub mod Answers
+pub mod Sets

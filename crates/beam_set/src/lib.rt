@@ -1,15 +1,23 @@
-//! Several beams: which of their pulses are taken for interference, and the text of what they found.
+//! Several beams: they are searched beside each other, each over its own inputs; which of their pulses are taken for
+//! interference; and the text of what they found.
 #![tactic(auto)]
 
+mod beam;
 mod ended;
 mod labels;
 mod laws;
 mod marks;
 mod near;
+mod rounds;
+mod set;
+mod space;
 mod texts;
 
+pub use beam::Beam;
 pub use candidate_book::SinkStop;
 pub use ended::BeamEnd;
-pub use laws::searched_beams_are_found;
+pub use laws::{later_headers_agree, searched_beams_are_found};
 pub use marks::marked;
+pub use set::run_set;
+pub use space::BeamSpace;
 pub use texts::write_beams;

@@ -1,0 +1,146 @@
+-- Pairs of two lists, of which each is the join of two.
+use Rattle.std.proofs.Common.{◌≡◌, ℕ, ◌+◌, ◌-◌, ◌<◌, ◌≤◌, List, ◌++◌, length, get_or, inl, inr, refl, sym, ap, ◌∙◌, subst, arith}
+use Rattle.std.proofs.lemmas.Bool.{cases_lt}
+use Rattle.std.proofs.lemmas.List.{get_or_append_left, get_or-append_right, length-append}
+use Rattle.beam_set.specs.Sets.{EachPair, PairsMoved}
+
+-- the elements of a join
+module _ {A : Type 0} (xs zs : List A) where
+  pub left_at : (k : ℕ) (d : A) → k < length xs → get_or (xs ++ zs) k d ≡ get_or xs k d
+  left_at k d near = get_or_append_left xs zs d k near
+
+  pub right_at : (k : ℕ) (d : A) (n : ℕ) → length xs ≡ n → n ≤ k → get_or (xs ++ zs) k d ≡ get_or zs (k - n) d
+  right_at k d n is far = get_or-append_right xs zs n k d is far
+
+  pub right_from : (k : ℕ) (d : A) (n : ℕ) → length xs ≡ n → get_or zs k d ≡ get_or (xs ++ zs) (n + k) d
+  right_from k d n is =
+      let back : n + k - n ≡ k = omega arith in
+      ap (λ (j : ℕ). get_or zs j d) (sym back) ∙ sym (right_at (n + k) d n is (omega arith))
+
+module _ {A B : Type 0} (P : A → B → Type 0) (xs zs : List A) (us vs : List B) (same : length us ≡ length xs) where
+  pub pairs_left : EachPair P (xs ++ zs) (us ++ vs) → EachPair P xs us
+  pairs_left pairs = record {
+    count = omega (arith, same);
+    each = λ k x u near.
+        subst (λ (w : B). P (get_or xs k x) w) (left_at us vs k u (omega (arith, same)))
+        (subst (λ (z : A). P z (get_or (us ++ vs) k u)) (left_at xs zs k x near)
+        (pairs.each k x u (omega (arith, length-append xs zs))));
+  }
+
+  pub pairs_right : EachPair P (xs ++ zs) (us ++ vs) → EachPair P zs vs
+  pairs_right pairs =
+      let all = pairs.count in
+      record {
+        count = omega (arith, all, same, length-append xs zs, length-append us vs);
+        each = λ k z v near.
+            subst (λ (w : B). P (get_or zs k z) w) (sym (right_from us vs k v (length xs) same))
+            (subst (λ (y : A). P y (get_or (us ++ vs) (length xs + k) v)) (sym (right_from xs zs k z (length xs) refl))
+            (pairs.each (length xs + k) z v (omega (arith, length-append xs zs))));
+      }
+
+  pub pairs_join : EachPair P xs us → EachPair P zs vs → EachPair P (xs ++ zs) (us ++ vs)
+  pairs_join left right =
+      let less = right.count in
+      record {
+        count = omega (arith, less, same, length-append xs zs, length-append us vs);
+        each = λ k z v near. elim (cases_lt k (length xs)) [
+          | inl below ↦
+              subst (λ (w : B). P (get_or (xs ++ zs) k z) w) (sym (left_at us vs k v (omega (arith, same))))
+              (subst (λ (y : A). P y (get_or us k v)) (sym (left_at xs zs k z below)) (left.each k z v below))
+          | inr above ↦
+              subst (λ (w : B). P (get_or (xs ++ zs) k z) w) (sym (right_at us vs k v (length xs) same above))
+              (subst (λ (y : A). P y (get_or vs (k - length xs) v)) (sym (right_at xs zs k z (length xs) refl above))
+              (right.each (k - length xs) z v (omega (arith, length-append xs zs))))
+        ];
+      }
+
+-- ---- moves
+
+module _ {A B : Type 0} (R : B → A → B → A → Type 0) (xs zs xs' zs' : List A) (us vs us' vs' : List B)
+    (same : length us ≡ length xs) (left : PairsMoved R us xs us' xs') (right : PairsMoved R vs zs vs' zs') where
+  lent_left : length us' ≡ length xs
+  lent_left = left.lent ∙ same
+
+  lent_all : length (us' ++ vs') ≡ length (us ++ vs)
+  lent_all =
+      let a = left.lent in
+      let b = right.lent in
+      omega (arith, a, b, length-append us vs, length-append us' vs')
+
+  count_all : length (xs' ++ zs') ≡ length (xs ++ zs)
+  count_all =
+      let a = left.count in
+      let b = right.count in
+      omega (arith, a, b, length-append xs zs, length-append xs' zs')
+
+  pair_left : (k : ℕ) (x : A) (u : B) → k < length xs →
+      R (get_or (us ++ vs) k u) (get_or (xs ++ zs) k x) (get_or (us' ++ vs') k u) (get_or (xs' ++ zs') k x)
+  pair_left k x u below =
+      let a = left.count in
+      let b = left.lent in
+      subst (λ (w : B). R w (get_or (xs ++ zs) k x) (get_or (us' ++ vs') k u) (get_or (xs' ++ zs') k x))
+      (sym (left_at us vs k u (omega (arith, same))))
+      (subst (λ (y : A). R (get_or us k u) y (get_or (us' ++ vs') k u) (get_or (xs' ++ zs') k x))
+      (sym (left_at xs zs k x below))
+      (subst (λ (w : B). R (get_or us k u) (get_or xs k x) w (get_or (xs' ++ zs') k x))
+      (sym (left_at us' vs' k u (omega (arith, same, b))))
+      (subst (λ (y : A). R (get_or us k u) (get_or xs k x) (get_or us' k u) y)
+      (sym (left_at xs' zs' k x (omega (arith, a)))) (left.moved k x u below))))
+
+  pair_right : (k : ℕ) (x : A) (u : B) → length xs ≤ k → k < length (xs ++ zs) →
+      R (get_or (us ++ vs) k u) (get_or (xs ++ zs) k x) (get_or (us' ++ vs') k u) (get_or (xs' ++ zs') k x)
+  pair_right k x u above near =
+      let n = length xs in
+      let j = k - n in
+      subst (λ (w : B). R w (get_or (xs ++ zs) k x) (get_or (us' ++ vs') k u) (get_or (xs' ++ zs') k x))
+      (sym (right_at us vs k u n same above))
+      (subst (λ (y : A). R (get_or vs j u) y (get_or (us' ++ vs') k u) (get_or (xs' ++ zs') k x))
+      (sym (right_at xs zs k x n refl above))
+      (subst (λ (w : B). R (get_or vs j u) (get_or zs j x) w (get_or (xs' ++ zs') k x))
+      (sym (right_at us' vs' k u n lent_left above))
+      (subst (λ (y : A). R (get_or vs j u) (get_or zs j x) (get_or vs' j u) y)
+      (sym (right_at xs' zs' k x n left.count above))
+      (right.moved j x u (omega (arith, length-append xs zs))))))
+
+  pub moved_join : PairsMoved R (us ++ vs) (xs ++ zs) (us' ++ vs') (xs' ++ zs')
+  moved_join = record {
+    count = count_all;
+    lent = lent_all;
+    moved = λ k x u near. elim (cases_lt k (length xs)) [
+      | inl below ↦ pair_left k x u below
+      | inr above ↦ pair_right k x u above near
+    ];
+    others = λ k u far.
+        let above : length xs ≤ k = omega (arith, length-append xs zs) in
+        right_at us' vs' k u (length xs) lent_left above
+        ∙ (right.others (k - length xs) u (omega (arith, length-append xs zs))
+        ∙ sym (right_at us vs k u (length xs) same above));
+  }
+
+-- ---- moves after moves
+
+-- none at all
+pub moved_none : {A B : Type 0} (R : B → A → B → A → Type 0) (P : A → B → Type 0) →
+    ((x : A) (u : B) → P x u → R u x u x) → (xs : List A) (us : List B) → EachPair P xs us → PairsMoved R us xs us xs
+moved_none R P still xs us pairs = record {
+  count = refl;
+  lent = refl;
+  moved = λ k x u near. still (get_or xs k x) (get_or us k u) (pairs.each k x u near);
+  others = λ k u far. refl;
+}
+
+-- one after another
+pub moved_more : {A B : Type 0} (Q R S : B → A → B → A → Type 0) →
+    ((u v w : B) (x y z : A) → Q u x v y → R v y w z → S u x w z) →
+    (xs ys zs : List A) (us vs ws : List B) → PairsMoved Q us xs vs ys → PairsMoved R vs ys ws zs →
+    PairsMoved S us xs ws zs
+moved_more Q R S more xs ys zs us vs ws a b =
+    let count = a.count in
+    record {
+      count = b.count ∙ a.count;
+      lent = b.lent ∙ a.lent;
+      moved = λ k x u near.
+          more (get_or us k u) (get_or vs k u) (get_or ws k u) (get_or xs k x) (get_or ys k x) (get_or zs k x)
+          (a.moved k x u near) (b.moved k x u (omega (arith, count)));
+      others = λ k u far. b.others k u (omega (arith, count)) ∙ a.others k u far;
+    }

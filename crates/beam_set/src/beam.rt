@@ -1,0 +1,103 @@
+// A beam and its turns.
+ghost use Rattle.std.specs.Prelude.{◌≡◌, ◌↔◌, Some, IsTrue};
+ghost use Rattle.psr_base.specs.Told.{Told};
+ghost use Rattle.search_engine.specs.Engine.{EngineState};
+ghost use Rattle.search_session.specs.Lanes.{HasEngine};
+ghost use Rattle.beam_set.specs.Beam.{BeamOn, BeamMoved, HasBeamEnded, HasBeamFile, engines_in};
+ghost use Rattle.beam_set.specs.Answers.{IsBeamEnd};
+
+use crate::ended::BeamEnd;
+use arrayvec::ArrayVec;
+use psr_base::Inputs;
+use search_engine::Engine;
+use search_session::{Gate, Lane, LoneEnd, LoneSession};
+
+/// A beam of a set: its feeder and the reader of its one engine, over rings of its own. It holds no inputs: they are
+/// lent to it at each turn, always the same ones.
+#[derive(Drop)]
+pub struct Beam<'a> {
+    pub(crate) lone: LoneSession<'a>,
+}
+
+// The first engine of a list.
+fn first_of(engines: &mut ArrayVec<Option<Engine>, 8>) -> Engine
+    requires { (e : EngineState) × HasEngine engines.old.items 0 e }
+    ensures { (e : EngineState) → HasEngine engines.old.items 0 e → result ≡ e }
+{
+    let Some(Some(engine)) = engines.pop_at(0) else {
+        unreachable!()
+    };
+    engine
+}
+
+// The first engine of a lane.
+fn engine_of(lane: Lane) -> Engine
+    requires { (e : EngineState) × HasEngine lane.engines.value.items 0 e }
+    ensures { (e : EngineState) → HasEngine lane.engines.value.items 0 e → result ≡ e }
+{
+    let Lane { mut engines } = lane;
+    first_of(&mut engines)
+}
+
+impl<'a> Beam<'a> {
+    /// Takes one turn: the feeder seals one block from the inputs, or finds the ring full, and then the reader takes
+    /// one block, which the engine is fed, each unless it ended. The gate knows the beam by its number. Answers whether
+    /// both ended. It takes no memory, and does not wait.
+    pub fn turn<I: Inputs, G: Gate>(&mut self, inputs: &mut I, gate: &G, number: u32) -> bool
+        requires on { BeamOn (I.told inputs.old) self.old }
+        requires file { HasBeamFile I.is_open inputs.old self.old }
+        ensures on { BeamOn (I.told inputs.new) self.new }
+        ensures file { HasBeamFile I.is_open inputs.new self.new }
+        ensures moved { BeamMoved I.told I.is_calm I.faults 1 inputs.old self.old
+            inputs.new self.new }
+        ensures ended { IsTrue result ↔ HasBeamEnded self.new }
+    {
+        self.lone.turn(inputs, gate, number)
+    }
+
+    /// Takes so many turns, or fewer where both ended.
+    pub(crate) fn drive<I: Inputs, G: Gate>(
+        &mut self,
+        inputs: &mut I,
+        gate: &G,
+        number: u32,
+        turns: u32,
+    )
+        requires on { BeamOn (I.told inputs.old) self.old }
+        requires file { HasBeamFile I.is_open inputs.old self.old }
+        ensures on { BeamOn (I.told inputs.new) self.new }
+        ensures file { HasBeamFile I.is_open inputs.new self.new }
+        ensures moved { BeamMoved I.told I.is_calm I.faults turns inputs.old self.old
+            inputs.new self.new }
+    {
+        self.lone.drive(inputs, gate, number, turns);
+    }
+
+    /// Whether both its feeder and its reader ended.
+    pub fn has_ended(&self) -> bool
+        ensures { IsTrue result ↔ HasBeamEnded self.now }
+    {
+        self.lone.has_ended()
+    }
+
+    /// Ends a beam whose feeder and reader have ended.
+    pub(crate) fn close(self) -> BeamEnd
+        requires on { (told : Told) × BeamOn told self }
+        requires ended { HasBeamEnded self }
+        requires engine { (e : EngineState) × HasEngine (engines_in self) 0 e }
+        ensures { IsBeamEnd self.entry result }
+    {
+        let LoneEnd {
+            feed,
+            lane,
+            blocks: _,
+        } = self.lone.close();
+        let engine = engine_of(lane);
+        let spectra = engine.spectra();
+        BeamEnd {
+            feed,
+            book: engine.into_book(),
+            spectra,
+        }
+    }
+}
