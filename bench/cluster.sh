@@ -1,8 +1,9 @@
 #!/usr/bin/env bash
 # Tries cluster/ on this machine: cluster.sh [FOLDER], where FOLDER has psr_make and psr_search; else those last built
 # here. An observation of 134 MB (1024 channels, 131072 spectra) is searched for pulses and folds at delays 0 to 1024 by
-# one search; by 8 jobs of a Slurm array; and by 8 jobs of GNU parallel. The joined texts are that of the one search,
-# byte for byte. Then what fails: a job, a part that is missing or cut, and parts that don't belong together.
+# one search; by 8 jobs of a Slurm array; and by 8 jobs of GNU parallel. Then it is searched for pulses alone, by 8 jobs
+# on stretches of the time. The joined texts are those of one search, byte for byte. Then what fails: a job, a part that
+# is missing or cut, and parts that don't belong together.
 # Slurm's daemons (slurmctld, slurmd, munged) run here for as long as this takes, with all that they write in a folder
 # of their own. As root, what is missing is installed (Debian's slurm-wlm, munge and parallel).
 set -u
@@ -12,9 +13,9 @@ bin=${1:+$(cd "$1" && pwd)}
 program() { # program NAME: where it is
     if [ -n "$bin" ]; then printf '%s/%s' "$bin" "$1"; else printf '%s/crates/%s_main/out/%s_main' "$root" "$1" "$1"; fi
 }
-psr_make=$(program psr_make) PSR_SEARCH=$(program psr_search)
-export PSR_SEARCH
-for built in "$psr_make" "$PSR_SEARCH"; do
+psr_make=$(program psr_make) PSR_SEARCH=$(program psr_search) PSR_PART=$(program psr_part)
+export PSR_SEARCH PSR_PART
+for built in "$psr_make" "$PSR_SEARCH" "$PSR_PART"; do
     [ -x "$built" ] || { echo "$built is not there: make install builds it" >&2; exit 2; }
 done
 PATH=$PATH:/usr/sbin
@@ -136,6 +137,23 @@ echo "8 jobs of GNU parallel: $took"
 timed "$join" 'by parallel' >/dev/null
 echo "join of $(wc -l <whole) lines: $took"
 
+# The same by time, for pulses alone.
+words=(--mean 16 --sd 2.828 --max-delay 1024 --max-candidates 1000000 'the data/an observation.dada')
+timed "$PSR_SEARCH" "${words[@]}" >whole
+echo "one search for pulses: $took, $(tail -n 1 whole)"
+for engine in slurm parallel; do
+    "$plan" "time by $engine" 8 --spectra 131072 "${words[@]}" >said
+    same "plan by time for $engine: its jobs" "$(wc -l <"time by $engine/jobs")" 8
+done
+timed by_slurm 8 'time by slurm'
+same 'sbatch by time: status' $? 0
+whole_and_joined 'Slurm by time' 'time by slurm'
+echo "8 jobs of Slurm by time: ${took% (*}"
+timed "$root/cluster/parallel.bash" 'time by parallel'
+same 'parallel by time: status' $? 0
+whole_and_joined 'GNU parallel by time' 'time by parallel'
+echo "8 jobs of GNU parallel by time: $took"
+
 # Two observations in one array, ranges that begin at multiples of an odd step from an odd delay, and two files.
 small=(--nchan 64 --spectra 8192 --delay 100 --period 512 --height 2)
 "$psr_make" "${small[@]}" --number 3 first.dada && "$psr_make" "${small[@]}" --number 4 second.dada &&
@@ -194,6 +212,13 @@ refused 3 'a line less'
 refused 3 part nothing
 refused 3 "$root/cluster"
 refused 4 part longer
+mapfile -t names < <(sed 's,.*,time by slurm/&.text,' 'time by slurm/parts')
+refused 4 "${names[@]:0:7}"
+refused 4 "${names[7]}" "${names[0]}"
+refused 4 "${names[0]}" part "${names[7]}"
+refused 6 "${names[1]}" "${names[0]}" "${names[7]}"
+"$plan" none 4 --spectra 131072 --fold-max 90 "${words[@]}" first.dada >said 2>notes
+same 'plan by time with folds: status, lines, folders' "$? $(wc -l <notes) $(ls -d none 2>/dev/null)" '2 1 '
 refused 5 several
 refused 6 part part
 "$join" part >/dev/full 2>notes

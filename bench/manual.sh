@@ -12,7 +12,7 @@ root=$(cd "$(dirname "$0")/.." && pwd) || exit 2
 folder=$(mktemp -d) || exit 2
 trap 'rm -rf "$folder"' EXIT
 mkdir "$folder/bin"
-for program in psr_search psr_record psr_make psr_demo ring_trace; do
+for program in psr_search psr_mask psr_part psr_record psr_make psr_demo ring_trace; do
     built=${1:+$(cd "$1" && pwd)/$program}
     built=${built:-$root/crates/${program}_main/out/${program}_main}
     [ -x "$built" ] || { echo "$built is not there: make install builds it" >&2; exit 2; }
@@ -94,22 +94,26 @@ for page in "$folder/man"/*.1; do
     fi
 done
 
-options_under() { # options_under HEADING: those that the manual names in code under it
+options_under() { # options_under HEADING [OPTION ..]: those that the manual names in code under it, but for these
     awk -v heading="$1" '/^#/ { inside = $0 == heading } inside' "$root/docs/MANUAL.md" |
-        grep -oE '`--[a-z-]+`' | tr -d '`' | sort -u
+        grep -oE '`--[a-z-]+`' | tr -d '`' | sort -u | grep -vxF "$(printf '%s\n' '' "${@:2}")"
 }
 # shellcheck source=/dev/null
 . "$root/completions/malletbean.bash"
-while read -r program heading; do
-    options_under "$heading" >"$folder/wanted"
-    COMP_WORDS=("$program" --) COMP_CWORD=1 COMPREPLY=()
+unused='--record --file-size --shards --hands' # by programs that search one observation alone
+while IFS=: read -r program heading others; do
+    # shellcheck disable=SC2086
+    options_under "$heading" $others >"$folder/wanted"
+    COMP_WORDS=("$program" word word --) COMP_CWORD=3 COMPREPLY=()
     _malletbean "$program" -- "$program"
     printf '%s\n' "${COMPREPLY[@]}" | sort >"$folder/found"
     same "completions of $program"
-done <<'HEADINGS'
-psr_search ### Options of a search
-psr_record ### Options of psr_record
-psr_make ### Options of psr_make
+done <<HEADINGS
+psr_search:### Options of a search:
+psr_mask:### Options of a search:$unused --turns
+psr_part:### Options of a search:$unused --turns --fold-min --fold-max --fold-rows --fold-step
+psr_record:### Options of psr_record:
+psr_make:### Options of psr_make:
 HEADINGS
 
 echo "$ran commands ran; $left_out were left out, which need numpy and matplotlib"

@@ -1,6 +1,8 @@
 """The candidates of a text by the header of its observation: signal-to-noise ratios and times."""
 from __future__ import annotations
 
+from collections.abc import Iterator
+
 import numpy as np
 
 from .headers import Header
@@ -15,10 +17,9 @@ DELAYS_AT_A_TIME = 256
 def check_fits(path: str, found: Found, head: Header) -> None:
     """Refuses a text whose lines say other cells or dispersion measures than the header makes."""
     for lines, counted in ((found.pulses, found.pulses["width"]), (found.folds, found.folds["rows"])):
-        other = np.flatnonzero(lines["cells"] != counted.astype(np.int64) * (head.channels + lines["delay"]))
-        if len(other):
-            raise refused(path, "its CELLS are not those of this header: does it belong to another file?")
-        delays, firsts = np.unique(lines["delay"], return_index=True)
+        delays, firsts, places = np.unique(lines["delay"], return_index=True, return_inverse=True)
+        if (lines["cells"] != counted.astype(np.int64) * cells_by_delay(head, delays)[places]).any():
+            raise refused(path, "its CELLS are not those of this header: does it belong to another file or mask?")
         if any(head.dm(int(delay)) != lines["dm"][first] for delay, first in zip(delays, firsts)):
             raise refused(path, "its DM are not those of this header: does it belong to another file?")
 
@@ -59,10 +60,22 @@ def fold_noise(folds: np.ndarray, head: Header) -> np.ndarray:
     return noise
 
 
+def cells_by_delay(head: Header, delays: np.ndarray) -> np.ndarray:
+    """For each delay how many samples its path sums add, in channels that are not masked."""
+    if not head.masked:
+        return head.channels + delays.astype(np.int64)
+    return np.concatenate([cells.sum(axis=0) for cells in kept_cells(head, delays)])
+
+
+def kept_cells(head: Header, delays: np.ndarray) -> Iterator[np.ndarray]:
+    """For some delays at a time how many samples their path sums take in each channel that is not masked."""
+    for part in np.array_split(delays, len(delays) // DELAYS_AT_A_TIME + 1):
+        yield path_cells(head.edges_khz, part)[head.kept]
+
+
 def shared_by_delay(head: Header, delays: np.ndarray) -> list[np.ndarray]:
     """For each delay how many samples two of its path sums share, by how far apart they end."""
-    parts = np.array_split(delays, len(delays) // DELAYS_AT_A_TIME + 1)
-    return [shared_cells(cells) for part in parts for cells in path_cells(head.edges_khz, part).T]
+    return [shared_cells(cells) for part in kept_cells(head, delays) for cells in part.T]
 
 
 def top_spectra(pulses: np.ndarray) -> np.ndarray:

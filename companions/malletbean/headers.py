@@ -3,11 +3,12 @@ from __future__ import annotations
 
 import os
 import re
-from dataclasses import dataclass
+from dataclasses import dataclass, replace
 from functools import cached_property
 
 import numpy as np
 
+from .masks import masked_channels
 from .number import scaled
 from .refusal import HEADER, READ, Refusal, bytes_of
 
@@ -40,7 +41,7 @@ TAKEN: dict[str, range | tuple[int, ...]] = {
 
 @dataclass(frozen=True)
 class Header:
-    """What a header says of its observation, and how many bytes of data its file has."""
+    """What a header says of its observation, how many bytes of data its file has, and which channels are left out."""
 
     size: int
     fields: dict[str, str]
@@ -53,6 +54,19 @@ class Header:
     is_falling: bool
     offset: int
     data_bytes: int
+    # counted from the highest frequency
+    masked: tuple[int, ...] = ()
+
+    def without(self, mask: str) -> Header:
+        """The same observation without the channels that a mask of `psr_mask` names."""
+        named = masked_channels(mask, self.channels)
+        ordered = named if self.is_falling else self.channels - 1 - named
+        return replace(self, masked=tuple(sorted(ordered.tolist())))
+
+    @property
+    def kept(self) -> np.ndarray:
+        """The channels that are not left out, counted from the highest frequency."""
+        return np.setdiff1d(np.arange(self.channels), np.array(self.masked, int))
 
     @property
     def spectrum_bytes(self) -> int:

@@ -5,11 +5,12 @@ import argparse
 import math
 import shlex
 from collections.abc import Sequence
-from dataclasses import dataclass
+from dataclasses import dataclass, replace
 
 import numpy as np
 
 from .headers import Header, refused
+from .masks import mask_text
 from .number import scaled
 from .paths import path_cells
 from .program import Words
@@ -54,6 +55,10 @@ class Measured:
     def deviation(self) -> float:
         """The deviation of a sample from its channel's mean, which is what the noise of sums is made of."""
         return float(np.sqrt((self.deviations**2).mean()))
+
+    def of_channels(self, are_kept: np.ndarray) -> Measured:
+        """The same of some channels alone, but for the means of pieces."""
+        return replace(self, means=self.means[are_kept], deviations=self.deviations[are_kept])
 
 
 def psr_look(words: Sequence[str]) -> None:
@@ -138,9 +143,18 @@ def said(asked: argparse.Namespace, head: Header, measured: Measured, form: str)
         f"{delay} spectra across the band are DM {head.dm(delay):.3f}" for delay in (USUAL_DELAY, GREATEST_DELAY))))
     lines.append(("file size", f"--file-size {USUAL_FILE_SIZE // head.spectrum_bytes * head.spectrum_bytes} "
                                "cuts recorded files between spectra"))
-    lines.append(("words", f"psr_search --mean {measured.mean:.3f} --sd {max(measured.deviation, 0.001):.3f} "
-                           f"--snr {FIRST_SNR} --max-delay {max_delay} {shlex.quote(asked.file)}"))
+    rest = f"--snr {FIRST_SNR} --max-delay {max_delay} {shlex.quote(asked.file)}"
+    lines.append(("words", f"psr_search {noise_words(measured)} {rest}"))
+    are_kept = ~stand_out(measured)
+    if not are_kept.all():
+        mask = mask_text(file_numbers(head, ~are_kept))
+        lines.append(("masked", f"psr_mask {mask} {noise_words(measured.of_channels(are_kept))} {rest}"))
     return lines
+
+
+def noise_words(measured: Measured) -> str:
+    """The words of a search that say its noise."""
+    return f"--mean {measured.mean:.3f} --sd {max(measured.deviation, 0.001):.3f}"
 
 
 def header_lines(head: Header) -> list[tuple[str, str]]:
@@ -173,10 +187,7 @@ def noise_lines(head: Header, measured: Measured, max_delay: int) -> list[tuple[
         lines.append(("even", f"that channels have other means moves printed ratios by up to {uneven:.1f}, "
                               f"at width {USUAL_WIDTH} and delays to {max_delay}; below 1 is well"))
         lines.append(("steady", f"that the mean drifts moves them by up to {drift:.1f}"))
-    mask = mask_text(stand_out(head, measured))
-    if mask:
-        lines.append(("stand out", f"channels {mask}, counted from 0 in the order of the file: "
-                                   "one may want to leave them out before a search"))
+    lines.append(("mask to try:", f" {mask_text(file_numbers(head, stand_out(measured)))}"))
     return lines
 
 
@@ -198,11 +209,15 @@ def drift_ratio(head: Header, measured: Measured, max_delay: int) -> float:
     return float(drift * math.sqrt(cells) / measured.deviation)
 
 
-def stand_out(head: Header, measured: Measured) -> np.ndarray:
-    """The numbers in the order of the file of the channels that lie far off the others, by mean or by deviation."""
-    error = measured.deviation / math.sqrt(measured.spectra)
-    are_far = is_far(measured.means, error) | is_far(measured.deviations, error)
-    return np.flatnonzero(are_far if head.is_falling else are_far[::-1])
+def stand_out(measured: Measured) -> np.ndarray:
+    """Which channels lie far off the others, by mean or by deviation: by each of them fewer than half."""
+    error = float(np.median(measured.deviations)) / math.sqrt(measured.spectra)
+    return is_far(measured.means, error) | is_far(measured.deviations, error)
+
+
+def file_numbers(head: Header, are_named: np.ndarray) -> np.ndarray:
+    """The numbers of channels, which stand the highest first, in the order of the file."""
+    return np.flatnonzero(are_named if head.is_falling else are_named[::-1])
 
 
 def is_far(values: np.ndarray, error: float) -> np.ndarray:
@@ -210,12 +225,6 @@ def is_far(values: np.ndarray, error: float) -> np.ndarray:
     distances = np.abs(values - np.median(values))
     usual = max(float(np.median(distances)) / MEDIAN_DISTANCE, error)
     return distances > STANDS_OUT * usual
-
-
-def mask_text(channels: np.ndarray) -> str:
-    """Channels as single numbers and ranges, parted by commas."""
-    runs = np.split(channels, np.flatnonzero(np.diff(channels) > 1) + 1)
-    return ",".join(str(run[0]) if len(run) == 1 else f"{run[0]}-{run[-1]}" for run in runs if len(run))
 
 
 def delay_to_search(head: Header, dm: float | None) -> int:

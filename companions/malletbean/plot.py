@@ -11,11 +11,12 @@ import numpy as np
 from matplotlib.axes import Axes
 from matplotlib.figure import Figure
 
-from .candidates import fold_table, pulse_table
+from .candidates import check_fits, fold_table, pulse_table
 from .headers import Header
-from .program import Words, add_search_words, found_by
+from .program import Words, add_search_words, entries_by, found_by
 from .refusal import OUTPUT, TEXT, WORDS, Refusal
 from .samples import Samples, fold_profile, path_sums_of
+from .texts import Found
 
 SUFFIXES = (".png", ".svg", ".pdf")
 # so many lines are all drawn; of more, the strongest of each cell of a panel: cells along it and up
@@ -25,6 +26,8 @@ CELLS = (500, 250)
 LEAST_AREA, GREATEST_AREA, LEAST_GROWTH = 5.0, 150.0, 20.0
 # from so many circles on they are drawn as dots of a raster also in SVG and PDF
 RASTER_FROM = 4000
+# the colour of lines that are marked as interference
+MARKED = "tab:red"
 
 
 @dataclass(frozen=True)
@@ -41,7 +44,11 @@ class Picture:
 def psr_plot(words: Sequence[str]) -> None:
     """Reads a text and draws what the words ask for."""
     asked = parsed(words)
-    samples = Samples([asked.file, *asked.next])
+    samples = Samples([asked.file, *asked.next], asked.mask)
+    entries = entries_by(asked)
+    if entries[0].is_beam and len(entries) > 1 and asked.fold is None:
+        finish(draw_beams(new_figure(asked.show), asked, samples.header, entries), asked)
+        return
     found = found_by(asked, samples.header)
     pulses = pulse_table(found.pulses, samples.header, asked.mean, asked.deviation)
     folds = fold_table(found.folds, samples.header, asked.mean, asked.deviation)
@@ -50,6 +57,11 @@ def psr_plot(words: Sequence[str]) -> None:
     figure = new_figure(asked.show)
     title = title_of(asked, samples.header, found.spectra)
     draw(figure, Picture(title, by_strength(pulses), by_strength(folds), profile, fold))
+    finish(figure, asked)
+
+
+def finish(figure: Figure, asked: argparse.Namespace) -> None:
+    """Writes the picture, or shows it."""
     if asked.output is not None:
         figure.savefig(asked.output)
     if asked.show:
@@ -58,7 +70,7 @@ def psr_plot(words: Sequence[str]) -> None:
 
 def parsed(words: Sequence[str]) -> argparse.Namespace:
     """The words of the command."""
-    parser = Words(prog="psr_plot", description="Draws the candidates of a text of psr_search.")
+    parser = Words(prog="psr_plot", description="Draws the candidates of a text of psr_search, and beams side by side.")
     add_search_words(parser)
     parser.add_argument("-o", "--output", metavar="PICTURE", help="a new picture: .png, .svg or .pdf")
     parser.add_argument("--show", action="store_true", help="a window with the picture")
@@ -136,13 +148,42 @@ def draw(figure: Figure, picture: Picture) -> None:
         draw_profile(panels["profile"], picture.profile, picture.fold)
 
 
+def draw_beams(figure: Figure, asked: argparse.Namespace, head: Header, beams: Sequence[Found]) -> Figure:
+    """Draws the beams side by side: time against DM of each, with the same axes, and marked lines in their colour."""
+    figure.set_size_inches(max(10, 2.6 * len(beams)), 5)
+    figure.suptitle(title_of(asked, head, max(beam.spectra for beam in beams)), fontsize=9, parse_math=False)
+    panels = figure.subplots(1, len(beams), sharex=True, sharey=True, squeeze=False)[0]
+    for panel, beam in zip(panels, beams):
+        check_fits(asked.text, beam, head)
+        pulses = by_strength(pulse_table(beam.pulses, head, asked.mean, asked.deviation))
+        draw_beam(panel, pulses, f"beam {beam.number}: {len(pulses)} lines, {int(beam.are_marked.sum())} RFI")
+    panels[0].set_ylabel("DM / (pc/cm$^3$)")
+    return figure
+
+
+def draw_beam(panel: Axes, pulses: np.ndarray, title: str) -> None:
+    """Time against DM of a beam, in circles whose area grows with S/N: marked lines first, then those that are not."""
+    panel.set(xlabel="time at the top of the band / s")
+    panel.set_title(title, fontsize=9)
+    are_marked = pulses["word"] == b"RFI"
+    for lines, color, label in ((pulses[are_marked], MARKED, "RFI"), (pulses[~are_marked], "tab:blue", "PULSE")):
+        if not len(lines):
+            continue
+        those = strongest_of_cells(lines["time_top"], lines["dm"])
+        panel.scatter(lines["time_top"][those], lines["dm"][those], s=areas(lines["snr"][those]), color=color,
+                      linewidths=0, alpha=0.6, rasterized=len(those) > RASTER_FROM, label=label)
+    if len(pulses):
+        panel.legend(fontsize=7, loc="upper right", framealpha=0.3)
+
+
 def draw_snr(panel: Axes, lines: np.ndarray, word: str) -> None:
     """S/N against DM, and the greatest printed ratio of each DM besides."""
     panel.set(xlabel="DM / (pc/cm$^3$)", ylabel="S/N", title=f"{len(lines)} {word} lines")
     if not len(lines):
         return
     those = strongest_of_cells(lines["dm"], lines["snr"])
-    panel.scatter(lines["dm"][those], lines["snr"][those], s=3, color="tab:blue", linewidths=0,
+    colors = np.where(lines["word"][those] == b"RFI", MARKED, "tab:blue")
+    panel.scatter(lines["dm"][those], lines["snr"][those], s=3, color=colors, linewidths=0,
                   rasterized=len(those) > RASTER_FROM, label="true noise")
     greatest = np.zeros(lines["delay"].max() + 1)
     np.maximum.at(greatest, lines["delay"], lines["ratio"])
@@ -164,14 +205,15 @@ def draw_number(panel: Axes, pulses: np.ndarray) -> None:
 
 
 def draw_time(panel: Axes, pulses: np.ndarray) -> None:
-    """Time against DM in circles whose area grows with S/N."""
+    """Time against DM in circles whose area grows with S/N, and marked lines with an edge."""
     panel.set(xlabel="time at the top of the band / s", ylabel="DM / (pc/cm$^3$)")
     if not len(pulses):
         return
     those = strongest_of_cells(pulses["time_top"], pulses["dm"])
     ratios = pulses["snr"][those]
-    circles = panel.scatter(pulses["time_top"][those], pulses["dm"][those], s=areas(ratios), c=ratios, linewidths=0,
-                            alpha=0.8, rasterized=len(those) > RASTER_FROM)
+    edges = np.where(pulses["word"][those] == b"RFI", 1.0, 0.0)
+    circles = panel.scatter(pulses["time_top"][those], pulses["dm"][those], s=areas(ratios), c=ratios, linewidths=edges,
+                            edgecolors=MARKED, alpha=0.8, rasterized=len(those) > RASTER_FROM)
     panel.figure.colorbar(circles, ax=panel, label="S/N")
     if len(those) < len(pulses):
         panel.set_title(f"{len(those)} of {len(pulses)} lines: the strongest of each of "

@@ -53,6 +53,9 @@ def add_search_words(words: Words) -> None:
     words.add_argument("deviation", metavar="SD", type=noise_value, help="the deviation that the search was given")
     words.add_argument("text", metavar="TEXT", help="the text of the search")
     words.add_argument("--obs", metavar="K", type=int, help="which observation of the text, where it has several")
+    words.add_argument("--beam", metavar="K", type=int, help="which beam of a text of several beams")
+    words.add_argument("--mask", metavar="MASK", default="none", help="the mask that psr_mask was given")
+    words.add_argument("--part", action="store_true", help="the text is of a part, whose last line counts those before")
 
 
 def noise_value(text: str) -> float:
@@ -63,15 +66,25 @@ def noise_value(text: str) -> float:
     return value / 1000
 
 
-def found_by(words: argparse.Namespace, head: Header) -> Found:
-    """What the search found in the observation that the words name."""
+def entries_by(words: argparse.Namespace) -> list[Found]:
+    """What the search found in the observations or beams that the words name: in all of them where none is named."""
     if words.deviation == 0:
         raise Refusal(WORDS, "argument SD: it is 0")
-    entries = read(words.text)
-    if words.obs is None and len(entries) > 1:
-        raise Refusal(TEXT, f"{words.text} has {len(entries)} observations: choose one with --obs K, K from 0 on")
-    number = words.obs or 0
-    if not 0 <= number < len(entries):
-        raise Refusal(TEXT, f"{words.text} has no observation {number}")
-    check_fits(words.text, entries[number], head)
-    return entries[number]
+    entries = read(words.text, words.part)
+    for kind, number, is_kind in (("observation", words.obs, False), ("beam", words.beam, True)):
+        if number is None:
+            continue
+        if entries[0].is_beam != is_kind or not 0 <= number < len(entries):
+            raise Refusal(TEXT, f"{words.text} has no {kind} {number}")
+        return [entries[number]]
+    return entries
+
+
+def found_by(words: argparse.Namespace, head: Header) -> Found:
+    """What the search found in the one observation or beam that the words name."""
+    entries = entries_by(words)
+    if len(entries) > 1:
+        kind, word = ("beams", "--beam") if entries[0].is_beam else ("observations", "--obs")
+        raise Refusal(TEXT, f"{words.text} has {len(entries)} {kind}: choose one with {word} K, K from 0 on")
+    check_fits(words.text, entries[0], head)
+    return entries[0]

@@ -18,9 +18,9 @@ COMMON = ("channels", "bits", "polarisations", "sample_ns", "centre_hz", "width_
 class Samples:
     """The samples of one observation in one or more files, which follow one another."""
 
-    def __init__(self, paths: Sequence[str]) -> None:
+    def __init__(self, paths: Sequence[str], mask: str = "none") -> None:
         self.paths = list(paths)
-        self.headers = [header(path) for path in self.paths]
+        self.headers = [header(path).without(mask) for path in self.paths]
         self.begins = [0]
         for path, later in zip(self.paths, self.headers):
             self._check(path, later)
@@ -37,9 +37,11 @@ class Samples:
         return self.begins[-1] // self.header.spectrum_bytes
 
     def read(self, first: int, count: int) -> np.ndarray:
-        """So many spectra from one on, each a row, polarisations added, the highest channel first."""
+        """So many spectra from one on, each a row, polarisations added, the highest channel first, masked ones 0."""
         added = self.values(first, count).sum(axis=2, dtype=np.uint32)
-        return added if self.header.is_falling else added[:, ::-1]
+        ordered = added if self.header.is_falling else added[:, ::-1]
+        ordered[:, list(self.header.masked)] = 0
+        return ordered
 
     def values(self, first: int, count: int, kind: str = "<u") -> np.ndarray:
         """So many spectra from one on, as the file has them: of each channel in its order, each polarisation."""

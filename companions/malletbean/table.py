@@ -22,9 +22,11 @@ FORMATS = {"dm": "%.3f", "ratio": "%.3f", "snr": "%.3f", "time_top": "%.9f", "ti
 def psr_table(words: Sequence[str]) -> None:
     """Reads a text and writes the table that the words ask for."""
     asked = parsed(words)
-    head = header(asked.file)
+    head = header(asked.file).without(asked.mask)
     found = found_by(asked, head)
     pulses = pulse_table(found.pulses, head, asked.mean, asked.deviation)
+    if found.is_beam:
+        pulses = with_columns(pulses, {"rfi": found.are_marked.astype(int)})
     folds = fold_table(found.folds, head, asked.mean, asked.deviation)
     if asked.best is not None:
         pulses, folds = best_of(pulses, asked.best), best_of(folds, asked.best)

@@ -8,7 +8,7 @@ import pytest
 
 import made
 from malletbean import Refusal
-from malletbean.look import mask_text, psr_look
+from malletbean.look import psr_look
 
 
 def said(capsys: pytest.CaptureFixture[str], *words: str) -> dict[str, str]:
@@ -31,7 +31,7 @@ def test_a_flat_band(tmp_path: Path, capsys: pytest.CaptureFixture[str]) -> None
     assert "estimates" in lines["first"] and "nothing of what it says is proved" in lines["first"]
     mean, deviation = (float(word) for word in lines["noise"].split() if word[0].isdigit())
     assert mean == pytest.approx(16, abs=0.02) and deviation == pytest.approx(2.828, abs=0.01)
-    assert "stand out" not in lines
+    assert lines["mask to try:"] == " none" and "masked" not in lines
     assert lines["delay"].startswith("DM 5 takes 102.5 spectra")
     assert "256 spectra across the band are DM 12.487" in lines["reach"]
     assert "8192 spectra across the band are DM 399.610" in lines["reach"]
@@ -60,7 +60,10 @@ def test_a_tilted_band_and_channels_that_stand_out(tmp_path: Path, capsys: pytes
     factors = np.linspace(0.9, 1.1, 64)
     factors[[3, 17, 18, 19]] = 3
     uneven = said(capsys, levelled(path, factors))
-    assert uneven["stand out"].startswith("channels 3,17-19, counted from 0 in the order of the file")
+    assert uneven["mask to try:"] == " 3,17-19"
+    words = uneven["masked"].split()
+    assert words[:2] == ["psr_mask", "3,17-19"] and words[6:] == uneven["words"].split()[5:]
+    assert float(words[3]) == pytest.approx(16, abs=0.1) and float(words[5]) == pytest.approx(2.83, abs=0.05)
     assert ratio_of(flat["even"]) < 1 < ratio_of(uneven["even"])
 
 
@@ -74,7 +77,7 @@ def test_channels_are_counted_in_the_order_of_the_file(tmp_path: Path, capsys: p
     made.make(path, channels=64, spectra=4096, height=0, width=400)
     factors = np.ones(64)
     factors[5] = 3
-    assert said(capsys, levelled(path, factors))["stand out"].startswith("channels 5, counted")
+    assert said(capsys, levelled(path, factors))["mask to try:"] == " 5"
     psr_look([str(path), "--channels"])
     lines = capsys.readouterr().out.splitlines()
     number, middle, mean, _ = lines[lines.index("CHANNEL MHZ MEAN SD") + 1 + 5].split()
@@ -91,10 +94,3 @@ def test_one_spectrum_is_too_few(tmp_path: Path) -> None:
     made.make(tmp_path / "one.dada", spectra=1, delay=0)
     with pytest.raises(Refusal, match="fewer than two spectra"):
         psr_look([str(tmp_path / "one.dada")])
-
-
-@pytest.mark.parametrize("channels, text", [
-    ([], ""), ([3], "3"), ([3, 17, 18, 19, 20], "3,17-20"), ([0, 1, 5], "0-1,5"),
-])
-def test_mask_texts(channels: list[int], text: str) -> None:
-    assert mask_text(np.array(channels, int)) == text

@@ -56,6 +56,32 @@ def test_panels_of_folds_and_a_profile(files: dict[str, str]) -> None:
     assert len(profile.lines[0].get_xdata()) == 100
 
 
+def test_beams_stand_side_by_side(files: dict[str, str], tmp_path: Path, monkeypatch: pytest.MonkeyPatch) -> None:
+    lines = Path(MADE).read_text().splitlines()[:-1]
+    marked = [line.replace("PULSE 120", "RFI 120") for line in lines]
+    text = tmp_path / "beams"
+    text.write_text("\n".join(["BEAM 0", *marked, "END 5 0 256", "BEAM 1", "END 0 0 256", "BEAM 2", *lines[2:4],
+                               "END 2 0 250", ""]))
+    figures: list[Figure] = []
+    monkeypatch.setattr("malletbean.plot.finish", lambda figure, asked: figures.append(figure))
+    psr_plot([files["made"], "16", "2.828", str(text), "-o", "a.png"])
+    panels = figures[0].axes
+    assert [panel.get_title() for panel in panels] == [
+        "beam 0: 5 lines, 2 RFI", "beam 1: 0 lines, 0 RFI", "beam 2: 2 lines, 0 RFI"]
+    red, blue = panels[0].collections
+    assert (len(red.get_offsets()), len(blue.get_offsets()), len(panels[1].collections)) == (2, 3, 0)
+    assert tuple(red.get_facecolor()[0][:3]) != tuple(blue.get_facecolor()[0][:3])
+    assert sorted(dm for _, dm in red.get_offsets()) == [0.926, 0.975]
+    assert panels[0].get_xlim() == panels[2].get_xlim() and panels[0].get_ylim() == panels[2].get_ylim()
+
+
+def test_one_beam_has_edges_where_it_is_marked(files: dict[str, str]) -> None:
+    pulses, folds = tables(files, "made", MADE, 0, 16)
+    pulses["word"][2:4] = b"RFI"
+    circles = drawn(pulses, folds)[2].collections[0]
+    assert sorted(circles.get_linewidths()) == [0, 0, 0, 1, 1]
+
+
 def test_a_picture_of_nothing(files: dict[str, str]) -> None:
     pulses, folds = tables(files, "made", MADE, 0, 16)
     assert len(drawn(pulses[:0], folds)) == 3

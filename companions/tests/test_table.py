@@ -36,6 +36,22 @@ def test_one_of_several_observations(files: dict[str, str], capsys: pytest.Captu
     assert len(table(capsys, files["second"], "32", "4", TWO, "--obs", "1")) == 81
 
 
+def test_one_of_several_beams(files: dict[str, str], tmp_path: Path, capsys: pytest.CaptureFixture[str]) -> None:
+    text = tmp_path / "beams"
+    text.write_text("BEAM 0\nEND 0 0 9\nBEAM 1\n" + Path(MADE).read_text().replace("PULSE 120", "RFI 120"))
+    names, *lines = table(capsys, files["made"], "16", "2.828", str(text), "--beam", "1")
+    assert names.endswith(",rfi")
+    assert [line.rsplit(",", 1)[1] for line in lines] == ["0", "0", "1", "1", "0"]
+
+
+def test_a_masked_text_and_a_part(files: dict[str, str], tmp_path: Path, capsys: pytest.CaptureFixture[str]) -> None:
+    text = tmp_path / "masked"
+    text.write_text("PULSE 20 20 0.975 1 1053 45\nEND 7 0 256\n")
+    names, line = table(capsys, files["made"], "16", "2.828", str(text), "--mask", "3,17-19", "--part")
+    ratio = (1053 - 45 * 16) / (2.828 * 45**0.5)
+    assert line.split(",")[6:8] == [f"{ratio:.3f}"] * 2
+
+
 def test_a_view(files: dict[str, str], capsys: pytest.CaptureFixture[str]) -> None:
     first, names, *lines = table(capsys, files["second"], "32", "4", TWO, "--obs", "1", "--best", "2")
     assert first == f"# {VIEW}" and "not a result of the search" in VIEW

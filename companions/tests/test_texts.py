@@ -43,6 +43,31 @@ def test_a_text_without_candidates(tmp_path: Path) -> None:
     assert (len(found.pulses), len(found.folds), found.spectra) == (0, 0, 7)
 
 
+BEAMS = "BEAM 0\nRFI 1 1 0.104 1 30 3\nEND 1 0 3\nBEAM 1\nEND 0 0 4\n"
+
+
+def test_a_text_of_beams(tmp_path: Path) -> None:
+    first, second = read(text_of(tmp_path, BEAMS))
+    assert (first.number, first.spectra, second.number, second.spectra) == (0, 3, 1, 4)
+    assert first.is_beam and second.is_beam
+    assert first.pulses[0].tolist() == (b"RFI", 1, 1, 0.104, 1, 30, 3)
+    assert first.are_marked.tolist() == [True] and second.are_marked.tolist() == []
+    assert not read(str(DATA / "made.txt"))[0].are_marked.any()
+
+
+def test_a_part_that_ends_in_a_checkpoint(tmp_path: Path) -> None:
+    front = MADE.replace("END 5 0 256", "CHECK 221 8")
+    found, = read(text_of(tmp_path, front))
+    assert (len(found.pulses), found.spectra, found.counted, found.is_checkpoint) == (5, 221, 8, True)
+
+
+def test_a_last_part_counts_those_before(tmp_path: Path) -> None:
+    last = MADE.replace("END 5 0 256", "END 9 0 256")
+    found, = read(text_of(tmp_path, last), is_part=True)
+    assert (len(found.pulses), found.spectra, found.counted, found.is_checkpoint) == (5, 256, 9, False)
+    assert read(str(DATA / "made.txt"))[0].counted == 5
+
+
 @pytest.mark.parametrize("text, why", [
     ("", "no END line"),
     ("END 0 0 7", "no END line"),
@@ -59,6 +84,12 @@ def test_a_text_without_candidates(tmp_path: Path) -> None:
     ("OBS 0\n" + MADE + "OBS 1\n", "no END line"),
     ("OBS 0\n" + MADE + "OBS 2\n" + MADE, "do not count from 0"),
     (MADE + "OBS 1\n" + MADE, "number of columns"),
+    (BEAMS.replace("BEAM 1", "BEAM 2"), "its BEAM lines do not count from 0"),
+    (BEAMS.replace("RFI", "RF"), "begins with RF"),
+    (BEAMS.replace("BEAM 1\n", "OBS 1\n"), "number of columns"),
+    (MADE.replace("END 5 0 256", "CHECK 221 4"), "its last line counts others"),
+    (MADE.replace("END 5 0 256", "CHECK 221"), "no END line"),
+    (MADE.replace("PULSE 120 19", "FOLD 120 19"), "number of columns"),
     (MADE.replace("PULSE 120 19", "PULSE 120.0 19"), "its PULSE lines"),
 ])
 def test_what_is_refused(tmp_path: Path, text: str, why: str | None) -> None:

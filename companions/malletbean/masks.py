@@ -1,0 +1,33 @@
+"""Masks of channels, in the words of `psr_mask`: channels are counted from 0 in the order of the file."""
+from __future__ import annotations
+
+import re
+
+import numpy as np
+
+from .refusal import WORDS, Refusal
+
+ITEM = re.compile(r"([0-9]{1,9})(?:-([0-9]{1,9}))?")
+
+
+def mask_text(channels: np.ndarray) -> str:
+    """Channels that rise as single numbers and ranges, parted by commas, or `none`."""
+    runs = np.split(channels, np.flatnonzero(np.diff(channels) > 1) + 1)
+    items = [str(run[0]) if len(run) == 1 else f"{run[0]}-{run[-1]}" for run in runs if len(run)]
+    return ",".join(items) or "none"
+
+
+def masked_channels(text: str, channels: int) -> np.ndarray:
+    """The channels of so many that a mask names."""
+    is_masked = np.zeros(channels, bool)
+    for item in [] if text == "none" else text.split(","):
+        match = ITEM.fullmatch(item)
+        if match is None:
+            raise Refusal(WORDS, f"mask refused: {text} is no mask")
+        first, last = sorted((int(match[1]), int(match[2] or match[1])))
+        if last >= channels:
+            raise Refusal(WORDS, f"mask refused: there are {channels} channels, and it names {last}")
+        is_masked[first:last + 1] = True
+    if is_masked.all():
+        raise Refusal(WORDS, "mask refused: it leaves no channel")
+    return np.flatnonzero(is_masked)
