@@ -1,15 +1,22 @@
-# Completion of the options of psr_search, psr_record and psr_make in bash, and of their values where these are few.
-# Load it with `. malletbean.bash`; where bash-completion is installed, it is loaded from
-# PREFIX/share/bash-completion/completions.
+# Completion of the options of the programs in bash, of their values where these are few, and of the words that stand
+# before them (a mask, a checkpoint). Load it with `. malletbean.bash`; where bash-completion is installed, it is loaded
+# from PREFIX/share/bash-completion/completions.
 
 _malletbean() { # _malletbean COMMAND WORD PREVIOUS_WORD
-    local word=${COMP_WORDS[COMP_CWORD]} previous=${COMP_WORDS[COMP_CWORD - 1]} options values=
-    local running='--buffers --size --hands --turns --file-size --max-bytes'
-    case ${1##*/} in
-        psr_search) options="--mean --sd --snr --max-delay --min-delay --widths --fold-min --fold-max --fold-rows
-            --fold-step --chunk --shards --max-candidates --record $running" ;;
-        psr_record) options=$running ;;
+    local program=${1##*/} word=${COMP_WORDS[COMP_CWORD]} previous=${COMP_WORDS[COMP_CWORD - 1]} options='' values=''
+    local searching='--mean --sd --snr --max-delay --min-delay --widths --chunk --max-candidates'
+    local folding='--fold-min --fold-max --fold-rows --fold-step' reading='--buffers --size --max-bytes'
+    case $program in
+        psr_search) options="$searching $folding $reading --shards --hands --turns --record --file-size" ;;
+        psr_mask) options="$searching $folding $reading" ;;
+        psr_part) options="$searching $reading" ;;
+        psr_record) options="$reading --hands --turns --file-size" ;;
         psr_make) options='--number --nchan --spectra --delay --period --height --nbit --npol' ;;
+    esac
+    case $program$COMP_CWORD in # the words that stand first
+        psr_mask1) values=none ;;
+        psr_part2) mapfile -t COMPREPLY < <(compgen -W new -- "$word"; compgen -f -- "$word") && return ;;
+        psr_part1) COMPREPLY=() && return ;;
     esac
     case $previous in
         --widths) values='1 2 4 8 16 32' ;;
@@ -29,4 +36,4 @@ _malletbean() { # _malletbean COMMAND WORD PREVIOUS_WORD
         mapfile -t COMPREPLY < <(compgen -f -- "$word")
     fi
 }
-complete -o filenames -F _malletbean psr_search psr_record psr_make
+complete -o filenames -F _malletbean psr_search psr_mask psr_part psr_record psr_make
