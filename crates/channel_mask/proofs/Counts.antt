@@ -21,7 +21,7 @@ use Rattle.channel_mask.specs.Counting.{chunk, mark_sample, AreMarks, Repeats, T
 pub rows_there : (c : Carrying) (samples : List ℕ) → TakesChunks c samples → AreThere c samples chunk
 rows_there c samples takes =
     let n = channels_of c.tables.plan.edges in
-    let e : n * c.tables.chunk ≡ n * 256 = ap (λ k. n * k) takes.chunk_is in
+    let e : n * c.tables.chunk ≡ n * 544 = ap (λ k. n * k) takes.chunk_is in
     omega (arith, takes.rows, e)
 
 pub next_are : (c : Carrying) (f : Filterbank) (samples : List ℕ) → c.tables.chunk ≡ chunk → Repeats f samples →
@@ -64,7 +64,7 @@ pub record ReadsSums (before now : Carrying) (samples sums : List ℕ) (d : ℕ)
   pub takes : TakesChunks before samples
   pub stands : (f : Filterbank) → Repeats f samples → StandsForSamples before f → StandsMidway now f
   pub sums_are : (f : Filterbank) (k : ℕ) → Repeats f samples → StandsForSamples before f → k < d →
-      slice_index sums k ≡ path_sum f before.tables.plan.edges (before.fed + 255) k
+      slice_index sums k ≡ path_sum f before.tables.plan.edges (before.fed + 543) k
 
 one_sum_more : (sums : List ℕ) (d sum : ℕ) (value : ℕ → ℕ) → d < length sums →
     ((j : ℕ) → j < d → slice_index sums j ≡ value j) → sum ≡ value d →
@@ -95,9 +95,9 @@ module _ (before now : Carrying) (samples sums : List ℕ) (d : ℕ) (reads : Re
   pub still_there : AreThere now samples now.last
   still_there =
       let n = channels_of now.tables.plan.edges in
-      let e : n * now.tables.chunk ≡ n * 256 =
+      let e : n * now.tables.chunk ≡ n * 544 =
       ap (λ k. n * k) (ap (λ t. t.chunk) reads.tables ∙ reads.takes.chunk_is) in
-      let rows : length samples ≡ n * 256 =
+      let rows : length samples ≡ n * 544 =
       reads.takes.rows ∙ ap (λ t. channels_of t.plan.edges * chunk) (sym reads.tables) in
       omega (arith, reads.last)
 
@@ -119,16 +119,16 @@ module _ (before now : Carrying) (samples sums : List ℕ) (d : ℕ) (reads : Re
     stands_next f repeats there = stands f (reads.stands f repeats there) (still_next f repeats)
 
     last_made : (f : Filterbank) → Repeats f samples → StandsForSamples before f →
-        slice_index made 255 ≡ path_sum f before.tables.plan.edges (before.fed + 255) d
+        slice_index made 543 ≡ path_sum f before.tables.plan.edges (before.fed + 543) d
     last_made f repeats there =
         let last = row_on.last in
         let delay : next.next - 1 ≡ d = omega (arith, row_on.next, reads.next) in
-        sums_made f 255 (stands_next f repeats there) (omega (arith, reads.last))
-        ∙ ap (λ n. path_sum f next.tables.plan.edges (next.fed + 255) n) delay
-        ∙ ap (λ n. path_sum f next.tables.plan.edges (n + 255) d) (row_on.fed ∙ reads.fed)
-        ∙ ap (λ t. path_sum f t.plan.edges (before.fed + 255) d) (row_on.tables ∙ reads.tables)
+        sums_made f 543 (stands_next f repeats there) (omega (arith, reads.last))
+        ∙ ap (λ n. path_sum f next.tables.plan.edges (next.fed + 543) n) delay
+        ∙ ap (λ n. path_sum f next.tables.plan.edges (n + 543) d) (row_on.fed ∙ reads.fed)
+        ∙ ap (λ t. path_sum f t.plan.edges (before.fed + 543) d) (row_on.tables ∙ reads.tables)
 
-    pub reads_more : d < length sums → ReadsSums before next samples (slice_set sums d (slice_index made 255)) (d + 1)
+    pub reads_more : d < length sums → ReadsSums before next samples (slice_set sums d (slice_index made 543)) (d + 1)
     reads_more below = record {
       tables = row_on.tables ∙ reads.tables;
       fed = row_on.fed ∙ reads.fed;
@@ -138,7 +138,7 @@ module _ (before now : Carrying) (samples sums : List ℕ) (d : ℕ) (reads : Re
       takes = reads.takes;
       stands = stands_next;
       sums_are = λ f k repeats there less.
-          one_sum_more sums d (slice_index made 255) (λ j. path_sum f before.tables.plan.edges (before.fed + 255) j)
+          one_sum_more sums d (slice_index made 543) (λ j. path_sum f before.tables.plan.edges (before.fed + 543) j)
           below (λ j h. reads.sums_are f j repeats there h) (last_made f repeats there) k less;
     }
 
@@ -208,7 +208,7 @@ module _ (law : PathSumsCountCells) (edges : List ℕ) (mask : List Bool) (are :
       let f = marks_bank mask in
       let repeats : Repeats f samples = λ c i t small within. marks.each c i small within in
       let edges_are = ap (λ t. t.plan.edges) took.tables ∙ ap (λ p. p.edges) opened.plan_is ∙ e in
-      let late : d + 0 ≤ taken.fed + 255 = omega (arith, took.fed, opened.nothing_fed) in
+      let late : d + 0 ≤ taken.fed + 543 = omega (arith, took.fed, opened.nothing_fed) in
       ends f d repeats (took.stands f repeats (stands f (stream plan e))) (omega arith)
-      ∙ ap (λ es. path_sum f es (taken.fed + 255) d) edges_are
-      ∙ law f edges (kept_by mask) d (taken.fed + 255) 0 are late (λ c t small there. refl)
+      ∙ ap (λ es. path_sum f es (taken.fed + 543) d) edges_are
+      ∙ law f edges (kept_by mask) d (taken.fed + 543) 0 are late (λ c t small there. refl)

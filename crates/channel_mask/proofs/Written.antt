@@ -21,7 +21,7 @@ use Rattle.candidate_book.specs.declared.labels.PulseWord.{PulseWord}
 use Rattle.candidate_book.specs.declared.merged.Totals.{Totals}
 use Rattle.shard_search.specs.Sought.{cells_in}
 use Rattle.search_engine.specs.Engine.{EngineState, scope_of, spectra_fed}
-use Rattle.search_engine.specs.Scope.{Scope, kept_by}
+use Rattle.search_engine.specs.Scope.{kept_by}
 use Rattle.channel_mask.specs.Masked.{HasFoundKept, WroteMasked}
 use Rattle.channel_mask.proofs.Kept.{all_early}
 
@@ -70,8 +70,7 @@ wrote_masked listed o s mask bytes e found few old new result wrote =
     (subst (λ (k : ℕ). WroteText (cell_labels o counted) k e.book.kept old new result) found.spectra wrote) in
     let lines = same_lines o counted cells all (λ i d within.
     let c = get_or all i d in
-    ap (λ (x : Scope). cells_in x.sought (delay_of c)) scope.value
-    ∙ scope.cells.each (delay_of c)
+    scope.cells (delay_of c)
     (all_early listed o s found.searches.range mask bytes c (Contains-get_or all i d within))) in
     record {
       text = subst (λ (t : List ℕ). Wrote t old new result)

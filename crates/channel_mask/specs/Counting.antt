@@ -9,7 +9,7 @@ use Rattle.search_engine.specs.Scope.{kept_by}
 
 -- how many spectra are added up at a time
 abbrev pub chunk : ℕ
-chunk = 256
+chunk = 544
 
 -- the sample of channel c
 abbrev pub mark_sample : List Bool → ℕ → ℕ
@@ -43,4 +43,4 @@ pub record TookChunks (before after : Carrying) (samples : List ℕ) (count : �
 -- the path sums of each delay that end at the last spectrum of the next chunk
 abbrev pub EndWith : Carrying → List ℕ → List ℕ → Type 0
 EndWith c samples sums = (f : Filterbank) (d : ℕ) → Repeats f samples → StandsForSamples c f →
-    d < length sums → slice_index sums d ≡ path_sum f c.tables.plan.edges (c.fed + 255) d
+    d < length sums → slice_index sums d ≡ path_sum f c.tables.plan.edges (c.fed + 543) d

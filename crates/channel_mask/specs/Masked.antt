@@ -1,7 +1,7 @@
 -- A search without the channels of a mask, from its opening to its text.
 -- Source: this project's choice.
-use Rattle.std.specs.Prelude.{◌≡◌, ℕ, ◌+◌, ◌^◌, ◌≤◌, ◌<◌, All, Bool, List, Result, length, slice_index}
-use Rattle.dada_model.specs.Bounds.{ObservationInRange}
+use Rattle.std.specs.Prelude.{◌≡◌, ℕ, ◌+◌, ◌^◌, ◌≤◌, ◌<◌, All, Bool, List, None, Result}
+use Rattle.dada_model.specs.Bounds.{ObservationInRange, most_delay}
 use Rattle.dada_model.specs.Observation.{Observation, edges}
 use Rattle.psr_base.specs.Written.{SinkSeen}
 use Rattle.search_model.specs.declared.search.Search.{Search}
@@ -14,25 +14,24 @@ use Rattle.candidate_book.specs.Merged.{WroteText}
 use Rattle.candidate_book.specs.declared.merged.Totals.{Totals}
 use Rattle.shard_search.specs.Sought.{cells_in}
 use Rattle.search_engine.specs.Engine.{EngineState, StandsForPart, scope_of, spectra_fed}
-use Rattle.search_engine.specs.Scope.{Scope, kept_by, scope_of_channels}
+use Rattle.search_engine.specs.Scope.{Scope, kept_by}
 
--- so many cells has each delay path, from 0 to the longest, in the channels that a mask keeps
-pub record AreCells (o : Observation) (max_delay : ℕ) (mask : List Bool) (counts : List ℕ)
-    : Type 0 where
-  pub count : length counts ≡ max_delay + 1
-  pub each : (d : ℕ) → d ≤ max_delay
-      → slice_index counts d ≡ kept_cells (kept_by mask) (edges o) o.channels d
-
--- the scope of the channels that a mask keeps, where their cells are counted up to the longest delay
+-- What is searched of an observation: all spectra and all ends, in the channels that a mask keeps. A path sum of each
+-- delay up to a longest one adds up the cells of its path in these, and none more cells than its path has.
 pub record IsScopeOf (o : Observation) (max_delay : ℕ) (mask : List Bool) (scope : Scope)
     : Type 0 where
-  pub counts : List ℕ
-  pub value : scope ≡ scope_of_channels mask counts
-  pub cells : AreCells o max_delay mask counts
+  pub keeps : (c : ℕ) → kept_by scope.masked c ≡ kept_by mask c
+  pub cells : (d : ℕ) → d ≤ max_delay
+      → cells_in scope.sought d ≡ kept_cells (kept_by mask) (edges o) o.channels d
+  pub few : (d : ℕ) → cells_in scope.sought d ≤ o.channels + d
+  pub first : scope.sought.first ≡ 0
+  pub place : scope.sought.place ≡ 0
+  pub until : scope.sought.until ≡ None
 
 -- an engine can tell how many cells it counts for each delay
-abbrev pub TellsCells : EngineState → Type 0
-TellsCells e = (d : ℕ) → cells_in (scope_of e).sought d < 2 ^ 32
+pub record TellsCells (e : EngineState) : Type 0 where
+  pub most : e.search.max_delay ≤ most_delay
+  pub small : (d : ℕ) → d ≤ most_delay → cells_in (scope_of e).sought d < 2 ^ 32
 
 -- it searches all delays of an observation in the channels that a mask keeps
 pub record SearchesKept (o : Observation) (s : Search) (mask : List Bool) (e : EngineState)

@@ -16,8 +16,9 @@ use search_model::path_sums_count_cells;
 use std::alloc::{AllocError, Global};
 use subband_plan::Plan;
 
-// How many spectra are added up at a time.
-const CHUNK: usize = 256;
+// How many spectra are added up at a time. Rows of so many values of 16 bits are an odd number of lines of the cache
+// apart, and two calls take the spectra of a delay of 1024.
+const CHUNK: usize = 544;
 
 // The sample of a channel.
 fn sample(is_masked: bool) -> u8

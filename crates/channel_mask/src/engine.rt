@@ -1,5 +1,6 @@
 // The engine of a search without the channels of a mask.
 ghost use Rattle.std.specs.Prelude.{◌≡◌, ℕ, ◌+◌, ◌≤◌, ◌++◌, [], false, true, None, Bool, List, length, OnOk, IfOk, IfErr};
+ghost use Rattle.dada_model.specs.Bounds.{most_delay};
 ghost use Rattle.dada_model.specs.Observation.{Observation as Described, edges as edges_of};
 ghost use Rattle.search_model.specs.declared.search.Search.{Search as Settings};
 ghost use Rattle.search_model.specs.Masks.{kept_cells};
@@ -19,9 +20,7 @@ use search_model::Search;
 use std::alloc::Global;
 use std::marker::Model;
 // Laws: they do nothing when they run, and the proofs use what they ensure.
-use dada_model::edges_fall;
-use search_engine::scopes_are_found;
-use search_model::{candidates_are_listed, one_shard_is_all, plain_is_unmasked};
+use search_model::{candidates_are_listed, cells_agree, one_shard_is_all};
 
 /// The search of all delays of an observation in the channels that a mask keeps: data bytes are fed in pieces that are
 /// cut anywhere, and the candidates are kept in a book. All memory is taken by `open`. A clause sees it as its engine.
@@ -58,8 +57,6 @@ impl MaskEngine {
         ensures refused { IfErr result (Explains (plan_refusal observation.now search.now)) }
     {
         observation.lies_in_range();
-        edges_fall();
-        plain_is_unmasked();
         check_plan(observation, search)?;
         let scope = mask.scope(alloc, observation, search.max_delay)?;
         let engine = Engine::open_for(alloc, observation, &search.in_one_shard(), 0, scope)?;
@@ -75,11 +72,9 @@ impl MaskEngine {
             → SearchesKept o s mask engine → HasFoundPart o bytes engine
             → HasFoundKept o s mask bytes result }
     {
-        edges_fall();
-        plain_is_unmasked();
         candidates_are_listed();
         one_shard_is_all();
-        scopes_are_found();
+        cells_agree();
         MaskEngine { engine }
     }
 
@@ -108,7 +103,7 @@ impl MaskEngine {
     {
         candidates_are_listed();
         one_shard_is_all();
-        scopes_are_found();
+        cells_agree();
         self.engine.end();
     }
 
@@ -132,11 +127,12 @@ impl MaskEngine {
         ensures { (o : Described) (s : Settings) (mask : List Bool) → SearchesKept o s mask self.now
             → result ≡ kept_cells (kept_by mask) (edges_of o) o.channels d }
     {
-        self.counted(d)
+        self.engine.cells(d)
     }
 
     // How many cells the engine counts for a delay.
     pub(crate) fn counted(&self, delay: u32) -> u32
+        requires { delay ≤ most_delay }
         ensures { result ≡ cells_in (scope_of self.now).sought delay }
     {
         self.engine.cells(delay)

@@ -1,5 +1,6 @@
 // What of an observation is searched without the channels of a mask.
-ghost use Rattle.std.specs.Prelude.{◌≡◌, ◌≤◌, length, IfOk};
+ghost use Rattle.std.specs.Prelude.{◌≡◌, ◌≤◌, length, not, IfOk};
+ghost use Rattle.std.specs.List.{list_all};
 ghost use Rattle.dada_model.specs.Bounds.{most_delay};
 ghost use Rattle.search_model.specs.declared.search.Search.{Search as Settings};
 ghost use Rattle.search_engine.specs.Scope.{FitsObservation};
@@ -16,7 +17,7 @@ use search_model::plain_is_unmasked;
 
 impl Mask {
     /// What a search of delays up to `max_delay` searches of the observation that the mask was read for: the channels
-    /// that it keeps, by the cells of theirs that each delay path has.
+    /// that it keeps, by the cells of theirs that each delay path has. Where it masks none, nothing is counted.
     pub fn scope(&self, alloc: Global, obs: &Observation, max_delay: u32) -> Result<Scope, Memory>
         requires channels { length self.now ≡ obs.now.channels }
         requires delay { max_delay ≤ most_delay }
@@ -27,9 +28,19 @@ impl Mask {
         obs.lies_in_range();
         edges_fall();
         plain_is_unmasked();
+        if are_none(self.masked.as_slice()) {
+            return Ok(Scope::whole(obs.channels()));
+        }
         let counts = self.count_cells(alloc, obs, max_delay)?;
         let mut masked = Vec::new(alloc);
         masked.extend_from_slice(self.masked.as_slice())?;
         Ok(Scope::of_channels(masked, counts))
     }
+}
+
+// Whether no channel is marked.
+fn are_none(marks: &[bool]) -> bool
+    ensures { result ≡ list_all (λ mark. not mark) marks.now }
+{
+    marks.iter().all(|mark| !*mark)
 }

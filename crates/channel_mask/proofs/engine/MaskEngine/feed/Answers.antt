@@ -5,7 +5,7 @@ use Rattle.channel_mask.proofs.Kept.{same_searches, tells_still}
 use Rattle.channel_mask.proofs.engine.MaskEngine.feed.Goals as goal
 
 pub invariant_of-self : goal.invariant_of-self
-invariant_of-self c = tells_still c.self.inside.engine c.feed.new.self c.feed.ensures.scope c.self.invariant
+invariant_of-self c = tells_still c.self.inside.engine c.feed.new.self c.feed.ensures.same c.feed.ensures.scope c.self.invariant
 
 pub returns-clause-stands : goal.returns-clause-stands
 returns-clause-stands c = λ o s mask before stands.

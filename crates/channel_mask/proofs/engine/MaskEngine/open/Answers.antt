@@ -28,7 +28,7 @@ invariant_of-result c =
       shard_is = c.in_ok-engine.ensures.opened.shard_is;
       scope = subst (IsScopeOf o s.max_delay mask) (sym c.in_ok-engine.ensures.scope) c.in_ok-scope.ensures.kept;
     } in
-    tells_cells c.edges_fall.ensures c.plain_is_unmasked.ensures o s mask e searches
+    tells_cells o s mask e searches
 
 pub returns-clause-stands : goal.returns-clause-stands
 returns-clause-stands c = record {
