@@ -8,7 +8,6 @@ use Rattle.search_words.specs.Settings.{SettingsSeen}
 use Rattle.stream_model.specs.Walk.{transfer_data}
 use Rattle.disk_feeder.specs.Plan.{AreTold}
 use Rattle.warm_restart.specs.declared.checkpoint.Checkpoint.{Checkpoint}
-use Rattle.warm_restart.specs.Counts.{greatest_count}
 use Rattle.warm_restart.specs.Named.{new_word}
 use Rattle.run_stop.specs.Lone.{SayAlone}
 use Rattle.run_stop.specs.Runs.{stream_for, first_observation}
@@ -25,15 +24,14 @@ pub record HasEnded (is_calm : Type 0) (words : List (List ℕ)) (seen : PartSee
 
 -- What they wrote: the first its lines, and the CHECK line of where it stopped and of its count, which is at most
 -- `limit`. Where CHECK of the second is this very line, the second wrote what is left: the lines, and then this, are the
--- text of the whole search. A checkpoint counts at most 2^48 pulses.
+-- text of the whole search.
 pub record WriteWhole (first second : PartSeen) (until limit : ℕ) (text : List ℕ)
     (second_words : List (List ℕ)) : Type 0 where
   pub lines : List ℕ
   pub count : ℕ
   pub few : count ≤ limit
   pub stops : WroteAll (lines ++ check_line until count) first.out_before first.out_after
-  pub goes_on : count ≤ greatest_count →
-      check_text_of second.inputs.told second_words ≡ Some (check_line until count) →
+  pub goes_on : check_text_of second.inputs.told second_words ≡ Some (check_line until count) →
       (rest : List ℕ) × WroteAll rest second.out_before second.out_after × (lines ++ rest ≡ text)
 
 -- The same options and files in both; the first begins with `new` and stops before the last spectrum, and the second

@@ -1,4 +1,4 @@
-use Rattle.std.proofs.Common.{true, false, inl, inr, map}
+use Rattle.std.proofs.Common.{inl, inr, map}
 use Rattle.std.specs.Prelude.{string_bytes}
 use Rattle.std.proofs.lemmas.Bool.{lt-ltb, le-ltb}
 use Rattle.search_words.specs.Settings.{settings_seen}
