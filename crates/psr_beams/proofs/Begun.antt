@@ -1,0 +1,213 @@
+-- The headers of beams are read one after another.
+use Rattle.std.proofs.Common.{◌≡◌, ◌≢◌, ◌⊎◌, ℕ, ◌+◌, ◌-◌, ◌<◌, List, [], ◌∷◌, ◌++◌, length, length-append, get_or, set, slice_get, Option, Some, None, Result, Err, refl, sym, ap, subst, ◌∙◌, inl, inr, arith}
+use Rattle.std.proofs.lemmas.Bool.{cases_lt}
+use Rattle.std.proofs.lemmas.List.{length-set, get_or-set_same, get_or-set_other, get_or_append_left, get_or-append_right, get_or_default}
+use Rattle.psr_base.specs.Inputs.{HasReadFrom}
+use Rattle.psr_base.specs.Told.{Told}
+use Rattle.dada_header.specs.declared.faults.HeaderFault.TheVariants as header
+use Rattle.search_words.specs.Settings.{SettingsSeen}
+use Rattle.disk_feeder.specs.declared.answers.FeedFault.{FeedFault}
+use Rattle.disk_feeder.specs.declared.answers.FeedFault.TheVariants as fault
+use Rattle.disk_feeder.specs.declared.feeder.FeederSpace.{FeederSpace}
+use Rattle.disk_feeder.specs.declared.source.Source.{Source}
+use Rattle.disk_feeder.specs.Feeder.{HasPlan, SamePlan, IsBegun, FirstsLeft, RefusesAt, HasOpenFile, header_at, names_at, plan_at}
+use Rattle.disk_feeder.specs.Filling.{HoldsAll}
+use Rattle.disk_feeder.specs.Plan.{HasHeaders, AreTold, begin_at}
+use Rattle.disk_feeder.specs.Resting.{at_rest}
+use Rattle.disk_feeder.specs.Sources.{first_name, plan_of, RefusesFirst}
+use Rattle.run_stop.specs.declared.stop.Stop.{Stop}
+use Rattle.run_stop.specs.declared.stop.Stop.TheVariants.{Memory, ReadFault}
+use Rattle.run_stop.specs.Firsts.{HasHeader}
+use Rattle.psr_beams.specs.Files.{beam_name, stream_of_one}
+use Rattle.psr_beams.specs.Feeders.{LeavesFile, HasBegun, SlotBegun, ReadsHeader, SaysText, FailsHeader, AreRead, AreBegun, stop_of_header_at}
+use Rattle.psr_beams.proofs.Counting.{retyped}
+use Rattle.psr_beams.proofs.OneFile.{one_told, holds_one, stream_is, some_of, one_there}
+
+-- ---- the plan of the feeder of one file
+
+pub new_plan : (old new : FeederSpace) (name : List ℕ) (starts : List ℕ) (size most : ℕ) →
+    HasPlan (at_rest old) (name ∷ []) starts size most → SamePlan (at_rest old) (at_rest new) →
+    HasPlan (at_rest new) (name ∷ []) starts size most
+new_plan old new name starts size most plan same = record {
+  files = same.names ∙ plan.files;
+  transfers = same.starts ∙ plan.transfers;
+  limit = same.limit ∙ plan.limit;
+  block = same.size ∙ plan.block;
+  headers = same.headers ∙ plan.headers;
+}
+
+module _ (s : SettingsSeen) (name : List ℕ) (old : FeederSpace) (starts : s.starts ≡ 0 ∷ [])
+    (plan : HasPlan (at_rest old) (name ∷ []) s.starts s.size s.max_bytes) where
+  abbrev source : Source
+  source = old.stream.source
+
+  starts_are : source.starts.now ≡ 0 ∷ []
+  starts_are = plan.transfers ∙ starts
+
+  name_is : first_name source 0 ≡ name
+  name_is = ap (λ st. get_or (plan_of source).names (begin_at st (length source.names.now) 0) []) starts_are
+      ∙ ap (λ ns. get_or ns 0 []) plan.files
+
+  -- ---- the header was read
+
+  pub left : (before after : Told) → FirstsLeft before (at_rest old) after → LeavesFile before name after
+  left before after firsts file at =
+      firsts 0 (sym (ap length starts_are)) file (ap before.bytes_under name_is ∙ at)
+
+  module _ {I : Type 0} (told : I → Told) (is_open is_calm : I → Type 0) (faults : I → ℕ) (before after : I)
+      (new : FeederSpace) where
+    pub begun : SamePlan (at_rest old) (at_rest new) → IsBegun (told after) (at_rest new) →
+        (HasOpenFile (at_rest new) → is_open after) → HasBegun told is_open s name after new
+    begun same is file = record {
+      plan = new_plan old new name s.starts s.size s.max_bytes plan same;
+      begun = is;
+      file = file;
+    }
+
+    text : (told after).bytes_under ≡ (told before).bytes_under → SamePlan (at_rest old) (at_rest new) →
+        IsBegun (told after) (at_rest new) → (file : List ℕ) → (told before).bytes_under name ≡ Some file →
+        HasHeader file
+    text names same is file at =
+        let p = plan_at (at_rest new) in
+        let kept = new_plan old new name s.starts s.size s.max_bytes plan same in
+        let now : (told after).bytes_under name ≡ Some file =
+        subst (λ (under : List ℕ → Option (List ℕ)). under name ≡ Some file) (sym names) at in
+        let are = subst (λ ns. AreTold (told after) ns (file ∷ [])) (sym kept.files)
+        (one_told name file (told after) now) in
+        let h = some_of (slice_get (header_at (at_rest new)) 0)
+        (one_there (header_at (at_rest new)) (kept.headers ∙ ap length starts)) in
+        let have : HasHeaders p (stream_of_one s file) =
+        subst (HasHeaders p) (stream_is p s file (kept.transfers ∙ starts) kept.limit) (is.headers (file ∷ []) are) in
+        (h.0, have 0 h.0 h.1)
+
+    pub reads : (failed : Type 0) → ¬ failed → SamePlan (at_rest old) (at_rest new) →
+        IsBegun (told after) (at_rest new) → FirstsLeft (told before) (at_rest old) (told after) →
+        HasReadFrom told is_calm faults failed before after →
+        ReadsHeader told is_calm faults name before after
+    reads failed not same is firsts read = record {
+      read = retyped told is_calm faults failed ⊥ before after not (λ e. absurd e) read;
+      left = left (told before) (told after) firsts;
+      text = text read.names same is;
+    }
+
+  -- ---- it was not
+
+  refused : (told : Told) (f : FeedFault) → RefusesAt told (at_rest old) f → (file : List ℕ) →
+      told.bytes_under name ≡ Some file → (number : ℕ) × RefusesFirst file number f
+  refused told f r file at =
+      let there = r.there in
+      let count = ap length starts_are in
+      let zeroth : r.transfer ≡ 0 = omega (arith, there, count) in
+      let at_first : told.bytes_under (first_name source r.transfer) ≡ Some file =
+      ap (λ k. told.bytes_under (first_name source k)) zeroth ∙ ap told.bytes_under name_is ∙ at in
+      (_, r.refuses file at_first)
+
+  says : (told : Told) (beam : ℕ) (f : FeedFault) → RefusesAt told (at_rest old) f →
+      SaysText told name beam (stop_of_header_at beam f)
+  says told beam fault.ReadFault r = tt
+  says told beam (fault.BadHeader k header.Memory) r = tt
+  says told beam (fault.BadHeader k (header.Short had)) r =
+      (refl, λ file at. (refused told (fault.BadHeader k (header.Short had)) r file at).1.1)
+  says told beam (fault.BadHeader k (header.NotText place)) r =
+      (refl, λ file at. (refused told (fault.BadHeader k (header.NotText place)) r file at).1.1)
+  says told beam (fault.BadHeader k header.BadSize) r =
+      (refl, λ file at. (refused told (fault.BadHeader k header.BadSize) r file at).1.1)
+
+  unread : (before after : Told) (beam : ℕ) (f : FeedFault) → RefusesAt before (at_rest old) f →
+      stop_of_header_at beam f ≡ Memory → (after ≡ before) ⊎ LeavesFile before name after
+  unread before after beam fault.ReadFault r is = absurd cc
+  unread before after beam (fault.BadHeader k header.Memory) r is =
+      inr (λ file at. absurd (refused before (fault.BadHeader k header.Memory) r file at).1.1)
+  unread before after beam (fault.BadHeader k (header.Short had)) r is = absurd cc
+  unread before after beam (fault.BadHeader k (header.NotText place)) r is = absurd cc
+  unread before after beam (fault.BadHeader k header.BadSize) r is = absurd cc
+
+  -- a stop says that the inputs failed exactly where they did
+  abbrev bad : FeedFault → Result (Unit {0}) FeedFault
+  bad f = Err f
+
+  fails_there : (beam : ℕ) (f : FeedFault) → bad f ≡ bad fault.ReadFault → stop_of_header_at beam f ≡ ReadFault
+  fails_there beam fault.ReadFault e = refl
+  fails_there beam (fault.BadHeader k cause) e = absurd cc
+
+  fails_back : (beam : ℕ) (f : FeedFault) → stop_of_header_at beam f ≡ ReadFault → bad f ≡ bad fault.ReadFault
+  fails_back beam fault.ReadFault e = refl
+  fails_back beam (fault.BadHeader k header.Memory) e = absurd cc
+  fails_back beam (fault.BadHeader k (header.Short had)) e = absurd cc
+  fails_back beam (fault.BadHeader k (header.NotText place)) e = absurd cc
+  fails_back beam (fault.BadHeader k header.BadSize) e = absurd cc
+
+  pub fails : {I : Type 0} (told : I → Told) (is_calm : I → Type 0) (faults : I → ℕ) (beam : ℕ) (before after : I)
+      (f : FeedFault) (stop : Stop) → RefusesAt (told before) (at_rest old) f →
+      HasReadFrom told is_calm faults (bad f ≡ bad fault.ReadFault) before after →
+      (is_calm before → HoldsAll (told before) (names_at (at_rest old)) → bad f ≢ bad fault.ReadFault) →
+      stop ≡ stop_of_header_at beam f → FailsHeader told is_calm faults name beam before after stop
+  fails told is_calm faults beam before after f stop r read serves is =
+      subst (λ (x : Stop). FailsHeader told is_calm faults name beam before after x) (sym is) (record {
+        read = retyped told is_calm faults (bad f ≡ bad fault.ReadFault) (stop_of_header_at beam f ≡ ReadFault) before
+            after (fails_there beam f) (fails_back beam f) read;
+        serves = λ calm there e. serves calm
+            (subst (HoldsAll (told before)) (sym plan.files) (holds_one name (told before) there))
+            (fails_back beam f e);
+        says = says (told before) beam f r;
+        unread = unread (told before) (told after) beam f r;
+      })
+
+-- ---- one beam after another
+
+module _ {I : Type 0} (told : I → Told) (is_open is_calm : I → Type 0) (faults : I → ℕ) (s : SettingsSeen) where
+  none_less : (n : ℕ) → n - n ≡ 0
+  none_less n = omega arith
+
+  pub read_more : (n : ℕ) (before mid : List I) (old new : I) → AreRead told is_calm faults s n before mid →
+      n < length mid → ReadsHeader told is_calm faults (beam_name s n) (get_or mid n old) new →
+      AreRead told is_calm faults s (n + 1) before (set mid n new)
+  read_more n before mid old new all within read = record {
+    lent = length-set mid n new ∙ all.lent;
+    each = λ k x below. elim (cases_lt k n) [
+      | inl less ↦
+          let other : k ≢ n = λ e. omega (arith, e, less) in
+          subst (λ z. ReadsHeader told is_calm faults (beam_name s k) (get_or before k x) z)
+          (sym (get_or-set_other mid n k new x other)) (all.each k x less)
+      | inr above ↦
+          let same : n ≡ k = omega (arith, below, above) in
+          let P : ℕ → Type 0 = λ j. ReadsHeader told is_calm faults (beam_name s j) (get_or before j x)
+          (get_or (set mid n new) j x) in
+          let was : get_or mid n old ≡ get_or before n x =
+          get_or_default mid n old x within ∙ all.others n x (omega arith) in
+          subst P same (subst (λ z. ReadsHeader told is_calm faults (beam_name s n) (get_or before n x) z)
+          (sym (get_or-set_same mid n new x within))
+          (subst (λ z. ReadsHeader told is_calm faults (beam_name s n) z new) was read))
+    ];
+    others = λ k x over.
+        let other : k ≢ n = λ e. omega (arith, e, over) in
+        get_or-set_other mid n k new x other ∙ all.others k x (omega (arith, over));
+  }
+
+  pub begun_more : (n : ℕ) (mid : List I) (new : I) (slots more : List (Option FeederSpace)) (space : FeederSpace) →
+      AreBegun told is_open s n mid slots → n < length mid → HasBegun told is_open s (beam_name s n) new space →
+      more ≡ slots ++ Some space ∷ [] → AreBegun told is_open s (n + 1) (set mid n new) more
+  begun_more n mid new slots more space all within is grown =
+      let count = all.many in
+      record {
+        many = ap length grown ∙ length-append slots (Some space ∷ []) ∙ ap (λ k. k + 1) count;
+        each = λ k x below. elim (cases_lt k n) [
+          | inl less ↦
+              let other : k ≢ n = λ e. omega (arith, e, less) in
+              let slot : get_or more k None ≡ get_or slots k None = ap (λ xs. get_or xs k None) grown
+              ∙ get_or_append_left slots (Some space ∷ []) None k (omega (arith, less, count)) in
+              subst (λ z. SlotBegun told is_open s (beam_name s k) z (get_or more k None))
+              (sym (get_or-set_other mid n k new x other))
+              (subst (λ z. SlotBegun told is_open s (beam_name s k) (get_or mid k x) z) (sym slot) (all.each k x less))
+          | inr above ↦
+              let same : n ≡ k = omega (arith, below, above) in
+              let P : ℕ → Type 0 = λ j. SlotBegun told is_open s (beam_name s j) (get_or (set mid n new) j x)
+              (get_or more j None) in
+              let slot : get_or more n None ≡ Some space = ap (λ xs. get_or xs n None) grown
+              ∙ get_or-append_right slots (Some space ∷ []) n n None count (omega arith)
+              ∙ ap (λ j. get_or (Some space ∷ []) j None) (none_less n) in
+              subst P same (subst (λ z. SlotBegun told is_open s (beam_name s n) z (get_or more n None))
+              (sym (get_or-set_same mid n new x within))
+              (subst (λ z. SlotBegun told is_open s (beam_name s n) new z) (sym slot) is))
+        ];
+      }

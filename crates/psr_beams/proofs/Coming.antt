@@ -1,0 +1,92 @@
+-- What a beam came to, said of its file.
+use Rattle.std.proofs.Common.{◌≡◌, ◌≢◌, ℕ, List, [], ◌∷◌, length, Option, Some, None, refl, sym, ap, subst, ◌∙◌, arith}
+use Rattle.psr_base.specs.Told.{Told}
+use Rattle.dada_model.specs.Observation.{Observation}
+use Rattle.search_words.specs.Settings.{SettingsSeen}
+use Rattle.stream_model.specs.Blocks.{joined_data}
+use Rattle.stream_model.specs.Walk.{FileStream, transfer_data, walk_data, walk_stop}
+use Rattle.disk_feeder.specs.declared.answers.FeedEnd.{FeedEnd}
+use Rattle.disk_feeder.specs.declared.answers.FeedEnd.TheVariants.{Whole, ReadFault, BadHeader, Gap, TooLong}
+use Rattle.disk_feeder.specs.Ends.{end_of}
+use Rattle.disk_feeder.specs.Feeder.{plan_at}
+use Rattle.disk_feeder.specs.Feeding.{EndIs, IsWalkEnd}
+use Rattle.disk_feeder.specs.Filling.{HoldsAll}
+use Rattle.disk_feeder.specs.Plan.{stream_of, AreTold}
+use Rattle.disk_feeder.specs.Resting.{at_rest}
+use Rattle.beam_set.specs.declared.beam.Beam.{Beam}
+use Rattle.beam_set.specs.declared.ended.BeamEnd.{BeamEnd}
+use Rattle.beam_set.specs.Beam.{feeder_in}
+use Rattle.beam_set.specs.Answers.{BeamAnswers, session_of}
+use Rattle.beam_set.specs.Sets.{SlotAnswers}
+use Rattle.search_session.specs.Sessions.{data_through}
+use Rattle.psr_beams.specs.Engines.{IsBeamOf}
+use Rattle.psr_beams.specs.Driven.{HasCome, HasSlotCome}
+use Rattle.psr_beams.proofs.OneFile.{one_told, holds_one, stream_is, one_data}
+
+-- the end is that of the walk where the inputs did not fail
+walk_end : (w : FileStream) (size : ℕ) (blocks : _) (end : FeedEnd) → EndIs w size blocks end →
+    end ≢ ReadFault → IsWalkEnd w size blocks end
+walk_end w size blocks (Whole bytes) is not = is
+walk_end w size blocks ReadFault is not = absurd (not refl)
+walk_end w size blocks (BadHeader file cause) is not = is
+walk_end w size blocks (Gap file expected found) is not = is
+walk_end w size blocks (TooLong limit) is not = is
+
+same_inside : {X : Type 0} (x y : X) → Some x ≡ Some y → x ≡ y
+same_inside x y is = cc
+
+none_inside : {X : Type 0} (x : X) → None ≡ Some x → ⊥
+none_inside x is = cc
+
+module _ {I : Type 0} (told : I → Told) (is_calm : I → Type 0) (faults : I → ℕ) (s : SettingsSeen) (o : Observation)
+    (name : List ℕ) (before after : I) where
+  pub has_come : (beam : Beam) (end : BeamEnd) → s.starts ≡ 0 ∷ [] → IsBeamOf (told before) s o name beam →
+      BeamAnswers told is_calm faults beam before after end →
+      HasCome told is_calm faults s o name before after end
+  has_come beam end one is answers =
+      let plan = plan_at (at_rest (feeder_in beam)) in
+      let feed = answers.feed in
+      let starts : plan.starts ≡ 0 ∷ [] = is.plan.transfers ∙ one in
+      let Under : (List ℕ → Option (List ℕ)) → List ℕ → Type 0 = λ under file. under name ≡ Some file in
+      record {
+        read = record {
+          names = feed.names;
+          count = feed.count;
+          rose = feed.failed;
+          quiet = feed.quiet;
+          calm = feed.calm;
+        };
+        serves = λ calm there. feed.serves calm
+            (subst (HoldsAll (told before)) (sym is.plan.files) (holds_one name (told before) there));
+        walked = λ not file at.
+            let now = subst (λ under. Under under file) (sym feed.names) at in
+            let are = subst (λ ns. AreTold (told after) ns (file ∷ [])) (sym is.plan.files)
+            (one_told name file (told after) now) in
+            let ended = walk_end (stream_of plan (file ∷ [])) _ _ end.feed (feed.sealed.known (file ∷ []) are) not in
+            let same = stream_is plan s file starts is.plan.limit in
+            let walk = stream_of plan (file ∷ []) in
+            let total = length (joined_data (walk_data walk)) in (
+              total,
+              ended.is ∙ ap (λ n. end_of total n (walk_stop walk)) is.plan.limit
+                  ∙ ap (λ (w : FileStream). end_of total s.max_bytes (walk_stop w)) same,
+            );
+        bytes = data_through (session_of after end answers.blocks) 0;
+        held = λ n whole. answers.held s.search o n whole is.searches;
+        known = λ n whole file at.
+            let now = subst (λ under. Under under file) (sym feed.names) at in
+            let are = subst (λ ns. AreTold (told after) ns (file ∷ [])) (sym is.plan.files)
+            (one_told name file (told after) now) in
+            let count : length plan.starts ≡ 1 = ap length starts in
+            let same = stream_is plan s file starts is.plan.limit in
+            feed.walked n whole (file ∷ []) are 0 (omega (arith, count))
+            ∙ ap (λ (w : FileStream). transfer_data w 0) same ∙ one_data s file;
+      }
+
+  pub slot_come : (slot : Option Beam) (end : Option BeamEnd) (beam : Beam) → slot ≡ Some beam → s.starts ≡ 0 ∷ [] →
+      IsBeamOf (told before) s o name beam → SlotAnswers told is_calm faults slot before after end →
+      HasSlotCome told is_calm faults s o name before after end
+  slot_come None end beam is one beam_is answers = absurd (none_inside beam is)
+  slot_come (Some b) None beam is one beam_is answers = absurd answers
+  slot_come (Some b) (Some e) beam is one beam_is answers =
+      has_come beam e one beam_is
+      (subst (λ x. BeamAnswers told is_calm faults x before after e) (same_inside b beam is) answers)

@@ -1,0 +1,112 @@
+-- The ends of all beams, looked through in their order.
+use Rattle.std.proofs.Common.{◌≡◌, ℕ, ◌+◌, ◌<◌, ◌≤◌, inl, inr, List, [], All, map, length, get_or, Option, Some, None, sym, ap, subst, ◌∙◌, arith}
+use Rattle.std.proofs.lemmas.Bool.{cases_lt}
+use Rattle.std.proofs.lemmas.List.{get_or_default}
+use Rattle.dada_model.specs.Observation.{Observation}
+use Rattle.search_model.specs.declared.search.Search.{Search}
+use Rattle.psr_base.specs.Written.{SinkSeen, WroteAll, WroteFront}
+use Rattle.search_model.specs.Observed.{candidates_of, labels_of}
+use Rattle.search_model.specs.Search.{SettingsInRange}
+use Rattle.candidate_book.specs.Book.{BookContents}
+use Rattle.beam_set.specs.declared.ended.BeamEnd.{BeamEnd}
+use Rattle.beam_set.specs.Beams.{CanBeWritten, found_in}
+use Rattle.beam_set.specs.Laws.{HoldsData, BeamsHoldData, SearchedBeamsAreFound}
+use Rattle.beam_set.specs.Searched.{found_by, searched_beams_text}
+use Rattle.beam_set.specs.Text.{beams_text}
+use Rattle.run_stop.specs.declared.stop.Stop.{Stop}
+use Rattle.run_stop.specs.declared.stop.Stop.TheVariants.{TooMany}
+use Rattle.psr_beams.specs.Ends.{slot_stop, stop_in, slot_count, counted_in, StopsFirst, CountsTooMany, NoneCountsTooMany}
+
+module _ (ends : List (Option BeamEnd)) where
+  -- what stands at a place
+  here : (n : ℕ) (slot : Option BeamEnd) → slot ≡ get_or ends n slot → n < length ends → get_or ends n None ≡ slot
+  here n slot is within = get_or_default ends n None slot within ∙ sym is
+
+  -- one more
+  more : (P : ℕ → Type 0) (n : ℕ) → ((k : ℕ) → k < n → P k) → P n → (k : ℕ) → k < n + 1 → P k
+  more P n before last k within = elim (cases_lt k n) [
+    | inl below ↦ before k below
+    | inr above ↦ let same : n ≡ k = omega (arith, within, above) in subst P same last
+  ]
+
+  pub none_more : (n : ℕ) (slot : Option BeamEnd) → ((k : ℕ) → k < n → stop_in ends k ≡ None) →
+      slot ≡ get_or ends n slot → n < length ends → slot_stop n slot ≡ None → (k : ℕ) → k < n + 1 →
+      stop_in ends k ≡ None
+  none_more n slot before is within none =
+      more (λ k. stop_in ends k ≡ None) n before (ap (slot_stop n) (here n slot is within) ∙ none)
+
+  pub stops_here : (n : ℕ) (slot : Option BeamEnd) (stop : Stop) → ((k : ℕ) → k < n → stop_in ends k ≡ None) →
+      slot ≡ get_or ends n slot → n < length ends → slot_stop n slot ≡ Some stop → StopsFirst ends stop
+  stops_here n slot stop before is within some = record {
+    beam = n;
+    there = within;
+    is = ap (slot_stop n) (here n slot is within) ∙ some;
+    earlier = before;
+  }
+
+  pub few_more : (limit n : ℕ) (slot : Option BeamEnd) (count : ℕ) → ((k : ℕ) → k < n → counted_in ends k ≤ limit) →
+      slot ≡ get_or ends n slot → n < length ends → count ≡ slot_count slot → count ≤ limit → (k : ℕ) → k < n + 1 →
+      counted_in ends k ≤ limit
+  few_more limit n slot count before is within counted few =
+      more (λ k. counted_in ends k ≤ limit) n before
+      (subst (λ m. m ≤ limit) (counted ∙ ap slot_count (sym (here n slot is within))) few)
+
+  pub many_here : (limit n : ℕ) (slot : Option BeamEnd) (count : ℕ) → ((k : ℕ) → k < n → counted_in ends k ≤ limit) →
+      slot ≡ get_or ends n slot → n < length ends → count ≡ slot_count slot → limit < count →
+      CountsTooMany ends limit (TooMany count limit)
+  many_here limit n slot count before is within counted many =
+      let same = counted ∙ ap slot_count (sym (here n slot is within)) in
+      record {
+        beam = n;
+        there = within;
+        is = ap (λ m. TooMany m limit) same;
+        many = subst (λ m. limit < m) same many;
+        earlier = before;
+      }
+
+  -- ---- the lists
+
+  module _ (o : Observation) (s : Search) where
+    counted_is : (bytes : List ℕ) (slot : Option BeamEnd) → HoldsData o s bytes slot →
+        slot_count slot ≡ length (candidates_of o s bytes)
+    counted_is bytes None held = absurd held
+    counted_is bytes (Some end) (book, spectra) = ap (λ (b : BookContents). b.count) book
+
+    pub counts : (data_of_beams : List (List ℕ)) (k : ℕ) → BeamsHoldData o s data_of_beams ends → k < length ends →
+        counted_in ends k ≡ length (candidates_of o s (get_or data_of_beams k []))
+    counts data_of_beams k held within =
+        let many = held.count in
+        counted_is (get_or data_of_beams k []) (get_or ends k None) (held.each k (omega (arith, within, many)))
+
+    -- none is longer than the limit
+    pub few_lists : (data_of_beams : List (List ℕ)) → BeamsHoldData o s data_of_beams ends →
+        NoneCountsTooMany ends s.max_candidates →
+        All (λ bytes. length (candidates_of o s bytes) ≤ s.max_candidates) data_of_beams
+    few_lists data_of_beams held few k d within =
+        let many = held.count in
+        let there : k < length ends = omega (arith, within, many) in
+        let P : List ℕ → Type 0 = λ bytes. length (candidates_of o s bytes) ≤ s.max_candidates in
+        subst P (get_or_default data_of_beams k [] d within)
+        (subst (λ m. m ≤ s.max_candidates) (counts data_of_beams k held there) (few k there))
+
+    -- ---- the text
+
+    module _ (law : SearchedBeamsAreFound) (range : SettingsInRange s) (data_of_beams : List (List ℕ))
+        (held : BeamsHoldData o s data_of_beams ends) (few : NoneCountsTooMany ends s.max_candidates) where
+      found : CanBeWritten ends × (found_in ends ≡ map (found_by o s) data_of_beams)
+      found = law o s data_of_beams ends range held (few_lists data_of_beams held few)
+
+      pub can_be_written : CanBeWritten ends
+      can_be_written = found.0
+
+      pub text_written : (within more_than : ℕ) (before after : SinkSeen) →
+          WroteAll (beams_text (labels_of o) within more_than (found_in ends)) before after →
+          WroteAll (searched_beams_text o s within more_than data_of_beams) before after
+      text_written within more_than before after wrote =
+          subst (λ fs. WroteAll (beams_text (labels_of o) within more_than fs) before after) found.1 wrote
+
+      pub text_front : (within more_than : ℕ) (before after : SinkSeen) →
+          WroteFront (beams_text (labels_of o) within more_than (found_in ends)) before after →
+          WroteFront (searched_beams_text o s within more_than data_of_beams) before after
+      text_front within more_than before after wrote =
+          subst (λ fs. WroteFront (beams_text (labels_of o) within more_than fs) before after) found.1 wrote

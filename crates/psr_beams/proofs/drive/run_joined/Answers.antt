@@ -1,0 +1,25 @@
+use Rattle.psr_beams.specs.Seen.{told_at}
+use Rattle.psr_beams.proofs.Running.{set_begins, have_come}
+use Rattle.psr_beams.proofs.drive.run_joined.Goals as goal
+
+pub join_all-beams-requires : goal.join_all-beams-requires
+join_all-beams-requires g c = (
+  told_at g.I.Inputs.told c.args.inputs.now,
+  c.requires.0,
+  c.requires.1,
+  c.requires.2.joins,
+)
+
+pub run_set-requires-after_bounds : goal.run_set-requires-after_bounds
+run_set-requires-after_bounds g c = λ lifetimes lives.
+    let can = c.requires.2 in
+    set_begins g.I.Inputs.told g.I.Inputs.is_open c.requires.0 c.args.observation.now c.requires.1 c.args.inputs.now
+    c.args.spaces.items c.args.feeders.items can c.join_all-beams.result.items
+    (c.join_all-beams.ensures (told_at g.I.Inputs.told c.args.inputs.now) c.requires.0 c.requires.1 can.joins)
+
+pub returns : goal.returns
+returns g c = λ s count can.
+    have_come g.I.Inputs.told g.I.Inputs.is_open s c.args.observation.now count c.args.inputs.now c.args.spaces.items
+    c.args.feeders.items can c.join_all-beams.result.items
+    (c.join_all-beams.ensures (told_at g.I.Inputs.told c.args.inputs.now) s count can.joins) g.I.Inputs.is_calm
+    g.I.Inputs.faults c.run_set.new.inputs c.run_set.result.items c.run_set.ensures

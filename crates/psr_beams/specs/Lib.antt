@@ -1,0 +1,16 @@
+pub mod Words
+pub mod Seen
+pub mod Files
+pub mod Refusals
+pub mod Found
+pub mod Stops
+pub mod Outcome
+pub mod Causes
+pub mod Sample
+pub mod Judged
+pub mod Opened
+pub mod Feeders
+pub mod Engines
+pub mod Joined
+pub mod Ends
+pub mod Driven

@@ -1,0 +1,133 @@
+// What the ends of all beams come to.
+ghost use Rattle.std.specs.Prelude.{◌≡◌, ◌≤◌, ℕ, List, length, None, IfSome};
+ghost use Rattle.search_model.specs.Search.{SettingsInRange};
+ghost use Rattle.beam_set.specs.Laws.{BeamsHoldData};
+ghost use Rattle.psr_beams.specs.Ends.{stop_of_beam, slot_stop as slot_stop_of, slot_count as slot_count_of, StopsFirst, NoneStops, CountsTooMany, NoneCountsTooMany, EndsWritten, EndsBeams};
+
+use beam_set::{BeamEnd, write_beams};
+use disk_feeder::FeedEnd;
+use obs_plan::Observation;
+use psr_base::Sink;
+use run_stop::Stop;
+use search_model::Search;
+// A law: it does nothing when it runs, and the proofs use what it ensures.
+use beam_set::searched_beams_are_found;
+
+// The stop of a beam whose feeder ended so, or none.
+fn beam_stop(beam: u32, end: FeedEnd) -> Option<Stop>
+    ensures { result ≡ stop_of_beam beam end }
+{
+    match end {
+        FeedEnd::Whole { .. } => None,
+        FeedEnd::ReadFault => Some(Stop::ReadFault),
+        FeedEnd::BadHeader { file: _, cause } => Some(Stop::Header { file: beam, cause }),
+        FeedEnd::Gap {
+            file: _,
+            expected,
+            found,
+        } => Some(Stop::Gap {
+            file: beam,
+            expected,
+            found,
+        }),
+        FeedEnd::TooLong { limit } => Some(Stop::TooLong { limit }),
+    }
+}
+
+// The stop of the beam of a slot, or none.
+fn slot_stop(beam: u32, slot: &Option<BeamEnd>) -> Option<Stop>
+    ensures { result ≡ slot_stop_of beam slot.now }
+{
+    match slot {
+        Some(end) => beam_stop(beam, end.feed),
+        None => None,
+    }
+}
+
+// How many candidates the beam of a slot counted.
+fn slot_count(slot: &Option<BeamEnd>) -> u64
+    ensures { result ≡ slot_count_of slot.now }
+{
+    match slot {
+        Some(end) => end.book.count(),
+        None => 0,
+    }
+}
+
+// The stop of the lowest beam that stopped, or none.
+fn first_stop(ends: &[Option<BeamEnd>]) -> Option<Stop>
+    requires { length ends.now ≤ 7 }
+    ensures none { result ≡ None → NoneStops ends.now }
+    ensures first { IfSome result (StopsFirst ends.now) }
+{
+    for beam in 0..ends.len() {
+        if let Some(stop) = slot_stop(beam as u32, &ends[beam]) {
+            return Some(stop);
+        }
+    }
+    None
+}
+
+// The stop at the lowest beam that has more candidates than there may be, or none.
+fn first_crowded(ends: &[Option<BeamEnd>], limit: u32) -> Option<Stop>
+    ensures none { result ≡ None → NoneCountsTooMany ends.now limit }
+    ensures first { IfSome result (CountsTooMany ends.now limit) }
+{
+    for beam in 0..ends.len() {
+        let count = slot_count(&ends[beam]);
+        if count > u64::from(limit) {
+            return Some(Stop::TooMany { count, limit });
+        }
+    }
+    None
+}
+
+// Writes the text of all beams, none of which stopped or has too many candidates.
+fn write_text<K: Sink>(
+    search: &Search,
+    observation: &Observation,
+    within: u32,
+    more: u32,
+    ends: &[Option<BeamEnd>],
+    out: &mut K,
+) -> Option<Stop>
+    requires range { SettingsInRange search.now }
+    requires whole { NoneStops ends.now }
+    requires few { NoneCountsTooMany ends.now search.now.max_candidates }
+    requires found { (data_of_beams : List (List ℕ))
+        × BeamsHoldData observation.now search.now data_of_beams ends.now }
+    ensures { EndsWritten observation.now search.now within more ends.now (K.seen out.old)
+        (K.seen out.new) result }
+{
+    searched_beams_are_found();
+    match write_beams(ends, observation, within, more, out) {
+        Ok(()) => None,
+        Err(_fault) => Some(Stop::SinkFault),
+    }
+}
+
+/// Writes the text of what was found, where no beam stopped or has too many candidates, and answers what the search
+/// came to.
+pub(crate) fn write_end<K: Sink>(
+    search: &Search,
+    observation: &Observation,
+    within: u32,
+    more: u32,
+    ends: &[Option<BeamEnd>],
+    out: &mut K,
+) -> Option<Stop>
+    requires range { SettingsInRange search.now }
+    requires few { length ends.now ≤ 7 }
+    requires found { NoneStops ends.now → (data_of_beams : List (List ℕ))
+        × BeamsHoldData observation.now search.now data_of_beams ends.now }
+    ensures { EndsBeams observation.now search.now within more ends.now (K.seen out.old)
+        (K.seen out.new) result }
+{
+    if let Some(stop) = first_stop(ends) {
+        return Some(stop);
+    }
+    if let Some(stop) = first_crowded(ends, search.max_candidates) {
+        return Some(stop);
+    }
+    write_text(search, observation, within, more, ends, out)
+}
