@@ -1,4 +1,2 @@
 mod Endings
 mod Accepted
-mod ReadBack
-mod ObservedAlike

@@ -4,8 +4,5 @@
 mod laws;
 mod top;
 
-pub use laws::{
-    accepted_is_recorded, recorded_can_be_searched, recorded_files_are_read_back,
-    recorded_is_observed_alike, recorded_is_read_back, recorded_is_searched_alike,
-};
+pub use laws::accepted_is_recorded;
 pub use top::run_record;

@@ -2,3 +2,4 @@ pub mod Accepted
 pub mod Causes
 pub mod Endings
 pub mod SampleText
+pub mod RecordedText

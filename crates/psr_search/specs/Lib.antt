@@ -2,3 +2,4 @@ pub mod Outcome
 pub mod Causes
 pub mod Ends
 pub mod Sample
+pub mod RecordedSample

@@ -2,6 +2,7 @@
 // its function.
 ghost use Rattle.psr_search.specs.Causes.{CausesAreAnswered, ToldRoomIsEnough};
 ghost use Rattle.psr_search.specs.Outcome.{AcceptedIsSearched};
+ghost use Rattle.psr_search.specs.RecordedSample.{BothAreRecorded, BothAreTooMany};
 ghost use Rattle.psr_search.specs.Sample.{SampleIsFound};
 
 use psr_base::Inputs;
@@ -35,3 +36,18 @@ pub fn told_room_is_enough<I: Inputs>()
 pub fn sample_is_found<I: Inputs>()
     ensures { (inputs : I) → SampleIsFound (I.is_calm inputs) }
 {}
+
+/// The sample of two observations is found and recorded: a search of them that records ends with status 0, its five lines
+/// and its three files, or there is no memory, where nothing counts a fault.
+pub fn both_samples_are_recorded<I: Inputs>()
+    ensures { (inputs : I) → BothAreRecorded (I.is_calm inputs) }
+{
+    accepted_is_searched::<I>();
+}
+
+/// A search of the same two, of which no candidate may be, ends with status 9, or there is no memory.
+pub fn both_samples_are_too_many<I: Inputs>()
+    ensures { (inputs : I) → BothAreTooMany (I.is_calm inputs) }
+{
+    causes_are_answered::<I>();
+}

@@ -7,5 +7,8 @@ mod top;
 mod writing;
 
 pub use in_memory::run_in_memory;
-pub use laws::{accepted_is_searched, causes_are_answered, sample_is_found, told_room_is_enough};
+pub use laws::{
+    accepted_is_searched, both_samples_are_recorded, both_samples_are_too_many,
+    causes_are_answered, sample_is_found, told_room_is_enough,
+};
 pub use top::run;

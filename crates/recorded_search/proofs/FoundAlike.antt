@@ -4,7 +4,7 @@ use Rattle.psr_base.specs.Written.{WroteAll}
 use Rattle.search_model.specs.declared.search.Search.{Search}
 use Rattle.transfer_text.specs.Searched.{searched_text, candidate_total}
 use Rattle.run_stop.specs.Runs.{stream_for, observed_transfers, CanSearchFirst}
-use Rattle.psr_record.specs.Outcome.{RecordedIsSearchedAlike, RecordedCanBeSearched}
+use Rattle.recorded_search.specs.ReadBack.{RecordedIsSearchedAlike, RecordedCanBeSearched}
 use Rattle.recorded_search.specs.Again.{RecordedIsFoundAlike, RecordedIsAccepted}
 
 pub found_alike : (is_calm is_calm_again : Type 0) → RecordedIsSearchedAlike →

@@ -1,1 +1,3 @@
+mod ReadBack
+mod ObservedAlike
 mod FoundAlike

@@ -9,8 +9,9 @@ use Rattle.search_words.specs.Settings.{SettingsSeen, AllInRange, SaySearch}
 use Rattle.disk_feeder.specs.Plan.{AreTold}
 use Rattle.search_session.specs.declared.ended.Ran.{Ran}
 use Rattle.run_stop.specs.Runs.{stream_for}
-use Rattle.psr_record.specs.Outcome.{IsRecordable, HasOffsets, NamesRecorded}
+use Rattle.psr_record.specs.Outcome.{IsRecordable}
 use Rattle.psr_search.specs.Outcome.{IsSearched, Outcome}
+use Rattle.recorded_search.specs.ReadBack.{HasOffsets, NamesRecorded}
 
 -- A search that ended with status 0, and what its output was before and after it. Its words say these settings, and its
 -- inputs tell these bytes of the files that they name.

@@ -1,7 +1,11 @@
-//! What was recorded is searched again: where a search of files is accepted, so is that of a recording of their data,
-//! and both write one text.
+//! What was recorded is read and searched again: the files of a recording have the data and the observations that were
+//! recorded, where a search of files is accepted, so is that of a recording of their data, and both write one text.
 #![tactic(auto)]
 
 mod laws;
 
-pub use laws::{recorded_is_accepted, recorded_is_found_alike};
+pub use laws::{
+    recorded_can_be_searched, recorded_files_are_read_back, recorded_is_accepted,
+    recorded_is_found_alike, recorded_is_observed_alike, recorded_is_read_back,
+    recorded_is_searched_alike,
+};

@@ -1,5 +1,5 @@
-use Rattle.psr_record.proofs.ObservedAlike.{Laws, observed_alike, can_be_searched}
-use Rattle.psr_record.proofs.laws.recorded_is_alike.Goals as goal
+use Rattle.recorded_search.proofs.ObservedAlike.{Laws, observed_alike, can_be_searched}
+use Rattle.recorded_search.proofs.laws.recorded_is_alike.Goals as goal
 
 laws : goal.After-recorded_is_read_back → Laws
 laws c = record {

@@ -17,7 +17,8 @@ use Rattle.dada_recorder.specs.Blocks.{header_or_none}
 use Rattle.run_stop.specs.Firsts.{first_file}
 use Rattle.run_stop.specs.Runs.{first_recording}
 use Rattle.run_stop.specs.Outcomes.{recorded_transfers}
-use Rattle.psr_record.specs.Outcome.{IsRecordable, HasOffsets, RecordedIsReadBack}
+use Rattle.psr_record.specs.Outcome.{IsRecordable}
+use Rattle.recorded_search.specs.ReadBack.{HasOffsets, RecordedIsReadBack}
 
 -- ---- lists over a range
 
