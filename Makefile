@@ -1,6 +1,6 @@
 # `make` alone lists the targets.
 PREFIX ?= /usr/local
-PROGRAMS ?= psr_search psr_mask psr_part psr_record psr_make psr_demo ring_trace
+PROGRAMS ?= psr_search psr_mask psr_part psr_beams psr_record psr_make psr_demo ring_trace
 # The processors that programs are built for: those with AVX2 where this is one; CPU= stands for any x86-64.
 CPU := $(shell grep -qw avx2 /proc/cpuinfo 2>/dev/null && echo x86-64-v3)
 # The command by which files are copied under PREFIX and removed again, where that needs another user.

@@ -1,16 +1,16 @@
 #!/usr/bin/env bash
 # Tries the programs together, as they are installed in a folder (check.sh FOLDER) or were last built here: a made
 # observation of 1024 channels is searched by four shards and recorded in three files; one shard, the three files, and
-# psr_record give the same again; a file that is there is never overwritten; psr_mask with no mask and two parts of
-# psr_part give the text of the search.
+# psr_record give the same again; a file that is there is never overwritten; psr_mask with no mask, two parts of psr_part
+# and each of two beams of psr_beams give the text of the search, but that both beams see its pulses.
 root=$(cd "$(dirname "$0")/.." && pwd) || exit 2
 bin=${1:+$(cd "$1" && pwd)}
 program() { # program NAME: where it is
     if [ -n "$bin" ]; then printf '%s/%s' "$bin" "$1"; else printf '%s/crates/%s_main/out/%s_main' "$root" "$1" "$1"; fi
 }
 psr_make=$(program psr_make) psr_search=$(program psr_search) psr_record=$(program psr_record) psr_demo=$(program psr_demo)
-psr_mask=$(program psr_mask) psr_part=$(program psr_part)
-for built in "$psr_make" "$psr_search" "$psr_record" "$psr_demo" "$psr_mask" "$psr_part"; do
+psr_mask=$(program psr_mask) psr_part=$(program psr_part) psr_beams=$(program psr_beams)
+for built in "$psr_make" "$psr_search" "$psr_record" "$psr_demo" "$psr_mask" "$psr_part" "$psr_beams"; do
     [ -x "$built" ] || { echo "$built is not there: make install builds it" >&2; exit 2; }
 done
 folder=$(mktemp -d) || exit 2
@@ -55,6 +55,9 @@ same 'its last line' "$(cut -d ' ' -f 1,2 check)" 'CHECK 2000'
 "$psr_part" 5000 check "${words[@]}" obs.dada >rest
 same 'psr_part from there on: status' $? 0
 same 'both texts' "$({ head -n -1 front; cat rest; } | md5sum)" "$(md5sum <text)"
+"$psr_beams" 0 1 "${words[@]}" obs.dada obs.dada >again
+same 'psr_beams: status' $? 0
+same 'its text' "$(md5sum <again)" "$(for beam in 0 1; do echo "BEAM $beam"; sed 's/^PULSE/RFI/' text; done | md5sum)"
 
 before=$(md5sum 2024-*.dada)
 "$psr_search" "${recording[@]}" obs.dada >again 2>notes
@@ -68,5 +71,5 @@ same 'psr_record: status' $? 0
 same 'its files' "$(md5sum 2024-*.dada)" "$before"
 
 same 'psr_demo 1' "$("$psr_demo" 1 | paste -sd ' ')" 'DEMO 1 0 25652 END 821 0 4096'
-[ "$failed" = 0 ] && echo 'psr_make, psr_search, psr_mask, psr_part, psr_record and psr_demo do as they should'
+[ "$failed" = 0 ] && echo 'psr_make, psr_search, psr_mask, psr_part, psr_beams, psr_record and psr_demo do as they should'
 exit "$failed"

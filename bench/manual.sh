@@ -12,7 +12,7 @@ root=$(cd "$(dirname "$0")/.." && pwd) || exit 2
 folder=$(mktemp -d) || exit 2
 trap 'rm -rf "$folder"' EXIT
 mkdir "$folder/bin"
-for program in psr_search psr_mask psr_part psr_record psr_make psr_demo ring_trace; do
+for program in psr_search psr_mask psr_part psr_beams psr_record psr_make psr_demo ring_trace; do
     built=${1:+$(cd "$1" && pwd)/$program}
     built=${built:-$root/crates/${program}_main/out/${program}_main}
     [ -x "$built" ] || { echo "$built is not there: make install builds it" >&2; exit 2; }
@@ -112,6 +112,7 @@ done <<HEADINGS
 psr_search:### Options of a search:
 psr_mask:### Options of a search:$unused --turns
 psr_part:### Options of a search:$unused --turns --fold-min --fold-max --fold-rows --fold-step
+psr_beams:### Options of a search:$unused
 psr_record:### Options of psr_record:
 psr_make:### Options of psr_make:
 HEADINGS

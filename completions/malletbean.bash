@@ -10,13 +10,15 @@ _malletbean() { # _malletbean COMMAND WORD PREVIOUS_WORD
         psr_search) options="$searching $folding $reading --shards --hands --turns --record --file-size" ;;
         psr_mask) options="$searching $folding $reading" ;;
         psr_part) options="$searching $reading" ;;
+        psr_beams) options="$searching $folding $reading --turns" ;;
         psr_record) options="$reading --hands --turns --file-size" ;;
         psr_make) options='--number --nchan --spectra --delay --period --height --nbit --npol' ;;
     esac
     case $program$COMP_CWORD in # the words that stand first
         psr_mask1) values=none ;;
         psr_part2) mapfile -t COMPREPLY < <(compgen -W new -- "$word"; compgen -f -- "$word") && return ;;
-        psr_part1) COMPREPLY=() && return ;;
+        psr_beams2) values='1 2 3 4 5 6' ;;
+        psr_part1 | psr_beams1) COMPREPLY=() && return ;;
     esac
     case $previous in
         --widths) values='1 2 4 8 16 32' ;;
@@ -36,4 +38,4 @@ _malletbean() { # _malletbean COMMAND WORD PREVIOUS_WORD
         mapfile -t COMPREPLY < <(compgen -f -- "$word")
     fi
 }
-complete -o filenames -F _malletbean psr_search psr_mask psr_part psr_record psr_make
+complete -o filenames -F _malletbean psr_search psr_mask psr_part psr_beams psr_record psr_make

@@ -2,7 +2,9 @@
 from __future__ import annotations
 
 import argparse
+import os
 from collections.abc import Iterator, Sequence
+from typing import IO
 
 import numpy as np
 
@@ -11,8 +13,8 @@ from .program import Words
 from .refusal import OUTPUT, WORDS, Refusal, bytes_of
 from .samples import Samples
 
-# how many values are worked on at a time
-VALUES_AT_A_TIME = 2**22
+# how many values are worked on at a time: few enough for the caches
+VALUES_AT_A_TIME = 2**20
 # how many spectra are levelled as one stretch
 USUAL_STRETCH = 16384
 # the mean and the deviation of a levelled value, by its bits
@@ -26,18 +28,18 @@ def psr_level(words: Sequence[str]) -> None:
     head = samples.header
     if head.spectra < 2:
         raise refused(asked.file, f"its data have {head.data_bytes} bytes, fewer than two spectra")
-    dither = np.random.default_rng(0)
     try:
         with open(asked.output, "xb") as file:
-            file.write(bytes_of(asked.file, head.size))
-            # a last stretch of a few spectra would be levelled by those few alone, so it joins the one before
-            stretches = max(1, head.spectra // asked.spectra)
-            for number in range(stretches):
-                stop = head.spectra if number + 1 == stretches else (number + 1) * asked.spectra
-                for piece in levelled(samples, number * asked.spectra, stop, asked.kind, dither):
-                    file.write(piece)
+            try:
+                write_levelled(file, samples, asked)
+                file.flush()
+            except BaseException:
+                os.unlink(asked.output)
+                raise
     except FileExistsError as fault:
         raise Refusal(OUTPUT, f"can't write {asked.output}: it is there already") from fault
+    except OSError as fault:
+        raise Refusal(OUTPUT, f"can't write {asked.output}: {fault.strerror}") from fault
     mean, deviation = LEVELS[head.bits]
     print(f"psr_level: each channel has the mean {mean} and the deviation {deviation} in each polarisation now; "
           f"psr_look {asked.output} says the words of a search")
@@ -59,6 +61,18 @@ def parsed(words: Sequence[str]) -> argparse.Namespace:
     return asked
 
 
+def write_levelled(file: IO[bytes], samples: Samples, asked: argparse.Namespace) -> None:
+    """Writes the header of the file that the words name, and its levelled values."""
+    head, dither = samples.header, np.random.default_rng(0)
+    file.write(bytes_of(asked.file, head.size))
+    # a last stretch of a few spectra would be levelled by those few alone, so it joins the one before
+    stretches = max(1, head.spectra // asked.spectra)
+    for number in range(stretches):
+        stop = head.spectra if number + 1 == stretches else (number + 1) * asked.spectra
+        for piece in levelled(samples, number * asked.spectra, stop, asked.kind, dither):
+            file.write(piece)
+
+
 def levelled(samples: Samples, first: int, stop: int, kind: str, dither: np.random.Generator) -> Iterator[bytes]:
     """The values of a stretch of spectra in pieces, each channel and polarisation with mean and deviation of LEVELS.
 
@@ -68,11 +82,16 @@ def levelled(samples: Samples, first: int, stop: int, kind: str, dither: np.rand
     mean, deviation = LEVELS[head.bits]
     means, deviations = noise_of(samples, first, stop, kind)
     gains = np.divide(deviation, deviations, out=np.zeros_like(deviations), where=deviations > 0)
+    # enough digits for values of 8 bits, and half the work
+    form = np.float32 if head.bits == 8 else np.float64
+    means, gains = means.astype(form), gains.astype(form)
     for begin, end in pieces(head, first, stop):
-        values = samples.values(begin, end - begin, kind)
-        level = mean + gains * (values - means)
-        yield np.clip(np.floor(level + dither.random(level.shape)), 0, 2**head.bits - 1).astype(
-            f"<u{head.bits // 8}").tobytes()
+        level = np.subtract(samples.values(begin, end - begin, kind), means, dtype=form)
+        level *= gains
+        level += mean
+        level += dither.random(level.shape)
+        # what is not below 0 is rounded down as it becomes whole
+        yield np.clip(level, 0, 2**head.bits - 1, out=level).astype(f"<u{head.bits // 8}").tobytes()
 
 
 def noise_of(samples: Samples, first: int, stop: int, kind: str) -> tuple[np.ndarray, np.ndarray]:
@@ -81,7 +100,7 @@ def noise_of(samples: Samples, first: int, stop: int, kind: str) -> tuple[np.nda
     for begin, end in pieces(samples.header, first, stop):
         values = samples.values(begin, end - begin, kind).astype(np.float64)
         total = total + values.sum(axis=0)
-        squares = squares + (values**2).sum(axis=0)
+        squares = squares + np.einsum("tcp,tcp->cp", values, values)
     means = total / (stop - first)
     return means, np.sqrt(np.maximum(squares / (stop - first) - means**2, 0))
 

@@ -10,6 +10,7 @@ from dataclasses import dataclass, replace
 import numpy as np
 
 from .headers import Header, refused
+from .level import LEVELS
 from .masks import mask_text
 from .number import scaled
 from .paths import path_cells
@@ -23,6 +24,8 @@ USUAL_WIDTH = 8
 FIRST_SNR = 15
 # the usual and greatest size of recorded files
 USUAL_FILE_SIZE = 2**30
+# stretches to level by: at most so many spectra, and at least so many times as long as a pulse in a channel
+MOST_STRETCH, TIMES_PULSE = 2048, 16
 # in how many pieces the data are held against each other
 PIECES = 8
 # a channel stands out that lies so many deviations of the channels off their median
@@ -143,6 +146,7 @@ def said(asked: argparse.Namespace, head: Header, measured: Measured, form: str)
         f"{delay} spectra across the band are DM {head.dm(delay):.3f}" for delay in (USUAL_DELAY, GREATEST_DELAY))))
     lines.append(("file size", f"--file-size {USUAL_FILE_SIZE // head.spectrum_bytes * head.spectrum_bytes} "
                                "cuts recorded files between spectra"))
+    lines += level_lines(asked, head, measured, max_delay, form)
     rest = f"--snr {FIRST_SNR} --max-delay {max_delay} {shlex.quote(asked.file)}"
     lines.append(("words", f"psr_search {noise_words(measured)} {rest}"))
     are_kept = ~stand_out(measured)
@@ -189,6 +193,44 @@ def noise_lines(head: Header, measured: Measured, max_delay: int) -> list[tuple[
         lines.append(("steady", f"that the mean drifts moves them by up to {drift:.1f}"))
     lines.append(("mask to try:", f" {mask_text(file_numbers(head, stand_out(measured)))}"))
     return lines
+
+
+def level_lines(asked: argparse.Namespace, head: Header, measured: Measured, max_delay: int,
+                form: str) -> list[tuple[str, str]]:
+    """What to do before a search where the band is uneven or the mean drifts, by what is printed of them."""
+    if measured.deviation == 0:
+        return []
+    drift = drift_ratio(head, measured, max_delay)
+    if max(round(uneven_ratio(head, measured, max_delay), 1), round(drift, 1)) < 1:
+        return []
+    why = "searched as it is, this file gives false lines, or too many (status 9)"
+    if is_level(head, measured):
+        return [("level first", "psr_level again, from the file as it was and with fewer --spectra than before: "
+                                f"{why}")]
+    words = f"{shlex.quote(asked.file)} OUT --spectra {stretch_to_level(head, measured, max_delay, drift)}"
+    forms = "" if form == "<u" else f" {FORM_WORDS[form]}"
+    dm = "" if asked.dm is None else f" {asked.dm:g}"
+    return [("level first", f"psr_level {words}{forms}, then psr_look OUT{dm}: {why}")]
+
+
+def is_level(head: Header, measured: Measured) -> bool:
+    """Whether all channels are as psr_level makes them."""
+    mean, deviation = LEVELS[head.bits]
+    far_means = np.abs(measured.means - mean * head.polarisations)
+    far_deviations = np.abs(measured.deviations - deviation * math.sqrt(head.polarisations))
+    is_near = (far_means < deviation / 4) & ((far_deviations < deviation / 4) | (measured.deviations == 0))
+    return bool(is_near.all())
+
+
+def stretch_to_level(head: Header, measured: Measured, max_delay: int, drift: float) -> int:
+    """A power of two of spectra, short beside the drift, but long beside the longest pulse within a channel.
+
+    A mean that moves ratios by `drift` over what was read moves them by about 1 over a `drift`-th of that, if it goes
+    evenly; half of that is taken, for one that goes up and down.
+    """
+    longest = USUAL_WIDTH + int(path_cells(head.edges_khz, np.array([max_delay])).max())
+    most = int(min(MOST_STRETCH, measured.spectra / max(2 * drift, 1)))
+    return 2 ** max(most.bit_length() - 1, (TIMES_PULSE * longest - 1).bit_length())
 
 
 def uneven_ratio(head: Header, measured: Measured, max_delay: int) -> float:

@@ -26,7 +26,7 @@ CELLS = (500, 250)
 LEAST_AREA, GREATEST_AREA, LEAST_GROWTH = 5.0, 150.0, 20.0
 # from so many circles on they are drawn as dots of a raster also in SVG and PDF
 RASTER_FROM = 4000
-# the colour of lines that are marked as interference
+# the colour of lines that psr_beams marked as interference
 MARKED = "tab:red"
 
 

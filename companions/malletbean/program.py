@@ -36,7 +36,8 @@ def run(name: str, program: Callable[[Sequence[str]], None]) -> int:
         os.dup2(os.open(os.devnull, os.O_WRONLY), sys.stdout.fileno())
         return say(name, OUTPUT, "the output was closed")
     except OSError as fault:
-        return say(name, OUTPUT, f"can't write: {fault.strerror}")
+        named = "" if fault.filename is None else f" {fault.filename}"
+        return say(name, OUTPUT, f"can't write{named}: {fault.strerror}")
     return 0
 
 
@@ -53,7 +54,7 @@ def add_search_words(words: Words) -> None:
     words.add_argument("deviation", metavar="SD", type=noise_value, help="the deviation that the search was given")
     words.add_argument("text", metavar="TEXT", help="the text of the search")
     words.add_argument("--obs", metavar="K", type=int, help="which observation of the text, where it has several")
-    words.add_argument("--beam", metavar="K", type=int, help="which beam of a text of several beams")
+    words.add_argument("--beam", metavar="K", type=int, help="which beam of a text of psr_beams")
     words.add_argument("--mask", metavar="MASK", default="none", help="the mask that psr_mask was given")
     words.add_argument("--part", action="store_true", help="the text is of a part, whose last line counts those before")
 

@@ -21,7 +21,7 @@ FOLD = np.dtype([
 PULSE_WORDS, FOLD_WORDS = (b"PULSE", b"RFI"), (b"FOLD",)
 END_LINE = re.compile(rb"END ([0-9]{1,20}) ([0-9]{1,20}) ([0-9]{1,20})\n")
 CHECK_LINE = re.compile(rb"CHECK ([0-9]{1,15}) ([0-9]{1,20})\n")
-# the lines before each observation of `psr_search`, and before each of several beams
+# the lines before each observation of `psr_search`, and before each beam of `psr_beams`
 HEAD_LINES = {word: re.compile(rb"^%s ([0-9]{1,20})\n" % word, re.MULTILINE) for word in (b"OBS", b"BEAM")}
 
 
@@ -78,7 +78,9 @@ def found_in(path: str, text: bytes, is_part: bool) -> Found:
     counted = int(check[2] if check else end[1])
     before = counted - len(pulses)
     if before < 0 or (before > 0 and not check and not is_part) or len(folds) != (0 if check else int(end[2])):
-        raise refused(path, f"it has {len(pulses)} PULSE and {len(folds)} FOLD lines, and its last line counts others")
+        hint = "; of a last part of psr_part say --part" if before > 0 and not check else ""
+        raise refused(path, f"it has {len(pulses)} PULSE and {len(folds)} FOLD lines, and its last line counts others"
+                            f"{hint}")
     spectra = int(check[1] if check else end[3])
     return Found(0, pulses, folds, spectra, counted=counted, is_checkpoint=check is not None)
 

@@ -1,6 +1,7 @@
 """What psr_look says of made observations."""
 from __future__ import annotations
 
+import shlex
 from pathlib import Path
 
 import numpy as np
@@ -8,6 +9,7 @@ import pytest
 
 import made
 from malletbean import Refusal
+from malletbean.level import psr_level
 from malletbean.look import psr_look
 
 
@@ -65,6 +67,38 @@ def test_a_tilted_band_and_channels_that_stand_out(tmp_path: Path, capsys: pytes
     assert words[:2] == ["psr_mask", "3,17-19"] and words[6:] == uneven["words"].split()[5:]
     assert float(words[3]) == pytest.approx(16, abs=0.1) and float(words[5]) == pytest.approx(2.83, abs=0.05)
     assert ratio_of(flat["even"]) < 1 < ratio_of(uneven["even"])
+
+
+def drifted(path: Path, bits: int, height: float) -> str:
+    """A file of 64 channels whose mean rises and falls once by so much, its values times 2 and 8 more."""
+    made.make(path, spectra=16384, height=0, bits=bits)
+    raw = path.read_bytes()
+    values = np.frombuffer(raw[4096:], f"<u{bits // 8}").reshape(16384, 64)
+    drift = height * np.sin(np.linspace(0, 2 * np.pi, 16384))[:, None]
+    path.write_bytes(raw[:4096] + (2 * (values + drift) + 8).round().astype(f"<u{bits // 8}").tobytes())
+    return str(path)
+
+
+@pytest.mark.parametrize("bits", [8, 16])
+def test_what_is_to_be_levelled_first(tmp_path: Path, capsys: pytest.CaptureFixture[str], bits: int) -> None:
+    assert "level first" not in said(capsys, drifted(tmp_path / "flat.dada", bits, 0), "5")
+    lines = said(capsys, drifted(tmp_path / "a drift.dada", bits, 1), "5")
+    assert list(lines).index("level first") == list(lines).index("words") - 1
+    command, *words = shlex.split(lines["level first"].split(",")[0])
+    assert (command, words) == ("psr_level", [f"{tmp_path}/a drift.dada", "OUT", "--spectra", "512"])
+    assert ", then psr_look OUT 5: " in lines["level first"]
+    psr_level([words[0], str(tmp_path / "level.dada"), *words[2:]])
+    capsys.readouterr()
+    assert "level first" not in said(capsys, str(tmp_path / "level.dada"), "5")
+    psr_level([words[0], str(tmp_path / "less.dada"), "--spectra", "10000"])
+    capsys.readouterr()
+    assert said(capsys, str(tmp_path / "less.dada"), "5")["level first"].startswith("psr_level again, from the file as")
+
+
+def test_a_stretch_is_longer_than_a_pulse(tmp_path: Path, capsys: pytest.CaptureFixture[str]) -> None:
+    file = drifted(tmp_path / "drift.dada", 8, 12)
+    assert "--spectra 256," in said(capsys, file, "5")["level first"]
+    assert "--spectra 4096," in said(capsys, file, "390")["level first"]
 
 
 def ratio_of(text: str) -> float:

@@ -38,7 +38,7 @@ def test_the_commands(program: str) -> None:
     ("psr_level", ["FILE"], 2, "the following arguments are required: OUT"),
     ("psr_level", ["FILE", "OUT", "--spectra", "1"], 2, "argument --spectra: it is below 2"),
     ("psr_level", ["FILE", MADE], 10, f"can't write {MADE}: it is there already"),
-    ("psr_level", ["FILE", "/nowhere/a.dada"], 10, "can't write"),
+    ("psr_level", ["FILE", "/nowhere/a.dada"], 10, "can't write /nowhere/a.dada: No such file"),
     ("psr_table", ["FILE", "1e3", "1", MADE], 2, "1e3 is no number"),
     ("psr_table", ["FILE", "16", "0", MADE], 2, "argument SD: it is 0"),
     ("psr_table", ["FILE", "16", "2.828", "/nowhere/text"], 6, "can't read /nowhere/text"),
@@ -49,10 +49,10 @@ def test_the_commands(program: str) -> None:
     ("psr_table", ["FILE", "16", "2.828", MADE, "--mask", "3"], 4, "another file or mask"),
     ("psr_plot", ["FILE", "16", "2.828", MADE, "-o", "a.png", "--mask", "0-31"], 2, "mask refused: it leaves no"),
     ("psr_table", ["FILE", "16", "2.828", MADE, "-o", "a.txt"], 2, "ends in none of"),
-    ("psr_table", ["FILE", "16", "2.828", MADE, "-o", "/nowhere/a.csv"], 10, "can't write"),
+    ("psr_table", ["FILE", "16", "2.828", MADE, "-o", "/nowhere/a.csv"], 10, "can't write /nowhere/a.csv: No such"),
     ("psr_table", ["FILE", "16", "2.828", MADE, "--best", "0"], 2, "below 1"),
     ("psr_plot", ["FILE", "16", "2.828", MADE], 2, "neither -o PICTURE nor --show"),
-    ("psr_plot", ["FILE", "16", "2.828", MADE, "-o", "/nowhere/a.png"], 10, "can't write"),
+    ("psr_plot", ["FILE", "16", "2.828", MADE, "-o", "/nowhere/a.png"], 10, "can't write /nowhere/a.png: No such"),
     ("psr_plot", ["FILE", "16", "2.828", MADE, "-o", "a.gif"], 2, "ends in none of"),
 ])
 def test_statuses(files: dict[str, str], monkeypatch: pytest.MonkeyPatch, capsys: pytest.CaptureFixture[str],
@@ -62,6 +62,15 @@ def test_statuses(files: dict[str, str], monkeypatch: pytest.MonkeyPatch, capsys
     answer = capsys.readouterr()
     assert line in answer.err and answer.err.count("\n") == 1 and answer.err.startswith(f"{program}: ")
     assert answer.out == ""
+
+
+def test_a_full_disk(files: dict[str, str], tmp_path: Path) -> None:
+    out = tmp_path / "out.dada"
+    script = f"ulimit -f 8; '{sys.executable}' '{HERE.parent}/psr_level' '{files['made']}' '{out}'"
+    answer = subprocess.run(["bash", "-c", script], capture_output=True, text=True)
+    assert answer.returncode == 10
+    assert answer.stderr == f"psr_level: can't write {out}: File too large\n"
+    assert not out.exists()
 
 
 def test_a_closed_output(files: dict[str, str], tmp_path: Path) -> None:
