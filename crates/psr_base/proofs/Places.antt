@@ -1,5 +1,6 @@
 -- Places in a list of files, found by name.
-use Rattle.std.proofs.Common.{◌≡◌, ◌≢◌, ℕ, suc, ◌+◌, ◌-◌, ◌<◌, Bool, true, false, cond, List, [], ◌∷◌, ◌++◌, length, take, drop, min, unwrap_or, get_or, set, map, Option, Some, None, string_bytes, ap, sym, subst, refl, ◌∙◌, arith, get_or-set_other, get_or-set_same, length-drop}
+use Rattle.std.specs.Prelude.{◌==◌, ◌||◌}
+use Rattle.std.proofs.Common.{◌≡◌, ◌≢◌, ℕ, suc, ◌+◌, ◌-◌, ◌<◌, Bool, true, false, cond, List, [], ◌∷◌, ◌++◌, length, take, drop, min, unwrap_or, get_or, set, map, Option, Some, None, string_bytes, ap, sym, subst, refl, ◌∙◌, arith, get_or-set_other, get_or-set_same, length-drop, append-nil}
 use Rattle.std.specs.Option.{option_map, option_map_or}
 use Rattle.std.specs.List.{position_from}
 use Rattle.std.specs.Str.{bytes_eq}
@@ -9,7 +10,7 @@ use Rattle.std.proofs.Math.Seq.{map-set_same, get_or-append_seam}
 use Rattle.std.proofs.lemmas.Bool.{false_from_ne_true}
 use Rattle.std.proofs.lemmas.Slice.Eq.{bytes_eq-Decides}
 use Rattle.psr_base.specs.NamedFiles.{is_named, names_of, bodies_of, place_in, name_at, bytes_at, bytes_in, reading_of}
-use Rattle.psr_base.specs.Told.{left_to_read, GivesNext}
+use Rattle.psr_base.specs.Told.{Told, Reading, history, left_to_read, opened, closed, read_by, GivesNext}
 use Rattle.psr_base.specs.declared.held.MemFile.{MemFile}
 use Rattle.psr_base.specs.declared.held.OpenFile.{OpenFile}
 
@@ -105,6 +106,10 @@ bytes_in-place_in files name i h = ap (option_map (bytes_at files)) h
 pub bytes_at-get_or : (files : List MemFile) (i : ℕ) (d : MemFile) → i < length files →
     bytes_at files i ≡ (get_or files i d).bytes.items
 bytes_at-get_or files i d within = get_or-map (λ (file : MemFile). file.bytes.items) files i d [] within
+
+pub name_at-get_or : (files : List MemFile) (i : ℕ) (d : MemFile) → i < length files →
+    name_at files i ≡ string_bytes (get_or files i d).name
+name_at-get_or files i d within = get_or-map (λ (file : MemFile). string_bytes file.name) files i d [] within
 
 -- the names stay where a file is replaced by one of its name
 pub names_of-replaced : (files : List MemFile) (i : ℕ) (file d : MemFile) →
@@ -215,9 +220,10 @@ abbrev pub IsFirst : List MemFile → OpenFile → Type 0
 IsFirst files file = place_in files (name_at files file.index) ≡ Some file.index
 
 -- a file that was just found is
-pub IsFirst-found : (files : List MemFile) (name : List ℕ) (i place : ℕ) (file : OpenFile) →
-    place_in files name ≡ Some i → Some (record { index = i; place = place }) ≡ Some file → IsFirst files file
-IsFirst-found files name i place file found same =
+pub IsFirst-found : (files : List MemFile) (name : List ℕ) (i place : ℕ) (ended : Bool) (file : OpenFile) →
+    place_in files name ≡ Some i → Some (record { index = i; place = place; ended = ended }) ≡ Some file →
+    IsFirst files file
+IsFirst-found files name i place ended file found same =
     let at : i ≡ file.index = ap (λ (o : Option OpenFile). option_map_or (λ (f : OpenFile). f.index) o 0) same in
     ap (λ (j : ℕ). place_in files (name_at files j)) (sym at) ∙ place_in-own files name i found ∙ ap Some at
 
@@ -234,13 +240,17 @@ IsFirst-added files new file first =
     (name_at-added files new file.index (place_in-within files (name_at files file.index) file.index first))
     ∙ place_in-added files new (name_at files file.index) file.index first
 
+-- the open file under a name
+abbrev reading_by : List ℕ → OpenFile → Reading
+reading_by name file = record { name = name; place = file.place; ended = file.ended }
+
 -- the open name stays
 pub reading_of-replaced : (files : List MemFile) (i : ℕ) (new d : MemFile) (reading : Option OpenFile) →
     string_bytes new.name ≡ string_bytes (get_or files i d).name →
     reading_of (set files i new) reading ≡ reading_of files reading
 reading_of-replaced files i new d None same = refl
 reading_of-replaced files i new d (Some file) same =
-    ap (λ (names : List (List ℕ)). Some (record { name = get_or names file.index []; place = file.place }))
+    ap (λ (names : List (List ℕ)). Some (reading_by (get_or names file.index []) file))
     (names_of-replaced files i new d same)
 
 pub reading_of-added : (files : List MemFile) (new : MemFile) (reading : Option OpenFile) →
@@ -248,16 +258,62 @@ pub reading_of-added : (files : List MemFile) (new : MemFile) (reading : Option 
     reading_of (files ++ new ∷ []) reading ≡ reading_of files reading
 reading_of-added files new None first = refl
 reading_of-added files new (Some file) first =
-    ap (λ (name : List ℕ). Some (record { name = name; place = file.place }))
+    ap (λ (name : List ℕ). Some (reading_by name file))
     (name_at-added files new file.index (place_in-within files (name_at files file.index) file.index (first file refl)))
 
+-- what files tell
+abbrev told_by : List MemFile → List Reading → Option Reading → Told
+told_by files earlier reading = record { bytes_under = bytes_in files; earlier = earlier; reading = reading }
+
 -- what is left to read of the open file
-pub left_to_read-first : (files : List MemFile) (reading : Option OpenFile) (file : OpenFile) → reading ≡ Some file →
-    IsFirst files file → left_to_read (record { bytes_under = bytes_in files; reading = reading_of files reading })
-    ≡ Some (drop file.place (bytes_at files file.index))
-left_to_read-first files reading file open_file first =
-    ap (λ (r : Option OpenFile). left_to_read (record { bytes_under = bytes_in files; reading = reading_of files r }))
-    open_file ∙ ap (option_map (drop file.place)) (bytes_in-place_in files (name_at files file.index) file.index first)
+pub left_to_read-first : (files : List MemFile) (earlier : List Reading) (reading : Option OpenFile) (file : OpenFile) →
+    reading ≡ Some file → IsFirst files file →
+    left_to_read (told_by files earlier (reading_of files reading)) ≡ Some (drop file.place (bytes_at files file.index))
+left_to_read-first files earlier reading file open_file first =
+    ap (λ (r : Option OpenFile). left_to_read (told_by files earlier (reading_of files r))) open_file
+    ∙ ap (option_map (drop file.place)) (bytes_in-place_in files (name_at files file.index) file.index first)
+
+-- what files tell where a file of theirs was opened, after another was set aside
+pub told-opened : (files files' : List MemFile) (earlier earlier' : List Reading) (reading : Option OpenFile)
+    (name : List ℕ) (i : ℕ) → files' ≡ files →
+    earlier' ≡ history (told_by files earlier (reading_of files reading)) → place_in files name ≡ Some i →
+    told_by files' earlier' (reading_of files' (Some (record { index = i; place = 0; ended = false })))
+    ≡ opened name (told_by files earlier (reading_of files reading))
+told-opened files files' earlier earlier' reading name i same aside found =
+    let fresh : List ℕ → Option Reading = λ it. Some (record { name = it; place = 0; ended = false }) in
+    ap (λ (fs : List MemFile). told_by fs earlier' (fresh (name_at fs i))) same
+    ∙ ap (λ (before : List Reading). told_by files before (fresh (name_at files i))) aside
+    ∙ ap (λ (it : List ℕ). told_by files (history (told_by files earlier (reading_of files reading))) (fresh it))
+    (name_at-place_in files name i found)
+
+-- what they tell where the open one was set aside
+pub told-set_aside : (files : List MemFile) (earlier earlier' : List Reading) (reading : Option OpenFile)
+    (file : OpenFile) (name : List ℕ) → reading ≡ Some file → name ≡ name_at files file.index →
+    earlier' ≡ earlier ++ record { name = name; place = file.place; ended = file.ended } ∷ [] →
+    told_by files earlier' None ≡ closed (told_by files earlier (reading_of files reading))
+told-set_aside files earlier earlier' reading file name is named aside =
+    ap (λ (before : List Reading). told_by files before None)
+    (aside ∙ ap (λ (it : List ℕ). earlier ++ reading_by it file ∷ []) named)
+    ∙ ap (λ (r : Option OpenFile). closed (told_by files earlier (reading_of files r))) (sym is)
+
+-- and where none was open
+pub told-none_open : (files : List MemFile) (earlier : List Reading) (reading : Option OpenFile) → reading ≡ None →
+    told_by files earlier (reading_of files reading) ≡ closed (told_by files earlier (reading_of files reading))
+told-none_open files earlier reading none =
+    ap (λ (r : Option OpenFile). told_by files earlier (reading_of files r)) none
+    ∙ ap (λ (before : List Reading). told_by files before None) (sym (append-nil earlier))
+    ∙ ap (λ (r : Option OpenFile). closed (told_by files earlier (reading_of files r))) (sym none)
+
+-- a read of n bytes
+pub told-read : (files : List MemFile) (earlier : List Reading) (reading : Option OpenFile) (file : OpenFile) (n : ℕ)
+    (ended : Bool) → reading ≡ Some file → ended ≡ (file.ended || (n == 0)) →
+    told_by files earlier
+    (reading_of files (Some (record { index = file.index; place = file.place + n; ended = ended })))
+    ≡ read_by n (told_by files earlier (reading_of files reading))
+told-read files earlier reading file n ended is sees =
+    ap (λ (it : Bool). told_by files earlier
+    (Some (record { name = name_at files file.index; place = file.place + n; ended = it }))) sees
+    ∙ ap (λ (r : Option OpenFile). read_by n (told_by files earlier (reading_of files r))) (sym is)
 
 nil_of_length : (xs : List ℕ) → length xs ≡ 0 → xs ≡ []
 nil_of_length [] h = refl

@@ -5,7 +5,7 @@ use Rattle.std.specs.Option.{option_map, ForSome}
 use Rattle.std.specs.Io.KnownBytes.{append_known}
 use Rattle.std.proofs.lemmas.List.{take_all, length-take-le}
 use Rattle.psr_base.specs.Count.{CallCount, FailsNext, Rose, after_call, after_fault}
-use Rattle.psr_base.specs.Told.{Told, Reading, opened, moved_by, GivesNext}
+use Rattle.psr_base.specs.Told.{Told, Reading, opened, read_by, GivesNext}
 use Rattle.psr_base.specs.Written.{SinkSeen, WroteAll, WriteFails, room_after}
 use Rattle.psr_base.specs.NamedFiles.{bytes_in, reading_of}
 use Rattle.psr_base.specs.InMemory.{told_where}
@@ -112,35 +112,42 @@ IsSome-from_map f None y h = absurd cc
 IsSome-from_map f (Some x) y h = refl
 
 -- what files in memory tell
-abbrev told_by : List MemFile → Option OpenFile → Told
-told_by files reading = record { bytes_under = bytes_in files; reading = reading_of files reading }
+abbrev told_by : List MemFile → List Reading → Option OpenFile → Told
+told_by files earlier reading =
+    record { bytes_under = bytes_in files; earlier = earlier; reading = reading_of files reading }
 
-is_open-from_told : (files : List MemFile) (reading : Option OpenFile) (told : Told) (file : Reading) →
-    told_by files reading ≡ told → told.reading ≡ Some file → IsSome reading
-is_open-from_told files reading told file same known =
+is_open-from_told : (files : List MemFile) (earlier : List Reading) (reading : Option OpenFile) (told : Told)
+    (file : Reading) → told_by files earlier reading ≡ told → told.reading ≡ Some file → IsSome reading
+is_open-from_told files earlier reading told file same known =
     IsSome-from_map _ reading file (ap (λ (t : Told). t.reading) same ∙ known)
 
 -- a name that is told to be open is open
-pub is_open-opened : {T E : Type 0} (r : Result T E) (files : List MemFile) (reading : Option OpenFile)
-    (name : List ℕ) (old : Told) → OnOk r (told_by files reading ≡ opened name old) → OnOk r (IsSome reading)
-is_open-opened (Ok x) files reading name old ok = is_open-from_told files reading (opened name old) _ ok refl
-is_open-opened (Err x) files reading name old ok = tt
+pub is_open-opened : {T E : Type 0} (r : Result T E) (files : List MemFile) (earlier : List Reading)
+    (reading : Option OpenFile) (name : List ℕ) (old : Told) →
+    OnOk r (told_by files earlier reading ≡ opened name old) → OnOk r (IsSome reading)
+is_open-opened (Ok x) files earlier reading name old ok =
+    is_open-from_told files earlier reading (opened name old) _ ok refl
+is_open-opened (Err x) files earlier reading name old ok = tt
 
-pub still_open : {T E : Type 0} (r : Result T E) (files files' : List MemFile) (reading reading' : Option OpenFile) →
-    OnErr r (told_by files' reading' ≡ told_by files reading) → OnErr r (IsSome reading → IsSome reading')
-still_open (Ok x) files files' reading reading' err = tt
-still_open (Err x) files files' None reading' err = λ some. absurd cc
-still_open (Err x) files files' (Some file) reading' err = λ some.
-    is_open-from_told files' reading' (told_by files (Some file)) _ err refl
+pub still_open : {T E : Type 0} (r : Result T E) (files files' : List MemFile) (earlier earlier' : List Reading)
+    (reading reading' : Option OpenFile) →
+    OnErr r (told_by files' earlier' reading' ≡ told_by files earlier reading) →
+    OnErr r (IsSome reading → IsSome reading')
+still_open (Ok x) files files' earlier earlier' reading reading' err = tt
+still_open (Err x) files files' earlier earlier' None reading' err = λ some. absurd cc
+still_open (Err x) files files' earlier earlier' (Some file) reading' err = λ some.
+    is_open-from_told files' earlier' reading' (told_by files earlier (Some file)) _ err refl
 
-pub is_open-moved : {E : Type 0} (r : Result ℕ E) (files files' : List MemFile) (reading reading' : Option OpenFile) →
-    IfOk r (λ n. told_by files' reading' ≡ moved_by n (told_by files reading)) →
-    OnErr r (told_by files' reading' ≡ told_by files reading) → IsSome reading → IsSome reading'
-is_open-moved r files files' None reading' ok err some = absurd cc
-is_open-moved (Ok n) files files' (Some file) reading' ok err some =
-    is_open-from_told files' reading' (moved_by n (told_by files (Some file))) _ ok refl
-is_open-moved (Err x) files files' (Some file) reading' ok err some =
-    is_open-from_told files' reading' (told_by files (Some file)) _ err refl
+-- and still is after a read
+pub is_open-read : {E : Type 0} (r : Result ℕ E) (files files' : List MemFile) (earlier earlier' : List Reading)
+    (reading reading' : Option OpenFile) →
+    IfOk r (λ n. told_by files' earlier' reading' ≡ read_by n (told_by files earlier reading)) →
+    OnErr r (told_by files' earlier' reading' ≡ told_by files earlier reading) → IsSome reading → IsSome reading'
+is_open-read r files files' earlier earlier' None reading' ok err some = absurd cc
+is_open-read (Ok n) files files' earlier earlier' (Some file) reading' ok err some =
+    is_open-from_told files' earlier' reading' (read_by n (told_by files earlier (Some file))) _ ok refl
+is_open-read (Err x) files files' earlier earlier' (Some file) reading' ok err some =
+    is_open-from_told files' earlier' reading' (told_by files earlier (Some file)) _ err refl
 
 -- what holds of all bytes holds where they are told
 pub opened-told : {T E A : Type 0} (r : Result T E) (o : Option A) (P : Type 0) → OnOk r P → OnOk r (ForSome o (λ _. P))

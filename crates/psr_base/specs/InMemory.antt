@@ -13,7 +13,7 @@ use Rattle.psr_base.specs.declared.mem_files.MemFiles.{MemFiles}
 use Rattle.psr_base.specs.declared.mem_sink.MemSink.{MemSink}
 use Rattle.psr_base.specs.declared.stored.StoredFile.{StoredFile}
 
--- all of its files, the open name, and the place in it
+-- all of its files, what was read of those that were open, the open name, and the place in it
 abbrev pub told_of : MemInputs → Told
 told_of inputs = told_by inputs.files
 

@@ -5,6 +5,7 @@ pub mod Inputs
 pub mod Written
 pub mod Made
 pub mod NamedFiles
+pub mod Earlier
 pub mod Held
 pub mod Stored
 pub mod InMemory

@@ -36,8 +36,12 @@ bytes_at files place = slice_index_or (bodies_of files) place []
 abbrev pub bytes_in : List MemFile → List ℕ → Option (List ℕ)
 bytes_in files name = option_map (bytes_at files) (place_in files name)
 
--- the open name, and the place in it
+-- the open name, the place in it, and whether its end was seen
 abbrev pub reading_of : List MemFile → Option OpenFile → Option Reading
 reading_of files reading =
-    option_map (λ (file : OpenFile). record { name = name_at files file.index; place = file.place })
+    option_map (λ (file : OpenFile). record {
+      name = name_at files file.index;
+      place = file.place;
+      ended = file.ended;
+    })
     reading

@@ -1,7 +1,7 @@
 -- Worked values of what writing and making files do, computed.
-use Rattle.std.specs.Prelude.{◌≡◌, [], ◌∷◌, Some, None, codes, refl}
+use Rattle.std.specs.Prelude.{◌≡◌, true, false, [], ◌∷◌, Some, None, codes, refl}
 use Rattle.psr_base.specs.Count.{next_count}
-use Rattle.psr_base.specs.Told.{Told, left_to_read, opened, moved_by}
+use Rattle.psr_base.specs.Told.{Told, history, left_to_read, opened, moved_by, read_by, filled_by}
 use Rattle.psr_base.specs.Written.{room_after, first_pieces}
 use Rattle.psr_base.specs.Made.{Made, FilesLeft, files_in, names_in, with_new_file, longer_by, with_all_finished, less_a_file, less_bytes}
 
@@ -34,11 +34,17 @@ pieces : first_pieces (λ i. i ∷ 7 ∷ []) 3 ≡ 0 ∷ 7 ∷ 1 ∷ 7 ∷ 2 ∷
 pieces = refl
 
 abbrev one_file : Told
-one_file = record { bytes_under = λ name. Some (codes "abcde"); reading = None }
+one_file = record { bytes_under = λ name. Some (codes "abcde"); earlier = []; reading = None }
 
 -- two bytes were read, so three are left
 rest : left_to_read (moved_by 2 (opened (codes "a") one_file)) ≡ Some (codes "cde")
 rest = refl
+
+-- one file was read to its end, and of the next one two bytes
+all_read : history (read_by 2 (opened (codes "b") (filled_by 5 8 (opened (codes "a") one_file))))
+    ≡ record { name = codes "a"; place = 5; ended = true }
+    ∷ record { name = codes "b"; place = 2; ended = false } ∷ []
+all_read = refl
 
 -- a count stays at the greatest u64
 stays : next_count 18446744073709551615 ≡ 18446744073709551615

@@ -12,7 +12,7 @@ pub struct CalmInputs {
 }
 
 impl CalmInputs {
-    ghost use Rattle.std.specs.Prelude.{◌≡◌, ◌≢◌, ℕ, List, None, Some, IfOk, OnOk, OnErr};
+    ghost use Rattle.std.specs.Prelude.{◌≡◌, ◌≢◌, ℕ, List, [], None, Some, IfOk, OnOk, OnErr};
     ghost use Rattle.psr_base.specs.InMemory.{calm_told, IsCalmOpen};
 
     /// No files.
@@ -20,6 +20,7 @@ impl CalmInputs {
         ensures empty { IfOk result (λ inputs.
             (name : List ℕ) → (calm_told inputs).bytes_under name ≡ None) }
         ensures closed { IfOk result (λ inputs. (calm_told inputs).reading ≡ None) }
+        ensures unread { IfOk result (λ inputs. (calm_told inputs).earlier ≡ []) }
     {
         Ok(CalmInputs {
             files: HeldFiles::none(alloc),
@@ -34,6 +35,7 @@ impl CalmInputs {
         ensures others { OnOk result ((other : List ℕ) → other ≢ name.now
             → (calm_told self.new).bytes_under other ≡ (calm_told self.old).bytes_under other) }
         ensures reading { (calm_told self.new).reading ≡ (calm_told self.old).reading }
+        ensures earlier { (calm_told self.new).earlier ≡ (calm_told self.old).earlier }
         ensures is_open { IsCalmOpen self.old → IsCalmOpen self.new }
         ensures refused { OnErr result (calm_told self.new ≡ calm_told self.old) }
     {
@@ -43,7 +45,7 @@ impl CalmInputs {
 
 impl Inputs for CalmInputs {
     ghost use Rattle.std.specs.Prelude.{◌≡◌, ◌<◌, ⊤, [], length, min, unwrap_or, None, IsSome, IsOk, IfOk, OnOk};
-    ghost use Rattle.psr_base.specs.Told.{opened, closed, moved_by, left_to_read, GivesNext};
+    ghost use Rattle.psr_base.specs.Told.{opened, closed, read_by, left_to_read, GivesNext};
     ghost use Rattle.psr_base.specs.InMemory.{calm_told, IsCalmOpen};
 
     ghost told = { calm_told };
@@ -77,7 +79,7 @@ impl Inputs for CalmInputs {
             n ≡ min (length (unwrap_or (left_to_read (calm_told self.old)) [])) (length into.new)) }
         ensures next { IfOk result (λ n.
             GivesNext (unwrap_or (left_to_read (calm_told self.old)) []) n into.new) }
-        ensures moved { IfOk result (λ n. calm_told self.new ≡ moved_by n (calm_told self.old)) }
+        ensures moved { IfOk result (λ n. calm_told self.new ≡ read_by n (calm_told self.old)) }
         ensures is_open { IsCalmOpen self.new }
     {
         if self.files.is_reading() {

@@ -1,8 +1,9 @@
 // Files that are held in memory and read by name.
-ghost use Rattle.std.specs.Prelude.{◌≡◌, ◌<◌, ◌↔◌, IsTrue, true, false, Some};
+ghost use Rattle.std.specs.Prelude.{◌≡◌, ◌<◌, ◌↔◌, ◌==◌, ◌||◌, IsTrue, true, false, Some};
 ghost use Rattle.std.specs.Option.{ForSome};
 ghost use Rattle.psr_base.specs.NamedFiles.{place_in, name_at};
 
+use crate::earlier::Earlier;
 use crate::faults::Memory;
 use crate::lookup::{copy_from, place_of};
 use std::alloc::Global;
@@ -13,11 +14,19 @@ pub(crate) struct MemFile {
     pub(crate) bytes: Vec<u8>,
 }
 
-// The file that is open, and the place that it was read to.
+// The file that is open, the place that it was read to, and whether its end was seen.
 #[derive(Clone, Copy)]
 struct OpenFile {
     index: usize,
     place: usize,
+    ended: bool,
+}
+
+// Whether the end of a file was seen, also by a read that gave so many bytes.
+fn sees_end(ended: bool, n: usize) -> bool
+    ensures { result ≡ (ended || (n == 0)) }
+{
+    ended || n == 0
 }
 
 /// Files by their names, of which one may be open.
@@ -26,23 +35,26 @@ pub(crate) struct HeldFiles {
     alloc: Global,
     files: Vec<MemFile>,
     reading: Option<OpenFile>,
+    earlier: Earlier,
     ghost open_is_first: { ForSome reading (λ file.
         place_in files.items (name_at files.items file.index) ≡ Some file.index) },
 }
 
 impl HeldFiles {
     ghost use Rattle.std.specs.Prelude.{◌≡◌, ◌≢◌, ◌<◌, ◌↔◌, ℕ, List, [], None, Some, IsTrue, IsSome, OnOk, OnErr, true, false, min, length, unwrap_or};
-    ghost use Rattle.psr_base.specs.Told.{left_to_read, opened, moved_by, closed, GivesNext};
+    ghost use Rattle.psr_base.specs.Told.{left_to_read, opened, read_by, closed, GivesNext};
     ghost use Rattle.psr_base.specs.Held.{told_by, IsReading};
 
     pub(crate) fn none(alloc: Global) -> HeldFiles
         ensures empty { (name : List ℕ) → (told_by result).bytes_under name ≡ None }
         ensures closed { (told_by result).reading ≡ None }
+        ensures unread { (told_by result).earlier ≡ [] }
     {
         HeldFiles {
             alloc,
             files: Vec::new(alloc),
             reading: None,
+            earlier: Earlier::none(),
         }
     }
 
@@ -53,6 +65,7 @@ impl HeldFiles {
         ensures others { OnOk result ((other : List ℕ) → other ≢ name.now
             → (told_by self.new).bytes_under other ≡ (told_by self.old).bytes_under other) }
         ensures reading { (told_by self.new).reading ≡ (told_by self.old).reading }
+        ensures earlier { (told_by self.new).earlier ≡ (told_by self.old).earlier }
         ensures refused { OnErr result (told_by self.new ≡ told_by self.old) }
     {
         let bytes = Vec::from_slice(self.alloc, bytes)?;
@@ -74,7 +87,12 @@ impl HeldFiles {
     {
         match place_of(&self.files, name) {
             Some(index) => {
-                self.reading = Some(OpenFile { index, place: 0 });
+                self.close();
+                self.reading = Some(OpenFile {
+                    index,
+                    place: 0,
+                    ended: false,
+                });
                 true
             }
             None => false,
@@ -83,9 +101,14 @@ impl HeldFiles {
 
     /// No file is open.
     pub(crate) fn close(&mut self)
-        ensures { told_by self.new ≡ closed (told_by self.old) }
+        ensures told { told_by self.new ≡ closed (told_by self.old) }
+        ensures files { self.new.files ≡ self.old.files }
     {
-        self.reading = None;
+        if let Some(file) = self.reading {
+            let name = self.files[file.index].name.as_str();
+            self.earlier.add(name, file.place, file.ended);
+            self.reading = None;
+        }
     }
 
     /// A file is open.
@@ -102,7 +125,7 @@ impl HeldFiles {
         ensures whole { result
             ≡ min (length (unwrap_or (left_to_read (told_by self.old)) [])) (length into.new) }
         ensures next { GivesNext (unwrap_or (left_to_read (told_by self.old)) []) result into.new }
-        ensures moved { told_by self.new ≡ moved_by result (told_by self.old) }
+        ensures moved { told_by self.new ≡ read_by result (told_by self.old) }
         ensures reading { IsReading self.new }
     {
         let file = self.reading.unwrap();
@@ -110,6 +133,7 @@ impl HeldFiles {
         self.reading = Some(OpenFile {
             index: file.index,
             place: file.place + n,
+            ended: sees_end(file.ended, n),
         });
         n
     }

@@ -2,7 +2,7 @@
 ghost use Rattle.std.specs.Prelude.{◌≡◌, ◌≤◌, ◌<◌, ℕ, length, IfOk, OnOk, OnErr, IsOk, IsSome};
 ghost use Rattle.std.specs.Option.{ForSome};
 ghost use Rattle.psr_base.specs.Count.{Rose};
-ghost use Rattle.psr_base.specs.Told.{Told, left_to_read, opened, moved_by, GivesNext};
+ghost use Rattle.psr_base.specs.Told.{Told, left_to_read, opened, read_by, GivesNext};
 
 use crate::faults::Failed;
 
@@ -11,7 +11,8 @@ use crate::faults::Failed;
 /// What an object tells of its files, it tells whole: the bytes under a name never change by
 /// these calls. A call that fails leaves what is told as it was.
 pub trait Inputs {
-    /// The bytes under each name, the open name and the place read to, where they are told.
+    /// The bytes under each name, the open name and the place read to, where they are told; and how
+    /// far each file was read that was open before.
     ghost told: { Self → Told };
 
     /// A name is open.
@@ -48,7 +49,7 @@ pub trait Inputs {
         ensures bound { IfOk result (λ n. n ≤ length into.new) }
         ensures next { IfOk result (λ n. ForSome (left_to_read (told self.old))
             (λ left. GivesNext left n into.new)) }
-        ensures moved { IfOk result (λ n. told self.new ≡ moved_by n (told self.old)) }
+        ensures moved { IfOk result (λ n. told self.new ≡ read_by n (told self.old)) }
         ensures is_open { is_open self.new }
         ensures quiet { OnOk result (faults self.new ≡ faults self.old) }
 

@@ -4,6 +4,7 @@
 mod calls;
 mod calm;
 mod calm_inputs;
+mod earlier;
 mod faults;
 mod files;
 mod fixed;
@@ -33,7 +34,7 @@ pub use inputs::Inputs;
 pub use mem_files::MemFiles;
 pub use mem_inputs::MemInputs;
 pub use mem_sink::MemSink;
-pub use reading::{DataFault, fill, read_file, read_to_end};
+pub use reading::{DataFault, fill, read_file, read_to_end, reads_join};
 pub use real_files::{RealFiles, RealInputs};
 pub use real_sink::RealSink;
 pub use real_streams::TakenStreams;

@@ -22,6 +22,7 @@ impl MemInputs {
         ensures empty { IfOk result (λ inputs.
             (name : List ℕ) → (told_of inputs).bytes_under name ≡ None) }
         ensures closed { IfOk result (λ inputs. (told_of inputs).reading ≡ None) }
+        ensures unread { IfOk result (λ inputs. (told_of inputs).earlier ≡ []) }
         ensures calls { IfOk result (λ inputs.
             calls_of inputs ≡ record { fail = fail.now; number = 0; faults = 0 }) }
     {
@@ -38,6 +39,7 @@ impl MemInputs {
         ensures others { OnOk result ((other : List ℕ) → other ≢ name.now
             → (told_of self.new).bytes_under other ≡ (told_of self.old).bytes_under other) }
         ensures reading { (told_of self.new).reading ≡ (told_of self.old).reading }
+        ensures earlier { (told_of self.new).earlier ≡ (told_of self.old).earlier }
         ensures calls { calls_of self.new ≡ calls_of self.old }
         ensures refused { OnErr result (told_of self.new ≡ told_of self.old) }
     {
@@ -48,7 +50,7 @@ impl MemInputs {
 impl Inputs for MemInputs {
     ghost use Rattle.std.specs.Prelude.{◌≡◌, ◌<◌, ◌≤◌, ◌-◌, ◌↔◌, min, length, [], None, Some, IsSome, IsOk, IfOk, OnOk, OnErr, unwrap_or};
     ghost use Rattle.psr_base.specs.Count.{FailsNext, after_call, after_fault};
-    ghost use Rattle.psr_base.specs.Told.{opened, moved_by, left_to_read, GivesNext};
+    ghost use Rattle.psr_base.specs.Told.{opened, read_by, left_to_read, GivesNext};
     ghost use Rattle.psr_base.specs.InMemory.{told_of, calls_of, IsOpen};
 
     ghost told = { told_of };
@@ -85,7 +87,7 @@ impl Inputs for MemInputs {
             n ≡ min (length (unwrap_or (left_to_read (told_of self.old)) [])) (length into.new)) }
         ensures next { IfOk result (λ n.
             GivesNext (unwrap_or (left_to_read (told_of self.old)) []) n into.new) }
-        ensures moved { IfOk result (λ n. told_of self.new ≡ moved_by n (told_of self.old)) }
+        ensures moved { IfOk result (λ n. told_of self.new ≡ read_by n (told_of self.old)) }
         ensures is_open { IsOpen self.new }
         ensures called { OnOk result (calls_of self.new ≡ after_call (calls_of self.old)) }
         ensures unchanged { OnErr result (told_of self.new ≡ told_of self.old) }

@@ -1,8 +1,8 @@
 // Reading from an open file more than one call gives.
-ghost use Rattle.std.specs.Prelude.{◌≡◌, ◌≢◌, ◌≤◌, ◌<◌, ℕ, length, vec_len, Ok, Err, IfOk, OnOk, OnErr, IsOk, IsSome};
+ghost use Rattle.std.specs.Prelude.{◌≡◌, ◌≢◌, ◌≤◌, ◌<◌, ℕ, length, vec_len, Err, IfOk, OnErr, IsOk, IsErr, IsSome};
 ghost use Rattle.std.specs.Option.{ForSome};
-ghost use Rattle.psr_base.specs.Count.{Rose};
-ghost use Rattle.psr_base.specs.Told.{left_to_read, rest_after, moved_by, FillsFrom, OfFile};
+ghost use Rattle.psr_base.specs.Inputs.{HasReadFrom};
+ghost use Rattle.psr_base.specs.Told.{left_to_read, rest_after, moved_by, at_end, filled_by, FillsFrom, ReadsJoin, OfFile};
 
 use crate::faults::Failed;
 use crate::inputs::Inputs;
@@ -18,19 +18,15 @@ pub fn fill<I: Inputs>(inputs: &mut I, into: &mut [u8]) -> Result<usize, Failed>
     ensures bound { IfOk result (λ n. n ≤ length into.new) }
     ensures filled { IfOk result (λ n. ForSome (left_to_read (I.told inputs.old))
         (λ left. FillsFrom left n into.new)) }
-    ensures moved { IfOk result (λ n. I.told inputs.new ≡ moved_by n (I.told inputs.old)) }
+    ensures moved { IfOk result (λ n.
+        I.told inputs.new ≡ filled_by n (length into.new) (I.told inputs.old)) }
     ensures left { IfOk result (λ n. left_to_read (I.told inputs.new)
         ≡ rest_after n (left_to_read (I.told inputs.old))) }
-    ensures quiet { OnOk result (I.faults inputs.new ≡ I.faults inputs.old) }
-
-    ensures failed { OnErr result (Rose (I.faults inputs.old) (I.faults inputs.new)) }
     ensures lost { OnErr result ((k : ℕ) × (k < length into.new)
         × (I.told inputs.new ≡ moved_by k (I.told inputs.old))) }
 
-    ensures names { (I.told inputs.new).bytes_under ≡ (I.told inputs.old).bytes_under }
+    ensures inputs { HasReadFrom I.told I.is_calm I.faults (IsErr result) inputs.old inputs.new }
     ensures is_open { I.is_open inputs.new }
-    ensures count { I.faults inputs.old ≤ I.faults inputs.new }
-    ensures calm { I.is_calm inputs.old → I.is_calm inputs.new }
     ensures serves { I.is_calm inputs.old → IsOk result }
 {
     let mut filled = 0;
@@ -95,19 +91,15 @@ pub fn read_to_end<I: Inputs>(
         (λ left. bytes.items ≡ left)) }
     ensures within { IfOk result (λ bytes. vec_len bytes ≤ limit) }
     ensures moved { IfOk result (λ bytes.
-        I.told inputs.new ≡ moved_by (vec_len bytes) (I.told inputs.old)) }
+        I.told inputs.new ≡ at_end (moved_by (vec_len bytes) (I.told inputs.old))) }
 
     ensures too_long { result ≡ Err DataFault.TooLong
         → ForSome (left_to_read (I.told inputs.old)) (λ left. limit < length left) }
-    ensures failed { result ≡ Err DataFault.Failed
-        → Rose (I.faults inputs.old) (I.faults inputs.new) }
-    ensures quiet { result ≢ Err DataFault.Failed → I.faults inputs.new ≡ I.faults inputs.old }
     ensures lost { OnErr result ((k : ℕ) × (I.told inputs.new ≡ moved_by k (I.told inputs.old))) }
 
-    ensures names { (I.told inputs.new).bytes_under ≡ (I.told inputs.old).bytes_under }
+    ensures inputs { HasReadFrom I.told I.is_calm I.faults (result ≡ Err DataFault.Failed)
+        inputs.old inputs.new }
     ensures is_open { I.is_open inputs.new }
-    ensures count { I.faults inputs.old ≤ I.faults inputs.new }
-    ensures calm { I.is_calm inputs.old → I.is_calm inputs.new }
     ensures serves { I.is_calm inputs.old → result ≢ Err DataFault.Failed }
 {
     let mut data = Vec::new(alloc);
@@ -137,13 +129,8 @@ pub fn read_file<I: Inputs>(
 
     ensures too_long { result ≡ Err DataFault.TooLong
         → OfFile (I.told inputs.old) name.now (λ file. limit < length file) }
-    ensures failed { result ≡ Err DataFault.Failed
-        → Rose (I.faults inputs.old) (I.faults inputs.new) }
-    ensures quiet { result ≢ Err DataFault.Failed → I.faults inputs.new ≡ I.faults inputs.old }
-
-    ensures names { (I.told inputs.new).bytes_under ≡ (I.told inputs.old).bytes_under }
-    ensures count { I.faults inputs.old ≤ I.faults inputs.new }
-    ensures calm { I.is_calm inputs.old → I.is_calm inputs.new }
+    ensures inputs { HasReadFrom I.told I.is_calm I.faults (result ≡ Err DataFault.Failed)
+        inputs.old inputs.new }
     ensures serves { I.is_calm inputs.old → IsSome ((I.told inputs.old).bytes_under name.now)
         → result ≢ Err DataFault.Failed }
 {
@@ -152,3 +139,9 @@ pub fn read_file<I: Inputs>(
         Err(_) => Err(DataFault::Failed),
     }
 }
+
+/// A law: reads that follow one another move the place by all their bytes, and one that gives none sees
+/// the end.
+pub fn reads_join()
+    ensures { ReadsJoin }
+{}

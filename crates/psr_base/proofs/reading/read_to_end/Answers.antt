@@ -1,7 +1,7 @@
 use Rattle.std.proofs.Common.{◌≡◌, ◌+◌, ℕ, List, Some, length, drop, vec_len, Ok, Err, OnErr, refl, ◌∙◌, ap, arith}
 use Rattle.std.proofs.lemmas.List.{take_all, length-take-le}
-use Rattle.psr_base.specs.Told.{Told, left_to_read, rest_after, moved_by}
-use Rattle.psr_base.proofs.Laws.{left_to_read-moved_by}
+use Rattle.psr_base.specs.Told.{Told, left_to_read, rest_after, moved_by, at_end}
+use Rattle.psr_base.proofs.Laws.{moved_by-moved_by, left_to_read-moved_by, read_by-some, read_by-none}
 use Rattle.psr_base.proofs.Pieces.{more_within, length-of_ended, append-next, moved_by-next}
 use Rattle.psr_base.proofs.reading.read_to_end.Goals as goal
 
@@ -33,7 +33,8 @@ loop-piece-preserved g c =
     ) in
     record {
       moved = moved_by-next d n (vec_len c.extend_from_slice.new.self) told (g.I.Inputs.told c.loop-piece.inputs)
-          (g.I.Inputs.told c.read.new.self) longer before.moved c.in_ok-n.ensures.moved;
+          (g.I.Inputs.told c.read.new.self) longer before.moved
+          (c.in_ok-n.ensures.moved ∙ read_by-some n (g.I.Inputs.told c.loop-piece.inputs) c.if-n-eq0.false);
       given = λ left known.
           let so_far = before.given left known in
           let next = c.in_ok-n.ensures.next (drop d left) (rest-moved d _ _ left before.moved known) in
@@ -55,12 +56,16 @@ returns-in_err-extend_from_slice-clause-lost g c =
     let n = c.in_ok-n.n in
     let moved : g.I.Inputs.told c.read.new.self ≡ moved_by (d + n) told =
     moved_by-next d n (d + n) told (g.I.Inputs.told c.loop-piece.inputs)
-    (g.I.Inputs.told c.read.new.self) refl c.loop-piece.invariant.moved c.in_ok-n.ensures.moved in
+    (g.I.Inputs.told c.read.new.self) refl c.loop-piece.invariant.moved
+    (c.in_ok-n.ensures.moved ∙ read_by-some n (g.I.Inputs.told c.loop-piece.inputs) c.if-n-eq0.false) in
     elim c.from_residual-in_err-extend_from_slice.result as (λ r.
     OnErr r ((k : ℕ) × (g.I.Inputs.told c.read.new.self ≡ moved_by k told))) [ Ok x ↦ tt | Err e ↦ (d + n, moved) ]
 
-pub returns-then-n-eq0-clause-quiet : goal.returns-then-n-eq0-clause-quiet
-returns-then-n-eq0-clause-quiet g c = λ ok. c.in_ok-n.ensures.quiet ∙ c.loop-piece.invariant.quiet
-
-pub returns-in_err-extend_from_slice-clause-quiet : goal.returns-in_err-extend_from_slice-clause-quiet
-returns-in_err-extend_from_slice-clause-quiet g c = λ memory. c.in_ok-n.ensures.quiet ∙ c.loop-piece.invariant.quiet
+pub returns-then-n-eq0-clause-moved : goal.returns-then-n-eq0-clause-moved
+returns-then-n-eq0-clause-moved g c =
+    let no_more : vec_len c.loop-piece.data + 0 ≡ vec_len c.loop-piece.data = omega arith in
+    c.in_ok-n.ensures.moved
+    ∙ read_by-none c.in_ok-n.n (g.I.Inputs.told c.loop-piece.inputs) c.if-n-eq0.true
+    ∙ ap (λ (t : Told). at_end (moved_by 0 t)) c.loop-piece.invariant.moved
+    ∙ ap at_end (moved_by-moved_by (vec_len c.loop-piece.data) 0 (g.I.Inputs.told c.args.inputs.now))
+    ∙ ap (λ (m : ℕ). at_end (moved_by m (g.I.Inputs.told c.args.inputs.now))) no_more

@@ -3,7 +3,7 @@ use Rattle.psr_base.specs.NamedFiles.{bytes_at, name_at}
 use Rattle.psr_base.specs.Held.{told_by}
 use Rattle.psr_base.specs.Told.{left_to_read}
 use Rattle.psr_base.specs.declared.held.MemFile.{MemFile}
-use Rattle.psr_base.proofs.Places.{place_in-within, bytes_at-get_or, left_to_read-first, count-copied, GivesNext-copied}
+use Rattle.psr_base.proofs.Places.{place_in-within, bytes_at-get_or, left_to_read-first, count-copied, GivesNext-copied, told-read}
 use Rattle.psr_base.proofs.held.HeldFiles.read.Goals as goal
 
 pub index-requires : goal.index-requires
@@ -29,7 +29,7 @@ known_left c =
     let same : bytes_at files file.index ≡ c.as_slice.result.now =
     bytes_at-get_or files file.index c.index.result.now within
     ∙ sym (ap (λ (f : MemFile). f.bytes.items) c.index.ensures) ∙ sym c.as_slice.ensures.value in
-    left_to_read-first files before.reading file c.unwrap-file.ensures first
+    left_to_read-first files before.earlier.files before.reading file c.unwrap-file.ensures first
     ∙ ap (λ (bytes : List ℕ). Some (drop file.place bytes)) same
 
 count : (c : goal.After-self-1) →
@@ -47,3 +47,9 @@ returns-clause-next c =
     let room : 0 < length c.copy_from-n.new.into = omega (arith, c.requires.room, c.copy_from-n.auto.into) in
     GivesNext-copied (left_to_read (told_by c.args.self.now)) c.as_slice.result.now c.copy_from-n.new.into
     c.unwrap-file.result.place c.copy_from-n.result (known_left c) (count c) room c.copy_from-n.ensures.copied
+
+pub returns-clause-moved : goal.returns-clause-moved
+returns-clause-moved c =
+    let before = c.args.self.now in
+    told-read before.files.items before.earlier.files before.reading c.unwrap-file.result c.copy_from-n.result
+    c.sees_end.result c.unwrap-file.ensures c.sees_end.ensures

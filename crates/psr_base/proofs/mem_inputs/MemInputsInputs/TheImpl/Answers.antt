@@ -1,7 +1,7 @@
 use Rattle.std.proofs.Common.{◌≡◌, ◌∙◌, rules}
 use Rattle.psr_base.specs.InMemory.{told_of, calls_of}
 use Rattle.psr_base.specs.Told.{left_to_read, opened}
-use Rattle.psr_base.proofs.Tells.{Rose-failed, count-stays, fail-stays, calm-serves, names-opened, opened-told, is_open-opened, still_open, is_open-moved, GivesNext-told}
+use Rattle.psr_base.proofs.Tells.{Rose-failed, count-stays, fail-stays, calm-serves, names-opened, opened-told, is_open-opened, still_open, is_open-read, GivesNext-told}
 use Rattle.psr_base.proofs.mem_inputs.MemInputsInputs.TheImpl.Goals as goal
 
 pub open-tells : goal.open-tells
@@ -13,13 +13,13 @@ open-tells c =
       opened = opened-told c.result ((told_of old).bytes_under c.args.name.now) (told_of new
           ≡ opened c.args.name.now (told_of old)) c.ensures.opened;
       names = names-opened c.result c.args.name.now (told_of old) (told_of new) c.ensures.opened c.ensures.unchanged;
-      is_open = is_open-opened c.result new.files.files.items new.files.reading c.args.name.now
-          (told_of old) c.ensures.opened;
+      is_open = is_open-opened c.result new.files.files.items new.files.earlier.files new.files.reading
+          c.args.name.now (told_of old) c.ensures.opened;
       quiet = count-stays c.result (calls_of old) (calls_of new) c.ensures.called;
       failed = Rose-failed c.result (calls_of old) (calls_of new) c.ensures.failed;
       unchanged = c.ensures.unchanged;
-      still_open = still_open c.result old.files.files.items new.files.files.items old.files.reading new.files.reading
-          c.ensures.unchanged;
+      still_open = still_open c.result old.files.files.items new.files.files.items old.files.earlier.files
+          new.files.earlier.files old.files.reading new.files.reading c.ensures.unchanged;
       count = c.ensures.count;
       calm = λ calm. same ∙ calm;
       serves = λ calm held. calm-serves (calls_of old) (λ free. c.ensures.answer.1 (held, free)) calm;
@@ -34,8 +34,9 @@ read-tells c =
       bound = search rules;
       next = GivesNext-told c.result (left_to_read (told_of old)) c.new.into.now c.ensures.next;
       moved = c.ensures.moved;
-      is_open = is_open-moved c.result old.files.files.items new.files.files.items old.files.reading new.files.reading
-          c.ensures.moved c.ensures.unchanged c.requires.is_open;
+      is_open = is_open-read c.result old.files.files.items new.files.files.items old.files.earlier.files
+          new.files.earlier.files old.files.reading new.files.reading c.ensures.moved c.ensures.unchanged
+          c.requires.is_open;
       quiet = count-stays c.result (calls_of old) (calls_of new) c.ensures.called;
       failed = Rose-failed c.result (calls_of old) (calls_of new) c.ensures.failed;
       unchanged = c.ensures.unchanged;
