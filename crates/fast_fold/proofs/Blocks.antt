@@ -10,7 +10,7 @@ use Rattle.fast_fold.specs.Merging.{AddsTurned, IsMerged, AreMerged, at, merged_
 use Rattle.fast_fold.proofs.Parts.{put_before, put_within}
 
 -- a value of the row of a half that a trial is made of
-first_half : (halves : List ℕ) (p rows i n q : ℕ) → i < rows → q < p → p ≤ n
+pub first_half : (halves : List ℕ) (p rows i n q : ℕ) → i < rows → q < p → p ≤ n
     → slice_index (take n (drop (i * p) (take (rows * p) halves))) q ≡ at halves p (0 + i) q
 first_half halves p rows i n q lt phase le =
     let inside : i * p + q < rows * p = omega (arith, mul-add-lt i p q rows lt phase) in
@@ -19,7 +19,7 @@ first_half halves p rows i n q lt phase le =
     ∙ get_or-take (rows * p) halves (i * p + q) 0 inside
     ∙ ap (λ k. slice_index halves (k * p + q)) (omega arith)
 
-second_half : (halves : List ℕ) (p rows i n q : ℕ) → q < p → p ≤ n
+pub second_half : (halves : List ℕ) (p rows i n q : ℕ) → q < p → p ≤ n
     → slice_index (take n (drop (i * p) (drop (rows * p) halves))) q ≡ at halves p (rows + i) q
 second_half halves p rows i n q phase le =
     get_or-take n (drop (i * p) (drop (rows * p) halves)) q 0 (omega arith)

@@ -1,9 +1,12 @@
 pub mod Bits
 pub mod Blocks
+pub mod Excess
 pub mod Halves
 pub mod Levels
 pub mod Parts
+pub mod Raising
 pub mod Ranges
 pub mod Room
+pub mod Tiling
 pub mod Turned
 pub mod Worked

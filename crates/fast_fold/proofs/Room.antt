@@ -1,5 +1,5 @@
 -- The sizes of tables, and places in them.
-use Rattle.std.proofs.Common.{◌≡◌, ℕ, ◌+◌, ◌-◌, ◌*◌, ◌^◌, ◌<◌, ◌≤◌, sym, ap, ◌∙◌, arith}
+use Rattle.std.proofs.Common.{◌≡◌, ℕ, ◌+◌, ◌-◌, ◌*◌, ◌^◌, ◌<◌, ◌≤◌, sym, ap, ◌∙◌, min, arith}
 use Rattle.std.proofs.lemmas.Nat.{pow-add, mul-le, mul-add-lt}
 use Rattle.std.proofs.Math.Nat.{mul-le-mul_right}
 use Rattle.std.proofs.Math.Pow.{pow_mono}
@@ -26,3 +26,10 @@ row_fits m r p block j le in_blocks in_trials =
     let row : block * 2 ^ r + j + 1 ≤ 2 ^ m =
     omega (arith, whole, mul-add-lt block (2 ^ r) j (2 ^ (m - r)) in_blocks in_trials) in
     mul-le-mul_right p row
+
+-- a tile has room
+pub tile_fits : (most m tile : ℕ) → m ≤ most → m ≤ 8 → 2 ^ min most 8 * 784 ≤ tile → 2 ^ m * 784 ≤ tile
+tile_fits most m tile few few_of_tile room =
+    let within : m ≤ min most 8 = omega arith in
+    let fewer : 2 ^ m ≤ 2 ^ min most 8 = pow_mono within in
+    omega (arith, fewer, room)

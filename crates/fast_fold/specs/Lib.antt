@@ -1,3 +1,5 @@
+pub mod Excess
 pub mod Folding
 pub mod Merging
 pub mod Tables
+pub mod Tiles

@@ -2,9 +2,12 @@
 ghost use Rattle.std.specs.Prelude.{◌≡◌, ℕ, ◌+◌, ◌-◌, ◌*◌, ◌^◌, ◌<◌, ◌≤◌, List, length, slice_index, IfOk};
 ghost use Rattle.search_model.specs.Folds.{fold_sum};
 ghost use Rattle.fast_fold.specs.Folding.{Folding, IsAt, IsLoaded, HaveSameRoom, StandsForSeries, FoldsSeeRows, block_of};
+ghost use Rattle.fast_fold.specs.Excess.{IsGreatestExcess};
 ghost use Rattle.fast_fold.specs.Tables.{IsRoomy};
 
 use crate::merge::merge_blocks;
+use crate::powers::power;
+use crate::tiles::{LONGEST_ROW, MOST_HALVINGS, greatest_excess};
 use psr_base::Memory;
 use std::alloc::Global;
 use std::marker::Model;
@@ -21,6 +24,8 @@ pub struct Folder {
     level: u32,
     sums: Vec<u32>,
     spare: Vec<u32>,
+    tile: Vec<u16>,
+    spare_tile: Vec<u16>,
 }
 
 impl Model for Folder {
@@ -36,7 +41,8 @@ impl Model for Folder {
     } };
 
     ghost invariant = { λ f. IsRoomy f.longest f.most f.period f.halvings f.level
-        (length f.sums.items) (length f.spare.items) };
+        (length f.sums.items) (length f.spare.items)
+        (length f.tile.items) (length f.spare_tile.items) };
 }
 
 impl Folder {
@@ -49,6 +55,7 @@ impl Folder {
         ensures { IfOk result (λ f. (f.longest ≡ pmax) × (f.most ≡ mmax)) }
     {
         let size = pmax as usize * power(mmax);
+        let tile = power(mmax.min(MOST_HALVINGS)) * LONGEST_ROW;
         Ok(Folder {
             longest: pmax,
             most: mmax,
@@ -57,6 +64,8 @@ impl Folder {
             level: 0,
             sums: vec![in alloc; 0; size]?,
             spare: vec![in alloc; 0; size]?,
+            tile: vec![in alloc; 0; tile]?,
+            spare_tile: vec![in alloc; 0; tile]?,
         })
     }
 
@@ -101,6 +110,28 @@ impl Folder {
         self.level += 1;
     }
 
+    /// The greatest sum of all trials of the first `2^m` rows of `p` values of a series, of what each value has above a
+    /// base; 65535 where it is greater. What was loaded stays.
+    pub fn greatest_excess(&mut self, series: &[u32], base: u32, p: u32, m: u32) -> u32
+        requires some_phases { 1 ≤ p }
+        requires some_halvings { 1 ≤ m }
+        requires few_halvings { m ≤ self.old.most }
+        requires tiled { m ≤ MOST_HALVINGS }
+        requires long { 2 ^ m * p ≤ length series.now }
+        ensures same { self.new ≡ self.old }
+        ensures greatest { IsGreatestExcess base series.now p m result }
+    {
+        let size = power(m) * p as usize;
+        greatest_excess(
+            self.tile.as_mut_slice(),
+            self.spare_tile.as_mut_slice(),
+            &series[..size],
+            base,
+            p as usize,
+            m,
+        )
+    }
+
     /// How many halvings were made since the last `load`.
     pub fn level(&self) -> u32
         requires { IsLoaded self.now }
@@ -136,15 +167,6 @@ fn row_of(table: &[u32], row: usize, period: usize) -> &[u32]
 {
     let start = row * period;
     &table[start..start + period]
-}
-
-// 2^e, as a count of rows or blocks.
-fn power(e: u32) -> usize
-    requires { e ≤ 12 }
-    ensures value { result ≡ 2 ^ e }
-    ensures bound { result ≤ 4096 }
-{
-    1 << e
 }
 
 /// A block that begins the series has the fold sums of the series itself.

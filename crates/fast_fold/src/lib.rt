@@ -3,6 +3,10 @@
 #![tactic(auto)]
 
 mod folder;
+mod lanes;
 mod merge;
+mod powers;
+mod tiles;
 
 pub use folder::{Folder, folds_see_rows};
+pub use tiles::MOST_HALVINGS;

@@ -43,7 +43,7 @@ adds_more a b c g from n j at before here =
 -- ---- a least sum
 
 -- a sum that reaches the least one is detected, and no other
-reaches_least : TestsDetection → (s : Search) (cells : ℕ) (least : Option ℕ) (sum : ℕ) → sum < 2 ^ 32 →
+pub reaches_least : TestsDetection → (s : Search) (cells : ℕ) (least : Option ℕ) (sum : ℕ) → sum < 2 ^ 32 →
     StandOutFrom (noise_of s) cells least →
     (b : Bool) → is_detected s.mean s.sd s.snr sum cells ≡ b → reaches least sum ≡ b
 reaches_least law s cells None sum small from true is =

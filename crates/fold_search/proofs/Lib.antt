@@ -4,5 +4,6 @@ pub mod FoldLists
 pub mod Fronts
 pub mod Halvings
 pub mod Ranges
+pub mod Reaching
 pub mod Within
 pub mod Worked

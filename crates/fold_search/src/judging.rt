@@ -1,7 +1,7 @@
 // Folds of a list of values, judged.
-ghost use Rattle.std.specs.Prelude.{◌≡◌, ℕ, ◌+◌, ◌-◌, ◌*◌, ◌^◌, ◌<◌, ◌≤◌, List, Option, Some, None, length, slice_index};
+ghost use Rattle.std.specs.Prelude.{◌≡◌, ℕ, ◌+◌, ◌-◌, ◌*◌, ◌^◌, ◌<◌, ◌≤◌, List, [], Option, Some, None, false, length, slice_index};
 ghost use Rattle.search_model.specs.declared.search.Search.{Search};
-ghost use Rattle.search_model.specs.Folds.{halvings as halvings_of};
+ghost use Rattle.search_model.specs.Folds.{halvings as halvings_of, fold_sum};
 ghost use Rattle.search_model.specs.Search.{SettingsInRange};
 ghost use Rattle.detect_rule.specs.Noise.{StandOutFrom};
 ghost use Rattle.fast_fold.specs.Folding.{StandsForSeries, IsAt, IsLoaded, HaveSameRoom};
@@ -13,12 +13,15 @@ ghost use Rattle.fold_search.specs.Cells.{cells_by};
 use crate::cells::Cells;
 use candidate_book::Book;
 use detect_rule::Rule;
-use fast_fold::{Folder, folds_see_rows};
+use fast_fold::{Folder, MOST_HALVINGS, folds_see_rows};
 use fdmt_rows::greatest;
 use search_model::{Candidate, Search, tests_detection};
 
 /// How many least sums there are at most: one for each number of halvings, from 0 to 12.
 const LEAST_SUMS: usize = 13;
+
+/// The greatest sum that is told of what values have above a base.
+const MOST_EXCESS: u32 = 65535;
 
 // The trials of a delay's series at a period, with `2^halvings` rows.
 #[derive(Clone, Copy)]
@@ -138,7 +141,47 @@ fn least_sums(rule: &Rule, cells: u32, most: u32) -> [Option<u32>; LEAST_SUMS]
     least
 }
 
-// Adds the detected folds of values at a period.
+// Whether a sum of a period may reach a least one. None does where the greatest sum of what the values have above a base
+// is below what the least sum has above as many bases. The base is the lowest at which that can be told.
+fn may_reach(folder: &mut Folder, values: &[u32], least: u32, period: u32, halvings: u32) -> bool
+    requires some_phases { 1 ≤ period }
+    requires some_halvings { 1 ≤ halvings }
+    requires few_halvings { halvings ≤ folder.old.most }
+    requires few { halvings ≤ 12 }
+    requires long { 2 ^ halvings * period ≤ length values.now }
+    ensures same { folder.new ≡ folder.old }
+    ensures none { result ≡ false → (trial phase : ℕ) → trial < 2 ^ halvings → phase < period
+        → fold_sum values.now period halvings trial phase < least }
+{
+    if halvings > MOST_HALVINGS {
+        return true;
+    }
+    let rows = fold_row_count(halvings);
+    let base = least.saturating_sub(MOST_EXCESS).div_ceil(rows);
+    let needed = least.saturating_sub(base * rows);
+    folder.greatest_excess(values, base, period, halvings) >= needed
+}
+
+// Whether a fold of a period may be detected.
+fn may_be_detected(folder: &mut Folder, values: &[u32], least: Option<u32>, of: Trials) -> bool
+    requires some_phases { 1 ≤ of.period }
+    requires some_halvings { 1 ≤ of.halvings }
+    requires few_halvings { of.halvings ≤ folder.old.most }
+    requires few { of.halvings ≤ 12 }
+    requires long { 2 ^ of.halvings * of.period ≤ length values.now }
+    ensures same { folder.new ≡ folder.old }
+    ensures none { result ≡ false → (cells : ℕ → ℕ) (s : Search)
+        → StandOutFrom (noise_of s) (2 ^ of.halvings * cells of.delay) least
+        → folds_in_trials cells s of.delay of.period of.halvings values.now ≡ [] }
+{
+    tests_detection();
+    match least {
+        Some(least) => may_reach(folder, values, least, of.period, of.halvings),
+        None => true,
+    }
+}
+
+// Adds the detected folds of values at a period. All trials are folded only where one may be detected.
 fn fold_period(
     book: &mut Book,
     folder: &mut Folder,
@@ -165,13 +208,17 @@ fn fold_period(
     if halvings == 0 {
         return;
     }
-    fold_all(folder, values, period, halvings);
     let of = Trials {
         delay,
         period,
         halvings,
     };
-    judge_trials(book, folder, least[halvings as usize], of);
+    let least = least[halvings as usize];
+    if !may_be_detected(folder, values, least, of) {
+        return;
+    }
+    fold_all(folder, values, period, halvings);
+    judge_trials(book, folder, least, of);
 }
 
 /// Adds the detected folds of the values of a delay's series, over all periods of a search.

@@ -5,6 +5,7 @@ ghost use Rattle.fast_fold.specs.Folding.{IsAt};
 
 use crate::values::values;
 use fast_fold::Folder;
+use fdmt_rows::greatest;
 use fold_phase::{fold_sum, shift};
 use psr_base::Memory;
 use std::alloc::Global;
@@ -119,6 +120,61 @@ fn levels_are_folds(rt: HostRuntime) -> Result<(), Memory> {
         for m in 1..7_u32 {
             let are = are_levels(rt.alloc(), series.as_slice(), p, m)?;
             assert!(rt; are, "period {p}, {m} halvings");
+        }
+    }
+    Ok(())
+}
+
+// The greatest sum of all profiles of a period that was folded whole.
+fn greatest_of(folder: &Folder, p: u32, m: u32) -> u32
+    requires at { IsAt folder.now p m m }
+    requires phases { 1 ≤ p }
+    requires some { 1 ≤ m }
+    requires few { m ≤ 8 }
+{
+    let mut most = 0;
+    for trial in 0..1_u32 << m {
+        most = greatest(folder.profile(0, trial)).max(most);
+    }
+    most
+}
+
+// Whether the greatest sum of what values have above a base is that of the profiles of these differences.
+fn is_greatest(alloc: Global, series: &[u32], base: u32, p: u32, m: u32) -> Result<bool, Memory>
+    requires phases { 1 ≤ p }
+    requires short { p ≤ 1000 }
+    requires some { 1 ≤ m }
+    requires few { m ≤ 8 }
+    requires long { 2 ^ m * p ≤ length series.now }
+    requires small { All (λ x. x ≤ 900) series.now }
+{
+    let mut above = Vec::new(alloc);
+    for &value in series {
+        above.push(value.saturating_sub(base))?;
+    }
+    let mut folder = Folder::open(alloc, p, m)?;
+    folder.load(above.as_slice(), p, m);
+    for _level in 0..m {
+        folder.halve();
+    }
+    Ok(folder.greatest_excess(series, base, p, m) == greatest_of(&folder, p, m).min(65535))
+}
+
+#[test]
+fn greatest_sums_are_those_of_profiles(rt: HostRuntime) -> Result<(), Memory> {
+    let series = values(rt.alloc(), 6000, 900, 11)?;
+    for base in [0_u32, 400, 1000] {
+        for (p, m) in [
+            (1_u32, 1_u32),
+            (2, 3),
+            (7, 8),
+            (17, 7),
+            (50, 5),
+            (400, 3),
+            (1000, 2),
+        ] {
+            let is = is_greatest(rt.alloc(), series.as_slice(), base, p, m)?;
+            assert!(rt; is, "base {base}, period {p}, {m} halvings");
         }
     }
     Ok(())
