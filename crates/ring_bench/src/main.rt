@@ -8,6 +8,7 @@
 
 mod crew;
 mod fault;
+mod full;
 mod moving;
 mod threads;
 

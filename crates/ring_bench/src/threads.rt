@@ -1,11 +1,12 @@
 //! The writer and the readers of a ring, each in a thread of its own. What a thread counts is on its own stack, and so
 //! on cache lines of its own.
-ghost use Rattle.std.specs.Prelude.{◌≡◌, ◌≤◌, ◌%◌, true, All, IfOk, length, vec_len};
+ghost use Rattle.std.specs.Prelude.{◌≡◌, ◌≤◌, ◌%◌, All, IfOk, length, vec_len};
 ghost use Rattle.std.specs.Thread.{IsSync};
 ghost use Rattle.ring_ends.specs.Passes.{ring_shape, reader_knows, WritesTo, ReadsFrom};
 ghost use Rattle.ring_bench.specs.Crew.{IsAt, IsBack};
 
 use crate::crew::{Done, Job, Manner};
+use crate::full::is_full_of;
 use ring_ends::{EndedReader, Mark, ReaderPass, Ring, WriterPass};
 use std::alloc::AllocError;
 use std::thread;
@@ -22,18 +23,6 @@ fn byte_of(number: u64) -> u8
     ensures { result ≡ number % 251 }
 {
     (number % 251) as u8
-}
-
-// Whether each byte of the block is this one. It looks at all of them, so that many are compared at once.
-fn is_full_of(block: &[u8], byte: u8) -> bool
-    ensures { result ≡ true → All (λ b. b ≡ byte) block.now }
-{
-    let mut right = true;
-    for b in block {
-        let same = *b == byte;
-        right = right && same;
-    }
-    right
 }
 
 /// Seals blocks, each full of the byte of its number, until so many are sealed.
