@@ -43,7 +43,7 @@ file_stays r i xs ys full =
     ap (λ (bytes : List ℕ). record { name = file_name r i; bytes = header_bytes (file_header r i) ++ bytes })
     (data_stays r.file_size i xs ys full)
 
-rest_of : (z i : ℕ) (xs : List ℕ) → length xs ≤ i * z + z → file_data z xs i ≡ drop (i * z) xs
+pub rest_of : (z i : ℕ) (xs : List ℕ) → length xs ≤ i * z + z → file_data z xs i ≡ drop (i * z) xs
 unfolding file_data
 rest_of z i xs within = let rest = length-drop (i * z) xs in take_all z (drop (i * z) xs) (omega (arith, within, rest))
 

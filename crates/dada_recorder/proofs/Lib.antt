@@ -15,5 +15,6 @@ pub mod TimeForm
 pub mod Refusals
 pub mod Names
 pub mod Turning
+pub mod OpenFiles
 pub mod Opening
 pub mod WorkedMaking

@@ -6,4 +6,5 @@ pub mod RecordingLaws
 pub mod TransferFiles
 pub mod Transfers
 pub mod Turns
+pub mod Tracks
 pub mod Recorder

@@ -3,13 +3,15 @@
 use Rattle.std.specs.Prelude.{◌≡◌, ℕ, Bool, false, Option, None, List, []}
 use Rattle.psr_base.specs.Made.{FilesSeen}
 use Rattle.ring_blocks.specs.declared.Entry.{Entry}
+use Rattle.dada_hdu.specs.declared.passes.HduReader.{HduReader}
 use Rattle.dada_recorder.specs.declared.answers.RecordEnd.{RecordEnd}
 use Rattle.dada_recorder.specs.declared.recorder.Recorder.{Recorder}
 use Rattle.dada_recorder.specs.declared.space.RecorderSpace.{RecorderSpace}
 use Rattle.dada_recorder.specs.Blocks.{RecordPlan}
-use Rattle.dada_recorder.specs.Making.{Outset, BeginsAt}
-use Rattle.dada_recorder.specs.Recording.{FilesAre}
-use Rattle.dada_recorder.specs.Transfers.{plan_in, IsRunning, StandsAt}
+use Rattle.dada_recorder.specs.Making.{Outset, BeginsAt, IsOpenAs}
+use Rattle.dada_recorder.specs.Recording.{FilesAre, last_file_has_room}
+use Rattle.dada_recorder.specs.Transfers.{plan_in, IsRunning, StandsAt, CountsEnd}
+use Rattle.dada_recorder.specs.Turns.{cleared_headers, cleared_blocks}
 
 -- what it records of: the offsets of its transfers, and its limits
 abbrev pub plan_of : {F : Type 0} → Recorder F → RecordPlan
@@ -60,3 +62,23 @@ pub record IsFreshFor {F : Type 0} (r : Recorder F) (plan : RecordPlan) (block :
   pub stands : RecorderStands r [] []
   pub made : (outset : Outset) (seen : FilesSeen) → BeginsAt outset seen →
       FilesAreOf r outset [] [] seen
+
+-- ---- a turn
+
+-- the recorder is for the same plan and blocks as before, over the same files
+pub record IsSameRecorder {F : Type 0} (old new : Recorder F) : Type 0 where
+  pub same_reference : new.files.ghost_name ≡ old.files.ghost_name
+  pub plan : plan_of new ≡ plan_of old
+  pub block : block_size new ≡ block_size old
+
+-- What a turn makes of the files. While the recorder goes on, a file is open exactly where the last file of the blocks
+-- that were cleared has room. In this: whether a file is open, and what files show.
+pub record TurnMakes {F : Type 0} (files_open : F → Type 0) (seen : F → FilesSeen)
+    (old : Recorder F) (pass : HduReader) (new : Recorder F) (pass' : HduReader) : Type 0 where
+  pub is_open : has_end new ≡ None → IsOpenAs (has_open_file new) (files_open new.files.now)
+  pub full : has_end new ≡ None → has_open_file new
+      ≡ last_file_has_room (plan_of new) (cleared_headers pass') (cleared_blocks pass')
+  pub made : (outset : Outset) →
+      FilesAreOf old outset (cleared_headers pass) (cleared_blocks pass) (seen old.files.now) →
+      FilesAreOf new outset (cleared_headers pass') (cleared_blocks pass') (seen new.files.now)
+  pub faults : CountsEnd (has_end new) (seen old.files.now) (seen new.files.now)

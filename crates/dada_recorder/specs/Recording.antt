@@ -1,9 +1,10 @@
 -- What a recorder stands for: the blocks that its pass cleared of both rings.
 -- Source: this project's profile.
-use Rattle.std.specs.Prelude.{◌≡◌, ℕ, ◌+◌, ◌<◌, ◌≤◌, Bool, true, false, if◌then◌else◌, List, [], ◌∷◌, ◌++◌, length, Option, Some, None}
+use Rattle.std.specs.Prelude.{◌≡◌, ℕ, ◌+◌, ◌-◌, ◌<◌, ◌≤◌, nat_lt, ◌&&◌, Bool, true, false, if◌then◌else◌, List, [], ◌∷◌, ◌++◌, length, Option, Some, None}
 use Rattle.psr_base.specs.Made.{NamedBytes, FilesSeen}
 use Rattle.ring_blocks.specs.declared.Entry.{Entry}
 use Rattle.stream_model.specs.Blocks.{joined_bytes, ended_transfers, has_cut, transfer_bytes}
+use Rattle.stream_model.specs.Recorded.{file_count, file_data}
 use Rattle.dada_recorder.specs.declared.answers.RecordFault.{RecordFault}
 use Rattle.dada_recorder.specs.declared.answers.RecordEnd.{RecordEnd}
 use Rattle.dada_recorder.specs.declared.answers.RecordEnd.TheVariants.{Whole, Cut, FileFault, BadHeader, TooLong}
@@ -79,6 +80,18 @@ EndIs plan has_header headers blocks (Some (BadHeader fault)) =
 EndIs plan has_header headers blocks (Some (TooLong limit)) = IsTooLong plan headers blocks limit
 
 -- ---- the files that were made
+
+-- how many data bytes the last file has of a transfer's data
+abbrev pub last_used : ℕ → List ℕ → ℕ
+last_used file_size bytes = length (file_data file_size bytes (file_count file_size bytes - 1))
+
+-- whether the last file of these blocks has room: its transfer has not ended, and it has fewer data
+-- bytes than a file may have
+unfoldable pub last_file_has_room : RecordPlan → List Entry → List Entry → Bool
+last_file_has_room plan headers blocks =
+    nat_lt (ended_transfers blocks) (length headers)
+    && nat_lt (last_used plan.file_size (transfer_bytes (ended_transfers blocks) blocks))
+    plan.file_size
 
 -- the files of the blocks without the last one are there
 pub record LacksHeader (plan : RecordPlan) (outset : Outset) (headers blocks : List Entry)

@@ -1,6 +1,6 @@
 -- Where in the files of a transfer its data have come to.
 -- Source: this project's profile.
-use Rattle.std.specs.Prelude.{◌≡◌, ℕ, ◌+◌, ◌*◌, ◌^◌, ◌≤◌, nat_lt, Bool, true, if◌then◌else◌, List, ◌++◌, take, map, None, Result, IfOk, OnErr}
+use Rattle.std.specs.Prelude.{◌≡◌, ℕ, ◌+◌, ◌*◌, ◌^◌, ◌<◌, ◌≤◌, nat_lt, Bool, true, if◌then◌else◌, List, ◌++◌, length, take, map, None, Result, IfOk, OnErr}
 use Rattle.std.specs.List.{range_with_len}
 use Rattle.psr_base.specs.Made.{NamedBytes, FilesSeen}
 use Rattle.dada_model.specs.Fields.{header_bytes}
@@ -59,6 +59,12 @@ pub record IsWithinLimit (r : Recording) (bytes : ℕ) : Type 0 where
 abbrev pub next_place : FilePlace → FilePlace
 next_place place =
     if place.is_open then place else record { number = place.number + 1; used = 0; is_open = true }
+
+-- n of some bytes came, at least one
+pub record CameOf (old new : TransferFiles) (bytes : List ℕ) (n : ℕ) : Type 0 where
+  pub some : 0 < n
+  pub within : n ≤ length bytes
+  pub count : data_bytes new.place new.file_size ≡ data_bytes old.place old.file_size + n
 
 -- A front of some bytes came to the files of the data before them; or a call failed on the way to
 -- all of them.

@@ -64,6 +64,12 @@ abbrev pub StandsAt : Transfers → List Entry → List Entry → Option RecordE
 StandsAt t headers blocks None = IsRunning t headers blocks
 StandsAt t headers blocks (Some end) = EndIs (plan_in t) t.has_header headers blocks (Some end)
 
+-- it is in the same transfer as before, for the same plan
+pub record IsInSameTransfer (old new : Transfers) : Type 0 where
+  pub plan : plan_in new ≡ plan_in old
+  pub ended : new.ended ≡ old.ended
+  pub has_header : new.has_header ≡ old.has_header
+
 -- a call failed where it ended by a fault, and else none did
 pub record CountsEnd (end : Option RecordEnd) (old new : FilesSeen) : Type 0 where
   pub failed : end ≡ Some FileFault → Rose old.faults new.faults

@@ -1,8 +1,9 @@
 -- What a turn of a recorder does to the rings.
 -- Source: this project's profile.
-use Rattle.std.specs.Prelude.{◌≡◌, ℕ, Bool, true, false, Option, Some, None, List}
+use Rattle.std.specs.Prelude.{◌≡◌, Bool, true, false, length, Option, Some, None, List}
 use Rattle.ring_blocks.specs.declared.Entry.{Entry}
 use Rattle.ring_words.specs.Views.{after_hit, after_give, after_clear}
+use Rattle.ring_words.specs.Steps.{home_word}
 use Rattle.ring_ends.specs.declared.passes.ReaderPass.{ReaderPass}
 use Rattle.ring_ends.specs.Passes.{reader_knows}
 use Rattle.ring_ends.specs.Answers.{IsReadStop}
@@ -18,11 +19,13 @@ cleared_headers pass = (reader_knows pass.header).cleared
 abbrev pub cleared_blocks : HduReader → List Entry
 cleared_blocks pass = (reader_knows pass.blocks).cleared
 
--- the next block was taken, given back and cleared
+-- One try found the next block at home, and it was taken, given back and cleared. It is the one that was read before
+-- and not cleared, if there was one.
 pub record ClearsNext (old new : ReaderPass) : Type 0 where
-  pub word : ℕ
   pub block : Entry
-  pub view : reader_knows new ≡ after_clear (after_give (after_hit (reader_knows old) word block))
+  pub again : (e : Entry) → (reader_knows old).got ≡ Some e → e ≡ block
+  pub view : reader_knows new ≡ after_clear (after_give
+      (after_hit (reader_knows old) (home_word (length (reader_knows old).cleared)) block))
 
 -- one of the rings was read: that of the headers until the header of the transfer was cleared, and
 -- then that of the data

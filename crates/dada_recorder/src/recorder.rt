@@ -1,10 +1,8 @@
 //! The recorder.
-ghost use Rattle.std.specs.Prelude.{◌≡◌, ◌≢◌, ℕ, ◌^◌, ◌≤◌, None, Some, IfOk};
-ghost use Rattle.psr_base.specs.Count.{Rose};
+ghost use Rattle.std.specs.Prelude.{◌≡◌, ℕ, ◌^◌, ◌≤◌, None, IfOk};
 ghost use Rattle.dada_hdu.specs.Passes.{ReadsBoth, data_shape};
-ghost use Rattle.dada_recorder.specs.declared.answers.RecordEnd.TheVariants.{FileFault};
 ghost use Rattle.dada_recorder.specs.Blocks.{RecordPlan, PlanInRange, record_plan};
-ghost use Rattle.dada_recorder.specs.Making.{Outset, IsOpenAs};
+ghost use Rattle.dada_recorder.specs.Making.{IsOpenAs};
 ghost use Rattle.dada_recorder.specs.Turns.{RecordAnswers, cleared_headers, cleared_blocks};
 
 use crate::answers::RecordTurn;
@@ -24,7 +22,7 @@ pub struct Recorder<'a, F> {
 }
 
 impl<'a, F: Files> Recorder<'a, F> {
-    ghost use Rattle.dada_recorder.specs.Recorder.{plan_of, block_size, has_end, has_header, has_open_file, RecorderStands, FilesAreOf, IsSpaceFor, IsFreshFor};
+    ghost use Rattle.dada_recorder.specs.Recorder.{block_size, has_end, has_header, has_open_file, RecorderStands, IsSpaceFor, IsFreshFor, IsSameRecorder, TurnMakes};
 
     /// Takes all space, as `RecorderSpace::take` does.
     pub fn open(
@@ -69,25 +67,12 @@ impl<'a, F: Files> Recorder<'a, F> {
         requires stands { RecorderStands self.old (cleared_headers pass.old)
             (cleared_blocks pass.old) }
         ensures ring { ReadsBoth hdu.now pass.new }
-        ensures same_reference { self.new.files.ghost_name ≡ self.old.files.ghost_name }
-        ensures plan { plan_of self.new ≡ plan_of self.old }
-        ensures block { block_size self.new ≡ block_size self.old }
-        ensures is_open { has_end self.new ≡ None
-            → IsOpenAs (has_open_file self.new) (F.is_open self.new.files.now) }
+        ensures kept { IsSameRecorder self.old self.new }
         ensures stands { RecorderStands self.new (cleared_headers pass.new)
             (cleared_blocks pass.new) }
         ensures answer { RecordAnswers (has_header self.old) pass.old pass.new
             (has_end self.new) result }
-        ensures made { (outset : Outset)
-            → FilesAreOf self.old outset (cleared_headers pass.old) (cleared_blocks pass.old)
-            (F.seen self.old.files.now)
-            → FilesAreOf self.new outset (cleared_headers pass.new) (cleared_blocks pass.new)
-            (F.seen self.new.files.now) }
-        ensures failed { has_end self.new ≡ Some FileFault
-            → Rose (F.seen self.old.files.now).faults (F.seen self.new.files.now).faults }
-        ensures quiet { has_end self.new ≢ Some FileFault
-            → (F.seen self.new.files.now).faults ≡ (F.seen self.old.files.now).faults }
-        ensures count { (F.seen self.old.files.now).faults ≤ (F.seen self.new.files.now).faults }
+        ensures files { TurnMakes F.is_open F.seen self.old pass.old self.new pass.new }
     {
         self.track.turn(self.files, hdu, pass)
     }

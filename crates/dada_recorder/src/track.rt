@@ -1,10 +1,8 @@
 //! The blocks of two rings, read one after another into a space of their own.
 ghost use Rattle.std.specs.Prelude.{◌≡◌, ◌≤◌, true, false, [], length, None, Some, IfOk};
-ghost use Rattle.dada_hdu.specs.Passes.{ReadsBoth, data_shape};
-ghost use Rattle.dada_recorder.specs.Blocks.{PlanInRange, record_plan, files_of_blocks};
-ghost use Rattle.dada_recorder.specs.Making.{Outset, HasMade, IsOpenAs};
-ghost use Rattle.dada_recorder.specs.Recording.{FilesAre};
-ghost use Rattle.dada_recorder.specs.Turns.{RecordAnswers, turn_of, cleared_headers, cleared_blocks};
+ghost use Rattle.dada_hdu.specs.Passes.{data_shape};
+ghost use Rattle.dada_recorder.specs.Blocks.{PlanInRange, record_plan};
+ghost use Rattle.dada_recorder.specs.Turns.{RecordAnswers, turn_of};
 
 use crate::answers::{RecordEnd, RecordTurn};
 use crate::transfers::Transfers;
@@ -32,7 +30,8 @@ fn zeros(alloc: Global, size: usize) -> Result<Vec<u8>, Memory>
 }
 
 impl<'a> Track<'a> {
-    ghost use Rattle.dada_recorder.specs.Transfers.{plan_in, IsRunning, StandsAt, CountsEnd};
+    ghost use Rattle.dada_recorder.specs.Transfers.{plan_in, IsRunning};
+    ghost use Rattle.dada_recorder.specs.Tracks.{GoesOnIn, HasTurned};
 
     /// Nothing was read. All space is taken here.
     pub(crate) fn open(
@@ -81,27 +80,11 @@ impl<'a> Track<'a> {
         hdu: &Hdu,
         pass: &mut HduReader,
     ) -> RecordTurn
-        requires ring { ReadsBoth hdu.now pass.old }
-        requires running { self.old.end ≡ None }
+        requires goes_on { GoesOnIn F.is_open hdu.now self.old files.old pass.old }
         requires header { self.old.transfers.has_header ≡ false }
-        requires is_open { IsOpenAs self.old.transfers.files.place.is_open (F.is_open files.old) }
-        requires stands { IsRunning self.old.transfers (cleared_headers pass.old)
-            (cleared_blocks pass.old) }
-        ensures ring { ReadsBoth hdu.now pass.new }
-        ensures plan { plan_in self.new.transfers ≡ plan_in self.old.transfers }
-        ensures block { self.new.block ≡ self.old.block }
-        ensures is_open { self.new.end ≡ None
-            → IsOpenAs self.new.transfers.files.place.is_open (F.is_open files.new) }
-        ensures stands { StandsAt self.new.transfers (cleared_headers pass.new)
-            (cleared_blocks pass.new) self.new.end }
+        ensures turned { HasTurned F.is_open F.seen hdu.now self.old files.old pass.old
+            self.new files.new pass.new }
         ensures answer { RecordAnswers false pass.old pass.new self.new.end result }
-        ensures made { (outset : Outset)
-            → HasMade outset self.old.transfers.files.place.is_open
-            (files_of_blocks (plan_in self.old.transfers) (cleared_headers pass.old)
-            (cleared_blocks pass.old)) (F.seen files.old)
-            → FilesAre (plan_in self.new.transfers) outset self.new.transfers.files.place.is_open
-            (cleared_headers pass.new) (cleared_blocks pass.new) self.new.end (F.seen files.new) }
-        ensures faults { CountsEnd self.new.end (F.seen files.old) (F.seen files.new) }
     {
         match hdu.read_header(pass, self.space.as_mut_slice()) {
             Err(stop) => RecordTurn::Waiting(stop),
@@ -116,28 +99,12 @@ impl<'a> Track<'a> {
 
     // Reads a data block.
     fn data_turn<F: Files>(&mut self, files: &mut F, hdu: &Hdu, pass: &mut HduReader) -> RecordTurn
-        requires ring { ReadsBoth hdu.now pass.old }
+        requires goes_on { GoesOnIn F.is_open hdu.now self.old files.old pass.old }
         requires size { (data_shape hdu.now).size ≡ self.old.block }
-        requires running { self.old.end ≡ None }
         requires header { self.old.transfers.has_header ≡ true }
-        requires is_open { IsOpenAs self.old.transfers.files.place.is_open (F.is_open files.old) }
-        requires stands { IsRunning self.old.transfers (cleared_headers pass.old)
-            (cleared_blocks pass.old) }
-        ensures ring { ReadsBoth hdu.now pass.new }
-        ensures plan { plan_in self.new.transfers ≡ plan_in self.old.transfers }
-        ensures block { self.new.block ≡ self.old.block }
-        ensures is_open { self.new.end ≡ None
-            → IsOpenAs self.new.transfers.files.place.is_open (F.is_open files.new) }
-        ensures stands { StandsAt self.new.transfers (cleared_headers pass.new)
-            (cleared_blocks pass.new) self.new.end }
+        ensures turned { HasTurned F.is_open F.seen hdu.now self.old files.old pass.old
+            self.new files.new pass.new }
         ensures answer { RecordAnswers true pass.old pass.new self.new.end result }
-        ensures made { (outset : Outset)
-            → HasMade outset self.old.transfers.files.place.is_open
-            (files_of_blocks (plan_in self.old.transfers) (cleared_headers pass.old)
-            (cleared_blocks pass.old)) (F.seen files.old)
-            → FilesAre (plan_in self.new.transfers) outset self.new.transfers.files.place.is_open
-            (cleared_headers pass.new) (cleared_blocks pass.new) self.new.end (F.seen files.new) }
-        ensures faults { CountsEnd self.new.end (F.seen files.old) (F.seen files.new) }
     {
         match hdu.read(pass, self.space.as_mut_slice()) {
             Err(stop) => RecordTurn::Waiting(stop),
@@ -157,27 +124,12 @@ impl<'a> Track<'a> {
         hdu: &Hdu,
         pass: &mut HduReader,
     ) -> RecordTurn
-        requires ring { ReadsBoth hdu.now pass.old }
+        requires goes_on { GoesOnIn F.is_open hdu.now self.old files.old pass.old }
         requires size { (data_shape hdu.now).size ≡ self.old.block }
-        requires running { self.old.end ≡ None }
-        requires is_open { IsOpenAs self.old.transfers.files.place.is_open (F.is_open files.old) }
-        requires stands { StandsAt self.old.transfers (cleared_headers pass.old)
-            (cleared_blocks pass.old) self.old.end }
-        ensures ring { ReadsBoth hdu.now pass.new }
-        ensures plan { plan_in self.new.transfers ≡ plan_in self.old.transfers }
-        ensures block { self.new.block ≡ self.old.block }
-        ensures is_open { self.new.end ≡ None
-            → IsOpenAs self.new.transfers.files.place.is_open (F.is_open files.new) }
-        ensures stands { StandsAt self.new.transfers (cleared_headers pass.new)
-            (cleared_blocks pass.new) self.new.end }
+        ensures turned { HasTurned F.is_open F.seen hdu.now self.old files.old pass.old
+            self.new files.new pass.new }
         ensures answer { RecordAnswers self.old.transfers.has_header pass.old pass.new
             self.new.end result }
-        ensures made { (outset : Outset)
-            → FilesAre (plan_in self.old.transfers) outset self.old.transfers.files.place.is_open
-            (cleared_headers pass.old) (cleared_blocks pass.old) self.old.end (F.seen files.old)
-            → FilesAre (plan_in self.new.transfers) outset self.new.transfers.files.place.is_open
-            (cleared_headers pass.new) (cleared_blocks pass.new) self.new.end (F.seen files.new) }
-        ensures faults { CountsEnd self.new.end (F.seen files.old) (F.seen files.new) }
     {
         if self.transfers.has_header() {
             self.data_turn(files, hdu, pass)

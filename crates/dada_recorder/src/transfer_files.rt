@@ -37,7 +37,7 @@ pub(crate) struct TransferFiles {
 }
 
 impl TransferFiles {
-    ghost use Rattle.dada_recorder.specs.TransferFiles.{recording_in, CanRecord, header_file, first_files, longer_file, after_put, data_bytes, IsPlaced, IsWithinLimit, next_place, TakesFront};
+    ghost use Rattle.dada_recorder.specs.TransferFiles.{recording_in, CanRecord, header_file, first_files, longer_file, after_put, data_bytes, IsPlaced, IsWithinLimit, next_place, CameOf, TakesFront};
 
     /// No transfer has begun. The space for its headers is taken here.
     pub(crate) fn open(alloc: Global, file_size: u64) -> Result<TransferFiles, Memory>
@@ -225,14 +225,11 @@ impl TransferFiles {
         requires is_open { IsOpenAs self.old.place.is_open (F.is_open files.old) }
         requires placed { IsPlaced self.old.place self.old.file_size }
         requires some { 0 < length bytes.now }
-        requires small { self.old.file_size ≤ 2 ^ 40 }
         requires limit { IsWithinLimit (recording_in self.old)
             (data_bytes self.old.place self.old.file_size + length bytes.now) }
         ensures kept { recording_in self.new ≡ recording_in self.old }
-        ensures bound { IfOk result (λ n. (0 < n) × (n ≤ length bytes.now)) }
         ensures placed { OnOk result (IsPlaced self.new.place self.new.file_size) }
-        ensures taken { IfOk result (λ n. data_bytes self.new.place self.new.file_size
-            ≡ data_bytes self.old.place self.old.file_size + n) }
+        ensures taken { IfOk result (CameOf self.old self.new bytes.now) }
         ensures is_open { OnOk result (IsOpenAs self.new.place.is_open (F.is_open files.new)) }
         ensures faults { CountsFault (F.seen files.old) (F.seen files.new) result }
         ensures made { (before : List NamedBytes) (xs : List ℕ)
@@ -257,7 +254,6 @@ impl TransferFiles {
     pub(crate) fn append<F: Files>(&mut self, files: &mut F, bytes: &[u8]) -> Result<(), Failed>
         requires is_open { IsOpenAs self.old.place.is_open (F.is_open files.old) }
         requires placed { IsPlaced self.old.place self.old.file_size }
-        requires small { self.old.file_size ≤ 2 ^ 40 }
         requires limit { IsWithinLimit (recording_in self.old)
             (data_bytes self.old.place self.old.file_size + length bytes.now) }
         ensures kept { recording_in self.new ≡ recording_in self.old }

@@ -32,7 +32,7 @@ pub(crate) struct Transfers<'a> {
 }
 
 impl<'a> Transfers<'a> {
-    ghost use Rattle.dada_recorder.specs.Transfers.{plan_in, IsRunning, HasAppended, RunsOn, StandsAt, CountsEnd};
+    ghost use Rattle.dada_recorder.specs.Transfers.{plan_in, IsRunning, HasAppended, RunsOn, StandsAt, CountsEnd, IsInSameTransfer};
 
     /// No block came.
     pub(crate) fn open(
@@ -109,9 +109,7 @@ impl<'a> Transfers<'a> {
         requires is_open { IsOpenAs self.old.files.place.is_open (F.is_open files.old) }
         requires number { self.old.files.place.number < 10 ^ 6 }
         requires few { self.old.finished ≤ 8 * 10 ^ 6 }
-        ensures plan { plan_in self.new ≡ plan_in self.old }
-        ensures ended { self.new.ended ≡ self.old.ended }
-        ensures has_header { self.new.has_header ≡ self.old.has_header }
+        ensures kept { IsInSameTransfer self.old self.new }
         ensures total { self.new.total ≡ self.old.total }
         ensures finished { OnOk result
             (self.new.finished ≡ self.old.finished + (self.old.files.place.number + 1)) }
@@ -234,8 +232,7 @@ impl<'a> Transfers<'a> {
         requires is_open { IsOpenAs self.old.files.place.is_open (F.is_open files.old) }
         requires running { RunsOn self.old }
         requires limit { self.old.total + length bytes.now ≤ self.old.max_bytes }
-        ensures plan { plan_in self.new ≡ plan_in self.old }
-        ensures has_header { self.new.has_header ≡ self.old.has_header }
+        ensures kept { IsInSameTransfer self.old self.new }
         ensures is_open { OnOk result
             (IsOpenAs self.new.files.place.is_open (F.is_open files.new)) }
         ensures faults { CountsFault (F.seen files.old) (F.seen files.new) result }

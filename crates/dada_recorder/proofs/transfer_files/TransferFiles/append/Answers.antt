@@ -15,12 +15,13 @@ loop-taken-preserved g c =
     let old = g.F.Files.seen c.loop-taken.files in
     let new = g.F.Files.seen c.step.new.files in
     let r = recording_in c.args.self.now in
-    let bound = c.in-Ok.ensures.bound in
+    let taken = c.in-Ok.ensures.taken in
     let rest = length-take (length ys - t) (drop t ys) in
-    let count = c.in-Ok.ensures.taken in
+    let count = taken.count in
+    let within = taken.within in
     let was = before.count in
     record {
-      within = let dropped = length-drop t ys in omega (arith, bound.1, rest, dropped);
+      within = let dropped = length-drop t ys in omega (arith, within, rest, dropped);
       kept = c.in-Ok.ensures.kept ∙ before.kept;
       placed = c.in-Ok.ensures.placed;
       count = omega (arith, count, was);

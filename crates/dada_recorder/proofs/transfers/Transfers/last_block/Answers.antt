@@ -14,16 +14,16 @@ returns-in-Err-clause-made g c = λ headers blocks bytes has outset made all fro
     let block = entry End bytes in
     (c.in-Err.ensures.made (before_last t headers blocks block) (last_file t blocks block)).front outset all
     (closed_made law t headers blocks block outset (g.F.Files.seen c.args.files.now) has made)
-    (front_of_all law t c.end_transfer.new.self headers blocks block all has c.in-Err.ensures.plan front)
+    (front_of_all law t c.end_transfer.new.self headers blocks block all has c.in-Err.ensures.kept.plan front)
 
 pub returns-then-self-clause-stands : goal.returns-then-self-clause-stands
 returns-then-self-clause-stands g c = λ headers blocks bytes has.
     let t = c.args.self.now in
-    let offsets = of_offsets t c.end_transfer.new.self c.in-Ok.ensures.plan in
-    let ended = c.in-Ok.ensures.ended in
+    let offsets = of_offsets t c.end_transfer.new.self c.in-Ok.ensures.kept.plan in
+    let ended = c.in-Ok.ensures.kept.ended in
     let all = c.if-self.true in
     last_is_whole c.entries_are_of_transfers.ensures c.ends_are_counted.ensures t c.end_transfer.new.self headers blocks
-    bytes has c.in-Ok.ensures.plan c.in-Ok.ensures.finished (omega (arith, offsets, ended, all))
+    bytes has c.in-Ok.ensures.kept.plan c.in-Ok.ensures.finished (omega (arith, offsets, ended, all))
 
 pub returns-then-self-clause-made : goal.returns-then-self-clause-made
 returns-then-self-clause-made g c = λ headers blocks bytes has outset made.
@@ -31,18 +31,18 @@ returns-then-self-clause-made g c = λ headers blocks bytes has outset made.
     let law = c.entries_are_of_transfers.ensures in
     let block = entry End bytes in
     all_made law t c.end_transfer.new.self headers blocks block outset (g.F.Files.seen c.end_transfer.new.files) has
-    c.in-Ok.ensures.plan
+    c.in-Ok.ensures.kept.plan
     ((c.in-Ok.ensures.made (before_last t headers blocks block) (last_file t blocks block)).all outset
     (closed_made law t headers blocks block outset (g.F.Files.seen c.args.files.now) has made))
 
 pub returns-else-self-clause-stands : goal.returns-else-self-clause-stands
 returns-else-self-clause-stands g c = λ headers blocks bytes has.
     let t = c.args.self.now in
-    let offsets = of_offsets t c.end_transfer.new.self c.in-Ok.ensures.plan in
-    let ended = c.in-Ok.ensures.ended in
+    let offsets = of_offsets t c.end_transfer.new.self c.in-Ok.ensures.kept.plan in
+    let ended = c.in-Ok.ensures.kept.ended in
     let more = c.if-self.false in
     next_runs c.entries_are_of_transfers.ensures c.ends_are_counted.ensures t _ headers blocks bytes has (record {
-      plan = c.in-Ok.ensures.plan;
+      plan = c.in-Ok.ensures.kept.plan;
       ended = omega (arith, ended);
       total = c.in-Ok.ensures.total;
       finished = c.in-Ok.ensures.finished;
@@ -56,7 +56,7 @@ returns-else-self-clause-made g c = λ headers blocks bytes has outset made.
     let law = c.entries_are_of_transfers.ensures in
     let block = entry End bytes in
     let all = all_made law t c.end_transfer.new.self headers blocks block outset
-    (g.F.Files.seen c.end_transfer.new.files) has c.in-Ok.ensures.plan
+    (g.F.Files.seen c.end_transfer.new.files) has c.in-Ok.ensures.kept.plan
     ((c.in-Ok.ensures.made (before_last t headers blocks block) (last_file t blocks block)).all outset
     (closed_made law t headers blocks block outset (g.F.Files.seen c.args.files.now) has made)) in
     let Made : Bool → Type 0 = λ is_open.
