@@ -20,6 +20,10 @@ rose_more k f f' rose more = omega arith
 pub not_due : (due : Option Due) → due ≡ None → due ≢ Some (Stopped ReadFault)
 not_due due none is = absurd cc
 
+-- it has not ended
+pub not_ended : (end : Option FeedEnd) → end ≡ None → end ≢ Some ReadFault
+not_ended end none is = absurd cc
+
 -- another call while nothing was due, which failed only where the count rose
 pub since_more : (k f f' : ℕ) (due due' : Option Due) (end end' : Option FeedEnd) → IsSince k f due end → f ≤ f' →
     due ≡ None → end ≡ None → end' ≡ end → (due' ≡ Some (Stopped ReadFault) → Rose f f') →
@@ -33,31 +37,6 @@ since_more k f f' due due' end end' was more none running same failed quiet =
       due_quiet = λ runs fine. quiet fine ∙ was.due_quiet running (not_due due none);
       end_quiet = λ stop e other. absurd cc;
     }
-
--- what was due was sealed
-pub since_sealed : (k f : ℕ) (due due' : Option Due) (end end' : Option FeedEnd) → IsSince k f due end →
-    end ≡ None → due ≢ Some (Stopped ReadFault) → due' ≡ None → end' ≢ Some ReadFault → IsSince k f due' end'
-since_sealed k f due due' end end' was running fine none other = record {
-  count = was.count;
-  due_failed = λ e. absurd cc;
-  end_failed = λ e. absurd (other e);
-  due_quiet = λ runs now. was.due_quiet running fine;
-  end_quiet = λ stop e now. was.due_quiet running fine;
-}
-
--- the stream was cut
-pub since_cut : (k f : ℕ) (due due' : Option Due) (end end' : Option FeedEnd) (stop : FeedEnd) → IsSince k f due end →
-    end ≡ None → due ≡ Some (Stopped stop) → due' ≡ due → end' ≡ Some stop → IsSince k f due' end'
-since_cut k f due due' end end' stop was running is same ended = record {
-  count = was.count;
-  due_failed = λ e. was.due_failed (sym same ∙ e);
-  end_failed = λ e. let now : stop ≡ ReadFault = cc in was.due_failed (is ∙ ap (λ (s : FeedEnd). Some (Stopped s)) now);
-  due_quiet = λ runs fine. absurd cc;
-  end_quiet = λ other e fine. was.due_quiet running (λ h.
-      let now : stop ≡ ReadFault = cc in
-      let one : other ≡ stop = cc in
-      fine (one ∙ now));
-}
 
 -- the files that are held stay
 pub holds_still : (told told' : Told) (names names' : List (List ℕ)) → told'.bytes_under ≡ told.bytes_under →

@@ -9,7 +9,7 @@ use Rattle.disk_feeder.specs.declared.answers.FeedEnd.TheVariants.{Whole, ReadFa
 use Rattle.disk_feeder.specs.declared.stream.Stream.{Stream}
 use Rattle.disk_feeder.specs.Plan.{Plan}
 use Rattle.disk_feeder.specs.Sources.{plan_of}
-use Rattle.disk_feeder.specs.Feeding.{IsEnding, SealedAs, IsEnded, FeedsTo, IsFeeding}
+use Rattle.disk_feeder.specs.Feeding.{IsEnding, SealedAs, IsEnded, HasEndedAs, FeedsTo, IsFeeding}
 
 -- of a whole stream
 of_whole : BytesAreJoined → EndsAreCounted → StreamsStopOnce → (size n : ℕ) (before : List (List ℕ))
@@ -63,4 +63,5 @@ ending joined ends once plan size before current headers blocks (TooLong limit) 
 pub has_ended : (s : Stream) (told : Told) (headers blocks : List Entry) (end : FeedEnd) → s.end ≡ Some end →
     IsFeeding s told headers blocks → IsEnded (plan_of s.source) told (length s.block.items) headers blocks end
 has_ended s told headers blocks end is was =
-    let P : Option FeedEnd → Type 0 = λ e. FeedsTo s told headers blocks e in subst P is was
+    let P : Option FeedEnd → Type 0 = λ e. FeedsTo s told headers blocks e in
+    let ended : HasEndedAs s told headers blocks end = subst P is was in ended.ended

@@ -81,7 +81,7 @@ filled_stopped plan told told' at block block' held end blocks f fills same fron
       kept = front ∙ f.kept ∙ ap (λ (m : ℕ). drop (f.fulls * m) f.current) (sym same);
       next =
           let P : ℕ → Type 0 = λ m. HasEnded plan told' at f.before f.current (m - held) end in (
-            record { transfers = has.transfers; total = has.total },
+            record { transfers = has.transfers; since = has.since; total = has.total },
             omega arith,
             subst P (sym same) (fills f.before f.current has),
             early,

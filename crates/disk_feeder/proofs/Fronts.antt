@@ -1,13 +1,14 @@
 -- What the first bytes of a file say of its header.
-use Rattle.std.proofs.Common.{◌≡◌, ℕ, ◌-◌, ◌+◌, ◌≤◌, ◌<◌, Bool, true, false, List, ◌++◌, length, take, drop, Option, Some, None, Ok, Err, inl, inr, sym, ◌∙◌, ap, arith}
-use Rattle.std.specs.Prelude.{codes, nat_lt, if◌then◌else◌}
+use Rattle.std.proofs.Common.{◌≡◌, ℕ, ◌-◌, ◌+◌, ◌≤◌, ◌<◌, Bool, true, false, List, ◌++◌, length, take, drop, Option, Some, None, Ok, Err, inl, inr, refl, sym, ◌∙◌, ap, arith}
+use Rattle.std.specs.Prelude.{codes, nat_lt, nat_le, ◌&&◌, if◌then◌else◌, unwrap_or, ℤ, pos, negsuc}
 use Rattle.std.specs.List.{list_any, position_or_len}
 use Rattle.std.proofs.lemmas.List.{take_all, take-take, length-take, length-take-le, drop-drop}
-use Rattle.std.proofs.lemmas.Bool.{cases_lt}
+use Rattle.std.proofs.lemmas.Bool.{cases_lt, ltb-false, leb-true}
 use Rattle.std.proofs.lemmas.Bool.Decides.{nat_tests}
 use Rattle.std.proofs.Math.Seq.{take-add}
-use Rattle.dada_model.specs.Fields.{HeaderText, ShortHeader, BadHeaderSize, NotTextAt, header_of, header_of_size, header_with_text, header_text, header_size, size_of_value, value_of, fields_of, before_nul, is_above_ascii}
-use Rattle.disk_feeder.specs.Front.{IsFrontRead}
+use Rattle.dada_model.specs.Fields.{HeaderText, ShortHeader, BadHeaderSize, NotTextAt, header_of, header_of_size, header_with_text, header_text, header_size, size_of_value, allowed_size, value_of, fields_of, before_nul, is_above_ascii}
+use Rattle.dada_model.specs.Number.{number_value}
+use Rattle.disk_feeder.specs.Front.{IsFrontRead, front_in, front_of, judged_after}
 
 -- at least 4096 bytes have the size that the file has
 header_size-front : (file : List ℕ) (k : ℕ) → 4096 ≤ k → header_size (take k file) ≡ header_size file
@@ -77,6 +78,83 @@ short_has_none bytes h short is = by_test (nat_lt (length bytes) 4096) (grind (a
         (header_size bytes)) ≡ Ok h → ⊥
     by_test true tested e = absurd cc
     by_test false tested e = absurd cc
+
+-- a header lies within its file
+pub header_within : (file : List ℕ) (h : HeaderText) → header_of file ≡ Ok h → h.size ≤ length file
+unfolding header_of
+header_within file h is = by_least (nat_lt (length file) 4096) refl is
+  where
+    by_test : (size : ℕ) (b : Bool) → nat_lt (length file) size ≡ b → (if b then Err (ShortHeader (length file)) else
+        header_with_text size (header_text size file)) ≡ Ok h → h.size ≤ length file
+    by_test size true tested e = absurd cc
+    by_test size false tested e =
+        omega (arith, size_of_text size (header_text size file) h e, ltb-false (length file) size tested)
+
+    by_size : (o : Option ℕ) → header_of_size file o ≡ Ok h → h.size ≤ length file
+    by_size None e = absurd cc
+    by_size (Some size) e = by_test size (nat_lt (length file) size) refl e
+
+    by_least : (b : Bool) → nat_lt (length file) 4096 ≡ b → (if b then Err (ShortHeader (length file)) else
+        header_of_size file (header_size file)) ≡ Ok h → h.size ≤ length file
+    by_least true tested e = absurd cc
+    by_least false tested e = by_size (header_size file) e
+
+-- so it is all that comes before the data
+pub front_is : (file : List ℕ) (h : HeaderText) → header_of file ≡ Ok h → front_of file ≡ h.size
+unfolding front_of
+front_is file h is = ap (front_in file) is
+
+-- a header is judged by the least size at least
+pub judged_least : (file : List ℕ) → 4096 ≤ judged_after file
+unfolding judged_after header_size
+judged_least file = by_value (value_of (codes "HDR_SIZE") (fields_of (before_nul (take 4096 file))))
+  where
+    by_test : (size : ℕ) (b c : Bool) → nat_le 4096 size ≡ b →
+        4096 ≤ unwrap_or (if b && c then Some size else None) 4096
+    by_test size true true tested = leb-true 4096 size tested
+    by_test size true false tested = omega arith
+    by_test size false true tested = omega arith
+    by_test size false false tested = omega arith
+
+    by_number : (o : Option ℤ) → 4096 ≤ unwrap_or (allowed_size o) 4096
+    by_number None = omega arith
+    by_number (Some (pos size)) = by_test size (nat_le 4096 size) (nat_le size 65536) refl
+    by_number (Some (negsuc n)) = omega arith
+
+    by_value : (o : Option (List ℕ)) → 4096 ≤ unwrap_or (size_of_value o) 4096
+    by_value None = omega arith
+    by_value (Some text) = by_number (number_value 0 text)
+
+-- and by its own size, where that is known from its first bytes
+pub judged_is : (front file : List ℕ) (size : ℕ) → front ≡ take 4096 file → header_size front ≡ Some size →
+    judged_after file ≡ size
+unfolding judged_after
+judged_is front file size first sized =
+    ap (λ (o : Option ℕ). unwrap_or o 4096)
+    (sym (header_size-front file 4096 (omega arith)) ∙ ap header_size (sym first) ∙ sized)
+
+-- bytes whose size is refused are those of no header
+pub none_unsized : (front file : List ℕ) (h : HeaderText) → front ≡ take 4096 file → 4096 ≤ length front →
+    header_size front ≡ None → header_of file ≡ Ok h → ⊥
+none_unsized front file h first has refused is =
+    let enough : 4096 ≤ length file = omega (arith, ap (length {A = ℕ}) first, length-take 4096 file) in
+    let of_file : header_size file ≡ None = sym (header_size-front file 4096 (omega arith)) ∙ ap header_size (sym first)
+    ∙ refused in
+    let bad = header_of-refused file enough of_file in absurd cc
+
+pub none_short : (front file : List ℕ) (h : HeaderText) → front ≡ take 4096 file → length front < 4096 →
+    header_of file ≡ Ok h → ⊥
+none_short front file h first short is =
+    short_has_none file h (omega (arith, ap (length {A = ℕ}) first, length-take 4096 file)) is
+
+-- the size that is read first is that of the file's header
+pub size_is : (front file : List ℕ) (size : ℕ) (h : HeaderText) → front ≡ take 4096 file → 4096 ≤ length front →
+    header_size front ≡ Some size → header_of file ≡ Ok h → size ≡ h.size
+size_is front file size h first has sized is =
+    let enough : 4096 ≤ length file = omega (arith, ap (length {A = ℕ}) first, length-take 4096 file) in
+    let of_file : header_size file ≡ Some size = sym (header_size-front file 4096 (omega arith))
+    ∙ ap header_size (sym first) ∙ sized in
+    size_of_size file size h (sym (header_of-long file enough ∙ ap (header_of_size file) of_file) ∙ is)
 
 -- the first 4096 bytes, and then the rest of the header
 pub front_of_size : (front rest bytes file : List ℕ) (left : Option (List ℕ)) (size : ℕ) → front ≡ take 4096 file →

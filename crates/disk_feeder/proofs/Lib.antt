@@ -3,6 +3,8 @@ pub mod Streams
 pub mod Headers
 pub mod Prefixes
 pub mod Reaching
+pub mod Histories
+pub mod Fates
 pub mod Openings
 pub mod OfSource
 pub mod Fulls
@@ -17,3 +19,4 @@ pub mod Standing
 pub mod Endings
 pub mod Beginnings
 pub mod Accepting
+pub mod Leavings

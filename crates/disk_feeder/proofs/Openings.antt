@@ -137,6 +137,9 @@ module _ (plan : Plan) (told told' : Told) (at : Place) (before : List (List ℕ
       let below = there in
       record {
         there = o.there;
+        inside = inside;
+        passed = was.passed;
+        judged = was.judged;
         earlier = was.earlier;
         more = data_between files at.file next;
         front = sym (join files begin at.file next from (omega arith) (omega arith))

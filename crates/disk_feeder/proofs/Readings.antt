@@ -202,6 +202,9 @@ module _ (plan : Plan) (told told' : Told) (at : Place) (before : List (List ℕ
       let rest = data_between files (at.file + 1) next in
       record {
         there = o.there;
+        inside = inside;
+        passed = was.passed;
+        judged = was.judged;
         earlier = was.earlier;
         more = left ++ rest;
         front = sym (join files begin (at.file + 1) next (omega arith) (omega arith) (omega arith))

@@ -16,7 +16,7 @@ use Rattle.disk_feeder.specs.Plan.{AreAccepted}
 use Rattle.disk_feeder.specs.Filling.{IsFilled}
 use Rattle.disk_feeder.specs.Streams.{IsStream}
 use Rattle.disk_feeder.specs.Turns.{sealed_headers, sealed_blocks}
-use Rattle.disk_feeder.specs.Feeding.{header_entries, headers_sealed, IsRunning, IsEnded, FeedsTo, IsFeeding}
+use Rattle.disk_feeder.specs.Feeding.{header_entries, headers_sealed, IsRunning, HasEndedAs, FeedsTo, IsFeeding}
 
 -- one that has not ended
 pub feeds_running : (s : Stream) (told : Told) (headers blocks : List Entry) → s.end ≡ None →
@@ -26,7 +26,7 @@ feeds_running s told headers blocks is was =
 
 -- one that has
 pub feeds_ended : (s : Stream) (told : Told) (headers blocks : List Entry) (end : FeedEnd) → s.end ≡ Some end →
-    IsEnded (plan_of s.source) told (length s.block.items) headers blocks end → IsFeeding s told headers blocks
+    HasEndedAs s told headers blocks end → IsFeeding s told headers blocks
 feeds_ended s told headers blocks end is was =
     let P : Option FeedEnd → Type 0 = λ e. FeedsTo s told headers blocks e in subst P (sym is) was
 

@@ -21,10 +21,10 @@ use Rattle.disk_feeder.specs.declared.due.Due.TheVariants.{Full, Last, Stopped}
 use Rattle.disk_feeder.specs.declared.place.Place.{Place}
 use Rattle.disk_feeder.specs.Ends.{end_of}
 use Rattle.disk_feeder.specs.Plan.{Plan, stream_of, AreTold, begin_at}
-use Rattle.disk_feeder.specs.Reading.{HasRead, EndsReading}
+use Rattle.disk_feeder.specs.Reading.{HasRead, IsFront, EndsReading}
 use Rattle.disk_feeder.specs.Sources.{IsEarly}
 use Rattle.disk_feeder.specs.Filling.{IsFilled, DueIs}
-use Rattle.disk_feeder.specs.Feeding.{header_entries, IsWalkEnd, EndIs, SealedAs, IsEnded}
+use Rattle.disk_feeder.specs.Feeding.{header_entries, IsWalkEnd, EndIs, SealedAs, IsEnded, IsCutAt}
 use Rattle.disk_feeder.proofs.Fulls.{quotient_is, within_is}
 
 -- ---- a full block
@@ -274,6 +274,34 @@ cut_sealed plan told at block held end headers blocks blocks' f within there hea
       known = λ files are.
           ends_known (stream_of plan files) at f.before f.current size f.fulls held blocks' blocks end
           (f.next.2 files are) f.count f.next.1 f.sealed is stream;
+    }
+
+-- where a fault ended it, its full blocks are those of the data that were read
+pub cut_at : (plan : Plan) (told : Told) (at : Place) (block : List ℕ) (held : ℕ) (end : FeedEnd)
+    (blocks blocks' : List Entry) → IsFilled plan told at block held (Some (Stopped end)) blocks →
+    at.total ≤ plan.max_bytes → blocks' ≡ blocks ++ entry Cut [] ∷ [] → end ≡ ReadFault → (files : List (List ℕ)) →
+    AreTold told plan.names files → IsCutAt (stream_of plan files) at (length block) blocks'
+cut_at plan told at block held end blocks blocks' f within is failed files are =
+    let size = length block in
+    let s = stream_of plan files in
+    let counts = f.next.0 in
+    let total = counts.total in
+    let since = counts.since in
+    let Ends : FeedEnd → Type 0 = λ e. EndsReading s at f.before f.current (size - held) e in
+    let front : IsFront s at f.before f.current = subst Ends failed (f.next.2 files are) in
+    let stream = cut_stream size plan.max_bytes f.before f.current f.fulls held blocks blocks' f.count f.next.1 (omega
+    arith) f.sealed is in
+    record {
+      inside = front.inside;
+      passed = front.passed;
+      judged = front.judged;
+      few = omega (arith, ap (λ (b : List (List ℕ)). length (joined_data b)) front.earlier);
+      stream = stream
+          ∙ ap (λ (b : List (List ℕ)). abandoned_stream size plan.max_bytes b f.current) front.earlier
+          ∙ ap (abandoned_stream size plan.max_bytes (take at.transfer (walk_data s)))
+          (sym (ap (take (length f.current)) front.front ∙ take_at f.current front.more (length f.current) refl))
+          ∙ ap (λ (n : ℕ). abandoned_stream size plan.max_bytes (take at.transfer (walk_data s))
+          (take n (transfer_data s at.transfer))) since;
     }
 
 -- ---- a header

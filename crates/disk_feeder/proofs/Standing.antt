@@ -218,5 +218,6 @@ headers_are ends s told headers blocks was = by_state s.end was
         HeadersKeepUp (plan_of s.source).headers headers blocks
     by_state None r = of_running ends s told headers blocks r
     by_state (Some end) e =
-        of_end ends (plan_of s.source) (length s.block.items) e.before e.current headers blocks end s.source.headed
-        e.sealed
+        let was = e.ended in
+        of_end ends (plan_of s.source) (length s.block.items) was.before was.current headers blocks end s.source.headed
+        was.sealed

@@ -1,13 +1,9 @@
 -- What a turn asks of its parts.
-use Rattle.std.proofs.Common.{◌≡◌, ℕ, ◌+◌, ◌<◌, Bool, true, List, ◌++◌, Option, Some, None, length, take, map, sym, ap, ◌∙◌, subst, arith}
-use Rattle.std.proofs.lemmas.List.{length-map, length-take}
+use Rattle.std.proofs.Common.{◌≡◌, ℕ, ◌+◌, ◌<◌, Bool, List, ◌++◌, Option, Some, None, length, take, sym, ap, ◌∙◌, subst, arith}
 use Rattle.psr_base.specs.Told.{Told}
 use Rattle.ring_blocks.specs.declared.Entry.{Entry}
-use Rattle.ring_words.specs.declared.shape.RingShape.{RingShape}
-use Rattle.ring_ends.specs.Passes.{ring_shape}
 use Rattle.dada_hdu.specs.declared.hdu.Hdu.{Hdu}
-use Rattle.dada_hdu.specs.Passes.{header_ring, data_shape}
-use Rattle.dada_hdu.specs.Answers.{header_entry}
+use Rattle.dada_hdu.specs.Passes.{data_shape}
 use Rattle.stream_model.specs.Blocks.{full_entries, whole_stream}
 use Rattle.stream_model.specs.BlockLaws.{StreamsAreShort}
 use Rattle.disk_feeder.specs.declared.answers.FeedEnd.{FeedEnd}
@@ -53,9 +49,12 @@ runs_filled old mid told told' headers blocks keeps was stream =
 -- the numbers of what was read
 pub counts : (plan : Plan) (told : Told) (at : Place) (before : List (List ℕ)) (current : List ℕ) (size held : ℕ)
     (due : Option Due) → DueIs plan told at before current size held due → IsCountOf at before current
-counts plan told at before current size held None d = record { transfers = d.0.transfers; total = d.0.total }
-counts plan told at before current size held (Some Full) d = record { transfers = d.0.transfers; total = d.0.total }
-counts plan told at before current size held (Some Last) d = record { transfers = d.0.transfers; total = d.0.total }
+counts plan told at before current size held None d =
+    record { transfers = d.0.transfers; since = d.0.since; total = d.0.total }
+counts plan told at before current size held (Some Full) d =
+    record { transfers = d.0.transfers; since = d.0.since; total = d.0.total }
+counts plan told at before current size held (Some Last) d =
+    record { transfers = d.0.transfers; since = d.0.since; total = d.0.total }
 counts plan told at before current size held (Some (Stopped end)) d = d.0
 
 -- one more block may be sealed
@@ -74,24 +73,6 @@ has_room short hdu s told headers blocks fits was =
     let few = short.so_far size s.source.max_bytes f.before f.current f.fulls s.some (omega arith) in
     let same : length blocks ≡ length (whole_stream size f.before ++ full_entries size f.current f.fulls) =
     ap (length {A = Entry}) f.sealed in
-    omega arith
-
--- and one more header
-pub has_header_room : (hdu : Hdu) (s : Stream) (told : Told) (headers blocks : List Entry) → FitsRings hdu s →
-    IsRunning s told headers blocks → s.header_due ≡ true →
-    length headers < (ring_shape (header_ring hdu)).max_blocks
-has_header_room hdu s told headers blocks fits was due =
-    let t = s.source.place.transfer in
-    let all = s.source.headers.items in
-    let alike : (ring_shape (header_ring hdu)).max_blocks ≡ (data_shape hdu).max_blocks =
-    ap (λ (r : RingShape). r.max_blocks) hdu.alike in
-    let sealed : headers ≡ map header_entry (take t all) =
-    was.sealed ∙ ap (λ (b : Bool). header_entries (take (headers_sealed b t) all)) due in
-    let count = ap (length {A = Entry}) sealed in
-    let mapped = length-map (take t all) header_entry in
-    let taken = length-take t all in
-    let there = was.there in
-    let most = fits.blocks in
     omega arith
 
 -- where the rest of a transfer is due, all of it was read

@@ -10,6 +10,8 @@ use Rattle.disk_feeder.specs.declared.place.Place.{Place}
 use Rattle.disk_feeder.specs.declared.source.Source.{Source}
 use Rattle.disk_feeder.specs.declared.stream.Stream.{Stream}
 use Rattle.disk_feeder.specs.Plan.{Plan, stream_of, AreTold, begin_at, IsFirst, HasHeaders}
+use Rattle.disk_feeder.specs.Front.{BreaksAt}
+use Rattle.disk_feeder.specs.History.{firsts_read}
 use Rattle.disk_feeder.specs.Sources.{plan_of, first_place, first_name, HasHeaderAt, RefusesFirst, IsKept}
 use Rattle.dada_model.specs.Observation.{Observation}
 
@@ -30,6 +32,28 @@ HeadersRead told old count new = (k : ℕ) → k < count →
 abbrev pub LastLeft : Told → Source → ℕ → Told → Type 0
 LastLeft told source count told' = (k : ℕ) → k + 1 ≡ count →
     OfFile told (first_name source k) (λ file. left_to_read told' ≡ Some (data_of file))
+
+-- these bytes are told of the first files of so many transfers
+abbrev pub AreFirstFiles : Told → Source → ℕ → (ℕ → List ℕ) → Type 0
+AreFirstFiles told source count file_of = (k : ℕ) → k < count →
+    told.bytes_under (first_name source k) ≡ Some (file_of k)
+
+-- so they were, where they are told
+abbrev pub FirstsRead : Told → Source → ℕ → Told → Type 0
+FirstsRead told source count told' = (file_of : ℕ → List ℕ) →
+    AreFirstFiles told source count file_of →
+    told' ≡ firsts_read (first_name source) file_of count told
+
+-- a fault came before the first header of some transfer was judged; those before it were read, and are headers
+pub record BreaksFirst (told : Told) (source : Source) (told' : Told) : Type 0 where
+  pub transfer : ℕ
+  pub there : transfer < length source.starts.now
+  pub earlier : (k : ℕ) → k < transfer →
+      OfFile told (first_name source k)
+      (λ file. (header : HeaderText) × (header_of file ≡ Ok header))
+  pub broke : (file_of : ℕ → List ℕ) → AreFirstFiles told source (transfer + 1) file_of →
+      BreaksAt (first_name source transfer) (file_of transfer)
+      (firsts_read (first_name source) file_of transfer told) told'
 
 -- the fault is that of the first file of some transfer; those of the transfers before it have headers
 pub record RefusesSome (told : Told) (source : Source) (fault : FeedFault) : Type 0 where

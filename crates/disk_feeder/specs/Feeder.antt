@@ -1,6 +1,6 @@
 -- What contracts see of a feeder.
 -- Source: this project's profile.
-use Rattle.std.specs.Prelude.{◌≡◌, ◌≢◌, ℕ, true, Option, Some, List, length, slice_get}
+use Rattle.std.specs.Prelude.{◌≡◌, ◌≢◌, ℕ, true, Option, Some, None, List, length, slice_get}
 use Rattle.psr_base.specs.Told.{Told}
 use Rattle.dada_model.specs.Fields.{HeaderText}
 use Rattle.ring_blocks.specs.declared.Entry.{Entry}
@@ -13,7 +13,8 @@ use Rattle.disk_feeder.specs.declared.stream.Stream.{Stream}
 use Rattle.disk_feeder.specs.Plan.{Plan}
 use Rattle.disk_feeder.specs.Sources.{plan_of}
 use Rattle.disk_feeder.specs.Filling.{IsSince}
-use Rattle.disk_feeder.specs.Beginning.{IsFreshStream, IsBegunStream, LastLeft, RefusesSome, IsAcceptedIn}
+use Rattle.disk_feeder.specs.Streams.{StreamRead, StreamReadsFirsts}
+use Rattle.disk_feeder.specs.Beginning.{IsFreshStream, IsBegunStream, LastLeft, FirstsRead, BreaksFirst, RefusesSome, IsAcceptedIn}
 use Rattle.disk_feeder.specs.Feeding.{FitsRings, IsFaultless, IsFeeding, IsBeginning}
 
 -- the stream of a feeder
@@ -84,6 +85,14 @@ IsBegun told f = IsBegunStream told f.stream
 abbrev pub FirstsLeft : {I : Type 0} → Told → Feeder I → Told → Type 0
 FirstsLeft told f told' = LastLeft told f.stream.source (length (plan_at f).starts) told'
 
+-- the first headers of all transfers were read, in order, and nothing else was
+abbrev pub FirstHeadersRead : {I : Type 0} → Told → Feeder I → Told → Type 0
+FirstHeadersRead told f told' = FirstsRead told f.stream.source (length (plan_at f).starts) told'
+
+-- a fault came before the first header of some transfer was judged, and after those before it were read
+abbrev pub BreaksFirstHeaders : {I : Type 0} → Told → Feeder I → Told → Type 0
+BreaksFirstHeaders told f told' = BreaksFirst told f.stream.source told'
+
 -- why a first header is refused: the inputs failed, or it is the first in the order of the transfers that is refused
 abbrev pub RefusesAt : {I : Type 0} → Told → Feeder I → FeedFault → Type 0
 RefusesAt told f fault = RefusesSome told f.stream.source fault
@@ -118,3 +127,21 @@ FeederFaultless f = IsFaultless f.stream.due f.stream.end
 abbrev pub AllAccepted : {I : Type 0} → Feeder I → Type 0
 AllAccepted f = (k : ℕ) (header : HeaderText) → slice_get (header_at f) k ≡ Some header →
     IsAcceptedAt f k header
+
+-- what it opened and read of its files since its inputs told `before`, until an end is due that is no fault
+abbrev pub FeederRead : {I : Type 0} → Told → Told → Feeder I → Type 0
+FeederRead before told f = StreamRead before told f.stream
+
+-- the first headers of all transfers were read, in order, and nothing else was; reading goes on from there
+abbrev pub ReadsFirstHeaders : {I : Type 0} → Told → Feeder I → Told → Feeder I → Type 0
+ReadsFirstHeaders told old told' new = StreamReadsFirsts told old.stream told' new.stream
+
+-- What accepting a header keeps: what is to be read, the headers, and how far the files were read; no end came, and no
+-- fault
+pub record KeepsBegun {I : Type 0} (old new : Feeder I) : Type 0 where
+  pub plan : SamePlan old new
+  pub headers : header_at new ≡ header_at old
+  pub reading : HasOpenFile new → HasOpenFile old
+  pub reads_on : (before told : Told) → FeederRead before told old → FeederRead before told new
+  pub faultless : FeederFaultless new
+  pub running : has_end new ≡ None

@@ -1,6 +1,6 @@
 -- What a feeder stands for: the sealed lists of its pass.
 -- Source: this project's profile.
-use Rattle.std.specs.Prelude.{◌≡◌, ◌≢◌, ℕ, ◌+◌, ◌/◌, ◌<◌, ◌≤◌, Bool, true, false, if◌then◌else◌, Option, Some, None, List, [], ◌∷◌, ◌++◌, map, length, take}
+use Rattle.std.specs.Prelude.{◌≡◌, ◌≢◌, ℕ, ◌+◌, ◌/◌, ◌<◌, ◌≤◌, ◌⊎◌, Bool, true, false, if◌then◌else◌, Option, Some, None, List, [], ◌∷◌, ◌++◌, map, length, take}
 use mathlib.Core.List.{IsPrefix}
 use Rattle.psr_base.specs.Told.{Told}
 use Rattle.dada_model.specs.Fields.{HeaderText}
@@ -12,17 +12,20 @@ use Rattle.dada_hdu.specs.Passes.{data_shape}
 use Rattle.disk_feeder.specs.declared.due.Due.{Due}
 use Rattle.disk_feeder.specs.declared.due.Due.TheVariants.{Stopped}
 use Rattle.stream_model.specs.Blocks.{whole_stream, abandoned_stream, joined_data, cut_entry, joined_bytes, ended_transfers, has_cut, is_over}
-use Rattle.stream_model.specs.Walk.{FileStream, walk_data, walk_stop, walk_stream, transfer_data}
+use Rattle.stream_model.specs.Walk.{FileStream, header_stop, stop_at, walk_data, walk_stop, walk_stream, transfer_data}
+use Rattle.stream_model.specs.WalkLaws.{IsIn}
 use Rattle.disk_feeder.specs.declared.answers.FeedEnd.{FeedEnd}
 use Rattle.disk_feeder.specs.declared.answers.FeedEnd.TheVariants.{Whole, ReadFault}
 use Rattle.disk_feeder.specs.declared.answers.FeedTurn.{FeedTurn}
 use Rattle.disk_feeder.specs.declared.answers.FeedTurn.TheVariants.{Moved, Ended}
+use Rattle.disk_feeder.specs.declared.place.Place.{Place}
 use Rattle.disk_feeder.specs.declared.stream.Stream.{Stream}
 use Rattle.disk_feeder.specs.Ends.{end_of}
+use Rattle.disk_feeder.specs.History.{IsReadUpTo, IsBreaking}
 use Rattle.disk_feeder.specs.Plan.{Plan, stream_of, AreTold, AreAccepted}
 use Rattle.disk_feeder.specs.Sources.{plan_of, IsEarly}
 use Rattle.disk_feeder.specs.Streams.{IsStream}
-use Rattle.disk_feeder.specs.Filling.{IsSince}
+use Rattle.disk_feeder.specs.Filling.{IsSince, HoldsAll}
 use Rattle.disk_feeder.specs.Turns.{sealed_headers, sealed_blocks}
 
 -- the blocks of headers
@@ -109,14 +112,48 @@ pub record IsEnded (plan : Plan) (told : Told) (size : ℕ) (headers blocks : Li
   pub known : (files : List (List ℕ)) → AreTold told plan.names files →
       EndIs (stream_of plan files) size blocks end
 
+-- What was sealed where a fault came at a place: nothing that was read stops the walk, and the full blocks are those of
+-- the data that were read of the transfer, all within the limit, with a Cut
+pub record IsCutAt (s : FileStream) (at : Place) (size : ℕ) (blocks : List Entry) : Type 0 where
+  pub inside : IsIn s at.transfer at.file
+  pub passed : (j : ℕ) → j < at.file → stop_at s j ≡ None
+  pub judged : at.is_open ≡ true → header_stop s at.file ≡ None
+  pub few : length (joined_data (take at.transfer (walk_data s))) + at.since ≤ s.max_bytes
+  pub stream : blocks ≡ abandoned_stream size s.max_bytes (take at.transfer (walk_data s))
+      (take at.since (transfer_data s at.transfer))
+
+-- once a stream ended, and where it did so by a fault
+pub record HasEndedAs (s : Stream) (told : Told) (headers blocks : List Entry) (end : FeedEnd) :
+    Type 0 where
+  pub ended : IsEnded (plan_of s.source) told (length s.block.items) headers blocks end
+  pub cut : end ≡ ReadFault → (files : List (List ℕ)) →
+      AreTold told (plan_of s.source).names files →
+      IsCutAt (stream_of (plan_of s.source) files) s.source.place (length s.block.items) blocks
+
 abbrev pub FeedsTo : Stream → Told → List Entry → List Entry → Option FeedEnd → Type 0
 FeedsTo s told headers blocks None = IsRunning s told headers blocks
-FeedsTo s told headers blocks (Some end) =
-    IsEnded (plan_of s.source) told (length s.block.items) headers blocks end
+FeedsTo s told headers blocks (Some end) = HasEndedAs s told headers blocks end
 
 -- it stands for these sealed lists
 abbrev pub IsFeeding : Stream → Told → List Entry → List Entry → Type 0
 IsFeeding s told headers blocks = FeedsTo s told headers blocks s.end
+
+-- What a fault of the inputs leaves of the walk of these files, over what inputs told before anything was read and tell
+-- now. Nothing that was read stops the walk, by a header or by the limit. The file at which the fault came was not
+-- opened, or its header isn't judged by what was read; or its header goes on, and so many bytes of it were read. With
+-- `count` the data bytes that were read of the transfer, its full blocks are those of that many bytes, and no other.
+pub record BreaksReading (names : List (List ℕ)) (s : FileStream) (before after : Told) (size : ℕ)
+    (blocks : List Entry) : Type 0 where
+  pub transfer : ℕ
+  pub file : ℕ
+  pub inside : IsIn s transfer file
+  pub passed : (j : ℕ) → j < file → stop_at s j ≡ None
+  pub count : ℕ
+  pub stood : IsBreaking names s before after transfer file count
+      ⊎ ((header_stop s file ≡ None) × IsReadUpTo names s before after transfer file count)
+  pub few : length (joined_data (take transfer (walk_data s))) + count ≤ s.max_bytes
+  pub stream : blocks ≡ abandoned_stream size s.max_bytes (take transfer (walk_data s))
+      (take count (transfer_data s transfer))
 
 -- the plan and the size of a block stay
 pub record KeepsPlan (old new : Stream) : Type 0 where
@@ -132,6 +169,20 @@ Feeds old pass new pass' = (told : Told) →
 -- no fault of the inputs came
 abbrev pub IsFaultless : Option Due → Option FeedEnd → Type 0
 IsFaultless due end = (due ≢ Some (Stopped ReadFault)) × (end ≢ Some ReadFault)
+
+-- What reading keeps of the inputs. Files stay as they are told; a fault is due or came only where the count of faults
+-- rose; and calm inputs that hold all files give none. In this: what inputs tell, whether they are calm, and how many
+-- calls have failed.
+pub record KeepsInputs {I : Type 0} (told : I → Told) (is_calm : I → Type 0) (faults : I → ℕ)
+    (old new : Stream) (inputs inputs' : I) : Type 0 where
+  pub names : (told inputs').bytes_under ≡ (told inputs).bytes_under
+  pub count : faults inputs ≤ faults inputs'
+  pub quiet : IsFaultless new.due new.end → faults inputs' ≡ faults inputs
+  pub since : (k : ℕ) → IsSince k (faults inputs) old.due old.end →
+      IsSince k (faults inputs') new.due new.end
+  pub calm : is_calm inputs → is_calm inputs'
+  pub serves : is_calm inputs → HoldsAll (told inputs) (plan_of old.source).names →
+      IsFaultless old.due old.end → IsFaultless new.due new.end
 
 -- What a seal leaves, which reads nothing: the plan and the size of a block stay, and no file is opened. Where a fault
 -- came before, one has come still, and where none did, none has
@@ -156,3 +207,10 @@ pub record FitsRings (hdu : Hdu) (s : Stream) : Type 0 where
   pub size : (data_shape hdu).size ≡ length s.block.items
   pub blocks : s.source.max_bytes / length s.block.items + length s.source.starts.now + 1
       ≤ (data_shape hdu).max_blocks
+
+-- a stream of these rings, whose open file is open, stands for what its pass sealed
+pub record StreamStands (told : Told) (is_open : Type 0) (hdu : Hdu) (s : Stream)
+    (pass : HduWriter) : Type 0 where
+  pub fits : FitsRings hdu s
+  pub file : s.source.place.is_open ≡ true → is_open
+  pub feeding : IsFeeding s told (sealed_headers pass) (sealed_blocks pass)

@@ -10,6 +10,7 @@ use Rattle.disk_feeder.specs.declared.answers.FeedEnd.TheVariants.{ReadFault}
 use Rattle.disk_feeder.specs.declared.place.Place.{Place}
 use Rattle.disk_feeder.specs.declared.due.Due.{Due}
 use Rattle.disk_feeder.specs.declared.due.Due.TheVariants.{Full, Last, Stopped}
+use Rattle.disk_feeder.specs.History.{ReadsOn}
 use Rattle.disk_feeder.specs.Plan.{Plan, begin_at}
 use Rattle.disk_feeder.specs.Reading.{HasRead, HasEnded}
 use Rattle.disk_feeder.specs.Sources.{IsEarly}
@@ -24,9 +25,16 @@ FillsTo plan at told at' told' held block block' result =
     × (length piece ≡ n) × HasRead plan told' at' before (current ++ piece))
     (λ end. HasEnded plan told' at before current (length block - held) end)
 
+-- so a block was filled, and the files read on
+pub record FillsBehind (plan : Plan) (at : Place) (told : Told) (at' : Place) (told' : Told)
+    (held : ℕ) (block block' : List ℕ) (result : Result ℕ FeedEnd) : Type 0 where
+  pub filled : FillsTo plan at told at' told' held block block' result
+  pub reads_on : ReadsOn plan at told at' told' result
+
 -- the numbers of a place are those of the data that were read
 pub record IsCountOf (at : Place) (before : List (List ℕ)) (current : List ℕ) : Type 0 where
   pub transfers : length before ≡ at.transfer
+  pub since : length current ≡ at.since
   pub total : length (joined_data before) + length current ≡ at.total
 
 -- all data of the transfer were read

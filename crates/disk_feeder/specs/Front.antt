@@ -1,11 +1,20 @@
 -- What is read of a file's header.
 -- Source: PSRDADA manual (headers at the front of files, HDR_SIZE); that it is read in two pieces is this project's
 -- choice.
-use Rattle.std.specs.Prelude.{◌≡◌, ℕ, ⊤, List, take, drop, Option, Some, Ok}
-use Rattle.dada_model.specs.Fields.{HeaderText, header_of}
+use Rattle.std.specs.Prelude.{◌≡◌, ℕ, ◌+◌, ◌-◌, ◌<◌, ◌⊎◌, ⊤, List, ◌++◌, min, length, take, drop, Option, Some, unwrap_or, Result, Ok, Err}
+use Rattle.dada_model.specs.Fields.{HeaderText, HeaderRefusal, header_of, header_size, least_header}
+use Rattle.psr_base.specs.Told.{Told, opened, moved_by}
 use Rattle.dada_header.specs.Faults.{IsHeaderRefusal}
 use Rattle.disk_feeder.specs.declared.front.HeaderStop.{HeaderStop}
 use Rattle.disk_feeder.specs.declared.front.HeaderStop.TheVariants.{Failed, Refused}
+
+-- So many bytes were read into a space between two places: as many as fit of those that were left, and the rest of them
+-- is left still
+pub record HasReadPart (from to n : ℕ) (old new : List ℕ) (left' : Option (List ℕ))
+    (left : List ℕ) : Type 0 where
+  pub bytes : take (from + n) new ≡ take from old ++ take (to - from) left
+  pub count : n ≡ min (length left) (to - from)
+  pub rest : left' ≡ Some (drop (to - from) left)
 
 -- The bytes are those of the header that a file begins with, or all of a shorter one, and what is left is the rest.
 -- They say all that the file says of its header.
@@ -25,3 +34,25 @@ IsFailure (Refused fault) = ⊥
 abbrev pub StopsHeader : List ℕ → HeaderStop → Type 0
 StopsHeader file Failed = ⊤
 StopsHeader file (Refused fault) = IsHeaderRefusal file fault
+
+-- ---- what was read of it, and what a fault leaves
+
+abbrev pub front_in : List ℕ → Result HeaderText HeaderRefusal → ℕ
+front_in file (Ok header) = header.size
+front_in file (Err refusal) = length file
+
+-- how many bytes a file has before its data: those of its header, or all where it has none
+unfoldable pub front_of : List ℕ → ℕ
+front_of file = front_in file (header_of file)
+
+-- how many bytes of a file judge its header: as many as its size says, or the least where the size is refused
+unfoldable pub judged_after : List ℕ → ℕ
+judged_after file = unwrap_or (header_size file) least_header
+
+-- a fault came before n more bytes were read; no end was seen
+abbrev pub BreaksWithin : ℕ → Told → Told → Type 0
+BreaksWithin n old new = (k : ℕ) × (k < n) × (new ≡ moved_by k old)
+
+-- a fault came before the header of a file was judged: it was not opened, or too few bytes were read of it
+abbrev pub BreaksAt : List ℕ → List ℕ → Told → Told → Type 0
+BreaksAt name file old new = (new ≡ old) ⊎ BreaksWithin (judged_after file) (opened name old) new

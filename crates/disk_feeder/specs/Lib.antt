@@ -1,6 +1,7 @@
 pub mod Front
 pub mod Ends
 pub mod Plan
+pub mod History
 pub mod Reached
 pub mod Reading
 pub mod Sources

@@ -5,6 +5,7 @@ use mathlib.Core.List.{IsPrefix}
 use Rattle.psr_base.specs.Told.{Told, left_to_read}
 use Rattle.stream_model.specs.Blocks.{full_entries, whole_stream, joined_data, abandoned_stream}
 use Rattle.stream_model.specs.Walk.{FileStream, begin_of, data_between, transfer_data, walk_data, header_stop, stop_at, walk_stop, walk_stream}
+use Rattle.stream_model.specs.WalkLaws.{IsIn}
 use Rattle.disk_feeder.specs.declared.answers.FeedEnd.{FeedEnd}
 use Rattle.disk_feeder.specs.declared.answers.FeedEnd.TheVariants.{Whole, ReadFault}
 use Rattle.disk_feeder.specs.declared.place.Place.{Place}
@@ -34,10 +35,13 @@ pub record HasRead (plan : Plan) (told : Told) (at : Place) (before : List (List
       IsAt (stream_of plan files) plan told at before current
 
 -- Where reading ended by the inputs' fault, the data read are a front of those of the files, and their full blocks
--- begin the walk's stream.
+-- begin the walk's stream. Nothing that was read stops the walk.
 pub record IsFront (s : FileStream) (at : Place) (before : List (List ℕ)) (current : List ℕ) :
     Type 0 where
   pub there : at.transfer < length s.starts
+  pub inside : IsIn s at.transfer at.file
+  pub passed : (j : ℕ) → j < at.file → stop_at s j ≡ None
+  pub judged : at.is_open ≡ true → header_stop s at.file ≡ None
   pub earlier : before ≡ take at.transfer (walk_data s)
   pub more : List ℕ
   pub front : transfer_data s at.transfer ≡ current ++ more

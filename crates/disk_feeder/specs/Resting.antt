@@ -10,7 +10,7 @@ use Rattle.disk_feeder.specs.declared.feeder.FeederSpace.{FeederSpace}
 use Rattle.disk_feeder.specs.declared.stream.Stream.{Stream}
 use Rattle.disk_feeder.specs.Filling.{HoldsAll}
 use Rattle.disk_feeder.specs.Turns.{sealed_headers, sealed_blocks}
-use Rattle.disk_feeder.specs.Feeder.{HasOpenFile, plan_at, block_size, names_at, FeederFits, FeederFeeds, FeederSince, FeederFaultless}
+use Rattle.disk_feeder.specs.Feeder.{HasOpenFile, plan_at, block_size, names_at, FeederFits, FeederFeeds, FeederSince, FeederFaultless, FeederRead}
 
 -- the stream of a space
 abbrev pub stream_in : FeederSpace → Stream
@@ -45,6 +45,8 @@ pub record FeederKept {I : Type 0} (told : I → Told) (is_calm : I → Type 0) 
   pub quiet : FeederFaultless new → faults new.inputs.now ≡ faults old.inputs.now
   pub since : (k : ℕ) → FeederSince k (faults old.inputs.now) old →
       FeederSince k (faults new.inputs.now) new
+  pub reads_on : (before : Told) → FeederRead before (told old.inputs.now) old →
+      FeederRead before (told new.inputs.now) new
   pub calm : is_calm old.inputs.now → is_calm new.inputs.now
   pub serves : is_calm old.inputs.now → HoldsAll (told old.inputs.now) (names_at old) →
       FeederFaultless old → FeederFaultless new

@@ -1,6 +1,6 @@
 -- What a source of data shows, and what its calls answer.
 -- Source: this project's profile.
-use Rattle.std.specs.Prelude.{ℕ, ◌≡◌, ◌+◌, ◌*◌, ◌-◌, false, if◌then◌else◌, List, [], map, slice_index_or, length, string_bytes, ⊤, Some, Ok, ◌≢◌, Option, slice_get}
+use Rattle.std.specs.Prelude.{ℕ, ◌≡◌, ◌<◌, ◌≤◌, ◌+◌, ◌*◌, ◌-◌, false, if◌then◌else◌, List, [], map, slice_index_or, length, string_bytes, ⊤, Some, Ok, ◌≢◌, Option, slice_get, Result, IfOk, IfErr, OnErr}
 use Rattle.dada_model.specs.Fields.{HeaderText, header_of}
 use Rattle.disk_feeder.specs.declared.source.Source.{Source}
 use Rattle.disk_feeder.specs.declared.place.Place.{Place}
@@ -11,7 +11,7 @@ use Rattle.disk_feeder.specs.declared.answers.FeedFault.TheVariants as fault
 use Rattle.disk_feeder.specs.declared.answers.FeedEnd.TheVariants.{Whole, ReadFault, BadHeader, TooLong}
 use Rattle.disk_feeder.specs.declared.answers.HeaderCause.TheVariants.{Text}
 use Rattle.dada_header.specs.Faults.{IsHeaderRefusal}
-use Rattle.disk_feeder.specs.Plan.{Plan, begin_at}
+use Rattle.disk_feeder.specs.Plan.{Plan, begin_at, AreAccepted}
 use Rattle.dada_model.specs.Observation.{Observation}
 use Rattle.obs_plan.specs.Later.{profile_of}
 
@@ -43,6 +43,35 @@ abbrev pub RefusesText : List ℕ → ℕ → FeedEnd → Type 0
 RefusesText file number ReadFault = ⊤
 RefusesText file number (BadHeader k (Text fault)) = (k ≡ number) × IsHeaderRefusal file fault
 RefusesText file number end = ⊥
+
+-- what a source reads, and where it is, stay
+pub record StaysAt (old new : Source) : Type 0 where
+  pub plan : plan_of new ≡ plan_of old
+  pub place : new.place ≡ old.place
+
+-- the place is within a transfer, and each first header was accepted
+pub record IsWithin (source : Source) : Type 0 where
+  pub there : source.place.transfer < length source.starts.now
+  pub accepted : AreAccepted (plan_of source)
+
+-- so it is, and a file of the transfer is still to be opened or read
+pub record HasMore (source : Source) : Type 0 where
+  pub there : source.place.transfer < length source.starts.now
+  pub more : source.place.file
+      < begin_at source.starts.now (length source.names.now) (source.place.transfer + 1)
+  pub accepted : AreAccepted (plan_of source)
+
+-- What a call that reads on keeps, and how far it comes. It stays in its transfer, and at its place where it says that
+-- the stream ends, which is early; where it gives no bytes, one file less is to be opened or to be read to its end.
+pub record Advances (old new : Source) (result : Result ℕ FeedEnd) : Type 0 where
+  pub plan : plan_of new ≡ plan_of old
+  pub transfer : new.place.transfer ≡ old.place.transfer
+  pub place : OnErr result (new.place ≡ old.place)
+  pub progress : IfOk result (λ n. n ≡ 0 → ends_left (length old.names.now) new.place
+      < ends_left (length old.names.now) old.place)
+  pub stays : ends_left (length old.names.now) new.place
+      ≤ ends_left (length old.names.now) old.place
+  pub early : IfErr result (IsEarly (plan_of old))
 
 -- m bytes, which are n, were counted as read
 abbrev pub IsCounted : Place → ℕ → ℕ → Place → Type 0

@@ -7,7 +7,7 @@ use Rattle.ring_ends.specs.Passes.{ring_shape, writer_knows}
 use Rattle.ring_ends.specs.Answers.{IsFull}
 use Rattle.dada_hdu.specs.declared.hdu.Hdu.{Hdu}
 use Rattle.dada_hdu.specs.declared.passes.HduWriter.{HduWriter}
-use Rattle.dada_hdu.specs.Passes.{header_ring, data_ring}
+use Rattle.dada_hdu.specs.Passes.{header_ring, data_ring, data_shape, WritesBoth}
 use Rattle.disk_feeder.specs.declared.answers.FeedEnd.{FeedEnd}
 use Rattle.disk_feeder.specs.declared.answers.FeedTurn.{FeedTurn}
 use Rattle.disk_feeder.specs.declared.answers.FeedTurn.TheVariants.{Moved, Waiting, Ended}
@@ -25,6 +25,12 @@ HasRoom hdu pass = length (sealed_blocks pass) < (ring_shape (data_ring hdu)).ma
 
 abbrev pub HasHeaderRoom : Hdu → HduWriter → Type 0
 HasHeaderRoom hdu pass = length (sealed_headers pass) < (ring_shape (header_ring hdu)).max_blocks
+
+-- a block of so many bytes may be sealed in the data ring
+pub record CanSeal (hdu : Hdu) (size : ℕ) (pass : HduWriter) : Type 0 where
+  pub ring : WritesBoth hdu pass
+  pub size_is : (data_shape hdu).size ≡ size
+  pub room : HasRoom hdu pass
 
 -- one block was sealed
 abbrev pub SealsOne : WriterPass → WriterPass → Type 0

@@ -27,7 +27,7 @@ pub struct FeederSpace<'a> {
 }
 
 impl<'a> FeederSpace<'a> {
-    ghost use Rattle.disk_feeder.specs.Feeder.{HasPlan, SamePlan, IsSpaceFor, IsFresh, IsBegun, FirstsLeft, RefusesAt, HasOpenFile, has_end, header_at, names_at, AcceptsAt, AllAccepted, FeederFeeds, FeederFaultless};
+    ghost use Rattle.disk_feeder.specs.Feeder.{HasPlan, SamePlan, IsSpaceFor, IsFresh, IsBegun, ReadsFirstHeaders, BreaksFirstHeaders, RefusesAt, HasOpenFile, has_end, header_at, names_at, KeepsBegun, AcceptsAt, AllAccepted, FeederFeeds};
     ghost use Rattle.disk_feeder.specs.Feeding.{header_entries};
     ghost use Rattle.disk_feeder.specs.Resting.{feeder_over, at_rest, FeederStands, FeederKept};
     ghost use Rattle.psr_base.specs.Told.{Told};
@@ -70,8 +70,10 @@ impl<'a> FeederSpace<'a> {
         ensures plan { SamePlan (at_rest self.old) (at_rest self.new) }
         ensures begun { OnOk result (IsBegun (I.told inputs.new) (at_rest self.new)) }
         ensures open { OnOk result (HasOpenFile (at_rest self.new) → I.is_open inputs.new) }
-        ensures left { OnOk result (FirstsLeft (I.told inputs.old) (at_rest self.old)
-            (I.told inputs.new)) }
+        ensures reads { OnOk result (ReadsFirstHeaders (I.told inputs.old) (at_rest self.old)
+            (I.told inputs.new) (at_rest self.new)) }
+        ensures broke { result ≡ Err FeedFault.ReadFault → BreaksFirstHeaders (I.told inputs.old)
+            (at_rest self.old) (I.told inputs.new) }
         ensures refused { IfErr result (RefusesAt (I.told inputs.old) (at_rest self.old)) }
         ensures inputs { HasReadFrom I.told I.is_calm I.faults (result ≡ Err FeedFault.ReadFault)
             inputs.old inputs.new }
@@ -96,15 +98,11 @@ impl<'a> FeederSpace<'a> {
         requires begun { (told : Told) × IsBegun told (at_rest self.old) }
         requires accepted { (header : _) → slice_get (header_at (at_rest self.old)) transfer
             ≡ Some header → observation_of (fields_of header.text) ≡ Ok observation.now }
-        ensures plan { SamePlan (at_rest self.old) (at_rest self.new) }
-        ensures headers { header_at (at_rest self.new) ≡ header_at (at_rest self.old) }
+        ensures kept { KeepsBegun (at_rest self.old) (at_rest self.new) }
         ensures feeds { (told : Told) → IsBegun told (at_rest self.old)
             → AllAccepted (at_rest self.new) → FeederFeeds told (at_rest self.new)
             (header_entries (take 1 (header_at (at_rest self.new)))) [] }
-        ensures faultless { FeederFaultless (at_rest self.new) }
-        ensures running { has_end (at_rest self.new) ≡ None }
         ensures accepts { AcceptsAt (at_rest self.old) transfer (at_rest self.new) }
-        ensures reading { HasOpenFile (at_rest self.new) → HasOpenFile (at_rest self.old) }
     {
         first_files_continue();
         data_grow();
@@ -149,9 +147,9 @@ pub struct Feeder<'a, I> {
 }
 
 impl<'a, I: Inputs> Feeder<'a, I> {
-    ghost use Rattle.disk_feeder.specs.Feeder.{stream_at, HasPlan, SamePlan, IsSpaceFor, IsFresh, IsBegun, FirstsLeft, HasOpenFile, has_end, FeederFits, FeederFeeds, FeederSince, FeederFaultless, header_at, AcceptsAt, AllAccepted, names_at, plan_at, FeederBegins, RefusesAt};
+    ghost use Rattle.disk_feeder.specs.Feeder.{stream_at, HasPlan, SamePlan, IsSpaceFor, IsFresh, IsBegun, ReadsFirstHeaders, BreaksFirstHeaders, HasOpenFile, has_end, FeederFeeds, header_at, KeepsBegun, AcceptsAt, AllAccepted, names_at, FeederBegins, RefusesAt};
     ghost use Rattle.disk_feeder.specs.Feeding.{header_entries, HeadersKeepUp};
-    ghost use Rattle.disk_feeder.specs.Resting.{stream_in};
+    ghost use Rattle.disk_feeder.specs.Resting.{stream_in, FeederStands, FeederKept};
 
     /// The feeder of a space, over borrowed inputs. Nothing is read.
     pub fn over(inputs: &'a mut I, space: FeederSpace<'a>) -> Feeder<'a, I>
@@ -173,8 +171,10 @@ impl<'a, I: Inputs> Feeder<'a, I> {
         ensures plan { SamePlan self.old self.new }
         ensures begun { OnOk result (IsBegun (I.told self.new.inputs.now) self.new) }
         ensures open { OnOk result (HasOpenFile self.new → I.is_open self.new.inputs.now) }
-        ensures left { OnOk result (FirstsLeft (I.told self.old.inputs.now) self.old
-            (I.told self.new.inputs.now)) }
+        ensures reads { OnOk result (ReadsFirstHeaders (I.told self.old.inputs.now) self.old
+            (I.told self.new.inputs.now) self.new) }
+        ensures broke { result ≡ Err FeedFault.ReadFault → BreaksFirstHeaders
+            (I.told self.old.inputs.now) self.old (I.told self.new.inputs.now) }
         ensures refused { IfErr result (RefusesAt (I.told self.old.inputs.now) self.old) }
         ensures inputs { HasReadFrom I.told I.is_calm I.faults (result ≡ Err FeedFault.ReadFault)
             self.old.inputs.now self.new.inputs.now }
@@ -201,15 +201,11 @@ impl<'a, I: Inputs> Feeder<'a, I> {
             → observation_of (fields_of header.text) ≡ Ok observation.now }
         ensures same_reference { self.new.inputs.ghost_name ≡ self.old.inputs.ghost_name }
         ensures inputs { self.new.inputs.now ≡ self.old.inputs.now }
-        ensures plan { SamePlan self.old self.new }
-        ensures headers { header_at self.new ≡ header_at self.old }
+        ensures kept { KeepsBegun self.old self.new }
         ensures feeds { AllAccepted self.new → FeederFeeds (I.told self.new.inputs.now) self.new
             (header_entries (take 1 (header_at self.new))) [] }
-        ensures faultless { FeederFaultless self.new }
-        ensures running { has_end self.new ≡ None }
         ensures begun { IsBegun (I.told self.new.inputs.now) self.new }
         ensures accepts { AcceptsAt self.old transfer self.new }
-        ensures reading { HasOpenFile self.new → HasOpenFile self.old }
     {
         first_files_continue();
         data_grow();
@@ -221,35 +217,17 @@ impl<'a, I: Inputs> Feeder<'a, I> {
     /// header of a further transfer. A block that found the ring full is tried again in the next turn.
     pub fn turn(&mut self, hdu: &Hdu, pass: &mut HduWriter) -> FeedTurn
         requires ring { WritesBoth hdu.now pass.old }
-        requires fits { FeederFits hdu.now self.old }
         requires running { has_end self.old ≡ None }
-        requires is_open { HasOpenFile self.old → I.is_open self.old.inputs.now }
-        requires feeding { FeederFeeds (I.told self.old.inputs.now) self.old
-            (sealed_headers pass.old) (sealed_blocks pass.old) }
+        requires stands { FeederStands I.told I.is_open hdu.now self.old pass.old }
         ensures ring { WritesBoth hdu.now pass.new }
         ensures same_reference { self.new.inputs.ghost_name ≡ self.old.inputs.ghost_name }
-        ensures plan { SamePlan self.old self.new }
-        ensures reads { plan_at self.new ≡ plan_at self.old }
-        ensures fits { FeederFits hdu.now self.new }
-        ensures is_open { HasOpenFile self.new → I.is_open self.new.inputs.now }
-        ensures feeding { FeederFeeds (I.told self.new.inputs.now) self.new
-            (sealed_headers pass.new) (sealed_blocks pass.new) }
+        ensures stands { FeederStands I.told I.is_open hdu.now self.new pass.new }
+        ensures kept { FeederKept I.told I.is_calm I.faults self.old self.new }
         ensures begins { has_end self.new ≡ None → FeederBegins (I.told self.new.inputs.now)
             self.new (sealed_blocks pass.new) }
         ensures headers { HeadersKeepUp (header_at self.new) (sealed_headers pass.new)
             (sealed_blocks pass.new) }
         ensures answer { TurnAnswers pass.old pass.new (has_end self.new) result }
-        ensures count { I.faults self.old.inputs.now ≤ I.faults self.new.inputs.now }
-        ensures quiet { FeederFaultless self.new
-            → I.faults self.new.inputs.now ≡ I.faults self.old.inputs.now }
-        ensures since { (k : ℕ) → FeederSince k (I.faults self.old.inputs.now) self.old
-            → FeederSince k (I.faults self.new.inputs.now) self.new }
-        ensures names { (I.told self.new.inputs.now).bytes_under
-            ≡ (I.told self.old.inputs.now).bytes_under }
-        ensures calm { I.is_calm self.old.inputs.now → I.is_calm self.new.inputs.now }
-        ensures serves { I.is_calm self.old.inputs.now
-            → HoldsAll (I.told self.old.inputs.now) (names_at self.old)
-            → FeederFaultless self.old → FeederFaultless self.new }
     {
         feeders_begin::<I>();
         headers_are_first::<I>();

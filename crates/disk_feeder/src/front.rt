@@ -1,14 +1,16 @@
 //! The header at the front of a file, read by exact pieces.
-ghost use Rattle.std.specs.Prelude.{◌≡◌, ◌≢◌, ◌+◌, ◌-◌, ◌≤◌, ◌<◌, ◌++◌, length, take, drop, Some, Ok, Err, IfOk, IfErr, OnOk, OnErr, IsOk, IsSome};
+ghost use Rattle.std.specs.Prelude.{◌≡◌, ◌+◌, ◌-◌, ◌≤◌, length, take, Some, Ok, Err, MatchResult, IfOk, IfErr, OnOk, OnErr, IsOk, IsErr, IsSome};
 ghost use Rattle.std.specs.Option.{ForSome};
-ghost use Rattle.psr_base.specs.Count.{Rose};
-ghost use Rattle.psr_base.specs.Told.{OfFile, left_to_read};
-ghost use Rattle.dada_model.specs.Fields.{header_of};
-ghost use Rattle.disk_feeder.specs.Front.{IsFrontRead, IsFailure, StopsHeader};
+ghost use Rattle.psr_base.specs.Inputs.{HasReadFrom};
+ghost use Rattle.psr_base.specs.Told.{OfFile, left_to_read, opened, moved_by, filled_by};
+ghost use Rattle.dada_model.specs.Fields.{HeaderText, header_of};
+ghost use Rattle.disk_feeder.specs.Front.{HasReadPart, IsFrontRead, IsFailure, StopsHeader, front_of, judged_after, BreaksWithin, BreaksAt};
 ghost use Rattle.stream_model.specs.Walk.{data_of};
 
 use dada_header::{Header, HeaderFault};
 use psr_base::{Failed, Inputs, fill};
+// A law: it does nothing when it runs, and the proofs use what it ensures.
+use psr_base::reads_join;
 
 /// The least size of a header, in bytes. As many are read before its size is known.
 const LEAST: usize = 4096;
@@ -33,16 +35,13 @@ fn fill_part<I: Inputs>(
     requires ordered { from ≤ to }
     requires within { to ≤ length space.old }
     ensures bound { IfOk result (λ n. from + n ≤ to) }
-    ensures read { IfOk result (λ n. ForSome (left_to_read (I.told inputs.old)) (λ left.
-        take (from + n) space.new ≡ take from space.old ++ take (to - from) left)) }
-    ensures left { OnOk result (ForSome (left_to_read (I.told inputs.old)) (λ left.
-        left_to_read (I.told inputs.new) ≡ Some (drop (to - from) left))) }
-    ensures quiet { OnOk result (I.faults inputs.new ≡ I.faults inputs.old) }
-    ensures failed { OnErr result (Rose (I.faults inputs.old) (I.faults inputs.new)) }
-    ensures names { (I.told inputs.new).bytes_under ≡ (I.told inputs.old).bytes_under }
+    ensures read { IfOk result (λ n. ForSome (left_to_read (I.told inputs.old))
+        (HasReadPart from to n space.old space.new (left_to_read (I.told inputs.new)))) }
+    ensures told { MatchResult result
+        (λ n. I.told inputs.new ≡ filled_by n (to - from) (I.told inputs.old))
+        (λ _. BreaksWithin (to - from) (I.told inputs.old) (I.told inputs.new)) }
+    ensures inputs { HasReadFrom I.told I.is_calm I.faults (IsErr result) inputs.old inputs.new }
     ensures is_open { I.is_open inputs.new }
-    ensures count { I.faults inputs.old ≤ I.faults inputs.new }
-    ensures calm { I.is_calm inputs.old → I.is_calm inputs.new }
     ensures serves { I.is_calm inputs.old → IsOk result }
 {
     fill(inputs, &mut space[from..to])
@@ -55,14 +54,16 @@ fn read_front<I: Inputs>(inputs: &mut I, space: &mut [u8]) -> Result<usize, Fail
     ensures bound { IfOk result (λ n. n ≤ length space.new) }
     ensures front { IfOk result (λ n. ForSome (left_to_read (I.told inputs.old))
         (IsFrontRead (take n space.new) (left_to_read (I.told inputs.new)))) }
-    ensures quiet { OnOk result (I.faults inputs.new ≡ I.faults inputs.old) }
-    ensures failed { OnErr result (Rose (I.faults inputs.old) (I.faults inputs.new)) }
-    ensures names { (I.told inputs.new).bytes_under ≡ (I.told inputs.old).bytes_under }
+    ensures whole { OnOk result (ForSome (left_to_read (I.told inputs.old)) (λ file.
+        (h : HeaderText) → header_of file ≡ Ok h
+        → I.told inputs.new ≡ moved_by h.size (I.told inputs.old))) }
+    ensures broke { OnErr result (ForSome (left_to_read (I.told inputs.old)) (λ file.
+        BreaksWithin (judged_after file) (I.told inputs.old) (I.told inputs.new))) }
+    ensures inputs { HasReadFrom I.told I.is_calm I.faults (IsErr result) inputs.old inputs.new }
     ensures is_open { I.is_open inputs.new }
-    ensures count { I.faults inputs.old ≤ I.faults inputs.new }
-    ensures calm { I.is_calm inputs.old → I.is_calm inputs.new }
     ensures serves { I.is_calm inputs.old → IsOk result }
 {
+    reads_join();
     let first = match fill_part(inputs, space, 0, LEAST) {
         Ok(first) => first,
         Err(failed) => return Err(failed),
@@ -82,12 +83,13 @@ fn open_front<I: Inputs>(inputs: &mut I, name: &str, space: &mut [u8]) -> Result
     ensures bound { IfOk result (λ n. n ≤ length space.new) }
     ensures front { IfOk result (λ n. OfFile (I.told inputs.old) name.now
         (IsFrontRead (take n space.new) (left_to_read (I.told inputs.new)))) }
-    ensures quiet { OnOk result (I.faults inputs.new ≡ I.faults inputs.old) }
-    ensures failed { OnErr result (Rose (I.faults inputs.old) (I.faults inputs.new)) }
-    ensures names { (I.told inputs.new).bytes_under ≡ (I.told inputs.old).bytes_under }
+    ensures whole { OnOk result (OfFile (I.told inputs.old) name.now (λ file.
+        (h : HeaderText) → header_of file ≡ Ok h
+        → I.told inputs.new ≡ moved_by h.size (opened name.now (I.told inputs.old)))) }
+    ensures broke { OnErr result (OfFile (I.told inputs.old) name.now (λ file.
+        BreaksAt name.now file (I.told inputs.old) (I.told inputs.new))) }
+    ensures inputs { HasReadFrom I.told I.is_calm I.faults (IsErr result) inputs.old inputs.new }
     ensures is_open { OnOk result (I.is_open inputs.new) }
-    ensures count { I.faults inputs.old ≤ I.faults inputs.new }
-    ensures calm { I.is_calm inputs.old → I.is_calm inputs.new }
     ensures serves { I.is_calm inputs.old → IsSome ((I.told inputs.old).bytes_under name.now)
         → IsOk result }
 {
@@ -110,15 +112,15 @@ pub(crate) fn read_header<I: Inputs>(
         (λ file. header_of file ≡ Ok header.new)) }
     ensures left { OnOk result (OfFile (I.told inputs.old) name.now
         (λ file. left_to_read (I.told inputs.new) ≡ Some (data_of file))) }
+    ensures read { OnOk result (OfFile (I.told inputs.old) name.now (λ file.
+        I.told inputs.new ≡ moved_by (front_of file) (opened name.now (I.told inputs.old)))) }
+    ensures broke { IfErr result (λ stop. IsFailure stop → OfFile (I.told inputs.old) name.now
+        (λ file. BreaksAt name.now file (I.told inputs.old) (I.told inputs.new))) }
     ensures stopped { IfErr result (λ stop. OfFile (I.told inputs.old) name.now
         (λ file. StopsHeader file stop)) }
+    ensures inputs { HasReadFrom I.told I.is_calm I.faults (result ≡ Err HeaderStop.Failed)
+        inputs.old inputs.new }
     ensures is_open { OnOk result (I.is_open inputs.new) }
-    ensures quiet { result ≢ Err HeaderStop.Failed → I.faults inputs.new ≡ I.faults inputs.old }
-    ensures failed { IfErr result (λ stop. IsFailure stop
-        → Rose (I.faults inputs.old) (I.faults inputs.new)) }
-    ensures names { (I.told inputs.new).bytes_under ≡ (I.told inputs.old).bytes_under }
-    ensures count { I.faults inputs.old ≤ I.faults inputs.new }
-    ensures calm { I.is_calm inputs.old → I.is_calm inputs.new }
     ensures serves { I.is_calm inputs.old → IsSome ((I.told inputs.old).bytes_under name.now)
         → IfErr result (λ stop. ¬ IsFailure stop) }
 {

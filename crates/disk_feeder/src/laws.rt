@@ -1,5 +1,5 @@
 //! Laws, as calls that do nothing when they run.
-ghost use Rattle.disk_feeder.specs.Laws.{FeedersBegin, FeedersEnd, HeadersAreFirst};
+ghost use Rattle.disk_feeder.specs.Laws.{FeedersBegin, FeedersEnd, HeadersAreFirst, FaultsLeave};
 
 // Laws: they do nothing when they run, and the proofs use what they ensure.
 use crate::reached::walk_goes_on;
@@ -29,3 +29,9 @@ pub fn headers_are_first<I>()
 {
     ends_are_counted();
 }
+
+/// Where a fault of the inputs ended a feeder, nothing that was read stops the walk of its files, and the full blocks
+/// that it sealed are those of the data that were read.
+pub fn faults_leave<I>()
+    ensures { FaultsLeave I }
+{}

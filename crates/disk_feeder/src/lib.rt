@@ -15,4 +15,4 @@ mod writing;
 
 pub use answers::{FeedEnd, FeedFault, FeedTurn, HeaderCause};
 pub use feeder::{Feeder, FeederSpace, Lent};
-pub use laws::{feeders_begin, feeders_end, headers_are_first};
+pub use laws::{faults_leave, feeders_begin, feeders_end, headers_are_first};

@@ -1,10 +1,11 @@
 //! The data of the files, one transfer after another.
-ghost use Rattle.std.specs.Prelude.{◌≡◌, ◌≢◌, ◌≤◌, ◌<◌, ◌+◌, ◌^◌, ℕ, true, false, length, Some, None, Ok, Err, IfOk, IfErr, OnOk, OnErr, IsSome, MatchResult, slice_get};
+ghost use Rattle.std.specs.Prelude.{◌≡◌, ◌≢◌, ◌≤◌, ◌<◌, ◌+◌, ◌^◌, ℕ, true, false, length, Some, None, Ok, Err, IfOk, IfErr, OnOk, IsSome, MatchResult, slice_get};
 ghost use Rattle.psr_base.specs.Inputs.{HasReadFrom};
-ghost use Rattle.psr_base.specs.Told.{OfFile, left_to_read};
+ghost use Rattle.psr_base.specs.Told.{OfFile, left_to_read, opened, moved_by};
 ghost use Rattle.dada_model.specs.Fields.{header_of};
 ghost use Rattle.stream_model.specs.Walk.{data_of};
 ghost use Rattle.stream_model.specs.WalkLaws.{AreStarts};
+ghost use Rattle.disk_feeder.specs.Front.{front_of, BreaksAt};
 ghost use Rattle.disk_feeder.specs.Plan.{IsPlace, begin_at};
 
 use crate::answers::{FeedEnd, FeedFault, HeaderCause};
@@ -16,6 +17,7 @@ use obs_plan::Observation;
 use psr_base::{Inputs, Memory};
 use std::alloc::Global;
 // Laws: they do nothing when they run, and the proofs use what they ensure.
+use psr_base::reads_join;
 use stream_model::{
     data_grow, data_join, data_none, files_are_in_transfers, first_stop_counts, one_transfer_more,
     transfers_join,
@@ -53,9 +55,11 @@ pub(crate) struct Source<'a> {
 }
 
 impl<'a> Source<'a> {
-    ghost use Rattle.disk_feeder.specs.Sources.{plan_of, current_name, IsEarly, RefusesText, IsCounted, ends_left, first_place, first_name, KeepsHeaders, HasHeaderAt, RefusesFirst, IsKept};
+    ghost use Rattle.disk_feeder.specs.Sources.{plan_of, current_name, IsEarly, StaysAt, HasMore, Advances, RefusesText, IsCounted, first_place, first_name, KeepsHeaders, HasHeaderAt, RefusesFirst, IsKept};
+    ghost use Rattle.psr_base.specs.Told.{Told};
     ghost use Rattle.disk_feeder.specs.Reading.{OpensTo, ReadsTo, EndsTransfer};
-    ghost use Rattle.disk_feeder.specs.Beginning.{KeepsSource, HeadersRead, LastLeft, RefusesSome};
+    ghost use Rattle.disk_feeder.specs.History.{ReadsUpTo, ReadsOn};
+    ghost use Rattle.disk_feeder.specs.Beginning.{KeepsSource, HeadersRead, LastLeft, FirstsRead, BreaksFirst, RefusesSome};
     ghost use Rattle.disk_feeder.specs.Filling.{HoldsAll};
     ghost use Rattle.disk_feeder.specs.Plan.{AreAccepted};
 
@@ -112,6 +116,13 @@ impl<'a> Source<'a> {
             (HasHeaderAt self.new transfer)) }
         ensures left { OnOk result (OfFile (I.told inputs.old) (first_name self.old transfer)
             (λ file. left_to_read (I.told inputs.new) ≡ Some (data_of file))) }
+        ensures read { OnOk result (OfFile (I.told inputs.old) (first_name self.old transfer)
+            (λ file. I.told inputs.new ≡ moved_by (front_of file)
+            (opened (first_name self.old transfer) (I.told inputs.old)))) }
+        ensures broke { result ≡ Err FeedFault.ReadFault
+            → OfFile (I.told inputs.old) (first_name self.old transfer)
+            (λ file. BreaksAt (first_name self.old transfer) file (I.told inputs.old)
+            (I.told inputs.new)) }
         ensures refused { IfErr result (λ fault. OfFile (I.told inputs.old)
             (first_name self.old transfer) (λ file. RefusesFirst file
             (begin_at self.old.starts.now (length self.old.names.now) transfer) fault)) }
@@ -142,6 +153,10 @@ impl<'a> Source<'a> {
             (length self.old.starts.now) self.new) }
         ensures left { OnOk result (LastLeft (I.told inputs.old) self.old
             (length self.old.starts.now) (I.told inputs.new)) }
+        ensures read { OnOk result (FirstsRead (I.told inputs.old) self.old
+            (length self.old.starts.now) (I.told inputs.new)) }
+        ensures broke { result ≡ Err FeedFault.ReadFault
+            → BreaksFirst (I.told inputs.old) self.old (I.told inputs.new) }
         ensures refused { IfErr result (RefusesSome (I.told inputs.old) self.old) }
         ensures is_open { OnOk result (I.is_open inputs.new) }
         ensures inputs { HasReadFrom I.told I.is_calm I.faults (result ≡ Err FeedFault.ReadFault)
@@ -219,15 +234,21 @@ impl<'a> Source<'a> {
     // Opens the file of the place and reads its header.
     fn open_file<I: Inputs>(&mut self, inputs: &mut I) -> Result<(), FeedEnd>
         requires there { self.old.place.file < length self.old.names.now }
-        ensures plan { plan_of self.new ≡ plan_of self.old }
-        ensures place { self.new.place ≡ self.old.place }
+        ensures stays { StaysAt self.old self.new }
         ensures header { OnOk result (OfFile (I.told inputs.old) (current_name self.old)
             (λ file. header_of file ≡ Ok self.new.later)) }
         ensures left { OnOk result (OfFile (I.told inputs.old) (current_name self.old)
             (λ file. left_to_read (I.told inputs.new) ≡ Some (data_of file))) }
-        ensures stopped { IfErr result (λ end. OfFile (I.told inputs.old) (current_name self.old)
+        ensures read { OnOk result (OfFile (I.told inputs.old) (current_name self.old)
+            (λ file. I.told inputs.new ≡ moved_by (front_of file)
+            (opened (current_name self.old) (I.told inputs.old)))) }
+        ensures broke { result ≡ Err FeedEnd.ReadFault
+            → OfFile (I.told inputs.old) (current_name self.old)
+            (λ file. BreaksAt (current_name self.old) file (I.told inputs.old)
+            (I.told inputs.new)) }
+        ensures stopped { IfErr result (λ end. IsEarly (plan_of self.old) end
+            × OfFile (I.told inputs.old) (current_name self.old)
             (λ file. RefusesText file self.old.place.file end)) }
-        ensures early { IfErr result (IsEarly (plan_of self.old)) }
         ensures is_open { OnOk result (I.is_open inputs.new) }
         ensures inputs { HasReadFrom I.told I.is_calm I.faults (result ≡ Err FeedEnd.ReadFault)
             inputs.old inputs.new }
@@ -262,16 +283,15 @@ impl<'a> Source<'a> {
     // Opens the file of the place, and judges its header.
     fn open_next<I: Inputs>(&mut self, inputs: &mut I) -> Result<(), FeedEnd>
         requires shut { self.old.place.is_open ≡ false }
-        requires there { self.old.place.transfer < length self.old.starts.now }
-        requires more { self.old.place.file < begin_at self.old.starts.now
-            (length self.old.names.now) (self.old.place.transfer + 1) }
-        requires accepted { AreAccepted (plan_of self.old) }
+        requires more { HasMore self.old }
         ensures plan { plan_of self.new ≡ plan_of self.old }
-        ensures opened { OnOk result
-            (self.new.place ≡ record self.old.place { is_open = true }) }
-        ensures place { OnErr result (self.new.place ≡ self.old.place) }
+        ensures place { MatchResult result
+            (λ _. self.new.place ≡ record self.old.place { is_open = true })
+            (λ _. self.new.place ≡ self.old.place) }
         ensures read { OpensTo (plan_of self.old) self.old.place (I.told inputs.old)
             (I.told inputs.new) result }
+        ensures reads_on { ReadsOn (plan_of self.old) self.old.place (I.told inputs.old)
+            self.new.place (I.told inputs.new) result }
         ensures early { IfErr result (IsEarly (plan_of self.old)) }
         ensures is_open { OnOk result (I.is_open inputs.new) }
         ensures inputs { HasReadFrom I.told I.is_calm I.faults (result ≡ Err FeedEnd.ReadFault)
@@ -361,18 +381,12 @@ impl<'a> Source<'a> {
         requires room { 0 < length into.old }
         requires opened { self.old.place.is_open ≡ true }
         requires is_open { I.is_open inputs.old }
-        ensures plan { plan_of self.new ≡ plan_of self.old }
-        ensures transfer { self.new.place.transfer ≡ self.old.place.transfer }
-        ensures place { OnErr result (self.new.place ≡ self.old.place) }
+        ensures on { Advances self.old self.new result }
         ensures bound { IfOk result (λ n. n ≤ length into.new) }
-        ensures progress { IfOk result (λ n. n ≡ 0
-            → ends_left (length self.old.names.now) self.new.place
-            < ends_left (length self.old.names.now) self.old.place) }
-        ensures stays { ends_left (length self.old.names.now) self.new.place
-            ≤ ends_left (length self.old.names.now) self.old.place }
         ensures read { ReadsTo (plan_of self.old) self.old.place (I.told inputs.old)
             self.new.place (I.told inputs.new) into.new result }
-        ensures early { IfErr result (IsEarly (plan_of self.old)) }
+        ensures reads_on { ReadsOn (plan_of self.old) self.old.place (I.told inputs.old)
+            self.new.place (I.told inputs.new) result }
         ensures is_open { I.is_open inputs.new }
         ensures inputs { HasReadFrom I.told I.is_calm I.faults (result ≡ Err FeedEnd.ReadFault)
             inputs.old inputs.new }
@@ -382,6 +396,8 @@ impl<'a> Source<'a> {
         first_stop_counts();
         transfers_join();
         data_join();
+        data_grow();
+        reads_join();
         walk_goes_on();
         match inputs.read(into) {
             Ok(n) => {
@@ -406,23 +422,14 @@ impl<'a> Source<'a> {
         into: &mut [u8],
     ) -> Result<usize, FeedEnd>
         requires room { 0 < length into.old }
-        requires there { self.old.place.transfer < length self.old.starts.now }
-        requires more { self.old.place.file < begin_at self.old.starts.now
-            (length self.old.names.now) (self.old.place.transfer + 1) }
-        requires accepted { AreAccepted (plan_of self.old) }
+        requires more { HasMore self.old }
         requires is_open { self.old.place.is_open ≡ true → I.is_open inputs.old }
-        ensures plan { plan_of self.new ≡ plan_of self.old }
-        ensures transfer { self.new.place.transfer ≡ self.old.place.transfer }
-        ensures place { OnErr result (self.new.place ≡ self.old.place) }
+        ensures on { Advances self.old self.new result }
         ensures bound { IfOk result (λ n. n ≤ length into.new) }
-        ensures progress { IfOk result (λ n. n ≡ 0
-            → ends_left (length self.old.names.now) self.new.place
-            < ends_left (length self.old.names.now) self.old.place) }
-        ensures stays { ends_left (length self.old.names.now) self.new.place
-            ≤ ends_left (length self.old.names.now) self.old.place }
         ensures read { ReadsTo (plan_of self.old) self.old.place (I.told inputs.old)
             self.new.place (I.told inputs.new) into.new result }
-        ensures early { IfErr result (IsEarly (plan_of self.old)) }
+        ensures reads_on { ReadsOn (plan_of self.old) self.old.place (I.told inputs.old)
+            self.new.place (I.told inputs.new) result }
         ensures is_open { self.new.place.is_open ≡ true → I.is_open inputs.new }
         ensures inputs { HasReadFrom I.told I.is_calm I.faults (result ≡ Err FeedEnd.ReadFault)
             inputs.old inputs.new }
@@ -452,6 +459,9 @@ impl<'a> Source<'a> {
           since = 0;
         } }
         ensures read { EndsTransfer (plan_of self.old) self.old.place self.new.place }
+        ensures reads_on { (before told : Told)
+            → ReadsUpTo (plan_of self.old) before told self.old.place
+            → ReadsUpTo (plan_of self.old) before told self.new.place }
     {
         one_transfer_more();
         data_none();

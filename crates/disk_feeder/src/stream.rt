@@ -1,11 +1,10 @@
 //! The blocks of the files' data: one is filled, and kept until it is sealed.
-ghost use Rattle.std.specs.Prelude.{◌≡◌, ◌≢◌, ◌≤◌, ◌<◌, ◌+◌, ◌-◌, ℕ, true, false, length, take, Some, None, Ok, Err, IfOk, IfErr, OnOk, OnErr, IsSome, ◌^◌, slice_get};
+ghost use Rattle.std.specs.Prelude.{◌≡◌, ◌≢◌, ◌≤◌, ◌<◌, ◌+◌, ◌-◌, true, false, length, take, Some, None, Ok, Err, IfOk, IfErr, OnOk, IsSome, ◌^◌, slice_get};
 ghost use Rattle.psr_base.specs.Inputs.{HasReadFrom};
-ghost use Rattle.disk_feeder.specs.Plan.{AreAccepted, begin_at};
-ghost use Rattle.disk_feeder.specs.Sources.{plan_of, current_name, IsEarly, ends_left};
-ghost use Rattle.dada_hdu.specs.Passes.{WritesBoth, data_shape};
-ghost use Rattle.disk_feeder.specs.Turns.{HasRoom, HasHeaderRoom, TurnAnswers, sealed_headers, sealed_blocks};
-ghost use Rattle.disk_feeder.specs.Filling.{FillsTo, HoldsAll, IsSince};
+ghost use Rattle.disk_feeder.specs.Sources.{plan_of, current_name, IsWithin, HasMore, Advances};
+ghost use Rattle.dada_hdu.specs.Passes.{WritesBoth};
+ghost use Rattle.disk_feeder.specs.Turns.{CanSeal, HasHeaderRoom, TurnAnswers, sealed_headers, sealed_blocks};
+ghost use Rattle.disk_feeder.specs.Filling.{FillsBehind, HoldsAll};
 
 use crate::answers::{FeedEnd, FeedFault, FeedTurn};
 use crate::due::Due;
@@ -17,7 +16,7 @@ use obs_plan::Observation;
 use psr_base::{Inputs, Memory};
 use std::alloc::Global;
 // Laws: they do nothing when they run, and the proofs use what they ensure.
-use stream_model::{no_stop_is_whole, streams_are_short, streams_grow};
+use stream_model::{data_none, no_stop_is_whole, streams_are_short, streams_grow};
 
 // Reads on into a block, behind the bytes that it holds.
 fn read_behind<I: Inputs>(
@@ -27,24 +26,13 @@ fn read_behind<I: Inputs>(
     held: usize,
 ) -> Result<usize, FeedEnd>
     requires room { held < length block.old }
-    requires there { source.old.place.transfer < length source.old.starts.now }
-    requires more { source.old.place.file < begin_at source.old.starts.now
-        (length source.old.names.now) (source.old.place.transfer + 1) }
-    requires accepted { AreAccepted (plan_of source.old) }
+    requires more { HasMore source.old }
     requires is_open { source.old.place.is_open ≡ true → I.is_open inputs.old }
-    ensures plan { plan_of source.new ≡ plan_of source.old }
-    ensures transfer { source.new.place.transfer ≡ source.old.place.transfer }
-    ensures place { OnErr result (source.new.place ≡ source.old.place) }
+    ensures on { Advances source.old source.new result }
     ensures bound { IfOk result (λ n. held + n ≤ length block.new) }
     ensures front { take held block.new ≡ take held block.old }
-    ensures progress { IfOk result (λ n. n ≡ 0
-        → ends_left (length source.old.names.now) source.new.place
-        < ends_left (length source.old.names.now) source.old.place) }
-    ensures stays { ends_left (length source.old.names.now) source.new.place
-        ≤ ends_left (length source.old.names.now) source.old.place }
-    ensures read { FillsTo (plan_of source.old) source.old.place (I.told inputs.old)
+    ensures read { FillsBehind (plan_of source.old) source.old.place (I.told inputs.old)
         source.new.place (I.told inputs.new) held block.old block.new result }
-    ensures early { IfErr result (IsEarly (plan_of source.old)) }
     ensures is_open { source.new.place.is_open ≡ true → I.is_open inputs.new }
     ensures inputs { HasReadFrom I.told I.is_calm I.faults (result ≡ Err FeedEnd.ReadFault)
         inputs.old inputs.new }
@@ -79,9 +67,10 @@ pub(crate) struct Stream<'a> {
 
 impl<'a> Stream<'a> {
     ghost use Rattle.stream_model.specs.WalkLaws.{AreStarts};
-    ghost use Rattle.disk_feeder.specs.Beginning.{IsFreshStream, IsBegunStream, LastLeft, RefusesSome, KeepsFiles, AcceptsIn};
-    ghost use Rattle.disk_feeder.specs.Streams.{work_left, KeepsStream, Fills, IsSourceOver};
-    ghost use Rattle.disk_feeder.specs.Feeding.{KeepsPlan, Feeds, AfterSeal, GoesOn, IsFeeding, FitsRings, IsFaultless};
+    ghost use Rattle.disk_feeder.specs.Beginning.{IsFreshStream, IsBegunStream, BreaksFirst, RefusesSome, KeepsFiles, AcceptsIn};
+    ghost use Rattle.disk_feeder.specs.Streams.{work_left, KeepsStream, Fills, IsIdle, IsFilling, HoldsLast, StreamRead, StreamReadsFirsts};
+    ghost use Rattle.psr_base.specs.Told.{Told};
+    ghost use Rattle.disk_feeder.specs.Feeding.{KeepsPlan, Feeds, AfterSeal, GoesOn, IsFeeding, KeepsInputs, StreamStands};
 
     /// Nothing was read. The space for a block of so many bytes, and for all headers, is taken here.
     pub(crate) fn open(
@@ -119,8 +108,10 @@ impl<'a> Stream<'a> {
         requires { IsFreshStream self.old }
         ensures plan { KeepsFiles self.old self.new }
         ensures begun { OnOk result (IsBegunStream (I.told inputs.new) self.new) }
-        ensures left { OnOk result (LastLeft (I.told inputs.old) self.old.source
-            (length self.old.source.starts.now) (I.told inputs.new)) }
+        ensures reads { OnOk result
+            (StreamReadsFirsts (I.told inputs.old) self.old (I.told inputs.new) self.new) }
+        ensures broke { result ≡ Err FeedFault.ReadFault
+            → BreaksFirst (I.told inputs.old) self.old.source (I.told inputs.new) }
         ensures refused { IfErr result (RefusesSome (I.told inputs.old) self.old.source) }
         ensures is_open { OnOk result
             (self.new.source.place.is_open ≡ true → I.is_open inputs.new) }
@@ -130,6 +121,7 @@ impl<'a> Stream<'a> {
             → HoldsAll (I.told inputs.old) (plan_of self.old.source).names
             → result ≢ Err FeedFault.ReadFault }
     {
+        data_none();
         match self.source.read_headers(inputs) {
             Ok(()) => {
                 self.source.start();
@@ -180,13 +172,13 @@ impl<'a> Stream<'a> {
 
     // Opens a file or reads a piece, if the transfer has more data.
     fn step<I: Inputs>(&mut self, inputs: &mut I)
-        requires due { self.old.due ≡ None }
-        requires running { self.old.end ≡ None }
-        requires there { self.old.source.place.transfer < length self.old.source.starts.now }
-        requires accepted { AreAccepted (plan_of self.old.source) }
+        requires idle { IsIdle self.old }
+        requires within { IsWithin self.old.source }
         requires is_open { self.old.source.place.is_open ≡ true → I.is_open inputs.old }
         ensures kept { KeepsStream self.old self.new }
         ensures filled { Fills self.old (I.told inputs.old) self.new (I.told inputs.new) }
+        ensures reads_on { (before : Told) → StreamRead before (I.told inputs.old) self.old
+            → StreamRead before (I.told inputs.new) self.new }
         ensures progress { self.new.due ≡ None → work_left self.new < work_left self.old }
         ensures is_open { self.new.source.place.is_open ≡ true → I.is_open inputs.new }
         ensures inputs { HasReadFrom I.told I.is_calm I.faults
@@ -210,24 +202,16 @@ impl<'a> Stream<'a> {
     // Fills the block until it is to be sealed, and says why.
     fn fill<I: Inputs>(&mut self, inputs: &mut I) -> Due
         requires running { self.old.end ≡ None }
-        requires there { self.old.source.place.transfer < length self.old.source.starts.now }
-        requires accepted { AreAccepted (plan_of self.old.source) }
+        requires within { IsWithin self.old.source }
         requires is_open { self.old.source.place.is_open ≡ true → I.is_open inputs.old }
         ensures due { self.new.due ≡ Some result }
         ensures kept { KeepsStream self.old self.new }
         ensures filled { Fills self.old (I.told inputs.old) self.new (I.told inputs.new) }
+        ensures reads_on { (before : Told) → StreamRead before (I.told inputs.old) self.old
+            → StreamRead before (I.told inputs.new) self.new }
         ensures is_open { self.new.source.place.is_open ≡ true → I.is_open inputs.new }
-        ensures count { I.faults inputs.old ≤ I.faults inputs.new }
-        ensures quiet { self.new.due ≢ Some (Due.Stopped FeedEnd.ReadFault)
-            → I.faults inputs.new ≡ I.faults inputs.old }
-        ensures since { (k : ℕ) → IsSince k (I.faults inputs.old) self.old.due self.old.end
-            → IsSince k (I.faults inputs.new) self.new.due self.new.end }
-        ensures names { (I.told inputs.new).bytes_under ≡ (I.told inputs.old).bytes_under }
-        ensures calm { I.is_calm inputs.old → I.is_calm inputs.new }
-        ensures serves { I.is_calm inputs.old
-            → HoldsAll (I.told inputs.old) (plan_of self.old.source).names
-            → self.old.due ≢ Some (Due.Stopped FeedEnd.ReadFault)
-            → self.new.due ≢ Some (Due.Stopped FeedEnd.ReadFault) }
+        ensures inputs { KeepsInputs I.told I.is_calm I.faults self.old self.new inputs.old
+            inputs.new }
     {
         loop {
             if let Some(due) = self.due {
@@ -251,14 +235,14 @@ impl<'a> Stream<'a> {
 
     // Seals the full block.
     fn seal_full(&mut self, hdu: &Hdu, pass: &mut HduWriter) -> FeedTurn
-        requires ring { WritesBoth hdu.now pass.old }
-        requires size { (data_shape hdu.now).size ≡ length self.old.block.items }
-        requires room { HasRoom hdu.now pass.old }
+        requires block { CanSeal hdu.now (length self.old.block.items) pass.old }
         requires due { self.old.due ≡ Some Due.Full }
         requires running { self.old.end ≡ None }
         ensures ring { WritesBoth hdu.now pass.new }
         ensures after { AfterSeal self.old self.new }
         ensures feeds { Feeds self.old pass.old self.new pass.new }
+        ensures reads_on { (before told : Told) → StreamRead before told self.old
+            → StreamRead before told self.new }
         ensures answer { TurnAnswers pass.old pass.new self.new.end result }
     {
         let size = self.block.len();
@@ -273,18 +257,15 @@ impl<'a> Stream<'a> {
 
     // Seals the rest of a transfer's data.
     fn seal_last(&mut self, hdu: &Hdu, pass: &mut HduWriter) -> FeedTurn
-        requires ring { WritesBoth hdu.now pass.old }
-        requires size { (data_shape hdu.now).size ≡ length self.old.block.items }
-        requires room { HasRoom hdu.now pass.old }
+        requires block { CanSeal hdu.now (length self.old.block.items) pass.old }
         requires due { self.old.due ≡ Some Due.Last }
-        requires running { self.old.end ≡ None }
-        requires header { self.old.header_due ≡ false }
-        requires short { self.old.held < length self.old.block.items }
-        requires there { self.old.source.place.transfer < length self.old.source.starts.now }
-        requires over { IsSourceOver self.old.source }
+        requires filling { IsFilling self.old }
+        requires last { HoldsLast self.old }
         ensures ring { WritesBoth hdu.now pass.new }
         ensures after { AfterSeal self.old self.new }
         ensures feeds { Feeds self.old pass.old self.new pass.new }
+        ensures reads_on { (before told : Told) → StreamRead before told self.old
+            → StreamRead before told self.new }
         ensures answer { TurnAnswers pass.old pass.new self.new.end result }
     {
         streams_grow();
@@ -322,15 +303,15 @@ impl<'a> Stream<'a> {
 
     // Seals that the stream ends early.
     fn seal_cut(&mut self, hdu: &Hdu, pass: &mut HduWriter, end: FeedEnd) -> FeedTurn
-        requires ring { WritesBoth hdu.now pass.old }
-        requires size { (data_shape hdu.now).size ≡ length self.old.block.items }
-        requires room { HasRoom hdu.now pass.old }
+        requires block { CanSeal hdu.now (length self.old.block.items) pass.old }
         requires due { self.old.due ≡ Some (Due.Stopped end) }
         requires running { self.old.end ≡ None }
         requires header { self.old.header_due ≡ false }
         ensures ring { WritesBoth hdu.now pass.new }
         ensures after { AfterSeal self.old self.new }
         ensures feeds { Feeds self.old pass.old self.new pass.new }
+        ensures reads_on { (before told : Told) → StreamRead before told self.old
+            → StreamRead before told self.new }
         ensures answer { TurnAnswers pass.old pass.new self.new.end result }
     {
         match write_block(hdu, pass, &mut self.block, 0, Mark::Cut) {
@@ -364,6 +345,8 @@ impl<'a> Stream<'a> {
         ensures ring { WritesBoth hdu.now pass.new }
         ensures after { AfterSeal self.old self.new }
         ensures feeds { Feeds self.old pass.old self.new pass.new }
+        ensures reads_on { (before told : Told) → StreamRead before told self.old
+            → StreamRead before told self.new }
         ensures answer { TurnAnswers pass.old pass.new self.new.end result }
     {
         match write_header(hdu, pass, self.source.header()) {
@@ -377,18 +360,15 @@ impl<'a> Stream<'a> {
 
     // Seals what is due.
     fn seal(&mut self, hdu: &Hdu, pass: &mut HduWriter, due: Due) -> FeedTurn
-        requires ring { WritesBoth hdu.now pass.old }
-        requires size { (data_shape hdu.now).size ≡ length self.old.block.items }
-        requires room { HasRoom hdu.now pass.old }
+        requires block { CanSeal hdu.now (length self.old.block.items) pass.old }
         requires due { self.old.due ≡ Some due }
-        requires running { self.old.end ≡ None }
-        requires header { self.old.header_due ≡ false }
-        requires there { self.old.source.place.transfer < length self.old.source.starts.now }
-        requires last { due ≡ Due.Last → (self.old.held < length self.old.block.items)
-            × IsSourceOver self.old.source }
+        requires filling { IsFilling self.old }
+        requires last { due ≡ Due.Last → HoldsLast self.old }
         ensures ring { WritesBoth hdu.now pass.new }
         ensures after { AfterSeal self.old self.new }
         ensures feeds { Feeds self.old pass.old self.new pass.new }
+        ensures reads_on { (before told : Told) → StreamRead before told self.old
+            → StreamRead before told self.new }
         ensures answer { TurnAnswers pass.old pass.new self.new.end result }
     {
         match due {
@@ -406,27 +386,19 @@ impl<'a> Stream<'a> {
         pass: &mut HduWriter,
     ) -> FeedTurn
         requires ring { WritesBoth hdu.now pass.old }
-        requires fits { FitsRings hdu.now self.old }
         requires running { self.old.end ≡ None }
-        requires is_open { self.old.source.place.is_open ≡ true → I.is_open inputs.old }
-        requires feeding { IsFeeding self.old (I.told inputs.old) (sealed_headers pass.old)
-            (sealed_blocks pass.old) }
+        requires stands { StreamStands (I.told inputs.old) (I.is_open inputs.old) hdu.now self.old
+            pass.old }
         ensures ring { WritesBoth hdu.now pass.new }
         ensures kept { KeepsPlan self.old self.new }
         ensures is_open { self.new.source.place.is_open ≡ true → I.is_open inputs.new }
         ensures feeding { IsFeeding self.new (I.told inputs.new) (sealed_headers pass.new)
             (sealed_blocks pass.new) }
+        ensures reads_on { (before : Told) → StreamRead before (I.told inputs.old) self.old
+            → StreamRead before (I.told inputs.new) self.new }
         ensures answer { TurnAnswers pass.old pass.new self.new.end result }
-        ensures count { I.faults inputs.old ≤ I.faults inputs.new }
-        ensures quiet { IsFaultless self.new.due self.new.end
-            → I.faults inputs.new ≡ I.faults inputs.old }
-        ensures since { (k : ℕ) → IsSince k (I.faults inputs.old) self.old.due self.old.end
-            → IsSince k (I.faults inputs.new) self.new.due self.new.end }
-        ensures names { (I.told inputs.new).bytes_under ≡ (I.told inputs.old).bytes_under }
-        ensures calm { I.is_calm inputs.old → I.is_calm inputs.new }
-        ensures serves { I.is_calm inputs.old
-            → HoldsAll (I.told inputs.old) (plan_of self.old.source).names
-            → IsFaultless self.old.due self.old.end → IsFaultless self.new.due self.new.end }
+        ensures inputs { KeepsInputs I.told I.is_calm I.faults self.old self.new inputs.old
+            inputs.new }
     {
         streams_are_short();
         if self.header_due {

@@ -3,7 +3,7 @@ ghost use Rattle.std.specs.Prelude.{◌≡◌, ◌≤◌, ◌++◌, [], ◌∷�
 ghost use Rattle.ring_ends.specs.Answers.{FitsMark};
 ghost use Rattle.dada_hdu.specs.Answers.{entry, header_entry};
 ghost use Rattle.dada_hdu.specs.Passes.{WritesBoth, data_shape};
-ghost use Rattle.disk_feeder.specs.Turns.{HasRoom, HasHeaderRoom, FindsFull, sealed_headers, sealed_blocks};
+ghost use Rattle.disk_feeder.specs.Turns.{CanSeal, HasHeaderRoom, FindsFull, sealed_headers, sealed_blocks};
 
 use dada_hdu::{Hdu, HduWriter, Mark, WriteStop};
 use dada_header::Header;
@@ -24,11 +24,9 @@ pub(crate) fn write_block(
     used: usize,
     mark: Mark,
 ) -> Result<(), LateReader>
-    requires ring { WritesBoth hdu.now pass.old }
-    requires size { (data_shape hdu.now).size ≡ length space.old.items }
+    requires block { CanSeal hdu.now (length space.old.items) pass.old }
     requires within { used ≤ length space.old.items }
     requires fits { FitsMark (data_shape hdu.now).size mark (take used space.old.items) }
-    requires room { HasRoom hdu.now pass.old }
     ensures ring { WritesBoth hdu.now pass.new }
     ensures sealed { OnOk result (sealed_blocks pass.new
         ≡ sealed_blocks pass.old ++ entry mark (take used space.old.items) ∷ []) }

@@ -1,9 +1,10 @@
 // A loop over one feeder and one reader: what was sealed, and how it ended.
-ghost use Rattle.std.specs.Prelude.{◌≡◌, ◌≤◌, ◌<◌, ◌+◌, ◌/◌, ◌^◌, map, string_bytes, length, None, true, false, Ok, [], take, IsTrue, OnOk};
+ghost use Rattle.std.specs.Prelude.{◌≡◌, ◌≤◌, ◌<◌, ◌+◌, ◌/◌, ◌^◌, map, string_bytes, length, None, true, false, Ok, [], take, IsTrue};
 ghost use Rattle.stream_model.specs.WalkLaws.{AreStarts};
 ghost use Rattle.dada_hdu.specs.Passes.{WritesBoth, ReadsBoth, data_shape};
-ghost use Rattle.disk_feeder.specs.Feeder.{FeederFits, FeederFeeds, HasOpenFile, HasPlan, IsBegun, IsFresh, IsSpaceFor, SamePlan, header_at, has_end};
+ghost use Rattle.disk_feeder.specs.Feeder.{FeederFeeds, HasPlan, IsBegun, IsFresh, IsSpaceFor, KeepsBegun, header_at, has_end};
 ghost use Rattle.disk_feeder.specs.Feeding.{header_entries};
+ghost use Rattle.disk_feeder.specs.Resting.{FeederStands};
 ghost use Rattle.disk_feeder.specs.Turns.{sealed_headers, sealed_blocks};
 
 use crate::files::put_files;
@@ -126,13 +127,10 @@ fn accept_all<I: Inputs>(
     requires count { length (header_at feeder.old) ≡ transfers }
     requires some { 0 < transfers }
     ensures same_reference { feeder.new.inputs.ghost_name ≡ feeder.old.inputs.ghost_name }
-    ensures plan { OnOk result (SamePlan feeder.old feeder.new) }
-    ensures headers { header_at feeder.new ≡ header_at feeder.old }
+    ensures inputs { feeder.new.inputs.now ≡ feeder.old.inputs.now }
+    ensures kept { KeepsBegun feeder.old feeder.new }
     ensures feeds { result ≡ Ok true → FeederFeeds (I.told feeder.new.inputs.now) feeder.new
         (header_entries (take 1 (header_at feeder.new))) [] }
-    ensures running { result ≡ Ok true → has_end feeder.new ≡ None }
-    ensures reading { HasOpenFile feeder.new → HasOpenFile feeder.old }
-    ensures inputs { feeder.new.inputs.now ≡ feeder.old.inputs.now }
 {
     for k in 0..transfers {
         let Ok(observation) = Observation::of(alloc, feeder.header(k)) else {
@@ -151,18 +149,12 @@ fn take_turn<I: Inputs>(
     fed: &mut Fed,
 ) -> Result<bool, Fail>
     requires writes { WritesBoth hdu.now pass.old }
-    requires fits { FeederFits hdu.now feeder.old }
     requires running { has_end feeder.old ≡ None }
-    requires is_open { HasOpenFile feeder.old → I.is_open feeder.old.inputs.now }
-    requires feeding { FeederFeeds (I.told feeder.old.inputs.now) feeder.old
-        (sealed_headers pass.old) (sealed_blocks pass.old) }
+    requires stands { FeederStands I.told I.is_open hdu.now feeder.old pass.old }
     ensures writes { WritesBoth hdu.now pass.new }
     ensures same_reference { feeder.new.inputs.ghost_name ≡ feeder.old.inputs.ghost_name }
-    ensures fits { FeederFits hdu.now feeder.new }
     ensures running { result ≡ Ok false → has_end feeder.new ≡ None }
-    ensures is_open { HasOpenFile feeder.new → I.is_open feeder.new.inputs.now }
-    ensures feeding { FeederFeeds (I.told feeder.new.inputs.now) feeder.new
-        (sealed_headers pass.new) (sealed_blocks pass.new) }
+    ensures stands { FeederStands I.told I.is_open hdu.now feeder.new pass.new }
 {
     let turn = feeder.turn(hdu, pass);
     fed.note_turn(turn)?;
@@ -182,11 +174,8 @@ fn take_turns<I: Inputs>(
     requires reads { ReadsBoth hdu.now reader.old }
     requires room { 65537 ≤ length space.old }
     requires size { (data_shape hdu.now).size ≤ length space.old }
-    requires fits { FeederFits hdu.now feeder.old }
     requires running { has_end feeder.old ≡ None }
-    requires is_open { HasOpenFile feeder.old → I.is_open feeder.old.inputs.now }
-    requires feeding { FeederFeeds (I.told feeder.old.inputs.now) feeder.old
-        (sealed_headers pass.old) (sealed_blocks pass.old) }
+    requires stands { FeederStands I.told I.is_open hdu.now feeder.old pass.old }
 {
     for turn in 0..200 {
         if take_turn(feeder, hdu, pass, fed)? {
@@ -215,8 +204,8 @@ fn write_first<I: Inputs>(feeder: &Feeder<'_, I>, hdu: &Hdu, pass: &mut HduWrite
     }
 }
 
-// The starts of transfers among so many files, where there are one or two.
-fn are_starts(starts: &[u32], count: usize) -> bool
+/// The starts of transfers among so many files, where there are one or two.
+pub(crate) fn are_starts(starts: &[u32], count: usize) -> bool
     ensures starts { IsTrue result → AreStarts starts.now count }
     ensures few { IsTrue result → length starts.now ≤ 2 }
 {

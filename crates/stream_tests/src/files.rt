@@ -19,13 +19,19 @@ long | HDR_SIZE 8192 | 8192 | uvw
 short | | 100
 ";
 
-fn put_file(alloc: Global, inputs: &mut MemInputs, file: &'static str) -> Result<(), Fail> {
-    let [name, line, size, data, _] = fields_of(file);
+/// A file with a line of its own before those of all headers, a header of so many bytes, and data.
+pub(crate) fn file_of(alloc: Global, line: &str, size: usize, data: &str) -> Result<Vec<u8>, Fail> {
     let mut bytes = Vec::from_slice(alloc, line.as_bytes())?;
     bytes.push(b'\n')?;
     bytes.extend_from_slice(HEAD.as_bytes())?;
-    bytes.resize(size.parse::<usize>()?, 0)?;
+    bytes.resize(size, 0)?;
     bytes.extend_from_slice(data.as_bytes())?;
+    Ok(bytes)
+}
+
+fn put_file(alloc: Global, inputs: &mut MemInputs, file: &'static str) -> Result<(), Fail> {
+    let [name, line, size, data, _] = fields_of(file);
+    let bytes = file_of(alloc, line, size.parse::<usize>()?, data)?;
     Ok(inputs.put(name, bytes.as_slice())?)
 }
 

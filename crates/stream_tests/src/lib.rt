@@ -11,6 +11,8 @@ mod feeds;
 #[cfg(test)]
 mod files;
 #[cfg(test)]
+mod firsts;
+#[cfg(test)]
 mod fitting;
 #[cfg(test)]
 mod lending;

@@ -2,7 +2,7 @@
 ghost use Rattle.std.specs.Prelude.{◌≡◌, ◌^◌, ◌≤◌, ◌<◌, length, None, [], true, All, IsTrue};
 ghost use Rattle.dada_hdu.specs.Passes.{WritesBoth, ReadsBoth, data_shape};
 ghost use Rattle.dada_recorder.specs.Making.{IsOpenAs};
-ghost use Rattle.dada_recorder.specs.Recorder.{block_size, has_end, has_open_file, RecorderStands};
+ghost use Rattle.dada_recorder.specs.Recorder.{block_size, has_end, has_open_file, RecorderStands, IsSameRecorder};
 ghost use Rattle.dada_recorder.specs.Turns.{cleared_headers, cleared_blocks};
 
 use crate::rings::{Rings, open_rings};
@@ -150,8 +150,7 @@ fn take_turn<F: Files>(
     requires stands { RecorderStands recorder.old (cleared_headers reader.old)
         (cleared_blocks reader.old) }
     ensures reads { ReadsBoth hdu.now reader.new }
-    ensures same_reference { recorder.new.files.ghost_name ≡ recorder.old.files.ghost_name }
-    ensures size { block_size recorder.new ≡ block_size recorder.old }
+    ensures kept { IsSameRecorder recorder.old recorder.new }
     ensures running { result ≡ None → has_end recorder.new ≡ None }
     ensures is_open { result ≡ None
         → IsOpenAs (has_open_file recorder.new) (F.is_open recorder.new.files.now) }

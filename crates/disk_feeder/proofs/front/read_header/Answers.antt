@@ -3,8 +3,9 @@ use Rattle.dada_model.specs.Fields.{HeaderText, header_of}
 use Rattle.dada_header.specs.Faults.{IsHeaderRefusal}
 use Rattle.dada_header.specs.declared.faults.HeaderFault.{HeaderFault}
 use Rattle.dada_header.specs.declared.faults.HeaderFault.TheVariants.{Short, NotText, BadSize, Memory}
-use Rattle.psr_base.specs.Told.{left_to_read}
+use Rattle.psr_base.specs.Told.{left_to_read, opened, moved_by}
 use Rattle.stream_model.specs.Walk.{data_of, data_past}
+use Rattle.disk_feeder.proofs.Fronts.{front_is}
 use Rattle.disk_feeder.proofs.front.read_header.Goals as goal
 
 -- the fault of the first bytes is that of the file
@@ -37,3 +38,12 @@ pub returns-in-Err-read_again-clause-stopped : goal.returns-in-Err-read_again-cl
 returns-in-Err-read_again-clause-stopped g c = λ file known.
     fault_of_file (take c.in-Ok.n c.open_front.new.space) file c.in-Err-read_again.fault
     (c.in-Ok.ensures.front file known).header c.in-Err-read_again.ensures.fault.0
+
+pub returns-in-Ok-read_again-clause-read : goal.returns-in-Ok-read_again-clause-read
+returns-in-Ok-read_again-clause-read g c = λ file known.
+    let h = c.read_again.new.self in
+    let has : header_of file ≡ Ok h =
+    sym (c.in-Ok.ensures.front file known).header ∙ c.in-Ok-read_again.ensures.ok in
+    c.in-Ok.ensures.whole file known h has
+    ∙ ap (λ (n : ℕ). moved_by n (opened c.args.name.now (g.I.Inputs.told c.args.inputs.now)))
+    (sym (front_is file h has))

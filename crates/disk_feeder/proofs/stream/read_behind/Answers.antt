@@ -35,11 +35,13 @@ fills plan at at' told told' held k xs ys (Err end) in_xs count bound reads = λ
     subst P count (reads before current has)
 
 pub returns-clause-read : goal.returns-clause-read
-returns-clause-read g c =
-    fills (plan_of c.args.source.now) c.args.source.now.place c.advance.new.self.place
-    (g.I.Inputs.told c.args.inputs.now) (g.I.Inputs.told c.advance.new.inputs) c.args.held
-    (length c.args.block.now - c.args.held) c.args.block.now c.advance.new.into c.advance.result (omega arith)
-    (search rules) c.advance.ensures.bound c.advance.ensures.read
+returns-clause-read g c = record {
+  filled = fills (plan_of c.args.source.now) c.args.source.now.place c.advance.new.self.place
+      (g.I.Inputs.told c.args.inputs.now) (g.I.Inputs.told c.advance.new.inputs) c.args.held
+      (length c.args.block.now - c.args.held) c.args.block.now c.advance.new.into c.advance.result (omega arith)
+      (search rules) c.advance.ensures.bound c.advance.ensures.read;
+  reads_on = c.advance.ensures.reads_on;
+}
 
 pub returns-clause-front : goal.returns-clause-front
 returns-clause-front g c =

@@ -1,7 +1,7 @@
 use Rattle.std.proofs.Common.{sym, ap, ◌∙◌, rules}
 use Rattle.std.specs.Prelude.{slice_get}
 use Rattle.disk_feeder.specs.Beginning.{IsBegunStream}
-use Rattle.disk_feeder.proofs.Accepting.{first_is}
+use Rattle.disk_feeder.proofs.Accepting.{first_is, keeps_begun}
 use Rattle.disk_feeder.proofs.Beginnings.{begins_feeding}
 use Rattle.disk_feeder.proofs.feeder.Feeder.accept.Goals as goal
 
@@ -23,3 +23,10 @@ returns-clause-accepts g c =
           (c.requires.accepted header (ap (λ v. slice_get v.items c.args.transfer) (sym a.headers) ∙ at));
       others = λ k header other was. (was.0, a.others k other ∙ was.1, was.2);
     }
+
+pub returns-clause-kept : goal.returns-clause-kept
+returns-clause-kept g c =
+    let old = c.args.self.now in
+    keeps_begun old (record old { stream = c.accept.new.self }) c.args.transfer c.args.observation.now
+    (g.I.Inputs.told old.inputs.now) c.requires.begun c.accept.ensures.source c.accept.ensures.block
+    c.accept.ensures.due c.accept.ensures.end

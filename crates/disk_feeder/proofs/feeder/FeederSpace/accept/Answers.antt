@@ -1,7 +1,8 @@
 use Rattle.std.proofs.Common.{sym, ap, ◌∙◌, rules}
 use Rattle.std.specs.Prelude.{slice_get}
 use Rattle.disk_feeder.specs.Beginning.{IsBegunStream}
-use Rattle.disk_feeder.proofs.Accepting.{first_is}
+use Rattle.disk_feeder.specs.Resting.{at_rest}
+use Rattle.disk_feeder.proofs.Accepting.{first_is, keeps_begun}
 use Rattle.disk_feeder.proofs.Beginnings.{begins_feeding}
 use Rattle.disk_feeder.proofs.feeder.FeederSpace.accept.Goals as goal
 
@@ -22,3 +23,10 @@ returns-clause-accepts c =
           (c.requires.accepted header (ap (λ v. slice_get v.items c.args.transfer) (sym a.headers) ∙ at));
       others = λ k header other was. (was.0, a.others k other ∙ was.1, was.2);
     }
+
+pub returns-clause-kept : goal.returns-clause-kept
+returns-clause-kept c =
+    let old = c.args.self.now in
+    keeps_begun (at_rest old) (at_rest (record old { stream = c.accept.new.self })) c.args.transfer
+    c.args.observation.now c.requires.begun.0 c.requires.begun.1 c.accept.ensures.source c.accept.ensures.block
+    c.accept.ensures.due c.accept.ensures.end

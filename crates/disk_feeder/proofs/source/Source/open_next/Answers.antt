@@ -1,4 +1,4 @@
-use Rattle.std.proofs.Common.{◌≡◌, ℕ, ◌+◌, List, [], Option, Some, None, Ok, Err, refl, sym, ap, ◌∙◌, subst, length, arith}
+use Rattle.std.proofs.Common.{◌≡◌, ℕ, ◌+◌, true, List, [], Option, Some, None, Ok, Err, refl, sym, ap, ◌∙◌, subst, length, arith}
 use Rattle.std.specs.Prelude.{slice_get, slice_index_or}
 use Rattle.dada_model.specs.Fields.{HeaderText, HeaderRefusal, header_of, fields_of, ShortHeader, BadHeaderSize, NotTextAt}
 use Rattle.dada_header.specs.Faults.{IsHeaderRefusal}
@@ -17,9 +17,11 @@ use Rattle.disk_feeder.specs.declared.place.Place.{Place}
 use Rattle.disk_feeder.specs.declared.source.Source.{Source}
 use Rattle.disk_feeder.specs.Ends.{IsStop, IsOfHeader, fault_of}
 use Rattle.disk_feeder.specs.Plan.{Plan, stream_of, AreTold, AreAccepted}
+use Rattle.disk_feeder.specs.History.{ReadsUpTo, BreaksOffAt}
 use Rattle.disk_feeder.specs.Reached.{WalkGoesOn}
 use Rattle.disk_feeder.specs.Reading.{HasRead, EndsReading}
 use Rattle.disk_feeder.specs.Sources.{plan_of, RefusesText}
+use Rattle.disk_feeder.proofs.Histories.{opened_on, broken_on, stands_shut, shut_breaks}
 use Rattle.disk_feeder.proofs.Openings.{Opens, stop_is, opened_at, stopped_at, front_at}
 use Rattle.disk_feeder.proofs.Streams.{told_before, begin_most}
 use Rattle.disk_feeder.proofs.OfSource.{opens}
@@ -74,7 +76,8 @@ by_text plan told told' at before current o has transfers counts join goes room 
 
 pub first-requires-clause-accepted : goal.first-requires-clause-accepted
 first-requires-clause-accepted g c =
-    let P : Plan → Type 0 = λ plan. AreAccepted plan in subst P (sym c.in-Ok.ensures.plan) c.requires.accepted
+    let P : Plan → Type 0 = λ plan. AreAccepted plan in
+    subst P (sym c.in-Ok.ensures.stays.plan) c.requires.more.accepted
 
 -- the bytes of the file of a place
 known_at : (plan : Plan) (told told' : Told) (at : Place) (files : List (List ℕ)) → Opens plan told told' at →
@@ -117,9 +120,10 @@ returns-in-Ok-judge-clause-read g c = λ before current has.
     let told = g.I.Inputs.told c.args.inputs.now in
     let told' = g.I.Inputs.told c.open_file.new.inputs in
     let o : Opens plan told told' at =
-    opens source told told' c.requires.shut c.requires.there c.requires.more c.open_file.ensures.inputs.names in
+    opens source told told' c.requires.shut c.requires.more.there c.requires.more.more
+    c.open_file.ensures.inputs.names in
     let first = c.first.result in
-    let there = first_is source new first c.in-Ok.ensures.plan c.in-Ok.ensures.place c.first.ensures in
+    let there = first_is source new first c.in-Ok.ensures.stays.plan c.in-Ok.ensures.stays.place c.first.ensures in
     record {
       accepted = has.accepted;
       transfers = has.transfers;
@@ -135,7 +139,7 @@ returns-in-Ok-judge-clause-read g c = λ before current has.
           (stop_is plan told told' at before current o has c.files_are_in_transfers.ensures files are first there
           source.headed
           ∙ judged_stop at.file first at.since file new.later (c.in-Ok.ensures.header file known)
-          ∙ subst Q c.in-Ok.ensures.place c.in-Ok-judge.ensures.judged)
+          ∙ subst Q c.in-Ok.ensures.stays.place c.in-Ok-judge.ensures.judged)
           (c.in-Ok.ensures.left file known);
     }
 
@@ -148,9 +152,10 @@ returns-in-Err-judge-clause-read g c = λ before current has room files are.
     let told = g.I.Inputs.told c.args.inputs.now in
     let told' = g.I.Inputs.told c.open_file.new.inputs in
     let o : Opens plan told told' at =
-    opens source told told' c.requires.shut c.requires.there c.requires.more c.open_file.ensures.inputs.names in
+    opens source told told' c.requires.shut c.requires.more.there c.requires.more.more
+    c.open_file.ensures.inputs.names in
     let first = c.first.result in
-    let there = first_is source new first c.in-Ok.ensures.plan c.in-Ok.ensures.place c.first.ensures in
+    let there = first_is source new first c.in-Ok.ensures.stays.plan c.in-Ok.ensures.stays.place c.first.ensures in
     let file = file_at (stream_of plan files) at.file in
     let known = known_at plan told told' at files o are in
     let Q : Place → Type 0 = λ pl. IsStop (offset_stop pl.file (first.offset + pl.since)
@@ -162,7 +167,7 @@ returns-in-Err-judge-clause-read g c = λ before current has room files are.
     (stop_is plan told told' at before current o has c.files_are_in_transfers.ensures files are first there
     source.headed
     ∙ judged_stop at.file first at.since file new.later (c.in-Ok.ensures.header file known))
-    (subst Q c.in-Ok.ensures.place c.in-Err-judge.ensures.judged) c.in-Err-judge.ensures.kind
+    (subst Q c.in-Ok.ensures.stays.place c.in-Err-judge.ensures.judged) c.in-Err-judge.ensures.kind
 
 pub returns-in-Err-clause-read : goal.returns-in-Err-clause-read
 returns-in-Err-clause-read g c = λ before current has room files are.
@@ -172,7 +177,55 @@ returns-in-Err-clause-read g c = λ before current has room files are.
     let told = g.I.Inputs.told c.args.inputs.now in
     let told' = g.I.Inputs.told c.open_file.new.inputs in
     let o : Opens plan told told' at =
-    opens source told told' c.requires.shut c.requires.there c.requires.more c.open_file.ensures.inputs.names in
+    opens source told told' c.requires.shut c.requires.more.there c.requires.more.more
+    c.open_file.ensures.inputs.names in
     by_text plan told told' at before current o has c.files_are_in_transfers.ensures c.first_stop_counts.ensures
     c.data_join.ensures c.walk_goes_on.ensures room files are c.in-Err.end
-    (c.in-Err.ensures.stopped (file_at (stream_of plan files) at.file) (known_at plan told told' at files o are))
+    (c.in-Err.ensures.stopped.1 (file_at (stream_of plan files) at.file) (known_at plan told told' at files o are))
+
+-- ---- what was read
+
+pub returns-in-Ok-judge-clause-reads_on : goal.returns-in-Ok-judge-clause-reads_on
+returns-in-Ok-judge-clause-reads_on g c = λ before reads.
+    let source = c.args.self.now in
+    let plan = plan_of source in
+    let at = source.place in
+    let told = g.I.Inputs.told c.args.inputs.now in
+    let told' = g.I.Inputs.told c.open_file.new.inputs in
+    let o : Opens plan told told' at =
+    opens source told told' c.requires.shut c.requires.more.there c.requires.more.more
+    c.open_file.ensures.inputs.names in
+    let P : Place → Type 0 = λ pl. ReadsUpTo plan before told' (record pl { is_open = true }) in
+    subst P (sym c.in-Ok.ensures.stays.place) (λ files are.
+    let s = stream_of plan files in
+    opened_on plan.names s before told told' at.transfer at.file at.since
+    (stands_shut at.is_open plan.names s before told at o.shut
+    (reads files (told_before told told' plan.names files o.names are)))
+    (c.in-Ok.ensures.read (file_at s at.file) (known_at plan told told' at files o are)))
+
+-- an end that a header gives is no fault
+no_fault : (end : FeedEnd) → IsOfHeader end → end ≡ ReadFault → ⊥
+no_fault end kind failed = let P : FeedEnd → Type 0 = λ e. IsOfHeader e in subst P failed kind
+
+pub returns-in-Err-judge-clause-reads_on : goal.returns-in-Err-judge-clause-reads_on
+returns-in-Err-judge-clause-reads_on g c = λ before reads failed.
+    absurd (no_fault c.in-Err-judge.end c.in-Err-judge.ensures.kind failed)
+
+pub returns-in-Err-clause-reads_on : goal.returns-in-Err-clause-reads_on
+returns-in-Err-clause-reads_on g c = λ before reads failed.
+    let source = c.args.self.now in
+    let plan = plan_of source in
+    let at = source.place in
+    let told = g.I.Inputs.told c.args.inputs.now in
+    let told' = g.I.Inputs.told c.open_file.new.inputs in
+    let o : Opens plan told told' at =
+    opens source told told' c.requires.shut c.requires.more.there c.requires.more.more
+    c.open_file.ensures.inputs.names in
+    let P : Place → Type 0 = λ pl. BreaksOffAt plan before told' pl in
+    subst P (sym c.in-Err.ensures.stays.place) (λ files are.
+    let s = stream_of plan files in
+    shut_breaks at.is_open plan.names s before told' at o.shut
+    (broken_on plan.names s before told told' at.transfer at.file at.since
+    (stands_shut at.is_open plan.names s before told at o.shut
+    (reads files (told_before told told' plan.names files o.names are)))
+    (c.in-Err.ensures.broke (ap Err failed) (file_at s at.file) (known_at plan told told' at files o are))))

@@ -1,11 +1,16 @@
-use Rattle.std.proofs.Common.{ℕ, ◌+◌, [], ◌++◌, length, take, sym, ap, subst}
+use Rattle.std.proofs.Common.{◌≡◌, ℕ, ◌+◌, ◌<◌, List, [], ◌++◌, Some, length, take, drop, sym, ap, ◌∙◌, subst, arith}
 use Rattle.psr_base.specs.Told.{Told, GivesNext}
 use Rattle.disk_feeder.specs.declared.answers.FeedEnd.{FeedEnd}
 use Rattle.disk_feeder.specs.declared.place.Place.{Place}
-use Rattle.disk_feeder.specs.Plan.{stream_of}
+use Rattle.stream_model.specs.Walk.{file_at}
+use Rattle.disk_feeder.specs.History.{file_name, IsReadUpTo, ReadsUpTo}
+use Rattle.disk_feeder.specs.Plan.{Plan, stream_of, AreTold}
 use Rattle.disk_feeder.specs.Reading.{HasRead, EndsReading}
 use Rattle.disk_feeder.specs.Sources.{plan_of}
-use Rattle.disk_feeder.proofs.Readings.{has_closed, has_took, left, left_is, too_long, front_open}
+use Rattle.disk_feeder.proofs.Histories as history
+use Rattle.disk_feeder.proofs.Histories.{closed_on, read_more, stands_open, open_stands, open_breaks}
+use Rattle.disk_feeder.proofs.Streams.{told_before, begin_most, is_in}
+use Rattle.disk_feeder.proofs.Readings.{Reads, has_closed, has_took, left, left_is, too_long, front_open}
 use Rattle.disk_feeder.proofs.OfSource.{reads}
 use Rattle.disk_feeder.proofs.source.Source.read.Goals as goal
 
@@ -40,7 +45,7 @@ returns-in-Ok-count-clause-read g c = λ before current has.
     (has_took plan told told' source.place before current
     (reads source told told' c.requires.opened (ap (λ (t : Told). t.bytes_under) c.in-Ok.ensures.moved)) has n
     c.read.new.into c.in-Ok.ensures.bound
-    c.in-Ok.ensures.next c.in-Ok.ensures.moved))
+    c.in-Ok.ensures.next (c.in-Ok.ensures.moved ∙ c.reads_join.ensures.some n told c.if-n-eq0.false)))
 
 pub returns-in-Err-count-clause-read : goal.returns-in-Err-count-clause-read
 returns-in-Err-count-clause-read g c = λ before current has files are.
@@ -68,3 +73,88 @@ returns-in-Err-clause-read g c = λ before current has files are.
     front_open plan told told' source.place before current
     (reads source told told' c.requires.opened (ap (λ (t : Told). t.bytes_under) c.in-Err.ensures.unchanged)) has files
     are c.walk_goes_on.ensures c.data_join.ensures
+
+-- ---- what was read
+
+-- the file of a place is there
+below : (plan : Plan) (told told' : Told) (at : Place) (files : List (List ℕ)) → Reads plan told told' at →
+    AreTold told' plan.names files → at.file < length files
+below plan told told' at files o are =
+    let most = begin_most plan.starts (length plan.names) at.transfer o.starts o.there in
+    let upto = o.upto in
+    let count = are.count in
+    omega arith
+
+-- its bytes are told
+known_at : (plan : Plan) (told told' : Told) (at : Place) (files : List (List ℕ)) → Reads plan told told' at →
+    AreTold told' plan.names files →
+    told.bytes_under (file_name plan.names at.file) ≡ Some (file_at (stream_of plan files) at.file)
+known_at plan told told' at files o are =
+    let there = below plan told told' at files o are in
+    (told_before told told' plan.names files o.names are).each at.file (let count = are.count in omega arith)
+
+-- it is read
+reading_now : (plan : Plan) (told told' before : Told) (at : Place) (files : List (List ℕ)) →
+    Reads plan told told' at → AreTold told' plan.names files → ReadsUpTo plan before told at →
+    IsReadUpTo plan.names (stream_of plan files) before told at.transfer at.file at.since
+reading_now plan told told' before at files o are reads =
+    stands_open at.is_open plan.names (stream_of plan files) before told at o.opened
+    (reads files (told_before told told' plan.names files o.names are))
+
+pub returns-then-n-eq0-clause-reads_on : goal.returns-then-n-eq0-clause-reads_on
+returns-then-n-eq0-clause-reads_on g c = λ before reads_so_far.
+    let source = c.args.self.now in
+    let plan = plan_of source in
+    let at = source.place in
+    let told = g.I.Inputs.told c.args.inputs.now in
+    let told' = g.I.Inputs.told c.read.new.self in
+    let o = reads source told told' c.requires.opened (ap (λ (t : Told). t.bytes_under) c.in-Ok.ensures.moved) in
+    let P : Place → Type 0 = λ pl. ReadsUpTo plan before told' pl in
+    subst P (sym c.close_file.ensures.place) (λ files are.
+    let s = stream_of plan files in
+    let was = reading_now plan told told' before at files o are reads_so_far in
+    let inside = is_in plan told' files are at.transfer at.file o.there o.from o.upto in
+    closed_on plan.names s before told told' at.transfer at.file at.since c.reads_join.ensures c.data_grow.ensures was
+    (c.in-Ok.ensures.moved ∙ c.reads_join.ensures.none c.in-Ok.n told c.if-n-eq0.true)
+    ((c.in-Ok.ensures.next (drop was.place (file_at s at.file))
+    (history.left_is plan.names s before told told' at.transfer at.file at.since was
+    (known_at plan told told' at files o are))).ends c.if-n-eq0.true)
+    inside.from (below plan told told' at files o are))
+
+pub returns-in-Ok-count-clause-reads_on : goal.returns-in-Ok-count-clause-reads_on
+returns-in-Ok-count-clause-reads_on g c = λ before reads_so_far.
+    let source = c.args.self.now in
+    let plan = plan_of source in
+    let at = source.place in
+    let told = g.I.Inputs.told c.args.inputs.now in
+    let told' = g.I.Inputs.told c.read.new.self in
+    let n = c.in-Ok.n in
+    let o = reads source told told' c.requires.opened (ap (λ (t : Told). t.bytes_under) c.in-Ok.ensures.moved) in
+    let P : Place → Type 0 = λ pl. ReadsUpTo plan before told' pl in
+    subst P (sym c.in-Ok-count.ensures.counted.1) (λ files are.
+    let s = stream_of plan files in
+    let was = reading_now plan told told' before at files o are reads_so_far in
+    let next : Place = record at { since = at.since + n; total = at.total + n } in
+    open_stands at.is_open plan.names s before told' next o.opened
+    (read_more plan.names s before told told' at.transfer at.file at.since c.reads_join.ensures was n
+    (c.in-Ok.ensures.moved ∙ c.reads_join.ensures.some n told c.if-n-eq0.false)
+    (c.in-Ok.ensures.next (drop was.place (file_at s at.file))
+    (history.left_is plan.names s before told told' at.transfer at.file at.since was
+    (known_at plan told told' at files o are))).within))
+
+pub returns-in-Err-count-clause-reads_on : goal.returns-in-Err-count-clause-reads_on
+returns-in-Err-count-clause-reads_on g c = λ before reads_so_far failed.
+    let too_long = c.in-Err-count.ensures.counted.0 in absurd cc
+
+pub returns-in-Err-clause-reads_on : goal.returns-in-Err-clause-reads_on
+returns-in-Err-clause-reads_on g c = λ before reads_so_far failed files are.
+    let source = c.args.self.now in
+    let plan = plan_of source in
+    let at = source.place in
+    let told = g.I.Inputs.told c.args.inputs.now in
+    let told' = g.I.Inputs.told c.read.new.self in
+    let s = stream_of plan files in
+    let o = reads source told told' c.requires.opened (ap (λ (t : Told). t.bytes_under) c.in-Err.ensures.unchanged) in
+    let P : Told → Type 0 = λ t. IsReadUpTo plan.names s before t at.transfer at.file at.since in
+    open_breaks at.is_open plan.names s before told' at o.opened
+    (subst P (sym c.in-Err.ensures.unchanged) (reading_now plan told told' before at files o are reads_so_far))

@@ -1,12 +1,14 @@
-use Rattle.std.proofs.Common.{◌≡◌, ℕ, ◌<◌, List, [], Option, Some, length, get_or, map, refl, sym, ap, ◌∙◌, subst, inl, inr, arith}
+use Rattle.std.proofs.Common.{◌≡◌, ℕ, suc, ◌+◌, ◌<◌, List, [], Option, Some, length, get_or, map, refl, sym, ap, ◌∙◌, subst, inl, inr, arith}
 use Rattle.std.specs.Prelude.{slice_get, slice_index_or, string_bytes}
 use Rattle.std.proofs.lemmas.Bool.{cases_eq}
 use Rattle.std.proofs.lemmas.Option.{slice_get-get_or}
 use Rattle.dada_model.specs.Fields.{HeaderText}
-use Rattle.psr_base.specs.Told.{Told}
+use Rattle.psr_base.specs.Told.{Told, opened, moved_by}
 use Rattle.disk_feeder.specs.declared.source.Source.{Source}
 use Rattle.disk_feeder.specs.Plan.{begin_at}
 use Rattle.disk_feeder.specs.Sources.{first_name, KeepsHeaders, RefusesFirst}
+use Rattle.disk_feeder.specs.Front.{front_of, BreaksAt}
+use Rattle.disk_feeder.specs.History.{firsts_read}
 use Rattle.disk_feeder.specs.Beginning.{KeepsSource}
 use Rattle.disk_feeder.proofs.source.Source.read_headers.Goals as goal
 
@@ -34,6 +36,46 @@ told_still old now told told' k j file kept names same known =
     ∙ ap (λ (i : ℕ). told.bytes_under (first_name old i)) (sym same)
     ∙ known
 
+-- no first header was read yet
+none_read : (name_of file_of : ℕ → List ℕ) (told : Told) → told ≡ firsts_read name_of file_of 0 told
+unfolding firsts_read
+none_read name_of file_of told = refl
+
+pub loop-transfer-init : goal.loop-transfer-init
+loop-transfer-init g c =
+    let told = g.I.Inputs.told c.args.inputs.now in
+    record {
+      kept = record { names = refl; starts = refl; limit = refl; firsts = refl; place = refl };
+      headers = λ k below. absurd (omega arith);
+      left = λ k last. absurd (omega arith);
+      read = λ file_of are. none_read (first_name c.args.self.now) file_of told;
+      is_open = λ some. absurd (omega arith);
+      names = refl;
+      quiet = refl;
+      count = omega arith;
+      calm = λ calm. calm;
+    }
+
+-- one first header more was read
+one_more : (name_of file_of : ℕ → List ℕ) (t : ℕ) (old mid new : Told) (name : List ℕ) →
+    mid ≡ firsts_read name_of file_of t old → name ≡ name_of t →
+    new ≡ moved_by (front_of (file_of t)) (opened name mid) → new ≡ firsts_read name_of file_of (t + 1) old
+unfolding firsts_read
+one_more name_of file_of t old mid new name so_far named read =
+    let next : suc t ≡ t + 1 = omega arith in
+    read ∙ ap (λ (n : List ℕ). moved_by (front_of (file_of t)) (opened n mid)) named
+    ∙ ap (λ (m : Told). moved_by (front_of (file_of t)) (opened (name_of t) m)) so_far
+    ∙ ap (λ (n : ℕ). firsts_read name_of file_of n old) next
+
+-- a fault came at the next
+breaks_next : (name_of file_of : ℕ → List ℕ) (t : ℕ) (old mid new : Told) (name : List ℕ) →
+    mid ≡ firsts_read name_of file_of t old → name ≡ name_of t → BreaksAt name (file_of t) mid new →
+    BreaksAt (name_of t) (file_of t) (firsts_read name_of file_of t old) new
+breaks_next name_of file_of t old mid new name so_far named breaks =
+    let P : List ℕ → Type 0 = λ n. BreaksAt n (file_of t) mid new in
+    let Q : Told → Type 0 = λ m. BreaksAt (name_of t) (file_of t) m new in
+    subst Q so_far (subst P named breaks)
+
 pub loop-transfer-preserved : goal.loop-transfer-preserved
 loop-transfer-preserved g c =
     let i = g.I.Inputs in
@@ -57,6 +99,12 @@ loop-transfer-preserved g c =
       left = λ k last file known.
           c.in-Ok.ensures.left file (told_still old now told told' k t file before.kept before.names (omega arith)
           known);
+      read = λ file_of are.
+          one_more (first_name old) file_of t told told' (i.told c.read_first.new.inputs) (first_name now t)
+          (before.read file_of (λ k below. are k (omega arith)))
+          (name_same old now t before.kept)
+          (c.in-Ok.ensures.read (file_of t)
+          (told_still old now told told' t t (file_of t) before.kept before.names refl (are t (omega arith))));
       is_open = λ some. c.in-Ok.ensures.is_open;
       names = c.read_first.ensures.inputs.names ∙ before.names;
       quiet = c.in-Ok.ensures.inputs.quiet (λ e. absurd cc) ∙ before.quiet;
@@ -91,4 +139,32 @@ returns-in-Err-clause-refused g c =
             header,
             before.headers k less file known header (slice_get-get_or now.headers.items k none (omega arith)),
           );
+    }
+
+pub returns-in-Err-clause-broke : goal.returns-in-Err-clause-broke
+returns-in-Err-clause-broke g c = λ failed.
+    let i = g.I.Inputs in
+    let before = c.loop-transfer.invariant in
+    let old = c.args.self.now in
+    let now = c.loop-transfer.self in
+    let t = c.loop-transfer.transfer in
+    let told = i.told c.args.inputs.now in
+    let told' = i.told c.loop-transfer.inputs in
+    let starts : length now.starts.now ≡ length old.starts.now = ap (λ s. length s.now) before.kept.starts in
+    let headed : length now.headers.items ≡ length now.starts.now = now.headed in
+    record {
+      transfer = t;
+      there = omega arith;
+      earlier = λ k less file known.
+          let none : HeaderText = record { size = 0; text = [] } in
+          let header = get_or now.headers.items k none in (
+            header,
+            before.headers k less file known header (slice_get-get_or now.headers.items k none (omega arith)),
+          );
+      broke = λ file_of are.
+          breaks_next (first_name old) file_of t told told' (i.told c.read_first.new.inputs) (first_name now t)
+          (before.read file_of (λ k below. are k (omega arith)))
+          (name_same old now t before.kept)
+          (c.in-Err.ensures.broke failed (file_of t)
+          (told_still old now told told' t t (file_of t) before.kept before.names refl (are t (omega arith))));
     }

@@ -1,9 +1,7 @@
-use Rattle.std.proofs.Common.{◌≡◌, ◌≢◌, ◌≤◌, ℕ, true, Some}
-use Rattle.disk_feeder.specs.declared.due.Due.TheVariants.{Stopped}
-use Rattle.disk_feeder.specs.declared.answers.FeedEnd.TheVariants.{ReadFault}
-use Rattle.disk_feeder.specs.Sources.{plan_of}
-use Rattle.disk_feeder.specs.Filling.{IsSince, HoldsAll}
-use Rattle.disk_feeder.specs.Streams.{KeepsStream, Fills, work_left, steps_left}
+use Rattle.std.proofs.Common.{◌≡◌, true}
+use Rattle.psr_base.specs.Told.{Told}
+use Rattle.disk_feeder.specs.Feeding.{KeepsInputs}
+use Rattle.disk_feeder.specs.Streams.{KeepsStream, Fills, StreamRead, work_left, steps_left}
 use Rattle.disk_feeder.proofs.stream.Stream.fill.Given as goal
 
 abbrev pub invariant-loop-self : goal.invariant-loop-self
@@ -12,15 +10,10 @@ invariant-loop-self g l =
     record {
       kept : KeepsStream l.fn.self l.self;
       filled : Fills l.fn.self (i.told l.fn.inputs) l.self (i.told l.inputs);
+      reads_on : (before : Told) → StreamRead before (i.told l.fn.inputs) l.fn.self →
+          StreamRead before (i.told l.inputs) l.self;
       is_open : l.self.source.place.is_open ≡ true → i.is_open l.inputs;
-      count : i.faults l.fn.inputs ≤ i.faults l.inputs;
-      quiet : l.self.due ≢ Some (Stopped ReadFault) → i.faults l.inputs ≡ i.faults l.fn.inputs;
-      since : (k : ℕ) → IsSince k (i.faults l.fn.inputs) l.fn.self.due l.fn.self.end →
-          IsSince k (i.faults l.inputs) l.self.due l.self.end;
-      names : (i.told l.inputs).bytes_under ≡ (i.told l.fn.inputs).bytes_under;
-      calm : i.is_calm l.fn.inputs → i.is_calm l.inputs;
-      serves : i.is_calm l.fn.inputs → HoldsAll (i.told l.fn.inputs) (plan_of l.fn.self.source).names →
-          l.fn.self.due ≢ Some (Stopped ReadFault) → l.self.due ≢ Some (Stopped ReadFault);
+      inputs : KeepsInputs i.told i.is_calm i.faults l.fn.self l.self l.fn.inputs l.inputs;
     }
 
 abbrev pub decreases-loop-self : goal.decreases-loop-self

@@ -3,7 +3,9 @@ use Rattle.ring_ends.specs.declared.passes.WriterPass.{WriterPass}
 use Rattle.ring_ends.specs.Passes.{writer_knows}
 use Rattle.ring_blocks.specs.declared.Entry.{Entry}
 use Rattle.disk_feeder.specs.declared.source.Source.{Source}
+use Rattle.disk_feeder.specs.History.{fate}
 use Rattle.disk_feeder.specs.Sources.{plan_of}
+use Rattle.disk_feeder.proofs.Fates.{fate_in, to_fate}
 use Rattle.disk_feeder.specs.Plan.{AreAccepted}
 use Rattle.disk_feeder.specs.Streams.{IsStream}
 use Rattle.disk_feeder.specs.Turns.{sealed_headers, sealed_blocks}
@@ -48,3 +50,14 @@ pub returns-in-Err-clause-feeds : goal.returns-in-Err-clause-feeds
 returns-in-Err-clause-feeds c = λ told was.
     headers_full c.args.self.now told c.args.pass.now c.write_header.new.pass _ _ c.requires.running
     c.in-Err.ensures.full c.write_header.ensures.blocks was
+
+pub returns-in-Ok-clause-reads_on : goal.returns-in-Ok-clause-reads_on
+returns-in-Ok-clause-reads_on c = λ before told was.
+    let old = c.args.self.now in
+    let new = c.begin_transfer.new.self in
+    to_fate new (fate old.due old.end) (plan_of old.source) old.source.place before told
+    (fate_in new.due old.due new.end old.end c.begin_transfer.ensures.due c.begin_transfer.ensures.end)
+    (ap plan_of c.begin_transfer.ensures.source) (ap (λ (s : Source). s.place) c.begin_transfer.ensures.source) was
+
+pub returns-in-Err-clause-reads_on : goal.returns-in-Err-clause-reads_on
+returns-in-Err-clause-reads_on c = λ before told was. was

@@ -12,7 +12,9 @@ use Rattle.disk_feeder.specs.declared.place.Place.{Place}
 use Rattle.disk_feeder.specs.declared.source.Source.{Source}
 use Rattle.disk_feeder.specs.declared.stream.Stream.{Stream}
 use Rattle.disk_feeder.specs.Plan.{Plan, AreAccepted}
+use Rattle.disk_feeder.specs.History.{Running, ReadsUpTo}
 use Rattle.disk_feeder.specs.Sources.{plan_of}
+use Rattle.disk_feeder.proofs.Fates.{is_last, of_fate, after_last}
 use Rattle.disk_feeder.specs.Turns.{sealed_headers, sealed_blocks}
 use Rattle.disk_feeder.specs.Feeding.{header_entries, headers_sealed, IsFeeding, IsEnded, GoesOn}
 use Rattle.disk_feeder.proofs.OfSource.{plan_place}
@@ -54,11 +56,14 @@ go_on whole mid new told headers blocks (Ended end) a source block held due goes
     let Q : Source → Type 0 = λ x. IsEnded (plan_of x) told (length mid.block.items) headers blocks end in
     let R : ℕ → Type 0 = λ n. IsEnded (plan_of new.source) told n headers blocks end in
     feeds_ended new told headers blocks end goes.2
-    (subst R (sym (ap (λ v. length v.items) block))
-    (subst Q (sym source)
-    (subst P (sym goes.1)
-    (whole_sealed whole plan told mid.source.place (length mid.block.items) headers blocks a.sealed goes.0
-    mid.source.headed (plan_place mid.source).from a.headers_are (plan_place mid.source).total))))
+    (record {
+      ended = subst R (sym (ap (λ v. length v.items) block))
+          (subst Q (sym source)
+          (subst P (sym goes.1)
+          (whole_sealed whole plan told mid.source.place (length mid.block.items) headers blocks a.sealed goes.0
+          mid.source.headed (plan_place mid.source).from a.headers_are (plan_place mid.source).total)));
+      cut = λ failed files are. let all = goes.1 in absurd cc;
+    })
 
 pub returns-in-Ok-clause-feeds : goal.returns-in-Ok-clause-feeds
 returns-in-Ok-clause-feeds c = λ told was.
@@ -91,7 +96,8 @@ returns-in-Ok-clause-feeds c = λ told was.
       accepted = subst T (sym source) (subst S (sym same) was.accepted);
       headers_are =
           ap (λ (p : WriterPass). (writer_knows p).sealed) c.write_block.ensures.header ∙ was.sealed
-          ∙ ap (λ (b : Bool). header_entries (take (headers_sealed b at.transfer) plan.headers)) c.requires.header
+          ∙ ap (λ (b : Bool). header_entries (take (headers_sealed b at.transfer) plan.headers))
+          c.requires.filling.header
           ∙ ap (λ (n : ℕ). header_entries (take n plan.headers)) (sym moved)
           ∙ ap (λ (x : Plan). header_entries (take next.place.transfer x.headers)) (sym same)
           ∙ ap (λ (x : Source). header_entries (take x.place.transfer (plan_of x).headers)) (sym source);
@@ -103,4 +109,27 @@ returns-in-Ok-clause-feeds c = λ told was.
 pub returns-in-Err-clause-feeds : goal.returns-in-Err-clause-feeds
 returns-in-Err-clause-feeds c = λ told was.
     blocks_full c.args.self.now _ told c.args.pass.now c.write_block.new.pass _ _ refl c.in-Err.ensures.kept refl refl
-    refl c.requires.running c.in-Err.ensures.full c.write_block.ensures.header was
+    refl c.requires.filling.running c.in-Err.ensures.full c.write_block.ensures.header was
+
+-- the same of the files that another state of the source reads
+reads_of : (mid next : Source) (plan : Plan) (before told : Told) → mid ≡ next → plan_of next ≡ plan →
+    ReadsUpTo plan before told next.place → ReadsUpTo (plan_of mid) before told mid.place
+reads_of mid next plan before told source same reads =
+    let P : Source → Type 0 = λ x. ReadsUpTo (plan_of x) before told x.place in
+    let Q : Plan → Type 0 = λ x. ReadsUpTo x before told next.place in
+    subst P (sym source) (subst Q (sym same) reads)
+
+pub returns-in-Ok-clause-reads_on : goal.returns-in-Ok-clause-reads_on
+returns-in-Ok-clause-reads_on c = λ before told was.
+    let old = c.args.self.now in
+    let mid = c.empty.new.self in
+    let new = c.after_transfer.new.self in
+    after_last mid new c.after_transfer.result before told c.after_transfer.ensures.next c.after_transfer.ensures.source
+    c.after_transfer.ensures.due c.empty.ensures.due
+    (reads_of mid.source c.next_transfer.new.self (plan_of old.source) before told c.empty.ensures.source
+    c.next_transfer.ensures.plan
+    (c.next_transfer.ensures.reads_on before told
+    (of_fate old Running before told (is_last old.due old.end c.requires.due c.requires.filling.running) was)))
+
+pub returns-in-Err-clause-reads_on : goal.returns-in-Err-clause-reads_on
+returns-in-Err-clause-reads_on c = λ before told was. was

@@ -1,4 +1,4 @@
-use Rattle.std.proofs.Common.{◌≡◌, ℕ, ◌+◌, ◌/◌, ◌≤◌, List, None, length, sym, ◌∙◌, subst}
+use Rattle.std.proofs.Common.{◌≡◌, ℕ, ◌+◌, ◌/◌, ◌≤◌, List, None, length, refl, sym, ◌∙◌, subst, arith}
 use Rattle.psr_base.specs.Told.{Told}
 use Rattle.ring_blocks.specs.declared.Entry.{Entry}
 use Rattle.dada_hdu.specs.declared.hdu.Hdu.{Hdu}
@@ -30,17 +30,22 @@ filled old mid told told' headers blocks is feeding keeps fills =
     let was = runs old told headers blocks is feeding in
     runs_filled old mid told told' headers blocks keeps was (fills was.stream)
 
-pub seal-requires-clause-room : goal.seal-requires-clause-room
-seal-requires-clause-room g c =
+pub seal-requires-clause-block : goal.seal-requires-clause-block
+seal-requires-clause-block g c =
     let old = c.args.self.now in
     let mid = c.fill-due.new.self in
     let pass = c.args.pass.now in
-    has_room c.streams_are_short.ensures c.args.hdu.now mid (g.I.Inputs.told c.fill-due.new.inputs)
-    (sealed_headers pass) (sealed_blocks pass)
-    (fits_still c.args.hdu.now old mid c.fill-due.ensures.kept c.requires.fits)
-    (filled old mid (g.I.Inputs.told c.args.inputs.now) (g.I.Inputs.told c.fill-due.new.inputs) (sealed_headers pass)
-    (sealed_blocks pass) c.requires.running c.requires.feeding c.fill-due.ensures.kept
-    (c.fill-due.ensures.filled (sealed_blocks pass)))
+    let fits = fits_still c.args.hdu.now old mid c.fill-due.ensures.kept c.requires.stands.fits in
+    record {
+      ring = c.requires.ring;
+      size_is = fits.size;
+      room = has_room c.streams_are_short.ensures c.args.hdu.now mid (g.I.Inputs.told c.fill-due.new.inputs)
+          (sealed_headers pass) (sealed_blocks pass) fits
+          (filled old mid (g.I.Inputs.told c.args.inputs.now) (g.I.Inputs.told c.fill-due.new.inputs)
+          (sealed_headers pass) (sealed_blocks pass) c.requires.running c.requires.stands.feeding
+          c.fill-due.ensures.kept
+          (c.fill-due.ensures.filled (sealed_blocks pass)));
+    }
 
 pub seal-requires-clause-last : goal.seal-requires-clause-last
 seal-requires-clause-last g c =
@@ -48,10 +53,12 @@ seal-requires-clause-last g c =
     let mid = c.fill-due.new.self in
     let pass = c.args.pass.now in
     let run = filled old mid (g.I.Inputs.told c.args.inputs.now) (g.I.Inputs.told c.fill-due.new.inputs)
-    (sealed_headers pass) (sealed_blocks pass) c.requires.running c.requires.feeding c.fill-due.ensures.kept
+    (sealed_headers pass) (sealed_blocks pass) c.requires.running c.requires.stands.feeding c.fill-due.ensures.kept
     (c.fill-due.ensures.filled (sealed_blocks pass)) in
-    last_is mid (g.I.Inputs.told c.fill-due.new.inputs) (sealed_blocks pass) c.fill-due.result c.fill-due.ensures.due
-    run.stream
+    λ is.
+    let last = last_is mid (g.I.Inputs.told c.fill-due.new.inputs) (sealed_blocks pass) c.fill-due.result
+    c.fill-due.ensures.due run.stream is in
+    record { short = last.0; over = last.1 }
 
 pub returns-clause-feeding : goal.returns-clause-feeding
 returns-clause-feeding g c =
@@ -60,13 +67,38 @@ returns-clause-feeding g c =
     let pass = c.args.pass.now in
     c.seal.ensures.feeds (g.I.Inputs.told c.fill-due.new.inputs)
     (filled old mid (g.I.Inputs.told c.args.inputs.now) (g.I.Inputs.told c.fill-due.new.inputs) (sealed_headers pass)
-    (sealed_blocks pass) c.requires.running c.requires.feeding c.fill-due.ensures.kept
+    (sealed_blocks pass) c.requires.running c.requires.stands.feeding c.fill-due.ensures.kept
     (c.fill-due.ensures.filled (sealed_blocks pass)))
 
-pub returns-clause-since : goal.returns-clause-since
-returns-clause-since g c = λ k was.
-    c.seal.ensures.after.since k (g.I.Inputs.faults c.fill-due.new.inputs) (c.fill-due.ensures.since k was)
+pub returns-clause-inputs : goal.returns-clause-inputs
+returns-clause-inputs g c =
+    let after = c.seal.ensures.after in
+    let reads = c.fill-due.ensures.inputs in
+    record {
+      names = reads.names;
+      count = reads.count;
+      quiet = λ fine. reads.quiet (after.failed fine);
+      since = λ k was. after.since k (g.I.Inputs.faults c.fill-due.new.inputs) (reads.since k was);
+      calm = reads.calm;
+      serves = λ calm holds fine. after.faultless (reads.serves calm holds fine);
+    }
 
-pub returns-then-self-clause-since : goal.returns-then-self-clause-since
-returns-then-self-clause-since g c =
-    λ k was. c.seal_header.ensures.after.since k (g.I.Inputs.faults c.args.inputs.now) was
+pub returns-then-self-clause-inputs : goal.returns-then-self-clause-inputs
+returns-then-self-clause-inputs g c =
+    let after = c.seal_header.ensures.after in
+    record {
+      names = refl;
+      count = omega arith;
+      quiet = λ fine. refl;
+      since = λ k was. after.since k (g.I.Inputs.faults c.args.inputs.now) was;
+      calm = λ calm. calm;
+      serves = λ calm holds fine. after.faultless fine;
+    }
+
+pub returns-clause-reads_on : goal.returns-clause-reads_on
+returns-clause-reads_on g c = λ before was.
+    c.seal.ensures.reads_on before (g.I.Inputs.told c.fill-due.new.inputs) (c.fill-due.ensures.reads_on before was)
+
+pub returns-then-self-clause-reads_on : goal.returns-then-self-clause-reads_on
+returns-then-self-clause-reads_on g c = λ before was.
+    c.seal_header.ensures.reads_on before (g.I.Inputs.told c.args.inputs.now) was

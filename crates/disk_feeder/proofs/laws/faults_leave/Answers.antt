@@ -1,0 +1,6 @@
+use Rattle.disk_feeder.proofs.Leavings.{leaves}
+use Rattle.disk_feeder.proofs.laws.faults_leave.Goals as goal
+
+pub returns : goal.returns
+returns g c = λ f before told headers blocks feeds ended read files are.
+    leaves f.stream before told headers blocks feeds ended read files are
