@@ -8,13 +8,13 @@ use Rattle.dada_hdu.specs.declared.hdu.Hdu.{Hdu}
 use Rattle.stream_model.specs.Blocks.{joined_bytes}
 use Rattle.stream_model.specs.BlockLaws.{BytesAreJoined, EndsAreCounted, StreamsHaveTransfers}
 use Rattle.disk_feeder.specs.declared.answers.FeedEnd.{FeedEnd}
-use Rattle.disk_feeder.specs.declared.answers.FeedEnd.TheVariants.{Whole}
+use Rattle.disk_feeder.specs.declared.answers.FeedEnd.TheVariants.{Whole, ReadFault}
 use Rattle.disk_feeder.specs.declared.feeder.Feeder.{Feeder}
-use Rattle.disk_feeder.specs.Plan.{Plan, stream_of}
-use Rattle.disk_feeder.specs.Feeder.{plan_at, header_at, block_size, has_end, stream_at, FeederFaultless, FeederSince}
-use Rattle.disk_feeder.specs.Feeding.{HeadersKeepUp, IsEnding, IsEnded, FeedsTo, SealedAs, EndIs}
+use Rattle.disk_feeder.specs.Plan.{Plan, stream_of, AreTold}
+use Rattle.disk_feeder.specs.Feeder.{plan_at, names_at, header_at, block_size, has_end, stream_at, FeederFaultless, FeederSince, FeederRead}
+use Rattle.disk_feeder.specs.Feeding.{HeadersKeepUp, IsEnding, IsEnded, HasEndedAs, FeedsTo, SealedAs, EndIs, BreaksReading}
 use Rattle.disk_feeder.specs.Turns.{sealed_headers, sealed_blocks}
-use Rattle.disk_feeder.specs.Laws.{FeedersEnd, HeadersAreFirst}
+use Rattle.disk_feeder.specs.Laws.{FeedersEnd, HeadersAreFirst, FaultsLeave}
 use Rattle.dada_recorder.specs.RecordingLaws.{RecordingsEnd}
 use Rattle.search_session.specs.declared.feed.FeedActor.{FeedActor}
 use Rattle.search_session.specs.declared.ended.SessionEnd.{SessionEnd}
@@ -27,6 +27,7 @@ use Rattle.search_session.proofs.Sealed.{headers_are, sealed_few, parts_are, wal
 pub record SessionLaws (I : Type 0) : Type 0 where
   pub end : FeedersEnd I
   pub first : HeadersAreFirst I
+  pub leave : FaultsLeave I
   pub recordings : RecordingsEnd
   pub joined : BytesAreJoined
   pub counted : EndsAreCounted
@@ -51,8 +52,31 @@ module _ {I F : Type 0} (laws : SessionLaws I) (told : I → Told) (is_open is_c
 
   part_ended : IsEnded (plan_at f.part) (told f.part.inputs.now) (block_size f.part) (sealed_headers f.pass)
       (sealed_blocks f.pass) end.feed
-  part_ended = subst (λ (e : Option FeedEnd). FeedsTo (stream_at f.part) (told f.part.inputs.now)
-      (sealed_headers f.pass) (sealed_blocks f.pass) e) part_end on.feeding
+  part_ended =
+      let was : HasEndedAs (stream_at f.part) (told f.part.inputs.now) (sealed_headers f.pass) (sealed_blocks f.pass)
+      end.feed = subst (λ (e : Option FeedEnd). FeedsTo (stream_at f.part) (told f.part.inputs.now)
+      (sealed_headers f.pass) (sealed_blocks f.pass) e) part_end on.feeding in was.ended
+
+  -- what a fault of the inputs left
+  fault_left : end.feed ≡ ReadFault → (before : Told) → FeederRead before (told start.part.inputs.now) start.part →
+      (files : List (List ℕ)) → AreTold (told end.inputs.now) (names_at start.part) files →
+      BreaksReading (names_at start.part) (stream_of (plan_at start.part) files) before (told end.inputs.now)
+      (block_size start.part) (sealed_at_end end.blocks)
+  fault_left failed before read files are =
+      let now = told f.part.inputs.now in
+      let told_now : AreTold now (names_at f.part) files =
+      subst (λ (p : Plan). AreTold now p.names files) (sym moved.plan)
+      (subst (λ (i : I). AreTold (told i) (names_at start.part) files) inputs are) in
+      subst (λ (p : Plan). BreaksReading p.names (stream_of p files) before (told end.inputs.now)
+      (block_size start.part) (sealed_at_end end.blocks)) moved.plan
+      (subst (λ (i : I). BreaksReading (names_at f.part) (stream_of (plan_at f.part) files) before (told i)
+      (block_size start.part) (sealed_at_end end.blocks)) (sym inputs)
+      (subst (λ (z : ℕ). BreaksReading (names_at f.part) (stream_of (plan_at f.part) files) before now z
+      (sealed_at_end end.blocks)) moved.size
+      (subst (λ (l : List Entry). BreaksReading (names_at f.part) (stream_of (plan_at f.part) files) before now
+      (block_size f.part) l) (sym sealed)
+      (laws.leave f.part before now (sealed_headers f.pass) (sealed_blocks f.pass) on.feeding
+      (part_end ∙ ap (λ (e : FeedEnd). Some e) failed) (moved.inputs.reads_on before read) files told_now))))
 
   all_sealed : IsEnded (plan_at start.part) (told end.inputs.now) (block_size start.part) (sealed_headers f.pass)
       (sealed_at_end end.blocks) end.feed
@@ -104,6 +128,7 @@ module _ {I F : Type 0} (laws : SessionLaws I) (told : I → Told) (is_open is_c
             (part_end ∙ ap (λ (e : FeedEnd). Some e) is);
         sealed = subst (λ (l : List Entry). IsEnded (plan_at start.part) (told end.inputs.now) (block_size start.part) l
             (sealed_at_end end.blocks) end.feed) headers_sealed all_sealed;
+        broke = fault_left;
         few = all_few;
         parts = λ bytes whole.
             let s = whole_sealed bytes whole in

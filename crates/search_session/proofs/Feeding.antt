@@ -6,7 +6,8 @@ use Rattle.ring_core.specs.Machine.{greatest}
 use Rattle.dada_hdu.specs.declared.passes.HduWriter.{HduWriter}
 use Rattle.disk_feeder.specs.declared.answers.FeedEnd.{FeedEnd}
 use Rattle.disk_feeder.specs.declared.answers.FeedTurn.{FeedTurn}
-use Rattle.disk_feeder.specs.Feeder.{names_at, plan_at, block_size, has_end}
+use Rattle.disk_feeder.specs.Feeder.{names_at, plan_at, has_end}
+use Rattle.disk_feeder.specs.Resting.{FeederKept}
 use Rattle.disk_feeder.specs.Turns.{TurnAnswers}
 use Rattle.disk_feeder.specs.Filling.{HoldsAll}
 use Rattle.disk_feeder.specs.Plan.{Plan}
@@ -15,22 +16,25 @@ use Rattle.search_session.specs.Feeds.{HasWritten, Writes, InputsKept, FeedMoved
 
 -- ---- writes
 
-pub no_writes : (p : HduWriter) → Writes 0 p p
+no_writes : (p : HduWriter) (end : Option FeedEnd) → Writes 0 p end p end
 unfolding Writes
-no_writes p = refl
+no_writes p end = (refl, refl)
 
-pub one_write : (p q : HduWriter) → HasWritten p q → Writes 1 p q
+one_write : (p q : HduWriter) (before after : Option FeedEnd) → before ≡ None → HasWritten p q after →
+    Writes 1 p before q after
 unfolding Writes
-one_write p q written = (p, refl, written)
+one_write p q before after running written = (p, (refl, sym running), written)
 
-writes_more : (n m : ℕ) (p q r : HduWriter) → Writes n p q → Writes m q r → Writes (n + m) p r
+writes_more : (n m : ℕ) (p q r : HduWriter) (a b c : Option FeedEnd) → Writes n p a q b → Writes m q b r c →
+    Writes (n + m) p a r c
 unfolding Writes
-writes_more n zero p q r first second =
-    subst (λ (k : ℕ). Writes k p r) (let same : n ≡ n + 0 = omega arith in same)
-    (subst (λ (w : HduWriter). Writes n p w) (sym second) first)
-writes_more n (suc m) p q r first second =
-    subst (λ (k : ℕ). Writes k p r) (let same : suc (n + m) ≡ n + suc m = omega arith in same)
-    (second.0, writes_more n m p q second.0 first second.1, second.2)
+writes_more n zero p q r a b c first second =
+    subst (λ (k : ℕ). Writes k p a r c) (let same : n ≡ n + 0 = omega arith in same)
+    (subst (λ (w : HduWriter). Writes n p a w c) (sym second.0)
+    (subst (λ (end : Option FeedEnd). Writes n p a q end) (sym second.1) first))
+writes_more n (suc m) p q r a b c first second =
+    subst (λ (k : ℕ). Writes k p a r c) (let same : suc (n + m) ≡ n + suc m = omega arith in same)
+    (second.0, writes_more n m p q second.0 a b None first second.1, second.2)
 
 -- ---- turns
 
@@ -45,6 +49,7 @@ module _ {I : Type 0} (told : I → Told) (is_calm : I → Type 0) (faults : I �
     names = refl;
     count = omega arith;
     since = λ k was. was;
+    reads_on = λ before was. was;
     calm = λ was. was;
     serves = λ calm holds was. was;
   }
@@ -59,6 +64,7 @@ module _ {I : Type 0} (told : I → Told) (is_calm : I → Type 0) (faults : I �
         names = b.names ∙ a.names;
         count = omega arith;
         since = λ k was. b.since k (a.since k was);
+        reads_on = λ before was. b.reads_on before (a.reads_on before was);
         calm = λ was. b.calm (a.calm was);
         serves = λ calm holds was. b.serves (a.calm calm) (holds_still holds) (a.serves calm holds was);
       }
@@ -87,7 +93,7 @@ module _ {I : Type 0} (told : I → Told) (is_calm : I → Type 0) (faults : I �
         none = λ ended. refl;
         stays = λ ended. refl;
         turns = turns;
-        writes = no_writes f.pass;
+        writes = no_writes f.pass f.end;
       }
 
   pub feed_none : (f : FeedActor I) → f.turns < 2 ^ 64 → FeedMoved told is_calm faults 0 f f
@@ -97,21 +103,32 @@ module _ {I : Type 0} (told : I → Told) (is_calm : I → Type 0) (faults : I �
   feed_still n f small ended = stands n f small (λ running. absurd (some_not_none f.end ended running))
 
   -- a turn and its write
-  pub feed_turned : (f h : FeedActor I) (answer : FeedTurn) → f.end ≡ None → InputsKept told is_calm faults f h →
-      plan_at h.part ≡ plan_at f.part → block_size h.part ≡ block_size f.part →
+  pub feed_turned : (f h : FeedActor I) (answer : FeedTurn) → f.end ≡ None → h.end ≡ has_end h.part →
+      FeederKept told is_calm faults f.part h.part → h.part.inputs.ghost_name ≡ f.part.inputs.ghost_name →
       TurnAnswers f.pass h.pass (has_end h.part) answer → h.turns ≡ min greatest (f.turns + 1) →
       FeedMoved told is_calm faults 1 f h
-  feed_turned f h answer running kept plan size did turns = record {
-    inputs = kept;
-    plan = plan;
-    size = size;
+  feed_turned f h answer running is kept same did turns = record {
+    inputs = record {
+      same_reference = same;
+      names = kept.names;
+      count = kept.count;
+      since = kept.since;
+      reads_on = kept.reads_on;
+      calm = kept.calm;
+      serves = kept.serves;
+    };
+    plan = kept.plan;
+    size = kept.size;
     made = 1;
     most = omega arith;
     all = λ on. refl;
     none = λ ended. absurd (some_not_none f.end ended running);
     stays = λ ended. absurd (some_not_none f.end ended running);
     turns = turns;
-    writes = one_write f.pass h.pass (record { answer = answer; end = has_end h.part; did = did });
+    writes = one_write f.pass h.pass f.end h.end running (record {
+      answer = answer;
+      did = subst (λ (end : Option FeedEnd). TurnAnswers f.pass h.pass end answer) (sym is) did;
+    });
   }
 
   pub feed_more : (n m : ℕ) (f g h : FeedActor I) → FeedMoved told is_calm faults n f g →
@@ -134,7 +151,7 @@ module _ {I : Type 0} (told : I → Told) (is_calm : I → Type 0) (faults : I �
             omega arith;
         stays = λ ended. b.stays (stays_some ended) ∙ a.stays ended;
         turns = omega arith;
-        writes = writes_more a.made b.made f.pass g.pass h.pass a.writes b.writes;
+        writes = writes_more a.made b.made f.pass g.pass h.pass f.end g.end h.end a.writes b.writes;
       }
     where
       stays_some : IsSome f.end → IsSome g.end

@@ -1,6 +1,7 @@
 mod Engines
 mod Rows
 mod ManyReads
+mod Passing
 mod Turning
 mod Moves
 mod Feeding

@@ -1,21 +1,15 @@
 -- Turns of a lone session.
-use Rattle.std.proofs.Common.{◌≡◌, ℕ, ◌+◌, ◌-◌, ◌≤◌, min, None, refl, sym, ap, ◌∙◌, subst, arith}
+use Rattle.std.proofs.Common.{◌≡◌, ℕ, ◌+◌, ◌-◌, ◌≤◌, refl, sym, ap, ◌∙◌, subst, arith}
 use Rattle.psr_base.specs.Told.{Told}
-use Rattle.ring_core.specs.Machine.{greatest}
-use Rattle.disk_feeder.specs.declared.answers.FeedTurn.{FeedTurn}
-use Rattle.disk_feeder.specs.Feeder.{has_end}
-use Rattle.disk_feeder.specs.Resting.{FeederKept}
-use Rattle.disk_feeder.specs.Turns.{TurnAnswers}
 use Rattle.dada_hdu.specs.declared.hdu.Hdu.{Hdu}
 use Rattle.dada_hdu.specs.declared.passes.HduReader.{HduReader}
 use Rattle.dada_hdu.specs.Passes.{data_shape, IsFreshReader}
-use Rattle.search_session.specs.declared.feed.FeedActor.{FeedActor}
 use Rattle.search_session.specs.declared.lone.LoneSession.{LoneSession}
 use Rattle.search_session.specs.Shards.{ShardOn, ShardMoved}
 use Rattle.search_session.specs.Feeds.{FeedOn, FeedMoved}
 use Rattle.search_session.specs.Stages.{IsUnread}
 use Rattle.search_session.specs.Lone.{feed_over, LoneOn, LoneMoved, HasLoneEnded, HasFileOpen}
-use Rattle.search_session.proofs.Feeding.{feed_none, feed_still, feed_turned, feed_more}
+use Rattle.search_session.proofs.Feeding.{feed_none, feed_still, feed_more}
 use Rattle.search_session.proofs.Moves.{shard_none, shard_still, shard_more}
 
 -- a reader that has done nothing has cleared no block
@@ -28,21 +22,6 @@ is_unread hdu i reader fresh = record {
 }
 
 module _ {I : Type 0} (told : I → Told) (is_open is_calm : I → Type 0) (faults : I → ℕ) where
-  -- a turn of a resting feeder and its write
-  pub rest_turned : (f h : FeedActor I) (answer : FeedTurn) → f.end ≡ None →
-      FeederKept told is_calm faults f.part h.part → h.part.inputs.ghost_name ≡ f.part.inputs.ghost_name →
-      TurnAnswers f.pass h.pass (has_end h.part) answer → h.turns ≡ min greatest (f.turns + 1) →
-      FeedMoved told is_calm faults 1 f h
-  rest_turned f h answer running kept same did turns = feed_turned told is_calm faults f h answer running
-      (record {
-        same_reference = same;
-        names = kept.names;
-        count = kept.count;
-        since = kept.since;
-        calm = kept.calm;
-        serves = kept.serves;
-      }) kept.plan kept.size did turns
-
   -- the feeder of a session over what is lent
   pub feed_on : (lent : I) (s : LoneSession) → LoneOn (told lent) s → HasFileOpen is_open lent s →
       FeedOn told is_open s.hdu (feed_over lent s.feed)

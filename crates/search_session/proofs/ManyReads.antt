@@ -1,15 +1,19 @@
 -- Reads that follow one another.
-use Rattle.std.proofs.Common.{◌≡◌, ℕ, zero, suc, ◌+◌, Bool, true, false, List, [], ◌++◌, refl, sym, ap, ◌∙◌, append_assoc, subst, arith}
+use Rattle.std.proofs.Common.{◌≡◌, ℕ, zero, suc, ◌+◌, ◌≤◌, inl, inr, Bool, true, false, List, [], ◌++◌, length, Some, None, refl, sym, ap, ◌∙◌, append_assoc, subst, arith}
 use Rattle.std.proofs.lemmas.List.{append-nil}
 use Rattle.ring_blocks.specs.declared.Entry.{Entry}
 use Rattle.ring_words.specs.declared.views.ReaderView.{ReaderView}
 use Rattle.ring_words.specs.Ring.{Begins}
-use Rattle.ring_words.specs.Views.{got_list}
+use Rattle.ring_words.specs.Views.{got_list, after_hit, after_miss, after_give, after_clear}
+use Rattle.ring_words.specs.Steps.{home_word}
 use Rattle.ring_ends.specs.declared.passes.ReaderPass.{ReaderPass}
+use Rattle.ring_ends.specs.declared.answers.ReadStop.{ReadStop}
+use Rattle.ring_ends.specs.declared.answers.ReadStop.TheVariants.{Empty, Busy}
+use Rattle.ring_ends.specs.Answers.{IsReadStop}
 use Rattle.ring_ends.specs.Passes.{reader_knows}
 use Rattle.dada_hdu.specs.declared.ended.HduEnded.{HduEnded}
 use Rattle.dada_hdu.specs.Passes.{number_of, tries_of}
-use Rattle.search_session.specs.Reads.{TriesNext, Rests, header_view, data_view, header_is_next, ReadsRing, ReadsNext, HasRested, Reads}
+use Rattle.search_session.specs.Reads.{FindsWord, TriesNext, Rests, header_view, data_view, header_is_next, ReadsRing, ReadsNext, HasRested, Reads}
 
 -- ---- lists of blocks
 
@@ -23,10 +27,66 @@ pub begins_more : (xs ys zs : List Entry) → Begins xs ys → Begins ys zs → 
 begins_more xs ys zs a b =
     (a.0 ++ b.0, b.1 ∙ (ap (λ (l : List Entry). l ++ b.0) a.1 ∙ append_assoc xs a.0 b.0))
 
+-- ---- one try
+
+-- it took the next block, gave it back and cleared it
+pub takes_next : (old new : ReaderView) (block : Entry) →
+    new ≡ after_clear (after_give (after_hit old (home_word (length old.cleared)) block)) →
+    ((held : Entry) → old.got ≡ Some held → held ≡ block) → TriesNext old new
+takes_next old new block view same = record {
+  number = ap (λ (v : ReaderView). v.number) view;
+  tries = ap (λ (v : ReaderView). v.tries) view;
+  found = Some block;
+  cleared = ap (λ (v : ReaderView). v.cleared) view;
+  holds_none = λ none. ap (λ (v : ReaderView). v.got) view;
+  again = λ held taken had is. sym (same held had ∙ inside block taken is);
+  word = home_word (length old.cleared);
+  finds = refl;
+  last_try = ap (λ (v : ReaderView). v.last_try) view;
+}
+  where
+    inside : (a b : Entry) → Some a ≡ Some b → a ≡ b
+    inside a b e = cc
+
+-- it found a word, and took none
+misses_word : (old new : ReaderView) (word : ℕ) → new ≡ after_miss old word → FindsWord old None word →
+    TriesNext old new
+misses_word old new word view finds = record {
+  number = ap (λ (v : ReaderView). v.number) view;
+  tries = ap (λ (v : ReaderView). v.tries) view;
+  found = None;
+  cleared = ap (λ (v : ReaderView). v.cleared) view ∙ sym (append-nil old.cleared);
+  holds_none = λ none. ap (λ (v : ReaderView). v.got) view ∙ none;
+  again = λ held taken had is. absurd (none_is_some taken is);
+  word = word;
+  finds = finds;
+  last_try = ap (λ (v : ReaderView). v.last_try) view;
+}
+  where
+    none_is_some : (e : Entry) → None ≡ Some e → ⊥
+    none_is_some e is = cc
+
+pub misses_next : (old new : ReaderView) (stop : ReadStop) → IsReadStop old stop new → TriesNext old new
+misses_next old new (Empty block seen) s = misses_word old new s.word s.rest (inl (older s.wanted s.seen_is s.older))
+  where
+    older : {n m : ℕ} → block ≡ n → seen ≡ m → seen ≤ block → m ≤ n
+    older wanted is less = omega arith
+misses_next old new (Busy block reader) s = misses_word old new s.word s.rest (inr (record {
+  seen = s.seen ∙ ap (λ (n : ℕ). n + 1) s.wanted;
+  reader = reader;
+  holder = s.holder;
+  near = s.near;
+  other = s.other;
+}))
+
+pub misses_clear : (old new : ReaderView) (stop : ReadStop) → IsReadStop old stop new → new.cleared ≡ old.cleared
+misses_clear old new (Empty block seen) s = ap (λ (v : ReaderView). v.cleared) s.rest
+misses_clear old new (Busy block reader) s = ap (λ (v : ReaderView). v.cleared) s.rest
+
 -- ---- no read
 
 rests_itself : (v : ReaderView) → Rests v v
-rests_itself v = record { number = refl; tries = refl; cleared = refl; holds_none = λ none. none }
+rests_itself v = record { number = refl; tries = refl; cleared = refl; holds_none = λ none. none; last_try = refl }
 
 pub pass_rests : (old new : ReaderPass) → new ≡ old → Rests (reader_knows old) (reader_knows new)
 pass_rests old new same = record {
@@ -34,6 +94,7 @@ pass_rests old new same = record {
   tries = ap (λ (p : ReaderPass). (reader_knows p).tries) same;
   cleared = ap (λ (p : ReaderPass). (reader_knows p).cleared) same;
   holds_none = λ none. ap (λ (p : ReaderPass). (reader_knows p).got) same ∙ none;
+  last_try = ap (λ (p : ReaderPass). (reader_knows p).last_try) same;
 }
 
 rests_more : (u v w : ReaderView) → Rests u v → Rests v w → Rests u w
@@ -42,6 +103,7 @@ rests_more u v w a b = record {
   tries = b.tries ∙ a.tries;
   cleared = b.cleared ∙ a.cleared;
   holds_none = λ none. b.holds_none (a.holds_none none);
+  last_try = b.last_try ∙ a.last_try;
 }
 
 tries_rests : (u v w : ReaderView) → TriesNext u v → Rests v w → TriesNext u w
@@ -51,6 +113,10 @@ tries_rests u v w a b = record {
   found = a.found;
   cleared = b.cleared ∙ a.cleared;
   holds_none = λ none. b.holds_none (a.holds_none none);
+  again = a.again;
+  word = a.word;
+  finds = a.finds;
+  last_try = b.last_try ∙ a.last_try;
 }
 
 pub rested_itself : (p : HduEnded) → HasRested p p
@@ -74,27 +140,30 @@ ring_rests false p q r read rest = (
 
 -- ---- many reads
 
-pub no_reads : (p q : HduEnded) → HasRested p q → Reads 0 p q
-unfolding Reads
-no_reads p q rest = rest
+module _ (Goes : HduEnded → Type 0) where
+  pub no_reads : (p q : HduEnded) → HasRested p q → Reads Goes 0 p q
+  unfolding Reads
+  no_reads p q rest = rest
 
-pub one_read : (p q : HduEnded) → ReadsNext p q → Reads 1 p q
-unfolding Reads
-one_read p q read = (p, rested_itself p, read)
+  pub one_read : (p q : HduEnded) → Goes p → ReadsNext p q → Reads Goes 1 p q
+  unfolding Reads
+  one_read p q goes read = (p, rested_itself p, goes, read)
 
-reads_rest : (n : ℕ) (p q r : HduEnded) → Reads n p q → HasRested q r → Reads n p r
-unfolding Reads
-reads_rest zero p q r first rest = rested_more p q r first rest
-reads_rest (suc n) p q r first rest =
-    (first.0, first.1, ring_rests (header_is_next first.0) first.0 q r first.2 rest)
+  reads_rest : (n : ℕ) (p q r : HduEnded) → Reads Goes n p q → HasRested q r → Reads Goes n p r
+  unfolding Reads
+  reads_rest zero p q r first rest = rested_more p q r first rest
+  reads_rest (suc n) p q r first rest =
+      (first.0, first.1, first.2, ring_rests (header_is_next first.0) first.0 q r first.3 rest)
 
-pub reads_more : (n m : ℕ) (p q r : HduEnded) → Reads n p q → Reads m q r → Reads (n + m) p r
-unfolding Reads
-reads_more n zero p q r first second =
-    subst (λ (k : ℕ). Reads k p r) (let same : n ≡ n + 0 = omega arith in same) (reads_rest n p q r first second)
-reads_more n (suc m) p q r first second =
-    subst (λ (k : ℕ). Reads k p r) (let same : suc (n + m) ≡ n + suc m = omega arith in same)
-    (second.0, reads_more n m p q second.0 first second.1, second.2)
+  -- where what is true before each of the second ones is so before the first ones
+  pub reads_more : (Then : HduEnded → Type 0) → ((p : HduEnded) → Then p → Goes p) → (n m : ℕ) (p q r : HduEnded) →
+      Reads Goes n p q → Reads Then m q r → Reads Goes (n + m) p r
+  unfolding Reads
+  reads_more Then goes n zero p q r first second =
+      subst (λ (k : ℕ). Reads Goes k p r) (let same : n ≡ n + 0 = omega arith in same) (reads_rest n p q r first second)
+  reads_more Then goes n (suc m) p q r first second =
+      subst (λ (k : ℕ). Reads Goes k p r) (let same : suc (n + m) ≡ n + suc m = omega arith in same)
+      (second.0, reads_more Then goes n m p q second.0 first second.1, goes second.0 second.2, second.3)
 
 -- ---- what a read leaves
 

@@ -1,9 +1,10 @@
 -- Turns that follow one another, of shards and of slots.
-use Rattle.std.proofs.Common.{◌≡◌, ℕ, ◌+◌, ◌<◌, ◌^◌, min, Bool, true, false, List, Option, Some, None, slice_index_or, refl, ◌∙◌, arith}
+use Rattle.std.proofs.Common.{◌≡◌, ℕ, ◌+◌, ◌<◌, ◌^◌, min, Bool, true, false, List, length, Option, Some, None, slice_index_or, refl, sym, ap, ◌∙◌, arith}
 use Rattle.ring_core.specs.Machine.{greatest}
 use Rattle.dada_hdu.specs.Passes.{tries_of}
+use Rattle.stream_model.specs.Blocks.{is_over}
 use Rattle.search_session.specs.declared.shard.ShardActor.{ShardActor}
-use Rattle.search_session.specs.Reads.{header_is_next, ReadsNext}
+use Rattle.search_session.specs.Reads.{data_view, header_is_next, HasMore, ReadsNext}
 use Rattle.search_session.specs.Shards.{shard_cleared, EnginesFollow, ShardMoved}
 use Rattle.search_session.specs.Hands.{SlotMoved, EachMoved}
 use Rattle.search_session.proofs.ManyReads.{begins_itself, begins_more, rested_itself, no_reads, one_read, reads_more, read_number, read_tries, read_blocks}
@@ -24,7 +25,7 @@ stands n x small all =
       none = λ ended. refl;
       stays = λ ended. ended;
       turns = turns;
-      reads = no_reads x.pass x.pass (rested_itself x.pass);
+      reads = no_reads (HasMore (length x.part.engines.value.items)) x.pass x.pass (rested_itself x.pass);
       tries = tries;
       grown = begins_itself (shard_cleared x);
       engines = follow_still (shard_cleared x) (shard_cleared x) x.part.engines.value.items refl;
@@ -40,10 +41,11 @@ shard_still n x small ended = stands n x small (λ running. absurd (apart (x.end
     apart b t f = cc
 
 -- a turn and its read
-pub shard_turned : (x y : ShardActor) → x.ended ≡ false → ReadsNext x.pass y.pass → EnginesFollow (shard_cleared x)
-    (shard_cleared y) x.part.engines.value.items y.part.engines.value.items → y.turns ≡ min greatest (x.turns + 1) →
-    ShardMoved 1 x y
-shard_turned x y running read engines turns = record {
+pub shard_turned : (x y : ShardActor) → x.ended ≡ false →
+    x.ended ≡ is_over (length x.part.engines.value.items) (shard_cleared x) → ReadsNext x.pass y.pass →
+    EnginesFollow (shard_cleared x) (shard_cleared y) x.part.engines.value.items y.part.engines.value.items →
+    y.turns ≡ min greatest (x.turns + 1) → ShardMoved 1 x y
+shard_turned x y running over read engines turns = record {
   number = read_number (header_is_next x.pass) x.pass y.pass read;
   made = 1;
   most = omega arith;
@@ -51,7 +53,7 @@ shard_turned x y running read engines turns = record {
   none = λ ended. absurd (apart (x.ended) ended running);
   stays = λ ended. absurd (apart (x.ended) ended running);
   turns = turns;
-  reads = one_read x.pass y.pass read;
+  reads = one_read (HasMore (length x.part.engines.value.items)) x.pass y.pass (sym over ∙ running) read;
   tries = read_tries (header_is_next x.pass) x.pass y.pass read;
   grown = read_blocks (header_is_next x.pass) x.pass y.pass read;
   engines = engines;
@@ -76,7 +78,9 @@ shard_more n m x y z a b =
       none = λ ended. let none_a = a.none ended in let none_b = b.none (a.stays ended) in omega arith;
       stays = λ ended. b.stays (a.stays ended);
       turns = omega arith;
-      reads = reads_more a.made b.made x.pass y.pass z.pass a.reads b.reads;
+      reads = reads_more (HasMore (length x.part.engines.value.items)) (HasMore (length y.part.engines.value.items))
+          (λ p more. ap (λ (n : ℕ). is_over n (data_view p).cleared) (sym a.engines.count) ∙ more)
+          a.made b.made x.pass y.pass z.pass a.reads b.reads;
       tries = omega arith;
       grown = begins_more (shard_cleared x) (shard_cleared y) (shard_cleared z) a.grown b.grown;
       engines = follow_more (shard_cleared x) (shard_cleared y) (shard_cleared z) x.part.engines.value.items

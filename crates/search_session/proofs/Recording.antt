@@ -2,15 +2,11 @@
 use Rattle.std.proofs.Common.{◌≡◌, ◌≢◌, ℕ, ◌+◌, ◌<◌, ◌≤◌, ◌^◌, min, Bool, true, false, List, length, Option, Some, None, refl, sym, ap, ◌∙◌, subst, arith, rules}
 use Rattle.std.specs.Prelude.{IsSome, ◌==◌, if◌then◌else◌}
 use Rattle.std.proofs.lemmas.Bool.Decides.{nat_tests}
-use Rattle.std.proofs.lemmas.List.{append-nil}
 use Rattle.psr_base.specs.Count.{Rose}
 use Rattle.psr_base.specs.Made.{FilesSeen}
 use Rattle.ring_core.specs.Machine.{greatest}
 use Rattle.ring_blocks.specs.declared.Entry.{Entry}
-use Rattle.ring_words.specs.declared.views.ReaderView.{ReaderView}
 use Rattle.ring_ends.specs.declared.passes.ReaderPass.{ReaderPass}
-use Rattle.ring_ends.specs.declared.answers.ReadStop.{ReadStop}
-use Rattle.ring_ends.specs.declared.answers.ReadStop.TheVariants.{Empty, Busy}
 use Rattle.ring_ends.specs.Answers.{IsReadStop}
 use Rattle.ring_ends.specs.Passes.{reader_knows, ended_knows}
 use Rattle.dada_hdu.specs.declared.hdu.Hdu.{Hdu}
@@ -32,37 +28,14 @@ use Rattle.dada_recorder.specs.Turns.{cleared_headers, cleared_blocks, ClearsNex
 use Rattle.search_session.specs.declared.record.RecordActor.{RecordActor}
 use Rattle.search_session.specs.Reads.{TriesNext, header_is_next, ReadsRing, ReadsNext, HasRested}
 use Rattle.search_session.specs.Shards.{IsHereOrRetired}
-use Rattle.search_session.specs.Records.{recorded_headers, recorded_blocks, RecordOn, RecordMoved}
-use Rattle.search_session.proofs.ManyReads.{begins_same, begins_more, pass_rests, rested_itself, rested_tries, no_reads, one_read, reads_more, read_number, read_tries, read_headers, read_blocks}
+use Rattle.search_session.specs.Records.{recorded_headers, recorded_blocks, RecordOn, FilesKept, GoesOnFrom, RecordMoved}
+use Rattle.search_session.proofs.ManyReads.{takes_next, misses_next, begins_same, begins_more, pass_rests, rested_itself, rested_tries, no_reads, one_read, reads_more, read_number, read_tries, read_headers, read_blocks}
 
 -- ---- one read
 
 -- of one ring
 clears : (old new : ReaderPass) → ClearsNext old new → TriesNext (reader_knows old) (reader_knows new)
-clears old new c = record {
-  number = ap (λ (v : ReaderView). v.number) c.view;
-  tries = ap (λ (v : ReaderView). v.tries) c.view;
-  found = Some c.block;
-  cleared = ap (λ (v : ReaderView). v.cleared) c.view;
-  holds_none = λ none. ap (λ (v : ReaderView). v.got) c.view;
-}
-
-waits : (old new : ReaderPass) (stop : ReadStop) → IsReadStop (reader_knows old) stop (reader_knows new) →
-    TriesNext (reader_knows old) (reader_knows new)
-waits old new (Empty block seen) s = record {
-  number = ap (λ (v : ReaderView). v.number) s.rest;
-  tries = ap (λ (v : ReaderView). v.tries) s.rest;
-  found = None;
-  cleared = ap (λ (v : ReaderView). v.cleared) s.rest ∙ sym (append-nil (reader_knows old).cleared);
-  holds_none = λ none. ap (λ (v : ReaderView). v.got) s.rest ∙ none;
-}
-waits old new (Busy block reader) s = record {
-  number = ap (λ (v : ReaderView). v.number) s.rest;
-  tries = ap (λ (v : ReaderView). v.tries) s.rest;
-  found = None;
-  cleared = ap (λ (v : ReaderView). v.cleared) s.rest ∙ sym (append-nil (reader_knows old).cleared);
-  holds_none = λ none. ap (λ (v : ReaderView). v.got) s.rest ∙ none;
-}
+clears old new c = takes_next (reader_knows old) (reader_knows new) c.block c.view c.again
 
 -- of one of the two
 abbrev opposite : Bool → Bool
@@ -79,7 +52,8 @@ read_once : (b : Bool) (old new : HduReader) (end : Option RecordEnd) (answer : 
     RecordAnswers b old new end answer → ReadsRing (opposite b) (Here old) (Here new)
 read_once b old new end Moved a = by_ring ClearsNext clears b old new a.1
 read_once b old new end (Waiting stop) a =
-    by_ring (λ p q. IsReadStop (reader_knows p) stop (reader_knows q)) (λ p q is. waits p q stop is) b old new a.1
+    by_ring (λ p q. IsReadStop (reader_knows p) stop (reader_knows q))
+    (λ p q is. misses_next (reader_knows p) (reader_knows q) stop is) b old new a.1
 read_once b old new end (Ended is) a = by_ring ClearsNext clears b old new a.1
 
 -- a header is next where that of the transfer wasn't cleared
@@ -144,9 +118,29 @@ has_begun x reader was running stands = (goes_on _ _ _ (has_end x.part) running 
     goes_on t headers blocks (Some e) is stands = absurd cc
 
 module _ {F : Type 0} (seen : F → FilesSeen) where
+  files_themselves : (x : RecordActor F) → FilesKept seen x x
+  files_themselves x = record {
+    same_reference = refl;
+    made = λ outset are. are;
+    count = omega arith;
+    since = λ k was. was;
+  }
+
+  files_more : (x y z : RecordActor F) → FilesKept seen x y → FilesKept seen y z → FilesKept seen x z
+  files_more x y z a b =
+      let first = a.count in
+      let second = b.count in
+      record {
+        same_reference = b.same_reference ∙ a.same_reference;
+        made = λ outset are. b.made outset (a.made outset are);
+        count = omega arith;
+        since = λ k was. b.since k (a.since k was);
+      }
+
   -- a turn and its read
   pub record_turned : (x y : RecordActor F) (reader reader' : HduReader) (b : Bool) (end : Option RecordEnd)
-      (answer : RecordTurn) → x.pass ≡ Here reader → y.pass ≡ Here reader' → x.end ≡ None → y.end ≡ end →
+      (answer : RecordTurn) → x.pass ≡ Here reader → y.pass ≡ Here reader' → x.end ≡ None →
+      x.end ≡ has_end x.part → RecorderStands x.part (recorded_headers x) (recorded_blocks x) → y.end ≡ end →
       RecordAnswers b reader reader' end answer →
       length (cleared_headers reader) ≡ ended_transfers (cleared_blocks reader) + (if b then 1 else 0) →
       y.part.files.ghost_name ≡ x.part.files.ghost_name →
@@ -158,8 +152,8 @@ module _ {F : Type 0} (seen : F → FilesSeen) where
       (end ≢ Some FileFault → (seen y.part.files.now).faults ≡ (seen x.part.files.now).faults) →
       (seen x.part.files.now).faults ≤ (seen y.part.files.now).faults →
       y.turns ≡ min greatest (x.turns + 1) → RecordMoved seen 1 x y
-  record_turned x y reader reader' b end answer was now running is answers begun same plan block made failed quiet
-      count turns =
+  record_turned x y reader reader' b end answer was now running end_is stands is answers begun same plan block made
+      failed quiet count turns =
       let read : ReadsNext x.pass y.pass = subst (λ (p : HduEnded). ReadsNext p y.pass) (sym was)
       (subst (λ (p : HduEnded). ReadsNext (Here reader) p) (sym now)
       (has_read b reader reader' end answer answers begun)) in
@@ -194,7 +188,16 @@ module _ {F : Type 0} (seen : F → FilesSeen) where
         none = λ ended. absurd (some_not_none x.end ended running);
         stays = λ ended. absurd (some_not_none x.end ended running);
         turns = turns;
-        reads = one_read x.pass y.pass read;
+        reads = one_read (GoesOnFrom seen x) x.pass y.pass
+            (record {
+              actor = x;
+              pass_is = refl;
+              running = running;
+              end = end_is;
+              plan = refl;
+              stands = stands;
+              files = files_themselves x;
+            }) read;
         tries = read_tries next x.pass y.pass read;
         headers = read_headers next x.pass y.pass read;
         blocks = read_blocks next x.pass y.pass read;
@@ -235,7 +238,7 @@ module _ {F : Type 0} (seen : F → FilesSeen) where
         none = λ ended. refl;
         stays = λ ended. end;
         turns = more;
-        reads = no_reads x.pass y.pass same;
+        reads = no_reads (GoesOnFrom seen x) x.pass y.pass same;
         tries = omega arith;
         headers = begins_same (recorded_headers x) (recorded_headers y) same.header.cleared;
         blocks = begins_same (recorded_blocks x) (recorded_blocks y) same.blocks.cleared;
@@ -258,15 +261,8 @@ module _ {F : Type 0} (seen : F → FilesSeen) where
       let turns_b = b.turns in
       let tries_a = a.tries in
       let tries_b = b.tries in
-      let first = a.files.count in
-      let second = b.files.count in
       record {
-        files = record {
-          same_reference = b.files.same_reference ∙ a.files.same_reference;
-          made = λ outset are. b.files.made outset (a.files.made outset are);
-          count = omega arith;
-          since = λ k was. b.files.since k (a.files.since k was);
-        };
+        files = files_more x y z a.files b.files;
         plan = b.plan ∙ a.plan;
         size = b.size ∙ a.size;
         number = b.number ∙ a.number;
@@ -279,7 +275,16 @@ module _ {F : Type 0} (seen : F → FilesSeen) where
             omega arith;
         stays = λ ended. b.stays (stays_some ended) ∙ a.stays ended;
         turns = omega arith;
-        reads = reads_more a.made b.made x.pass y.pass z.pass a.reads b.reads;
+        reads = reads_more (GoesOnFrom seen x) (GoesOnFrom seen y)
+            (λ p goes. record {
+              actor = goes.actor;
+              pass_is = goes.pass_is;
+              running = goes.running;
+              end = goes.end;
+              plan = goes.plan ∙ a.plan;
+              stands = goes.stands;
+              files = files_more x y goes.actor a.files goes.files;
+            }) a.made b.made x.pass y.pass z.pass a.reads b.reads;
         tries = omega arith;
         headers = begins_more (recorded_headers x) (recorded_headers y) (recorded_headers z) a.headers b.headers;
         blocks = begins_more (recorded_blocks x) (recorded_blocks y) (recorded_blocks z) a.blocks b.blocks;

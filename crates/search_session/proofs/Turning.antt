@@ -1,19 +1,16 @@
 -- One read of a shard.
-use Rattle.std.proofs.Common.{◌≡◌, ℕ, ◌+◌, ◌*◌, ◌<◌, ◌≤◌, ◌^◌, Bool, true, false, ◌||◌, List, [], ◌∷◌, ◌++◌, length, length-append, vec_len, Option, Some, None, refl, sym, ap, ◌∙◌, subst, arith}
+use Rattle.std.proofs.Common.{◌≡◌, ℕ, ◌+◌, ◌*◌, ◌<◌, ◌≤◌, ◌^◌, Bool, true, false, ◌||◌, List, [], ◌∷◌, ◌++◌, length, length-append, vec_len, refl, sym, ap, ◌∙◌, subst, arith}
 use Rattle.std.specs.Prelude.{if◌then◌else◌, nat_le, nat_lt}
 use Rattle.std.proofs.lemmas.Bool.Decides.{nat_tests}
 use Rattle.std.proofs.lemmas.List.{append-nil}
 use Rattle.std.proofs.Math.Nat.{mul-le-mul_right}
 use Rattle.ring_blocks.specs.declared.Entry.{Entry}
 use Rattle.ring_blocks.specs.declared.Mark.{Mark}
-use Rattle.ring_words.specs.declared.views.ReaderView.{ReaderView}
-use Rattle.ring_words.specs.Views.{after_clear, got_list}
 use Rattle.ring_ends.specs.Passes.{reader_knows, ended_knows}
 use Rattle.dada_hdu.specs.declared.hdu.Hdu.{Hdu}
 use Rattle.dada_hdu.specs.declared.passes.HduReader.{HduReader}
 use Rattle.dada_hdu.specs.declared.ended.HduEnded.{HduEnded}
 use Rattle.dada_hdu.specs.declared.ended.HduEnded.TheVariants.{Here, Away, Retired}
-use Rattle.dada_hdu.specs.Answers.{ClearAnswers}
 use Rattle.dada_hdu.specs.Passes.{data_shape, data_end, ReadsBoth, EndedFromBoth}
 use Rattle.stream_model.specs.Blocks.{is_end, is_cut, ended_transfers, has_cut, is_over, transfer_bytes}
 use Rattle.stream_model.specs.BlockLaws.{EndsAreCounted, EntriesAreOfTransfers}
@@ -22,8 +19,8 @@ use Rattle.search_session.specs.declared.lane.Lane.{Lane}
 use Rattle.search_session.specs.declared.shard.ShardActor.{ShardActor}
 use Rattle.search_session.specs.Lanes.{HasEngine, WasFedAt}
 use Rattle.search_session.specs.Stages.{IsUnfed}
-use Rattle.search_session.specs.Reads.{TriesNext, header_is_next, ReadsRing, ReadsNext, HasRested}
-use Rattle.search_session.specs.Shards.{AreEnginesAt, EnginesFollow, HasTried, blocks_cleared, shard_cleared, IsHereOrRetired, IsRetired, ShardOn, ShardStepped, ShardMoved}
+use Rattle.search_session.specs.Reads.{TriesNext, header_is_next, ReadsRing, ReadsNext, HasMore, HasRested}
+use Rattle.search_session.specs.Shards.{AreEnginesAt, EnginesFollow, blocks_cleared, shard_cleared, IsHereOrRetired, IsRetired, ShardOn, ShardStepped, ShardMoved}
 use Rattle.search_session.proofs.ManyReads.{pass_rests, rested_tries, no_reads}
 use Rattle.search_session.proofs.Engines.{nothing, ended_more, not_below_itself, engines_at, engines_follow, follow_still}
 
@@ -184,56 +181,10 @@ within_was x reader m was within =
     subst (λ (l : List Entry). length l < m)
     (sym (ap (λ (p : HduEnded). (ended_knows (data_end p)).cleared) was)) within
 
-one_cleared : (r r' : ReaderView) (e : Entry) → r' ≡ after_clear r → r.got ≡ Some e → r'.cleared ≡ r.cleared ++ e ∷ []
-one_cleared r r' e is got = ap (λ (v : ReaderView). v.cleared) is
-    ∙ ap (λ (g : Option Entry). r.cleared ++ got_list g) got
-
--- a read of the data ring that found nothing
-pub found_none : (old new : HduReader) → HasTried (reader_knows old.blocks) (reader_knows new.blocks) →
-    (reader_knows new.blocks).got ≡ (reader_knows old.blocks).got → new.header ≡ old.header →
-    ReadsRing false (Here old) (Here new)
-found_none old new tried got header = (
-  pass_rests old.header new.header header,
-  record {
-    number = tried.number;
-    tries = tried.tries;
-    found = None;
-    cleared = tried.cleared ∙ sym (append-nil (blocks_cleared old));
-    holds_none = λ none. got ∙ none;
-  },
-)
-
 -- a read of the header ring
 pub read_header : (old new : HduReader) → TriesNext (reader_knows old.header) (reader_knows new.header) →
     new.blocks ≡ old.blocks → ReadsRing true (Here old) (Here new)
 read_header old new tried blocks = (tried, pass_rests old.blocks new.blocks blocks)
-
--- the reader that cleared the block
-pub record HasCleared (old new : HduReader) (e : Entry) : Type 0 where
-  pub more : blocks_cleared new ≡ blocks_cleared old ++ e ∷ []
-  pub read : ReadsRing false (Here old) (Here new)
-
-pub has_cleared : (old mid new : HduReader) (e : Entry) (n : ℕ) →
-    HasTried (reader_knows old.blocks) (reader_knows mid.blocks) → mid.header ≡ old.header →
-    (reader_knows mid.blocks).got ≡ Some e → ClearAnswers mid.blocks n new.blocks → new.header ≡ mid.header →
-    HasCleared old new e
-has_cleared old mid new e n tried header got cleared still =
-    let more : blocks_cleared new ≡ blocks_cleared old ++ e ∷ [] =
-    one_cleared (reader_knows mid.blocks) (reader_knows new.blocks) e cleared.cleared got
-    ∙ ap (λ (l : List Entry). l ++ e ∷ []) tried.cleared in
-    record {
-      more = more;
-      read = (
-        pass_rests old.header new.header (still ∙ header),
-        record {
-          number = ap (λ (v : ReaderView). v.number) cleared.cleared ∙ tried.number;
-          tries = ap (λ (v : ReaderView). v.tries) cleared.cleared ∙ tried.tries;
-          found = Some e;
-          cleared = more;
-          holds_none = λ none. ap (λ (v : ReaderView). v.got) cleared.cleared;
-        },
-      );
-    }
 
 pub ended_as : (r : Bool) (a a' d : ℕ) (m m' : Mark) → r ≡ (nat_le a d || is_cut m) → a ≡ a' → m ≡ m' →
     r ≡ (nat_le a' d || is_cut m')
@@ -369,7 +320,7 @@ module _ (hdu : Hdu) (x y : ShardActor) (same : HasRested x.pass y.pass) (part :
         none = λ was. refl;
         stays = λ was. ended ∙ was;
         turns = omega arith;
-        reads = no_reads x.pass y.pass same;
+        reads = no_reads (HasMore (length x.part.engines.value.items)) x.pass y.pass same;
         tries = omega arith;
         grown = ([], cleared_still ∙ sym (append-nil (shard_cleared x)));
         engines = subst (λ (lane : Lane). EnginesFollow (shard_cleared x) (shard_cleared y) x.part.engines.value.items

@@ -1,14 +1,16 @@
 -- What is known of shards and a recorder that ended.
 -- Source: this project's choice.
-use Rattle.std.specs.Prelude.{◌≡◌, ℕ, ◌<◌, true, List, [], ◌∷◌, ◌++◌, length, slice_get, Option, Some, None, option_map, IfSome}
+use Rattle.std.specs.Prelude.{◌≡◌, ℕ, ◌+◌, ◌<◌, ◌≤◌, true, List, [], ◌∷◌, ◌++◌, length, slice_get, Option, Some, None, option_map, IfSome}
 use Rattle.dada_hdu.specs.declared.hdu.Hdu.{Hdu}
 use Rattle.dada_hdu.specs.declared.ended.HduEnded.{HduEnded}
 use Rattle.dada_hdu.specs.Passes.{data_shape, number_of, EndedFromBoth}
+use Rattle.search_session.specs.declared.feed.FeedActor.{FeedActor}
 use Rattle.search_session.specs.declared.shard.ShardActor.{ShardActor}
 use Rattle.search_session.specs.declared.record.RecordActor.{RecordActor}
 use Rattle.search_session.specs.declared.hand.Hand.{Hand}
 use Rattle.search_session.specs.Shards.{ShardOn, shard_number}
-use Rattle.search_session.specs.Stages.{IsInHand}
+use Rattle.search_session.specs.Gathering.{recorder_in}
+use Rattle.search_session.specs.Stages.{HasShard, IsInHand}
 use Rattle.search_session.specs.Books.{passes_of}
 
 -- the pass of a slot, where there is one
@@ -49,3 +51,15 @@ pub record AreDone {F : Type 0} (hdu : Hdu) (transfers : ℕ) (shards : List (Op
 abbrev pub HaveEnginesIn : {I F : Type 0} → List (Hand I F) → ℕ → ℕ → Type 0
 HaveEnginesIn hands shards transfers = (x : ShardActor) → IsInHand hands x →
     shard_number x < shards → length x.part.engines.value.items ≡ transfers
+
+-- In these hands work a feeder, so many shards, each with as many engines, and the recorder, where there is one. They
+-- have all readers of the rings, the shards in order and the recorder the last.
+pub record HaveActors {I F : Type 0} (hdu : Hdu) (hands : List (Hand I F)) (shards : ℕ) :
+    Type 0 where
+  pub feeder : (h : Hand I F) × (f : FeedActor I) × (slice_get hands 0 ≡ Some h)
+      × (h.feeder ≡ Some f)
+  pub few : shards ≤ 7
+  pub shards_work : (s : ℕ) → s < shards → HasShard hands s
+  pub readers : shards + length (recorder_passes (recorder_in hands)) ≡ (data_shape hdu).readers
+  pub last : IfSome (recorder_in hands) (λ x. number_of x.pass ≡ shards)
+  pub engines : (transfers : ℕ) × HaveEnginesIn hands shards transfers

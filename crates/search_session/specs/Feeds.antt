@@ -8,21 +8,23 @@ use Rattle.dada_hdu.specs.declared.passes.HduWriter.{HduWriter}
 use Rattle.dada_hdu.specs.Passes.{WritesBoth}
 use Rattle.disk_feeder.specs.declared.answers.FeedEnd.{FeedEnd}
 use Rattle.disk_feeder.specs.declared.answers.FeedTurn.{FeedTurn}
-use Rattle.disk_feeder.specs.Feeder.{HasOpenFile, has_end, block_size, plan_at, names_at, FeederFits, FeederFeeds, FeederSince, FeederFaultless}
+use Rattle.disk_feeder.specs.Feeder.{HasOpenFile, has_end, block_size, plan_at, names_at, FeederFits, FeederFeeds, FeederSince, FeederFaultless, FeederRead}
 use Rattle.disk_feeder.specs.Filling.{HoldsAll}
 use Rattle.disk_feeder.specs.Turns.{TurnAnswers, sealed_headers, sealed_blocks}
 use Rattle.search_session.specs.declared.feed.FeedActor.{FeedActor}
 
--- one write: a block of one ring was sealed, or that ring was found full
-pub record HasWritten (old new : HduWriter) : Type 0 where
+-- one write, with which the stream came to this end, or to none: a block of one ring was sealed, or that ring was found
+-- full
+pub record HasWritten (old new : HduWriter) (end : Option FeedEnd) : Type 0 where
   pub answer : FeedTurn
-  pub end : Option FeedEnd
   pub did : TurnAnswers old new end answer
 
--- n of them, one after another
-unfoldable pub Writes : ℕ → HduWriter → HduWriter → Type 0
-Writes zero old new = new ≡ old
-Writes (suc n) old new = (mid : HduWriter) × Writes n old mid × HasWritten mid new
+-- n of them, one after another, and none after an end: the stream had come to the first end, or to none, and came to
+-- the second
+unfoldable pub Writes : ℕ → HduWriter → Option FeedEnd → HduWriter → Option FeedEnd → Type 0
+Writes zero old before new after = (new ≡ old) × (after ≡ before)
+Writes (suc n) old before new after =
+    (mid : HduWriter) × Writes n old before mid None × HasWritten mid new after
 
 -- A feeder of these rings stands for the lists that its pass sealed, and has ended where its part has. In these and the
 -- following: what inputs tell, whether a name is open, whether they are calm, and how many calls have failed.
@@ -45,11 +47,13 @@ pub record InputsKept {I : Type 0} (told : I → Told) (is_calm : I → Type 0) 
   pub count : faults f.part.inputs.now ≤ faults g.part.inputs.now
   pub since : (k : ℕ) → FeederSince k (faults f.part.inputs.now) f.part →
       FeederSince k (faults g.part.inputs.now) g.part
+  pub reads_on : (before : Told) → FeederRead before (told f.part.inputs.now) f.part →
+      FeederRead before (told g.part.inputs.now) g.part
   pub calm : is_calm f.part.inputs.now → is_calm g.part.inputs.now
   pub serves : is_calm f.part.inputs.now → HoldsAll (told f.part.inputs.now) (names_at f.part) →
       FeederFaultless f.part → FeederFaultless g.part
 
--- n turns of a feeder, or fewer where it ended: each made one write
+-- n turns of a feeder, or fewer where it ended: each made one write, and none came once it had ended
 pub record FeedMoved {I : Type 0} (told : I → Told) (is_calm : I → Type 0) (faults : I → ℕ) (n : ℕ)
     (f g : FeedActor I) : Type 0 where
   pub inputs : InputsKept told is_calm faults f g
@@ -61,4 +65,4 @@ pub record FeedMoved {I : Type 0} (told : I → Told) (is_calm : I → Type 0) (
   pub none : IsSome f.end → made ≡ 0
   pub stays : IsSome f.end → g.end ≡ f.end
   pub turns : g.turns ≡ min greatest (f.turns + made)
-  pub writes : Writes made f.pass g.pass
+  pub writes : Writes made f.pass f.end g.pass g.end

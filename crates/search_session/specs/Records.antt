@@ -8,6 +8,7 @@ use Rattle.ring_blocks.specs.declared.Entry.{Entry}
 use Rattle.ring_words.specs.Ring.{Begins}
 use Rattle.ring_ends.specs.Passes.{ended_knows}
 use Rattle.dada_hdu.specs.declared.hdu.Hdu.{Hdu}
+use Rattle.dada_hdu.specs.declared.ended.HduEnded.{HduEnded}
 use Rattle.dada_hdu.specs.Passes.{data_shape, header_end, data_end, number_of, tries_of, EndedFromBoth}
 use Rattle.dada_recorder.specs.declared.answers.RecordEnd.{RecordEnd}
 use Rattle.dada_recorder.specs.declared.answers.RecordEnd.TheVariants.{FileFault}
@@ -53,7 +54,19 @@ pub record FilesKept {F : Type 0} (seen : F → FilesSeen) (x y : RecordActor F)
   pub since : (k : ℕ) → RecordSince k (seen x.part.files.now).faults x.end →
       RecordSince k (seen y.part.files.now).faults y.end
 
--- n turns of a recorder, or fewer where it ended: each made one read
+-- the pass is that of a recorder which stands for the blocks that it cleared and has not ended, and which made its files
+-- of those of x
+pub record GoesOnFrom {F : Type 0} (seen : F → FilesSeen) (x : RecordActor F) (pass : HduEnded) :
+    Type 0 where
+  pub actor : RecordActor F
+  pub pass_is : actor.pass ≡ pass
+  pub running : actor.end ≡ None
+  pub end : actor.end ≡ has_end actor.part
+  pub plan : plan_of actor.part ≡ plan_of x.part
+  pub stands : RecorderStands actor.part (recorded_headers actor) (recorded_blocks actor)
+  pub files : FilesKept seen x actor
+
+-- n turns of a recorder, or fewer where it ended: each made one read, and none came once it had ended
 pub record RecordMoved {F : Type 0} (seen : F → FilesSeen) (n : ℕ) (x y : RecordActor F) :
     Type 0 where
   pub files : FilesKept seen x y
@@ -66,7 +79,7 @@ pub record RecordMoved {F : Type 0} (seen : F → FilesSeen) (n : ℕ) (x y : Re
   pub none : IsSome x.end → made ≡ 0
   pub stays : IsSome x.end → y.end ≡ x.end
   pub turns : y.turns ≡ min greatest (x.turns + made)
-  pub reads : Reads made x.pass y.pass
+  pub reads : Reads (GoesOnFrom seen x) made x.pass y.pass
   pub tries : tries_of y.pass ≡ tries_of x.pass + made
   pub headers : Begins (recorded_headers x) (recorded_headers y)
   pub blocks : Begins (recorded_blocks x) (recorded_blocks y)

@@ -20,11 +20,13 @@ use Rattle.stream_model.specs.Walk.{transfer_data}
 use Rattle.search_engine.specs.Engine.{EngineState, IsOpenedEngine, StandsForData}
 use Rattle.disk_feeder.specs.declared.answers.FeedEnd.TheVariants.{Whole, ReadFault}
 use Rattle.disk_feeder.specs.declared.feeder.Feeder.{Feeder}
-use Rattle.disk_feeder.specs.Feeder.{plan_at, names_at, block_size}
-use Rattle.disk_feeder.specs.Feeding.{IsEnded}
+use Rattle.disk_feeder.specs.Feeder.{plan_at, names_at, block_size, FeederRead}
+use Rattle.disk_feeder.specs.Feeding.{IsEnded, BreaksReading}
 use Rattle.disk_feeder.specs.Filling.{HoldsAll}
 use Rattle.disk_feeder.specs.Plan.{stream_of, AreTold}
+use Rattle.disk_feeder.specs.Turns.{sealed_blocks}
 use Rattle.search_session.specs.declared.lane.Lane.{Lane}
+use Rattle.search_session.specs.declared.feed.FeedActor.{FeedActor}
 use Rattle.search_session.specs.declared.shard.ShardActor.{ShardActor}
 use Rattle.search_session.specs.declared.record.RecordActor.{RecordActor}
 use Rattle.search_session.specs.declared.ended.SessionEnd.{SessionEnd}
@@ -39,7 +41,8 @@ abbrev pub data_through : {I F : Type 0} → SessionEnd I F → ℕ → List ℕ
 data_through end transfer = transfer_bytes transfer (sealed_at_end end.blocks)
 
 -- What the feeder came to: the end of the walk of its files with the walk's stream sealed, or the inputs' fault, which
--- comes only where their count rose. Where all data were sealed, those of each transfer are those of its files.
+-- comes only where their count rose, and leaves the full blocks of what was read. Where all data were sealed, those of
+-- each transfer are those of its files.
 pub record FeedAnswers {I F : Type 0} (told : I → Told) (is_calm : I → Type 0) (faults : I → ℕ)
     (feeder : Feeder I) (end : SessionEnd I F) : Type 0 where
   pub same_reference : end.inputs.ghost_name ≡ feeder.inputs.ghost_name
@@ -54,6 +57,11 @@ pub record FeedAnswers {I F : Type 0} (told : I → Told) (is_calm : I → Type 
       (headers_through feeder end)
       (sealed_at_end end.blocks)
       end.feed
+  pub broke : end.feed ≡ ReadFault → (before : Told) →
+      FeederRead before (told feeder.inputs.now) feeder → (files : List (List ℕ)) →
+      AreTold (told end.inputs.now) (names_at feeder) files →
+      BreaksReading (names_at feeder) (stream_of (plan_at feeder) files) before
+      (told end.inputs.now) (block_size feeder) (sealed_at_end end.blocks)
   pub few : length (joined_bytes (sealed_at_end end.blocks)) ≤ (plan_at feeder).max_bytes
   pub parts : (bytes : ℕ) → end.feed ≡ Whole bytes →
       sum_by (λ k. length (data_through end k)) (range_with_len 0 (length (plan_at feeder).starts))
@@ -118,7 +126,14 @@ pub record ShardAnswers {I F : Type 0} (transfers : ℕ) (lanes : List (Option L
 
 -- ---- once the hands are empty
 
--- what is known of a shard that stood in a hand
+-- what is known of a feeder: how it ended, its inputs, and what it sealed
+pub record IsEndOfFeeder {I F : Type 0} (end : SessionEnd I F) (f : FeedActor I) : Type 0 where
+  pub feed : f.end ≡ Some end.feed
+  pub inputs : end.inputs.now ≡ f.part.inputs.now
+  pub same_reference : end.inputs.ghost_name ≡ f.part.inputs.ghost_name
+  pub sealed : sealed_at_end end.blocks ≡ sealed_blocks f.pass
+
+-- what is known of a shard with this number
 pub record IsEndOf {I F : Type 0} (end : SessionEnd I F) (s : ℕ) (x : ShardActor) : Type 0 where
   pub cleared : cleared_at_end end.blocks s ≡ shard_cleared x
   pub begins : Begins (shard_cleared x) (sealed_at_end end.blocks)
@@ -127,7 +142,7 @@ pub record IsEndOf {I F : Type 0} (end : SessionEnd I F) (s : ℕ) (x : ShardAct
   pub spectra : s ≡ 0 → (k : ℕ) (e : EngineState) → HasEngine x.part.engines.value.items k e →
       slice_get end.spectra.items k ≡ Some e.sums.carry.fed
 
--- what is known of a recorder that stood in a hand, where these are the headers that were sealed
+-- what is known of a recorder, where these are the headers that were sealed
 pub record IsEndOfRecorder {I F : Type 0} (end : SessionEnd I F) (reader : ℕ) (headers : List Entry)
     (x : RecordActor F) : Type 0 where
   pub recorded : end.recorded ≡ x.end

@@ -1,13 +1,12 @@
 -- What a shard has read, and what its turns did.
 -- Source: this project's choice.
-use Rattle.std.specs.Prelude.{◌≡◌, ℕ, ◌+◌, ◌*◌, ◌<◌, ◌≤◌, ◌^◌, min, ⊤, true, false, nat_lt, List, length, vec_len, Option, Some}
+use Rattle.std.specs.Prelude.{◌≡◌, ℕ, ◌+◌, ◌*◌, ◌<◌, ◌≤◌, ◌^◌, min, ⊤, true, false, nat_lt, List, [], ◌∷◌, ◌++◌, length, vec_len, Option}
 use Rattle.dada_model.specs.Observation.{Observation}
 use Rattle.ring_core.specs.Machine.{greatest}
 use Rattle.ring_blocks.specs.declared.Entry.{Entry}
 use Rattle.ring_words.specs.Ring.{Begins}
 use Rattle.ring_words.specs.declared.shape.RingShape.{RingShape}
-use Rattle.ring_words.specs.declared.views.ReaderView.{ReaderView}
-use Rattle.ring_ends.specs.Passes.{reader_knows, ended_knows, is_read}
+use Rattle.ring_ends.specs.Passes.{reader_knows, ended_knows}
 use Rattle.ring_ends.specs.declared.answers.Taken.{Taken}
 use Rattle.dada_hdu.specs.declared.hdu.Hdu.{Hdu}
 use Rattle.dada_hdu.specs.declared.passes.HduReader.{HduReader}
@@ -19,7 +18,7 @@ use Rattle.search_engine.specs.Engine.{EngineState, SameShard, scope_of, most_fe
 use Rattle.search_session.specs.declared.lane.Lane.{Lane}
 use Rattle.search_session.specs.declared.shard.ShardActor.{ShardActor}
 use Rattle.search_session.specs.Lanes.{HasEngine, Stands, WasFedBlock}
-use Rattle.search_session.specs.Reads.{ReadsNext, Reads}
+use Rattle.search_session.specs.Reads.{ReadsRing, ReadsNext, HasMore, Reads}
 
 -- ---- engines and the blocks that were cleared
 
@@ -64,20 +63,21 @@ headers_cleared reader = (reader_knows reader.header).cleared
 abbrev pub blocks_cleared : HduReader → List Entry
 blocks_cleared reader = (reader_knows reader.blocks).cleared
 
--- it tried once more to take a block of a ring, and has cleared as many as before
-pub record HasTried (old new : ReaderView) : Type 0 where
-  pub number : new.number ≡ old.number
-  pub tries : new.tries ≡ old.tries + 1
-  pub cleared : new.cleared ≡ old.cleared
+-- a read of the data ring found no block, and no engine was fed
+pub record HasMissed (old new : HduReader) (lane lane' : Lane) : Type 0 where
+  pub read : ReadsRing false (Here old) (Here new)
+  pub cleared : blocks_cleared new ≡ blocks_cleared old
+  pub lane_is : lane' ≡ lane
 
--- a reader had cleared these blocks, fewer than its ring, of this shape, may carry, and got a block of data; the engine
--- of a transfer was fed it, and goes on whatever its mark
-pub record HasFed (ring : RingShape) (cleared : List Entry) (reader : HduReader) (lane : Lane)
-    (transfer : ℕ) (taken : Taken) (block : Entry) (lane' : Lane) : Type 0 where
-  pub got : (reader_knows reader.blocks).got ≡ Some block
-  pub read : is_read reader.blocks ≡ true
+-- A reader, which had cleared fewer blocks of data than its ring, of this shape, may carry, read the next one and
+-- cleared it. The engine of a transfer was fed the block, and goes on whatever its mark.
+pub record HasPassed (ring : RingShape) (old new : HduReader) (lane : Lane) (transfer : ℕ)
+    (taken : Taken) (lane' : Lane) : Type 0 where
+  pub block : Entry
+  pub read : ReadsRing false (Here old) (Here new)
+  pub cleared : blocks_cleared new ≡ blocks_cleared old ++ block ∷ []
   pub mark : taken.mark ≡ block.mark
-  pub within : length cleared < ring.max_blocks
+  pub within : length (blocks_cleared old) < ring.max_blocks
   pub fits : length block.bytes ≤ ring.size
   pub fed : WasFedBlock lane transfer block lane'
 
@@ -132,7 +132,7 @@ pub record ShardStepped (x y : ShardActor) : Type 0 where
   pub engines : EnginesFollow (shard_cleared x)
       (shard_cleared y) x.part.engines.value.items y.part.engines.value.items
 
--- n turns of a shard, or fewer where it ended: each made one read
+-- n turns of a shard, or fewer where it ended: each made one read, and none came once it had ended
 pub record ShardMoved (n : ℕ) (x y : ShardActor) : Type 0 where
   pub number : shard_number y ≡ shard_number x
   pub made : ℕ
@@ -141,7 +141,7 @@ pub record ShardMoved (n : ℕ) (x y : ShardActor) : Type 0 where
   pub none : x.ended ≡ true → made ≡ 0
   pub stays : x.ended ≡ true → y.ended ≡ true
   pub turns : y.turns ≡ min greatest (x.turns + made)
-  pub reads : Reads made x.pass y.pass
+  pub reads : Reads (HasMore (length x.part.engines.value.items)) made x.pass y.pass
   pub tries : tries_of y.pass ≡ tries_of x.pass + made
   pub grown : Begins (shard_cleared x) (shard_cleared y)
   pub engines : EnginesFollow (shard_cleared x)

@@ -1,19 +1,14 @@
 //! The end of a session.
 ghost use Rattle.std.specs.Prelude.{◌≡◌, ◌++◌, ◌<◌, ℕ, IsSome, Some, None, length, option_map, slice_get};
 ghost use Rattle.std.specs.Borrow.{MutBor};
-ghost use Rattle.ring_ends.specs.Ended.{sealed_at_end, cleared_at_end};
-ghost use Rattle.ring_words.specs.Ring.{Begins};
 ghost use Rattle.dada_hdu.specs.Passes.{WritesBoth};
-ghost use Rattle.disk_feeder.specs.Turns.{sealed_headers, sealed_blocks};
-ghost use Rattle.search_engine.specs.Engine.{EngineState};
+ghost use Rattle.disk_feeder.specs.Turns.{sealed_headers};
 ghost use Rattle.search_session.specs.declared.shard.ShardActor.{ShardActor as Shard};
 ghost use Rattle.search_session.specs.declared.record.RecordActor.{RecordActor as Recording};
-ghost use Rattle.search_session.specs.Lanes.{HasEngine};
-ghost use Rattle.search_session.specs.Shards.{shard_cleared};
-ghost use Rattle.search_session.specs.Books.{HasBooks, AreCounted, lanes_of};
+ghost use Rattle.search_session.specs.Books.{AreCounted};
 ghost use Rattle.search_session.specs.Ends.{AreDone, as_passes};
 ghost use Rattle.search_session.specs.Recorded.{HasNoRecording};
-ghost use Rattle.search_session.specs.Sessions.{IsEndOfRecorder};
+ghost use Rattle.search_session.specs.Sessions.{IsEndOfFeeder, IsEndOf, IsEndOfRecorder};
 
 use crate::books::{books_of, part_shards, spectra_of};
 use crate::feed::FeedActor;
@@ -109,19 +104,11 @@ pub(crate) fn finish<'a, I: Inputs, F: Files>(
     requires writer { WritesBoth hdu feeder.pass }
     requires ended { IsSome feeder.end }
     requires done { (transfers : ℕ) × AreDone hdu transfers shards.items recorder }
-    ensures inputs { result.inputs.now ≡ feeder.entry.part.inputs.now }
-    ensures same_reference { result.inputs.ghost_name ≡ feeder.entry.part.inputs.ghost_name }
-    ensures feed { feeder.entry.end ≡ Some result.feed }
-    ensures sealed { sealed_at_end result.blocks ≡ sealed_blocks feeder.entry.pass }
-    ensures cleared { (s : ℕ) (x : Shard) → slice_get shards.items s ≡ Some (Some x)
-        → (cleared_at_end result.blocks s ≡ shard_cleared x)
-        × Begins (shard_cleared x) (sealed_at_end result.blocks) }
+    ensures feeder { IsEndOfFeeder result feeder.entry }
+    ensures shards { (s : ℕ) (x : Shard) → slice_get shards.items s ≡ Some (Some x)
+        → IsEndOf result s x }
     ensures counted { (transfers : ℕ) → AreDone hdu transfers shards.items recorder.entry
         → AreCounted (length shards.items) transfers result.books.items result.spectra.items }
-    ensures books { HasBooks (lanes_of shards.items) result.books.items }
-    ensures spectra { (k : ℕ) (x : Shard) (e : EngineState)
-        → slice_get shards.items 0 ≡ Some (Some x) → HasEngine x.part.engines.value.items k e
-        → slice_get result.spectra.items k ≡ Some e.sums.carry.fed }
     ensures recorder { (x : Recording F) → recorder.entry ≡ Some x
         → IsEndOfRecorder result (length shards.items) (sealed_headers feeder.entry.pass) x }
     ensures no_recorder { recorder.entry ≡ None → HasNoRecording result }

@@ -1,5 +1,5 @@
 //! The engines of a shard.
-ghost use Rattle.std.specs.Prelude.{◌≡◌, ◌+◌, ◌≤◌, false, Some, [], length};
+ghost use Rattle.std.specs.Prelude.{◌≡◌, ◌+◌, ◌≤◌, false, Some, [], length, take};
 ghost use Rattle.stream_model.specs.Blocks.{is_end};
 ghost use Rattle.search_engine.specs.Engine.{EngineState, most_fed};
 ghost use Rattle.search_session.specs.Lanes.{CanFeedAt, WasFed, WasFedAt};
@@ -63,6 +63,16 @@ impl Lane {
             self.new.engines.value.items }
     {
         feed_in(&mut self.engines, transfer, bytes, is_last);
+    }
+
+    /// Feeds the engine of a transfer so many bytes in front of a space. It does not end.
+    pub(crate) fn feed_front(&mut self, transfer: usize, space: &[u8], used: usize)
+        requires within { used ≤ length space.now }
+        requires ready { CanFeedAt self.old.engines.value.items transfer (take used space.now) }
+        ensures { WasFedAt self.old.engines.value.items transfer (take used space.now) false
+            self.new.engines.value.items }
+    {
+        self.feed(transfer, &space[..used], false);
     }
 
     /// How many engines there are.

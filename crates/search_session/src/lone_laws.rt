@@ -4,7 +4,7 @@ ghost use Rattle.search_session.specs.LoneEnds.{LoneTurnsAdd, LoneSessionsEnd};
 use psr_base::Inputs;
 // Laws: they do nothing when they run, and the proofs use what they ensure.
 use dada_recorder::recordings_end;
-use disk_feeder::{feeders_end, headers_are_first};
+use disk_feeder::{faults_leave, feeders_end, headers_are_first};
 use stream_model::{bytes_are_joined, ends_are_counted, streams_have_transfers};
 
 /// Turns of a lone session add up, over any inputs that are lent to it.
@@ -19,6 +19,7 @@ pub fn lone_sessions_end<I: Inputs>()
 {
     feeders_end::<I>();
     headers_are_first::<I>();
+    faults_leave::<I>();
     recordings_end();
     bytes_are_joined();
     ends_are_counted();

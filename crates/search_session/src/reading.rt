@@ -5,8 +5,7 @@ ghost use Rattle.ring_ends.specs.Answers.{CanTakeNext};
 ghost use Rattle.dada_hdu.specs.Passes.{data_shape, ReadsBoth, EndedFromBoth};
 ghost use Rattle.search_session.specs.Lanes.{CanFeed};
 ghost use Rattle.search_session.specs.Reads.{TriesNext, HasRested};
-ghost use Rattle.search_session.specs.Shards.{blocks_cleared, HasTried, HasFed, IsHereOrRetired, IsRetired};
-ghost use Rattle.ring_blocks.specs.declared.Entry.{Entry};
+ghost use Rattle.search_session.specs.Shards.{HasMissed, HasPassed, IsHereOrRetired, IsRetired};
 
 use crate::lane::Lane;
 use dada_hdu::{Hdu, HduEnded, HduReader, Taken};
@@ -29,29 +28,78 @@ pub(crate) fn pass_header(hdu: &Hdu, reader: &mut HduReader, space: &mut [u8])
     }
 }
 
-// Feeds the next block of data to the engine of a transfer, which does not end. Where no block can be had (none is
-// there, or another reader holds it) it lets other threads run.
-pub(crate) fn feed_block(
+// Clears the next block of data, and feeds it to the engine of a transfer, which does not end. Where the space has room
+// for a block, other readers find it busy no longer than it is copied there; else they do while the engine makes its
+// pass. Where no block can be had (none is there, or another reader holds it) it lets other threads run.
+pub(crate) fn pass_block(
     hdu: &Hdu,
     reader: &mut HduReader,
     lane: &mut Lane,
     transfer: usize,
+    space: &mut [u8],
 ) -> Option<Taken>
     requires reads { ReadsBoth hdu.now reader.old }
     requires ready { CanTakeNext (CanFeed lane.old transfer) (data_shape hdu.now)
         (reader_knows reader.old.blocks) }
     ensures reads { ReadsBoth hdu.now reader.new }
-    ensures tried { HasTried (reader_knows reader.old.blocks) (reader_knows reader.new.blocks) }
-    ensures header { reader.new.header ≡ reader.old.header }
-    ensures none { result ≡ None
-        → (reader_knows reader.new.blocks).got ≡ (reader_knows reader.old.blocks).got }
-    ensures idle { result ≡ None → lane.new ≡ lane.old }
-    ensures block { IfSome result (λ taken. (block : Entry)
-        × HasFed (data_shape hdu.now) (blocks_cleared reader.old) reader.new lane.old transfer
-        taken block lane.new) }
+    ensures missed { result ≡ None → HasMissed reader.old reader.new lane.old lane.new }
+    ensures passed { IfSome result (λ taken. HasPassed (data_shape hdu.now)
+        reader.old reader.new lane.old transfer taken lane.new) }
+    ensures room { length space.new ≡ length space.old }
+{
+    if hdu.shape().size as usize <= space.len() {
+        copy_block(hdu, reader, lane, transfer, space)
+    } else {
+        lend_block(hdu, reader, lane, transfer)
+    }
+}
+
+// Copies the block to the space, clears it, and then feeds the engine from the space.
+fn copy_block(
+    hdu: &Hdu,
+    reader: &mut HduReader,
+    lane: &mut Lane,
+    transfer: usize,
+    space: &mut [u8],
+) -> Option<Taken>
+    requires reads { ReadsBoth hdu.now reader.old }
+    requires ready { CanTakeNext (CanFeed lane.old transfer) (data_shape hdu.now)
+        (reader_knows reader.old.blocks) }
+    requires room { (data_shape hdu.now).size ≤ length space.old }
+    ensures reads { ReadsBoth hdu.now reader.new }
+    ensures missed { result ≡ None → HasMissed reader.old reader.new lane.old lane.new }
+    ensures passed { IfSome result (λ taken. HasPassed (data_shape hdu.now)
+        reader.old reader.new lane.old transfer taken lane.new) }
+    ensures room { length space.new ≡ length space.old }
+{
+    match hdu.read(reader, space) {
+        Ok(taken) => {
+            hdu.clear(reader);
+            lane.feed_front(transfer, space, taken.used as usize);
+            Some(taken)
+        }
+        Err(_stop) => {
+            thread::yield_now();
+            None
+        }
+    }
+}
+
+// Feeds the engine from the block where it lies, and then clears it.
+fn lend_block(hdu: &Hdu, reader: &mut HduReader, lane: &mut Lane, transfer: usize) -> Option<Taken>
+    requires reads { ReadsBoth hdu.now reader.old }
+    requires ready { CanTakeNext (CanFeed lane.old transfer) (data_shape hdu.now)
+        (reader_knows reader.old.blocks) }
+    ensures reads { ReadsBoth hdu.now reader.new }
+    ensures missed { result ≡ None → HasMissed reader.old reader.new lane.old lane.new }
+    ensures passed { IfSome result (λ taken. HasPassed (data_shape hdu.now)
+        reader.old reader.new lane.old transfer taken lane.new) }
 {
     match hdu.read_to(reader, lane, transfer) {
-        Ok(taken) => Some(taken),
+        Ok(taken) => {
+            hdu.clear(reader);
+            Some(taken)
+        }
         Err(_stop) => {
             thread::yield_now();
             None

@@ -1,9 +1,7 @@
 //! A session: rounds until all have ended.
-ghost use Rattle.std.specs.Prelude.{◌≡◌, ℕ, ◌+◌, ◌*◌, ◌<◌, ◌≤◌, All, IfSome, Some, None, length, min, slice_get};
-ghost use Rattle.dada_hdu.specs.Passes.{data_shape, number_of};
-ghost use Rattle.ring_ends.specs.Ended.{sealed_at_end};
+ghost use Rattle.std.specs.Prelude.{◌≡◌, ℕ, ◌*◌, ◌<◌, ◌≤◌, All, Some, None, length, min, slice_get};
 ghost use Rattle.disk_feeder.specs.Feeder.{FeederFaultless};
-ghost use Rattle.disk_feeder.specs.Turns.{sealed_headers, sealed_blocks};
+ghost use Rattle.disk_feeder.specs.Turns.{sealed_headers};
 ghost use Rattle.search_session.specs.declared.hand.Hand.{Hand as Working};
 ghost use Rattle.search_session.specs.declared.feed.FeedActor.{FeedActor as Feeding};
 ghost use Rattle.search_session.specs.declared.shard.ShardActor.{ShardActor as Shard};
@@ -11,11 +9,11 @@ ghost use Rattle.search_session.specs.declared.record.RecordActor.{RecordActor a
 ghost use Rattle.search_session.specs.Hands.{HandOn, HandMoved, HandRetired, HandEnded, EachMoved};
 ghost use Rattle.search_session.specs.Shards.{shard_number};
 ghost use Rattle.search_session.specs.Gathering.{recorder_in};
-ghost use Rattle.search_session.specs.Stages.{StageOn, HasShard, IsInHand, transfers_of};
+ghost use Rattle.search_session.specs.Stages.{StageOn, IsInHand, transfers_of};
 ghost use Rattle.search_session.specs.Books.{AreCounted};
-ghost use Rattle.search_session.specs.Ends.{HaveEnginesIn, recorder_passes};
+ghost use Rattle.search_session.specs.Ends.{HaveActors, HaveEnginesIn};
 ghost use Rattle.search_session.specs.Recorded.{HasNoRecording, RecordedAnswers};
-ghost use Rattle.search_session.specs.Sessions.{FeedAnswers, ShardAnswers, IsEndOf, IsEndOfRecorder};
+ghost use Rattle.search_session.specs.Sessions.{FeedAnswers, ShardAnswers, IsEndOfFeeder, IsEndOf, IsEndOfRecorder};
 
 use crate::ended::{SessionEnd, finish};
 use crate::gate::Gate;
@@ -32,7 +30,7 @@ use std::thread::Threads;
 use std::time::Clock;
 // Laws: they do nothing when they run, and the proofs use what they ensure.
 use dada_recorder::recordings_end;
-use disk_feeder::{feeders_end, headers_are_first};
+use disk_feeder::{faults_leave, feeders_end, headers_are_first};
 use stream_model::{bytes_are_joined, ends_are_counted, streams_have_transfers};
 
 /// The first round has so many times the turns that a session is given, up to `MOST_TURNS`.
@@ -171,19 +169,9 @@ fn end_session<'a, I: Inputs, F: Files>(
 ) -> SessionEnd<'a, I, F>
     requires on { All (HandOn I.told I.is_open F.is_open hdu) hands.old }
     requires ended { All HandEnded hands.old }
-    requires feeder { (h : Working I F) × (f : Feeding I) × (slice_get hands.old 0 ≡ Some h)
-        × (h.feeder ≡ Some f) }
-    requires few { shards ≤ 7 }
-    requires shards { (s : ℕ) → s < shards → HasShard hands.old s }
-    requires readers { shards + length (recorder_passes (recorder_in hands.old))
-        ≡ (data_shape hdu).readers }
-    requires last { IfSome (recorder_in hands.old) (λ x. number_of x.pass ≡ shards) }
-    requires engines { (transfers : ℕ) × HaveEnginesIn hands.old shards transfers }
+    requires actors { HaveActors hdu hands.old shards }
     ensures feeder { (h : Working I F) (f : Feeding I) → slice_get hands.old 0 ≡ Some h
-        → h.feeder ≡ Some f → (f.end ≡ Some result.feed)
-        × (result.inputs.now ≡ f.part.inputs.now)
-        × (result.inputs.ghost_name ≡ f.part.inputs.ghost_name)
-        × (sealed_at_end result.blocks ≡ sealed_blocks f.pass) }
+        → h.feeder ≡ Some f → IsEndOfFeeder result f }
     ensures counted { (transfers : ℕ) → HaveEnginesIn hands.old shards transfers
         → AreCounted shards transfers result.books.items result.spectra.items }
     ensures shards { (s : ℕ) → s < shards → (x : Shard) × IsInHand hands.old x
@@ -221,6 +209,7 @@ pub fn run_session<
 {
     feeders_end::<I>();
     headers_are_first::<I>();
+    faults_leave::<I>();
     recordings_end();
     bytes_are_joined();
     ends_are_counted();

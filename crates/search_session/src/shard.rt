@@ -3,14 +3,14 @@ ghost use Rattle.std.specs.Prelude.{◌≡◌, false, true, if◌then◌else◌,
 ghost use Rattle.stream_model.specs.Blocks.{is_end, is_cut};
 
 use crate::lane::Lane;
-use crate::reading::{feed_block, has_next, pass_header, retire};
+use crate::reading::{has_next, pass_block, pass_header, retire};
 use dada_hdu::{Hdu, HduEnded, Mark};
 // Laws: they do nothing when they run, and the proofs use what they ensure.
 use stream_model::{ends_are_counted, entries_are_of_transfers};
 
-/// The shard of a search: one engine for each transfer, a reader of both rings, and the space that it reads headers to.
-/// `turns` counts its turns, up to the greatest u64, and `done` the engines that ended; it has `ended` where no block
-/// comes after those that it cleared.
+/// The shard of a search: one engine for each transfer, a reader of both rings, and the space that it reads headers to,
+/// and blocks of data where it has room for one. `turns` counts its turns, up to the greatest u64, and `done` the
+/// engines that ended; it has `ended` where no block comes after those that it cleared.
 #[derive(Drop)]
 pub struct ShardActor {
     pub part: Lane,
@@ -45,9 +45,10 @@ impl ShardActor {
     ghost use Rattle.search_session.specs.Reads.{header_is_next};
     ghost use Rattle.search_session.specs.Shards.{shard_cleared, IsRetired, KeepsEngines, ShardOn, ShardMoved, ShardStepped};
 
-    /// Takes one turn. Before the data of each transfer it reads a header and clears it; else it feeds a block of data,
-    /// where it lies, to the engine of its transfer, clears it, and ends the engine after the last block. A read that
-    /// finds nothing lets other threads run.
+    /// Takes one turn. Before the data of each transfer it reads a header and clears it; else it clears a block of data
+    /// and feeds it to the engine of its transfer, which it ends after the last block. Where the space has room for a
+    /// block, it is copied there and cleared before the engine is fed; else the engine is fed where the block lies. A
+    /// read that finds nothing lets other threads run.
     #[tactic(auto, using(crate::proofs::Moves::shard_turned))]
     pub fn turn(&mut self, hdu: &Hdu)
         requires on { ShardOn hdu.now self.old }
@@ -79,9 +80,9 @@ impl ShardActor {
         pass_header(hdu, reader, self.space.as_mut_slice());
     }
 
-    // Feeds the next block of data to the engine of its transfer. The engine ends, and so searches what is left and all
-    // folds, once the block is given back and cleared: meanwhile other shards can take it, and the writer its buffer.
-    // No clause asks for the clear first.
+    // Passes the next block of data, and feeds it to the engine of its transfer. The engine ends, and so searches what
+    // is left and all folds, once the block is cleared: meanwhile other shards can take it, and the writer its buffer.
+    // No clause asks for the clear before that, nor before the engine is fed.
     fn take_block(&mut self, hdu: &Hdu)
         requires on { ShardOn hdu.now self.old }
         requires running { self.old.ended ≡ false }
@@ -96,10 +97,10 @@ impl ShardActor {
         let HduEnded::Here(reader) = &mut self.pass else {
             unreachable!()
         };
-        let Some(taken) = feed_block(hdu, reader, &mut self.part, transfer) else {
+        let space = self.space.as_mut_slice();
+        let Some(taken) = pass_block(hdu, reader, &mut self.part, transfer, space) else {
             return;
         };
-        hdu.clear(reader);
         self.part.end_after(transfer, taken.mark);
         self.done += ended_with(taken.mark);
         self.ended = ends_stream(taken.mark, self.done as usize, transfers);

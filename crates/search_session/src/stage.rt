@@ -7,8 +7,9 @@ use dada_recorder::Recorder;
 use disk_feeder::Feeder;
 
 /// The parts of a session before its first turn. Lane s has the engines of shard s, and reader s reads for it, to space
-/// s; a space has room for 65537 bytes at least. The reader after those of the lanes is the recorder's, where there is
-/// one. The hands are empty. Each slot is `Some`.
+/// s; a space has room for 65537 bytes at least. Where it has room for a block, each is copied there before it is
+/// searched, and given back. The reader after those of the lanes is the recorder's, where there is one. The hands are
+/// empty. Each slot is `Some`.
 #[derive(Drop)]
 pub struct Stage<'a, I, F> {
     pub feeder: Feeder<'a, I>,

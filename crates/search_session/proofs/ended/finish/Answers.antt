@@ -1,4 +1,4 @@
-use Rattle.std.proofs.Common.{◌≡◌, ℕ, List, ◌++◌, Option, length, sym, ap, ◌∙◌, subst}
+use Rattle.std.proofs.Common.{◌≡◌, ℕ, List, ◌++◌, Option, Some, length, slice_get, sym, ap, ◌∙◌, subst}
 use Rattle.std.proofs.lemmas.List.{length-map}
 use Rattle.std.specs.Prelude.{All, option_map}
 use Rattle.ring_blocks.specs.declared.Entry.{Entry}
@@ -44,8 +44,8 @@ books_of-books-requires g c =
           (lanes_have c.args.hdu done.0 c.args.shards.items c.args.recorder done.1),
     )
 
-pub returns-clause-cleared : goal.returns-clause-cleared
-returns-clause-cleared g c = λ s x at.
+pub returns-clause-shards : goal.returns-clause-shards
+returns-clause-shards g c = λ s x at.
     let hdu = c.args.hdu in
     let shards = c.args.shards.items in
     let recorder = c.args.recorder in
@@ -56,10 +56,20 @@ returns-clause-cleared g c = λ s x at.
     subst (λ (l : List (Option HduEnded)). RingFinished (data_ring hdu) writer data_end l blocks)
     (all_passes shards recorder c.part_shards-passes.result.0.items c.with_pass.result.items
     c.part_recorder-last.result.pass c.with_pass.ensures c.part_shards-passes.ensures.passes
-    c.part_recorder-last.ensures.pass) c.finish-blocks.ensures.blocks in (
-      cleared_is hdu done.0 shards recorder done.1 writer blocks end s x at,
-      cleared_begins hdu done.0 shards recorder done.1 writer blocks end s x at,
-    )
+    c.part_recorder-last.ensures.pass) c.finish-blocks.ensures.blocks in
+    let lanes = c.part_shards-passes.ensures.lanes in
+    let books : HasBooks (lanes_of shards) c.books_of-books.result.items =
+    subst (λ (l : List (Option Lane)). HasBooks l c.books_of-books.result.items) lanes
+    (c.books_of-books.ensures done.0 (subst (λ (l : List (Option Lane)). HaveEngines done.0 l) (sym lanes)
+    (lanes_have hdu done.0 shards recorder done.1))).each in
+    record {
+      cleared = cleared_is hdu done.0 shards recorder done.1 writer blocks end s x at;
+      begins = cleared_begins hdu done.0 shards recorder done.1 writer blocks end s x at;
+      books = λ k e has. books k s x.part e (gives_lane shards s x at) has;
+      spectra = λ first k e has. c.spectra_of-spectra.ensures.each k x.part e
+          (subst (λ (l : List (Option Lane)). HasLane l 0 x.part) (sym (c.as_slice.ensures.value ∙ lanes))
+          (gives_lane shards 0 x (subst (λ (j : ℕ). slice_get shards j ≡ Some (Some x)) first at))) has;
+    }
 
 pub returns-clause-counted : goal.returns-clause-counted
 returns-clause-counted g c = λ transfers done.
@@ -84,19 +94,6 @@ returns-clause-counted g c = λ transfers done.
           books.shards;
       spectra_count = spectra ∙ ap (λ (n : ℕ). transfers_searched n transfers) long;
     }
-
-pub returns-clause-books : goal.returns-clause-books
-returns-clause-books g c =
-    let done = c.requires.done in
-    let lanes = c.part_shards-passes.ensures.lanes in
-    subst (λ (l : List (Option Lane)). HasBooks l c.books_of-books.result.items) lanes
-    (c.books_of-books.ensures done.0 (subst (λ (l : List (Option Lane)). HaveEngines done.0 l) (sym lanes)
-    (lanes_have c.args.hdu done.0 c.args.shards.items c.args.recorder done.1))).each
-
-pub returns-clause-spectra : goal.returns-clause-spectra
-returns-clause-spectra g c = λ k x e at has. c.spectra_of-spectra.ensures.each k x.part e
-    (subst (λ (l : List (Option Lane)). HasLane l 0 x.part)
-    (sym (c.as_slice.ensures.value ∙ c.part_shards-passes.ensures.lanes)) (gives_lane c.args.shards.items 0 x at)) has
 
 pub returns-clause-recorder : goal.returns-clause-recorder
 returns-clause-recorder g c = λ x is.

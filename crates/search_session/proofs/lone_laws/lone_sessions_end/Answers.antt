@@ -7,6 +7,7 @@ returns g c =
     let laws : SessionLaws g.row.I.Denot = record {
       end = c.feeders_end.ensures;
       first = c.headers_are_first.ensures;
+      leave = c.faults_leave.ensures;
       recordings = c.recordings_end.ensures;
       joined = c.bytes_are_joined.ensures;
       counted = c.ends_are_counted.ensures;

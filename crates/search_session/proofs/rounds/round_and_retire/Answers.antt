@@ -12,7 +12,8 @@ returns g c =
     let files_open = g.F.Files.is_open in
     let seen = g.F.Files.seen in
     let both = hands_more told is_open is_calm faults files_open seen c.args.turns 0 c.args.hands.now
-    c.drive_hands-had_threads.new.hands c.retire_ended.new.hands c.drive_hands-had_threads.ensures.moved c.retire_ended.ensures.moved in
+    c.drive_hands-had_threads.new.hands c.retire_ended.new.hands c.drive_hands-had_threads.ensures.moved
+    c.retire_ended.ensures.moved in
     let none : c.args.turns + 0 ≡ c.args.turns = omega arith in
     record {
       on = c.retire_ended.ensures.on;

@@ -1,13 +1,12 @@
 use Rattle.std.proofs.Common.{◌≡◌, ℕ, List, Some, length, slice_get, sym, ap, ◌∙◌, subst, arith}
 use Rattle.std.proofs.lemmas.Option.{slice_get_within}
 use Rattle.ring_blocks.specs.declared.Entry.{Entry}
-use Rattle.disk_feeder.specs.Turns.{sealed_headers, sealed_blocks}
+use Rattle.disk_feeder.specs.Turns.{sealed_headers}
 use Rattle.search_session.specs.declared.feed.FeedActor.{FeedActor}
 use Rattle.search_session.specs.declared.hand.Hand.{Hand}
 use Rattle.search_session.specs.Books.{AreCounted}
-use Rattle.search_session.specs.Sessions.{IsEndOfRecorder}
+use Rattle.search_session.specs.Sessions.{IsEndOfFeeder, IsEndOfRecorder}
 use Rattle.search_session.proofs.Gathered.{count_same}
-use Rattle.search_session.proofs.Finishing.{gives_lane}
 use Rattle.search_session.proofs.Ending.{feeder_on, feeder_ended}
 use Rattle.search_session.proofs.Leaving.{in_old, work_still, some_new, is_recorder, are_done}
 use Rattle.search_session.proofs.session.end_session.Goals as goal
@@ -32,8 +31,8 @@ gather-shards-requires g c =
     let second = c.take_recorder-recorder.ensures.gives in
     record {
       some = some_new old mid new f r first second;
-      few = c.requires.few;
-      shards = λ s below. work_still old mid new f r first second s (c.requires.shards s below);
+      few = c.requires.actors.few;
+      shards = λ s below. work_still old mid new f r first second s (c.requires.actors.shards_work s below);
     }
 
 pub finish-requires : goal.finish-requires
@@ -54,10 +53,10 @@ finish-requires g c =
       writer = (feeder_on told is_open files_open hdu old q.on first.before f first.there first.works).writes;
       ended = feeder_ended old first.before f q.ended first.there first.works;
       done = (
-        q.engines.0,
+        q.actors.engines.0,
         are_done old mid new f r first second told is_open files_open hdu q.on q.ended
             c.take_recorder-recorder.ensures.is c.gather-shards.result.items c.args.shards c.gather-shards.ensures
-            q.readers q.last q.engines.0 q.engines.1,
+            q.actors.readers q.actors.last q.actors.engines.0 q.actors.engines.1,
       );
     }
 
@@ -83,29 +82,20 @@ returns g c =
     let r_is = is_recorder old mid new f r first second c.take_recorder-recorder.ensures.is in
     record {
       feeder = λ h other at works.
-          let same : f ≡ other = one_feeder I F old first.before h f other first.there first.works at works in (
-            ap (λ (x : FeedActor I). x.end) (sym same) ∙ end.feed,
-            end.inputs ∙ ap (λ (x : FeedActor I). x.part.inputs.now) same,
-            end.same_reference ∙ ap (λ (x : FeedActor I). x.part.inputs.ghost_name) same,
-            end.sealed ∙ ap (λ (x : FeedActor I). sealed_blocks x.pass) same,
-          );
+          subst (λ (x : FeedActor I). IsEndOfFeeder c.finish.result x)
+          (one_feeder I F old first.before h f other first.there first.works at works) end.feeder;
       counted = λ transfers engines.
           subst (λ (n : ℕ). AreCounted n transfers c.finish.result.books.items c.finish.result.spectra.items)
           gathered.count
           (end.counted transfers (are_done old mid new f r first second told is_open files_open hdu q.on q.ended
-          c.take_recorder-recorder.ensures.is shards c.args.shards gathered q.readers q.last transfers engines));
+          c.take_recorder-recorder.ensures.is shards c.args.shards gathered q.actors.readers q.actors.last transfers
+          engines));
       shards = λ s below.
           let h = gathered.each s below in (
             h.0,
             in_old old mid new f r first second h.0 h.3,
             h.2,
-            record {
-              cleared = (end.cleared s h.0 h.1).0;
-              begins = (end.cleared s h.0 h.1).1;
-              books = λ k e has. end.books k s h.0.part e (gives_lane shards s h.0 h.1) has;
-              spectra = λ is_first k e has. end.spectra k h.0 e
-                  (subst (λ (j : ℕ). slice_get shards j ≡ Some (Some h.0)) is_first h.1) has;
-            },
+            end.shards s h.0 h.1,
           );
       recorder = λ h other x at works is.
           let same : f ≡ other = one_feeder I F old first.before h f other first.there first.works at works in

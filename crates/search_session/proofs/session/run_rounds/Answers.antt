@@ -26,7 +26,8 @@ loop-round-preserved g c =
       moved = (
         before.0 + c.turns_now-now.result,
         hands_more told is_open is_calm faults files_open seen before.0 c.turns_now-now.result c.args.hands.now
-            c.loop-round.hands c.round_and_retire-had_threads.new.hands before.1 c.round_and_retire-had_threads.ensures.moved,
+            c.loop-round.hands c.round_and_retire-had_threads.new.hands before.1
+            c.round_and_retire-had_threads.ensures.moved,
       );
     }
 
@@ -46,6 +47,7 @@ returns-then-all_ended g c =
       moved = (
         before.0 + c.turns_now-now.result,
         hands_more told is_open is_calm faults files_open seen before.0 c.turns_now-now.result c.args.hands.now
-            c.loop-round.hands c.round_and_retire-had_threads.new.hands before.1 c.round_and_retire-had_threads.ensures.moved,
+            c.loop-round.hands c.round_and_retire-had_threads.new.hands before.1
+            c.round_and_retire-had_threads.ensures.moved,
       );
     }

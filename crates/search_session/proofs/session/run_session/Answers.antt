@@ -44,17 +44,19 @@ end_session-requires g c =
     record {
       on = all.on;
       ended = all.ended;
-      feeder = (all.feeder.hand, all.feeder.feeder, all.feeder.there, all.feeder.works);
-      few = c.len-shards.ensures.fits;
-      shards = λ s near. all.shards s (subst (λ (k : ℕ). s < k) value near);
-      readers = omega arith;
-      last = works_last seen c.len-shards.result now recorder works;
-      engines = (
-        transfers_of stage,
-        subst (λ (k : ℕ). HaveEnginesIn now k (transfers_of stage)) (sym value)
-            (engines_of told is_open is_calm faults files_open seen hdu start lanes recorder now (transfers_of stage)
-            c.requires.stage.lanes all),
-      );
+      actors = record {
+        feeder = (all.feeder.hand, all.feeder.feeder, all.feeder.there, all.feeder.works);
+        few = c.len-shards.ensures.fits;
+        shards_work = λ s near. all.shards s (subst (λ (k : ℕ). s < k) value near);
+        readers = omega arith;
+        last = works_last seen c.len-shards.result now recorder works;
+        engines = (
+          transfers_of stage,
+          subst (λ (k : ℕ). HaveEnginesIn now k (transfers_of stage)) (sym value)
+              (engines_of told is_open is_calm faults files_open seen hdu start lanes recorder now (transfers_of stage)
+              c.requires.stage.lanes all),
+        );
+      };
     }
 
 pub returns : goal.returns
@@ -84,6 +86,7 @@ returns g c =
     let laws : SessionLaws g.row.I.Denot = record {
       end = c.feeders_end.ensures;
       first = c.headers_are_first.ensures;
+      leave = c.faults_leave.ensures;
       recordings = c.recordings_end.ensures;
       joined = c.bytes_are_joined.ensures;
       counted = c.ends_are_counted.ensures;
@@ -94,16 +97,17 @@ returns g c =
     let f = e.feeder all.feeder.hand all.feeder.feeder all.feeder.there all.feeder.works in
     record {
       feed = feed_is told is_open is_calm faults files_open seen hdu start lanes recorder now (transfers_of stage)
-          c.requires.stage.lanes all laws end f.0 f.1 f.3 f.2 c.requires.stage.running c.requires.faultless;
+          c.requires.stage.lanes all laws end f.feed f.inputs f.sealed f.same_reference c.requires.stage.running
+          c.requires.faultless;
       shards = shards_are told is_open is_calm faults files_open seen hdu start lanes recorder now (transfers_of stage)
-          c.requires.stage.lanes all laws end f.0 f.1 f.3 refl
+          c.requires.stage.lanes all laws end f.feed f.inputs f.sealed refl
           (subst (λ (k : ℕ). AreCounted k (transfers_of stage) end.books.items end.spectra.items) value
           (e.counted (transfers_of stage) (subst (λ (k : ℕ). HaveEnginesIn now k (transfers_of stage)) (sym value)
           (engines_of told is_open is_calm faults files_open seen hdu start lanes recorder now (transfers_of stage)
           c.requires.stage.lanes all))))
           (λ s near. e.shards s (subst (λ (k : ℕ). s < k) (sym value) near));
       recorded = recorded_are told is_open is_calm faults files_open seen hdu start lanes recorder now
-          (transfers_of stage) c.requires.stage.lanes all laws end f.0 f.1 f.3
+          (transfers_of stage) c.requires.stage.lanes all laws end f.feed f.inputs f.sealed
           (subst (λ (h : Hdu). IfSome recorder (IsFreshRecorder files_open h)) (sym staffed.hdu)
           c.requires.stage.recorder)
           (λ x is. subst (λ (k : ℕ). IsEndOfRecorder end k (sealed_headers all.feeder.feeder.pass) x) value

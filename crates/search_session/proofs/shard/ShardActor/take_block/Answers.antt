@@ -5,36 +5,35 @@ use Rattle.ring_blocks.specs.declared.Mark.{Mark}
 use Rattle.dada_hdu.specs.Passes.{data_shape}
 use Rattle.stream_model.specs.Blocks.{is_end}
 use Rattle.search_session.proofs.Engines.{can_end, fed_then_ended, ended_at}
-use Rattle.search_session.proofs.Turning.{on_still, stepped_still, within_was, done_below, one_most, takes_block, has_cleared, HasCleared, ended_as, on_fed, stepped_fed, found_none}
+use Rattle.search_session.proofs.Turning.{on_still, stepped_still, within_was, done_below, one_most, takes_block, ended_as, on_fed, stepped_fed}
 use Rattle.search_session.proofs.shard.ShardActor.take_block.Goals as goal
 
-pub feed_block-requires-clause-ready : goal.feed_block-requires-clause-ready
-feed_block-requires-clause-ready c = λ block within fits.
+pub pass_block-requires-clause-ready : goal.pass_block-requires-clause-ready
+pass_block-requires-clause-ready c = λ block within fits.
     let x = c.args.self.now in
     takes_block c.args.hdu.now x (length block.bytes) c.requires.on c.requires.running fits
     (within_was x c.in-Here.reader (data_shape c.args.hdu.now).max_blocks c.in-Here.is within)
 
-pub returns-in_default-feed_block-clause-on : goal.returns-in_default-feed_block-clause-on
-returns-in_default-feed_block-clause-on c = on_still c.args.hdu.now c.args.self.now _ c.in-Here.reader
-    c.feed_block.new.reader c.in-Here.is refl c.in_default-feed_block.ensures.reads
-    c.in_default-feed_block.ensures.tried.cleared (c.in_default-feed_block.ensures.idle refl) refl refl refl refl
-    c.requires.on
+pub returns-in_default-pass_block-clause-on : goal.returns-in_default-pass_block-clause-on
+returns-in_default-pass_block-clause-on c =
+    let missed = c.in_default-pass_block.ensures.missed refl in
+    on_still c.args.hdu.now c.args.self.now _ c.in-Here.reader c.pass_block.new.reader c.in-Here.is refl
+    c.in_default-pass_block.ensures.reads missed.cleared missed.lane_is refl refl refl refl c.requires.on
 
-pub returns-in_default-feed_block-clause-stepped : goal.returns-in_default-feed_block-clause-stepped
-returns-in_default-feed_block-clause-stepped c = stepped_still c.args.hdu.now c.args.self.now _ c.in-Here.reader
-    c.feed_block.new.reader c.in-Here.is refl false c.requires.next
-    (found_none c.in-Here.reader c.feed_block.new.reader c.in_default-feed_block.ensures.tried
-    (c.in_default-feed_block.ensures.none refl) c.in_default-feed_block.ensures.header)
-    c.in_default-feed_block.ensures.tried.cleared (c.in_default-feed_block.ensures.idle refl) refl refl refl
+pub returns-in_default-pass_block-clause-stepped : goal.returns-in_default-pass_block-clause-stepped
+returns-in_default-pass_block-clause-stepped c =
+    let missed = c.in_default-pass_block.ensures.missed refl in
+    stepped_still c.args.hdu.now c.args.self.now _ c.in-Here.reader c.pass_block.new.reader c.in-Here.is refl false
+    c.requires.next missed.read missed.cleared missed.lane_is refl refl refl
 
 pub end_after-requires : goal.end_after-requires
 end_after-requires c =
     let hdu = c.args.hdu.now in
     let x = c.args.self.now in
-    let b = c.in-Some.ensures.block in
-    can_end x.part.engines.value.items c.feed_block.new.lane.engines.value.items x.done b.0.bytes
-    (takes_block hdu x (length b.0.bytes) c.requires.on c.requires.running b.1.fits
-    (within_was x c.in-Here.reader (data_shape hdu).max_blocks c.in-Here.is b.1.within)) b.1.fed
+    let p = c.in-Some.ensures.passed in
+    can_end x.part.engines.value.items c.pass_block.new.lane.engines.value.items x.done p.block.bytes
+    (takes_block hdu x (length p.block.bytes) c.requires.on c.requires.running p.fits
+    (within_was x c.in-Here.reader (data_shape hdu).max_blocks c.in-Here.is p.within)) p.fed
 
 pub overflow_add-self : goal.overflow_add-self
 overflow_add-self c =
@@ -46,24 +45,21 @@ pub returns : goal.returns
 returns c =
     let hdu = c.args.hdu.now in
     let x = c.args.self.now in
-    let b = c.in-Some.ensures.block in
-    let block : Entry = b.0 in
-    let cleared : HasCleared c.in-Here.reader c.clear.new.pass block =
-    has_cleared c.in-Here.reader c.feed_block.new.reader c.clear.new.pass block c.clear.result c.in-Some.ensures.tried
-    c.in-Some.ensures.header b.1.got c.clear.ensures.blocks c.clear.ensures.header in
+    let p = c.in-Some.ensures.passed in
+    let block : Entry = p.block in
     let lanes = c.end_after.new.self.engines.value.items in
-    let fed = ended_at x.part.engines.value.items lanes x.done block.bytes c.in-Some.taken.mark block.mark b.1.mark
-    (fed_then_ended x.part.engines.value.items c.feed_block.new.lane.engines.value.items lanes x.done block.bytes
-    (is_end c.in-Some.taken.mark) b.1.fed c.end_after.ensures) in
+    let fed = ended_at x.part.engines.value.items lanes x.done block.bytes c.in-Some.taken.mark block.mark p.mark
+    (fed_then_ended x.part.engines.value.items c.pass_block.new.lane.engines.value.items lanes x.done block.bytes
+    (is_end c.in-Some.taken.mark) p.fed c.end_after.ensures) in
     let done : x.done + c.ended_with.result ≡ x.done + (if is_end block.mark then 1 else 0) =
-    ap (λ (n : ℕ). x.done + n) (c.ended_with.ensures ∙ ap (λ (m : Mark). if is_end m then 1 else 0) b.1.mark) in
+    ap (λ (n : ℕ). x.done + n) (c.ended_with.ensures ∙ ap (λ (m : Mark). if is_end m then 1 else 0) p.mark) in
     record {
-      on = on_fed hdu x _ c.in-Here.reader c.clear.new.pass c.in-Here.is refl c.ends_are_counted.ensures
-          c.entries_are_of_transfers.ensures block cleared.more b.1.fits c.requires.on fed c.clear.ensures.ring refl
+      on = on_fed hdu x _ c.in-Here.reader c.pass_block.new.reader c.in-Here.is refl c.ends_are_counted.ensures
+          c.entries_are_of_transfers.ensures block p.cleared p.fits c.requires.on fed c.in-Some.ensures.reads refl
           refl c.requires.running done (ended_as c.ends_stream-self.result c.count-transfers.result
           (length lanes) (x.done + c.ended_with.result) c.in-Some.taken.mark block.mark
-          c.ends_stream-self.ensures (c.count-transfers.ensures.count ∙ sym fed.count) b.1.mark);
-      stepped = stepped_fed hdu x _ c.in-Here.reader c.clear.new.pass c.in-Here.is refl c.ends_are_counted.ensures
-          c.entries_are_of_transfers.ensures block cleared.more b.1.fits c.requires.on fed false c.requires.next
-          cleared.read refl;
+          c.ends_stream-self.ensures (c.count-transfers.ensures.count ∙ sym fed.count) p.mark);
+      stepped = stepped_fed hdu x _ c.in-Here.reader c.pass_block.new.reader c.in-Here.is refl
+          c.ends_are_counted.ensures c.entries_are_of_transfers.ensures block p.cleared p.fits c.requires.on fed false
+          c.requires.next p.read refl;
     }
