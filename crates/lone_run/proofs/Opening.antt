@@ -1,5 +1,5 @@
 -- How a lone run is opened, or stops before its session.
-use Rattle.std.proofs.Common.{◌≡◌, ◌≢◌, ◌*◌, ◌≤◌, List, [], ◌∷◌, Option, Some, None, Ok, length, map, take, inl, inr, refl, sym, ap, ◌∙◌, subst, arith}
+use Rattle.std.proofs.Common.{◌≡◌, ◌≢◌, ℕ, ◌*◌, ◌≤◌, List, [], ◌∷◌, Option, Some, Result, Ok, Err, length, map, inl, inr, refl, sym, ap, ◌∙◌, subst, arith}
 use Rattle.std.specs.Prelude.{slice_get}
 use Rattle.std.proofs.lemmas.List.{length-map}
 use Rattle.psr_base.specs.Told.{Told}
@@ -11,25 +11,27 @@ use Rattle.stream_model.specs.Walk.{FileStream}
 use Rattle.search_engine.specs.Engine.{most_fed}
 use Rattle.search_engine.specs.Scope.{Scope}
 use Rattle.disk_feeder.specs.declared.feeder.Feeder.{Feeder}
-use Rattle.disk_feeder.specs.Feeder.{HasPlan, SamePlan, FeederFeeds, FeederFaultless, HasOpenFile, has_end, header_at}
-use Rattle.disk_feeder.specs.Feeding.{header_entries}
+use Rattle.disk_feeder.specs.Feeder.{HasPlan, header_at, names_at}
 use Rattle.search_session.specs.declared.lane.Lane.{Lane}
 use Rattle.search_session.specs.declared.lone_space.LoneSpace.{LoneSpace}
 use Rattle.search_session.specs.Lone.{IsLoneSpace}
+use Rattle.search_opening.specs.Feeders.{HasReadOnly, StopsReadingFirsts, HasAcceptedFirsts}
 use Rattle.search_opening.specs.First.{AreFirsts, AreObserved, StopsFirsts}
 use Rattle.search_opening.specs.Plans.{IsOfPlan, StopsSearch}
 use Rattle.run_stop.specs.declared.stop.Stop.{Stop}
 use Rattle.run_stop.specs.declared.stop.Stop.TheVariants.{Words, Value, Header, Plan, Recording, Memory, ReadFault, Gap, TooLong, TooMany, SinkFault, FileFault}
+use Rattle.run_stop.specs.Firsts.{ReadsFirsts, BreaksFirstOf}
 use Rattle.run_stop.specs.Lone.{LoneSearch, IsOfOne}
 use Rattle.run_stop.specs.Runs.{Alone, CanSearchFirst, first_observation, stream_for}
 use Rattle.run_stop.specs.Ends.{ComesBefore, SaysBefore}
+use Rattle.whole_run.specs.Openings.{LeavesEarly}
 use Rattle.whole_run.specs.Wholes.{OfRun}
 use Rattle.lone_run.specs.declared.stop.LoneStop.{LoneStop}
 use Rattle.lone_run.specs.declared.stop.LoneStop.TheVariants.{Run, Unscoped}
 use Rattle.lone_run.specs.Scopes.{IsScoped, IsLaneOf}
 use Rattle.lone_run.specs.Stops.{SaysAlone, StopsEarly, StopsLane}
 use Rattle.lone_run.specs.Openings.{IsFeederReady, HasBegun, IsOpenedAlone, shape_for}
-use Rattle.lone_run.proofs.Told.{before_reading}
+use Rattle.lone_run.proofs.Told.{before_reading, of_plan}
 
 -- ---- the one observation
 
@@ -153,46 +155,82 @@ stops_before_reading scopes refuses s old new stop same stops = record {
   says = λ lone. before_reading s old new (λ w. SaysAlone scopes refuses lone s w stop) same (stops.says lone);
 }
 
+-- ---- what was read
+
+-- the first headers of the settings' files, and nothing else was
+reads_only : {I : Type 0} (told : I → Told) (s : SettingsSeen) (old new : Feeder I) →
+    HasPlan old s.names s.starts s.size s.max_bytes → HasReadOnly told old new →
+    OfRun (told old.inputs.now) s (λ w. ReadsFirsts s.names w (told old.inputs.now) (told new.inputs.now))
+reads_only told s old new plan read =
+    let before = told old.inputs.now in
+    let after = told new.inputs.now in
+    let Names : List (List ℕ) → Type 0 = λ names. OfRun before s (λ w. ReadsFirsts names w before after) in
+    subst Names plan.files
+    (of_plan old s before before (λ w. ReadsFirsts (names_at old) w before after) plan refl read)
+
+-- what a run has read that stopped so
+pub leaves_early : {I : Type 0} (told : I → Told) (s : SettingsSeen) (old new : Feeder I) (stop : Stop) →
+    HasPlan old s.names s.starts s.size s.max_bytes → StopsReadingFirsts told old new stop →
+    LeavesEarly s (told old.inputs.now) (told new.inputs.now) stop
+leaves_early told s old new stop plan stops =
+    let before = told old.inputs.now in
+    let after = told new.inputs.now in
+    record {
+      unread = λ want. reads_only told s old new plan (stops.unread want);
+      broke = λ failed.
+          let broke = stops.broke failed in
+          let Names : List (List ℕ) → Type 0 = λ names. OfRun before s (λ w.
+          BreaksFirstOf names w broke.0 before after) in (
+            broke.0,
+            subst Names plan.files
+                (of_plan old s before before (λ w. BreaksFirstOf (names_at old) w broke.0 before after) plan refl
+                broke.1),
+          );
+    }
+
+-- once they were read, it stops for want of memory, or for what was judged of them
+pub leaves_opening : {I T F : Type 0} (told : I → Told) (s : SettingsSeen) (old mid new : Feeder I)
+    (r : Result T (LoneStop F)) (stop : Stop) → HasPlan old s.names s.starts s.size s.max_bytes →
+    HasReadOnly told old mid → new.inputs.now ≡ mid.inputs.now → r ≢ Err (Run ReadFault) → r ≡ Err (Run stop) →
+    LeavesEarly s (told old.inputs.now) (told new.inputs.now) stop
+leaves_opening told s old mid new r stop plan read same readable is =
+    let Reads : _ → Type 0 = λ i. OfRun (told old.inputs.now) s (λ w.
+    ReadsFirsts s.names w (told old.inputs.now) (told i)) in
+    record {
+      unread = λ want. subst Reads (sym same) (reads_only told s old mid plan read);
+      broke = λ failed. absurd (readable (is ∙ ap (λ (x : Stop). Err (Run x)) failed));
+    }
+
 -- ---- what is opened
 
--- the feeder of a run as it was before its observation was accepted, and after
-pub record IsAccepted {I : Type 0} (told : I → Told) (old new : Feeder I) : Type 0 where
-  pub same : SamePlan old new
-  pub headers : header_at new ≡ header_at old
-  pub inputs : new.inputs.now ≡ old.inputs.now
-  pub feeds : FeederFeeds (told new.inputs.now) new (header_entries (take 1 (header_at new))) []
-  pub faultless : FeederFaultless new
-  pub running : has_end new ≡ None
-  pub reading : HasOpenFile new → HasOpenFile old
-
-plan_stays : {I : Type 0} (told : I → Told) (s : SettingsSeen) (old new : Feeder I) → IsAccepted told old new →
+plan_stays : {I : Type 0} (told : I → Told) (s : SettingsSeen) (old new : Feeder I) → HasAcceptedFirsts told old new →
     HasPlan old s.names s.starts s.size s.max_bytes → HasPlan new s.names s.starts s.size s.max_bytes
 plan_stays told s old new is plan = record {
-  files = is.same.names ∙ plan.files;
-  transfers = is.same.starts ∙ plan.transfers;
-  limit = is.same.limit ∙ plan.limit;
-  block = is.same.size ∙ plan.block;
-  headers = is.same.headers ∙ plan.headers;
+  files = is.kept.plan.names ∙ plan.files;
+  transfers = is.kept.plan.starts ∙ plan.transfers;
+  limit = is.kept.plan.limit ∙ plan.limit;
+  block = is.kept.plan.size ∙ plan.block;
+  headers = is.kept.plan.headers ∙ plan.headers;
 }
 
 feeder_ready : {I : Type 0} (told : I → Told) (is_open : I → Type 0) (s : SettingsSeen) (header : HeaderText)
-    (old new : Feeder I) (observations : List (Option Observation)) → IsAccepted told old new →
+    (old new : Feeder I) (observations : List (Option Observation)) → HasAcceptedFirsts told old new →
     HasBegun told is_open s old observations → slice_get (header_at old) 0 ≡ Some header →
     IsFeederReady told is_open s header new
 feeder_ready told is_open s header old new observations is begun first =
     let Open : _ → Type 0 = is_open in
     record {
       plan = plan_stays told s old new is begun.plan;
-      first = ap (λ hs. slice_get hs 0) is.headers ∙ first;
+      first = ap (λ hs. slice_get hs 0) is.kept.headers ∙ first;
       feeds = is.feeds;
-      faultless = is.faultless;
-      running = is.running;
-      file = λ open_file. subst Open (sym is.inputs) (begun.file (is.reading open_file));
+      faultless = is.kept.faultless;
+      running = is.kept.running;
+      file = λ open_file. subst Open (sym is.inputs) (begun.file (is.kept.reading open_file));
     }
 
 pub is_opened : {I : Type 0} (told : I → Told) (is_open : I → Type 0) (s : SettingsSeen) (old new : Feeder I)
     (observations : List (Option Observation)) (o : Observation) (scope : Scope) (lane : Lane) (header : HeaderText)
-    (space : LoneSpace) → IsAccepted told old new → HasBegun told is_open s old observations →
+    (space : LoneSpace) → HasAcceptedFirsts told old new → HasBegun told is_open s old observations →
     observations ≡ Some o ∷ [] → AllInRange s → IsOfOne s → slice_get (header_at old) 0 ≡ Some header →
     IsLaneOf s.search o scope lane → IsLoneSpace lane (shape_for s) header space →
     (shape_for s).max_blocks * s.size ≤ most_fed →

@@ -17,9 +17,9 @@ use Rattle.disk_feeder.specs.declared.answers.FeedEnd.TheVariants.{Whole}
 use Rattle.disk_feeder.specs.declared.feeder.Feeder.{Feeder}
 use Rattle.disk_feeder.specs.declared.feeder.FeederSpace.{FeederSpace}
 use Rattle.disk_feeder.specs.declared.stream.Stream.{Stream}
-use Rattle.disk_feeder.specs.Feeder.{stream_at, plan_at, block_size}
-use Rattle.disk_feeder.specs.Feeding.{EndIs, IsEnded, SealedAs}
-use Rattle.disk_feeder.specs.Plan.{Plan}
+use Rattle.disk_feeder.specs.Feeder.{stream_at, names_at, plan_at, block_size}
+use Rattle.disk_feeder.specs.Feeding.{EndIs, IsEnded, SealedAs, BreaksReading}
+use Rattle.disk_feeder.specs.Plan.{Plan, stream_of}
 use Rattle.disk_feeder.specs.Resting.{stream_in, feeder_over}
 use Rattle.search_session.specs.declared.lane.Lane.{Lane}
 use Rattle.search_session.specs.declared.lone_space.LoneSpace.{LoneSpace}
@@ -36,8 +36,8 @@ use Rattle.whole_run.specs.Wholes.{OfRun}
 use Rattle.lone_run.specs.declared.found.LoneFound.{LoneFound}
 use Rattle.lone_run.specs.Scopes.{IsLaneOf}
 use Rattle.lone_run.specs.Openings.{IsOpenedAlone, shape_for}
-use Rattle.lone_run.specs.Found.{GoesAlone}
-use Rattle.lone_run.proofs.Told.{of_plan}
+use Rattle.lone_run.specs.Found.{FaultLeaves, GoesAlone}
+use Rattle.lone_run.proofs.Told.{of_plan, still_told}
 
 -- ---- a feeder that is taken apart
 
@@ -236,3 +236,15 @@ goes_alone told is_open is_calm faults s lent after feeder o scope space start e
                 (λ files are. fed.walked bytes feed_whole files are 0 (omega (arith, transfers)));
           };
     }
+
+-- what a fault of the inputs left
+pub fault_leaves : {I : Type 0} (told : I → Told) (is_calm : I → Type 0) (faults : I → ℕ) (feeder : Feeder I)
+    (after : I) (end : LoneEnd) (found : LoneFound) →
+    FeedAnswers told is_calm faults feeder (session_end after end) → found.feed ≡ end.feed →
+    found.blocks ≡ end.blocks → FaultLeaves told feeder after found
+fault_leaves told is_calm faults feeder after end found fed feed blocks failed before read files are =
+    let names = names_at feeder in
+    subst (λ b. BreaksReading names (stream_of (plan_at feeder) files) before (told after) (block_size feeder)
+    (sealed_at_end b)) (sym blocks)
+    (fed.broke (sym feed ∙ failed) before read files
+    (still_told (told feeder.inputs.now) (told after) names files fed.names are))

@@ -14,7 +14,7 @@ use Rattle.run_stop.specs.Runs.{stream_for}
 use Rattle.whole_run.specs.Wholes.{OfRun}
 
 -- files are told as long as what is told under the names stands
-still_told : (old new : Told) (names files : List (List ℕ)) → new.bytes_under ≡ old.bytes_under →
+pub still_told : (old new : Told) (names files : List (List ℕ)) → new.bytes_under ≡ old.bytes_under →
     AreTold old names files → AreTold new names files
 still_told old new names files same are = record {
   count = are.count;

@@ -1,5 +1,5 @@
 -- What a lone run comes to, for all words that say its settings.
-use Rattle.std.proofs.Common.{◌≡◌, ℕ, inr, List, sym, subst}
+use Rattle.std.proofs.Common.{◌≡◌, ℕ, inr, List, Some, None, sym, subst}
 use Rattle.psr_base.specs.Told.{Told}
 use Rattle.dada_model.specs.Observation.{Observation}
 use Rattle.search_model.specs.declared.search.Search.{Search}
@@ -7,20 +7,23 @@ use Rattle.search_engine.specs.Scope.{Scope}
 use Rattle.search_words.specs.Settings.{SettingsSeen}
 use Rattle.stream_model.specs.Walk.{FileStream, transfer_data}
 use Rattle.ring_ends.specs.Ended.{sealed_at_end}
-use Rattle.disk_feeder.specs.Feeding.{EndIs}
+use Rattle.disk_feeder.specs.declared.answers.FeedEnd.TheVariants.{ReadFault}
+use Rattle.disk_feeder.specs.declared.feeder.Feeder.{Feeder}
+use Rattle.disk_feeder.specs.Feeder.{HasPlan, names_at, block_size, FeederRead}
+use Rattle.disk_feeder.specs.Feeding.{EndIs, BreaksReading}
 use Rattle.disk_feeder.specs.Plan.{AreTold}
 use Rattle.run_stop.specs.Lone.{LoneSearch}
 use Rattle.run_stop.specs.Ends.{WordsSayOnce, SaysBefore, IsRunFed}
-use Rattle.run_stop.specs.Firsts.{LeavesData}
-use Rattle.run_stop.specs.Outcomes.{ReadsNoData}
+use Rattle.run_stop.specs.Firsts.{ReadsFirsts, BreaksFirstOf}
+use Rattle.run_stop.specs.Outcomes.{ReadsNoData, LeavesAtFault}
 use Rattle.run_stop.specs.Runs.{Alone, Says, ForFiles, CanBegin, first_observation, stream_for}
 use Rattle.whole_run.specs.Wholes.{OfRun, ForWords}
 use Rattle.lone_run.specs.declared.found.LoneFound.{LoneFound}
 use Rattle.lone_run.specs.declared.stop.LoneStop.{LoneStop}
 use Rattle.lone_run.specs.declared.stop.LoneStop.TheVariants.{Run, Unscoped}
 use Rattle.lone_run.specs.Stops.{RefusesFirst, ScopesFirst, StopsEarly, StopsAlone}
-use Rattle.lone_run.specs.Found.{GoesAlone, HasFoundAll, IsFoundAlone}
-use Rattle.lone_run.proofs.Told.{before_reading}
+use Rattle.lone_run.specs.Found.{FaultLeaves, GoesAlone, HasFoundAll, IsFoundAlone}
+use Rattle.lone_run.proofs.Told.{before_reading, of_plan}
 
 -- words say one settings: so what holds of the files of a run holds for them
 for_files : WordsSayOnce → (lone : LoneSearch) (words : List (List ℕ)) (s : SettingsSeen) (told : Told)
@@ -47,10 +50,43 @@ stops_alone once scopes refuses s told (Unscoped refusal) early lone words says 
     for_files once lone words s told (λ t w. RefusesFirst refuses w refusal) says
     (λ files are. early.says lone files are)
 
-pub reads_no_data : WordsSayOnce → (s : SettingsSeen) (old new : Told) → OfRun old s (LeavesData new) →
+pub reads_no_data : WordsSayOnce → (s : SettingsSeen) (old new : Told) →
+    OfRun old s (λ w. ReadsFirsts s.names w old new) →
     (lone : LoneSearch) → ForWords (Alone lone) s (λ words. ReadsNoData (Alone lone) words old new)
-reads_no_data once s old new leaves lone words says =
-    inr (for_files once lone words s old (λ t w. LeavesData new w) says leaves)
+reads_no_data once s old new reads lone words says =
+    inr (for_files once lone words s old (λ t w. ReadsFirsts t.names w old new) says reads)
+
+-- what a fault leaves before the session
+pub leaves_before : WordsSayOnce → (s : SettingsSeen) (old new : Told) (transfer : ℕ) →
+    OfRun old s (λ w. BreaksFirstOf s.names w transfer old new) →
+    (lone : LoneSearch) → ForWords (Alone lone) s (λ words. LeavesAtFault (Alone lone) words old new None)
+leaves_before once s old new transfer broke lone words says =
+    (transfer, for_files once lone words s old (λ t w. BreaksFirstOf t.names w transfer old new) says broke)
+
+-- and from the session on
+pub leaves_session : {I : Type 0} → WordsSayOnce → (told : I → Told) (s : SettingsSeen) (before : Told)
+    (feeder : Feeder I) (after : I) (found : LoneFound) → (told feeder.inputs.now).bytes_under ≡ before.bytes_under →
+    HasPlan feeder s.names s.starts s.size s.max_bytes →
+    ((lone : LoneSearch) → OfRun (told feeder.inputs.now) s (λ w. CanBegin (Alone lone) s w)) →
+    FeederRead before (told feeder.inputs.now) feeder → FaultLeaves told feeder after found →
+    found.feed ≡ ReadFault → (lone : LoneSearch) →
+    ForWords (Alone lone) s (λ words. LeavesAtFault (Alone lone) words before (told after) (Some found.blocks))
+leaves_session once told s before feeder after found same plan begun read leaves failed lone words says =
+    let mid = told feeder.inputs.now in
+    let blocks = sealed_at_end found.blocks in
+    let Names : List (List ℕ) → Type 0 = λ names. OfRun before s (λ w.
+    BreaksReading names w before (told after) s.size blocks) in
+    let Size : ℕ → Type 0 = λ size. OfRun before s (λ w.
+    BreaksReading (names_at feeder) w before (told after) size blocks) in
+    let broke = subst Names plan.files (subst Size plan.block
+    (of_plan feeder s before mid (λ w. BreaksReading (names_at feeder) w before (told after) (block_size feeder) blocks)
+    plan same (leaves failed before read))) in
+    for_files once lone words s before
+    (λ t w. CanBegin (Alone lone) t w × BreaksReading t.names w before (told after) t.size blocks) says
+    (λ files are. (
+      before_reading s before mid (λ w. CanBegin (Alone lone) s w) same (begun lone) files are,
+      broke files are,
+    ))
 
 pub is_fed : WordsSayOnce → (s : SettingsSeen) (old new : Told) (o : Observation) (scope : Scope) (found : LoneFound) →
     new.bytes_under ≡ old.bytes_under → GoesAlone s new o scope found → (lone : LoneSearch) →

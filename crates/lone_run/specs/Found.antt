@@ -8,8 +8,11 @@ use Rattle.search_model.specs.Search.{in_one_shard}
 use Rattle.search_words.specs.Settings.{SettingsSeen}
 use Rattle.stream_model.specs.Walk.{transfer_data}
 use Rattle.ring_ends.specs.Ended.{sealed_at_end}
-use Rattle.disk_feeder.specs.declared.answers.FeedEnd.TheVariants.{Whole}
-use Rattle.disk_feeder.specs.Feeding.{EndIs}
+use Rattle.disk_feeder.specs.declared.answers.FeedEnd.TheVariants.{Whole, ReadFault}
+use Rattle.disk_feeder.specs.declared.feeder.Feeder.{Feeder}
+use Rattle.disk_feeder.specs.Feeder.{plan_at, names_at, block_size, FeederRead}
+use Rattle.disk_feeder.specs.Feeding.{EndIs, BreaksReading}
+use Rattle.disk_feeder.specs.Plan.{stream_of, AreTold}
 use Rattle.search_engine.specs.Scope.{Scope}
 use Rattle.search_engine.specs.Engine.{HasFoundIn, scope_of}
 use Rattle.run_stop.specs.Lone.{LoneSearch}
@@ -29,6 +32,15 @@ pub record HasFoundAll (s : SettingsSeen) (told : Told) (scope : Scope) (found :
   pub ended : found.engine.has_ended ≡ true
   pub searched : HasFoundIn found.observation scope bytes found.engine
   pub known : OfRun told s (λ w. bytes ≡ transfer_data w 0)
+
+-- where a fault of the inputs ended a session, its blocks are those of what was read since the inputs told `before`,
+-- up to its end, where the inputs are `after`
+abbrev pub FaultLeaves : {I : Type 0} → (I → Told) → Feeder I → I → LoneFound → Type 0
+FaultLeaves told feeder after found = found.feed ≡ ReadFault → (before : Told) →
+    FeederRead before (told feeder.inputs.now) feeder → (files : List (List ℕ)) →
+    AreTold (told feeder.inputs.now) (names_at feeder) files →
+    BreaksReading (names_at feeder) (stream_of (plan_at feeder) files) before (told after)
+    (block_size feeder) (sealed_at_end found.blocks)
 
 -- A session went through, whose feeder ended at the end of the walk or at a fault of its inputs. Its engine searches
 -- this scope of the observation of the first header; its reader cleared all that was sealed.

@@ -8,13 +8,15 @@ ghost use Rattle.search_words.specs.Settings.{AllInRange, settings_seen};
 ghost use Rattle.stream_model.specs.Walk.{FileStream};
 ghost use Rattle.search_engine.specs.Scope.{Scope as Sought, FitsObservation};
 ghost use Rattle.search_engine.specs.Engine.{most_fed, IsOpenedEngine, StandsForPart, scope_of};
+ghost use Rattle.psr_base.specs.Told.{Told};
+ghost use Rattle.disk_feeder.specs.Feeder.{FeederRead};
 ghost use Rattle.disk_feeder.specs.Filling.{HoldsAll};
 ghost use Rattle.search_session.specs.Lone.{IsLoneSpace};
 ghost use Rattle.search_opening.specs.First.{AreFirsts};
-ghost use Rattle.run_stop.specs.Firsts.{LeavesData};
+ghost use Rattle.run_stop.specs.declared.stop.Stop.{Stop as Stopped};
 ghost use Rattle.run_stop.specs.Lone.{IsOfOne};
 ghost use Rattle.run_stop.specs.Runs.{CanSearchFirst};
-ghost use Rattle.whole_run.specs.Wholes.{OfRun};
+ghost use Rattle.whole_run.specs.Openings.{LeavesEarly};
 ghost use Rattle.lone_run.specs.Scopes.{IsLaneOf};
 ghost use Rattle.lone_run.specs.Stops.{StopsEarly, StopsLane};
 ghost use Rattle.lone_run.specs.Openings.{IsFreshFor, HasBegun, OpensScope, shape_for};
@@ -165,6 +167,8 @@ fn open_begun<'a, I: Inputs, S: Scoping>(
     ensures stopped { IfErr result (StopsEarly (S.scopes scoping.now) (S.refuses scoping.now)
         (settings_seen settings.now) (I.told feeder.old.inputs.now)) }
     ensures readable { result ≢ Err (LoneStop.Run Stop.ReadFault) }
+    ensures reads_on { (before told : Told) → FeederRead before told feeder.old
+        → FeederRead before told feeder.new }
 {
     let lane = match lane_for(alloc, scoping, observations.as_slice(), &settings.search) {
         Ok(lane) => lane,
@@ -204,9 +208,11 @@ pub(crate) fn open_alone<'a, I: Inputs, S: Scoping>(
         (settings_seen settings.now) feeder.new r.observation r.space) }
     ensures stopped { IfErr result (StopsEarly (S.scopes scoping.now) (S.refuses scoping.now)
         (settings_seen settings.now) (I.told feeder.old.inputs.now)) }
-    ensures unread { result ≡ Err (LoneStop.Run Stop.Memory)
-        → OfRun (I.told feeder.old.inputs.now) (settings_seen settings.now)
-        (LeavesData (I.told feeder.new.inputs.now)) }
+    ensures leaves { (stop : Stopped) → result ≡ Err (LoneStop.Run stop)
+        → LeavesEarly (settings_seen settings.now) (I.told feeder.old.inputs.now)
+        (I.told feeder.new.inputs.now) stop }
+    ensures begins { OnOk result (FeederRead (I.told feeder.old.inputs.now)
+        (I.told feeder.new.inputs.now) feeder.new) }
 {
     match begin_feed(alloc, feeder, settings.starts.as_slice()) {
         Ok(observations) => open_begun(alloc, settings, scoping, feeder, observations),

@@ -6,9 +6,9 @@ ghost use Rattle.disk_feeder.specs.Filling.{HoldsAll};
 ghost use Rattle.run_stop.specs.Lone.{LoneSearch, IsOfOne};
 ghost use Rattle.run_stop.specs.Runs.{Alone};
 ghost use Rattle.run_stop.specs.Ends.{IsRunFed};
-ghost use Rattle.run_stop.specs.Outcomes.{ReadsNoData};
+ghost use Rattle.run_stop.specs.Outcomes.{ReadsNoData, LeavesAtFault};
 ghost use Rattle.whole_run.specs.Wholes.{ForWords};
-ghost use Rattle.lone_run.specs.Stops.{FailsReading, StopsAlone};
+ghost use Rattle.lone_run.specs.Stops.{FailsReading, blocks_of, StopsAlone};
 ghost use Rattle.lone_run.specs.Found.{IsFoundAlone};
 
 use crate::found::LoneFound;
@@ -49,6 +49,10 @@ fn within<'a, I: Inputs, S: Scoping, R: Wait>(
     ensures unread { result.done ≡ Err (LoneStop.Run Stop.Memory) → (lone : LoneSearch)
         → ForWords (Alone lone) (settings_seen settings.now) (λ words.
         ReadsNoData (Alone lone) words (I.told inputs.old) (I.told result.inputs.now)) }
+    ensures broken { FailsReading result.done → (lone : LoneSearch)
+        → ForWords (Alone lone) (settings_seen settings.now) (λ words.
+        LeavesAtFault (Alone lone) words (I.told inputs.old) (I.told result.inputs.now)
+        (blocks_of result.done)) }
     ensures fed { IfOk result.done (λ found. (lone : LoneSearch)
         → ForWords (Alone lone) (settings_seen settings.now) (λ words.
         IsRunFed (Alone lone) words (I.told inputs.old) found.blocks found.feed)) }
@@ -113,6 +117,10 @@ pub fn drive_alone<I: Inputs, S: Scoping, R: Wait>(
     ensures unread { result ≡ Err (LoneStop.Run Stop.Memory) → (lone : LoneSearch)
         → ForWords (Alone lone) (settings_seen settings.now) (λ words.
         ReadsNoData (Alone lone) words (I.told inputs.old) (I.told inputs.new)) }
+    ensures broken { FailsReading result → (lone : LoneSearch)
+        → ForWords (Alone lone) (settings_seen settings.now) (λ words.
+        LeavesAtFault (Alone lone) words (I.told inputs.old) (I.told inputs.new)
+        (blocks_of result)) }
     ensures fed { IfOk result (λ found. (lone : LoneSearch)
         → ForWords (Alone lone) (settings_seen settings.now) (λ words.
         IsRunFed (Alone lone) words (I.told inputs.old) found.blocks found.feed)) }

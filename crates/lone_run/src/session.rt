@@ -10,7 +10,7 @@ ghost use Rattle.disk_feeder.specs.Filling.{HoldsAll};
 ghost use Rattle.disk_feeder.specs.Resting.{feeder_over};
 ghost use Rattle.search_session.specs.Lanes.{HasEngine};
 ghost use Rattle.lone_run.specs.Openings.{IsOpenedAlone};
-ghost use Rattle.lone_run.specs.Found.{GoesAlone};
+ghost use Rattle.lone_run.specs.Found.{FaultLeaves, GoesAlone};
 
 use crate::found::LoneFound;
 use crate::open::OpenedAlone;
@@ -52,6 +52,7 @@ pub(crate) fn go_on<'a, I: Inputs, R: Wait>(
         (feeder_over inputs.old feeder) opened.observation scope opened.space }
     ensures inputs { HasReadFrom I.told I.is_calm I.faults (result.feed ≡ ReadFault) inputs.old
         inputs.new }
+    ensures broke { FaultLeaves I.told (feeder_over inputs.old feeder.entry) inputs.new result }
     ensures serves { I.is_calm inputs.old
         → HoldsAll (I.told inputs.old) (names_at (feeder_over inputs.old feeder.entry))
         → result.feed ≢ ReadFault }

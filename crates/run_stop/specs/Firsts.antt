@@ -1,14 +1,16 @@
 -- The first files of transfers, and the first header of them that is refused: the texts are judged in order, and then
 -- what they say.
 -- Source: PSRDADA manual (a transfer is what one header describes); what is refused is this project's choice.
-use Rattle.std.specs.Prelude.{◌≡◌, ◌<◌, ℕ, ◌-◌, List, length, Some, Ok}
-use Rattle.psr_base.specs.Told.{Told, left_to_read}
+use Rattle.std.specs.Prelude.{◌≡◌, ◌<◌, ℕ, List, length, Ok}
+use Rattle.psr_base.specs.Told.{Told}
 use Rattle.dada_model.specs.Fields.{HeaderText, fields_of, header_of}
 use Rattle.dada_header.specs.declared.faults.HeaderFault.{HeaderFault}
 use Rattle.dada_header.specs.Faults.{IsHeaderRefusal}
+use Rattle.disk_feeder.specs.Front.{BreaksAt}
+use Rattle.disk_feeder.specs.History.{firsts_read, name_of_first}
 use Rattle.obs_plan.specs.declared.fault.ObsFault.{ObsFault}
 use Rattle.obs_plan.specs.Faults.{IsRefusedFirst}
-use Rattle.stream_model.specs.Walk.{FileStream, file_at, begin_of, data_of}
+use Rattle.stream_model.specs.Walk.{FileStream, file_at, begin_of}
 use Rattle.stream_model.specs.WalkLaws.{IsAccepted}
 
 -- the first file of a transfer
@@ -19,9 +21,19 @@ first_file w transfer = file_at w (begin_of w transfer)
 abbrev pub HasHeader : List ℕ → Type 0
 HasHeader file = (header : HeaderText) × (header_of file ≡ Ok header)
 
--- what is left to read of the open file are the data of the last transfer's first file
-abbrev pub LeavesData : Told → FileStream → Type 0
-LeavesData told w = left_to_read told ≡ Some (data_of (first_file w (length w.starts - 1)))
+-- the first header of each transfer was read, in order, and nothing else was
+abbrev pub ReadsFirsts : List (List ℕ) → FileStream → Told → Told → Type 0
+ReadsFirsts names w before after =
+    after ≡ firsts_read (name_of_first names w) (first_file w) (length w.starts) before
+
+-- a fault came before the first header of this transfer was judged, and after those of the transfers before it were
+-- read, which have headers
+pub record BreaksFirstOf (names : List (List ℕ)) (w : FileStream) (transfer : ℕ)
+    (before after : Told) : Type 0 where
+  pub there : transfer < length w.starts
+  pub earlier : (k : ℕ) → k < transfer → HasHeader (first_file w k)
+  pub broke : BreaksAt (name_of_first names w transfer) (first_file w transfer)
+      (firsts_read (name_of_first names w) (first_file w) transfer before) after
 
 -- the first file of some transfer has no header, and those of the transfers before it have
 pub record RefusesFirstText (w : FileStream) (file : ℕ) (fault : HeaderFault) : Type 0 where

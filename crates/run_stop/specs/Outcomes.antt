@@ -14,10 +14,10 @@ use Rattle.stream_model.specs.Blocks.{ended_transfers, transfer_bytes}
 use Rattle.stream_model.specs.Walk.{FileStream, transfer_data, walk_stream}
 use Rattle.stream_model.specs.RecordedLaws.{RecordedTransfer, recorded_of_transfers}
 use Rattle.dada_recorder.specs.Making.{Outset, BeginsAt, HasMade, BreaksOff}
-use Rattle.disk_feeder.specs.Feeding.{IsBroken}
+use Rattle.disk_feeder.specs.Feeding.{IsBroken, BreaksReading}
 use Rattle.disk_feeder.specs.Filling.{HoldsAll}
 use Rattle.disk_feeder.specs.declared.answers.HeaderCause.{HeaderCause}
-use Rattle.run_stop.specs.Firsts.{LeavesData}
+use Rattle.run_stop.specs.Firsts.{ReadsFirsts, BreaksFirstOf}
 use Rattle.run_stop.specs.declared.causes.PlanCause.{PlanCause}
 use Rattle.run_stop.specs.declared.causes.RecordingCause.{RecordingCause}
 use Rattle.run_stop.specs.declared.stop.Stop.{Stop}
@@ -44,10 +44,19 @@ pub record ReadsInputs
   pub serves : is_calm → (s : SettingsSeen) → Says task words s →
       HoldsAll inputs.told s.names → status ≢ 6
 
--- no file was opened; or the open file is the first of the last transfer, and all of its data are left to read
+-- no file was opened; or the first file of each transfer was, in order, and no byte past its header was read
 abbrev pub ReadsNoData : Task → List (List ℕ) → Told → Told → Type 0
 ReadsNoData task words before after = (after ≡ before)
-    ⊎ ForFiles task words before (λ s w. LeavesData after w)
+    ⊎ ForFiles task words before (λ s w. ReadsFirsts s.names w before after)
+
+-- What a fault of the inputs leaves. Before the session, where no block was sealed, the first header of some transfer
+-- isn't judged by what was read. From the session on all first headers are accepted, nothing that was read stops the
+-- walk of the files, and the full blocks of the transfer are those of the data bytes that were read of it.
+abbrev pub LeavesAtFault : Task → List (List ℕ) → Told → Told → Option Finished → Type 0
+LeavesAtFault task words before after None = (transfer : ℕ) × ForFiles task words before (λ s w.
+    BreaksFirstOf s.names w transfer before after)
+LeavesAtFault task words before after (Some b) = ForFiles task words before (λ s w.
+    CanBegin task s w × BreaksReading s.names w before after s.size (sealed_at_end b))
 
 -- ---- the files that are read
 

@@ -1,8 +1,8 @@
 -- The first headers that a feeder read, and those of the files.
-use Rattle.std.proofs.Common.{◌≡◌, ℕ, ◌+◌, ◌-◌, ◌<◌, inl, inr, List, [], length, get_or, slice_get, Option, Some, None, Ok, sym, ap, subst, ◌∙◌, arith}
+use Rattle.std.proofs.Common.{◌≡◌, ℕ, ◌+◌, ◌<◌, inl, inr, List, [], length, get_or, slice_get, Option, Some, None, Ok, refl, sym, ap, subst, ◌∙◌, arith}
 use Rattle.std.specs.Prelude.{slice_index_or}
 use Rattle.std.proofs.lemmas.Option.{slice_get-get_or}
-use Rattle.psr_base.specs.Told.{Told, OfFile, left_to_read}
+use Rattle.psr_base.specs.Told.{Told, OfFile}
 use Rattle.dada_model.specs.Fields.{HeaderText, header_of, fields_of}
 use Rattle.dada_model.specs.Observation.{Observation, observation_of, observation_in}
 use Rattle.dada_model.specs.Laws.{AcceptedByRows}
@@ -12,15 +12,18 @@ use Rattle.dada_header.specs.Faults.{IsHeaderRefusal}
 use Rattle.obs_plan.specs.declared.fault.ObsFault.{ObsFault}
 use Rattle.obs_plan.specs.declared.fault.ObsFault.TheVariants as obs
 use Rattle.obs_plan.specs.Faults.{ExplainsObservation}
-use Rattle.stream_model.specs.Walk.{FileStream, begin_of, data_of, fields_past, observation_at}
+use Rattle.stream_model.specs.Walk.{FileStream, begin_of, fields_past, observation_at}
 use Rattle.stream_model.specs.WalkLaws.{AreStarts}
 use Rattle.disk_feeder.specs.declared.answers.FeedFault.{FeedFault}
 use Rattle.disk_feeder.specs.declared.answers.FeedFault.TheVariants as feed
 use Rattle.disk_feeder.specs.Plan.{Plan, stream_of, AreTold, begin_at}
+use Rattle.disk_feeder.specs.Front.{BreaksAt}
+use Rattle.disk_feeder.specs.History.{firsts_read, first_of}
 use Rattle.disk_feeder.specs.Sources.{RefusesFirst}
 use Rattle.run_stop.specs.declared.stop.Stop.{Stop}
+use Rattle.run_stop.specs.declared.stop.Stop.TheVariants.{Memory, ReadFault}
 use Rattle.run_stop.specs.Conversions.{stop_of_begin, stop_of_fields}
-use Rattle.run_stop.specs.Firsts.{first_file, HasHeader, LeavesData, RefusesFirstText, RefusesFirstFields}
+use Rattle.run_stop.specs.Firsts.{first_file, HasHeader, ReadsFirsts, BreaksFirstOf, RefusesFirstText, RefusesFirstFields}
 use Rattle.run_stop.specs.Ends.{ComesBefore}
 use Rattle.search_opening.specs.First.{StopsFirsts, AreFirsts, AreObserved}
 use Rattle.search_opening.proofs.Observed.{as_many, some_at, accepted_at}
@@ -92,16 +95,52 @@ module _ (plan : Plan) (count : ℕ) (told : Told) (files : List (List ℕ)) (co
       refused_text file header.BadSize transfer there refuses earlier
   stops_text (feed.BadHeader file header.Memory) transfer there refuses earlier = tt
 
-  -- what is left of the first file of the last transfer
-  pub leaves_data : (told' : Told) →
-      ((k : ℕ) → k + 1 ≡ length plan.starts →
-      OfFile told (slice_index_or plan.names (begin_at plan.starts count k) [])
-      (λ file. left_to_read told' ≡ Some (data_of file))) →
-      LeavesData told' (stream_of plan files)
-  leaves_data told' left =
-      let some = starts.some in
-      let last = length plan.starts - 1 in
-      left last (omega (arith, some)) (first_file (stream_of plan files) last) (first_told last (omega (arith, some)))
+  -- no header is refused for want of memory
+  pub no_want : (fault : FeedFault) (transfer : ℕ) → transfer < length plan.starts →
+      OfFile told (slice_index_or plan.names (begin_at plan.starts count transfer) [])
+      (λ file. RefusesFirst file (begin_at plan.starts count transfer) fault) →
+      stop_of_begin fault ≡ Memory → ⊥
+  no_want feed.ReadFault transfer there refuses is = cc
+  no_want (feed.BadHeader file (header.Short had)) transfer there refuses is = cc
+  no_want (feed.BadHeader file (header.NotText place)) transfer there refuses is = cc
+  no_want (feed.BadHeader file header.BadSize) transfer there refuses is = cc
+  no_want (feed.BadHeader file header.Memory) transfer there refuses is =
+      (refuses (first_file (stream_of plan files) transfer) (first_told transfer there)).1
+
+  -- the first headers were read, in the words of the files
+  pub firsts_are : (told' : Told) →
+      ((file_of : ℕ → List ℕ) → ((k : ℕ) → k < length plan.starts →
+      told.bytes_under (slice_index_or plan.names (begin_at plan.starts count k) []) ≡ Some (file_of k)) →
+      told' ≡ firsts_read (λ k. slice_index_or plan.names (begin_at plan.starts count k) []) file_of
+      (length plan.starts) told) →
+      ReadsFirsts plan.names (stream_of plan files) told told'
+  firsts_are told' read =
+      let w = stream_of plan files in
+      read (first_of w) first_told
+      ∙ ap (λ (n : ℕ). firsts_read (λ k. slice_index_or plan.names (slice_index_or plan.starts k n) []) (first_of w)
+      (length plan.starts) told) (sym (are.count ∙ count_is))
+
+  -- and where a fault came
+  pub breaks_first : (told' : Told) (transfer : ℕ) → transfer < length plan.starts →
+      ((k : ℕ) → k < transfer →
+      OfFile told (slice_index_or plan.names (begin_at plan.starts count k) []) HasHeader) →
+      ((file_of : ℕ → List ℕ) → ((k : ℕ) → k < transfer + 1 →
+      told.bytes_under (slice_index_or plan.names (begin_at plan.starts count k) []) ≡ Some (file_of k)) →
+      BreaksAt (slice_index_or plan.names (begin_at plan.starts count transfer) []) (file_of transfer)
+      (firsts_read (λ k. slice_index_or plan.names (begin_at plan.starts count k) []) file_of transfer told) told') →
+      BreaksFirstOf plan.names (stream_of plan files) transfer told told'
+  breaks_first told' transfer there earlier broke =
+      let w = stream_of plan files in
+      let P : ℕ → Type 0 = λ n.
+      BreaksAt (slice_index_or plan.names (slice_index_or plan.starts transfer n) []) (first_of w transfer)
+      (firsts_read (λ k. slice_index_or plan.names (slice_index_or plan.starts k n) []) (first_of w) transfer told)
+      told' in
+      record {
+        there = there;
+        earlier = λ k before. earlier k before (first_file w k) (first_told k (omega (arith, before, there)));
+        broke = subst P (sym (are.count ∙ count_is))
+            (broke (first_of w) (λ k below. first_told k (omega (arith, below, there))));
+      }
 
 -- ---- what the headers say
 
@@ -212,3 +251,21 @@ fields_come file (obs.OutOfRange key) = tt
 fields_come file (obs.TooNarrow bw nchan) = tt
 fields_come file (obs.Differs key) = tt
 fields_come file obs.Memory = tt
+
+-- the stop of a fault of the inputs is that of no other
+pub fault_of_begin : (fault : FeedFault) → stop_of_begin fault ≡ ReadFault → fault ≡ feed.ReadFault
+fault_of_begin feed.ReadFault is = refl
+fault_of_begin (feed.BadHeader file (header.Short had)) is = absurd cc
+fault_of_begin (feed.BadHeader file (header.NotText place)) is = absurd cc
+fault_of_begin (feed.BadHeader file header.BadSize) is = absurd cc
+fault_of_begin (feed.BadHeader file header.Memory) is = absurd cc
+
+-- nor is that of a header a fault
+pub fields_no_fault : (file : ℕ) (cause : ObsFault) → stop_of_fields file cause ≡ ReadFault → ⊥
+fields_no_fault file (obs.Missing key) is = cc
+fields_no_fault file (obs.BadNumber key) is = cc
+fields_no_fault file (obs.OutOfProfile key) is = cc
+fields_no_fault file (obs.OutOfRange key) is = cc
+fields_no_fault file (obs.TooNarrow bw nchan) is = cc
+fields_no_fault file (obs.Differs key) is = cc
+fields_no_fault file obs.Memory is = cc

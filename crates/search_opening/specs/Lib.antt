@@ -1,4 +1,5 @@
 pub mod First
+pub mod Feeders
 pub mod Plans
 pub mod Recordings
 pub mod Offsets

@@ -1,7 +1,7 @@
 // The observations of all transfers are given to the feeder.
-ghost use Rattle.std.specs.Prelude.{◌≡◌, ◌≤◌, [], None, length, take};
-ghost use Rattle.disk_feeder.specs.Feeder.{IsBegun, SamePlan, FeederFeeds, FeederFaultless, HasOpenFile, header_at, has_end};
-ghost use Rattle.disk_feeder.specs.Feeding.{header_entries};
+ghost use Rattle.std.specs.Prelude.{◌≡◌, ◌≤◌, length};
+ghost use Rattle.disk_feeder.specs.Feeder.{IsBegun, header_at};
+ghost use Rattle.search_opening.specs.Feeders.{HasAcceptedFirsts};
 ghost use Rattle.search_opening.specs.First.{AreObserved};
 
 use disk_feeder::Feeder;
@@ -15,14 +15,7 @@ pub fn accept_all<'a, I: Inputs>(feeder: &mut Feeder<'a, I>, observations: &[Opt
     requires begun { IsBegun (I.told feeder.old.inputs.now) feeder.old }
     requires observed { AreObserved (header_at feeder.old) observations.now }
     ensures same_reference { feeder.new.inputs.ghost_name ≡ feeder.old.inputs.ghost_name }
-    ensures inputs { feeder.new.inputs.now ≡ feeder.old.inputs.now }
-    ensures plan { SamePlan feeder.old feeder.new }
-    ensures headers { header_at feeder.new ≡ header_at feeder.old }
-    ensures feeds { FeederFeeds (I.told feeder.new.inputs.now) feeder.new
-        (header_entries (take 1 (header_at feeder.new))) [] }
-    ensures faultless { FeederFaultless feeder.new }
-    ensures running { has_end feeder.new ≡ None }
-    ensures reading { HasOpenFile feeder.new → HasOpenFile feeder.old }
+    ensures accepted { HasAcceptedFirsts I.told feeder.old feeder.new }
 {
     for k in 0..observations.len() {
         let Some(observation) = &observations[k] else {

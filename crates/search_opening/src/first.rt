@@ -1,12 +1,10 @@
 // The first headers of all transfers, and their observations.
-ghost use Rattle.std.specs.Prelude.{◌≡◌, ◌≢◌, ◌≤◌, Err, IfOk, IfErr, OnOk, length};
+ghost use Rattle.std.specs.Prelude.{◌≡◌, ◌≢◌, ◌≤◌, Err, IfOk, IfErr, length};
 ghost use Rattle.psr_base.specs.Inputs.{HasReadFrom};
-ghost use Rattle.stream_model.specs.WalkLaws.{AreStarts};
-ghost use Rattle.disk_feeder.specs.Feeder.{IsFresh, IsBegun, SamePlan, HasOpenFile, header_at, names_at, plan_at};
+ghost use Rattle.disk_feeder.specs.Feeder.{SamePlan, header_at, names_at};
 ghost use Rattle.disk_feeder.specs.Filling.{HoldsAll};
-ghost use Rattle.run_stop.specs.Firsts.{LeavesData};
-ghost use Rattle.run_stop.specs.Ends.{ComesBefore};
-ghost use Rattle.search_opening.specs.First.{OfFiles, AreFirsts, AreHeadersOf, StopsFirsts, AreObserved, RefusesTransferHeader};
+ghost use Rattle.search_opening.specs.First.{AreObserved, RefusesTransferHeader};
+ghost use Rattle.search_opening.specs.Feeders.{CanReadFirsts, HasReadFirsts, StopsReadingFirsts};
 
 use arrayvec::ArrayVec;
 use disk_feeder::Feeder;
@@ -57,11 +55,7 @@ pub fn begin_feed<'a, I: Inputs>(
     feeder: &mut Feeder<'a, I>,
     starts: &[u32],
 ) -> Result<ArrayVec<Option<Observation>, MOST_TRANSFERS>, Stop>
-    requires fresh { IsFresh feeder.old }
-    requires plan { (plan_at feeder.old).starts ≡ starts.now }
-    requires begin { AreStarts starts.now (length (names_at feeder.old)) }
-    requires few { length starts.now ≤ 8 }
-    requires headed { length (header_at feeder.old) ≡ length starts.now }
+    requires { CanReadFirsts feeder.old starts.now }
     ensures same_reference { feeder.new.inputs.ghost_name ≡ feeder.old.inputs.ghost_name }
     ensures plan { SamePlan feeder.old feeder.new }
     ensures inputs { HasReadFrom I.told I.is_calm I.faults (result ≡ Err Stop.ReadFault)
@@ -69,24 +63,9 @@ pub fn begin_feed<'a, I: Inputs>(
     ensures serves { I.is_calm feeder.old.inputs.now
         → HoldsAll (I.told feeder.old.inputs.now) (names_at feeder.old)
         → result ≢ Err Stop.ReadFault }
-    ensures begun { OnOk result (IsBegun (I.told feeder.new.inputs.now) feeder.new) }
-    ensures open { OnOk result
-        (HasOpenFile feeder.new → I.is_open feeder.new.inputs.now) }
-    ensures observed { IfOk result (λ observations.
-        AreObserved (header_at feeder.new) observations.items) }
-    ensures headers { OnOk result (OfFiles (I.told feeder.new.inputs.now) (plan_at feeder.new)
-        (λ w. AreHeadersOf w (header_at feeder.new))) }
-    ensures firsts { IfOk result (λ observations.
-        OfFiles (I.told feeder.new.inputs.now) (plan_at feeder.new)
-        (λ w. AreFirsts w observations.items)) }
-    ensures left { OnOk result (OfFiles (I.told feeder.old.inputs.now) (plan_at feeder.old)
-        (LeavesData (I.told feeder.new.inputs.now))) }
-    ensures kind { IfErr result ComesBefore }
-    ensures stopped { IfErr result (λ stop.
-        OfFiles (I.told feeder.old.inputs.now) (plan_at feeder.old) (λ w. StopsFirsts w stop)) }
-    ensures unread { result ≡ Err Stop.Memory
-        → OfFiles (I.told feeder.old.inputs.now) (plan_at feeder.old)
-        (LeavesData (I.told feeder.new.inputs.now)) }
+    ensures read { IfOk result (λ observations.
+        HasReadFirsts I.told I.is_open feeder.old feeder.new observations.items) }
+    ensures stopped { IfErr result (StopsReadingFirsts I.told feeder.old feeder.new) }
 {
     accepted_by_rows();
     match feeder.begin() {

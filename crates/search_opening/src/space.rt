@@ -14,23 +14,35 @@ use ring_words::RingShape;
 use search_session::{Hand, Lane, Stage};
 use std::alloc::Global;
 
-// Space for a block of the header ring.
-fn open_space(alloc: Global) -> Result<Vec<u8>, Memory>
-    ensures { IfOk result (λ space. 65537 ≤ vec_len space) }
+// How many bytes the space of a shard has: room for a header, and where the rings have other readers for a block of
+// data too, so that the shard can copy it and give it back before it searches it.
+fn space_size(shape: RingShape) -> u32
+    ensures header { 65537 ≤ result }
+    ensures block { 1 < shape.readers → shape.size ≤ result }
 {
-    Ok(vec![in alloc; 0u8; HEADER_SPACE as usize]?)
+    if shape.readers > 1 {
+        HEADER_SPACE.max(shape.size)
+    } else {
+        HEADER_SPACE
+    }
 }
 
-// So many such spaces.
-fn open_spaces(alloc: Global, count: usize) -> Result<ArrayVec<Option<Vec<u8>>, 7>, Memory>
-    requires { count ≤ 7 }
+// So many spaces of so many bytes.
+fn open_spaces(
+    alloc: Global,
+    count: usize,
+    size: u32,
+) -> Result<ArrayVec<Option<Vec<u8>>, 7>, Memory>
+    requires few { count ≤ 7 }
+    requires size { 65537 ≤ size }
     ensures count { IfOk result (λ spaces. length spaces.items ≡ count) }
     ensures room { IfOk result (λ spaces.
         All (λ slot. IsSomeAnd slot (λ space. 65537 ≤ vec_len space)) spaces.items) }
 {
     let mut spaces = ArrayVec::new();
     for _space in 0..count {
-        spaces.push(Some(open_space(alloc)?));
+        let space = vec![in alloc; 0u8; size as usize]?;
+        spaces.push(Some(space));
     }
     Ok(spaces)
 }
@@ -80,7 +92,7 @@ impl<'a, I: Inputs, F: Files> StageSpace<'a, I, F> {
         ensures hands { IfOk result (λ space. hands_in space ≡ hands) }
     {
         let (hdu, writer, readers) = open_rings(alloc, shape, header)?;
-        let spaces = open_spaces(alloc, lanes.len())?;
+        let spaces = open_spaces(alloc, lanes.len(), space_size(shape))?;
         let hands = open_hands(alloc, hands)?;
         Ok(StageSpace {
             hdu,

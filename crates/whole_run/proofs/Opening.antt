@@ -1,5 +1,5 @@
 -- How a run is opened, or stops before its session.
-use Rattle.std.proofs.Common.{◌≡◌, ◌≢◌, ℕ, ◌+◌, ◌/◌, ◌≤◌, ◌⊎◌, Bool, true, false, List, [], Option, Some, None, Result, Ok, Err, length, take, inl, inr, refl, sym, ap, ◌∙◌, subst, arith}
+use Rattle.std.proofs.Common.{◌≡◌, ◌≢◌, ℕ, ◌+◌, ◌/◌, ◌≤◌, ◌⊎◌, Bool, true, false, List, Option, Some, Result, Ok, Err, length, inl, inr, refl, sym, ap, ◌∙◌, subst, arith}
 use Rattle.std.specs.Prelude.{slice_get, IfErr, OnErr}
 use Rattle.psr_base.specs.Told.{Told}
 use Rattle.dada_model.specs.Fields.{HeaderText}
@@ -7,19 +7,20 @@ use Rattle.dada_model.specs.Observation.{Observation}
 use Rattle.search_words.specs.Settings.{SettingsSeen}
 use Rattle.stream_model.specs.Walk.{FileStream}
 use Rattle.disk_feeder.specs.declared.feeder.Feeder.{Feeder}
-use Rattle.disk_feeder.specs.Feeder.{SamePlan, IsBegun, FeederFeeds, FeederFaultless, HasOpenFile, block_size, has_end, header_at, plan_at}
-use Rattle.disk_feeder.specs.Feeding.{header_entries}
-use Rattle.search_opening.specs.First.{OfFiles, AreFirsts, AreHeadersOf, AreObserved, StopsFirsts}
+use Rattle.disk_feeder.specs.Feeder.{SamePlan, block_size, header_at, names_at, plan_at}
+use Rattle.search_opening.specs.Feeders.{HasReadOnly, HasReadFirsts, StopsReadingFirsts, HasAcceptedFirsts}
+use Rattle.search_opening.specs.First.{AreFirsts, AreHeadersOf, AreObserved, StopsFirsts}
 use Rattle.search_opening.specs.Offsets.{AreOffsetsOf}
 use Rattle.search_opening.specs.Recordings.{IsOfRecording, StopsRecording}
 use Rattle.search_opening.specs.Space.{FeedsRings}
 use Rattle.run_stop.specs.declared.stop.Stop.{Stop}
 use Rattle.run_stop.specs.declared.stop.Stop.TheVariants.{Words, Value, Header, Plan, Recording, Memory, ReadFault, Gap, TooLong, TooMany, SinkFault, FileFault}
 use Rattle.run_stop.specs.Ends.{ComesBefore, SaysBefore}
+use Rattle.run_stop.specs.Firsts.{ReadsFirsts, BreaksFirstOf}
 use Rattle.run_stop.specs.Runs.{Task, Searching, is_search, CanSearchFirst}
 use Rattle.whole_run.specs.declared.spaces.Spaces.{Spaces}
 use Rattle.whole_run.specs.Wholes.{CanBeDriven, OfRun, task_of}
-use Rattle.whole_run.specs.Openings.{HasFirsts, AreFit, IsRefused, IsOpened, AreSpaces, shape_for}
+use Rattle.whole_run.specs.Openings.{HasFirsts, AreFit, IsRefused, IsOpened, AreSpaces, LeavesEarly, shape_for}
 use Rattle.whole_run.proofs.Told.{FeedsRun, of_plan}
 
 -- ---- what is refused
@@ -96,16 +97,6 @@ firsts_say task s w FileFault says = says
 
 -- ---- what is opened
 
--- the feeder of a run as it was before its observations were accepted, and after
-pub record IsAccepted {I : Type 0} (told : I → Told) (old new : Feeder I) : Type 0 where
-  pub same : SamePlan old new
-  pub headers : header_at new ≡ header_at old
-  pub inputs : new.inputs.now ≡ old.inputs.now
-  pub feeds : FeederFeeds (told new.inputs.now) new (header_entries (take 1 (header_at new))) []
-  pub faultless : FeederFaultless new
-  pub running : has_end new ≡ None
-  pub reading : HasOpenFile new → HasOpenFile old
-
 plan_stays : {I : Type 0} (s : SettingsSeen) (old new : Feeder I) → FeedsRun old s → SamePlan old new → FeedsRun new s
 plan_stays s old new plan same = record {
   files = same.names ∙ plan.files;
@@ -118,35 +109,75 @@ plan_stays s old new plan same = record {
 -- the first headers were read by the feeder of a run
 pub has_firsts : {I : Type 0} (told : I → Told) (is_open : I → Type 0) (s : SettingsSeen) (old new : Feeder I)
     (observations : List (Option Observation)) → FeedsRun old s → SamePlan old new →
-    IsBegun (told new.inputs.now) new → (HasOpenFile new → is_open new.inputs.now) →
-    AreObserved (header_at new) observations →
-    OfFiles (told new.inputs.now) (plan_at new) (λ w. AreFirsts w observations) →
-    OfFiles (told new.inputs.now) (plan_at new) (λ w. AreHeadersOf w (header_at new)) →
-    HasFirsts told is_open s new observations
-has_firsts told is_open s old new observations plan same begun file observed firsts headers =
+    HasReadFirsts told is_open old new observations → HasFirsts told is_open s new observations
+has_firsts told is_open s old new observations plan same read =
     let now = told new.inputs.now in
     let plan' = plan_stays s old new plan same in
     record {
       plan = plan';
-      begun = begun;
-      file = file;
-      observed = observed;
-      firsts = of_plan new s now now (λ w. AreFirsts w observations) plan' refl firsts;
-      headers = of_plan new s now now (λ w. AreHeadersOf w (header_at new)) plan' refl headers;
+      begun = read.begun;
+      file = read.file;
+      observed = read.observed;
+      firsts = of_plan new s now now (λ w. AreFirsts w observations) plan' refl read.firsts;
+      headers = of_plan new s now now (λ w. AreHeadersOf w (header_at new)) plan' refl read.headers;
+    }
+
+-- those of its settings' files, and nothing else was
+reads_only : {I : Type 0} (told : I → Told) (s : SettingsSeen) (old new : Feeder I) → FeedsRun old s →
+    HasReadOnly told old new →
+    OfRun (told old.inputs.now) s (λ w. ReadsFirsts s.names w (told old.inputs.now) (told new.inputs.now))
+reads_only told s old new plan read =
+    let before = told old.inputs.now in
+    let after = told new.inputs.now in
+    let Names : List (List ℕ) → Type 0 = λ names. OfRun before s (λ w. ReadsFirsts names w before after) in
+    subst Names plan.files
+    (of_plan old s before before (λ w. ReadsFirsts (names_at old) w before after) plan refl read)
+
+-- what a run has read that stopped so
+pub leaves_early : {I : Type 0} (told : I → Told) (s : SettingsSeen) (old new : Feeder I) (stop : Stop) →
+    FeedsRun old s → StopsReadingFirsts told old new stop →
+    LeavesEarly s (told old.inputs.now) (told new.inputs.now) stop
+leaves_early told s old new stop plan stops =
+    let before = told old.inputs.now in
+    let after = told new.inputs.now in
+    record {
+      unread = λ want. reads_only told s old new plan (stops.unread want);
+      broke = λ failed.
+          let broke = stops.broke failed in
+          let Names : List (List ℕ) → Type 0 = λ names. OfRun before s (λ w.
+          BreaksFirstOf names w broke.0 before after) in (
+            broke.0,
+            subst Names plan.files
+                (of_plan old s before before (λ w. BreaksFirstOf (names_at old) w broke.0 before after) plan refl
+                broke.1),
+          );
+    }
+
+-- once they were read, it stops for want of memory, or for what was judged of them
+pub leaves_opening : {I T : Type 0} (told : I → Told) (s : SettingsSeen) (old mid new : Feeder I) (r : Result T Stop) →
+    FeedsRun old s → HasReadOnly told old mid → new.inputs.now ≡ mid.inputs.now → r ≢ Err ReadFault →
+    IfErr r (LeavesEarly s (told old.inputs.now) (told new.inputs.now))
+leaves_opening told s old mid new (Ok x) plan read same readable = tt
+leaves_opening told s old mid new (Err stop) plan read same readable =
+    let Reads : _ → Type 0 = λ i. OfRun (told old.inputs.now) s (λ w.
+    ReadsFirsts s.names w (told old.inputs.now) (told i)) in
+    record {
+      unread = λ want. subst Reads (sym same) (reads_only told s old mid plan read);
+      broke = λ failed. absurd (readable (ap Err failed));
     }
 
 feeds_rings : {I : Type 0} (told : I → Told) (is_open : I → Type 0) (s : SettingsSeen) (old new : Feeder I)
     (observations : List (Option Observation)) (header : HeaderText) (lanes : ℕ) →
-    HasFirsts told is_open s old observations → IsAccepted told old new →
+    HasFirsts told is_open s old observations → HasAcceptedFirsts told old new →
     slice_get (header_at old) 0 ≡ Some header → FeedsRings told is_open (shape_for s lanes) header new
 feeds_rings told is_open s old new observations header lanes read is first =
-    let plan = plan_stays s old new read.plan is.same in
+    let plan = plan_stays s old new read.plan is.kept.plan in
     let Open : _ → Type 0 = is_open in
     record {
-      first = ap (λ hs. slice_get hs 0) is.headers ∙ first;
+      first = ap (λ hs. slice_get hs 0) is.kept.headers ∙ first;
       feeds = is.feeds;
-      running = is.running;
-      file = λ open_file. subst Open (sym is.inputs) (read.file (is.reading open_file));
+      running = is.kept.running;
+      file = λ open_file. subst Open (sym is.inputs) (read.file (is.kept.reading open_file));
       size = sym plan.block;
       blocks = at_most _ _ (ap (λ n. n / block_size new + length (plan_at new).starts + 1) plan.limit
           ∙ ap (λ n. s.max_bytes / n + length (plan_at new).starts + 1) plan.block
@@ -158,7 +189,7 @@ feeds_rings told is_open s old new observations header lanes read is first =
 
 pub is_opened : {I F : Type 0} (told : I → Told) (is_open : I → Type 0) (task : Task) (s : SettingsSeen)
     (old new : Feeder I) (observations given : List (Option Observation)) (offsets lent : List ℕ) (header : HeaderText)
-    (spaces : Spaces I F) → HasFirsts told is_open s old observations → IsAccepted told old new → CanBeDriven task s →
+    (spaces : Spaces I F) → HasFirsts told is_open s old observations → HasAcceptedFirsts told old new → CanBeDriven task s →
     slice_get (header_at old) 0 ≡ Some header → given ≡ observations → lent ≡ offsets →
     AreSpaces task s given header lent spaces → AreFit task s (header_at old) observations →
     AreOffsetsOf observations offsets → IsOpened told is_open task s new observations spaces
@@ -172,8 +203,8 @@ is_opened told is_open task s old new observations given offsets lent header spa
     record {
       offsets = offsets;
       ready = record {
-        plan = plan_stays s old new read.plan is.same;
-        faultless = is.faultless;
+        plan = plan_stays s old new read.plan is.kept.plan;
+        faultless = is.kept.faultless;
         some = range.transfers.some;
         few = range.most_transfers;
         most = omega (arith, range.most_bytes);
@@ -183,11 +214,11 @@ is_opened told is_open task s old new observations given offsets lent header spa
         stage_is = spaces_are'.stage_is;
         feeds = feeds_rings told is_open s old new observations header (length spaces_are'.stage_is.lanes.items) read
             is first;
-        observed = subst Observed (sym is.headers) read.observed;
-        fit = subst Fit (sym is.headers) fit;
+        observed = subst Observed (sym is.kept.headers) read.observed;
+        fit = subst Fit (sym is.kept.headers) fit;
         offsets_are = offsets_are;
         firsts = subst (λ i. OfRun (told i) s (λ w. AreFirsts w observations)) (sym is.inputs) read.firsts;
-        headers = subst (λ hs. OfRun (told new.inputs.now) s (λ w. AreHeadersOf w hs)) (sym is.headers)
+        headers = subst (λ hs. OfRun (told new.inputs.now) s (λ w. AreHeadersOf w hs)) (sym is.kept.headers)
             (subst (λ i. OfRun (told i) s (λ w. AreHeadersOf w (header_at old))) (sym is.inputs) read.headers);
       };
       recorder_is = spaces_are'.recorder_is;

@@ -16,10 +16,10 @@ use Rattle.ring_ends.specs.Ended.{sealed_at_end, cleared_at_end}
 use Rattle.stream_model.specs.Walk.{transfer_data}
 use Rattle.disk_feeder.specs.declared.answers.FeedEnd.{FeedEnd}
 use Rattle.disk_feeder.specs.declared.answers.FeedEnd.TheVariants.{Whole}
-use Rattle.disk_feeder.specs.Plan.{Plan}
+use Rattle.disk_feeder.specs.Plan.{Plan, stream_of}
 use Rattle.disk_feeder.specs.declared.feeder.Feeder.{Feeder}
-use Rattle.disk_feeder.specs.Feeder.{header_at, plan_at, block_size}
-use Rattle.disk_feeder.specs.Feeding.{EndIs, IsEnded, SealedAs}
+use Rattle.disk_feeder.specs.Feeder.{header_at, names_at, plan_at, block_size}
+use Rattle.disk_feeder.specs.Feeding.{EndIs, IsEnded, SealedAs, BreaksReading}
 use Rattle.dada_recorder.specs.declared.answers.RecordEnd.{RecordEnd}
 use Rattle.dada_recorder.specs.declared.answers.RecordEnd.TheVariants.{FileFault}
 use Rattle.dada_recorder.specs.declared.recorder.Recorder.{Recorder}
@@ -41,8 +41,8 @@ use Rattle.run_stop.specs.Runs.{Task, Searching, RecordingAlone, Alone, is_searc
 use Rattle.whole_run.specs.declared.found.Found.{Found}
 use Rattle.whole_run.specs.Wholes.{OfRun, ClearsAll, HoldsFound, shards_of}
 use Rattle.whole_run.specs.Openings.{IsReady, RecordsReady, SearchesReady, AreLanesOf, plan_for}
-use Rattle.whole_run.specs.Ends.{IsFoundOf, RecordsRun, GoesThrough}
-use Rattle.whole_run.proofs.Told.{of_plan, FeedsRun}
+use Rattle.whole_run.specs.Ends.{IsFoundOf, RecordsRun, FaultLeaves, GoesThrough}
+use Rattle.whole_run.proofs.Told.{still_told, of_plan, FeedsRun}
 use Rattle.whole_run.proofs.Recorded.{as_many, is_recordable, records_firsts, made_all, made_front}
 use Rattle.whole_run.proofs.Lists.{some_at}
 use Rattle.whole_run.proofs.Searched.{said_at, transfers_through, lanes_for, hold_transfers, transfers_are_counted, known_transfers}
@@ -58,6 +58,20 @@ goes_walked told is_calm faults feeder end s plan fed =
     subst By plan.block
     (of_plan feeder s (told feeder.inputs.now) (told end.inputs.now)
     (λ w. EndIs w (block_size feeder) (sealed_at_end end.blocks) end.feed) plan fed.names fed.sealed.known)
+
+-- what a fault of the inputs left
+pub fault_leaves : {I F : Type 0} (told : I → Told) (is_calm : I → Type 0) (faults : I → ℕ) (feeder : Feeder I)
+    (end : SessionEnd I F) (observations : ArrayVec (Option Observation)) (found : Found) (after : I) →
+    FeedAnswers told is_calm faults feeder end → IsFoundOf observations end found → after ≡ end.inputs.now →
+    FaultLeaves told feeder after found
+fault_leaves told is_calm faults feeder end observations found after fed is same failed before read files are =
+    let names = names_at feeder in
+    let s = stream_of (plan_at feeder) files in
+    let size = block_size feeder in
+    subst (λ i. BreaksReading names s before (told i) size (sealed_at_end found.blocks)) (sym same)
+    (subst (λ b. BreaksReading names s before (told end.inputs.now) size (sealed_at_end b)) (sym is.blocks)
+    (fed.broke (sym is.feed ∙ failed) before read files
+    (still_told (told feeder.inputs.now) (told end.inputs.now) names files fed.names are)))
 
 -- ---- what was cleared
 

@@ -1,6 +1,6 @@
 -- What a session of a run left, over its files.
 -- Source: this project's choice.
-use Rattle.std.specs.Prelude.{◌≡◌, ◌≢◌, ℕ, ◌≤◌, true, false, Option, Some}
+use Rattle.std.specs.Prelude.{◌≡◌, ◌≢◌, ℕ, ◌≤◌, true, false, List, Option, Some}
 use Rattle.arrayvec.specs.ArrayVec.{ArrayVec}
 use Rattle.dada_model.specs.Observation.{Observation}
 use Rattle.psr_base.specs.Count.{Rose}
@@ -8,8 +8,11 @@ use Rattle.psr_base.specs.Told.{Told}
 use Rattle.psr_base.specs.Made.{FilesSeen}
 use Rattle.search_words.specs.Settings.{SettingsSeen}
 use Rattle.ring_ends.specs.Ended.{sealed_at_end}
-use Rattle.disk_feeder.specs.declared.answers.FeedEnd.TheVariants.{Whole}
-use Rattle.disk_feeder.specs.Feeding.{EndIs}
+use Rattle.disk_feeder.specs.declared.answers.FeedEnd.TheVariants.{Whole, ReadFault}
+use Rattle.disk_feeder.specs.declared.feeder.Feeder.{Feeder}
+use Rattle.disk_feeder.specs.Feeder.{plan_at, names_at, block_size, FeederRead}
+use Rattle.disk_feeder.specs.Feeding.{EndIs, BreaksReading}
+use Rattle.disk_feeder.specs.Plan.{stream_of, AreTold}
 use Rattle.dada_recorder.specs.declared.answers.RecordEnd.TheVariants.{FileFault}
 use Rattle.search_session.specs.declared.ended.SessionEnd.{SessionEnd}
 use Rattle.run_stop.specs.Outcomes.{MadeAll, MadeFront, files_of_stream}
@@ -39,6 +42,15 @@ pub record RecordsRun (s : SettingsSeen) (told : Told) (before after : FilesSeen
   pub rose : found.recorded ≡ Some FileFault → Rose before.faults after.faults
   pub quiet : found.recorded ≢ Some FileFault → after.faults ≡ before.faults
   pub count : before.faults ≤ after.faults
+
+-- where a fault of the inputs ended a session, its blocks are those of what was read since the inputs told `before`,
+-- up to its end, where the inputs are `after`
+abbrev pub FaultLeaves : {I : Type 0} → (I → Told) → Feeder I → I → Found → Type 0
+FaultLeaves told feeder after found = found.feed ≡ ReadFault → (before : Told) →
+    FeederRead before (told feeder.inputs.now) feeder → (files : List (List ℕ)) →
+    AreTold (told feeder.inputs.now) (names_at feeder) files →
+    BreaksReading (names_at feeder) (stream_of (plan_at feeder) files) before (told after)
+    (block_size feeder) (sealed_at_end found.blocks)
 
 -- a session went through, whose feeder ended at the end of the walk or at a fault of its inputs
 pub record GoesThrough (task : Task) (s : SettingsSeen) (told : Told) (before after : FilesSeen)

@@ -26,8 +26,9 @@ use Rattle.search_opening.specs.Rings.{run_shape}
 use Rattle.search_opening.specs.Space.{IsSpaceOf, FeedsRings}
 use Rattle.search_opening.specs.declared.space.StageSpace.{StageSpace}
 use Rattle.run_stop.specs.declared.stop.Stop.{Stop}
-use Rattle.run_stop.specs.declared.stop.Stop.TheVariants.{ReadFault}
+use Rattle.run_stop.specs.declared.stop.Stop.TheVariants.{Memory, ReadFault}
 use Rattle.run_stop.specs.Ends.{ComesBefore, SaysBefore}
+use Rattle.run_stop.specs.Firsts.{ReadsFirsts, BreaksFirstOf}
 use Rattle.run_stop.specs.Runs.{Task, Searching, RecordingAlone, Alone, CanSearchFirst, CanRecordFirst}
 use Rattle.whole_run.specs.declared.spaces.Spaces.{Spaces}
 use Rattle.whole_run.specs.Wholes.{OfRun}
@@ -36,6 +37,13 @@ use Rattle.whole_run.specs.Wholes.{OfRun}
 pub record StopsEarly (task : Task) (s : SettingsSeen) (told : Told) (stop : Stop) : Type 0 where
   pub kind : ComesBefore stop
   pub says : OfRun told s (λ w. SaysBefore task s w stop)
+
+-- What it has read: the first headers of all transfers and nothing else, where there was no memory; and a fault came
+-- before that of some transfer was judged.
+pub record LeavesEarly (s : SettingsSeen) (before after : Told) (stop : Stop) : Type 0 where
+  pub unread : stop ≡ Memory → OfRun before s (λ w. ReadsFirsts s.names w before after)
+  pub broke : stop ≡ ReadFault → (transfer : ℕ) × OfRun before s (λ w.
+      BreaksFirstOf s.names w transfer before after)
 
 -- ---- what is read
 

@@ -1,8 +1,9 @@
 -- What a run of either program leaves, from its settings to the end of its session, or where it stops before.
 -- Source: this project's choice.
-use Rattle.std.specs.Prelude.{◌≡◌, ◌≢◌, ℕ, ◌^◌, ◌<◌, Bool, true, false, List, map, Some, Result, Ok, Err}
+use Rattle.std.specs.Prelude.{◌≡◌, ◌≢◌, ℕ, ◌^◌, ◌<◌, Bool, true, false, List, map, Option, Some, None, Result, Ok, Err}
 use Rattle.psr_base.specs.Told.{Told}
 use Rattle.psr_base.specs.Made.{FilesSeen}
+use Rattle.ring_ends.specs.declared.finished.Finished.{Finished}
 use Rattle.search_words.specs.Settings.{SettingsSeen, AllInRange}
 use Rattle.stream_model.specs.Walk.{FileStream}
 use Rattle.disk_feeder.specs.declared.answers.FeedEnd.TheVariants as feed
@@ -12,10 +13,10 @@ use Rattle.dada_recorder.specs.declared.answers.RecordEnd.TheVariants.{FileFault
 use Rattle.transfer_text.specs.Searched.{ObservedTransfer, candidate_total}
 use Rattle.transfer_text.specs.Found.{HoldTransfers}
 use Rattle.run_stop.specs.declared.stop.Stop.{Stop}
-use Rattle.run_stop.specs.declared.stop.Stop.TheVariants.{ReadFault}
+use Rattle.run_stop.specs.declared.stop.Stop.TheVariants.{Memory, ReadFault}
 use Rattle.run_stop.specs.Ends.{StopsBefore, IsRunFed, IsRecorded}
 use Rattle.run_stop.specs.Runs.{Task, Searching, RecordingAlone, Alone, Says, stream_for, observed_transfers}
-use Rattle.run_stop.specs.Outcomes.{ReadsNoData, AllCleared}
+use Rattle.run_stop.specs.Outcomes.{ReadsNoData, LeavesAtFault, AllCleared}
 use Rattle.whole_run.specs.declared.found.Found.{Found}
 
 -- whether files are searched, or recorded alone
@@ -50,10 +51,27 @@ IsStopped task s told stop = ForWords task s (λ words. StopsBefore task words t
 abbrev pub ReadsNone : Task → SettingsSeen → Told → Told → Type 0
 ReadsNone task s before after = ForWords task s (λ words. ReadsNoData task words before after)
 
+-- what went through the data ring, where there was one
+abbrev pub blocks_of : Result Found Stop → Option Finished
+blocks_of (Ok found) = Some found.blocks
+blocks_of (Err stop) = None
+
+-- what a fault of its inputs leaves, for all words that say its settings
+abbrev pub LeavesRun : Task → SettingsSeen → Told → Told → Option Finished → Type 0
+LeavesRun task s before after blocks =
+    ForWords task s (λ words. LeavesAtFault task words before after blocks)
+
 -- the inputs failed
 abbrev pub FailsReading : Result Found Stop → Type 0
 FailsReading (Ok found) = found.feed ≡ feed.ReadFault
 FailsReading (Err stop) = stop ≡ ReadFault
+
+-- What a run has read of its inputs, where it did not go through: no data, where there was no memory; and at a fault of
+-- theirs what that leaves.
+pub record LeavesInputs (task : Task) (s : SettingsSeen) (before after : Told)
+    (result : Result Found Stop) : Type 0 where
+  pub unread : result ≡ Err Memory → ReadsNone task s before after
+  pub broken : FailsReading result → LeavesRun task s before after (blocks_of result)
 
 -- each shard cleared all that was sealed, and the recorder did where no call on its files failed
 pub record ClearsAll (task : Task) (s : SettingsSeen) (found : Found) : Type 0 where

@@ -1,12 +1,12 @@
 // What comes before the session of a run.
-ghost use Rattle.std.specs.Prelude.{◌≡◌, ◌≢◌, Err, IfOk, IfErr};
+ghost use Rattle.std.specs.Prelude.{◌≡◌, ◌≢◌, Err, IfOk, IfErr, OnOk};
+ghost use Rattle.psr_base.specs.Told.{Told};
 ghost use Rattle.psr_base.specs.Inputs.{HasReadFrom};
 ghost use Rattle.search_words.specs.Settings.{settings_seen};
-ghost use Rattle.disk_feeder.specs.Feeder.{HasPlan, IsFresh};
+ghost use Rattle.disk_feeder.specs.Feeder.{HasPlan, IsFresh, FeederRead};
 ghost use Rattle.disk_feeder.specs.Filling.{HoldsAll};
-ghost use Rattle.run_stop.specs.Firsts.{LeavesData};
-ghost use Rattle.whole_run.specs.Wholes.{task_of, CanBeDriven, OfRun};
-ghost use Rattle.whole_run.specs.Openings.{StopsEarly, HasFirsts, IsOpened};
+ghost use Rattle.whole_run.specs.Wholes.{task_of, CanBeDriven};
+ghost use Rattle.whole_run.specs.Openings.{StopsEarly, LeavesEarly, HasFirsts, IsOpened};
 
 use crate::judge::judge;
 use crate::spaces::Spaces;
@@ -46,6 +46,8 @@ fn open_begun<'a, I: Inputs, F: Files, R: Threads + Sync>(
     ensures stopped { IfErr result (StopsEarly (task_of searches) (settings_seen settings.now)
         (I.told feeder.old.inputs.now)) }
     ensures readable { result ≢ Err Stop.ReadFault }
+    ensures reads_on { (before told : Told) → FeederRead before told feeder.old
+        → FeederRead before told feeder.new }
 {
     match judge(alloc, searches, settings, feeder, observations.as_slice()) {
         Ok(()) => {}
@@ -96,9 +98,10 @@ pub(crate) fn open_run<'a, I: Inputs, F: Files, R: Threads + Sync>(
         (settings_seen settings.now) feeder.new o.observations.items o.spaces) }
     ensures stopped { IfErr result (StopsEarly (task_of searches) (settings_seen settings.now)
         (I.told feeder.old.inputs.now)) }
-    ensures unread { result ≡ Err Stop.Memory
-        → OfRun (I.told feeder.old.inputs.now) (settings_seen settings.now)
-        (LeavesData (I.told feeder.new.inputs.now)) }
+    ensures leaves { IfErr result (LeavesEarly (settings_seen settings.now)
+        (I.told feeder.old.inputs.now) (I.told feeder.new.inputs.now)) }
+    ensures begins { OnOk result (FeederRead (I.told feeder.old.inputs.now)
+        (I.told feeder.new.inputs.now) feeder.new) }
 {
     match begin_feed(alloc, feeder, settings.starts.as_slice()) {
         Ok(observations) => {

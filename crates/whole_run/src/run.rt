@@ -1,9 +1,9 @@
 // A run from its settings to the end of its session.
-ghost use Rattle.std.specs.Prelude.{◌≡◌, true, Err, IfOk, IfErr, OnErr};
+ghost use Rattle.std.specs.Prelude.{◌≡◌, true, IfOk, IfErr, OnErr};
 ghost use Rattle.psr_base.specs.Inputs.{HasReadFrom};
 ghost use Rattle.search_words.specs.Settings.{settings_seen};
 ghost use Rattle.disk_feeder.specs.Filling.{HoldsAll};
-ghost use Rattle.whole_run.specs.Wholes.{task_of, CanBeDriven, FailsReading, IsStopped, ReadsNone, IsDriven};
+ghost use Rattle.whole_run.specs.Wholes.{task_of, CanBeDriven, FailsReading, IsStopped, LeavesInputs, IsDriven};
 
 use crate::found::Found;
 use crate::lent::{Lent, give_back};
@@ -45,9 +45,8 @@ fn within<'a, I: Inputs + Send, F: Files + Send, G: Gate + Sync, R: Threads + Wa
     ensures stopped { IfErr result.done (IsStopped (task_of searches) (settings_seen settings.now)
         (I.told inputs.old)) }
     ensures stands { OnErr result.done (result.files.now ≡ files.old) }
-    ensures unread { result.done ≡ Err Stop.Memory
-        → ReadsNone (task_of searches) (settings_seen settings.now) (I.told inputs.old)
-        (I.told result.inputs.now) }
+    ensures leaves { LeavesInputs (task_of searches) (settings_seen settings.now)
+        (I.told inputs.old) (I.told result.inputs.now) result.done }
     ensures driven { IfOk result.done (IsDriven (task_of searches) (settings_seen settings.now)
         (I.told inputs.old) (F.seen files.old) (F.seen result.files.now)) }
 {
@@ -113,9 +112,8 @@ pub fn drive<I: Inputs + Send, F: Files + Send, G: Gate + Sync, R: Threads + Wai
     ensures stopped { IfErr result (IsStopped (task_of searches) (settings_seen settings.now)
         (I.told inputs.old)) }
     ensures stands { OnErr result (files.new ≡ files.old) }
-    ensures unread { result ≡ Err Stop.Memory
-        → ReadsNone (task_of searches) (settings_seen settings.now) (I.told inputs.old)
-        (I.told inputs.new) }
+    ensures leaves { LeavesInputs (task_of searches) (settings_seen settings.now)
+        (I.told inputs.old) (I.told inputs.new) result }
     ensures driven { IfOk result (IsDriven (task_of searches) (settings_seen settings.now)
         (I.told inputs.old) (F.seen files.old) (F.seen files.new)) }
 {

@@ -8,7 +8,7 @@ ghost use Rattle.disk_feeder.specs.Feeder.{names_at};
 ghost use Rattle.disk_feeder.specs.Filling.{HoldsAll};
 ghost use Rattle.run_stop.specs.Runs.{Task};
 ghost use Rattle.whole_run.specs.Openings.{IsOpened, RecordsReady, SearchesReady};
-ghost use Rattle.whole_run.specs.Ends.{IsFoundOf, GoesThrough};
+ghost use Rattle.whole_run.specs.Ends.{IsFoundOf, FaultLeaves, GoesThrough};
 
 use crate::found::Found;
 use crate::lent::Lent;
@@ -122,6 +122,7 @@ fn with_recorder<
     ensures same_files { result.files.ghost_name ≡ recorder.entry.files.ghost_name }
     ensures inputs { HasReadFrom I.told I.is_calm I.faults (result.done.feed ≡ ReadFault)
         feeder.entry.inputs.now result.inputs.now }
+    ensures broke { FaultLeaves I.told feeder.entry result.inputs.now result.done }
     ensures serves { I.is_calm feeder.entry.inputs.now
         → HoldsAll (I.told feeder.entry.inputs.now) (names_at feeder.entry)
         → result.done.feed ≢ ReadFault }
@@ -160,6 +161,7 @@ fn without_recorder<
     ensures same_files { result.files.ghost_name ≡ files.entry.ghost_name }
     ensures inputs { HasReadFrom I.told I.is_calm I.faults (result.done.feed ≡ ReadFault)
         feeder.entry.inputs.now result.inputs.now }
+    ensures broke { FaultLeaves I.told feeder.entry result.inputs.now result.done }
     ensures serves { I.is_calm feeder.entry.inputs.now
         → HoldsAll (I.told feeder.entry.inputs.now) (names_at feeder.entry)
         → result.done.feed ≢ ReadFault }
@@ -196,6 +198,7 @@ pub(crate) fn go_on<
     ensures same_files { result.files.ghost_name ≡ files.entry.ghost_name }
     ensures inputs { HasReadFrom I.told I.is_calm I.faults (result.done.feed ≡ ReadFault)
         feeder.entry.inputs.now result.inputs.now }
+    ensures broke { FaultLeaves I.told feeder.entry result.inputs.now result.done }
     ensures serves { I.is_calm feeder.entry.inputs.now
         → HoldsAll (I.told feeder.entry.inputs.now) (names_at feeder.entry)
         → result.done.feed ≢ ReadFault }

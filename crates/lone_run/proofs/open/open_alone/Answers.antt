@@ -1,10 +1,64 @@
+use Rattle.std.proofs.Common.{◌≡◌, Result, Ok, Err, OnOk, refl, sym, subst}
 use Rattle.search_words.specs.Settings.{settings_seen}
-use Rattle.lone_run.proofs.Opening.{stops_before_reading}
+use Rattle.stream_model.specs.Walk.{FileStream}
+use Rattle.disk_feeder.specs.Feeder.{FeederRead}
+use Rattle.run_stop.specs.declared.stop.Stop.{Stop}
+use Rattle.search_opening.specs.First.{StopsFirsts}
+use Rattle.whole_run.specs.Openings.{LeavesEarly}
+use Rattle.lone_run.specs.declared.stop.LoneStop.{LoneStop}
+use Rattle.lone_run.specs.declared.stop.LoneStop.TheVariants.{Run}
+use Rattle.lone_run.proofs.Opening.{begin_stops, stops_before_reading, leaves_early, leaves_opening}
 use Rattle.lone_run.proofs.Results.{map_err}
+use Rattle.lone_run.proofs.Told.{of_plan}
 use Rattle.lone_run.proofs.open.open_alone.Goals as goal
 
 pub returns-in-Ok-clause-stopped : goal.returns-in-Ok-clause-stopped
 returns-in-Ok-clause-stopped g c =
     map_err _ _ c.open_begun.result
     (λ stop. stops_before_reading _ _ (settings_seen c.args.settings.now) (g.I.Inputs.told c.args.feeder.now.inputs.now)
-    (g.I.Inputs.told c.begin_feed.new.feeder.inputs.now) stop c.in-Ok.ensures.inputs.names) c.open_begun.ensures.stopped
+    (g.I.Inputs.told c.begin_feed.new.feeder.inputs.now) stop c.begin_feed.ensures.inputs.names)
+    c.open_begun.ensures.stopped
+
+pub returns-in-Err-clause-stopped : goal.returns-in-Err-clause-stopped
+returns-in-Err-clause-stopped g c =
+    let s = settings_seen c.args.settings.now in
+    let told = g.I.Inputs.told c.args.feeder.now.inputs.now in
+    let stops = c.in-Err.ensures.stopped in
+    let Stops : FileStream → Type 0 = λ w. StopsFirsts w c.in-Err.stop in
+    begin_stops (g.S.Scoping.scopes c.args.scoping.now) (g.S.Scoping.refuses c.args.scoping.now) s told c.in-Err.stop
+    stops.kind (of_plan c.args.feeder.now s told told Stops c.requires.fresh.plan refl stops.stopped)
+
+-- ---- what was read
+
+on_ok : {T E : Type 0} (r : Result T E) (P : Type 0) → P → OnOk r P
+on_ok (Ok x) P p = p
+on_ok (Err e) P p = tt
+
+pub returns-in-Ok-clause-begins : goal.returns-in-Ok-clause-begins
+returns-in-Ok-clause-begins g c =
+    let told = g.I.Inputs.told in
+    let old = told c.args.feeder.now.inputs.now in
+    let new = c.open_begun.new.feeder in
+    let Reads : _ → Type 0 = λ i. FeederRead old (told i) new in
+    on_ok c.open_begun.result (FeederRead old (told new.inputs.now) new)
+    (subst Reads (sym c.open_begun.ensures.inputs)
+    (c.open_begun.ensures.reads_on old (told c.begin_feed.new.feeder.inputs.now) c.in-Ok.ensures.read.begins))
+
+pub returns-in-Ok-clause-leaves : goal.returns-in-Ok-clause-leaves
+returns-in-Ok-clause-leaves g c = λ stop is.
+    leaves_opening g.I.Inputs.told (settings_seen c.args.settings.now) c.args.feeder.now c.begin_feed.new.feeder
+    c.open_begun.new.feeder c.open_begun.result stop c.requires.fresh.plan c.in-Ok.ensures.read.read
+    c.open_begun.ensures.inputs c.open_begun.ensures.readable is
+
+-- the stop of an answer
+one_stop : {T F : Type 0} (r : Result T (LoneStop F)) (a b : Stop) → r ≡ Err (Run a) → r ≡ Err (Run b) → a ≡ b
+one_stop r a b one other = cc
+
+pub returns-in-Err-clause-leaves : goal.returns-in-Err-clause-leaves
+returns-in-Err-clause-leaves g c = λ stop is.
+    let told = g.I.Inputs.told in
+    let Leaves : Stop → Type 0 = λ x. LeavesEarly (settings_seen c.args.settings.now)
+    (told c.args.feeder.now.inputs.now) (told c.begin_feed.new.feeder.inputs.now) x in
+    subst Leaves (one_stop _ _ _ refl is)
+    (leaves_early told (settings_seen c.args.settings.now) c.args.feeder.now c.begin_feed.new.feeder c.in-Err.stop
+    c.requires.fresh.plan c.in-Err.ensures.stopped)

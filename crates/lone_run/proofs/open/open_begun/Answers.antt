@@ -56,15 +56,7 @@ returns-in-Ok-take_space-clause-opened g c =
       lane.0,
       lane.1,
       is_opened g.I.Inputs.told g.I.Inputs.is_open s c.args.feeder.now c.accept_all.new.feeder c.args.observations.items
-          o lane.0 c.in-Ok.lane c.header.result.now c.in-Ok-take_space.space (record {
-            same = c.accept_all.ensures.plan;
-            headers = c.accept_all.ensures.headers;
-            inputs = c.accept_all.ensures.inputs;
-            feeds = c.accept_all.ensures.feeds;
-            faultless = c.accept_all.ensures.faultless;
-            running = c.accept_all.ensures.running;
-            reading = c.accept_all.ensures.reading;
-          })
+          o lane.0 c.in-Ok.lane c.header.result.now c.in-Ok-take_space.space c.accept_all.ensures.accepted
           begun only.1 c.requires.range c.requires.one c.header.ensures lane.2 c.in-Ok-take_space.ensures.space
           c.in-Ok-take_space.ensures.total
           (λ w firsts. c.in-Ok.ensures.fits w

@@ -1,8 +1,9 @@
 use Rattle.std.proofs.Common.{rules, ◌≡◌, sym, ◌∙◌, subst}
 use Rattle.search_words.specs.Settings.{settings_seen}
-use Rattle.run_stop.specs.Outcomes.{ReadsNoData}
+use Rattle.run_stop.specs.Outcomes.{ReadsNoData, LeavesAtFault}
 use Rattle.run_stop.specs.Runs.{Alone}
 use Rattle.whole_run.specs.Wholes.{ForWords}
+use Rattle.lone_run.specs.Stops.{FailsReading, blocks_of}
 use Rattle.lone_run.proofs.run.drive_alone.Goals as goal
 
 pub returns-clause-unread : goal.returns-clause-unread
@@ -13,3 +14,16 @@ returns-clause-unread g c = λ want lone.
     (λ words. ReadsNoData (Alone lone) words (told c.args.inputs.now) (told i)) in
     let back : c.inputs-1.given.0 ≡ c.within.result.inputs.now = search rules in
     subst Reads (sym back) (c.within.ensures.unread (sym c.give_back.ensures.done ∙ want) lone)
+
+pub returns-clause-broken : goal.returns-clause-broken
+returns-clause-broken g c = λ failed lone.
+    let told = g.I.Inputs.told in
+    let s = settings_seen c.args.settings.now in
+    let Leaves : _ → Type 0 = λ i. ForWords (Alone lone) s
+    (λ words. LeavesAtFault (Alone lone) words (told c.args.inputs.now) (told i) (blocks_of c.give_back.result)) in
+    let Blocks : _ → Type 0 = λ r. FailsReading r → ForWords (Alone lone) s
+    (λ words. LeavesAtFault (Alone lone) words (told c.args.inputs.now) (told c.within.result.inputs.now)
+    (blocks_of r)) in
+    let back : c.inputs-1.given.0 ≡ c.within.result.inputs.now = search rules in
+    subst Leaves (sym back)
+    (subst Blocks (sym c.give_back.ensures.done) (λ was. c.within.ensures.broken was lone) failed)

@@ -3,7 +3,7 @@ use Rattle.disk_feeder.specs.declared.feeder.FeederSpace.{FeederSpace}
 use Rattle.disk_feeder.specs.Resting.{feeder_over}
 use Rattle.search_session.specs.Sessions.{FeedAnswers}
 use Rattle.search_session.specs.LoneEnds.{session_end}
-use Rattle.lone_run.proofs.Through.{lone_ready, lane_engine, goes_alone}
+use Rattle.lone_run.proofs.Through.{lone_ready, lane_engine, goes_alone, fault_leaves}
 use Rattle.lone_run.proofs.session.go_on.Goals as goal
 
 pub session-session-requires : goal.session-session-requires
@@ -36,6 +36,20 @@ returns-clause-serves g c = λ calm holds.
     (feeder_over c.args.inputs.now space) (session_end c.run_alone-end.new.inputs c.run_alone-end.result) in
     let fed = subst Fed c.session-session.ensures.feeder c.run_alone-end.ensures.feed in
     fed.serves calm holds
+
+pub returns-clause-broke : goal.returns-clause-broke
+returns-clause-broke g c =
+    let Fed : FeederSpace → Type 0 = λ space. FeedAnswers g.I.Inputs.told g.I.Inputs.is_calm g.I.Inputs.faults
+    (feeder_over c.args.inputs.now space) (session_end c.run_alone-end.new.inputs c.run_alone-end.result) in
+    let fed = subst Fed c.session-session.ensures.feeder c.run_alone-end.ensures.feed in
+    fault_leaves g.I.Inputs.told g.I.Inputs.is_calm g.I.Inputs.faults (feeder_over c.args.inputs.now c.args.feeder)
+    c.run_alone-end.new.inputs c.run_alone-end.result (record {
+      feed = c.run_alone-end.result.feed;
+      observation = c.args.opened.observation;
+      engine = c.engine_of.result;
+      blocks = c.run_alone-end.result.blocks;
+    })
+    fed refl refl
 
 pub returns-clause-went : goal.returns-clause-went
 returns-clause-went g c = λ s scope opened.

@@ -28,40 +28,54 @@ pub loop-k-preserved : goal.loop-k-preserved
 loop-k-preserved g c =
     let before = c.loop-k.invariant in
     let now = c.accept.ensures in
+    let kept = now.kept in
     record {
       same_reference = now.same_reference ∙ before.same_reference;
       inputs = now.inputs ∙ before.inputs;
       plan = record {
-        names = now.plan.names ∙ before.plan.names;
-        starts = now.plan.starts ∙ before.plan.starts;
-        limit = now.plan.limit ∙ before.plan.limit;
-        size = now.plan.size ∙ before.plan.size;
-        headers = now.plan.headers ∙ before.plan.headers;
+        names = kept.plan.names ∙ before.plan.names;
+        starts = kept.plan.starts ∙ before.plan.starts;
+        limit = kept.plan.limit ∙ before.plan.limit;
+        size = kept.plan.size ∙ before.plan.size;
+        headers = kept.plan.headers ∙ before.plan.headers;
       };
-      headers = now.headers ∙ before.headers;
+      headers = kept.headers ∙ before.headers;
       begun = now.begun;
       accepted = λ j header within there. elim (cases_lt j c.loop-k.k) [
         | inl below ↦
             let differs : j ≢ c.loop-k.k = λ same. omega (arith, below, same) in
             now.accepts.others j header differs
-            (before.accepted j header below (subst (λ hs. slice_get hs j ≡ Some header) now.headers there))
+            (before.accepted j header below (subst (λ hs. slice_get hs j ≡ Some header) kept.headers there))
         | inr above ↦
             let same : j ≡ c.loop-k.k = omega (arith, within, above) in
             subst (λ i. IsAcceptedAt c.accept.new.self i header) (sym same)
             (now.accepts.first header (subst (λ i. slice_get (header_at c.accept.new.self) i ≡ Some header) same there))
       ];
-      reading = λ open_now. before.reading (now.reading open_now);
+      reads_on = λ outset told was. kept.reads_on outset told (before.reads_on outset told was);
+      reading = λ open_now. before.reading (kept.reading open_now);
       feeds = λ some all. now.feeds all;
-      faultless = λ some. now.faultless;
-      running = λ some. now.running;
+      faultless = λ some. kept.faultless;
+      running = λ some. kept.running;
     }
 
-pub returns-clause-feeds : goal.returns-clause-feeds
-returns-clause-feeds g c =
+pub returns-clause-accepted : goal.returns-clause-accepted
+returns-clause-accepted g c =
     let headers = header_at c.args.feeder.now in
+    let were = c.loop-k.invariant in
     let many = as_many headers c.args.observations.now c.requires.observed in
-    let same = ap length c.loop-k.invariant.headers in
+    let same = ap length were.headers in
     let some : 0 < c.loop-k.k = omega (arith, c.requires.some, c.loop-k-test.false) in
-    c.loop-k.invariant.feeds some (λ j header there.
-    let within = slice_get_within (header_at c.loop-k.feeder) j header there in
-    c.loop-k.invariant.accepted j header (omega (arith, within, same, many, c.loop-k-test.false)) there)
+    record {
+      kept = record {
+        plan = were.plan;
+        headers = were.headers;
+        reading = were.reading;
+        reads_on = were.reads_on;
+        faultless = were.faultless some;
+        running = were.running some;
+      };
+      inputs = were.inputs;
+      feeds = were.feeds some (λ j header there.
+          let within = slice_get_within (header_at c.loop-k.feeder) j header there in
+          were.accepted j header (omega (arith, within, same, many, c.loop-k-test.false)) there);
+    }

@@ -46,15 +46,7 @@ returns-in-Ok-take-clause-opened g c =
     c.args.observations.items
     c.as_slice-3.result.now c.first_offsets.result.items c.as_slice-4.result.now c.header.result.now c.in-Ok-take.spaces
     c.requires.firsts
-    (record {
-      same = c.accept_all.ensures.plan;
-      headers = c.accept_all.ensures.headers;
-      inputs = c.accept_all.ensures.inputs;
-      feeds = c.accept_all.ensures.feeds;
-      faultless = c.accept_all.ensures.faultless;
-      running = c.accept_all.ensures.running;
-      reading = c.accept_all.ensures.reading;
-    })
+    c.accept_all.ensures.accepted
     c.requires.drivable c.header.ensures c.as_slice-3.ensures.value c.as_slice-4.ensures.value c.in-Ok-take.ensures
     (subst Fit c.as_slice.ensures.value c.in-Ok.ensures.fit)
     (subst Offsets c.as_slice-2.ensures.value c.first_offsets.ensures)

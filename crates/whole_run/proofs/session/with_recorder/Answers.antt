@@ -6,7 +6,7 @@ use Rattle.dada_recorder.specs.declared.recorder.Recorder.{Recorder}
 use Rattle.search_session.specs.Recorded.{RecordedAnswers, RecordedBy}
 use Rattle.search_session.specs.Sessions.{FeedAnswers, ShardAnswers}
 use Rattle.whole_run.proofs.Staging.{is_staged, records_fresh}
-use Rattle.whole_run.proofs.Through.{goes_with}
+use Rattle.whole_run.proofs.Through.{fault_leaves, goes_with}
 use Rattle.whole_run.proofs.session.with_recorder.Goals as goal
 
 pub stage-stage-requires : goal.stage-stage-requires
@@ -25,6 +25,16 @@ returns-clause-serves g c = λ calm holds fault.
     FeedAnswers g.I.Inputs.told g.I.Inputs.is_calm g.I.Inputs.faults feeder end in
     let fed = subst Fed c.stage-stage.ensures.feeder c.run_session-end.ensures.feed in
     fed.serves calm holds (sym c.found_of.ensures.found.feed ∙ fault)
+
+pub returns-clause-broke : goal.returns-clause-broke
+returns-clause-broke g c =
+    let end = c.run_session-end.result in
+    let Fed : Feeder _ → Type 0 = λ feeder.
+    FeedAnswers g.I.Inputs.told g.I.Inputs.is_calm g.I.Inputs.faults feeder end in
+    fault_leaves g.I.Inputs.told g.I.Inputs.is_calm g.I.Inputs.faults c.args.feeder end c.args.observations
+    c.found_of.result.done c.found_of.result.inputs.now
+    (subst Fed c.stage-stage.ensures.feeder c.run_session-end.ensures.feed) c.found_of.ensures.found
+    c.found_of.ensures.inputs
 
 pub returns-clause-went : goal.returns-clause-went
 returns-clause-went g c = λ task s offsets ready.
