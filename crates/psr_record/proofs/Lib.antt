@@ -1,2 +1,3 @@
 mod Endings
 mod Accepted
+pub mod Faults

@@ -1,7 +1,7 @@
 // The top call.
 ghost use Rattle.std.specs.Prelude.{◌≡◌, Some, map, string_bytes};
 ghost use Rattle.run_stop.specs.Conversions.{stop_of_feed};
-ghost use Rattle.run_stop.specs.Outcomes.{ReadsNoData};
+ghost use Rattle.run_stop.specs.Outcomes.{ReadsNoData, LeavesAtFault};
 ghost use Rattle.run_stop.specs.Runs.{RecordingAlone};
 ghost use Rattle.psr_record.specs.Outcome.{Outcome};
 ghost use Rattle.psr_record.specs.Ends.{Ends, stop_of_session};
@@ -56,6 +56,8 @@ pub fn run_record<
         (E.seen notes.new) result }
     ensures early { result.status ≡ 5 → ReadsNoData RecordingAlone (map string_bytes words.now)
         (I.told inputs.old) (I.told inputs.new) }
+    ensures broken { result.status ≡ 6 → LeavesAtFault RecordingAlone (map string_bytes words.now)
+        (I.told inputs.old) (I.told inputs.new) result.blocks }
 {
     let Ended { stop, blocks } = record_files(rt, alloc, words, inputs, files, gate);
     let status = tell(stop, notes);
@@ -90,6 +92,9 @@ fn record_files<
     ensures early { result.stop ≡ Some Stop.Memory
         → ReadsNoData RecordingAlone (map string_bytes words.now) (I.told inputs.old)
         (I.told inputs.new) }
+    ensures broken { result.stop ≡ Some Stop.ReadFault
+        → LeavesAtFault RecordingAlone (map string_bytes words.now) (I.told inputs.old)
+        (I.told inputs.new) result.blocks }
 {
     end_at_words::<I>();
     end_before_session::<I>();

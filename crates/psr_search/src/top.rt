@@ -1,6 +1,6 @@
 // The top call.
 ghost use Rattle.std.specs.Prelude.{◌≡◌, Some, map, string_bytes};
-ghost use Rattle.run_stop.specs.Outcomes.{ReadsNoData};
+ghost use Rattle.run_stop.specs.Outcomes.{ReadsNoData, LeavesAtFault};
 ghost use Rattle.run_stop.specs.Runs.{Searching};
 ghost use Rattle.psr_search.specs.Outcome.{AsksToRecord, Outcome};
 ghost use Rattle.psr_search.specs.Ends.{Ends};
@@ -59,6 +59,8 @@ pub fn run<
         (K.seen out.new) (E.seen notes.old) (E.seen notes.new) result }
     ensures early { result.status ≡ 5 → ReadsNoData Searching (map string_bytes words.now)
         (I.told inputs.old) (I.told inputs.new) }
+    ensures broken { result.status ≡ 6 → LeavesAtFault Searching (map string_bytes words.now)
+        (I.told inputs.old) (I.told inputs.new) result.blocks }
 {
     let Ended { stop, blocks } = search(rt, alloc, words, inputs, files, out, gate);
     let status = tell(stop, notes);
@@ -93,6 +95,9 @@ fn search<
     ensures early { result.stop ≡ Some Stop.Memory
         → ReadsNoData Searching (map string_bytes words.now) (I.told inputs.old)
         (I.told inputs.new) }
+    ensures broken { result.stop ≡ Some Stop.ReadFault
+        → LeavesAtFault Searching (map string_bytes words.now) (I.told inputs.old)
+        (I.told inputs.new) result.blocks }
 {
     end_at_words::<I>();
     words_say_once();

@@ -1,7 +1,13 @@
+use Rattle.std.proofs.Common.{sym, ◌∙◌}
 use Rattle.psr_record.proofs.Endings.{outcome}
+use Rattle.psr_record.proofs.Faults.{six_is}
 use Rattle.psr_record.proofs.top.run_record.Goals as goal
 
 pub returns-clause-outcome : goal.returns-clause-outcome
 returns-clause-outcome g c =
     outcome _ _ _ _ _ _ _ _ _ c.tell-status.result c.record_files-stop.ensures.ends c.tell-status.ensures.status
     (c.tell-status.ensures.told _ _ _ c.record_files-stop.ensures.ends.said)
+
+pub returns-clause-broken : goal.returns-clause-broken
+returns-clause-broken g c = λ failed.
+    c.record_files-stop.ensures.broken (six_is c.record_files-stop.result.stop (sym c.tell-status.ensures.status ∙ failed))
