@@ -1,5 +1,5 @@
 -- The headers of beams are read one after another.
-use Rattle.std.proofs.Common.{◌≡◌, ◌≢◌, ◌⊎◌, ℕ, ◌+◌, ◌-◌, ◌<◌, List, [], ◌∷◌, ◌++◌, length, length-append, get_or, set, slice_get, Option, Some, None, Result, Err, refl, sym, ap, subst, ◌∙◌, inl, inr, arith}
+use Rattle.std.proofs.Common.{◌≡◌, ◌≢◌, ◌⊎◌, ℕ, zero, suc, ◌+◌, ◌-◌, ◌<◌, List, [], ◌∷◌, ◌++◌, length, length-append, get_or, set, slice_get, Option, Some, None, Result, Err, refl, sym, ap, subst, ◌∙◌, inl, inr, arith}
 use Rattle.std.proofs.lemmas.Bool.{cases_lt}
 use Rattle.std.proofs.lemmas.List.{length-set, get_or-set_same, get_or-set_other, get_or_append_left, get_or-append_right, get_or_default}
 use Rattle.psr_base.specs.Inputs.{HasReadFrom}
@@ -10,16 +10,19 @@ use Rattle.disk_feeder.specs.declared.answers.FeedFault.{FeedFault}
 use Rattle.disk_feeder.specs.declared.answers.FeedFault.TheVariants as fault
 use Rattle.disk_feeder.specs.declared.feeder.FeederSpace.{FeederSpace}
 use Rattle.disk_feeder.specs.declared.source.Source.{Source}
-use Rattle.disk_feeder.specs.Feeder.{HasPlan, SamePlan, IsBegun, FirstsLeft, RefusesAt, HasOpenFile, header_at, names_at, plan_at}
+use Rattle.disk_feeder.specs.Feeder.{HasPlan, SamePlan, IsBegun, FirstHeadersRead, BreaksFirstHeaders, RefusesAt, HasOpenFile, header_at, names_at, plan_at}
+use Rattle.disk_feeder.specs.Beginning.{AreFirstFiles}
 use Rattle.disk_feeder.specs.Filling.{HoldsAll}
+use Rattle.disk_feeder.specs.Front.{BreaksAt}
+use Rattle.disk_feeder.specs.History.{firsts_read}
 use Rattle.disk_feeder.specs.Plan.{HasHeaders, AreTold, begin_at}
 use Rattle.disk_feeder.specs.Resting.{at_rest}
 use Rattle.disk_feeder.specs.Sources.{first_name, plan_of, RefusesFirst}
 use Rattle.run_stop.specs.declared.stop.Stop.{Stop}
 use Rattle.run_stop.specs.declared.stop.Stop.TheVariants.{Memory, ReadFault}
 use Rattle.run_stop.specs.Firsts.{HasHeader}
-use Rattle.psr_beams.specs.Files.{beam_name, stream_of_one}
-use Rattle.psr_beams.specs.Feeders.{LeavesFile, HasBegun, SlotBegun, ReadsHeader, SaysText, FailsHeader, AreRead, AreBegun, stop_of_header_at}
+use Rattle.psr_beams.specs.Files.{beam_name, stream_of_one, header_read}
+use Rattle.psr_beams.specs.Feeders.{LeavesData, SlotRead, HasBegun, SlotBegun, ReadsHeader, SaysText, FailsHeader, AreRead, AreBegun, HaveRead, stop_of_header_at}
 use Rattle.psr_beams.proofs.Counting.{retyped}
 use Rattle.psr_beams.proofs.OneFile.{one_told, holds_one, stream_is, some_of, one_there}
 
@@ -50,9 +53,19 @@ module _ (s : SettingsSeen) (name : List ℕ) (old : FeederSpace) (starts : s.st
 
   -- ---- the header was read
 
-  pub left : (before after : Told) → FirstsLeft before (at_rest old) after → LeavesFile before name after
-  left before after firsts file at =
-      firsts 0 (sym (ap length starts_are)) file (ap before.bytes_under name_is ∙ at)
+  -- what is told of the first file of the one transfer
+  first_files : (told : Told) (file : List ℕ) → told.bytes_under name ≡ Some file → (count : ℕ) → count ≡ 1 →
+      AreFirstFiles told source count (λ k. file)
+  first_files told file at count one zero below = ap told.bytes_under name_is ∙ at
+  first_files told file at count one (suc k) below = absurd (omega (arith, below, one))
+
+  left : (before after : Told) → FirstHeadersRead before (at_rest old) after → LeavesData before name after
+  unfolding firsts_read
+  left before after read file at =
+      let count : length source.starts.now ≡ 1 = ap length starts_are in
+      read (λ k. file) (first_files before file at (length source.starts.now) count)
+      ∙ ap (λ n. firsts_read (first_name source) (λ k. file) n before) count
+      ∙ ap (λ (x : List ℕ). header_read x file before) name_is
 
   module _ {I : Type 0} (told : I → Told) (is_open is_calm : I → Type 0) (faults : I → ℕ) (before after : I)
       (new : FeederSpace) where
@@ -81,7 +94,7 @@ module _ (s : SettingsSeen) (name : List ℕ) (old : FeederSpace) (starts : s.st
         (h.0, have 0 h.0 h.1)
 
     pub reads : (failed : Type 0) → ¬ failed → SamePlan (at_rest old) (at_rest new) →
-        IsBegun (told after) (at_rest new) → FirstsLeft (told before) (at_rest old) (told after) →
+        IsBegun (told after) (at_rest new) → FirstHeadersRead (told before) (at_rest old) (told after) →
         HasReadFrom told is_calm faults failed before after →
         ReadsHeader told is_calm faults name before after
     reads failed not same is firsts read = record {
@@ -114,13 +127,26 @@ module _ (s : SettingsSeen) (name : List ℕ) (old : FeederSpace) (starts : s.st
       (refl, λ file at. (refused told (fault.BadHeader k header.BadSize) r file at).1.1)
 
   unread : (before after : Told) (beam : ℕ) (f : FeedFault) → RefusesAt before (at_rest old) f →
-      stop_of_header_at beam f ≡ Memory → (after ≡ before) ⊎ LeavesFile before name after
+      stop_of_header_at beam f ≡ Memory → (after ≡ before) ⊎ LeavesData before name after
   unread before after beam fault.ReadFault r is = absurd cc
   unread before after beam (fault.BadHeader k header.Memory) r is =
       inr (λ file at. absurd (refused before (fault.BadHeader k header.Memory) r file at).1.1)
   unread before after beam (fault.BadHeader k (header.Short had)) r is = absurd cc
   unread before after beam (fault.BadHeader k (header.NotText place)) r is = absurd cc
   unread before after beam (fault.BadHeader k header.BadSize) r is = absurd cc
+
+  -- a fault came before the header was judged
+  breaks : (before after : Told) → BreaksFirstHeaders before (at_rest old) after → (file : List ℕ) →
+      before.bytes_under name ≡ Some file → BreaksAt name file before after
+  unfolding firsts_read
+  breaks before after b file at =
+      let there = b.there in
+      let count : length source.starts.now ≡ 1 = ap length starts_are in
+      let zeroth : b.transfer ≡ 0 = omega (arith, there, count) in
+      let P : ℕ → Type 0 = λ t. BreaksAt (first_name source t) file
+      (firsts_read (first_name source) (λ k. file) t before) after in
+      subst (λ (x : List ℕ). BreaksAt x file before after) name_is (subst P zeroth
+      (b.broke (λ k. file) (first_files before file at (b.transfer + 1) (ap (λ n. n + 1) zeroth))))
 
   -- a stop says that the inputs failed exactly where they did
   abbrev bad : FeedFault → Result (Unit {0}) FeedFault
@@ -139,10 +165,11 @@ module _ (s : SettingsSeen) (name : List ℕ) (old : FeederSpace) (starts : s.st
 
   pub fails : {I : Type 0} (told : I → Told) (is_calm : I → Type 0) (faults : I → ℕ) (beam : ℕ) (before after : I)
       (f : FeedFault) (stop : Stop) → RefusesAt (told before) (at_rest old) f →
+      (bad f ≡ bad fault.ReadFault → BreaksFirstHeaders (told before) (at_rest old) (told after)) →
       HasReadFrom told is_calm faults (bad f ≡ bad fault.ReadFault) before after →
       (is_calm before → HoldsAll (told before) (names_at (at_rest old)) → bad f ≢ bad fault.ReadFault) →
       stop ≡ stop_of_header_at beam f → FailsHeader told is_calm faults name beam before after stop
-  fails told is_calm faults beam before after f stop r read serves is =
+  fails told is_calm faults beam before after f stop r broke read serves is =
       subst (λ (x : Stop). FailsHeader told is_calm faults name beam before after x) (sym is) (record {
         read = retyped told is_calm faults (bad f ≡ bad fault.ReadFault) (stop_of_header_at beam f ≡ ReadFault) before
             after (fails_there beam f) (fails_back beam f) read;
@@ -151,6 +178,7 @@ module _ (s : SettingsSeen) (name : List ℕ) (old : FeederSpace) (starts : s.st
             (fails_back beam f e);
         says = says (told before) beam f r;
         unread = unread (told before) (told after) beam f r;
+        broke = λ e. breaks (told before) (told after) (broke (fails_back beam f e));
       })
 
 -- ---- one beam after another
@@ -183,6 +211,36 @@ module _ {I : Type 0} (told : I → Told) (is_open is_calm : I → Type 0) (faul
         let other : k ≢ n = λ e. omega (arith, e, over) in
         get_or-set_other mid n k new x other ∙ all.others k x (omega (arith, over));
   }
+
+  pub reads_more : (n : ℕ) (before mid : List I) (old new : I) (slots more : List (Option FeederSpace))
+      (space : FeederSpace) → AreRead told is_calm faults s n before mid → HaveRead told n before mid slots →
+      AreBegun told is_open s n mid slots → n < length mid →
+      SlotRead (told (get_or mid n old)) (told new) (Some space) → more ≡ slots ++ Some space ∷ [] →
+      HaveRead told (n + 1) before (set mid n new) more
+  reads_more n before mid old new slots more space read all begun within is grown k x below =
+      let count = begun.many in
+      elim (cases_lt k n) [
+        | inl less ↦
+            let other : k ≢ n = λ e. omega (arith, e, less) in
+            let slot : get_or more k None ≡ get_or slots k None = ap (λ xs. get_or xs k None) grown
+            ∙ get_or_append_left slots (Some space ∷ []) None k (omega (arith, less, count)) in
+            subst (λ z. SlotRead (told (get_or before k x)) (told z) (get_or more k None))
+            (sym (get_or-set_other mid n k new x other))
+            (subst (λ z. SlotRead (told (get_or before k x)) (told (get_or mid k x)) z) (sym slot) (all k x less))
+        | inr above ↦
+            let same : n ≡ k = omega (arith, below, above) in
+            let P : ℕ → Type 0 = λ j. SlotRead (told (get_or before j x)) (told (get_or (set mid n new) j x))
+            (get_or more j None) in
+            let slot : get_or more n None ≡ Some space = ap (λ xs. get_or xs n None) grown
+            ∙ get_or-append_right slots (Some space ∷ []) n n None count (omega arith)
+            ∙ ap (λ j. get_or (Some space ∷ []) j None) (none_less n) in
+            let was : get_or mid n old ≡ get_or before n x =
+            get_or_default mid n old x within ∙ read.others n x (omega arith) in
+            subst P same (subst (λ z. SlotRead (told (get_or before n x)) (told z) (get_or more n None))
+            (sym (get_or-set_same mid n new x within))
+            (subst (λ z. SlotRead (told (get_or before n x)) (told new) z) (sym slot)
+            (subst (λ z. SlotRead (told z) (told new) (Some space)) was is)))
+      ]
 
   pub begun_more : (n : ℕ) (mid : List I) (new : I) (slots more : List (Option FeederSpace)) (space : FeederSpace) →
       AreBegun told is_open s n mid slots → n < length mid → HasBegun told is_open s (beam_name s n) new space →

@@ -14,10 +14,9 @@ use Rattle.run_stop.specs.Ends.{WordsSayOnce}
 use Rattle.psr_beams.specs.Words.{searching_beams, SayBeams}
 use Rattle.psr_beams.specs.Seen.{told_in, told_at, calm_at, seen_at}
 use Rattle.psr_beams.specs.Files.{AreBeamsTold, ForBeams, beam_stream}
-use Rattle.psr_beams.specs.Found.{IsWhole, StopsBeam}
+use Rattle.psr_beams.specs.Found.{StopsBeam}
 use Rattle.psr_beams.specs.Stops.{IsStopOfBeams}
-use Rattle.psr_beams.specs.Refusals.{CanSearch}
-use Rattle.psr_beams.specs.Outcome.{HoldsName, FailsBeam, ReadsHeadersTo, FailsFirst, IsTooLong, ReadsBeams, StopsAtBeams, WritesBeams}
+use Rattle.psr_beams.specs.Outcome.{HoldsName, FailsBeam, ReadsHeadersTo, ReadsDataTo, FailsFirst, IsTooLong, ReadsBeams, StopsAtBeams, WritesBeams}
 use Rattle.psr_beams.specs.Ends.{Ends}
 use Rattle.psr_beams.proofs.Counting.{AllRead, counts, still, rises}
 
@@ -212,8 +211,8 @@ module _ {I : Type 0} (told : I → Told) (is_calm : I → Type 0) (faults : I �
   }
 
   pub fails_first : (beam : ℕ) → beam < length before → failed beam → ((k : ℕ) → k < beam → ¬ failed k) →
-      ForBeams words (told_in seen) (λ s files. ReadsHeadersTo beam files (told_in seen) (told_at told after)
-      ⊎ (CanSearch s files × ((k : ℕ) → k < beam → IsWhole s files k))) →
+      ForBeams words (told_in seen) (λ s files. ReadsHeadersTo s files beam (told_in seen) (told_at told after)
+      ⊎ ReadsDataTo s files beam (told_in seen) (told_at told after)) →
       FailsFirst words seen (told_at told after)
   fails_first beam within did earlier first = record {
     beam = beam;

@@ -8,7 +8,8 @@ use Rattle.stream_model.specs.Walk.{FileStream, transfer_data, walk_data, walk_s
 use Rattle.disk_feeder.specs.declared.answers.FeedEnd.{FeedEnd}
 use Rattle.disk_feeder.specs.declared.answers.FeedEnd.TheVariants.{Whole, ReadFault, BadHeader, Gap, TooLong}
 use Rattle.disk_feeder.specs.Ends.{end_of}
-use Rattle.disk_feeder.specs.Feeder.{plan_at}
+use Rattle.disk_feeder.specs.declared.feeder.FeederSpace.{FeederSpace}
+use Rattle.disk_feeder.specs.Feeder.{plan_at, FeederRead}
 use Rattle.disk_feeder.specs.Feeding.{EndIs, IsWalkEnd}
 use Rattle.disk_feeder.specs.Filling.{HoldsAll}
 use Rattle.disk_feeder.specs.Plan.{stream_of, AreTold}
@@ -19,9 +20,11 @@ use Rattle.beam_set.specs.Beam.{feeder_in}
 use Rattle.beam_set.specs.Answers.{BeamAnswers, session_of}
 use Rattle.beam_set.specs.Sets.{SlotAnswers}
 use Rattle.search_session.specs.Sessions.{data_through}
+use Rattle.psr_beams.specs.Feeders.{SlotRead}
 use Rattle.psr_beams.specs.Engines.{IsBeamOf}
-use Rattle.psr_beams.specs.Driven.{HasCome, HasSlotCome}
-use Rattle.psr_beams.proofs.OneFile.{one_told, holds_one, stream_is, one_data}
+use Rattle.psr_beams.specs.Joined.{IsSlotJoined}
+use Rattle.psr_beams.specs.Driven.{HasCome, HasSlotCome, SlotBreaks}
+use Rattle.psr_beams.proofs.OneFile.{one_told, holds_one, stream_is, one_data, one_broken}
 
 -- the end is that of the walk where the inputs did not fail
 walk_end : (w : FileStream) (size : ℕ) (blocks : _) (end : FeedEnd) → EndIs w size blocks end →
@@ -81,6 +84,31 @@ module _ {I : Type 0} (told : I → Told) (is_calm : I → Type 0) (faults : I �
             feed.walked n whole (file ∷ []) are 0 (omega (arith, count))
             ∙ ap (λ (w : FileStream). transfer_data w 0) same ∙ one_data s file;
       }
+
+  -- what is left where its inputs failed, of what they told at its start
+  beam_breaks : (start : Told) (beam : Beam) (end : BeamEnd) → s.starts ≡ 0 ∷ [] →
+      IsBeamOf (told before) s o name beam → BeamAnswers told is_calm faults beam before after end →
+      FeederRead start (told before) (at_rest (feeder_in beam)) →
+      SlotBreaks start (told before) name (told after) (Some end)
+  beam_breaks start beam end one is answers reads failed file at =
+      let plan = plan_at (at_rest (feeder_in beam)) in
+      let feed = answers.feed in
+      let Under : (List ℕ → Option (List ℕ)) → List ℕ → Type 0 = λ under f. under name ≡ Some f in
+      let now = subst (λ under. Under under file) (sym feed.names) at in
+      let are = subst (λ ns. AreTold (told after) ns (file ∷ [])) (sym is.plan.files)
+      (one_told name file (told after) now) in
+      one_broken plan s name file is.plan.files (is.plan.transfers ∙ one) is.plan.limit start (told after) _ _
+      (feed.broke failed start reads (file ∷ []) are)
+
+  pub slot_breaks : (start : Told) (slot : Option FeederSpace) (beam : Option Beam) (end : Option BeamEnd) →
+      s.starts ≡ 0 ∷ [] → IsSlotJoined (told before) s o name slot beam →
+      SlotAnswers told is_calm faults beam before after end → SlotRead start (told before) slot →
+      SlotBreaks start (told before) name (told after) end
+  slot_breaks start None beam end one joined answers reads = absurd reads
+  slot_breaks start (Some f) None end one joined answers reads = absurd joined
+  slot_breaks start (Some f) (Some b) None one joined answers reads = tt
+  slot_breaks start (Some f) (Some b) (Some e) one joined answers reads =
+      beam_breaks start b e one joined.beam_is answers (joined.reads_on start (told before) reads)
 
   pub slot_come : (slot : Option Beam) (end : Option BeamEnd) (beam : Beam) → slot ≡ Some beam → s.starts ≡ 0 ∷ [] →
       IsBeamOf (told before) s o name beam → SlotAnswers told is_calm faults slot before after end →

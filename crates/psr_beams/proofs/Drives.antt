@@ -18,7 +18,7 @@ use Rattle.psr_beams.specs.Engines.{AreSpaces}
 use Rattle.psr_beams.specs.Feeders.{AreRead, AreBegun}
 use Rattle.psr_beams.specs.Opened.{StopsOpening}
 use Rattle.psr_beams.specs.Ends.{NoneStops, EndsBeams}
-use Rattle.psr_beams.specs.Driven.{CanRun, HaveCome, ReadsAll, IsDriven}
+use Rattle.psr_beams.specs.Driven.{CanRun, HaveCome, HaveBroken, ReadsAll, IsDriven}
 use Rattle.psr_beams.proofs.OneFile.{only_start}
 use Rattle.psr_beams.proofs.Opening.{headers_there, are_headers, can_run}
 use Rattle.psr_beams.proofs.Through.{all_data}
@@ -89,9 +89,9 @@ module _ {I : Type 0} (told : I → Told) (is_open : I → Type 0) (is_calm : I 
       data_found = all_data told is_calm faults s o n mid after ends come reach
 
       pub went_through : (within more : ℕ) (out out' : SinkSeen) (stop : Option Stop) →
-          EndsBeams o s.search within more ends out out' stop →
+          HaveBroken told s n before mid after ends → EndsBeams o s.search within more ends out out' stop →
           IsDriven told is_calm faults s within more before after out out' stop
-      went_through within more out out' stop ended = inr (inr (record {
+      went_through within more out out' stop broken ended = inr (inr (record {
         headers = headers_in slots;
         mid = mid;
         read = reads_all;
@@ -100,5 +100,6 @@ module _ {I : Type 0} (told : I → Told) (is_open : I → Type 0) (is_calm : I 
         fits = fits;
         ends = ends;
         come = come;
+        broken = broken;
         ended = ended;
       }))

@@ -3,12 +3,13 @@ use Rattle.std.proofs.Common.{◌≡◌, ◌⊎◌, ℕ, ◌<◌, ◌≤◌, Lis
 use Rattle.std.specs.Option.{unwrap_or}
 use Rattle.std.proofs.lemmas.Bool.{cases_lt}
 use Rattle.std.proofs.lemmas.Bool.Decides.{nat_tests}
-use Rattle.psr_base.specs.Told.{Told, nothing_told, left_to_read}
+use Rattle.psr_base.specs.Told.{Told, nothing_told}
 use Rattle.psr_base.specs.Written.{SinkSeen}
 use Rattle.dada_model.specs.Fields.{HeaderText}
 use Rattle.dada_model.specs.Laws.{AcceptedByRows}
 use Rattle.search_words.specs.Settings.{SettingsSeen}
 use Rattle.stream_model.specs.WalkLaws.{FirstFilesContinue}
+use Rattle.disk_feeder.specs.Front.{BreaksAt}
 use Rattle.disk_feeder.specs.declared.answers.FeedEnd.{FeedEnd}
 use Rattle.disk_feeder.specs.declared.answers.FeedEnd.TheVariants as feed
 use Rattle.beam_set.specs.declared.ended.BeamEnd.{BeamEnd}
@@ -20,12 +21,10 @@ use Rattle.run_stop.specs.declared.stop.Stop.TheVariants.{Header, Memory, ReadFa
 use Rattle.run_stop.specs.Ends.{WordsSayOnce}
 use Rattle.psr_beams.specs.Words.{SayBeams, searching_beams, is_beam_count, within_in, more_in}
 use Rattle.psr_beams.specs.Seen.{told_at, calm_at, seen_at}
-use Rattle.psr_beams.specs.Files.{ForBeams, beam_data, beam_name, beam_file}
-use Rattle.psr_beams.specs.Refusals.{CanSearch}
-use Rattle.psr_beams.specs.Found.{IsWhole}
-use Rattle.psr_beams.specs.Outcome.{ReadsNoData, ReadsHeadersTo, FailsFirst}
+use Rattle.psr_beams.specs.Files.{ForBeams, beam_name, beam_file, header_read}
+use Rattle.psr_beams.specs.Outcome.{IsHeaderRead, ReadsNoData, ReadsHeadersTo, ReadsDataTo, FailsFirst}
 use Rattle.psr_beams.specs.Opened.{StopsOpening}
-use Rattle.psr_beams.specs.Feeders.{LeavesFile, StopsReading}
+use Rattle.psr_beams.specs.Feeders.{LeavesData, StopsReading}
 use Rattle.psr_beams.specs.Driven.{ReadsAll, IsDriven}
 use Rattle.psr_beams.specs.Ends.{Ends, stop_of_beam, slot_stop, StopsFirst, EndsBeams}
 use Rattle.psr_beams.proofs.Counting.{element, seen_there, seen_still}
@@ -79,16 +78,20 @@ module _ {I : Type 0} (told : I → Told) (is_calm : I → Type 0) (faults : I �
 
   -- all data of the file of a beam are left
   leaves : (k : ℕ) (x : I) → k < n → length after ≡ length before →
-      LeavesFile (told (get_or before k x)) (beam_name s k) (told (get_or after k x)) →
-      ForBeams words (told_at told before) (λ t files. left_to_read (told_at told after k) ≡ Some (beam_data files k))
+      LeavesData (told (get_or before k x)) (beam_name s k) (told (get_or after k x)) →
+      ForBeams words (told_at told before)
+      (λ t files. IsHeaderRead t files k (told_at told before) (told_at told after))
   leaves k x below lent left = for_settings words (told_at told before) once s says
-      (λ t files. left_to_read (told_at told after k) ≡ Some (beam_data files k))
-      (λ files are. ap left_to_read (seen_there told nothing_told after k x (omega (arith, below, enough, lent)))
-      ∙ left (beam_file files k) (told_there told is_calm faults words once s says before enough files are k x below))
+      (λ t files. IsHeaderRead t files k (told_at told before) (told_at told after))
+      (λ files are. seen_there told nothing_told after k x (omega (arith, below, enough, lent))
+      ∙ left (beam_file files k) (told_there told is_calm faults words once s says before enough files are k x below)
+      ∙ ap (header_read (beam_name s k) (beam_file files k))
+      (sym (seen_there told nothing_told before k x (omega (arith, below, enough)))))
 
   abbrev ReadsNone : ℕ → Type 0
   ReadsNone k = (told_at told after k ≡ told_at told before k)
-      ⊎ ForBeams words (told_at told before) (λ t files. left_to_read (told_at told after k) ≡ Some (beam_data files k))
+      ⊎ ForBeams words (told_at told before)
+      (λ t files. IsHeaderRead t files k (told_at told before) (told_at told after))
 
   reading_none : StopsReading told is_calm faults s before after Memory → (k : ℕ) → ReadsNone k
   reading_none r k = elim (cases_lt k r.beam) [
@@ -115,7 +118,7 @@ module _ {I : Type 0} (told : I → Told) (is_calm : I → Type 0) (faults : I �
           x = element before r.beam within
 
           by_cause : (told (get_or after r.beam x) ≡ told (get_or before r.beam x))
-              ⊎ LeavesFile (told (get_or before r.beam x)) (beam_name s r.beam) (told (get_or after r.beam x)) →
+              ⊎ LeavesData (told (get_or before r.beam x)) (beam_name s r.beam) (told (get_or after r.beam x)) →
               ReadsNone r.beam
           by_cause (inl still) =
               let lent = r.lent in
@@ -180,14 +183,26 @@ module _ {I : Type 0} (told : I → Told) (is_calm : I → Type 0) (faults : I �
       (all_read told is_calm faults words once s says before enough after ReadFault r) r.beam
       (omega (arith, there, enough)) (refl, refl) (λ k less p. let e = p.0 in omega (arith, e, less))
       (for_settings words (told_at told before) once s says
-      (λ t files. ReadsHeadersTo r.beam files (told_at told before) (told_at told after)
-      ⊎ (CanSearch t files × ((k : ℕ) → k < r.beam → IsWhole t files k)))
+      (λ t files. ReadsHeadersTo t files r.beam (told_at told before) (told_at told after)
+      ⊎ ReadsDataTo t files r.beam (told_at told before) (told_at told after))
       (λ files are. inl (record {
         headers = texts told is_calm faults words once s says before enough after files are ReadFault r;
-        left = λ k less.
+        read = λ k less.
             let below : k < n = omega (arith, less, there) in
             let x = element before k (omega (arith, below, enough)) in
             leaves k x below r.lent (r.earlier k x less).left s files says are;
+        broke =
+            let inside : r.beam < length before = omega (arith, there, enough) in
+            let x = element before r.beam inside in
+            let lent = r.lent in
+            let name = beam_name s r.beam in
+            let file = beam_file files r.beam in
+            subst (λ t. BreaksAt name file t (told_at told after r.beam))
+            (sym (seen_there told nothing_told before r.beam x inside))
+            (subst (λ t. BreaksAt name file (told (get_or before r.beam x)) t)
+            (sym (seen_there told nothing_told after r.beam x (omega (arith, inside, lent))))
+            ((r.fails x).broke refl file
+            (told_there told is_calm faults words once s says before enough files are r.beam x there)));
         others = λ k more. seen_still told nothing_told before after k r.lent (λ x. r.others k x more);
       })))
 
@@ -224,7 +239,7 @@ module _ {I : Type 0} (told : I → Told) (is_calm : I → Type 0) (faults : I �
       by_end (inl (first, is, r, same)) =
           fails_in_order told is_calm faults words once rows continue agree s says before g.mid after enough some
           g.headers g.read g.observation g.accepted g.fits g.ends g.come out out'
-          (subst (λ (x : Stop). StopsFirst g.ends x) (one first (sym is ∙ want)) r)
+          (subst (λ (x : Stop). StopsFirst g.ends x) (one first (sym is ∙ want)) r) g.broken
         where
           one : (a : Stop) → Some a ≡ Some ReadFault → a ≡ ReadFault
           one a e = cc

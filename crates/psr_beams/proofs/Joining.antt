@@ -7,7 +7,7 @@ use Rattle.psr_base.specs.Told.{Told}
 use Rattle.dada_model.specs.Observation.{Observation}
 use Rattle.search_words.specs.Settings.{SettingsSeen}
 use Rattle.disk_feeder.specs.declared.feeder.FeederSpace.{FeederSpace}
-use Rattle.disk_feeder.specs.Feeder.{HasPlan, SamePlan, IsBegun, HasOpenFile, header_at, plan_at, block_size, has_end, AcceptsAt, AllAccepted, FeederFeeds, FeederFaultless}
+use Rattle.disk_feeder.specs.Feeder.{HasPlan, IsBegun, HasOpenFile, header_at, plan_at, block_size, AcceptsAt, AllAccepted, FeederFeeds, FeederRead, KeepsBegun}
 use Rattle.disk_feeder.specs.Feeding.{header_entries}
 use Rattle.disk_feeder.specs.Resting.{at_rest}
 use Rattle.beam_set.specs.declared.space.BeamSpace.{BeamSpace}
@@ -21,14 +21,10 @@ use Rattle.psr_beams.specs.Joined.{CanJoin, IsJoined, CanJoinSlots, IsSlotJoined
 
 -- the feeder accepted the observation
 pub record HasAccepted (old new : FeederSpace) : Type 0 where
-  pub plan : SamePlan (at_rest old) (at_rest new)
-  pub headers : header_at (at_rest new) ≡ header_at (at_rest old)
+  pub kept : KeepsBegun (at_rest old) (at_rest new)
   pub feeds : (told : Told) → IsBegun told (at_rest old) → AllAccepted (at_rest new) →
       FeederFeeds told (at_rest new) (header_entries (take 1 (header_at (at_rest new)))) []
-  pub faultless : FeederFaultless (at_rest new)
-  pub running : has_end (at_rest new) ≡ None
   pub accepts : AcceptsAt (at_rest old) 0 (at_rest new)
-  pub reading : HasOpenFile (at_rest new) → HasOpenFile (at_rest old)
 
 module _ (told : Told) (s : SettingsSeen) (o : Observation) (name : List ℕ) (space : BeamSpace) (feeder : FeederSpace)
     (can : CanJoin told s o name space feeder) where
@@ -43,16 +39,16 @@ module _ (told : Told) (s : SettingsSeen) (o : Observation) (name : List ℕ) (s
     all_accepted zero header at = is.accepts.first header at
     all_accepted (suc k) header at =
         let within = slice_get_within (header_at (at_rest new)) (suc k) header at in
-        let one : length (header_at (at_rest new)) ≡ 1 = ap length is.headers ∙ one_header in
+        let one : length (header_at (at_rest new)) ≡ 1 = ap length is.kept.headers ∙ one_header in
         absurd (omega (arith, within, one))
 
     new_plan : HasPlan (at_rest new) (name ∷ []) s.starts s.size s.max_bytes
     new_plan = record {
-      files = is.plan.names ∙ can.plan.files;
-      transfers = is.plan.starts ∙ can.plan.transfers;
-      limit = is.plan.limit ∙ can.plan.limit;
-      block = is.plan.size ∙ can.plan.block;
-      headers = is.plan.headers ∙ can.plan.headers;
+      files = is.kept.plan.names ∙ can.plan.files;
+      transfers = is.kept.plan.starts ∙ can.plan.transfers;
+      limit = is.kept.plan.limit ∙ can.plan.limit;
+      block = is.kept.plan.size ∙ can.plan.block;
+      headers = is.kept.plan.headers ∙ can.plan.headers;
     }
 
     starts_one : length (plan_at (at_rest new)).starts ≡ 1
@@ -68,10 +64,10 @@ module _ (told : Told) (s : SettingsSeen) (o : Observation) (name : List ℕ) (s
           header = sp.text;
           space_is = sp.space_is;
           feeds = record {
-            first = ap (λ hs. slice_get hs 0) is.headers ∙ sp.header_is;
+            first = ap (λ hs. slice_get hs 0) is.kept.headers ∙ sp.header_is;
             feeds = is.feeds told can.begun all_accepted;
-            running = is.running;
-            faultless = is.faultless;
+            running = is.kept.running;
+            faultless = is.kept.faultless;
             size = sym plan.block;
             blocks = at_most _ _ (ap (λ n. n / block_size (at_rest new) + length (plan_at (at_rest new)).starts + 1)
                 plan.limit
@@ -103,7 +99,10 @@ module _ (told : Told) (s : SettingsSeen) (o : Observation) (name : List ℕ) (s
             plan = subst (λ (f : FeederSpace). HasPlan (at_rest f) (name ∷ []) s.starts s.size s.max_bytes) (sym fed)
                 new_plan;
           };
-          file = λ opened. is.reading (subst (λ (f : FeederSpace). HasOpenFile (at_rest f)) fed opened);
+          file = λ opened. is.kept.reading (subst (λ (f : FeederSpace). HasOpenFile (at_rest f)) fed opened);
+          reads_on = λ before now was.
+              subst (λ (f : FeederSpace). FeederRead before now (at_rest f)) (sym fed)
+              (is.kept.reads_on before now was);
         }
 
 -- ---- its slots

@@ -1,14 +1,17 @@
 -- The one file of a beam.
-use Rattle.std.proofs.Common.{◌≡◌, ℕ, zero, suc, ◌+◌, ◌-◌, ◌<◌, List, [], ◌∷◌, append-nil, length, map, take, drop, get_or, slice_get, Option, Some, None, refl, sym, ap, ◌∙◌, arith}
+use Rattle.std.proofs.Common.{◌≡◌, ℕ, zero, suc, ◌+◌, ◌-◌, ◌<◌, List, [], ◌∷◌, append-nil, length, map, take, drop, get_or, slice_get, Option, Some, None, refl, sym, ap, subst, ◌∙◌, inl, inr, arith}
 use Rattle.std.specs.Prelude.{IsSome}
 use Rattle.std.proofs.lemmas.List.{drop_more, get_or-map}
 use Rattle.search_words.specs.Transfers.{AreTransferStarts}
 use Rattle.psr_base.specs.Told.{Told}
 use Rattle.search_words.specs.Settings.{SettingsSeen}
-use Rattle.stream_model.specs.Walk.{data_of, data_between, transfer_data}
+use Rattle.stream_model.specs.Walk.{FileStream, data_of, data_between, transfer_data}
+use Rattle.stream_model.specs.WalkLaws.{IsIn}
+use Rattle.disk_feeder.specs.Feeding.{BreaksReading}
 use Rattle.disk_feeder.specs.Filling.{HoldsAll}
+use Rattle.disk_feeder.specs.History.{files_read, IsReadUpTo}
 use Rattle.disk_feeder.specs.Plan.{Plan, stream_of, AreTold}
-use Rattle.psr_beams.specs.Files.{stream_of_one}
+use Rattle.psr_beams.specs.Files.{stream_of_one, IsReadOn}
 use Rattle.psr_beams.proofs.Counting.{element}
 
 one_name : (name : List ℕ) (file : List ℕ) (told : Told) → told.bytes_under name ≡ Some file → (k : ℕ) → k < 1 →
@@ -42,6 +45,38 @@ some_of (Some x) some = (x, refl)
 pub one_there : {X : Type 0} (xs : List X) → length xs ≡ 1 → IsSome (slice_get xs 0)
 one_there [] one = absurd (omega (arith, one))
 one_there (x ∷ more) one = refl
+
+-- the one file is the first
+zeroth_file : (s : SettingsSeen) (file : List ℕ) (transfer k : ℕ) → IsIn (stream_of_one s file) transfer k → k ≡ 0
+zeroth_file s file zero k inside = let below : k < 1 = inside.before in omega (arith, below)
+zeroth_file s file (suc t) k inside = let there : suc t < 1 = inside.there in absurd (omega (arith, there))
+
+read_first : (s : SettingsSeen) (name file : List ℕ) (before after : Told) (transfer count : ℕ) →
+    IsReadUpTo (name ∷ []) (stream_of_one s file) before after transfer 0 count → IsReadOn name file before after
+unfolding files_read
+read_first s name file before after transfer count r =
+    record { place = r.place; past = r.past; within = r.within; is = r.told_is }
+
+-- what a fault of the inputs leaves, once the header of the one file was read
+one_left : (s : SettingsSeen) (name file : List ℕ) (before after : Told) (size : ℕ) (blocks : _) →
+    BreaksReading (name ∷ []) (stream_of_one s file) before after size blocks → IsReadOn name file before after
+one_left s name file before after size blocks b =
+    let first = zeroth_file s file b.transfer b.file b.inside in
+    elim b.stood [
+      | inl broke ↦ let later = broke.begun refl in absurd (omega (arith, first, later))
+      | inr reading ↦
+          let P : ℕ → Type 0 = λ k. IsReadUpTo (name ∷ []) (stream_of_one s file) before after b.transfer k b.count in
+          read_first s name file before after b.transfer b.count (subst P first reading.1)
+    ]
+
+pub one_broken : (plan : Plan) (s : SettingsSeen) (name file : List ℕ) → plan.names ≡ name ∷ [] →
+    plan.starts ≡ 0 ∷ [] → plan.max_bytes ≡ s.max_bytes → (before after : Told) (size : ℕ) (blocks : _) →
+    BreaksReading plan.names (stream_of plan (file ∷ [])) before after size blocks → IsReadOn name file before after
+one_broken plan s name file names starts limit before after size blocks b =
+    one_left s name file before after size blocks
+    (subst (λ (w : FileStream). BreaksReading (name ∷ []) w before after size blocks)
+    (stream_is plan s file starts limit)
+    (subst (λ (ns : List (List ℕ)). BreaksReading ns (stream_of plan (file ∷ [])) before after size blocks) names b))
 
 -- the one start of a transfer
 pub only_start : (starts : List ℕ) (count : ℕ) → AreTransferStarts starts count → length starts ≡ 1 → starts ≡ 0 ∷ []

@@ -12,11 +12,12 @@ use Rattle.beam_set.specs.Beam.{BeamBegins}
 use Rattle.beam_set.specs.Sets.{SlotBegins, SetBegins, SetAnswers}
 use Rattle.psr_beams.specs.Seen.{told_at}
 use Rattle.psr_beams.specs.Files.{beam_name}
+use Rattle.psr_beams.specs.Feeders.{HaveRead}
 use Rattle.psr_beams.specs.Engines.{IsBeamOf}
 use Rattle.psr_beams.specs.Joined.{CanJoinSlots, IsSlotJoined, AreJoined}
-use Rattle.psr_beams.specs.Driven.{HasSlotFile, CanRun, HaveCome}
+use Rattle.psr_beams.specs.Driven.{HasSlotFile, CanRun, HaveCome, HaveBroken}
 use Rattle.psr_beams.proofs.Counting.{seen_there}
-use Rattle.psr_beams.proofs.Coming.{slot_come}
+use Rattle.psr_beams.proofs.Coming.{slot_come, slot_breaks}
 
 module _ {I : Type 0} (told : I → Told) (is_open : I → Type 0) (s : SettingsSeen) (o : Observation) where
   slot_begins : (t : Told) (name : List ℕ) (x : I) (slot : Option FeederSpace) (beam : Option Beam) → t ≡ told x →
@@ -80,3 +81,17 @@ module _ {I : Type 0} (told : I → Told) (is_open : I → Type 0) (s : Settings
           (answers.each k x (omega (arith, less, many)));
       others = λ k x over. let many = joined.many in answers.others k x (omega (arith, over, many));
     }
+
+    -- and what a fault of its inputs leaves of each
+    pub have_broken : (is_calm : I → Type 0) (faults : I → ℕ) (starts after : List I) (ends : List (Option BeamEnd)) →
+        SetAnswers told is_calm faults beams lent after ends → HaveRead told count starts lent slots →
+        HaveBroken told s count starts lent after ends
+    have_broken is_calm faults starts after ends answers read k x less =
+        let many = joined.many in
+        slot_breaks told is_calm faults s o (beam_name s k) (get_or lent k x) (get_or after k x)
+        (told (get_or starts k x)) (get_or slots k None) (get_or beams k None) (get_or ends k None)
+        (slot_starts (told_at told lent k) (beam_name s k) (get_or spaces k None) (get_or slots k None)
+        (can.joins.each k less))
+        (subst (λ t. IsSlotJoined t s o (beam_name s k) (get_or slots k None) (get_or beams k None))
+        (seen_there told nothing_told lent k x (below k less)) (joined.each k less))
+        (answers.each k x (omega (arith, less, many))) (read k x less)

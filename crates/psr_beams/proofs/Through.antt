@@ -29,13 +29,13 @@ use Rattle.run_stop.specs.Runs.{stop_of_walk}
 use Rattle.run_stop.specs.Ends.{WordsSayOnce}
 use Rattle.psr_beams.specs.Words.{SayBeams, within_in, more_in}
 use Rattle.psr_beams.specs.Seen.{told_at, calm_at, seen_at}
-use Rattle.psr_beams.specs.Files.{AreBeamsTold, ForBeams, beam_file, beam_name, beam_data, beam_stream, beams_observation, stream_of_one}
+use Rattle.psr_beams.specs.Files.{AreBeamsTold, ForBeams, beam_file, beam_name, beam_data, beam_stream, beams_observation, stream_of_one, IsReadOn}
 use Rattle.psr_beams.specs.Refusals.{CanSearch}
 use Rattle.psr_beams.specs.Found.{IsWhole, StopsBeam, AreWhole, count_in, HasTooMany, AreSearched, HaveText}
 use Rattle.psr_beams.specs.Stops.{IsStopOfBeams}
-use Rattle.psr_beams.specs.Outcome.{HoldsName, ReadsHeadersTo, FailsFirst, IsTooLong, ReadsBeams}
+use Rattle.psr_beams.specs.Outcome.{HoldsName, ReadsHeadersTo, ReadsDataTo, FailsFirst, IsTooLong, ReadsBeams}
 use Rattle.psr_beams.specs.Judged.{AreOfOne}
-use Rattle.psr_beams.specs.Driven.{HasCome, HasSlotCome, HaveCome, ReadsAll}
+use Rattle.psr_beams.specs.Driven.{HasCome, HasSlotCome, HaveCome, SlotBreaks, HaveBroken, ReadsAll}
 use Rattle.psr_beams.specs.Ends.{Ends, stop_of_beam, slot_stop, stop_in, counted_in, StopsFirst, NoneStops, CountsTooMany, NoneCountsTooMany, WritesFound, EndsWritten, EndsBeams}
 use Rattle.psr_beams.proofs.Counting.{element, seen_there, calm_there, stood, read_on, still, AllRead}
 use Rattle.psr_beams.proofs.Ended.{counts}
@@ -613,20 +613,33 @@ module _ {I : Type 0} (told : I → Told) (is_calm : I → Type 0) (faults : I �
                 (searched_beams_text o s.search (within_in words) (more_in words) list)) fault (r.wrote list held)
 
     -- a failure of inputs comes first
-    pub fails_in_order : StopsFirst ends ReadFault →
+    pub fails_in_order : StopsFirst ends ReadFault → HaveBroken told s n before mid after ends →
         FailsFirst words (seen_at told faults before after) (told_at told after)
-    fails_in_order r = fails_first told is_calm faults words failed before after all r.beam
+    fails_in_order r broken = fails_first told is_calm faults words failed before after all r.beam
         (let there = r.there in let many = come.many in omega (arith, there, many, enough))
         (did (get_or ends r.beam None) r.is) (λ k less. quiet_where k (r.earlier k less))
         (for_settings words (told_at told before) once s says
-        (λ t files. ReadsHeadersTo r.beam files (told_at told before) (told_at told after)
-        ⊎ (CanSearch t files × ((k : ℕ) → k < r.beam → IsWhole t files k)))
-        (λ files are. inr (
-          (begins files are).0,
-          λ k less.
+        (λ t files. ReadsHeadersTo t files r.beam (told_at told before) (told_at told after)
+        ⊎ ReadsDataTo t files r.beam (told_at told before) (told_at told after))
+        (λ files are. inr (record {
+          begins = (begins files are).0;
+          whole = λ k less.
               let there = r.there in let many = come.many in
-              (whole_at files are k (omega (arith, less, there, many)) (r.earlier k less)).whole,
-        )))
+              (whole_at files are k (omega (arith, less, there, many)) (r.earlier k less)).whole;
+          broke =
+              let there = r.there in let many = come.many in let lent = all.lent in
+              let below : r.beam < n = omega (arith, there, many) in
+              let inside : r.beam < length before = omega (arith, below, enough) in
+              let x = element before r.beam inside in
+              let name = beam_name s r.beam in
+              let file = beam_file files r.beam in
+              subst (λ t. IsReadOn name file t (told_at told after r.beam))
+              (sym (seen_there told nothing_told before r.beam x inside))
+              (subst (λ t. IsReadOn name file (told (get_or before r.beam x)) t)
+              (sym (seen_there told nothing_told after r.beam x (omega (arith, inside, lent))))
+              (left (told (get_or before r.beam x)) (told (get_or mid r.beam x)) name (told (get_or after r.beam x))
+              (get_or ends r.beam None) r.is (broken r.beam x below) file (told_mid files are r.beam x below)));
+        })))
       where
         fault_of : (e : FeedEnd) → stop_of_beam r.beam e ≡ Some ReadFault → e ≡ feed.ReadFault
         fault_of (feed.Whole bytes) is = absurd cc
@@ -638,6 +651,12 @@ module _ {I : Type 0} (told : I → Told) (is_calm : I → Type 0) (faults : I �
         did : (slot : Option BeamEnd) → slot_stop r.beam slot ≡ Some ReadFault → slot_failed slot
         did None is = absurd cc
         did (Some end) is = fault_of end.feed is
+
+        left : (start was : Told) (name : List ℕ) (now : Told) (slot : Option BeamEnd) →
+            slot_stop r.beam slot ≡ Some ReadFault → SlotBreaks start was name now slot → (file : List ℕ) →
+            was.bytes_under name ≡ Some file → IsReadOn name file start now
+        left start was name now None is broke file at = absurd cc
+        left start was name now (Some end) is broke file at = broke (fault_of end.feed is) file at
 
     pub through : (stop : Option Stop) →
         EndsBeams o s.search (within_in words) (more_in words) ends out out' stop → EndsAt stop

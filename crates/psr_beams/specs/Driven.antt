@@ -1,6 +1,6 @@
 -- What a search of several beams leaves, from its settings to its end.
 -- Source: this project's choice.
-use Rattle.std.specs.Prelude.{◌≡◌, ◌≢◌, ℕ, ◌<◌, ◌≤◌, ◌⊎◌, List, length, slice_index_or, Option, Some, None, IsSome, Ok}
+use Rattle.std.specs.Prelude.{◌≡◌, ◌≢◌, ℕ, ◌<◌, ◌≤◌, ◌⊎◌, ⊤, List, length, slice_index_or, Option, Some, None, IsSome, Ok}
 use Rattle.psr_base.specs.Inputs.{HasReadFrom}
 use Rattle.psr_base.specs.Told.{Told, OfFile}
 use Rattle.psr_base.specs.Written.{SinkSeen}
@@ -19,7 +19,7 @@ use Rattle.beam_set.specs.declared.space.BeamSpace.{BeamSpace}
 use Rattle.beam_set.specs.Laws.{HoldsData}
 use Rattle.run_stop.specs.declared.stop.Stop.{Stop}
 use Rattle.psr_beams.specs.Seen.{told_at}
-use Rattle.psr_beams.specs.Files.{beam_name, stream_of_one}
+use Rattle.psr_beams.specs.Files.{beam_name, stream_of_one, IsReadOn}
 use Rattle.psr_beams.specs.Feeders.{AreRead, StopsReading}
 use Rattle.psr_beams.specs.Judged.{AreOfOne}
 use Rattle.psr_beams.specs.Joined.{CanJoinAll}
@@ -76,6 +76,19 @@ pub record HaveCome {I : Type 0} (told : I → Told) (is_calm : I → Type 0) (f
       (slice_index_or before k x) (slice_index_or after k x) (slice_index_or ends k None)
   pub others : (k : ℕ) (x : I) → count ≤ k → slice_index_or after k x ≡ slice_index_or before k x
 
+-- a beam that ended at a fault of its inputs had its header read, and maybe more of its file
+abbrev pub SlotBreaks : Told → Told → List ℕ → Told → Option BeamEnd → Type 0
+SlotBreaks start before name after None = ⊤
+SlotBreaks start before name after (Some end) = end.feed ≡ ReadFault →
+    OfFile before name (λ file. IsReadOn name file start after)
+
+-- so did each, over what inputs told at its start, before its turns and after them
+abbrev pub HaveBroken : {I : Type 0} → (I → Told) → SettingsSeen → ℕ → List I → List I → List I →
+    List (Option BeamEnd) → Type 0
+HaveBroken {I} told s count starts before after ends = (k : ℕ) (x : I) → k < count →
+    SlotBreaks (told (slice_index_or starts k x)) (told (slice_index_or before k x)) (beam_name s k)
+    (told (slice_index_or after k x)) (slice_index_or ends k None)
+
 -- ---- the whole
 
 -- these are the headers of the files of so many beams
@@ -110,6 +123,7 @@ pub record GoesThrough {I : Type 0} (told : I → Told) (is_calm : I → Type 0)
   pub fits : plan_refusal observation s.search ≡ None
   pub ends : List (Option BeamEnd)
   pub come : HaveCome told is_calm faults s observation (length s.names) mid after ends
+  pub broken : HaveBroken told s (length s.names) before mid after ends
   pub ended : EndsBeams observation s.search within more ends out_before out_after stop
 
 -- a header could not be read; the search was not opened; or it went through

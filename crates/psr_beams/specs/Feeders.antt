@@ -2,29 +2,33 @@
 -- Source: this project's choice.
 use Rattle.std.specs.Prelude.{◌≡◌, ◌≢◌, ℕ, ◌<◌, ◌≤◌, ◌⊎◌, ⊤, List, [], ◌∷◌, length, slice_index_or, Option, Some, None, IsSome}
 use Rattle.psr_base.specs.Inputs.{HasReadFrom}
-use Rattle.psr_base.specs.Told.{Told, OfFile, left_to_read}
+use Rattle.psr_base.specs.Told.{Told, OfFile}
 use Rattle.dada_header.specs.Faults.{IsHeaderRefusal}
 use Rattle.search_words.specs.Settings.{SettingsSeen}
-use Rattle.stream_model.specs.Walk.{data_of}
 use Rattle.disk_feeder.specs.declared.answers.HeaderCause.TheVariants.{Text}
 use Rattle.disk_feeder.specs.declared.answers.FeedFault.{FeedFault}
 use Rattle.disk_feeder.specs.declared.answers.FeedFault.TheVariants as fault
 use Rattle.disk_feeder.specs.declared.feeder.FeederSpace.{FeederSpace}
-use Rattle.disk_feeder.specs.Feeder.{HasPlan, IsBegun, HasOpenFile}
+use Rattle.disk_feeder.specs.Feeder.{HasPlan, IsBegun, HasOpenFile, FeederRead}
+use Rattle.disk_feeder.specs.Front.{BreaksAt}
 use Rattle.disk_feeder.specs.Resting.{at_rest}
 use Rattle.run_stop.specs.declared.stop.Stop.{Stop}
 use Rattle.run_stop.specs.declared.stop.Stop.TheVariants.{Header, Memory, ReadFault}
 use Rattle.run_stop.specs.Conversions.{stop_of_header}
 use Rattle.run_stop.specs.Firsts.{HasHeader}
-use Rattle.psr_beams.specs.Files.{beam_name}
+use Rattle.psr_beams.specs.Files.{beam_name, header_read}
 
 -- ---- one beam. Here and in the following: what inputs tell, whether a name is open, whether they are calm, how many
 -- calls have failed; and the inputs before and after.
 
--- all data of a file that is told are left to read
-abbrev pub LeavesFile : Told → List ℕ → Told → Type 0
-LeavesFile before name after =
-    OfFile before name (λ file. left_to_read after ≡ Some (data_of file))
+-- the header of a file that is told was read, and no byte past it
+abbrev pub LeavesData : Told → List ℕ → Told → Type 0
+LeavesData before name after = OfFile before name (λ file. after ≡ header_read name file before)
+
+-- what a feeder has read since its inputs told something
+abbrev pub SlotRead : Told → Told → Option FeederSpace → Type 0
+SlotRead before now None = ⊥
+SlotRead before now (Some space) = FeederRead before now (at_rest space)
 
 -- a feeder reads the one file of a beam, of which it has read the header
 pub record HasBegun {I : Type 0} (told : I → Told) (is_open : I → Type 0) (s : SettingsSeen)
@@ -38,11 +42,11 @@ abbrev pub SlotBegun : {I : Type 0} → (I → Told) → (I → Type 0) → Sett
 SlotBegun told is_open s name lent None = ⊥
 SlotBegun told is_open s name lent (Some space) = HasBegun told is_open s name lent space
 
--- no call failed, and all data are left to read
+-- no call failed, and all data are left
 pub record ReadsHeader {I : Type 0} (told : I → Told) (is_calm : I → Type 0) (faults : I → ℕ)
     (name : List ℕ) (before after : I) : Type 0 where
   pub read : HasReadFrom told is_calm faults ⊥ before after
-  pub left : LeavesFile (told before) name (told after)
+  pub left : LeavesData (told before) name (told after)
   pub text : OfFile (told before) name HasHeader
 
 -- what a stop says of the file of a beam: it has no header, where its bytes are told; others say nothing
@@ -60,7 +64,9 @@ pub record FailsHeader {I : Type 0} (told : I → Told) (is_calm : I → Type 0)
   pub serves : is_calm before → IsSome ((told before).bytes_under name) → stop ≢ ReadFault
   pub says : SaysText (told before) name beam stop
   pub unread : stop ≡ Memory → (told after ≡ told before)
-      ⊎ LeavesFile (told before) name (told after)
+      ⊎ LeavesData (told before) name (told after)
+  pub broke : stop ≡ ReadFault → OfFile (told before) name (λ file.
+      BreaksAt name file (told before) (told after))
 
 -- ---- all beams
 
@@ -78,6 +84,13 @@ pub record AreBegun {I : Type 0} (told : I → Told) (is_open : I → Type 0) (s
   pub many : length slots ≡ count
   pub each : (k : ℕ) (x : I) → k < count → SlotBegun told is_open s (beam_name s k)
       (slice_index_or lent k x) (slice_index_or slots k None)
+
+-- and this is what each has read
+abbrev pub HaveRead : {I : Type 0} → (I → Told) → ℕ → List I → List I →
+    List (Option FeederSpace) → Type 0
+HaveRead {I} told count before now slots = (k : ℕ) (x : I) → k < count →
+    SlotRead (told (slice_index_or before k x)) (told (slice_index_or now k x))
+    (slice_index_or slots k None)
 
 -- the header of a beam could not be read, and those before it were
 pub record StopsReading {I : Type 0} (told : I → Told) (is_calm : I → Type 0) (faults : I → ℕ)

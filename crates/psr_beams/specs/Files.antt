@@ -1,11 +1,12 @@
 -- The files of several beams, each of which has one: each is a stream of its own.
 -- Source: PSRDADA manual (a transfer is what one header describes); that beams of one observation have the same values
 -- is this project's choice.
-use Rattle.std.specs.Prelude.{◌≡◌, ℕ, ◌<◌, List, [], ◌∷◌, length, slice_index_or, Some}
-use Rattle.psr_base.specs.Told.{Told}
+use Rattle.std.specs.Prelude.{◌≡◌, ℕ, ◌<◌, ◌≤◌, List, [], ◌∷◌, length, slice_index_or, Some}
+use Rattle.psr_base.specs.Told.{Told, opened, moved_by}
 use Rattle.dada_model.specs.Observation.{Observation}
 use Rattle.search_words.specs.Settings.{SettingsSeen}
 use Rattle.stream_model.specs.Walk.{FileStream, data_of, observation_at}
+use Rattle.disk_feeder.specs.Front.{front_of}
 use Rattle.psr_beams.specs.Words.{SayBeams}
 
 -- the file of a beam
@@ -36,6 +37,21 @@ pub record AreBeamsTold (told : ℕ → Told) (names files : List (List ℕ)) : 
   pub count : length files ≡ length names
   pub each : (beam : ℕ) → beam < length names →
       (told beam).bytes_under (slice_index_or names beam []) ≡ Some (beam_file files beam)
+
+-- ---- what was read of a file; by its name and its bytes, over what was told before it was opened
+
+-- its header was read, and no byte past it
+abbrev pub header_read : List ℕ → List ℕ → Told → Told
+header_read name file told = moved_by (front_of file) (opened name told)
+
+-- its header was read, and maybe more of its bytes, and its end was not seen
+pub record IsReadOn (name file : List ℕ) (before after : Told) : Type 0 where
+  pub place : ℕ
+  pub past : front_of file ≤ place
+  pub within : place ≤ length file
+  pub is : after ≡ moved_by place (opened name before)
+
+-- ---- the files that are told
 
 -- P holds of the settings that the words say, and of the files of their beams, where the bytes of all are told
 abbrev pub ForBeams : List (List ℕ) → (ℕ → Told) → (SettingsSeen → List (List ℕ) → Type 0) → Type 0

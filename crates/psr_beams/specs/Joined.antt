@@ -6,7 +6,7 @@ use Rattle.dada_model.specs.Fields.{HeaderText, fields_of}
 use Rattle.dada_model.specs.Observation.{Observation, observation_of}
 use Rattle.search_words.specs.Settings.{SettingsSeen}
 use Rattle.disk_feeder.specs.declared.feeder.FeederSpace.{FeederSpace}
-use Rattle.disk_feeder.specs.Feeder.{HasPlan, IsBegun, HasOpenFile}
+use Rattle.disk_feeder.specs.Feeder.{HasPlan, IsBegun, HasOpenFile, FeederRead}
 use Rattle.disk_feeder.specs.Resting.{at_rest}
 use Rattle.beam_set.specs.declared.space.BeamSpace.{BeamSpace}
 use Rattle.beam_set.specs.declared.beam.Beam.{Beam}
@@ -26,11 +26,13 @@ pub record CanJoin (told : Told) (s : SettingsSeen) (o : Observation) (name : Li
       observation_of (fields_of h.text) ≡ Ok o
   pub space_is : IsSpaceOf s o (slot_header (Some feeder)) space
 
--- they are those of this beam; it has a file open only where the feeder had
+-- they are those of this beam; it has a file open only where the feeder had, and has read what that has
 pub record IsJoined (told : Told) (s : SettingsSeen) (o : Observation) (name : List ℕ)
     (feeder : FeederSpace) (beam : Beam) : Type 0 where
   pub beam_is : IsBeamOf told s o name beam
   pub file : HasOpenFile (at_rest (feeder_in beam)) → HasOpenFile (at_rest feeder)
+  pub reads_on : (before now : Told) → FeederRead before now (at_rest feeder) →
+      FeederRead before now (at_rest (feeder_in beam))
 
 abbrev pub CanJoinSlots : Told → SettingsSeen → Observation → List ℕ → Option BeamSpace →
     Option FeederSpace → Type 0

@@ -1,11 +1,12 @@
 -- What the exit status of a search of several beams says.
 -- Source: this project's choice.
-use Rattle.std.specs.Prelude.{◌≡◌, ◌≢◌, ℕ, ◌<◌, ◌≤◌, ◌⊎◌, List, [], ◌∷◌, length, Some, IsSome, Contains}
+use Rattle.std.specs.Prelude.{◌≡◌, ◌≢◌, ℕ, ◌<◌, ◌≤◌, ◌⊎◌, List, [], ◌∷◌, length, IsSome, Contains}
 use Rattle.psr_base.specs.Count.{Rose}
-use Rattle.psr_base.specs.Told.{Told, InputsSeen, left_to_read}
+use Rattle.psr_base.specs.Told.{Told, InputsSeen}
 use Rattle.psr_base.specs.Written.{SinkSeen, WroteAll, WroteFront, Noted}
 use Rattle.search_words.specs.Settings.{SettingsSeen}
 use Rattle.disk_feeder.specs.declared.answers.HeaderCause.{HeaderCause}
+use Rattle.disk_feeder.specs.Front.{BreaksAt}
 use Rattle.run_stop.specs.declared.causes.PlanCause.{PlanCause}
 use Rattle.run_stop.specs.declared.stop.Stop.{Stop}
 use Rattle.run_stop.specs.declared.stop.Stop.TheVariants.{Header, Gap, TooLong}
@@ -14,7 +15,7 @@ use Rattle.run_stop.specs.Runs.{IsStopOfWords}
 use Rattle.run_stop.specs.Outcomes.{JudgesWords}
 use Rattle.psr_beams.specs.Words.{searching_beams, SayBeams}
 use Rattle.psr_beams.specs.Seen.{told_in}
-use Rattle.psr_beams.specs.Files.{ForBeams, AreBeamsTold, beam_name, beam_data}
+use Rattle.psr_beams.specs.Files.{ForBeams, AreBeamsTold, beam_file, beam_name, header_read, IsReadOn}
 use Rattle.psr_beams.specs.Refusals.{HaveHeaders, RefusesLater, RefusesSearch, CanSearch}
 use Rattle.psr_beams.specs.Found.{IsWhole, StopsBeam, HasTooMany, AreSearched, HaveText}
 use Rattle.psr_beams.specs.Stops.{IsStopOfBeams}
@@ -58,28 +59,43 @@ pub record ReadsBeams (words : List (List ℕ)) (inputs : ℕ → InputsSeen) (i
   pub lowest : status ≡ 8 → ForBeams words (told_in inputs) (λ s files. IsTooLong s files inputs)
   pub count : (beam : ℕ) → (inputs beam).faults_before ≤ (inputs beam).faults_after
 
--- of each beam, nothing was read, or its file is open and all of its data are left to read
+-- the header of the file of a beam was read, and no byte past it
+abbrev pub IsHeaderRead : SettingsSeen → List (List ℕ) → ℕ → (ℕ → Told) → (ℕ → Told) → Type 0
+IsHeaderRead s files beam before after =
+    after beam ≡ header_read (beam_name s beam) (beam_file files beam) (before beam)
+
+-- of each beam, no file was opened, or its header was read, and no byte past it
 abbrev pub ReadsNoData : List (List ℕ) → (ℕ → Told) → (ℕ → Told) → Type 0
 ReadsNoData words before after = (beam : ℕ) → (after beam ≡ before beam)
-    ⊎ ForBeams words before (λ s files. left_to_read (after beam) ≡ Some (beam_data files beam))
+    ⊎ ForBeams words before (λ s files. IsHeaderRead s files beam before after)
 
--- only headers were read: the files of the beams before this one have headers, and all of their data are left; the
--- inputs of those after it stand
-pub record ReadsHeadersTo (beam : ℕ) (files : List (List ℕ)) (before after : ℕ → Told) : Type 0 where
+-- Only headers were read: those of the beams before this one, whose files have headers, and of this one less than
+-- judges its header; the inputs of the beams after it stand.
+pub record ReadsHeadersTo (s : SettingsSeen) (files : List (List ℕ)) (beam : ℕ)
+    (before after : ℕ → Told) : Type 0 where
   pub headers : HaveHeaders files beam
-  pub left : (k : ℕ) → k < beam → left_to_read (after k) ≡ Some (beam_data files k)
+  pub read : (k : ℕ) → k < beam → IsHeaderRead s files k before after
+  pub broke : BreaksAt (beam_name s beam) (beam_file files beam) (before beam) (after beam)
   pub others : (k : ℕ) → beam < k → after k ≡ before k
 
+-- All headers and the search are accepted, and the data of the beams before this one are read whole; of its own file
+-- its header was read, and maybe more, and its end was not seen.
+pub record ReadsDataTo (s : SettingsSeen) (files : List (List ℕ)) (beam : ℕ)
+    (before after : ℕ → Told) : Type 0 where
+  pub begins : CanSearch s files
+  pub whole : (k : ℕ) → k < beam → IsWhole s files k
+  pub broke : IsReadOn (beam_name s beam) (beam_file files beam) (before beam) (after beam)
+
 -- The inputs of this beam failed, and those of the beams before it didn't. Nothing came before that: only headers were
--- read; or all headers and the search are accepted, and the data of the beams before it are read whole.
+-- read to there; or all are accepted, and data were.
 pub record FailsFirst (words : List (List ℕ)) (inputs : ℕ → InputsSeen) (after : ℕ → Told) :
     Type 0 where
   pub beam : ℕ
   pub rose : Rose (inputs beam).faults_before (inputs beam).faults_after
   pub earlier : (k : ℕ) → k < beam → (inputs k).faults_after ≡ (inputs k).faults_before
   pub first : ForBeams words (told_in inputs) (λ s files.
-      ReadsHeadersTo beam files (told_in inputs) after
-      ⊎ (CanSearch s files × ((k : ℕ) → k < beam → IsWhole s files k)))
+      ReadsHeadersTo s files beam (told_in inputs) after
+      ⊎ ReadsDataTo s files beam (told_in inputs) after)
 
 -- ---- the files
 

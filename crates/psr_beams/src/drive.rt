@@ -1,8 +1,9 @@
 // A search of several beams from its settings to its end.
-ghost use Rattle.std.specs.Prelude.{◌≡◌, ◌≤◌, ℕ, length};
+ghost use Rattle.std.specs.Prelude.{◌≡◌, ◌≤◌, ℕ, List, length};
 ghost use Rattle.search_words.specs.Settings.{SettingsSeen, AllInRange, settings_seen};
 ghost use Rattle.run_stop.specs.Lone.{IsOfOne};
-ghost use Rattle.psr_beams.specs.Driven.{CanRun, HaveCome, IsDriven};
+ghost use Rattle.psr_beams.specs.Feeders.{HaveRead};
+ghost use Rattle.psr_beams.specs.Driven.{CanRun, HaveCome, HaveBroken, IsDriven};
 
 use crate::ends::write_end;
 use crate::feeders::begin_all;
@@ -34,10 +35,14 @@ fn run_joined<I: Inputs + Send, G: Gate + Sync, R: Threads + Wait + Sync>(
 ) -> ArrayVec<Option<BeamEnd>, 7>
     requires { (s : SettingsSeen) × (count : ℕ) × CanRun I.told I.is_open s observation.now count
         inputs.old spaces.items feeders.items }
-    ensures { (s : SettingsSeen) (count : ℕ) → CanRun I.told I.is_open s observation.now count
+    ensures come { (s : SettingsSeen) (count : ℕ) → CanRun I.told I.is_open s observation.now count
         inputs.old spaces.items feeders.entry.items
         → HaveCome I.told I.is_calm I.faults s observation.now count inputs.old inputs.new
         result.items }
+    ensures broken { (s : SettingsSeen) (count : ℕ) (starts : List I)
+        → CanRun I.told I.is_open s observation.now count inputs.old spaces.items
+        feeders.entry.items → HaveRead I.told count starts inputs.old feeders.entry.items
+        → HaveBroken I.told s count starts inputs.old inputs.new result.items }
 {
     let beams = join_all(spaces, feeders, observation);
     run_set(rt, beams, inputs, turns, gate)

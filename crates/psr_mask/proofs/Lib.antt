@@ -3,3 +3,4 @@ pub mod Causes
 pub mod Endings
 pub mod SampleText
 pub mod Statuses
+pub mod Faults

@@ -1,12 +1,12 @@
 -- The sample, computed.
-use Rattle.std.proofs.Common.{◌≡◌, ℕ, List, [], ◌∷◌, Ok, Some, false, refl, ap, subst, ◌∙◌, arith, zero, suc, ◌<◌, slice_index_or}
+use Rattle.std.proofs.Common.{◌≡◌, ℕ, List, [], ◌∷◌, Some, false, refl, ap, subst, ◌∙◌, arith, zero, suc, ◌<◌, slice_index_or}
 use Rattle.std.specs.Prelude.{codes}
 use Rattle.std.specs.Fmt.{digits}
 use Rattle.psr_base.specs.Told.{Told}
 use Rattle.psr_base.specs.Written.{WroteAll}
 use Rattle.dada_model.specs.Number.{number_value}
-use Rattle.dada_model.specs.Fields.{HeaderText, is_white, without_comment, words_of, fields_of, value_of, header_size, header_of}
-use Rattle.dada_model.specs.Observation.{Observation, number_of, observation_in, signed_edge, edge, edges, refusal_at, refusals, observation_of, dispersion_span, dm}
+use Rattle.dada_model.specs.Fields.{is_white, without_comment, words_of, fields_of, value_of, header_size, header_of}
+use Rattle.dada_model.specs.Observation.{Observation, number_of, observation_in, signed_edge, edge, edges, dispersion_span, dm}
 use Rattle.dada_model.specs.Worked.{two_channels}
 use Rattle.search_model.specs.declared.search.Search.{Search}
 use Rattle.search_model.specs.Masks.{masked_text}
@@ -20,22 +20,10 @@ use Rattle.disk_feeder.specs.Plan.{AreTold}
 use Rattle.run_stop.specs.Lone.{SayAlone}
 use Rattle.run_stop.specs.Runs.{first_observation, stream_for}
 use Rattle.psr_mask.specs.Masking.{mask_search, text_without}
-use Rattle.psr_mask.specs.Sample.{sample_words, sample_header, sample_data, sample_file, sample_text, SampleIsFound}
-
-header : HeaderText
-header = record { size = 4096; text = sample_header }
-
-header_is : header_of sample_file ≡ Ok header
-unfolding header header_of header_size fields_of value_of words_of without_comment is_white number_value
-header_is = refl
+use Rattle.psr_mask.specs.Sample.{sample_words, sample_data, sample_file, sample_text, SampleIsFound}
 
 observation : Observation
 observation = two_channels
-
-observation_is : observation_of (fields_of sample_header) ≡ Ok observation
-unfolding observation fields_of value_of words_of without_comment is_white number_value number_of observation_in
-    signed_edge edge refusal_at refusals observation_of
-observation_is = refl
 
 search : Search
 search = record {

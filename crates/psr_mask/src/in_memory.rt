@@ -1,7 +1,7 @@
 // A search over objects in memory.
 ghost use Rattle.std.specs.Prelude.{◌≡◌, [], map, string_bytes};
 ghost use Rattle.psr_base.specs.InMemory.{told_of, calls_of, sink_seen};
-ghost use Rattle.run_stop.specs.Outcomes.{ReadsNoData};
+ghost use Rattle.run_stop.specs.Outcomes.{ReadsNoData, LeavesAtFault};
 ghost use Rattle.run_stop.specs.Runs.{Alone};
 ghost use Rattle.psr_mask.specs.Masking.{mask_search};
 ghost use Rattle.psr_mask.specs.Outcome.{Outcome};
@@ -32,6 +32,9 @@ pub fn run_mask_in_memory<R: Wait>(
     ensures early { result.status ≡ 5
         → ReadsNoData (Alone (mask_search (map string_bytes words.now)))
         (map string_bytes words.now) (told_of inputs.old) (told_of inputs.new) }
+    ensures broken { result.status ≡ 6
+        → LeavesAtFault (Alone (mask_search (map string_bytes words.now)))
+        (map string_bytes words.now) (told_of inputs.old) (told_of inputs.new) result.blocks }
 {
     run_mask(rt, alloc, words, inputs, out, notes)
 }

@@ -1,6 +1,6 @@
 // The top call.
 ghost use Rattle.std.specs.Prelude.{◌≡◌, Some, map, string_bytes};
-ghost use Rattle.run_stop.specs.Outcomes.{ReadsNoData};
+ghost use Rattle.run_stop.specs.Outcomes.{ReadsNoData, LeavesAtFault};
 ghost use Rattle.run_stop.specs.Runs.{Alone};
 ghost use Rattle.psr_mask.specs.Masking.{mask_search};
 ghost use Rattle.psr_mask.specs.Outcome.{Outcome};
@@ -65,6 +65,9 @@ pub fn run_mask<R: Wait, I: Inputs, K: Sink, E: Sink>(
     ensures early { result.status ≡ 5
         → ReadsNoData (Alone (mask_search (map string_bytes words.now)))
         (map string_bytes words.now) (I.told inputs.old) (I.told inputs.new) }
+    ensures broken { result.status ≡ 6
+        → LeavesAtFault (Alone (mask_search (map string_bytes words.now)))
+        (map string_bytes words.now) (I.told inputs.old) (I.told inputs.new) result.blocks }
 {
     let Ended { stop, blocks } = search(rt, alloc, words, inputs, out);
     let status = tell_mask(stop, notes);
@@ -89,6 +92,9 @@ fn search<R: Wait, I: Inputs, K: Sink>(
     ensures early { result.stop ≡ Some (LoneStop.Run Stop.Memory)
         → ReadsNoData (Alone (mask_search (map string_bytes words.now)))
         (map string_bytes words.now) (I.told inputs.old) (I.told inputs.new) }
+    ensures broken { result.stop ≡ Some (LoneStop.Run Stop.ReadFault)
+        → LeavesAtFault (Alone (mask_search (map string_bytes words.now)))
+        (map string_bytes words.now) (I.told inputs.old) (I.told inputs.new) result.blocks }
 {
     alone_at_words::<I>();
     words_say_once();

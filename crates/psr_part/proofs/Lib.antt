@@ -5,3 +5,4 @@ pub mod Runs
 pub mod Causes
 pub mod Joined
 pub mod SampleText
+pub mod Faults

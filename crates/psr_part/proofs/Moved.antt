@@ -1,5 +1,5 @@
 -- What is said of files that are told, once CHECK was read.
-use Rattle.std.proofs.Common.{◌≡◌, ℕ, List, [], ◌∷◌, Bool, true, false, Option, Some, inl, inr, refl, sym, ap, ◌∙◌, subst, arith, lit<}
+use Rattle.std.proofs.Common.{◌≡◌, ℕ, List, [], ◌∷◌, Bool, true, false, Option, Some, refl, sym, ap, ◌∙◌, subst, arith, lit<}
 use Rattle.std.specs.Prelude.{IsSome, slice_index_or, if◌then◌else◌}
 use Rattle.std.specs.Str.{bytes_eq}
 use Rattle.psr_base.specs.Count.{Rose}
@@ -21,10 +21,8 @@ use Rattle.run_stop.specs.declared.stop.Stop.TheVariants.{ReadFault}
 use Rattle.run_stop.specs.Lone.{SayAlone}
 use Rattle.run_stop.specs.Runs.{Task, ForFiles, CanBegin}
 use Rattle.run_stop.specs.Ends.{CountsFaults, StopsBefore, SaysBefore, IsRunFed}
-use Rattle.run_stop.specs.Outcomes as runs
 use Rattle.whole_run.specs.Wholes.{OfRun}
-use Rattle.psr_part.specs.Part.{check_word, check_names, check_text_of, part_search, searching}
-use Rattle.psr_part.specs.Outcome.{ReadsCheck, ReadsNoData}
+use Rattle.psr_part.specs.Part.{check_word, check_names, check_text_of, part_search}
 
 -- the words say the same settings whatever the checkpoint is
 pub says_any : (words : List (List ℕ)) (c d : Checkpoint) (s : SettingsSeen) →
@@ -40,7 +38,7 @@ still_told old new names files same are = record {
       ap (λ (under : List ℕ → Option (List ℕ)). under (slice_index_or names k [])) same ∙ are.each k below;
 }
 
-pub for_files : (task : Task) (words : List (List ℕ)) (old new : Told) (P : SettingsSeen → FileStream → Type 0) →
+for_files : (task : Task) (words : List (List ℕ)) (old new : Told) (P : SettingsSeen → FileStream → Type 0) →
     new.bytes_under ≡ old.bytes_under → ForFiles task words new P → ForFiles task words old P
 for_files task words old new P same holds s files says are =
     holds s files says (still_told old new s.names files same are)
@@ -121,17 +119,3 @@ held false word told holds = holds 0 (lit< tt)
 pub check_held : (told : Told) (words : List (List ℕ)) → HoldsAll told (check_names words) →
     IsSome (check_text_of told words)
 check_held told words holds = held (bytes_eq (check_word words) new_word) (check_word words) told holds
-
--- ---- what was read at want of memory
-
-pub reads_nothing : (words : List (List ℕ)) (told : Told) → ReadsNoData words told told
-reads_nothing words told = inl (record { new = λ is. refl; named = λ file is. inl refl })
-
-pub reads_no_data : (words : List (List ℕ)) (from : Checkpoint) (old mid new : Told) →
-    mid.bytes_under ≡ old.bytes_under → ReadsCheck words old mid →
-    runs.ReadsNoData (searching words from) words mid new → ReadsNoData words old new
-reads_no_data words from old mid new same check (inl is) =
-    inl (subst (λ (t : Told). ReadsCheck words old t) (sym is) check)
-reads_no_data words from old mid new same check (inr leaves) =
-    inr (λ other s files says are.
-    leaves s files (says_any words other from s says) (still_told old mid s.names files same are))

@@ -18,7 +18,7 @@ use Rattle.warm_restart.specs.declared.checkpoint.CheckpointFault.{CheckpointFau
 use Rattle.warm_restart.specs.declared.checkpoint.CheckpointFault.TheVariants as check
 use Rattle.warm_restart.specs.Checkpoint.{IsJudged, CanBeSaid}
 use Rattle.warm_restart.specs.Counts.{greatest_count}
-use Rattle.warm_restart.specs.Named.{most_read, named_text, new_word, ReadsAtMost}
+use Rattle.warm_restart.specs.Named.{most_read, named_text, new_word, ReadsFront}
 use Rattle.search_model.specs.declared.search.Search.{Search}
 use Rattle.warm_restart.specs.declared.warm.Warm.{Warm}
 use Rattle.warm_restart.specs.Warm.{IsPart, IsWarmOf, SearchedPart, part_scope}
@@ -40,7 +40,7 @@ use Rattle.psr_part.specs.declared.stop.PartStop.{PartStop}
 use Rattle.psr_part.specs.declared.stop.PartStop.TheVariants.{Run}
 use Rattle.psr_part.specs.Texts.{stop_of_checkpoint}
 use Rattle.psr_part.specs.Part.{until_in, check_word, check_names, GoesOnFrom, part_search, searching}
-use Rattle.psr_part.specs.Outcome.{ReadsCheck}
+use Rattle.psr_part.specs.Outcome.{ReadsCheck, AfterCheck}
 use Rattle.psr_part.specs.Ends.{EndsFed, Ends}
 use Rattle.psr_part.proofs.Moved.{of_run, stops_before, is_run_fed, counts_through, counts_failed, counts_none, check_held}
 use Rattle.psr_part.proofs.Endings.{at_stop, at_checkpoint, after_session}
@@ -68,16 +68,33 @@ goes_on told words word until from is same before judged = record {
 }
 
 -- CHECK was read
-pub reads_check : {I : Type 0} (told : I → Told) (words : List (List ℕ)) (word : List ℕ) (old new : I) →
+reads_check : {I : Type 0} (told : I → Told) (words : List (List ℕ)) (word : List ℕ) (old new : I) →
     word ≡ check_word words → (word ≡ new_word → new ≡ old) →
-    OfFile (told old) word (λ _. ReadsAtMost most_read word (told old) (told new)) →
-    ReadsCheck words (told old) (told new)
-reads_check told words word old new is none few =
+    (word ≢ new_word → OfFile (told old) word (λ file. ReadsFront most_read word file (told old) (told new))) →
+    (told new).bytes_under ≡ (told old).bytes_under → ReadsCheck words (told old) (told new)
+reads_check told words word old new is none front names =
     subst (λ (x : List ℕ). (x ≡ new_word → told new ≡ told old)
-    × OfFile (told old) x (λ _. ReadsAtMost most_read x (told old) (told new))
+    × (x ≢ new_word → OfFile (told old) x (λ file. ReadsFront most_read x file (told old) (told new)))
     → ReadsCheck words (told old) (told new)) (sym is)
-    (λ both. record { new = both.0; named = both.1 })
-    ((λ e. ap told (none e)), few)
+    (λ both. record { new = both.0; named = both.1; names = names })
+    ((λ e. ap told (none e)), front)
+
+-- and accepted, which says more of what follows
+pub after_check : {I : Type 0} (told : I → Told) (words : List (List ℕ)) (word : List ℕ) (until : ℕ)
+    (from : Checkpoint) (old new : I) → word ≡ check_word words → until ≡ until_in words → from.place < until →
+    (Ok from ≢ Err check.Failed → ForSome (named_text (told old) word) (λ text. IsJudged text until (Ok from))) →
+    (word ≡ new_word → new ≡ old) →
+    (word ≢ new_word → Ok from ≢ Err check.Failed →
+    OfFile (told old) word (λ file. ReadsFront most_read word file (told old) (told new))) →
+    (told new).bytes_under ≡ (told old).bytes_under → (P : Checkpoint → Told → Type 0) → P from (told new) →
+    AfterCheck words (told old) P
+after_check told words word until from old new is same before judged none front names P holds = record {
+  from = from;
+  accepted = goes_on (told old) words word until from is same before judged;
+  told = told new;
+  read = reads_check told words word old new is none (λ other. front other (λ e. absurd cc)) names;
+  holds = holds;
+}
 
 -- the scope of a part
 pub scope_is : (o : Observation) (s : Search) (scope : Scope) (p u place until : ℕ) → scope ≡ part_scope o s p u →

@@ -12,10 +12,10 @@ use Rattle.disk_feeder.specs.Filling.{HoldsAll}
 use Rattle.search_session.specs.declared.ended.Ran.{Ran}
 use Rattle.warm_restart.specs.declared.checkpoint.Checkpoint.{Checkpoint}
 use Rattle.warm_restart.specs.Checkpoint.{IsCheckpointText, IsNoCheckpointText}
-use Rattle.warm_restart.specs.Named.{most_read, new_word, ReadsAtMost}
-use Rattle.run_stop.specs.Firsts.{LeavesData}
+use Rattle.warm_restart.specs.Named.{most_read, new_word, ReadsFront, BreaksOffWithin}
 use Rattle.run_stop.specs.Runs.{FindsAlone}
 use Rattle.run_stop.specs.Outcomes.{TellsNotes}
+use Rattle.run_stop.specs.Outcomes as runs
 use Rattle.lone_run.specs.Outcomes.{RunsAlone}
 use Rattle.psr_part.specs.declared.stop.CheckpointRefusal.{CheckpointRefusal}
 use Rattle.psr_part.specs.declared.stop.CheckpointRefusal.TheVariants.{Form, Place, Beyond}
@@ -111,15 +111,38 @@ pub record Outcome (words : List (List ℕ)) (inputs : InputsSeen) (is_calm : Ty
   pub too_many : ran.status ≡ 9 → ForPart words from inputs.told (IsCrowded words from)
   pub noted : TellsPart words from inputs.told ran.blocks notes_before notes_after ran.status
 
--- ---- what was read at want of memory
+-- ---- what was read at want of memory, and what a fault of the inputs leaves
 
--- CHECK was read, and nothing else: of a file that it names at most 65 bytes
+-- CHECK was read, and nothing else: of a file that it names the first 65 bytes, or all of fewer and their end
 pub record ReadsCheck (words : List (List ℕ)) (before after : Told) : Type 0 where
   pub new : check_word words ≡ new_word → after ≡ before
-  pub named : OfFile before (check_word words)
-      (λ _. ReadsAtMost most_read (check_word words) before after)
+  pub named : check_word words ≢ new_word → OfFile before (check_word words) (λ file.
+      ReadsFront most_read (check_word words) file before after)
+  pub names : after.bytes_under ≡ before.bytes_under
 
--- no more was read than that; or the open file is the first one, and all of its data are left to read
+-- CHECK was read and accepted, and P holds of the checkpoint and of what the inputs told then
+pub record AfterCheck (words : List (List ℕ)) (before : Told) (P : Checkpoint → Told → Type 0) :
+    Type 0 where
+  pub from : Checkpoint
+  pub accepted : GoesOnFrom before words from
+  pub told : Told
+  pub read : ReadsCheck words before told
+  pub holds : P from told
+
+-- no file was opened; or CHECK was accepted, and then no more was read than in any search at want of memory
 abbrev pub ReadsNoData : List (List ℕ) → Told → Told → Type 0
-ReadsNoData words before after = ReadsCheck words before after
-    ⊎ ((from : Checkpoint) → ForPart words from before (λ s w. LeavesData after w))
+ReadsNoData words before after = (after ≡ before) ⊎ AfterCheck words before (λ from told.
+    runs.ReadsNoData (searching words from) words told after)
+
+-- a fault came before CHECK was judged: it names a file, and fewer bytes were read of it than judge it
+pub record BreaksAtCheck (words : List (List ℕ)) (before after : Told) : Type 0 where
+  pub other : check_word words ≢ new_word
+  pub broke : OfFile before (check_word words)
+      (λ _. BreaksOffWithin most_read (check_word words) before after)
+
+-- What a fault of the inputs leaves: it came before CHECK was judged, and there is no data ring; or CHECK was accepted,
+-- and then the fault left what it leaves in any search.
+abbrev pub LeavesAtFault : List (List ℕ) → Told → Told → Option Finished → Type 0
+LeavesAtFault words before after blocks = ((blocks ≡ None) × BreaksAtCheck words before after)
+    ⊎ AfterCheck words before (λ from told.
+    runs.LeavesAtFault (searching words from) words told after blocks)

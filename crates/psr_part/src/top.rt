@@ -1,8 +1,8 @@
 // The top call.
 ghost use Rattle.std.specs.Prelude.{◌≡◌, Some, map, string_bytes};
-ghost use Rattle.run_stop.specs.declared.stop.Stop.TheVariants.{Memory};
+ghost use Rattle.run_stop.specs.declared.stop.Stop.TheVariants.{Memory, ReadFault};
 ghost use Rattle.psr_part.specs.declared.stop.PartStop.TheVariants.{Run};
-ghost use Rattle.psr_part.specs.Outcome.{Outcome, ReadsNoData};
+ghost use Rattle.psr_part.specs.Outcome.{Outcome, ReadsNoData, LeavesAtFault};
 ghost use Rattle.psr_part.specs.Ends.{Ends};
 
 use crate::scope::PartScope;
@@ -47,6 +47,8 @@ pub fn run_part<R: Wait, I: Inputs, K: Sink, E: Sink>(
         (E.seen notes.new) result }
     ensures early { result.status ≡ 5
         → ReadsNoData (map string_bytes words.now) (I.told inputs.old) (I.told inputs.new) }
+    ensures broken { result.status ≡ 6 → LeavesAtFault (map string_bytes words.now)
+        (I.told inputs.old) (I.told inputs.new) result.blocks }
 {
     let Ended { stop, blocks } = search(rt, alloc, words, inputs, out);
     let status = tell_part(stop, notes);
@@ -80,6 +82,8 @@ fn search<R: Wait, I: Inputs, K: Sink>(
         (I.is_calm inputs.old) (K.seen out.old) (K.seen out.new) result.stop result.blocks }
     ensures early { result.stop ≡ Some (Run Memory)
         → ReadsNoData (map string_bytes words.now) (I.told inputs.old) (I.told inputs.new) }
+    ensures broken { result.stop ≡ Some (Run ReadFault) → LeavesAtFault (map string_bytes words.now)
+        (I.told inputs.old) (I.told inputs.new) result.blocks }
 {
     alone_at_words::<I>();
     alone_before_session::<I>();

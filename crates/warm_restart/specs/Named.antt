@@ -1,8 +1,8 @@
 -- The checkpoint that a word of a command names.
 -- Source: this project's choice.
-use Rattle.std.specs.Prelude.{◌≡◌, ℕ, ◌≤◌, ◌⊎◌, List, codes, Option, Some, if◌then◌else◌}
+use Rattle.std.specs.Prelude.{◌≡◌, ℕ, ◌<◌, ◌⊎◌, min, List, length, codes, Option, Some, if◌then◌else◌}
 use Rattle.std.specs.Str.{bytes_eq}
-use Rattle.psr_base.specs.Told.{Told, opened, moved_by}
+use Rattle.psr_base.specs.Told.{Told, opened, moved_by, filled_by}
 use Rattle.search_model.specs.Parts.{check_line}
 
 -- the word of a search that begins with the first spectrum
@@ -19,7 +19,12 @@ abbrev pub named_text : Told → List ℕ → Option (List ℕ)
 named_text told word =
     if bytes_eq word new_word then Some (check_line 0 0) else told.bytes_under word
 
--- no file was opened; or the named one, and its first bytes were read, which are few
-abbrev pub ReadsAtMost : ℕ → List ℕ → Told → Told → Type 0
-ReadsAtMost few name old new =
-    (new ≡ old) ⊎ ((n : ℕ) × (n ≤ few) × (new ≡ moved_by n (opened name old)))
+-- the first bytes of a named file were read, so many, or all of fewer and their end
+abbrev pub ReadsFront : ℕ → List ℕ → List ℕ → Told → Told → Type 0
+ReadsFront few name file old new =
+    new ≡ filled_by (min (length file) few) few (opened name old)
+
+-- a fault came first: it was not opened, or fewer bytes were read of it, and no end was seen
+abbrev pub BreaksOffWithin : ℕ → List ℕ → Told → Told → Type 0
+BreaksOffWithin few name old new =
+    (new ≡ old) ⊎ ((n : ℕ) × (n < few) × (new ≡ moved_by n (opened name old)))

@@ -6,11 +6,11 @@ beam-requires c =
     let after = c.accept.ensures in
     let opened = c.in-Ok-open.ensures.opened in
     let accepted : HasAccepted c.args.feeder c.accept.new.self = record {
-      plan = after.plan;
-      headers = after.headers;
+      plan = after.kept.plan;
+      headers = after.kept.headers;
       feeds = after.feeds;
-      faultless = after.faultless;
-      running = after.running;
+      faultless = after.kept.faultless;
+      running = after.kept.running;
       accepts = after.accepts;
     } in
     let told = c.requires.begun.0 in
@@ -28,11 +28,11 @@ returns-clause-begins c = λ told begun.
     let after = c.accept.ensures in
     let opened = c.in-Ok-open.ensures.opened in
     let accepted : HasAccepted c.args.feeder c.accept.new.self = record {
-      plan = after.plan;
-      headers = after.headers;
+      plan = after.kept.plan;
+      headers = after.kept.headers;
       feeds = after.feeds;
-      faultless = after.faultless;
-      running = after.running;
+      faultless = after.kept.faultless;
+      running = after.kept.running;
       accepts = after.accepts;
     } in
     c.beam.ensures.begins told (ready _ c.args.feeder c.accept.new.self c.requires.plan.1 accepted told

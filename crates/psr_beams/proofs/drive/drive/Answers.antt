@@ -4,8 +4,8 @@ use Rattle.std.proofs.lemmas.List.{length-map}
 use Rattle.search_words.specs.Settings.{settings_seen}
 use Rattle.disk_feeder.specs.declared.feeder.FeederSpace.{FeederSpace}
 use Rattle.beam_set.specs.declared.ended.BeamEnd.{BeamEnd}
-use Rattle.psr_beams.specs.Feeders.{AreBegun}
-use Rattle.psr_beams.specs.Driven.{CanRun, HaveCome}
+use Rattle.psr_beams.specs.Feeders.{AreBegun, HaveRead}
+use Rattle.psr_beams.specs.Driven.{CanRun, HaveCome, HaveBroken}
 use Rattle.psr_beams.proofs.Drives.{headers_read, not_opened, runs, data_found, went_through}
 use Rattle.psr_beams.proofs.drive.drive.Goals as goal
 
@@ -87,7 +87,7 @@ write_end-requires-clause-found g c =
     (λ (ends : List (Option BeamEnd)). HaveCome g.I.Inputs.told g.I.Inputs.is_calm g.I.Inputs.faults s o
     (length s.names)
     c.begin_all.new.inputs c.run_joined-ends.new.inputs ends) (sym c.as_slice-2.ensures.value)
-    (c.run_joined-ends.ensures s (length s.names) can) in
+    (c.run_joined-ends.ensures.come s (length s.names) can) in
     data_found g.I.Inputs.told g.I.Inputs.is_open g.I.Inputs.is_calm g.I.Inputs.faults s c.requires.range c.requires.one
     c.args.inputs.now c.begin_all.new.inputs count (sym same) (omega (arith, most, lent)) c.as_slice.result.now
     c.in-Ok.ensures.read begun o accepted c.in-Ok-open_all.ensures.fits c.run_joined-ends.new.inputs
@@ -117,10 +117,17 @@ returns g c =
     (λ (ends : List (Option BeamEnd)). HaveCome g.I.Inputs.told g.I.Inputs.is_calm g.I.Inputs.faults s o
     (length s.names)
     c.begin_all.new.inputs c.run_joined-ends.new.inputs ends) (sym c.as_slice-2.ensures.value)
-    (c.run_joined-ends.ensures s (length s.names) can) in
+    (c.run_joined-ends.ensures.come s (length s.names) can) in
+    let read = subst
+    (λ m. HaveRead g.I.Inputs.told m c.args.inputs.now c.begin_all.new.inputs c.in-Ok.feeders.items) (sym same)
+    c.in-Ok.ensures.reads in
+    let broken = subst
+    (λ (ends : List (Option BeamEnd)). HaveBroken g.I.Inputs.told s (length s.names) c.args.inputs.now
+    c.begin_all.new.inputs c.run_joined-ends.new.inputs ends) (sym c.as_slice-2.ensures.value)
+    (c.run_joined-ends.ensures.broken s (length s.names) c.args.inputs.now can read) in
     went_through g.I.Inputs.told g.I.Inputs.is_open g.I.Inputs.is_calm g.I.Inputs.faults s c.requires.range
     c.requires.one
     c.args.inputs.now c.begin_all.new.inputs count (sym same) (omega (arith, most, lent)) c.as_slice.result.now
     c.in-Ok.ensures.read begun o accepted c.in-Ok-open_all.ensures.fits c.run_joined-ends.new.inputs
     c.as_slice-2.result.now come c.args.said.now.within c.args.said.now.more (g.K.Sink.seen c.args.out.now)
-    (g.K.Sink.seen c.write_end.new.out) c.write_end.result c.write_end.ensures
+    (g.K.Sink.seen c.write_end.new.out) c.write_end.result broken c.write_end.ensures

@@ -34,7 +34,10 @@ returns-in-Ok-begin-clause-read g c =
     (subst (λ ns. HasPlan (at_rest c.in-Ok.space) ns c.as_slice.result.now s.size s.max_bytes) names at) in
     reads s name c.in-Ok.space starts plan g.I.Inputs.told g.I.Inputs.is_open g.I.Inputs.is_calm g.I.Inputs.faults
     c.args.inputs.now c.begin.new.inputs c.begin.new.self _ (λ e. cc) c.begin.ensures.plan
-    c.in-Ok-begin.ensures.begun c.in-Ok-begin.ensures.left c.in-Ok-begin.ensures.inputs
+    c.in-Ok-begin.ensures.begun c.in-Ok-begin.ensures.reads.read c.in-Ok-begin.ensures.inputs
+
+pub returns-in-Ok-begin-clause-reads : goal.returns-in-Ok-begin-clause-reads
+returns-in-Ok-begin-clause-reads g c = c.in-Ok-begin.ensures.reads.begins
 
 pub returns-clause-stopped : goal.returns-clause-stopped
 returns-clause-stopped g c =
@@ -48,4 +51,4 @@ returns-clause-stopped g c =
     (subst (λ ns. HasPlan (at_rest c.in-Ok.space) ns c.as_slice.result.now s.size s.max_bytes) names at) in
     fails s name c.in-Ok.space starts plan g.I.Inputs.told g.I.Inputs.is_calm g.I.Inputs.faults c.args.beam
     c.args.inputs.now c.begin.new.inputs c.in-Err-begin.fault c.stop_of.result c.in-Err-begin.ensures.refused
-    c.in-Err-begin.ensures.inputs c.in-Err-begin.ensures.serves c.stop_of.ensures
+    c.in-Err-begin.ensures.broke c.in-Err-begin.ensures.inputs c.in-Err-begin.ensures.serves c.stop_of.ensures

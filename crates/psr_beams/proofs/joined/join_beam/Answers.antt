@@ -19,13 +19,9 @@ beam-requires c =
       ready = (
         can.0,
         ready can.0 can.1 c.args.observation.now can.2 c.args.space c.args.feeder can.3 c.accept.new.self (record {
-          plan = c.accept.ensures.plan;
-          headers = c.accept.ensures.headers;
+          kept = c.accept.ensures.kept;
           feeds = c.accept.ensures.feeds;
-          faultless = c.accept.ensures.faultless;
-          running = c.accept.ensures.running;
           accepts = c.accept.ensures.accepts;
-          reading = c.accept.ensures.reading;
         }),
       );
     }
@@ -33,12 +29,8 @@ beam-requires c =
 pub returns : goal.returns
 returns c = λ told s name can.
     joined told s c.args.observation.now name c.args.space c.args.feeder can c.accept.new.self (record {
-      plan = c.accept.ensures.plan;
-      headers = c.accept.ensures.headers;
+      kept = c.accept.ensures.kept;
       feeds = c.accept.ensures.feeds;
-      faultless = c.accept.ensures.faultless;
-      running = c.accept.ensures.running;
       accepts = c.accept.ensures.accepts;
-      reading = c.accept.ensures.reading;
     })
     c.beam.result c.beam.ensures.begins c.beam.ensures.feeder c.beam.ensures.engine

@@ -1,7 +1,17 @@
-use Rattle.psr_part.proofs.Endings.{outcome}
+use Rattle.std.proofs.Common.{sym, ◌∙◌}
+use Rattle.psr_part.proofs.Endings.{outcome, memory_stop}
+use Rattle.psr_part.proofs.Faults.{six_is}
 use Rattle.psr_part.proofs.top.run_part.Goals as goal
 
 pub returns-clause-outcome : goal.returns-clause-outcome
 returns-clause-outcome g c =
     outcome _ _ _ _ _ _ _ _ _ c.tell_part-status.result c.search-stop.ensures.ends c.tell_part-status.ensures.status
     (λ from said. c.tell_part-status.ensures.told _ from _ _ said)
+
+pub returns-clause-early : goal.returns-clause-early
+returns-clause-early g c = λ five.
+    c.search-stop.ensures.early (memory_stop _ (sym c.tell_part-status.ensures.status ∙ five))
+
+pub returns-clause-broken : goal.returns-clause-broken
+returns-clause-broken g c = λ six.
+    c.search-stop.ensures.broken (six_is _ (sym c.tell_part-status.ensures.status ∙ six))

@@ -1,0 +1,110 @@
+-- What a fault of the inputs leaves.
+use Rattle.std.proofs.Common.{◌≡◌, ◌≢◌, ℕ, List, Some, None, Err, inl, refl, sym, ap, ◌∙◌, subst, arith}
+use Rattle.std.specs.Prelude.{Option, IfSome, Result}
+use Rattle.dada_model.specs.Observation.{Observation}
+use Rattle.psr_base.specs.Told.{Told, OfFile}
+use Rattle.psr_base.specs.Written.{SinkSeen}
+use Rattle.ring_ends.specs.declared.finished.Finished.{Finished}
+use Rattle.search_model.specs.declared.search.Search.{Search}
+use Rattle.search_words.specs.declared.fault.WordFault.{WordFault}
+use Rattle.search_words.specs.declared.fault.WordFault.TheVariants as word
+use Rattle.disk_feeder.specs.declared.answers.FeedEnd.{FeedEnd}
+use Rattle.disk_feeder.specs.declared.answers.FeedEnd.TheVariants as feed
+use Rattle.warm_restart.specs.declared.checkpoint.Checkpoint.{Checkpoint}
+use Rattle.warm_restart.specs.declared.checkpoint.CheckpointFault.{CheckpointFault}
+use Rattle.warm_restart.specs.declared.checkpoint.CheckpointFault.TheVariants as check
+use Rattle.warm_restart.specs.Named.{most_read, new_word, BreaksOffWithin}
+use Rattle.run_stop.specs.declared.stop.Stop.{Stop}
+use Rattle.run_stop.specs.declared.stop.Stop.TheVariants.{Words, Value, Header, Plan, Recording, Memory, ReadFault, Gap, TooLong, TooMany, SinkFault, FileFault}
+use Rattle.run_stop.specs.Texts.{status_of}
+use Rattle.run_stop.specs.Conversions.{stop_of_words, stop_of_feed}
+use Rattle.lone_run.specs.declared.stop.LoneStop.{LoneStop}
+use Rattle.lone_run.specs.declared.stop.LoneStop.TheVariants as lone
+use Rattle.lone_run.specs.Stops.{FailsReading}
+use Rattle.psr_part.specs.declared.stop.PartStop.{PartStop}
+use Rattle.psr_part.specs.declared.stop.PartStop.TheVariants.{Run, Refused}
+use Rattle.psr_part.specs.Texts.{stop_of_checkpoint, end_status}
+use Rattle.psr_part.specs.Part.{check_word}
+use Rattle.psr_part.specs.Outcome.{LeavesAtFault}
+use Rattle.psr_part.specs.Ends.{EndsFed, EndsText}
+
+-- words that are refused are no fault of the inputs
+pub not_words : (f : WordFault) (stop : Stop) → stop ≡ stop_of_words f → Some (Run stop) ≡ Some (Run ReadFault) → ⊥
+not_words word.Refused stop of same = absurd cc
+not_words (word.OutOfRange opt) stop of same = absurd cc
+not_words word.Memory stop of same = absurd cc
+
+-- nor is a checkpoint that is not read want of memory
+pub not_memory : (f : CheckpointFault) (stop : PartStop) → stop ≡ stop_of_checkpoint f →
+    Some stop ≡ Some (Run Memory) → ⊥
+not_memory check.Failed stop of same = absurd cc
+not_memory check.Form stop of same = absurd cc
+not_memory (check.Place place until) stop of same = absurd cc
+
+-- CHECK was not read
+failed_is : (f : CheckpointFault) (stop : PartStop) → stop ≡ stop_of_checkpoint f → Some stop ≡ Some (Run ReadFault) →
+    f ≡ check.Failed
+failed_is check.Failed stop of same = refl
+failed_is check.Form stop of same = absurd cc
+failed_is (check.Place place until) stop of same = absurd cc
+
+abbrev pub as_result : CheckpointFault → Result Checkpoint CheckpointFault
+as_result f = Err f
+
+pub at_check : (words : List (List ℕ)) (word : List ℕ) (old new : Told) (f : CheckpointFault) (stop : PartStop) →
+    word ≡ check_word words → (word ≡ new_word → as_result f ≢ Err check.Failed) →
+    (as_result f ≡ Err check.Failed → OfFile old word (λ _. BreaksOffWithin most_read word old new)) →
+    stop ≡ stop_of_checkpoint f → Some stop ≡ Some (Run ReadFault) → LeavesAtFault words old new None
+at_check words word old new f stop is not_new broke of same =
+    let failed : as_result f ≡ Err check.Failed = ap as_result (failed_is f stop of same) in
+    let At : List ℕ → Type 0 = λ x. OfFile old x (λ _. BreaksOffWithin most_read x old new) in
+    inl (refl, record { other = λ e. not_new (is ∙ e) failed; broke = subst At is (broke failed) })
+
+-- 6 is a fault of the inputs alone
+six_of : (stop : Stop) → status_of stop ≡ 6 → stop ≡ ReadFault
+six_of Words e = absurd (omega (arith, e))
+six_of (Value opt) e = absurd (omega (arith, e))
+six_of (Header file cause) e = absurd (omega (arith, e))
+six_of (Plan cause) e = absurd (omega (arith, e))
+six_of (Recording cause) e = absurd (omega (arith, e))
+six_of Memory e = absurd (omega (arith, e))
+six_of ReadFault e = refl
+six_of (Gap file expected found) e = absurd (omega (arith, e))
+six_of (TooLong limit) e = absurd (omega (arith, e))
+six_of (TooMany count limit) e = absurd (omega (arith, e))
+six_of SinkFault e = absurd (omega (arith, e))
+six_of FileFault e = absurd (omega (arith, e))
+
+pub six_is : (stop : Option PartStop) → end_status stop ≡ 6 → stop ≡ Some (Run ReadFault)
+six_is None e = absurd (omega (arith, e))
+six_is (Some (Run stop)) e = ap (λ (s : Stop). Some (Run s)) (six_of stop e)
+six_is (Some (Refused refusal)) e = absurd (omega (arith, e))
+
+-- a search that had no session fails reading at this stop
+pub fails : {F : Type 0} (x : LoneStop F) (stop : Stop) → x ≡ lone.Run stop → Some (Run stop) ≡ Some (Run ReadFault) →
+    FailsReading (Err x)
+fails {F} x stop is same =
+    let Fails : LoneStop F → Type 0 = λ y. FailsReading (Err y) in
+    let e : stop ≡ ReadFault = cc in
+    subst Fails (sym (is ∙ ap lone.Run e)) refl
+
+-- a search whose session ended with this stop was stopped by its feeder
+pub fed_fault : (end : FeedEnd) (stop : Option PartStop) (o : Observation) (s : Search) (from : Checkpoint) (until : ℕ)
+    (before after : SinkSeen) → IfSome (stop_of_feed end) (λ fed. (stop ≡ Some (Run fed)) × (after ≡ before)) →
+    ((count : ℕ) → end ≡ feed.Whole count → (bytes : List ℕ)
+    × EndsFed (stop_of_feed end) o s from until bytes before after stop) → stop ≡ Some (Run ReadFault) →
+    end ≡ feed.ReadFault
+fed_fault feed.ReadFault stop o s from until before after stopped ended is = refl
+fed_fault (feed.Whole count) stop o s from until before after stopped ended is =
+    let e = ended count refl in
+    absurd (subst (λ (x : Option PartStop). EndsText o s from until e.0 before after x) is e.1)
+fed_fault (feed.BadHeader file cause) stop o s from until before after stopped ended is =
+    let e = stopped.0 in absurd cc
+fed_fault (feed.Gap file expected found) stop o s from until before after stopped ended is =
+    let e = stopped.0 in absurd cc
+fed_fault (feed.TooLong limit) stop o s from until before after stopped ended is = let e = stopped.0 in absurd cc
+
+-- it stands on what went through the data ring
+pub with_them : (words : List (List ℕ)) (old new : Told) (blocks all : Option Finished) → all ≡ blocks →
+    LeavesAtFault words old new blocks → LeavesAtFault words old new all
+with_them words old new blocks all is = subst (λ (x : Option Finished). LeavesAtFault words old new x) (sym is)
