@@ -8,51 +8,12 @@
 # bandwidth.v3 into a folder: they run in the same rounds, ratios are to one thread of peer_fdmt.v3, each text is
 # compared with its text, and what the machine can do is told first. Without it our own figures stand alone.
 set -eu
-rounds=${ROUNDS:-9}
-crates=$(cd "$(dirname "$0")/../crates" && pwd)
-cpu=$(grep -qw avx2 /proc/cpuinfo && echo --cpu=x86-64-v3 || true)
-folder=$(mktemp -d /dev/shm/speed.XXXXXX)
-trap 'rm -rf "$folder"' EXIT
+. "$(dirname "$0")/rounds.sh"
 
-build() { # build PROGRAM WORD..: proves and builds a program, runs it once, and tells its path
-    local program=$1
-    shift
-    (cd "$crates/$program" && rt run $cpu -- "$@") >"$folder/build" 2>&1 || { cat "$folder/build" >&2; exit 1; }
-    echo "$crates/$program/out/$program"
-}
-search=${1:-$(build psr_search_main --mean 1 --sd 2 --snr 7 --max-delay 1 --widths 1 data/pulse.dada)}
-make=${2:-$(build psr_make_main "$folder/first.dada")}
 book=${3:-$(build book_bench)}
 large=$folder/large.dada longer=$folder/longer.dada
 made=(--number 2 --nchan 1024 --delay 512 --period 4096 --height 1)
 "$make" "${made[@]}" --spectra 131072 "$large"
-peer=
-if [ -n "${PEERS:-}" ]; then
-    "$PEERS/build.sh" "$folder/peers" >/dev/null
-    peer=$folder/peers/peer_fdmt.v3
-fi
-
-declare -A wall=() cpu_time=() last=() text=()
-once() { # once NAME COMMAND..: keeps the least time of a command, and its text's last line and checksum
-    local name=$1 took real user system
-    shift
-    took=$( { TIMEFORMAT='%R %U %S'; time "$@" >"$folder/text" 2>/dev/null; } 2>&1)
-    read -r real user system <<<"$took"
-    wall[$name]=$(printf '%s\n' "$real" ${wall[$name]:-} | sort -n | head -n 1)
-    cpu_time[$name]=$(awk "BEGIN { print $user + $system }" |
-        sort -n - <(printf '%s\n' ${cpu_time[$name]:-}) | grep . | head -n 1)
-    last[$name]=$(tail -n 1 "$folder/text")
-    text[$name]=$(md5sum <"$folder/text")
-}
-beside_each_other() { # four of the peer at once: where four cores are free they take little longer than one
-    local runs=4
-    while ((runs-- > 0)); do "$peer" "${words[@]}" --widths 1 "$large" & done
-    wait
-}
-quotient() { awk "BEGIN { printf \"%.2f\", $1 / $2 }"; }
-memory() { # memory COMMAND..: the most memory of a command, in MB
-    [ -x /usr/bin/time ] && /usr/bin/time -f %M "$@" 2>&1 >/dev/null | awk '{ printf "%.0f MB", $1 / 1000 }' || echo '?'
-}
 
 words=(--mean 16 --sd 2.828 --max-delay 1024 --max-candidates 1000000)
 declare -A options=(
@@ -67,17 +28,14 @@ for ((round = 0; round < rounds; round++)); do
         once "$kind, four" "$search" "${words[@]}" ${options[$kind]} --shards 4 --hands 4 "$large"
         [ -n "$peer" ] && once "$kind, peer" "$peer" "${words[@]}" ${options[$kind]} "$large"
     done
-    [ -n "$peer" ] && once 'four peers' beside_each_other
+    [ -n "$peer" ] && once 'four peers' beside_each_other "$peer" "${words[@]}" --widths 1 "$large"
     rm -f "$folder/made.dada"
     once make "$make" "${made[@]}" --spectra 131072 "$folder/made.dada"
 done
 rm -f "$folder/made.dada"
 
-sed -n 's/^model name[^:]*: /machine: /p' /proc/cpuinfo | head -n 1
-echo "cores: $(nproc), load: $(cut -d ' ' -f 1 /proc/loadavg), rounds: $rounds"
-[ -n "$peer" ] && "$folder/peers/bandwidth.v3" | sed 's/^/    /' &&
-    echo "four of the peer beside each other take $(quotient "${wall[four peers]}" "${wall[widths to 1, peer]}")" \
-        "times as long as one"
+tell_machine 'widths to 1, peer' 'four peers'
+[ -z "$peer" ] || "$folder/peers/bandwidth.v3" | sed 's/^/    /'
 echo
 echo '| What | threads | processor time | wall time | to the peer: processor, wall | memory | last line, text |'
 echo '|---|---|---|---|---|---|---|'
