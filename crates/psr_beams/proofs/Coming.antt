@@ -89,7 +89,7 @@ module _ {I : Type 0} (told : I → Told) (is_calm : I → Type 0) (faults : I �
   beam_breaks : (start : Told) (beam : Beam) (end : BeamEnd) → s.starts ≡ 0 ∷ [] →
       IsBeamOf (told before) s o name beam → BeamAnswers told is_calm faults beam before after end →
       FeederRead start (told before) (at_rest (feeder_in beam)) →
-      SlotBreaks start (told before) name (told after) (Some end)
+      SlotBreaks s.max_bytes start (told before) name (told after) (Some end)
   beam_breaks start beam end one is answers reads failed file at =
       let plan = plan_at (at_rest (feeder_in beam)) in
       let feed = answers.feed in
@@ -103,7 +103,7 @@ module _ {I : Type 0} (told : I → Told) (is_calm : I → Type 0) (faults : I �
   pub slot_breaks : (start : Told) (slot : Option FeederSpace) (beam : Option Beam) (end : Option BeamEnd) →
       s.starts ≡ 0 ∷ [] → IsSlotJoined (told before) s o name slot beam →
       SlotAnswers told is_calm faults beam before after end → SlotRead start (told before) slot →
-      SlotBreaks start (told before) name (told after) end
+      SlotBreaks s.max_bytes start (told before) name (told after) end
   slot_breaks start None beam end one joined answers reads = absurd reads
   slot_breaks start (Some f) None end one joined answers reads = absurd joined
   slot_breaks start (Some f) (Some b) None one joined answers reads = tt

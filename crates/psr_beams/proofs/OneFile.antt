@@ -1,5 +1,5 @@
 -- The one file of a beam.
-use Rattle.std.proofs.Common.{◌≡◌, ℕ, zero, suc, ◌+◌, ◌-◌, ◌<◌, List, [], ◌∷◌, append-nil, length, map, take, drop, get_or, slice_get, Option, Some, None, refl, sym, ap, subst, ◌∙◌, inl, inr, arith}
+use Rattle.std.proofs.Common.{◌≡◌, ℕ, zero, suc, ◌+◌, ◌-◌, ◌<◌, ◌≤◌, List, [], ◌∷◌, append-nil, length, map, take, drop, get_or, slice_get, Option, Some, None, refl, sym, ap, subst, ◌∙◌, inl, inr, arith}
 use Rattle.std.specs.Prelude.{IsSome}
 use Rattle.std.proofs.lemmas.List.{drop_more, get_or-map}
 use Rattle.search_words.specs.Transfers.{AreTransferStarts}
@@ -9,7 +9,8 @@ use Rattle.stream_model.specs.Walk.{FileStream, data_of, data_between, transfer_
 use Rattle.stream_model.specs.WalkLaws.{IsIn}
 use Rattle.disk_feeder.specs.Feeding.{BreaksReading}
 use Rattle.disk_feeder.specs.Filling.{HoldsAll}
-use Rattle.disk_feeder.specs.History.{files_read, IsReadUpTo}
+use Rattle.disk_feeder.specs.Front.{front_of}
+use Rattle.disk_feeder.specs.History.{files_read, data_so_far, IsReadUpTo}
 use Rattle.disk_feeder.specs.Plan.{Plan, stream_of, AreTold}
 use Rattle.psr_beams.specs.Files.{stream_of_one, IsReadOn}
 use Rattle.psr_beams.proofs.Counting.{element}
@@ -52,26 +53,37 @@ zeroth_file s file zero k inside = let below : k < 1 = inside.before in omega (a
 zeroth_file s file (suc t) k inside = let there : suc t < 1 = inside.there in absurd (omega (arith, there))
 
 read_first : (s : SettingsSeen) (name file : List ℕ) (before after : Told) (transfer count : ℕ) →
-    IsReadUpTo (name ∷ []) (stream_of_one s file) before after transfer 0 count → IsReadOn name file before after
+    count ≤ s.max_bytes → IsReadUpTo (name ∷ []) (stream_of_one s file) before after transfer 0 count →
+    IsReadOn s.max_bytes name file before after
 unfolding files_read
-read_first s name file before after transfer count r =
-    record { place = r.place; past = r.past; within = r.within; is = r.told_is }
+read_first s name file before after transfer count least r =
+    let read : count ≡ data_so_far (stream_of_one s file) transfer 0 + (r.place - front_of file) = r.count_is in
+    record {
+      place = r.place;
+      past = r.past;
+      within = r.within;
+      few = omega (arith, read, least);
+      is = r.told_is;
+    }
 
 -- what a fault of the inputs leaves, once the header of the one file was read
 one_left : (s : SettingsSeen) (name file : List ℕ) (before after : Told) (size : ℕ) (blocks : _) →
-    BreaksReading (name ∷ []) (stream_of_one s file) before after size blocks → IsReadOn name file before after
+    BreaksReading (name ∷ []) (stream_of_one s file) before after size blocks →
+    IsReadOn s.max_bytes name file before after
 one_left s name file before after size blocks b =
     let first = zeroth_file s file b.transfer b.file b.inside in
     elim b.stood [
       | inl broke ↦ let later = broke.begun refl in absurd (omega (arith, first, later))
       | inr reading ↦
           let P : ℕ → Type 0 = λ k. IsReadUpTo (name ∷ []) (stream_of_one s file) before after b.transfer k b.count in
-          read_first s name file before after b.transfer b.count (subst P first reading.1)
+          let few = b.few in
+          read_first s name file before after b.transfer b.count (omega (arith, few)) (subst P first reading.1)
     ]
 
 pub one_broken : (plan : Plan) (s : SettingsSeen) (name file : List ℕ) → plan.names ≡ name ∷ [] →
     plan.starts ≡ 0 ∷ [] → plan.max_bytes ≡ s.max_bytes → (before after : Told) (size : ℕ) (blocks : _) →
-    BreaksReading plan.names (stream_of plan (file ∷ [])) before after size blocks → IsReadOn name file before after
+    BreaksReading plan.names (stream_of plan (file ∷ [])) before after size blocks →
+    IsReadOn s.max_bytes name file before after
 one_broken plan s name file names starts limit before after size blocks b =
     one_left s name file before after size blocks
     (subst (λ (w : FileStream). BreaksReading (name ∷ []) w before after size blocks)

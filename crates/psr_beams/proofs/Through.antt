@@ -633,9 +633,9 @@ module _ {I : Type 0} (told : I → Told) (is_calm : I → Type 0) (faults : I �
               let x = element before r.beam inside in
               let name = beam_name s r.beam in
               let file = beam_file files r.beam in
-              subst (λ t. IsReadOn name file t (told_at told after r.beam))
+              subst (λ t. IsReadOn s.max_bytes name file t (told_at told after r.beam))
               (sym (seen_there told nothing_told before r.beam x inside))
-              (subst (λ t. IsReadOn name file (told (get_or before r.beam x)) t)
+              (subst (λ t. IsReadOn s.max_bytes name file (told (get_or before r.beam x)) t)
               (sym (seen_there told nothing_told after r.beam x (omega (arith, inside, lent))))
               (left (told (get_or before r.beam x)) (told (get_or mid r.beam x)) name (told (get_or after r.beam x))
               (get_or ends r.beam None) r.is (broken r.beam x below) file (told_mid files are r.beam x below)));
@@ -653,8 +653,8 @@ module _ {I : Type 0} (told : I → Told) (is_calm : I → Type 0) (faults : I �
         did (Some end) is = fault_of end.feed is
 
         left : (start was : Told) (name : List ℕ) (now : Told) (slot : Option BeamEnd) →
-            slot_stop r.beam slot ≡ Some ReadFault → SlotBreaks start was name now slot → (file : List ℕ) →
-            was.bytes_under name ≡ Some file → IsReadOn name file start now
+            slot_stop r.beam slot ≡ Some ReadFault → SlotBreaks s.max_bytes start was name now slot →
+            (file : List ℕ) → was.bytes_under name ≡ Some file → IsReadOn s.max_bytes name file start now
         left start was name now None is broke file at = absurd cc
         left start was name now (Some end) is broke file at = broke (fault_of end.feed is) file at
 

@@ -76,18 +76,18 @@ pub record HaveCome {I : Type 0} (told : I → Told) (is_calm : I → Type 0) (f
       (slice_index_or before k x) (slice_index_or after k x) (slice_index_or ends k None)
   pub others : (k : ℕ) (x : I) → count ≤ k → slice_index_or after k x ≡ slice_index_or before k x
 
--- a beam that ended at a fault of its inputs had its header read, and maybe more of its file
-abbrev pub SlotBreaks : Told → Told → List ℕ → Told → Option BeamEnd → Type 0
-SlotBreaks start before name after None = ⊤
-SlotBreaks start before name after (Some end) = end.feed ≡ ReadFault →
-    OfFile before name (λ file. IsReadOn name file start after)
+-- a beam that ended at a fault of its inputs had its header read, and maybe more of its file, within the limit
+abbrev pub SlotBreaks : ℕ → Told → Told → List ℕ → Told → Option BeamEnd → Type 0
+SlotBreaks limit start before name after None = ⊤
+SlotBreaks limit start before name after (Some end) = end.feed ≡ ReadFault →
+    OfFile before name (λ file. IsReadOn limit name file start after)
 
 -- so did each, over what inputs told at its start, before its turns and after them
 abbrev pub HaveBroken : {I : Type 0} → (I → Told) → SettingsSeen → ℕ → List I → List I → List I →
     List (Option BeamEnd) → Type 0
 HaveBroken {I} told s count starts before after ends = (k : ℕ) (x : I) → k < count →
-    SlotBreaks (told (slice_index_or starts k x)) (told (slice_index_or before k x)) (beam_name s k)
-    (told (slice_index_or after k x)) (slice_index_or ends k None)
+    SlotBreaks s.max_bytes (told (slice_index_or starts k x)) (told (slice_index_or before k x))
+    (beam_name s k) (told (slice_index_or after k x)) (slice_index_or ends k None)
 
 -- ---- the whole
 

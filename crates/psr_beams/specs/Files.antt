@@ -1,7 +1,7 @@
 -- The files of several beams, each of which has one: each is a stream of its own.
 -- Source: PSRDADA manual (a transfer is what one header describes); that beams of one observation have the same values
 -- is this project's choice.
-use Rattle.std.specs.Prelude.{◌≡◌, ℕ, ◌<◌, ◌≤◌, List, [], ◌∷◌, length, slice_index_or, Some}
+use Rattle.std.specs.Prelude.{◌≡◌, ℕ, ◌-◌, ◌<◌, ◌≤◌, List, [], ◌∷◌, length, slice_index_or, Some}
 use Rattle.psr_base.specs.Told.{Told, opened, moved_by}
 use Rattle.dada_model.specs.Observation.{Observation}
 use Rattle.search_words.specs.Settings.{SettingsSeen}
@@ -44,11 +44,12 @@ pub record AreBeamsTold (told : ℕ → Told) (names files : List (List ℕ)) : 
 abbrev pub header_read : List ℕ → List ℕ → Told → Told
 header_read name file told = moved_by (front_of file) (opened name told)
 
--- its header was read, and maybe more of its bytes, and its end was not seen
-pub record IsReadOn (name file : List ℕ) (before after : Told) : Type 0 where
+-- its header was read, and maybe more of its bytes, at most so many of its data, and its end was not seen
+pub record IsReadOn (limit : ℕ) (name file : List ℕ) (before after : Told) : Type 0 where
   pub place : ℕ
   pub past : front_of file ≤ place
   pub within : place ≤ length file
+  pub few : place - front_of file ≤ limit
   pub is : after ≡ moved_by place (opened name before)
 
 -- ---- the files that are told

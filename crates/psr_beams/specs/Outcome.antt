@@ -79,12 +79,13 @@ pub record ReadsHeadersTo (s : SettingsSeen) (files : List (List ℕ)) (beam : �
   pub others : (k : ℕ) → beam < k → after k ≡ before k
 
 -- All headers and the search are accepted, and the data of the beams before this one are read whole; of its own file
--- its header was read, and maybe more, and its end was not seen.
+-- its header was read, and maybe more, no more data than the limit, and its end was not seen.
 pub record ReadsDataTo (s : SettingsSeen) (files : List (List ℕ)) (beam : ℕ)
     (before after : ℕ → Told) : Type 0 where
   pub begins : CanSearch s files
   pub whole : (k : ℕ) → k < beam → IsWhole s files k
-  pub broke : IsReadOn (beam_name s beam) (beam_file files beam) (before beam) (after beam)
+  pub broke : IsReadOn s.max_bytes (beam_name s beam) (beam_file files beam) (before beam)
+      (after beam)
 
 -- The inputs of this beam failed, and those of the beams before it didn't. Nothing came before that: only headers were
 -- read to there; or all are accepted, and data were.
