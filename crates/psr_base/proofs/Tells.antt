@@ -1,5 +1,5 @@
 -- From what the objects in memory answer exactly to what their traits say.
-use Rattle.std.proofs.Common.{◌≡◌, ℕ, ◌-◌, ◌≤◌, ◌<◌, List, [], ◌∷◌, ◌++◌, length, take, Option, Some, None, Result, Ok, Err, IfOk, OnOk, OnErr, IsSome, unwrap_or, ap, sym, subst, refl, ◌∙◌, arith}
+use Rattle.std.proofs.Common.{◌≡◌, ℕ, ◌-◌, ◌≤◌, ◌<◌, List, [], ◌∷◌, ◌++◌, length, take, Option, Some, None, Result, Ok, Err, IfOk, OnOk, OnErr, IsErr, IsSome, unwrap_or, ap, sym, subst, refl, ◌∙◌, arith}
 use Rattle.std.specs.Prelude.{Contains}
 use Rattle.std.specs.Option.{option_map, ForSome}
 use Rattle.std.specs.Io.KnownBytes.{append_known}
@@ -161,3 +161,22 @@ pub GivesNext-told : {E : Type 0} (r : Result ℕ E) (left : Option (List ℕ)) 
 GivesNext-told (Ok n) left buffer next =
     λ bytes known. subst (λ (o : Option (List ℕ)). GivesNext (unwrap_or o []) n buffer) known next
 GivesNext-told (Err x) left buffer next = tt
+
+-- a call that failed, and one that did not
+pub at_err : {T E : Type 0} (r : Result T E) {P : Type 0} → OnErr r P → IsErr r → P
+at_err (Ok x) p is = absurd cc
+at_err (Err x) p is = p
+
+pub at_ok : {T E : Type 0} (r : Result T E) {P : Type 0} → OnOk r P → ¬ IsErr r → P
+at_ok (Ok x) p not = p
+at_ok (Err x) p not = absurd (not refl)
+
+-- what is told where a call failed, and how it is counted
+pub of_err : {T E : Type 0} (r : Result T E) {P Q : Type 0} → (P → Q) → OnErr r P → OnErr r Q
+of_err (Ok x) f p = tt
+of_err (Err x) f p = f p
+
+pub names-read : {E : Type 0} (r : Result ℕ E) (old new : Told) → IfOk r (λ n. new ≡ read_by n old) →
+    OnErr r (new ≡ old) → new.bytes_under ≡ old.bytes_under
+names-read (Ok n) old new ok err = ap (λ (t : Told). t.bytes_under) ok
+names-read (Err x) old new ok err = ap (λ (t : Told). t.bytes_under) err

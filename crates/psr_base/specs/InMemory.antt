@@ -1,7 +1,7 @@
 -- What the objects in memory tell.
 -- Source: this project's choice.
-use Rattle.std.specs.Prelude.{ℕ, ◌-◌, ◌≤◌, ◌<◌, List, [], ◌∷◌, Option, Some, None, IsTrue, IsSome, length, vec_len}
-use Rattle.psr_base.specs.Count.{CallCount}
+use Rattle.std.specs.Prelude.{◌≡◌, ℕ, ◌-◌, ◌≤◌, ◌<◌, List, [], ◌∷◌, Option, Some, None, IsTrue, IsSome, length, vec_len}
+use Rattle.psr_base.specs.Count.{CallCount, after_fault}
 use Rattle.psr_base.specs.Told.{Told}
 use Rattle.psr_base.specs.Written.{SinkSeen}
 use Rattle.psr_base.specs.Held.{told_by, IsReading}
@@ -111,3 +111,14 @@ stored_in made = all_stored made.finished.items made.unfinished
 abbrev pub CanMake : List ℕ → MemFiles → Type 0
 CanMake name made =
     (¬ HasName (made_of made) name) × (length name ≤ 64) × (0 < (files_left made).files)
+
+-- a call that failed read nothing, and was counted
+pub record HasNotRead (old new : MemInputs) : Type 0 where
+  pub told : told_of new ≡ told_of old
+  pub calls : calls_of new ≡ after_fault (calls_of old)
+
+-- one that failed made nothing and took no room, and was counted
+pub record HasNotMade (old new : MemFiles) : Type 0 where
+  pub made : made_of new ≡ made_of old
+  pub left : files_left new ≡ files_left old
+  pub calls : files_calls new ≡ after_fault (files_calls old)

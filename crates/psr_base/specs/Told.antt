@@ -1,6 +1,6 @@
 -- What an object of inputs tells of its files, and how reading moves it.
 -- Source: this project's choice.
-use Rattle.std.specs.Prelude.{◌≡◌, ◌≢◌, ℕ, ◌+◌, ◌<◌, ◌≤◌, ◌==◌, ◌||◌, nat_lt, Bool, true, false, min, List, [], ◌++◌, length, take, drop, Option, Some, None, option_to_list, refl}
+use Rattle.std.specs.Prelude.{◌≡◌, ◌≢◌, ℕ, ◌+◌, ◌<◌, ◌≤◌, ◌==◌, ◌||◌, ◌⊎◌, nat_lt, Bool, true, false, min, List, [], ◌++◌, length, take, drop, Option, Some, None, option_to_list, refl}
 use Rattle.std.specs.Coded.{Coded, code_by, coded×, coded_list, coded_ℕ, coded_bool}
 use Rattle.std.specs.Option.{option_map, option_and_then, ForSome}
 
@@ -77,6 +77,14 @@ read_by n told = read_on n (n == 0) told
 -- n bytes were read where so many fit, and fewer only at the end
 abbrev pub filled_by : ℕ → ℕ → Told → Told
 filled_by n size told = read_on n (nat_lt n size) told
+
+-- a fault came before n more bytes were read; no end was seen
+abbrev pub BreaksWithin : ℕ → Told → Told → Type 0
+BreaksWithin n old new = (k : ℕ) × (k < n) × (new ≡ moved_by k old)
+
+-- a fault came before n bytes were read of a name, which was not opened, or not read so far
+abbrev pub BreaksOff : ℕ → List ℕ → Told → Told → Type 0
+BreaksOff n name old new = (new ≡ old) ⊎ BreaksWithin n (opened name old) new
 
 -- what is left once n more bytes were read
 abbrev pub rest_after : ℕ → Option (List ℕ) → Option (List ℕ)

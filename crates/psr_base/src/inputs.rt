@@ -1,7 +1,7 @@
 // What a search reads from.
-ghost use Rattle.std.specs.Prelude.{◌≡◌, ◌≤◌, ◌<◌, ℕ, length, IfOk, OnOk, OnErr, IsOk, IsSome};
+ghost use Rattle.std.specs.Prelude.{◌≡◌, ◌≤◌, ◌<◌, ℕ, length, IfOk, OnOk, OnErr, IsOk, IsErr, IsSome};
 ghost use Rattle.std.specs.Option.{ForSome};
-ghost use Rattle.psr_base.specs.Count.{Rose};
+ghost use Rattle.psr_base.specs.Inputs.{HasReadFrom};
 ghost use Rattle.psr_base.specs.Told.{Told, left_to_read, opened, read_by, GivesNext};
 
 use crate::faults::Failed;
@@ -28,16 +28,12 @@ pub trait Inputs {
     fn open(&mut self, name: &str) -> Result<(), Failed>
         ensures opened { OnOk result (ForSome ((told self.old).bytes_under name.now)
             (λ _. told self.new ≡ opened name.now (told self.old))) }
-        ensures names { (told self.new).bytes_under ≡ (told self.old).bytes_under }
         ensures is_open { OnOk result (is_open self.new) }
-        ensures quiet { OnOk result (faults self.new ≡ faults self.old) }
 
-        ensures failed { OnErr result (Rose (faults self.old) (faults self.new)) }
         ensures unchanged { OnErr result (told self.new ≡ told self.old) }
         ensures still_open { OnErr result (is_open self.old → is_open self.new) }
 
-        ensures count { faults self.old ≤ faults self.new }
-        ensures calm { is_calm self.old → is_calm self.new }
+        ensures inputs { HasReadFrom told is_calm faults (IsErr result) self.old self.new }
         ensures serves { is_calm self.old
             → IsSome ((told self.old).bytes_under name.now) → IsOk result };
 
@@ -51,12 +47,9 @@ pub trait Inputs {
             (λ left. GivesNext left n into.new)) }
         ensures moved { IfOk result (λ n. told self.new ≡ read_by n (told self.old)) }
         ensures is_open { is_open self.new }
-        ensures quiet { OnOk result (faults self.new ≡ faults self.old) }
 
-        ensures failed { OnErr result (Rose (faults self.old) (faults self.new)) }
         ensures unchanged { OnErr result (told self.new ≡ told self.old) }
 
-        ensures count { faults self.old ≤ faults self.new }
-        ensures calm { is_calm self.old → is_calm self.new }
+        ensures inputs { HasReadFrom told is_calm faults (IsErr result) self.old self.new }
         ensures serves { is_calm self.old → IsOk result };
 }

@@ -121,9 +121,9 @@ impl MemFiles {
 
 impl Files for MemFiles {
     ghost use Rattle.std.specs.Prelude.{◌≡◌, ◌≤◌, ◌↔◌, length, IsOk, IfOk, OnOk, OnErr};
-    ghost use Rattle.psr_base.specs.Count.{FailsNext, after_call, after_fault};
+    ghost use Rattle.psr_base.specs.Count.{FailsNext, after_call};
     ghost use Rattle.psr_base.specs.Made.{with_new_file, longer_by, with_all_finished, less_a_file, less_bytes};
-    ghost use Rattle.psr_base.specs.InMemory.{made_of, files_left, files_calls, files_seen, CanMake, IsMaking};
+    ghost use Rattle.psr_base.specs.InMemory.{made_of, files_left, files_calls, files_seen, CanMake, IsMaking, HasNotMade};
 
     ghost seen = { files_seen };
 
@@ -138,9 +138,7 @@ impl Files for MemFiles {
         ensures left { OnOk result (files_left self.new ≡ less_a_file (files_left self.old)) }
         ensures called { OnOk result (files_calls self.new ≡ after_call (files_calls self.old)) }
         ensures is_open { OnOk result (IsMaking self.new) }
-        ensures unchanged { OnErr result (made_of self.new ≡ made_of self.old) }
-        ensures left_stays { OnErr result (files_left self.new ≡ files_left self.old) }
-        ensures failed { OnErr result (files_calls self.new ≡ after_fault (files_calls self.old)) }
+        ensures failed { OnErr result (HasNotMade self.old self.new) }
         ensures still_closed { OnErr result (¬ IsMaking self.new) }
         ensures count { (files_calls self.old).faults ≤ (files_calls self.new).faults }
     {
@@ -164,9 +162,7 @@ impl Files for MemFiles {
         ensures left { OnOk result
             (files_left self.new ≡ less_bytes (length bytes.now) (files_left self.old)) }
         ensures called { OnOk result (files_calls self.new ≡ after_call (files_calls self.old)) }
-        ensures unchanged { OnErr result (made_of self.new ≡ made_of self.old) }
-        ensures left_stays { OnErr result (files_left self.new ≡ files_left self.old) }
-        ensures failed { OnErr result (files_calls self.new ≡ after_fault (files_calls self.old)) }
+        ensures failed { OnErr result (HasNotMade self.old self.new) }
         ensures still_open { IsMaking self.new }
         ensures count { (files_calls self.old).faults ≤ (files_calls self.new).faults }
     {
@@ -195,8 +191,7 @@ impl Files for MemFiles {
         ensures left { files_left self.new ≡ files_left self.old }
         ensures called { OnOk result (files_calls self.new ≡ after_call (files_calls self.old)) }
         ensures closed { OnOk result (¬ IsMaking self.new) }
-        ensures unchanged { OnErr result (made_of self.new ≡ made_of self.old) }
-        ensures failed { OnErr result (files_calls self.new ≡ after_fault (files_calls self.old)) }
+        ensures failed { OnErr result (HasNotMade self.old self.new) }
         ensures still_open { OnErr result (IsMaking self.new) }
         ensures count { (files_calls self.old).faults ≤ (files_calls self.new).faults }
     {

@@ -49,9 +49,9 @@ impl MemInputs {
 
 impl Inputs for MemInputs {
     ghost use Rattle.std.specs.Prelude.{◌≡◌, ◌<◌, ◌≤◌, ◌-◌, ◌↔◌, min, length, [], None, Some, IsSome, IsOk, IfOk, OnOk, OnErr, unwrap_or};
-    ghost use Rattle.psr_base.specs.Count.{FailsNext, after_call, after_fault};
+    ghost use Rattle.psr_base.specs.Count.{FailsNext, after_call};
     ghost use Rattle.psr_base.specs.Told.{opened, read_by, left_to_read, GivesNext};
-    ghost use Rattle.psr_base.specs.InMemory.{told_of, calls_of, IsOpen};
+    ghost use Rattle.psr_base.specs.InMemory.{told_of, calls_of, IsOpen, HasNotRead};
 
     ghost told = { told_of };
 
@@ -67,8 +67,7 @@ impl Inputs for MemInputs {
         ensures opened { OnOk result (told_of self.new ≡ opened name.now (told_of self.old)) }
         ensures is_open { OnOk result (IsOpen self.new) }
         ensures called { OnOk result (calls_of self.new ≡ after_call (calls_of self.old)) }
-        ensures unchanged { OnErr result (told_of self.new ≡ told_of self.old) }
-        ensures failed { OnErr result (calls_of self.new ≡ after_fault (calls_of self.old)) }
+        ensures failed { OnErr result (HasNotRead self.old self.new) }
         ensures count { (calls_of self.old).faults ≤ (calls_of self.new).faults }
     {
         self.calls.begin()?;
@@ -90,8 +89,7 @@ impl Inputs for MemInputs {
         ensures moved { IfOk result (λ n. told_of self.new ≡ read_by n (told_of self.old)) }
         ensures is_open { IsOpen self.new }
         ensures called { OnOk result (calls_of self.new ≡ after_call (calls_of self.old)) }
-        ensures unchanged { OnErr result (told_of self.new ≡ told_of self.old) }
-        ensures failed { OnErr result (calls_of self.new ≡ after_fault (calls_of self.old)) }
+        ensures failed { OnErr result (HasNotRead self.old self.new) }
         ensures count { (calls_of self.old).faults ≤ (calls_of self.new).faults }
     {
         self.calls.begin()?;

@@ -2,7 +2,7 @@
 ghost use Rattle.std.specs.Prelude.{◌≡◌, ◌≢◌, ◌≤◌, ◌<◌, ℕ, length, vec_len, Err, IfOk, OnErr, IsOk, IsErr, IsSome};
 ghost use Rattle.std.specs.Option.{ForSome};
 ghost use Rattle.psr_base.specs.Inputs.{HasReadFrom};
-ghost use Rattle.psr_base.specs.Told.{left_to_read, rest_after, moved_by, at_end, filled_by, FillsFrom, ReadsJoin, OfFile};
+ghost use Rattle.psr_base.specs.Told.{left_to_read, rest_after, moved_by, at_end, filled_by, BreaksWithin, FillsFrom, ReadsJoin, OfFile};
 
 use crate::faults::Failed;
 use crate::inputs::Inputs;
@@ -22,8 +22,8 @@ pub fn fill<I: Inputs>(inputs: &mut I, into: &mut [u8]) -> Result<usize, Failed>
         I.told inputs.new ≡ filled_by n (length into.new) (I.told inputs.old)) }
     ensures left { IfOk result (λ n. left_to_read (I.told inputs.new)
         ≡ rest_after n (left_to_read (I.told inputs.old))) }
-    ensures lost { OnErr result ((k : ℕ) × (k < length into.new)
-        × (I.told inputs.new ≡ moved_by k (I.told inputs.old))) }
+    ensures lost { OnErr result
+        (BreaksWithin (length into.new) (I.told inputs.old) (I.told inputs.new)) }
 
     ensures inputs { HasReadFrom I.told I.is_calm I.faults (IsErr result) inputs.old inputs.new }
     ensures is_open { I.is_open inputs.new }

@@ -27,8 +27,8 @@ loop-filled-preserved g c =
             more_within f n left so_far.1 next.within,
           );
       is_open = c.read.ensures.is_open;
-      quiet = c.in_ok-n.ensures.quiet ∙ before.quiet;
-      calm = λ h. c.read.ensures.calm (before.calm h);
+      quiet = (c.read.ensures.inputs.quiet (search rules)) ∙ before.quiet;
+      calm = λ h. c.read.ensures.inputs.calm (before.calm h);
     }
 
 pub returns-then-n-eq0-clause-filled : goal.returns-then-n-eq0-clause-filled

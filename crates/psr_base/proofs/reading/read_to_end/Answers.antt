@@ -1,4 +1,4 @@
-use Rattle.std.proofs.Common.{◌≡◌, ◌+◌, ℕ, List, Some, length, drop, vec_len, Ok, Err, OnErr, refl, ◌∙◌, ap, arith}
+use Rattle.std.proofs.Common.{◌≡◌, ◌+◌, ℕ, List, Some, length, drop, vec_len, Ok, Err, OnErr, refl, ◌∙◌, ap, arith, rules}
 use Rattle.std.proofs.lemmas.List.{take_all, length-take-le}
 use Rattle.psr_base.specs.Told.{Told, left_to_read, rest_after, moved_by, at_end}
 use Rattle.psr_base.proofs.Laws.{moved_by-moved_by, left_to_read-moved_by, read_by-some, read_by-none}
@@ -45,8 +45,8 @@ loop-piece-preserved g c =
             omega (arith, longer, more),
           );
       is_open = c.read.ensures.is_open;
-      quiet = c.in_ok-n.ensures.quiet ∙ before.quiet;
-      calm = λ h. c.read.ensures.calm (before.calm h);
+      quiet = (c.read.ensures.inputs.quiet (search rules)) ∙ before.quiet;
+      calm = λ h. c.read.ensures.inputs.calm (before.calm h);
     }
 
 pub returns-in_err-extend_from_slice-clause-lost : goal.returns-in_err-extend_from_slice-clause-lost
