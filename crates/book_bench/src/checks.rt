@@ -11,8 +11,7 @@ use arrayvec::ArrayVec;
 use candidate_book::{Book, Candidate};
 use obs_plan::Observation;
 // A law: it does nothing when it runs, and the proofs use what it ensures.
-use search_model::order_is_strict;
-use transfer_text::MOST_SHARDS;
+use search_model::{MOST_SHARDS, order_is_strict};
 
 const WIDTHS: [u32; 6] = [1, 2, 4, 8, 16, 32];
 

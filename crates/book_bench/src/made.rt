@@ -4,8 +4,8 @@ use candidate_book::{Book, Candidate};
 use dada_header::Header;
 use obs_plan::Observation;
 use psr_base::Memory;
+use search_model::MOST_SHARDS;
 use std::alloc::Global;
-use transfer_text::MOST_SHARDS;
 
 const HEADER: &str = "HDR_SIZE 4096
 NCHAN 2

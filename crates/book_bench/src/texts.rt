@@ -6,9 +6,10 @@ use arrayvec::ArrayVec;
 use candidate_book::{Book, SinkStop, Totals, write_merged};
 use obs_plan::Observation;
 use psr_base::{MemSink, RealSink, Sink};
+use search_model::MOST_SHARDS;
 use std::alloc::Global;
 use std::io;
-use transfer_text::{MOST_SHARDS, write_texts};
+use transfer_text::write_texts;
 
 /// Writes the text of books, if they can be merged: how much there is, if that succeeded.
 pub fn write_text<K: Sink>(

@@ -7,6 +7,7 @@ use crate::hdu::Hdu;
 use crate::passes::HduWriter;
 use arrayvec::ArrayVec;
 use ring_ends::{EndedReader, Finished};
+use ring_words::MOST_READERS;
 
 /// What went through the header ring, and what through the data ring (`blocks`).
 #[derive(Drop)]
@@ -31,10 +32,10 @@ fn both_of(ended: Option<HduEnded>) -> (Option<EndedReader>, Option<EndedReader>
 
 // The readers' passes of the header ring, and those of the data ring, at the same places.
 fn part(
-    mut readers: ArrayVec<Option<HduEnded>, 8>,
+    mut readers: ArrayVec<Option<HduEnded>, MOST_READERS>,
 ) -> (
-    ArrayVec<Option<EndedReader>, 8>,
-    ArrayVec<Option<EndedReader>, 8>,
+    ArrayVec<Option<EndedReader>, MOST_READERS>,
+    ArrayVec<Option<EndedReader>, MOST_READERS>,
 )
     ensures header { result.0.items ≡ header_ends readers.items }
     ensures blocks { result.1.items ≡ data_ends readers.items }
@@ -53,7 +54,11 @@ impl Hdu {
     ghost use Rattle.dada_hdu.specs.Ended.{AllReadersOfBoth, RingFinished};
 
     /// Ends both rings. The passes are all that they had, the readers in any order.
-    pub fn finish(self, writer: HduWriter, readers: ArrayVec<Option<HduEnded>, 8>) -> HduFinished
+    pub fn finish(
+        self,
+        writer: HduWriter,
+        readers: ArrayVec<Option<HduEnded>, MOST_READERS>,
+    ) -> HduFinished
         requires writer { WritesBoth self writer }
         requires readers { AllReadersOfBoth self readers.items }
         ensures header { RingFinished (header_ring self) writer.header header_end readers.items

@@ -11,6 +11,7 @@ use dada_header::Header;
 use dada_model::headers_are_text;
 use psr_base::Memory;
 use ring_ends::{BlockTaker, Mark, ReadStop, ReaderPass, Ring, RingShape, Taken, WriteStop};
+use ring_words::MOST_READERS;
 use std::alloc::Global;
 
 /// A header ring of 2 buffers of 65537 bytes, and a data ring. Both have the same readers, and carry as many blocks.
@@ -32,9 +33,9 @@ fn reader_of(header: Option<ReaderPass>, blocks: Option<ReaderPass>) -> Option<H
 
 // The readers of both rings, of which those at one place are one.
 fn readers_of(
-    mut headers: ArrayVec<Option<ReaderPass>, 8>,
-    mut blocks: ArrayVec<Option<ReaderPass>, 8>,
-) -> ArrayVec<Option<HduReader>, 8>
+    mut headers: ArrayVec<Option<ReaderPass>, MOST_READERS>,
+    mut blocks: ArrayVec<Option<ReaderPass>, MOST_READERS>,
+) -> ArrayVec<Option<HduReader>, MOST_READERS>
     requires { length headers.items ≡ length blocks.items }
     ensures count { length result.items ≡ length headers.items }
     ensures each { PairsEach headers.items blocks.items result.items }
@@ -58,7 +59,7 @@ impl Hdu {
     pub fn open(
         alloc: Global,
         shape: RingShape,
-    ) -> Result<(Hdu, HduWriter, ArrayVec<Option<HduReader>, 8>), Memory>
+    ) -> Result<(Hdu, HduWriter, ArrayVec<Option<HduReader>, MOST_READERS>), Memory>
         requires { IsRing shape }
         ensures shape { IfOk result (λ r. data_shape r.0 ≡ shape) }
         ensures writer { IfOk result (λ r. IsFreshWriter r.0 r.1) }

@@ -9,6 +9,7 @@ use crate::fault::BenchFault;
 use crate::threads::run_threads;
 use arrayvec::ArrayVec;
 use ring_ends::{EndedReader, Finished, ReaderPass, Ring, RingShape, WriterPass, order_is_enough};
+use ring_words::MOST_READERS;
 use std::alloc::{AllocError, Global};
 use std::thread::Threads;
 
@@ -37,7 +38,7 @@ fn open_job(
 fn open_jobs(
     alloc: Global,
     ring: &Ring,
-    mut readers: ArrayVec<Option<ReaderPass>, 8>,
+    mut readers: ArrayVec<Option<ReaderPass>, MOST_READERS>,
     manners: [Manner; 3],
     blocks: u64,
 ) -> Result<Vec<Job>, AllocError>
@@ -73,7 +74,10 @@ fn take_reader(ring: &Ring, done: &mut Vec<Done>, number: u32) -> Result<EndedRe
 }
 
 // All readers, each at the place of its number.
-fn gather(ring: &Ring, mut done: Vec<Done>) -> Result<ArrayVec<Option<EndedReader>, 8>, BenchFault>
+fn gather(
+    ring: &Ring,
+    mut done: Vec<Done>,
+) -> Result<ArrayVec<Option<EndedReader>, MOST_READERS>, BenchFault>
     requires { All (IsBack ring.now) done.items }
     ensures { IfOk result (λ readers. AreInOrder ring.now readers.items) }
 {
@@ -86,7 +90,11 @@ fn gather(ring: &Ring, mut done: Vec<Done>) -> Result<ArrayVec<Option<EndedReade
 }
 
 // Ends a ring whose readers stand at the places of their numbers.
-fn end(ring: Ring, writer: WriterPass, readers: ArrayVec<Option<EndedReader>, 8>) -> Finished
+fn end(
+    ring: Ring,
+    writer: WriterPass,
+    readers: ArrayVec<Option<EndedReader>, MOST_READERS>,
+) -> Finished
     requires writer { WritesTo ring writer }
     requires readers { AreInOrder ring readers.items }
     ensures { finished_shape result ≡ ring_shape ring }

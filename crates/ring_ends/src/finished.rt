@@ -10,13 +10,13 @@ ghost use Rattle.ring_ends.specs.Counted.{cleared_of};
 use crate::passes::{EndedReader, WriterPass};
 use crate::ring::Ring;
 use arrayvec::ArrayVec;
-use ring_words::WriterSeat;
+use ring_words::{MOST_READERS, WriterSeat};
 
 /// What went through a ring: a clause sees the blocks that were sealed and those that each reader cleared.
 #[derive(Drop)]
 pub struct Finished {
     seat: WriterSeat,
-    counts: [u64; 8],
+    counts: [u64; MOST_READERS],
     ghost few: { (writer_view seat).shape.readers ≤ 8 },
     ghost settled: { WriterSettled (writer_view seat) },
     ghost counted: { (i : ℕ) → i < (writer_view seat).shape.readers
@@ -33,7 +33,7 @@ impl Ring {
     pub fn finish(
         self,
         writer: WriterPass,
-        mut readers: ArrayVec<Option<EndedReader>, 8>,
+        mut readers: ArrayVec<Option<EndedReader>, MOST_READERS>,
     ) -> Finished
         requires writer { WritesTo self writer }
         requires readers { AllReaders self readers.items }
@@ -50,7 +50,7 @@ impl Ring {
     {
         let Ring { words } = self;
         let WriterPass { mut seat } = writer;
-        let mut counts = [0; 8];
+        let mut counts = [0; MOST_READERS];
         for _number in 0..words.shape().readers {
             let Some(ended) = readers.remove(0) else {
                 unreachable!()

@@ -6,7 +6,7 @@ use crate::passes::{ReaderPass, RetiredPass, WriterPass};
 use arrayvec::ArrayVec;
 use ring_blocks::{BlockTaker, Mark};
 use ring_core::Memory;
-use ring_words::{RingShape, Words};
+use ring_words::{MOST_READERS, RingShape, Words};
 use std::alloc::Global;
 
 /// A ring of blocks.
@@ -26,7 +26,7 @@ impl Ring {
     pub fn open(
         alloc: Global,
         shape: RingShape,
-    ) -> Result<(Ring, WriterPass, ArrayVec<Option<ReaderPass>, 8>), Memory>
+    ) -> Result<(Ring, WriterPass, ArrayVec<Option<ReaderPass>, MOST_READERS>), Memory>
         requires { IsRing shape }
         ensures shape { IfOk result (λ r. ring_shape r.0 ≡ shape) }
         ensures writer { IfOk result (λ r. WritesTo r.0 r.1

@@ -8,5 +8,5 @@ mod views;
 mod words;
 
 pub use seats::{ReaderSeat, WriterSeat};
-pub use shape::{RingShape, ShapeFault};
+pub use shape::{MOST_READERS, RingShape, ShapeFault};
 pub use words::Words;

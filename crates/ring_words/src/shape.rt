@@ -3,6 +3,9 @@ ghost use Rattle.std.specs.Prelude.{MatchResult};
 
 use thiserror::Error;
 
+/// How many readers a ring has at most.
+pub const MOST_READERS: usize = 8;
+
 /// The measures of a ring, which never change. `check` says whether they lie in their ranges: 2 to 64 buffers of 1 to
 /// 2^24 bytes, 1 to 8 readers, 1 to 2^59 - 1 blocks.
 #[derive(Clone, Copy, PartialEq, Eq, Debug)]

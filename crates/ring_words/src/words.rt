@@ -5,7 +5,7 @@ ghost use Rattle.ring_words.specs.Shape.{IsRing};
 
 use crate::plays::{Clear, Deal, Give, Look, Park, Retire, Seal, Try, WriterTake};
 use crate::seats::{ReaderSeat, WriterSeat};
-use crate::shape::RingShape;
+use crate::shape::{MOST_READERS, RingShape};
 use crate::views::{RingRule, View};
 use arrayvec::ArrayVec;
 use atomic_table::Table;
@@ -41,7 +41,14 @@ impl Words {
     pub fn open(
         alloc: Global,
         shape: RingShape,
-    ) -> Result<(Words, WriterSeat, ArrayVec<Option<ReaderSeat>, 8>), Memory>
+    ) -> Result<
+        (
+            Words,
+            WriterSeat,
+            ArrayVec<Option<ReaderSeat>, MOST_READERS>,
+        ),
+        Memory,
+    >
         requires { IsRing shape }
         ensures shape { IfOk result (λ r. shape_of r.0 ≡ shape) }
         ensures writer { IfOk result (λ r. Writes r.0 r.1

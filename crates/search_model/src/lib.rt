@@ -16,4 +16,4 @@ pub use laws::{
     samples_of_bytes, shards_merge, splits_fit, splits_step, sums_are_bounded, tests_detection,
     time_shifts, whole_band_is_path_sum,
 };
-pub use search::{MOST_DELAY, Search};
+pub use search::{MOST_DELAY, MOST_SHARDS, MOST_TRANSFERS, Search};

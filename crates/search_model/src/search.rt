@@ -4,6 +4,12 @@ ghost use Rattle.std.specs.Prelude.{◌≡◌, ◌↔◌, IsTrue};
 /// The longest delay of a search, in spectra.
 pub const MOST_DELAY: u32 = 8192;
 
+/// How many shards a search has at most.
+pub const MOST_SHARDS: usize = 7;
+
+/// How many transfers are read in one run at most.
+pub const MOST_TRANSFERS: usize = 8;
+
 // The longest period of a fold, in spectra.
 const LONGEST_PERIOD: u32 = 1_048_576;
 

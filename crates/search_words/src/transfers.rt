@@ -4,13 +4,11 @@ ghost use Rattle.std.specs.List.{list_all};
 ghost use Rattle.clap.specs.Walk.{texts};
 ghost use Rattle.search_words.specs.Transfers.{is_plus as is_plus_of, file_names, transfers_in, starts_in, files_fit as files_fit_of, has_names};
 
+use search_model::MOST_TRANSFERS;
 use std::alloc::{AllocError, Global};
 
 // The most names.
 const MOST_NAMES: usize = 65535;
-
-// The most transfers.
-const MOST_TRANSFERS: usize = 8;
 
 // Whether a word parts two transfers.
 fn is_plus(word: &str) -> bool

@@ -5,12 +5,12 @@ ghost use Rattle.search_model.specs.Search.{SettingsInRange};
 ghost use Rattle.transfer_text.specs.Searched.{ObservedTransfer, candidate_total};
 ghost use Rattle.transfer_text.specs.Found.{count_in as count_of, book_total, HoldTransfers, EndsText};
 
-use crate::texts::{MOST_SHARDS, write_texts};
+use crate::texts::write_texts;
 use arrayvec::ArrayVec;
 use candidate_book::Book;
 use obs_plan::Observation;
 use psr_base::Sink;
-use search_model::Search;
+use search_model::{MOST_SHARDS, Search};
 // Laws: they do nothing when they run, and the proofs use what they ensure.
 use search_model::{candidates_are_listed, candidates_rise, rising_lists_agree, shards_merge};
 use thiserror::Error;

@@ -7,4 +7,4 @@ mod texts;
 
 pub use found::{TextStop, write_found};
 pub use laws::{candidates_are_few, totals_are_counted};
-pub use texts::{MOST_SHARDS, write_texts};
+pub use texts::write_texts;

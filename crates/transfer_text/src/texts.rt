@@ -12,9 +12,7 @@ use psr_base::{Failed, Sink, write_all};
 use text_line::Line;
 // A law: it does nothing when it runs, and the proofs use what it ensures.
 use psr_base::pieces_join;
-
-/// How many shards a search has at most.
-pub const MOST_SHARDS: usize = 7;
+use search_model::MOST_SHARDS;
 
 // The line before the text of transfer k.
 #[tactic(auto, unfolding(crate::specs::Text::transfer_line))]
