@@ -1,35 +1,32 @@
 -- What a carry stands for, from call to call.
-use Rattle.std.proofs.Common.{◌≡◌, ℕ, ◌+◌, ◌-◌, ◌*◌, true, false, List, length, replicate, slice_index, arith, ap, sym, ◌∙◌, subst, refl, inl, inr}
+use Rattle.std.proofs.Common.{◌≡◌, ℕ, ◌+◌, ◌-◌, ◌*◌, true, false, List, length, slice_index, arith, ap, sym, ◌∙◌, subst, refl, inl, inr}
 use Rattle.std.proofs.lemmas.Bool.{cases_lt, false≢true}
 use Rattle.search_model.specs.Samples.{Filterbank}
-use Rattle.row_schedule.specs.Running.{Stores, Running, stores}
+use Rattle.row_schedule.specs.Running.{Stores, Running}
+use Rattle.row_schedule.specs.declared.stores.Sizes.{Sizes}
 use Rattle.row_schedule.specs.Laws.{NothingKept, RunningBegins, RunningEnds}
+use Rattle.row_schedule.specs.Sizes.{AreZeros}
 use Rattle.subband_plan.specs.Values.{AreAtMost, RowsBeginEmpty}
 use Rattle.fdmt_carry.specs.declared.passing.Passing.{Passing}
 use Rattle.fdmt_carry.specs.Tables.{Tables, AreTables, TablesStand, table_sums}
 use Rattle.fdmt_carry.specs.Passing.{AreKept, IsPassOf, stop_at}
 use Rattle.fdmt_carry.specs.Carrying.{Carrying, IsStream, IsBegun, IsFed, IsRowOn, IsSettled, AreNext, StandsForSamples, StandsMidway, carrying}
 use Rattle.fdmt_carry.specs.Making.{AreTaken, Fills, KeepsFor, MakesRow}
-
-pub same_stores : {a a' b b' c c' d d' : List ℕ} → a ≡ a' → b ≡ b' → c ≡ c' → d ≡ d' →
-    stores a b c d ≡ stores a' b' c' d'
-same_stores {a} {a'} {b} {b'} {c} {c'} {d} {d'} first second third fourth =
-    ap (λ (x : List ℕ). stores x b c d) first ∙ ap (λ (x : List ℕ). stores a' x c d) second
-    ∙ ap (λ (x : List ℕ). stores a' b' x d) third ∙ ap (λ (x : List ℕ). stores a' b' c' x) fourth
+use Rattle.fdmt_carry.proofs.Rooms.{same_stores}
 
 -- opened, it stands for each stream
-pub opened_stands : NothingKept → RowsBeginEmpty → (t : Tables) (pass : Passing) (limit max_sample n m : ℕ)
-    (a b kept_narrow kept : List ℕ) (f : Filterbank) → AreTables t → kept_narrow ≡ replicate n 0 →
-    kept ≡ replicate m 0 → IsStream t.plan max_sample f →
-    StandsForSamples (carrying t pass limit max_sample 0 0 false false 0 (stores a b kept_narrow kept)) f
+pub opened_stands : NothingKept → RowsBeginEmpty → (t : Tables) (pass : Passing) (limit max_sample : ℕ) (sizes : Sizes)
+    (st : Stores) (f : Filterbank) → AreTables t → AreZeros sizes st → IsStream t.plan max_sample f →
+    StandsForSamples (carrying t pass limit max_sample 0 0 false false 0 st) f
 unfolding NothingKept
-opened_stands nothing empty t pass limit max_sample n m a b kept_narrow kept f is narrow_zeros zeros stream = record {
+opened_stands nothing empty t pass limit max_sample sizes st f is zeros stream = record {
   stream = stream;
   small = λ channel u within early. absurd (omega arith);
   before = omega arith;
   kept = subst (λ (st : Stores). AreKept t pass f 0 st)
-      (same_stores {a = a} {b = b} refl refl (sym narrow_zeros) (sym zeros))
-      (nothing t.rows.rows pass.schedule.narrow (table_sums t f) a b n m (empty t.plan t.rows f is.plan is.rows));
+      (same_stores {a = st.narrow} {b = st.wide} refl refl (sym zeros.kept_narrow) (sym zeros.kept_wide))
+      (nothing t.rows.rows pass.schedule.narrow (table_sums t f) st.narrow st.wide sizes.kept sizes.kept
+      (empty t.plan t.rows f is.plan is.rows));
   nodes = λ has. absurd (false≢true has);
 }
 
@@ -79,21 +76,14 @@ taken_stands c spectra new samples f is fills stands next small =
     }
 
 -- by another pass
-pub settled_stands : (c : Carrying) (next : Passing) (a b kept_narrow kept narrowed widened : List ℕ)
-    (f : Filterbank) → IsPassOf c.tables c.max_sample next →
-    KeepsFor c.tables c.pass next kept_narrow kept narrowed widened →
-    StandsForSamples (record c { stores = stores a b kept_narrow kept }) f →
-    StandsForSamples (record c {
-      pass = next;
-      limit = c.max_sample;
-      has_tables = false;
-      stores = stores a b narrowed widened;
-    }) f
-settled_stands c next a b kept_narrow kept narrowed widened f is keeps stands = record {
+pub settled_stands : (c : Carrying) (next : Passing) (new : Stores) (f : Filterbank) →
+    IsPassOf c.tables c.max_sample next → KeepsFor c.tables c.pass next c.stores new → StandsForSamples c f →
+    StandsForSamples (record c { pass = next; limit = c.max_sample; has_tables = false; stores = new }) f
+settled_stands c next new f is keeps stands = record {
   stream = stands.stream;
   small = λ channel t within early. stands.stream.small channel t;
   before = stands.before;
-  kept = keeps f c.max_sample c.fed a b (record {
+  kept = keeps f c.max_sample c.fed (record {
     pass_is = is;
     channels = stands.stream.channels;
     small = λ channel t within early. stands.stream.small channel t;

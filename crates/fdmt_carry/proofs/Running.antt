@@ -1,13 +1,14 @@
 -- What schedules leave of tables.
-use Rattle.std.proofs.Common.{◌≡◌, ℕ, ◌+◌, false, Bool, List, length, arith, sym, ◌∙◌, subst}
+use Rattle.std.proofs.Common.{◌≡◌, ℕ, ◌+◌, false, Bool, List, length, arith, sym, ◌∙◌, subst, refl}
 use Rattle.std.proofs.lemmas.Bool.{false≢true}
 use Rattle.search_model.specs.Samples.{Filterbank}
 use Rattle.row_model.specs.declared.Rows.{Rows}
 use Rattle.row_model.specs.Sums.{Sums, AddUp, Fit, is_narrow}
 use Rattle.row_schedule.specs.Samples.{AreNext}
+use Rattle.row_schedule.specs.Moving.{SlotsStay}
 use Rattle.row_schedule.specs.Schedules.{Scheduled}
 use Rattle.row_schedule.specs.Follows.{Follows}
-use Rattle.row_schedule.specs.Running.{Stores, Kept, Running, stores}
+use Rattle.row_schedule.specs.Running.{Stores, Kept, Running}
 use Rattle.row_schedule.specs.Laws.{RunningBegins, RunningEnds}
 use Rattle.subband_plan.specs.Values.{RowsAddUp, RowsAreBounded}
 use Rattle.fdmt_carry.specs.declared.passing.Passing.{Passing}
@@ -16,6 +17,7 @@ use Rattle.fdmt_carry.specs.Tables.{Tables, AreTables, AreSamples, IsScheduled, 
 use Rattle.fdmt_carry.specs.Passing.{stop_at}
 use Rattle.fdmt_carry.specs.Making.{AreFit, Fills, KeepsFor, MakesRow}
 use Rattle.fdmt_carry.proofs.Narrow.{none_narrow}
+use Rattle.fdmt_carry.proofs.Rooms.{same_stores}
 
 -- what a schedule does between two orders
 abbrev pub Ran : Scheduled → ℕ → ℕ → ℕ → List ℕ → Stores → Stores → Type 0
@@ -57,64 +59,48 @@ row_made adds bounded t pass d spectra from to samples old new is from_is to_is 
     (samples_next t pass.schedule f t.chunk u spectra samples runs taken.samples_are) before)
 
 -- what is kept in 16 bits, written in 32 bits, and back
-abbrev pub Widens : Rows → List Bool → List ℕ → List ℕ → List ℕ → Type 0
-Widens rows narrow kept_narrow old new = (none : List Bool) (y : Sums) (u : ℕ) (a b : List ℕ) →
-    ((r : ℕ) → is_narrow none r ≡ false) → Kept rows narrow y u (stores a b kept_narrow old) →
-    Kept rows none y u (stores a b kept_narrow new)
+abbrev pub Widens : Rows → List Bool → Stores → Stores → Type 0
+Widens rows narrow old new = (none : List Bool) (y : Sums) (u : ℕ) → ((r : ℕ) → is_narrow none r ≡ false) →
+    Kept rows narrow y u old → Kept rows none y u new
 
-abbrev pub Narrows : Rows → List Bool → List ℕ → List ℕ → List ℕ → Type 0
-Narrows rows narrow kept_wide old new = (none : List Bool) (y : Sums) (u : ℕ) (a b : List ℕ) →
-    ((r : ℕ) → is_narrow none r ≡ false) → Fit narrow y u → Kept rows none y u (stores a b old kept_wide) →
-    Kept rows narrow y u (stores a b new kept_wide)
+abbrev pub Narrows : Rows → List Bool → Stores → Stores → Type 0
+Narrows rows narrow old new = (none : List Bool) (y : Sums) (u : ℕ) → ((r : ℕ) → is_narrow none r ≡ false) →
+    Fit narrow y u → Kept rows none y u old → Kept rows narrow y u new
 
 -- what is kept for one pass, written for another
-pub kept_for : RowsAreBounded → (t : Tables) (pass next : Passing) (kept_narrow kept widened narrowed : List ℕ) →
-    AreTables t → Widens t.rows.rows pass.schedule.narrow kept_narrow kept widened →
-    Narrows t.rows.rows next.schedule.narrow widened kept_narrow narrowed →
-    KeepsFor t pass next kept_narrow kept narrowed widened
-kept_for bounded t pass next kept_narrow kept widened narrowed is widens narrows f m u a b fit before =
+pub kept_for : RowsAreBounded → (t : Tables) (pass next : Passing) (old widened new : Stores) → AreTables t →
+    Widens t.rows.rows pass.schedule.narrow old widened → Narrows t.rows.rows next.schedule.narrow widened new →
+    KeepsFor t pass next old new
+kept_for bounded t pass next old widened new is widens narrows f m u fit before =
     let y = table_sums t f in
     let none = t.plain.narrow in
     let wide = none_narrow _ none is.plain.narrow in
-    narrows none y u a b wide (sums_fit bounded t next f m u is fit) (widens none y u a b wide before)
+    narrows none y u wide (sums_fit bounded t next f m u is fit) (widens none y u wide before)
 
--- the lists before a call that makes the tables of all nodes, after what is kept was widened, after all orders, and
--- after what is kept was narrowed
-pub record Lists : Type 0 where
-  pub narrow : List ℕ
-  pub wide : List ℕ
-  pub kept_narrow : List ℕ
-  pub kept : List ℕ
-  pub widened : List ℕ
-  pub ran_narrow : List ℕ
-  pub ran_wide : List ℕ
-  pub ran_kept_narrow : List ℕ
-  pub ran_kept : List ℕ
-  pub narrowed : List ℕ
-
+-- the tables of all nodes: what is kept was widened, all orders were carried out, and what is kept was narrowed
 pub filled : RowsAddUp → RowsAreBounded → RunningBegins → RunningEnds → (t : Tables) (pass : Passing)
-    (spectra : ℕ) (samples : List ℕ) (x : Lists) → AreTables t →
-    Widens t.rows.rows pass.schedule.narrow x.kept_narrow x.kept x.widened →
-    Ran t.plain spectra 0 (length t.plain.orders) samples (stores x.narrow x.wide x.kept_narrow x.widened)
-    (stores x.ran_narrow x.ran_wide x.ran_kept_narrow x.ran_kept) →
-    Narrows t.rows.rows pass.schedule.narrow x.ran_kept x.ran_kept_narrow x.narrowed →
-    Fills t pass spectra samples (stores x.narrow x.wide x.kept_narrow x.kept)
-    (stores x.ran_narrow x.ran_wide x.narrowed x.ran_kept)
+    (spectra : ℕ) (samples : List ℕ) (old widened ran new : Stores) → AreTables t →
+    Widens t.rows.rows pass.schedule.narrow old widened →
+    Ran t.plain spectra 0 (length t.plain.orders) samples widened ran →
+    Narrows t.rows.rows pass.schedule.narrow ran new → SlotsStay ran new → new.kept_wide ≡ ran.kept_wide →
+    Fills t pass spectra samples old new
 unfolding RunningBegins RunningEnds
-filled adds bounded begins ends t pass spectra samples x is widens ran narrows f m u taken kept =
+filled adds bounded begins ends t pass spectra samples old widened ran new is widens runs narrows stays wide_stays f m u
+    taken kept =
     let y = table_sums t f in
     let rows = t.rows.rows in
     let s = t.plain in
     let wide = none_narrow _ s.narrow is.plain.narrow in
-    let widened = widens s.narrow y u x.narrow x.wide wide kept in
-    let running = ran rows f.value y u is.plain.runs.follows
+    let running = runs rows f.value y u is.plain.runs.follows
     (adds t.plan t.rows f is.plan is.rows taken.fit.channels) (wide_fit s.narrow y (u + spectra) wide)
     (samples_next t s f t.most u spectra samples is.plain.runs taken.samples_are)
-    (begins rows s y u spectra (stores x.narrow x.wide x.kept_narrow x.widened) widened) in
-    let after = ends rows s y u spectra (stores x.ran_narrow x.ran_wide x.ran_kept_narrow x.ran_kept)
-    is.plain.runs.follows running in
+    (begins rows s y u spectra widened (widens s.narrow y u wide kept)) in
+    let after = ends rows s y u spectra ran is.plain.runs.follows running in
     record {
-      kept = narrows s.narrow y (u + spectra) x.ran_narrow x.ran_wide wide
-          (sums_fit bounded t pass f m (u + spectra) is taken.fit) after;
-      stands = record { kept_narrow = x.ran_kept_narrow; made = running };
+      kept = narrows s.narrow y (u + spectra) wide (sums_fit bounded t pass f m (u + spectra) is taken.fit) after;
+      stands = record {
+        kept_narrow = ran.kept_narrow;
+        made = subst (λ (st : Stores). Running rows s y u spectra (length s.orders) st)
+            (same_stores (sym stays.narrow) (sym stays.wide) refl (sym wide_stays)) running;
+      };
     }

@@ -2,6 +2,5 @@ pub mod Orders
 pub mod Plain
 pub mod Tables
 pub mod Passing
-pub mod Sizes
 pub mod Carrying
 pub mod Making

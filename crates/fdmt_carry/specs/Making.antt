@@ -4,7 +4,7 @@ use Rattle.std.specs.Prelude.{◌≡◌, ℕ, ◌+◌, ◌*◌, ◌^◌, ◌<◌
 use Rattle.band_paths.specs.Edges.{channels_of}
 use Rattle.row_model.specs.Sums.{is_narrow}
 use Rattle.row_schedule.specs.Orders.{order_at}
-use Rattle.row_schedule.specs.Running.{Stores, stores}
+use Rattle.row_schedule.specs.Running.{Stores}
 use Rattle.search_model.specs.Samples.{Filterbank}
 use Rattle.search_model.specs.Sums.{path_sum}
 use Rattle.search_model.specs.Subbands.{node_sum}
@@ -47,10 +47,9 @@ MakesRow t pass d spectra samples old new = (f : Filterbank) (m u : ℕ) →
     IsPassing t pass f u spectra (d + 1) new
 
 -- what was kept for one pass is kept for another
-abbrev pub KeepsFor : Tables → Passing → Passing → List ℕ → List ℕ → List ℕ → List ℕ → Type 0
-KeepsFor t pass next narrow wide narrow' wide' = (f : Filterbank) (m u : ℕ) (a b : List ℕ) →
-    AreFit t next f m u → AreKept t pass f u (stores a b narrow wide) →
-    AreKept t next f u (stores a b narrow' wide')
+abbrev pub KeepsFor : Tables → Passing → Passing → Stores → Stores → Type 0
+KeepsFor t pass next old new = (f : Filterbank) (m u : ℕ) → AreFit t next f m u →
+    AreKept t pass f u old → AreKept t next f u new
 
 -- where no sample is above m, no sum passes 32 bits
 abbrev pub SumsFit : Tables → ℕ → Type 0

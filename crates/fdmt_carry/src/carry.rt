@@ -1,7 +1,6 @@
 // Tables that are carried from chunk to chunk.
 ghost use Rattle.std.specs.Prelude.{◌≡◌, ℕ, ◌+◌, ◌-◌, ◌*◌, ◌^◌, ◌<◌, ◌≤◌, true, false, length, slice_index, None, IfOk};
 ghost use Rattle.band_paths.specs.Edges.{channels_of};
-ghost use Rattle.row_schedule.specs.Running.{stores};
 ghost use Rattle.row_schedule.specs.Samples.{values_of};
 ghost use Rattle.search_model.specs.Samples.{Filterbank};
 ghost use Rattle.search_model.specs.Sums.{path_sum};
@@ -11,11 +10,11 @@ ghost use Rattle.subband_plan.specs.Values.{AreAtMost};
 ghost use Rattle.fdmt_carry.specs.Tables.{node_of, node_count};
 ghost use Rattle.fdmt_carry.specs.Carrying.{Carrying, AreThere, IsOpened, IsFed, IsBegun, IsRowOn, IsStream, AreNext, IsSettled, StandsForSamples, StandsMidway, IsSound, HasSpare, carrying};
 
-use crate::opening::{Lists, Passes};
+use crate::opening::Passes;
 use crate::passing::Passing;
 use crate::tables::Tables;
 use psr_base::Memory;
-use row_schedule::{Samples, nothing_kept, running_begins, running_ends};
+use row_schedule::{Samples, Stores, nothing_kept, running_begins, running_ends};
 use search_model::whole_band_is_path_sum;
 use std::alloc::Global;
 use std::marker::Model;
@@ -29,8 +28,8 @@ use subband_plan::{Plan, plans_are_laid, rows_begin_empty};
 /// read, as they are made, one after another by their delays: `begin`, `make_row` for each delay, with `made` to read
 /// the row, and `finish`.
 ///
-/// A pass for small samples serves until a greater one comes, and then one for all samples. No clause says which rows
-/// have 16 bits.
+/// A pass for small samples serves until a greater one comes, and then one for all samples; where few samples are so
+/// small, that one serves from the start. No clause says which rows have 16 bits.
 #[derive(Drop)]
 pub struct Carry {
     tables: Tables,
@@ -43,25 +42,19 @@ pub struct Carry {
     has_tables: bool,
     is_passing: bool,
     next: u32,
-    narrow: Vec<u16>,
-    values: Vec<u32>,
-    kept_narrow: Vec<u16>,
-    kept: Vec<u32>,
+    stores: Stores,
 }
 
 impl Model for Carry {
     ghost Value = { Carrying };
 
     ghost view = { λ c. carrying c.tables c.pass c.limit c.max_sample c.fed c.last c.has_tables
-        c.is_passing c.next
-        (stores c.narrow.items c.values.items c.kept_narrow.items c.kept.items) };
+        c.is_passing c.next c.stores };
 
     ghost invariant = { λ c. IsSound (carrying c.tables c.pass c.limit c.max_sample c.fed c.last
-        c.has_tables c.is_passing c.next
-        (stores c.narrow.items c.values.items c.kept_narrow.items c.kept.items))
+        c.has_tables c.is_passing c.next c.stores)
         × HasSpare (carrying c.tables c.pass c.limit c.max_sample c.fed c.last c.has_tables
-        c.is_passing c.next
-        (stores c.narrow.items c.values.items c.kept_narrow.items c.kept.items)) c.spare };
+        c.is_passing c.next c.stores) c.spare };
 }
 
 impl Carry {
@@ -98,15 +91,9 @@ impl Carry {
         rows_begin_empty();
         let tables = Tables::of(alloc, plan, chunk, most)?;
         let passes = Passes::of(alloc, &tables, max_sample)?;
-        let lists = Lists::zeros(alloc, passes.sizes(tables.plain()))?;
+        let stores = Stores::zeros(alloc, passes.sizes(tables.plain()))?;
         tables.hold();
         let Passes { pass, limit, spare } = passes;
-        let Lists {
-            narrow,
-            values,
-            kept_narrow,
-            kept,
-        } = lists;
         Ok(Carry {
             tables,
             pass,
@@ -118,10 +105,7 @@ impl Carry {
             has_tables: false,
             is_passing: false,
             next: 0,
-            narrow,
-            values,
-            kept_narrow,
-            kept,
+            stores,
         })
     }
 
@@ -171,15 +155,8 @@ impl Carry {
             → AreAtMost f (self.old.fed + spectra) self.old.limit → StandsForSamples self.new f }
     {
         self.tables.hold();
-        self.tables.fill(
-            &self.pass,
-            self.narrow.as_mut_slice(),
-            self.values.as_mut_slice(),
-            self.kept_narrow.as_mut_slice(),
-            self.kept.as_mut_slice(),
-            samples,
-            spectra as usize,
-        );
+        self.tables
+            .fill(&self.pass, &mut self.stores, samples, spectra as usize);
         self.fed += u64::from(spectra);
         self.last = spectra;
         self.has_tables = true;
@@ -214,12 +191,7 @@ impl Carry {
             unreachable!();
         };
         self.tables.hold();
-        self.tables.keep_for(
-            &self.pass,
-            &spare,
-            self.kept_narrow.as_mut_slice(),
-            self.kept.as_mut_slice(),
-        );
+        self.tables.keep_for(&self.pass, &spare, &mut self.stores);
         self.pass = spare;
         self.limit = self.max_sample;
     }
@@ -257,10 +229,7 @@ impl Carry {
         self.tables.make_row(
             &self.pass,
             self.next,
-            self.narrow.as_mut_slice(),
-            self.values.as_mut_slice(),
-            self.kept_narrow.as_mut_slice(),
-            self.kept.as_mut_slice(),
+            &mut self.stores,
             samples,
             self.last as usize,
         );
@@ -276,12 +245,7 @@ impl Carry {
             → slice_index result.now k
             ≡ path_sum f self.now.tables.plan.edges (self.now.fed + k) (self.now.next - 1) }
     {
-        self.tables.made(
-            &self.pass,
-            self.next - 1,
-            self.values.as_slice(),
-            self.last as usize,
-        )
+        self.tables.made(&self.pass, self.next - 1, &self.stores, self.last as usize)
     }
 
     /// Ends the pass, all rows of which were made.
@@ -385,7 +349,6 @@ impl Carry {
             ≡ node_sum f self.now.tables.plan.edges (node_of self.now.tables k).lo
             (node_of self.now.tables k).hi d (self.now.fed - self.now.last + i) 0 }
     {
-        self.tables
-            .table(k, d, self.values.as_slice(), self.last as usize)
+        self.tables.table(k, d, &self.stores, self.last as usize)
     }
 }

@@ -10,7 +10,6 @@ mod numbers;
 mod opening;
 mod passing;
 mod plain;
-mod sizes;
 mod tables;
 
 pub use carry::Carry;

@@ -1,13 +1,12 @@
-// What a carry has beside its tables: the schedules of its passes, and the lists that schedules work on.
-ghost use Rattle.std.specs.Prelude.{◌≡◌, ◌≢◌, ◌<◌, replicate, None, IfOk, IfSome};
+// What a carry has beside its tables: the schedules of its passes.
+ghost use Rattle.std.specs.Prelude.{◌≢◌, ◌<◌, None, IfOk, IfSome};
+ghost use Rattle.row_schedule.specs.Sizes.{AreEnough};
 ghost use Rattle.fdmt_carry.specs.Passing.{IsPassOf};
-ghost use Rattle.fdmt_carry.specs.Sizes.{AreEnough, AreZeros};
 
 use crate::passing::Passing;
-use crate::sizes::{Sizes, sizes_of, spare_sizes};
 use crate::tables::Tables;
 use psr_base::Memory;
-use row_schedule::Schedule;
+use row_schedule::{Schedule, Sizes};
 use std::alloc::Global;
 
 /// A pass for samples up to a limit, and one for all samples where some may be greater.
@@ -37,7 +36,7 @@ impl Passes {
         ensures pass { AreEnough self.now.pass.schedule result }
         ensures spare { IfSome self.now.spare (λ pass. AreEnough pass.schedule result) }
     {
-        let both = sizes_of(plain).most(sizes_of(&self.pass.schedule));
+        let both = plain.sizes().most(self.pass.schedule.sizes());
         both.most(spare_sizes(&self.spare))
     }
 }
@@ -58,39 +57,16 @@ fn spare_pass(
     Ok(Some(tables.passing(alloc, max_sample)?))
 }
 
-/// The lists that schedules work on: rows in slots of 16 and of 32 bits, and what is kept of them.
-#[derive(Drop)]
-pub struct Lists {
-    pub narrow: Vec<u16>,
-    pub values: Vec<u32>,
-    pub kept_narrow: Vec<u16>,
-    pub kept: Vec<u32>,
-}
-
-impl Lists {
-    /// Lists of zeros.
-    pub fn zeros(alloc: Global, sizes: Sizes) -> Result<Lists, Memory>
-        ensures { IfOk result (AreZeros sizes) }
-    {
-        Ok(Lists {
-            narrow: narrow_zeros(alloc, sizes.narrow)?,
-            values: zeros(alloc, sizes.wide)?,
-            kept_narrow: narrow_zeros(alloc, sizes.kept)?,
-            kept: zeros(alloc, sizes.kept)?,
-        })
+// As many values as the schedule of a pass needs, where there is one.
+fn spare_sizes(spare: &Option<Passing>) -> Sizes
+    ensures { IfSome spare.now (λ pass. AreEnough pass.schedule result) }
+{
+    match spare {
+        Some(pass) => pass.schedule.sizes(),
+        None => Sizes {
+            narrow: 0,
+            wide: 0,
+            kept: 0,
+        },
     }
-}
-
-// So many zeros.
-fn zeros(alloc: Global, count: usize) -> Result<Vec<u32>, Memory>
-    ensures { IfOk result (λ v. v.items ≡ replicate count 0) }
-{
-    Ok(vec![in alloc; 0; count]?)
-}
-
-// So many zeros of 16 bits.
-fn narrow_zeros(alloc: Global, count: usize) -> Result<Vec<u16>, Memory>
-    ensures { IfOk result (λ v. v.items ≡ replicate count 0) }
-{
-    Ok(vec![in alloc; 0; count]?)
 }

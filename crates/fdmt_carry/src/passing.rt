@@ -17,6 +17,9 @@ use subband_plan::{Node, Plan, PlanRows};
 // A sum that is less than this has 16 bits.
 const NARROW_SUMS: u32 = 65536;
 
+// The least limit for which a first pass is drawn up: samples of 8 bits soon pass a lower one.
+const LEAST_LIMIT: u32 = 16;
+
 /// The schedule of a pass, and where it stops.
 #[derive(Drop)]
 pub struct Passing {
@@ -115,8 +118,9 @@ fn is_low(k: usize, node: Node, delay: u32, limit: u32) -> bool
     k > 0 && u64::from(limit) * cells < u64::from(NARROW_SUMS)
 }
 
-/// A limit of samples up to which the sums of all rows but those of the whole band have 16 bits. Nothing rests on it: a
-/// pass for samples up to any limit has the widths that these need.
+/// A limit of samples for a first pass: up to it the sums of all rows but those of the whole band have 16 bits. Where
+/// that limit is so low that samples soon pass it, it is the greatest u32, and one pass is for all samples. Nothing
+/// rests on it: a pass for samples up to any limit has the widths that these need.
 pub fn narrow_limit(plan: &Plan) -> u32 {
     let nodes = plan.all_nodes();
     let mut cells = 1;
@@ -124,7 +128,10 @@ pub fn narrow_limit(plan: &Plan) -> u32 {
         let channels = nodes[k].hi.saturating_sub(nodes[k].lo);
         cells = channels.saturating_add(nodes[k].last_row).max(cells);
     }
-    (NARROW_SUMS - 1).checked_div(cells).unwrap_or(0)
+    match (NARROW_SUMS - 1).checked_div(cells) {
+        Some(limit) if limit >= LEAST_LIMIT => limit,
+        _ => u32::MAX,
+    }
 }
 
 // Which rows have 16 bits.

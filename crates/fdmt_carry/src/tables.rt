@@ -1,7 +1,8 @@
 // The tables of a plan: rows of all nodes, and passes over them.
 ghost use Rattle.std.specs.Prelude.{◌≡◌, ℕ, ◌+◌, ◌-◌, ◌*◌, ◌≤◌, ◌<◌, length, IfOk};
 ghost use Rattle.band_paths.specs.Edges.{channels_of};
-ghost use Rattle.row_schedule.specs.Running.{HaveRoom, stores};
+ghost use Rattle.row_schedule.specs.Running.{AreAsLong, HaveRoom};
+ghost use Rattle.row_schedule.specs.Moving.{SlotsStay};
 ghost use Rattle.row_schedule.specs.Samples.{values_of};
 ghost use Rattle.subband_plan.specs.Nodes.{IsPlan, HasRow, root};
 ghost use Rattle.fdmt_carry.specs.Tables.{AreTables, node_of, node_count};
@@ -12,7 +13,7 @@ use crate::numbers::{place_in_order, row_number, whole_band};
 use crate::passing::{Passing, narrow_limit};
 use crate::plain::plain_schedule;
 use psr_base::Memory;
-use row_schedule::{Samples, Schedule, narrow_kept, running_begins, running_ends, widen_kept};
+use row_schedule::{Samples, Schedule, Stores, running_begins, running_ends};
 use search_model::splits_fit;
 use std::alloc::Global;
 use std::marker::Model;
@@ -137,64 +138,39 @@ impl Tables {
     }
 
     /// Makes the rows of all nodes, with the sums that end at the next spectra, and keeps what a pass goes on by.
-    pub fn fill(
-        &self,
-        pass: &Passing,
-        narrow: &mut [u16],
-        wide: &mut [u32],
-        kept_narrow: &mut [u16],
-        kept: &mut [u32],
-        samples: Samples<'_>,
-        spectra: usize,
-    )
+    pub fn fill(&self, pass: &Passing, stores: &mut Stores, samples: Samples<'_>, spectra: usize)
         requires pass { (m : ℕ) × IsPassOf self.now m pass.now }
-        requires plain_room { HaveRoom self.now.plain
-            (stores narrow.old wide.old kept_narrow.old kept.old) }
-        requires pass_room { HaveRoom pass.now.schedule
-            (stores narrow.old wide.old kept_narrow.old kept.old) }
+        requires plain_room { HaveRoom self.now.plain stores.old }
+        requires pass_room { HaveRoom pass.now.schedule stores.old }
         requires samples { channels_of self.now.plan.edges * self.now.chunk
             ≤ length (values_of samples) + (self.now.chunk - spectra) }
         requires short { spectra ≤ self.now.most }
-        ensures { Fills self.now pass.now spectra (values_of samples.entry)
-            (stores narrow.old wide.old kept_narrow.old kept.old)
-            (stores narrow.new wide.new kept_narrow.new kept.new) }
+        ensures long { AreAsLong stores.old stores.new }
+        ensures fills { Fills self.now pass.now spectra (values_of samples.entry) stores.old
+            stores.new }
     {
         rows_add_up();
         rows_are_bounded();
         running_begins();
         running_ends();
         let widths = pass.schedule.narrow();
-        widen_kept(&self.rows.rows, widths, kept_narrow, kept);
-        self.plain.run(
-            0,
-            self.plain.orders(),
-            narrow,
-            wide,
-            kept_narrow,
-            kept,
-            samples,
-            spectra,
-        );
-        narrow_kept(&self.rows.rows, widths, kept, kept_narrow);
+        stores.widen_kept(&self.rows.rows, widths);
+        self.plain
+            .run(0, self.plain.orders(), stores, samples, spectra);
+        stores.narrow_kept(&self.rows.rows, widths);
     }
 
     /// Writes what is kept for one pass as it is kept for another, which then goes on by it.
-    pub fn keep_for(
-        &self,
-        pass: &Passing,
-        next: &Passing,
-        kept_narrow: &mut [u16],
-        kept: &mut [u32],
-    )
-        requires narrow_room { next.now.schedule.kept_size ≤ length kept_narrow.old }
-        requires wide_room { next.now.schedule.kept_size ≤ length kept.old }
+    pub fn keep_for(&self, pass: &Passing, next: &Passing, stores: &mut Stores)
+        requires narrow_room { next.now.schedule.kept_size ≤ length stores.old.kept_narrow }
+        requires wide_room { next.now.schedule.kept_size ≤ length stores.old.kept_wide }
         requires next { (m : ℕ) × IsPassOf self.now m next.now }
-        ensures { KeepsFor self.now pass.now next.now kept_narrow.old kept.old kept_narrow.new
-            kept.new }
+        ensures stays { SlotsStay stores.old stores.new }
+        ensures keeps { KeepsFor self.now pass.now next.now stores.old stores.new }
     {
         rows_are_bounded();
-        widen_kept(&self.rows.rows, pass.schedule.narrow(), kept_narrow, kept);
-        narrow_kept(&self.rows.rows, next.schedule.narrow(), kept, kept_narrow);
+        stores.widen_kept(&self.rows.rows, pass.schedule.narrow());
+        stores.narrow_kept(&self.rows.rows, next.schedule.narrow());
     }
 
     /// Makes what comes before the row of delay `d` of the whole band in a pass, and this row.
@@ -202,23 +178,19 @@ impl Tables {
         &self,
         pass: &Passing,
         d: u32,
-        narrow: &mut [u16],
-        wide: &mut [u32],
-        kept_narrow: &mut [u16],
-        kept: &mut [u32],
+        stores: &mut Stores,
         samples: Samples<'_>,
         spectra: usize,
     )
         requires pass { (m : ℕ) × IsPassOf self.now m pass.now }
         requires row { HasRow (root self.now.plan) d }
-        requires room { HaveRoom pass.now.schedule
-            (stores narrow.old wide.old kept_narrow.old kept.old) }
+        requires room { HaveRoom pass.now.schedule stores.old }
         requires samples { channels_of self.now.plan.edges * self.now.chunk
             ≤ length (values_of samples) + (self.now.chunk - spectra) }
         requires short { spectra ≤ self.now.chunk }
-        ensures { MakesRow self.now pass.now d spectra (values_of samples.entry)
-            (stores narrow.old wide.old kept_narrow.old kept.old)
-            (stores narrow.new wide.new kept_narrow.new kept.new) }
+        ensures long { AreAsLong stores.old stores.new }
+        ensures makes { MakesRow self.now pass.now d spectra (values_of samples.entry) stores.old
+            stores.new }
     {
         rows_add_up();
         rows_are_bounded();
@@ -226,17 +198,17 @@ impl Tables {
         rows_are_numbered();
         self.hold();
         let (from, to) = (self.stop(pass, d), self.stop(pass, d + 1));
-        pass.schedule.run(from, to, narrow, wide, kept_narrow, kept, samples, spectra);
+        pass.schedule.run(from, to, stores, samples, spectra);
     }
 
     /// The row of delay `d` of the whole band, which a pass made last.
-    pub fn made<'a>(&self, pass: &Passing, d: u32, wide: &'a [u32], spectra: usize) -> &'a [u32]
+    pub fn made<'a>(&self, pass: &Passing, d: u32, stores: &'a Stores, spectra: usize) -> &'a [u32]
         requires pass { (m : ℕ) × IsPassOf self.now m pass.now }
         requires row { HasRow (root self.now.plan) d }
-        requires room { pass.now.schedule.wide_size ≤ length wide.now }
+        requires room { pass.now.schedule.wide_size ≤ length stores.now.wide }
         requires short { spectra ≤ self.now.chunk }
         ensures long { length result.now ≡ spectra }
-        ensures sums { ReadsBand self.now pass.now d spectra wide.now result.now }
+        ensures sums { ReadsBand self.now pass.now d spectra stores.now.wide result.now }
     {
         rows_add_up();
         rows_are_bounded();
@@ -245,17 +217,17 @@ impl Tables {
         splits_fit();
         self.hold();
         let order = self.shown(pass, d);
-        pass.schedule.row(&self.rows.rows, wide, order, spectra)
+        pass.schedule.row(&self.rows.rows, stores, order, spectra)
     }
 
     /// The row of delay `d` of node `k`, which was made with those of all nodes.
-    pub fn table<'a>(&self, k: usize, d: u32, wide: &'a [u32], spectra: usize) -> &'a [u32]
+    pub fn table<'a>(&self, k: usize, d: u32, stores: &'a Stores, spectra: usize) -> &'a [u32]
         requires node { k < node_count self.now }
         requires row { HasRow (node_of self.now k) d }
-        requires room { self.now.plain.wide_size ≤ length wide.now }
+        requires room { self.now.plain.wide_size ≤ length stores.now.wide }
         requires short { spectra ≤ self.now.most }
         ensures long { length result.now ≡ spectra }
-        ensures sums { ReadsNode self.now k d spectra wide.now result.now }
+        ensures sums { ReadsNode self.now k d spectra stores.now.wide result.now }
     {
         rows_add_up();
         rows_are_bounded();
@@ -263,6 +235,6 @@ impl Tables {
         splits_fit();
         let r = row_number(&self.plan, &self.rows, k, d);
         let order = place_in_order(&self.plan, &self.rows, k, r);
-        self.plain.row(&self.rows.rows, wide, order, spectra)
+        self.plain.row(&self.rows.rows, stores, order, spectra)
     }
 }

@@ -7,3 +7,4 @@ pub mod Fitting
 pub mod Values
 pub mod Carrying
 pub mod Keeping
+pub mod Stepping

@@ -6,6 +6,7 @@ pub mod Steps
 pub mod Layout
 pub mod Follows
 pub mod Running
+pub mod Sizes
 pub mod Making
 pub mod Moving
 pub mod Laws

@@ -1,10 +1,18 @@
 -- How what is kept of narrow rows is written in the other width.
 -- Source: this project's choice.
-use Rattle.std.specs.Prelude.{◌≡◌, ℕ, ◌+◌, ◌%◌, ◌^◌, ◌≤◌, ◌<◌, ◌⊎◌, true, false, Bool, List, slice_index}
+use Rattle.std.specs.Prelude.{◌≡◌, ℕ, ◌+◌, ◌%◌, ◌^◌, ◌≤◌, ◌<◌, ◌⊎◌, true, false, Bool, List, length, slice_index}
 use Rattle.row_model.specs.declared.Rows.{Rows}
 use Rattle.row_model.specs.Sums.{is_narrow}
 use Rattle.row_model.specs.Tails.{row_count}
 use Rattle.row_schedule.specs.Layout.{hold_of, tail_of}
+use Rattle.row_schedule.specs.Running.{Stores}
+
+-- the slots have what they had, and the lists of what is kept are as long as they were
+pub record SlotsStay (old new : Stores) : Type 0 where
+  pub narrow : new.narrow ≡ old.narrow
+  pub wide : new.wide ≡ old.wide
+  pub kept_narrow : length new.kept_narrow ≡ length old.kept_narrow
+  pub kept_wide : length new.kept_wide ≡ length old.kept_wide
 
 -- What is kept of the narrow ones of the first r rows was written into a list of a width as `value`
 -- says; what is kept of the other rows stays.

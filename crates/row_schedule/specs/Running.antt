@@ -31,6 +31,13 @@ pub record HaveRoom (s : Scheduled) (st : Stores) : Type 0 where
   pub kept_narrow_room : s.kept_size ≤ length st.kept_narrow
   pub kept_wide_room : s.kept_size ≤ length st.kept_wide
 
+-- each list is as long as it was
+pub record AreAsLong (old new : Stores) : Type 0 where
+  pub narrow : length new.narrow ≡ length old.narrow
+  pub wide : length new.wide ≡ length old.wide
+  pub kept_narrow : length new.kept_narrow ≡ length old.kept_narrow
+  pub kept_wide : length new.kept_wide ≡ length old.kept_wide
+
 -- the slots of a width, and what is kept of its rows
 abbrev pub list_of : Bool → Stores → List ℕ
 list_of narrow st = if narrow then st.narrow else st.wide

@@ -70,7 +70,7 @@ fn widen_kept_row(
 }
 
 /// Writes what is kept of the rows that have 16 bits as values of 32 bits.
-pub fn widen_kept(rows: &Rows, narrow: &[bool], kept_narrow: &[u16], kept_wide: &mut [u32])
+pub fn widen_rows(rows: &Rows, narrow: &[bool], kept_narrow: &[u16], kept_wide: &mut [u32])
     requires rows { (c : ℕ) × AreRows c rows.now }
     requires narrow_room { kept_room rows.now ≤ length kept_narrow.now }
     requires wide_room { kept_room rows.now ≤ length kept_wide.old }
@@ -109,7 +109,7 @@ fn narrow_kept_row(
 
 /// Writes what is kept of the rows that have 16 bits, from the values of 32 bits. What is kept stays the same where the
 /// values of these rows fit into 16 bits.
-pub fn narrow_kept(rows: &Rows, narrow: &[bool], kept_wide: &[u32], kept_narrow: &mut [u16])
+pub fn narrow_rows(rows: &Rows, narrow: &[bool], kept_wide: &[u32], kept_narrow: &mut [u16])
     requires rows { (c : ℕ) × AreRows c rows.now }
     requires narrow_room { kept_room rows.now ≤ length kept_narrow.old }
     requires wide_room { kept_room rows.now ≤ length kept_wide.now }

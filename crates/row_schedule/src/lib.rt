@@ -15,8 +15,10 @@ mod reading;
 mod samples;
 mod schedule;
 mod step;
+mod stores;
 
 pub use builder::{Builder, Order};
-pub use kept::{narrow_kept, nothing_kept, running_begins, running_ends, widen_kept};
+pub use kept::{nothing_kept, running_begins, running_ends};
 pub use samples::Samples;
 pub use schedule::Schedule;
+pub use stores::{Sizes, Stores};

@@ -5,7 +5,7 @@ ghost use Rattle.row_schedule.specs.Samples.{values_of, AreNext};
 ghost use Rattle.row_schedule.specs.Orders.{order_at, holds};
 ghost use Rattle.row_schedule.specs.Steps.{IsSafe, step_at};
 ghost use Rattle.row_schedule.specs.Follows.{Follows};
-ghost use Rattle.row_schedule.specs.Running.{Stores, HaveRoom, Running, stores};
+ghost use Rattle.row_schedule.specs.Running.{Stores, HaveRoom, AreAsLong, Running};
 ghost use Rattle.row_schedule.specs.Making.{StepMade};
 
 use crate::builder::Order;
@@ -15,6 +15,7 @@ use crate::making::{
 use crate::reading::tail;
 use crate::samples::Samples;
 use crate::step::{Kind, Step};
+use crate::stores::{Sizes, Stores};
 use row_model::Rows;
 use std::marker::Model;
 
@@ -48,25 +49,17 @@ impl Model for Schedule {
 }
 
 impl Schedule {
-    /// How many values of 16 bits the slots of rows of 16 bits take, with those in front that are not used.
-    pub fn narrow_size(&self) -> usize
-        ensures { result ≡ self.now.narrow_size }
+    /// How many values the lists need that it works on.
+    pub fn sizes(&self) -> Sizes
+        ensures narrow { result.narrow ≡ self.now.narrow_size }
+        ensures wide { result.wide ≡ self.now.wide_size }
+        ensures kept { result.kept ≡ self.now.kept_size }
     {
-        self.narrow_size
-    }
-
-    /// How many values of 32 bits the slots of rows of 32 bits take, with those in front that are not used.
-    pub fn wide_size(&self) -> usize
-        ensures { result ≡ self.now.wide_size }
-    {
-        self.wide_size
-    }
-
-    /// How many values the list of what is kept of rows takes, that of 16 bits and that of 32 bits alike.
-    pub fn kept_size(&self) -> usize
-        ensures { result ≡ self.now.kept_size }
-    {
-        self.kept_size
+        Sizes {
+            narrow: self.narrow_size,
+            wide: self.wide_size,
+            kept: self.kept_size,
+        }
     }
 
     /// Which rows have 16 bits.
@@ -108,27 +101,23 @@ impl Schedule {
 
     // Carries out step `j`.
     #[inline(always)]
-    fn make(
-        &self,
-        j: usize,
-        narrow: &mut [u16],
-        wide: &mut [u32],
-        kept_narrow: &mut [u16],
-        kept_wide: &mut [u32],
-        samples: Samples<'_>,
-        spectra: usize,
-    )
+    fn make(&self, j: usize, stores: &mut Stores, samples: Samples<'_>, spectra: usize)
         requires step { j < length self.now.orders }
-        requires room { HaveRoom self.now
-            (stores narrow.old wide.old kept_narrow.old kept_wide.old) }
+        requires room { HaveRoom self.now stores.old }
         requires short { spectra ≤ self.now.most }
         requires samples { self.now.channels * self.now.chunk
             ≤ length (values_of samples) + (self.now.chunk - spectra) }
-        ensures { StepMade (step_at self.now.steps j).kind (step_at self.now.steps j) spectra
-            (values_of samples.entry) (stores narrow.old wide.old kept_narrow.old kept_wide.old)
-            (stores narrow.new wide.new kept_narrow.new kept_wide.new) }
+        ensures long { AreAsLong stores.old stores.new }
+        ensures made { StepMade (step_at self.now.steps j).kind (step_at self.now.steps j) spectra
+            (values_of samples.entry) stores.old stores.new }
     {
         let step = self.steps[j];
+        let Stores {
+            narrow,
+            wide,
+            kept_narrow,
+            kept_wide,
+        } = stores;
         match step.kind {
             Kind::CopyNarrow => copy_narrow(step, narrow, kept_narrow, samples, spectra),
             Kind::CopyWide => copy_wide(step, wide, kept_wide, samples, spectra),
@@ -142,50 +131,50 @@ impl Schedule {
 
     /// Carries out the orders from `from` up to, but without, `to`, over the next spectra, so many: the samples of
     /// channel `c`, the highest frequency first, begin at `c` times the chunk. Behind those of the last channel nothing
-    /// need follow, so samples can be lent from some spectrum on. Rows are made in `narrow` and `wide`, which have at
-    /// least `narrow_size` and `wide_size` values, and what is kept of them stands in `kept_narrow` and `kept_wide`,
-    /// which have at least `kept_size` values each.
+    /// need follow, so samples can be lent from some spectrum on. The lists have at least as many values as `sizes`
+    /// says.
     pub fn run(
         &self,
         from: usize,
         to: usize,
-        narrow: &mut [u16],
-        wide: &mut [u32],
-        kept_narrow: &mut [u16],
-        kept_wide: &mut [u32],
+        stores: &mut Stores,
         samples: Samples<'_>,
         spectra: usize,
     )
         requires begins { from ≤ to }
         requires ends { to ≤ length self.now.orders }
-        requires room { HaveRoom self.now
-            (stores narrow.old wide.old kept_narrow.old kept_wide.old) }
+        requires room { HaveRoom self.now stores.old }
         requires short { spectra ≤ self.now.most }
         requires samples { self.now.channels * self.now.chunk
             ≤ length (values_of samples) + (self.now.chunk - spectra) }
-        ensures { (rows : Rows) (x : ℕ → ℕ → ℕ) (y : Sums) (u : ℕ) → Follows rows self.now
+        ensures long { AreAsLong stores.old stores.new }
+        ensures runs { (rows : Rows) (x : ℕ → ℕ → ℕ) (y : Sums) (u : ℕ) → Follows rows self.now
             → AddUp rows.sources.items x y → Fit self.now.narrow y (u + spectra)
             → AreNext x self.now.channels self.now.chunk u spectra (values_of samples.entry)
-            → Running rows self.now y u spectra from
-            (stores narrow.old wide.old kept_narrow.old kept_wide.old)
-            → Running rows self.now y u spectra to
-            (stores narrow.new wide.new kept_narrow.new kept_wide.new) }
+            → Running rows self.now y u spectra from stores.old
+            → Running rows self.now y u spectra to stores.new }
     {
         for j in from..to {
-            self.make(j, narrow, wide, kept_narrow, kept_wide, samples, spectra);
+            self.make(j, stores, samples, spectra);
         }
     }
 
     /// The values of the row of an order, which has 32 bits and stands in its slot, that end at the next spectra.
-    pub fn row<'a>(&self, rows: &Rows, wide: &'a [u32], order: usize, spectra: usize) -> &'a [u32]
+    pub fn row<'a>(
+        &self,
+        rows: &Rows,
+        stores: &'a Stores,
+        order: usize,
+        spectra: usize,
+    ) -> &'a [u32]
         requires follows { Follows rows.now self.now }
         requires order { order < length self.now.orders }
         requires width { is_narrow self.now.narrow (order_at self.now.orders order).row ≡ false }
-        requires room { self.now.wide_size ≤ length wide.now }
+        requires room { self.now.wide_size ≤ length stores.now.wide }
         requires short { spectra ≤ self.now.most }
         ensures long { length result.now ≡ spectra }
         ensures values { (x : ℕ → ℕ → ℕ) (y : Sums) (u j k : ℕ) (st : Stores)
-            → AddUp rows.now.sources.items x y → st.wide ≡ wide.now
+            → AddUp rows.now.sources.items x y → st.wide ≡ stores.now.wide
             → Running rows.now self.now y u spectra j st
             → holds self.now.orders j (order_at self.now.orders order).slot
             ≡ Some (order_at self.now.orders order).row
@@ -194,6 +183,7 @@ impl Schedule {
     {
         self.holds();
         let Order { row, slot } = self.order(order);
+        let wide = stores.wide();
         let at = self.place(slot as usize) + tail(rows, row as usize) as usize;
         &wide[at..at + spectra]
     }

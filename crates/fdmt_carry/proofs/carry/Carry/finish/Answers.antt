@@ -1,5 +1,4 @@
 use Rattle.std.proofs.Common.{◌≡◌, ℕ, ◌+◌, true, false, Bool, subst, sym}
-use Rattle.row_schedule.specs.Running.{stores}
 use Rattle.fdmt_carry.specs.Carrying.{Carrying, StandsForSamples, StandsMidway, carrying}
 use Rattle.fdmt_carry.proofs.Carried.{ended_stands}
 use Rattle.fdmt_carry.proofs.carry.Carry.finish.Goals as goal
@@ -8,7 +7,7 @@ pub returns-clause-stands : goal.returns-clause-stands
 returns-clause-stands c = λ f stands.
     let s = c.self.inside in
     let t = s.tables in
-    let st = stores s.narrow.items s.values.items s.kept_narrow.items s.kept.items in
+    let st = s.stores in
     let inside : Carrying = carrying t s.pass s.limit s.max_sample s.fed s.last s.has_tables s.is_passing s.next st in
     let before : StandsMidway inside f = subst (λ (x : Carrying). StandsMidway x f) (sym c.self.view_is) stands in
     let all : s.next ≡ t.plan.last + 1 =

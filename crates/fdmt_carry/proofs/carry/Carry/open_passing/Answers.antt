@@ -3,7 +3,7 @@ use Rattle.std.proofs.lemmas.Bool.{false≢true}
 use Rattle.band_paths.specs.Edges.{channels_of}
 use Rattle.row_schedule.specs.Schedules.{Scheduled}
 use Rattle.subband_plan.specs.Nodes.{BandPlan}
-use Rattle.fdmt_carry.specs.Sizes.{AreEnough}
+use Rattle.row_schedule.specs.Sizes.{AreEnough}
 use Rattle.fdmt_carry.specs.Carrying.{IsStream}
 use Rattle.fdmt_carry.proofs.Carried.{opened_stands}
 use Rattle.fdmt_carry.proofs.Rooms.{have_room, spare_room}
@@ -13,8 +13,8 @@ pub invariant_of-result : goal.invariant_of-result
 invariant_of-result c =
     let t = c.in_ok-tables.tables in
     let passes = c.in_ok-passes.passes in
-    let lists = c.in_ok-lists.lists in
-    let zeros = c.in_ok-lists.ensures in
+    let st = c.in_ok-stores.stores in
+    let zeros = c.in_ok-stores.ensures in
     let sizes = c.sizes.result in
     let most : ℕ = c.args.max_sample in (
       record {
@@ -25,9 +25,9 @@ invariant_of-result c =
         short = omega arith;
         few_made = λ has. absurd (false≢true has);
         few = λ passing. absurd (false≢true passing);
-        plain_room = have_room t.plain sizes lists zeros
+        plain_room = have_room t.plain sizes st zeros
             (subst (λ (s : Scheduled). AreEnough s sizes) c.plain.ensures c.sizes.ensures.plain);
-        pass_room = have_room passes.pass.schedule sizes lists zeros c.sizes.ensures.pass;
+        pass_room = have_room passes.pass.schedule sizes st zeros c.sizes.ensures.pass;
         alone = λ passing. absurd (false≢true passing);
         from = λ passing. absurd (false≢true passing);
         to = λ passing. absurd (false≢true passing);
@@ -35,7 +35,7 @@ invariant_of-result c =
       record {
         some = c.in_ok-passes.ensures.some;
         pass_is = c.in_ok-passes.ensures.spare;
-        room = spare_room passes.spare sizes lists zeros c.sizes.ensures.spare;
+        room = spare_room passes.spare sizes st zeros c.sizes.ensures.spare;
       },
     )
 
@@ -43,10 +43,8 @@ pub returns-clause-stands : goal.returns-clause-stands
 returns-clause-stands c = λ f stream.
     let t = c.in_ok-tables.tables in
     let passes = c.in_ok-passes.passes in
-    let lists = c.in_ok-lists.lists in
     let most : ℕ = c.args.max_sample in
     let here : IsStream t.plan most f =
     subst (λ (p : BandPlan). IsStream p most f) (sym c.in_ok-tables.ensures.plan) stream in
-    opened_stands c.nothing_kept.ensures c.rows_begin_empty.ensures t passes.pass passes.limit most _ _
-    lists.narrow.items lists.values.items lists.kept_narrow.items lists.kept.items f c.hold.ensures
-    c.in_ok-lists.ensures.kept_narrow c.in_ok-lists.ensures.kept here
+    opened_stands c.nothing_kept.ensures c.rows_begin_empty.ensures t passes.pass passes.limit most c.sizes.result
+    c.in_ok-stores.stores f c.hold.ensures c.in_ok-stores.ensures here

@@ -1,5 +1,4 @@
 use Rattle.std.proofs.Common.{◌+◌, subst, sym}
-use Rattle.row_schedule.specs.Running.{stores}
 use Rattle.subband_plan.specs.Values.{AreAtMost}
 use Rattle.fdmt_carry.specs.Carrying.{Carrying, StandsForSamples, carrying}
 use Rattle.fdmt_carry.proofs.Carried.{begun_stands}
@@ -9,7 +8,7 @@ pub returns-clause-stands : goal.returns-clause-stands
 returns-clause-stands c = λ f stands small.
     let s = c.self.inside in
     let inside : Carrying = carrying s.tables s.pass s.limit s.max_sample s.fed s.last s.has_tables s.is_passing s.next
-    (stores s.narrow.items s.values.items s.kept_narrow.items s.kept.items) in
+    s.stores in
     let before : StandsForSamples inside f =
     subst (λ (x : Carrying). StandsForSamples x f) (sym c.self.view_is) stands in
     let most : AreAtMost f (s.fed + c.args.spectra) s.limit =

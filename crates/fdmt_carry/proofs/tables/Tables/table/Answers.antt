@@ -12,8 +12,8 @@ returns-clause-sums c =
     let d : ℕ = c.args.d in
     let spectra : ℕ = c.args.spectra in
     let node : k < node_count t = subst (λ (x : Tables). k < node_count x) (sym c.self.view_is) c.requires.node in
-    subst (λ (x : Tables). ReadsNode x k d spectra c.args.wide.now c.row.result.now) c.self.view_is
+    subst (λ (x : Tables). ReadsNode x k d spectra c.args.stores.now.wide c.row.result.now) c.self.view_is
     (node_read c.rows_add_up.ensures c.rows_are_bounded.ensures c.plans_are_laid.ensures c.splits_fit.ensures t
-    k d c.row_number-r.result c.place_in_order-order.result spectra c.args.wide.now c.row.result.now
+    k d c.row_number-r.result c.place_in_order-order.result spectra c.args.stores.now.wide c.row.result.now
     c.self.invariant node c.row_number-r.ensures.from c.row_number-r.ensures.to c.row_number-r.ensures.row
     c.place_in_order-order.ensures.place c.row.ensures.values)

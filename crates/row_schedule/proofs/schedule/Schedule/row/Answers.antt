@@ -1,4 +1,4 @@
-use Rattle.std.proofs.Common.{◌≡◌, ◌+◌, ◌-◌, ℕ, slice_index, ap, ◌∙◌, arith}
+use Rattle.std.proofs.Common.{◌≡◌, ◌+◌, ◌-◌, ℕ, slice_index, ap, sym, ◌∙◌, arith}
 use Rattle.row_schedule.specs.declared.builder.Order.{Order}
 use Rattle.row_schedule.specs.Orders.{order_at}
 use Rattle.row_schedule.specs.Layout.{tail_of}
@@ -14,9 +14,9 @@ returns-clause-values c = λ x y u j k st adds wide_is running has lt.
     let at : ℕ = c.place.result + c.tail.result in
     let place_is = c.place.ensures ∙ ap (λ (o : Order). slice_index s.places o.slot) order in
     let tail_is = c.tail.ensures.value ∙ ap (λ (o : Order). tail_of rows o.row) order in
-    part_at at (at + c.args.spectra - at) c.args.wide.now k (omega arith)
-    ∙ ap (λ p. slice_index c.args.wide.now (p + k)) (let e :
+    part_at at (at + c.args.spectra - at) c.wide-wide.result.now k (omega arith)
+    ∙ ap (λ p. slice_index c.wide-wide.result.now (p + k)) (let e :
     at ≡ slice_index s.places (order_at s.orders c.args.order).slot + tail_of rows (order_at s.orders c.args.order).row
     = omega arith in e)
-    ∙ row_read rows s x y u c.args.spectra c.args.order j k st c.args.wide.now c.requires.follows c.requires.order
-    c.requires.width adds wide_is running has lt
+    ∙ row_read rows s x y u c.args.spectra c.args.order j k st c.wide-wide.result.now c.requires.follows
+    c.requires.order c.requires.width adds (wide_is ∙ sym c.wide-wide.ensures) running has lt

@@ -3,13 +3,12 @@ use Rattle.row_model.specs.declared.Rows.{Rows}
 use Rattle.row_model.specs.Sums.{Sums, AddUp, Fit}
 use Rattle.row_schedule.specs.Samples.{AreNext, values_of}
 use Rattle.row_schedule.specs.Follows.{Follows}
-use Rattle.row_schedule.specs.Running.{Running, stores}
+use Rattle.row_schedule.specs.Running.{AreAsLong, Running}
 use Rattle.row_schedule.proofs.schedule.Schedule.run.Given as goal
 
 abbrev pub invariant-loop-j : goal.invariant-loop-j
-invariant-loop-j l = (rows : Rows) (x : ℕ → ℕ → ℕ) (y : Sums) (u : ℕ) → Follows rows l.self →
-    AddUp rows.sources.items x y → Fit l.self.narrow y (u + l.spectra) →
+invariant-loop-j l = AreAsLong l.fn.stores l.stores
+    × ((rows : Rows) (x : ℕ → ℕ → ℕ) (y : Sums) (u : ℕ) → Follows rows l.self → AddUp rows.sources.items x y →
+    Fit l.self.narrow y (u + l.spectra) →
     AreNext x l.self.channels l.self.chunk u l.spectra (values_of l.samples) →
-    Running rows l.self y u l.spectra l.from
-    (stores l.fn.narrow l.fn.wide l.fn.kept_narrow l.fn.kept_wide) →
-    Running rows l.self y u l.spectra l.j (stores l.narrow l.wide l.kept_narrow l.kept_wide)
+    Running rows l.self y u l.spectra l.from l.fn.stores → Running rows l.self y u l.spectra l.j l.stores)

@@ -3,7 +3,7 @@ use Rattle.row_model.specs.Tails.{row_count}
 use Rattle.row_schedule.specs.Moving.{AreWidened}
 use Rattle.row_schedule.proofs.Keeping.{none_moved}
 use Rattle.row_schedule.proofs.Carrying.{widened}
-use Rattle.row_schedule.proofs.kept.widen_kept.Goals as goal
+use Rattle.row_schedule.proofs.kept.widen_rows.Goals as goal
 
 pub loop-r-init : goal.loop-r-init
 loop-r-init c = none_moved _ _ _ _ _

@@ -1,0 +1,136 @@
+// The lists that schedules work on.
+ghost use Rattle.std.specs.Prelude.{◌≡◌, ℕ, ◌≤◌, false, List, Bool, length, replicate, IfOk};
+ghost use Rattle.row_model.specs.Sums.{Sums, Fit, is_narrow};
+ghost use Rattle.row_model.specs.Tails.{AreRows};
+ghost use Rattle.row_schedule.specs.Layout.{kept_room};
+ghost use Rattle.row_schedule.specs.Running.{Kept};
+ghost use Rattle.row_schedule.specs.Moving.{SlotsStay};
+ghost use Rattle.row_schedule.specs.Schedules.{Scheduled};
+ghost use Rattle.row_schedule.specs.Sizes.{AreEnough, AreZeros};
+
+use crate::kept::{narrow_rows, widen_rows};
+use psr_base::Memory;
+use row_model::Rows;
+use std::alloc::Global;
+use std::marker::Model;
+
+/// How many values the lists have that schedules work on, with those in front that are not used.
+#[derive(Clone, Copy)]
+pub struct Sizes {
+    /// The slots of rows of 16 bits.
+    pub narrow: usize,
+    /// The slots of rows of 32 bits.
+    pub wide: usize,
+    /// What is kept of rows: so many values of 16 bits, and as many of 32 bits.
+    pub kept: usize,
+}
+
+impl Sizes {
+    /// The greater ones of both.
+    pub fn most(self, other: Sizes) -> Sizes
+        ensures own { (s : Scheduled) → AreEnough s self → AreEnough s result }
+        ensures others { (s : Scheduled) → AreEnough s other → AreEnough s result }
+    {
+        Sizes {
+            narrow: self.narrow.max(other.narrow),
+            wide: self.wide.max(other.wide),
+            kept: self.kept.max(other.kept),
+        }
+    }
+}
+
+/// The lists that schedules work on. Values are samples or sums of samples; in front of each list stand some that are
+/// not used.
+#[derive(Drop)]
+pub struct Stores {
+    /// The slots in which rows of 16 bits are made.
+    pub(crate) narrow: Vec<u16>,
+    /// The slots in which rows of 32 bits are made.
+    pub(crate) wide: Vec<u32>,
+    /// What is kept of rows of 16 bits for the next spectra.
+    pub(crate) kept_narrow: Vec<u16>,
+    /// What is kept of rows of 32 bits.
+    pub(crate) kept_wide: Vec<u32>,
+}
+
+impl Model for Stores {
+    ghost use Rattle.row_schedule.specs.Running.{Stores, stores};
+
+    ghost Value = { Stores };
+
+    ghost view = { λ s. stores s.narrow.items s.wide.items s.kept_narrow.items s.kept_wide.items };
+}
+
+impl Stores {
+    /// Lists of so many zeros.
+    pub fn zeros(alloc: Global, sizes: Sizes) -> Result<Stores, Memory>
+        ensures { IfOk result (AreZeros sizes) }
+    {
+        Ok(Stores {
+            narrow: narrow_zeros(alloc, sizes.narrow)?,
+            wide: zeros(alloc, sizes.wide)?,
+            kept_narrow: narrow_zeros(alloc, sizes.kept)?,
+            kept_wide: zeros(alloc, sizes.kept)?,
+        })
+    }
+
+    // The slots of rows of 32 bits.
+    pub(crate) fn wide(&self) -> &[u32]
+        ensures { result.now ≡ self.now.wide }
+    {
+        self.wide.as_slice()
+    }
+
+    /// Writes what is kept of the rows that have 16 bits as values of 32 bits.
+    pub fn widen_kept(&mut self, rows: &Rows, narrow: &[bool])
+        requires rows { (c : ℕ) × AreRows c rows.now }
+        requires narrow_room { kept_room rows.now ≤ length self.old.kept_narrow }
+        requires wide_room { kept_room rows.now ≤ length self.old.kept_wide }
+        ensures stays { SlotsStay self.old self.new }
+        ensures narrow_stays { self.new.kept_narrow ≡ self.old.kept_narrow }
+        ensures kept { (none : List Bool) (y : Sums) (u : ℕ)
+            → ((r : ℕ) → is_narrow none r ≡ false)
+            → Kept rows.now narrow.now y u self.old → Kept rows.now none y u self.new }
+    {
+        widen_rows(
+            rows,
+            narrow,
+            self.kept_narrow.as_slice(),
+            self.kept_wide.as_mut_slice(),
+        );
+    }
+
+    /// Writes what is kept of the rows that have 16 bits, from the values of 32 bits. What is kept stays the same where
+    /// the values of these rows fit into 16 bits.
+    pub fn narrow_kept(&mut self, rows: &Rows, narrow: &[bool])
+        requires rows { (c : ℕ) × AreRows c rows.now }
+        requires narrow_room { kept_room rows.now ≤ length self.old.kept_narrow }
+        requires wide_room { kept_room rows.now ≤ length self.old.kept_wide }
+        ensures stays { SlotsStay self.old self.new }
+        ensures wide_stays { self.new.kept_wide ≡ self.old.kept_wide }
+        ensures kept { (none : List Bool) (y : Sums) (u : ℕ)
+            → ((r : ℕ) → is_narrow none r ≡ false) → Fit narrow.now y u
+            → Kept rows.now none y u self.old → Kept rows.now narrow.now y u self.new }
+    {
+        narrow_rows(
+            rows,
+            narrow,
+            self.kept_wide.as_slice(),
+            self.kept_narrow.as_mut_slice(),
+        );
+    }
+}
+
+// So many zeros.
+fn zeros(alloc: Global, count: usize) -> Result<Vec<u32>, Memory>
+    ensures { IfOk result (λ v. v.items ≡ replicate count 0) }
+{
+    Ok(vec![in alloc; 0; count]?)
+}
+
+// So many zeros of 16 bits.
+fn narrow_zeros(alloc: Global, count: usize) -> Result<Vec<u16>, Memory>
+    ensures { IfOk result (λ v. v.items ≡ replicate count 0) }
+{
+    Ok(vec![in alloc; 0; count]?)
+}
