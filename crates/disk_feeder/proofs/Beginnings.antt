@@ -2,8 +2,8 @@
 use Rattle.std.proofs.Common.{◌≡◌, ℕ, ◌+◌, ◌*◌, ◌<◌, Bool, true, List, [], ◌++◌, Option, Some, None, length, take, get_or, refl, sym, ap, ◌∙◌, subst, arith}
 use Rattle.std.specs.Prelude.{slice_get}
 use Rattle.std.proofs.lemmas.List.{drop_all}
-use Rattle.std.proofs.lemmas.Option.{slice_get-get_or}
-use Rattle.psr_base.specs.Told.{Told, left_to_read}
+use Rattle.std.proofs.lemmas.Option.{slice_get-get_or, slice_get_within}
+use Rattle.psr_base.specs.Told.{Told, OfFile, left_to_read}
 use Rattle.dada_model.specs.Fields.{HeaderText, fields_of}
 use Rattle.dada_model.specs.Observation.{observation_in}
 use Rattle.stream_model.specs.Blocks.{full_entries, whole_stream, joined_data}
@@ -11,23 +11,25 @@ use Rattle.stream_model.specs.Walk.{file_at, begin_of, data_of, data_between, he
 use Rattle.stream_model.specs.WalkLaws.{AreStarts, AreWalked, FirstFilesContinue, DataGrow, DataNone}
 use Rattle.disk_feeder.specs.declared.due.Due.{Due}
 use Rattle.disk_feeder.specs.declared.place.Place.{Place}
+use Rattle.disk_feeder.specs.declared.source.Source.{Source}
 use Rattle.disk_feeder.specs.declared.stream.Stream.{Stream}
-use Rattle.disk_feeder.specs.Plan.{Plan, stream_of, AreTold, AreAccepted, HasHeaders}
+use Rattle.disk_feeder.specs.Plan.{Plan, stream_of, AreToldTo, AreAccepted, HasHeaders, opened_at}
 use Rattle.disk_feeder.specs.Reading.{IsAt, HasRead}
-use Rattle.disk_feeder.specs.Sources.{plan_of}
+use Rattle.disk_feeder.specs.Sources.{plan_of, first_name}
 use Rattle.disk_feeder.specs.Filling.{IsFilled}
-use Rattle.disk_feeder.specs.Beginning.{start_place, IsBegunStream}
+use Rattle.disk_feeder.specs.Beginning.{start_place, HeadersRead, IsBegunStream}
 use Rattle.disk_feeder.specs.Feeding.{header_entries, headers_sealed, IsFeeding}
+use Rattle.disk_feeder.proofs.Needed.{told_fewer}
 use Rattle.disk_feeder.proofs.Streams.{starts_of}
-use Rattle.disk_feeder.proofs.OfSource.{plan_starts}
+use Rattle.disk_feeder.proofs.OfSource.{plan_starts, first_known}
 use Rattle.disk_feeder.proofs.Runs.{feeds_running}
 
 -- the files of a feeder whose first headers were accepted are walked
-walked : (plan : Plan) (told : Told) (files : List (List ℕ)) → AreTold told plan.names files →
+walked : (plan : Plan) (files : List (List ℕ)) → length files ≡ length plan.names →
     AreStarts plan.starts (length plan.names) → AreAccepted plan → length plan.headers ≡ length plan.starts →
     HasHeaders plan (stream_of plan files) → AreWalked (stream_of plan files)
-walked plan told files are starts accepted headed headers = record {
-  starts = starts_of plan told files are starts;
+walked plan files count starts accepted headed headers = record {
+  starts = starts_of plan files count starts;
   accepted = λ transfer there.
       let none : HeaderText = record { size = 0; text = [] } in
       let header = get_or plan.headers transfer none in
@@ -44,13 +46,13 @@ walked plan told files are starts accepted headed headers = record {
 
 -- at the first file nothing was read
 at_start : FirstFilesContinue → DataGrow → DataNone → (plan : Plan) (told : Told) (is_open : Bool)
-    (files : List (List ℕ)) → AreTold told plan.names files → AreStarts plan.starts (length plan.names) →
+    (files : List (List ℕ)) → length files ≡ length plan.names → AreStarts plan.starts (length plan.names) →
     AreAccepted plan → length plan.headers ≡ length plan.starts → HasHeaders plan (stream_of plan files) →
     (is_open ≡ true → left_to_read told ≡ Some (data_of (file_at (stream_of plan files) 0))) →
     IsAt (stream_of plan files) plan told (start_place is_open) [] []
-at_start continue grow none plan told is_open files are starts accepted headed headers left =
+at_start continue grow none plan told is_open files count starts accepted headed headers left =
     let s = stream_of plan files in
-    let w = walked plan told files are starts accepted headed headers in
+    let w = walked plan files count starts accepted headed headers in
     let some = w.starts.some in
     let first : begin_of s 0 ≡ 0 = w.starts.first in
     let below = w.starts.within 0 some in
@@ -72,8 +74,8 @@ at_start continue grow none plan told is_open files are starts accepted headed h
 
 read_start : FirstFilesContinue → DataGrow → DataNone → (plan : Plan) (told : Told) (is_open : Bool) →
     AreStarts plan.starts (length plan.names) → AreAccepted plan → length plan.headers ≡ length plan.starts →
-    ((files : List (List ℕ)) → AreTold told plan.names files → HasHeaders plan (stream_of plan files)) →
-    (is_open ≡ true → (files : List (List ℕ)) → AreTold told plan.names files →
+    ((files : List (List ℕ)) → AreToldTo 0 told plan files → HasHeaders plan (stream_of plan files)) →
+    (is_open ≡ true → (files : List (List ℕ)) → AreToldTo 0 told plan files →
     left_to_read told ≡ Some (data_of (file_at (stream_of plan files) 0))) →
     HasRead plan told (start_place is_open) [] []
 unfolding joined_data
@@ -82,10 +84,35 @@ read_start continue grow none plan told is_open starts accepted headed headers l
   transfers = refl;
   since = refl;
   total = refl;
+  passed = λ k less. absurd (omega arith);
   known = λ files are.
-      at_start continue grow none plan told is_open files are starts accepted headed (headers files are)
-      (λ open_now. left open_now files are);
+      let fewer = told_fewer 0 (opened_at (start_place is_open)) told plan files (omega arith) are in
+      at_start continue grow none plan told is_open files are.count starts accepted headed (headers files fewer)
+      (λ open_now. left open_now files fewer);
 }
+
+-- ---- the first files that were read
+
+-- so the first headers are those of the files
+headers_known : (source : Source) (told : Told) → HeadersRead told source (length source.starts.now) source →
+    (files : List (List ℕ)) → AreToldTo 0 told (plan_of source) files →
+    HasHeaders (plan_of source) (stream_of (plan_of source) files)
+headers_known source told read files are = λ k header at.
+    let headed : length source.headers.items ≡ length source.starts.now = source.headed in
+    let there = slice_get_within source.headers.items k header at in
+    read k (omega arith) (file_at (stream_of (plan_of source) files) (begin_of (stream_of (plan_of source) files) k))
+    (first_known 0 source told files are k (omega arith)) header at
+
+-- and what is left of the first one are its data
+left_known : (source : Source) (told : Told) (is_open : Bool) → (is_open ≡ true →
+    OfFile told (first_name source 0) (λ file. left_to_read told ≡ Some (data_of file))) → is_open ≡ true →
+    (files : List (List ℕ)) → AreToldTo 0 told (plan_of source) files →
+    left_to_read told ≡ Some (data_of (file_at (stream_of (plan_of source) files) 0))
+left_known source told is_open left open_now files are =
+    let s = stream_of (plan_of source) files in
+    let starts = starts_of (plan_of source) files are.count (plan_starts source) in
+    left open_now (file_at s (begin_of s 0)) (first_known 0 source told files are 0 starts.some)
+    ∙ ap (λ (k : ℕ). Some (data_of (file_at s k))) starts.first
 
 filled_start : (plan : Plan) (told : Told) (at : Place) (block : List ℕ) → HasRead plan told at [] [] →
     0 < length block → IsFilled plan told at block 0 None []
@@ -110,8 +137,8 @@ begins_feeding continue grow none s told b accepted =
     let zero_transfer : at.transfer ≡ 0 = ap (λ (p : Place). p.transfer) b.place in
     let P : Place → Type 0 = λ p. HasRead plan told p [] [] in
     let has : HasRead plan told at [] [] = subst P (sym b.place)
-    (read_start continue grow none plan told at.is_open (plan_starts s.source) accepted s.source.headed b.headers
-    b.left) in
+    (read_start continue grow none plan told at.is_open (plan_starts s.source) accepted s.source.headed
+    (headers_known s.source told b.headers) (left_known s.source told at.is_open b.left)) in
     let Q : ℕ → Type 0 = λ n. IsFilled plan told at s.block.items n s.due [] in
     let R : Option Due → Type 0 = λ d. IsFilled plan told at s.block.items 0 d [] in
     feeds_running s told (header_entries (take 1 headers)) [] b.end (record {

@@ -1,13 +1,11 @@
 -- Counts of faults over several calls.
-use Rattle.std.proofs.Common.{◌≡◌, ◌≢◌, ℕ, ◌+◌, ◌<◌, ◌≤◌, List, [], Option, Some, None, length, refl, sym, ap, ◌∙◌, subst, arith}
-use Rattle.std.specs.Prelude.{IsSome, slice_index_or}
+use Rattle.std.proofs.Common.{◌≡◌, ◌≢◌, ℕ, ◌+◌, ◌<◌, ◌≤◌, Option, Some, None, refl, sym, ap, ◌∙◌, arith}
 use Rattle.psr_base.specs.Count.{Rose}
-use Rattle.psr_base.specs.Told.{Told}
 use Rattle.disk_feeder.specs.declared.answers.FeedEnd.{FeedEnd}
 use Rattle.disk_feeder.specs.declared.answers.FeedEnd.TheVariants.{ReadFault}
 use Rattle.disk_feeder.specs.declared.due.Due.{Due}
 use Rattle.disk_feeder.specs.declared.due.Due.TheVariants.{Stopped}
-use Rattle.disk_feeder.specs.Filling.{IsSince, HoldsAll}
+use Rattle.disk_feeder.specs.Filling.{IsSince}
 use Rattle.disk_feeder.specs.Streams.{steps_left}
 
 pub rose_from : (k f f' : ℕ) → k ≤ f → Rose f f' → Rose k f'
@@ -37,15 +35,6 @@ since_more k f f' due due' end end' was more none running same failed quiet =
       due_quiet = λ runs fine. quiet fine ∙ was.due_quiet running (not_due due none);
       end_quiet = λ stop e other. absurd cc;
     }
-
--- the files that are held stay
-pub holds_still : (told told' : Told) (names names' : List (List ℕ)) → told'.bytes_under ≡ told.bytes_under →
-    names' ≡ names → HoldsAll told names → HoldsAll told' names'
-holds_still told told' names names' same listed holds =
-    let P : List (List ℕ) → Type 0 = λ ns. HoldsAll told' ns in
-    let Q : (List ℕ → Option (List ℕ)) → Type 0 = λ f. (k : ℕ) → k < length names →
-    IsSome (f (slice_index_or names k [])) in
-    subst P (sym listed) (subst Q (sym same) holds)
 
 pub fewer_steps : (due due' : Option Due) (work work' : ℕ) → due ≡ None → (due' ≡ None → work' < work) →
     steps_left due' work' < steps_left due work

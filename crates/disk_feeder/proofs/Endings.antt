@@ -61,7 +61,8 @@ ending joined ends once plan size before current headers blocks (TooLong limit) 
     (λ k e. absurd cc)
 
 pub has_ended : (s : Stream) (told : Told) (headers blocks : List Entry) (end : FeedEnd) → s.end ≡ Some end →
-    IsFeeding s told headers blocks → IsEnded (plan_of s.source) told (length s.block.items) headers blocks end
+    IsFeeding s told headers blocks →
+    IsEnded (plan_of s.source) told s.source.place (length s.block.items) headers blocks end
 has_ended s told headers blocks end is was =
     let P : Option FeedEnd → Type 0 = λ e. FeedsTo s told headers blocks e in
     let ended : HasEndedAs s told headers blocks end = subst P is was in ended.ended

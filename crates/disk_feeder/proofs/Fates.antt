@@ -1,5 +1,5 @@
 -- What comes of a stream, by what is due and by its end.
-use Rattle.std.proofs.Common.{◌≡◌, ◌≢◌, ℕ, List, inl, inr, Option, Some, None, sym, ap, ◌∙◌, subst, refl}
+use Rattle.std.proofs.Common.{◌≡◌, ◌≢◌, ℕ, List, inl, inr, Option, Some, None, length, sym, ap, ◌∙◌, subst, refl}
 use Rattle.std.proofs.lemmas.Bool.{cases_eq}
 use Rattle.psr_base.specs.Told.{Told}
 use Rattle.disk_feeder.specs.declared.answers.FeedEnd.{FeedEnd}
@@ -13,7 +13,7 @@ use Rattle.disk_feeder.specs.declared.answers.FeedTurn.TheVariants.{Moved, Waiti
 use Rattle.disk_feeder.specs.declared.source.Source.{Source}
 use Rattle.disk_feeder.specs.Feeding.{GoesOn}
 use Rattle.disk_feeder.specs.History.{Fate, Running, Over, fate, fate_of, IsFated, StandsIf, ReadsUpTo, BreaksOffAt}
-use Rattle.disk_feeder.specs.Plan.{Plan, AreTold}
+use Rattle.disk_feeder.specs.Plan.{Plan, IsAmong, AreToldAt, opened_at}
 use Rattle.disk_feeder.specs.Sources.{plan_of}
 use Rattle.disk_feeder.specs.Streams.{StreamRead}
 
@@ -76,7 +76,7 @@ pub same_files : (p q : Plan) (before told : Told) (at : Place) → q.names ≡ 
     q.max_bytes ≡ p.max_bytes → ReadsUpTo p before told at → ReadsUpTo q before told at
 same_files p q before told at names starts limit reads =
     let Reads : List (List ℕ) → List ℕ → ℕ → Type 0 = λ ns ss m.
-    (files : List (List ℕ)) → AreTold told ns files →
+    (files : List (List ℕ)) → AreToldAt (IsAmong (opened_at at) ss (length ns)) told ns files →
     StandsIf at.is_open ns (record { files = files; starts = ss; max_bytes = m }) before told at in
     let P : List (List ℕ) → Type 0 = λ ns. Reads ns q.starts q.max_bytes in
     let Q : List ℕ → Type 0 = λ ss. Reads p.names ss q.max_bytes in

@@ -1,4 +1,5 @@
 pub mod Fronts
+pub mod Needed
 pub mod Streams
 pub mod Headers
 pub mod Prefixes
@@ -12,6 +13,7 @@ pub mod Readings
 pub mod TransferEnds
 pub mod Fillings
 pub mod Counting
+pub mod Missing
 pub mod Sealings
 pub mod Runs
 pub mod Turning

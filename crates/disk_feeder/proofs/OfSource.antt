@@ -1,12 +1,15 @@
 -- What a source says of its plan and its place.
-use Rattle.std.proofs.Common.{◌≡◌, ℕ, ◌+◌, ◌<◌, true, false, length, sym, subst}
-use Rattle.std.specs.Prelude.{string_bytes}
+use Rattle.std.proofs.Common.{◌≡◌, ℕ, ◌+◌, ◌<◌, true, false, List, [], Some, length, sym, ap, ◌∙◌, subst}
+use Rattle.std.specs.Prelude.{slice_index_or, string_bytes}
 use Rattle.std.proofs.lemmas.List.{length-map}
 use Rattle.psr_base.specs.Told.{Told}
+use Rattle.stream_model.specs.Walk.{file_at, begin_of}
 use Rattle.stream_model.specs.WalkLaws.{AreStarts}
 use Rattle.disk_feeder.specs.declared.source.Source.{Source}
-use Rattle.disk_feeder.specs.Plan.{begin_at, IsPlace}
-use Rattle.disk_feeder.specs.Sources.{plan_of}
+use Rattle.disk_feeder.specs.Plan.{stream_of, begin_at, AreToldTo, IsPlace}
+use Rattle.disk_feeder.specs.Sources.{plan_of, first_name}
+use Rattle.disk_feeder.proofs.Needed.{told_first}
+use Rattle.disk_feeder.proofs.Streams.{begin_is}
 use Rattle.disk_feeder.proofs.Openings.{Opens}
 use Rattle.disk_feeder.proofs.Readings.{Reads}
 
@@ -55,3 +58,14 @@ reads source told told' opened names =
       within = at.total;
       names = names;
     }
+
+-- the bytes of the first file of each transfer are told
+pub first_known : (opened : ℕ) (source : Source) (told : Told) (files : List (List ℕ)) →
+    AreToldTo opened told (plan_of source) files → (k : ℕ) → k < length source.starts.now →
+    told.bytes_under (first_name source k)
+    ≡ Some (file_at (stream_of (plan_of source) files) (begin_of (stream_of (plan_of source) files) k))
+first_known opened source told files are k there =
+    let plan = plan_of source in
+    ap (λ (n : ℕ). told.bytes_under (slice_index_or plan.names (begin_at plan.starts n k) [])) (sym (name_count source))
+    ∙ told_first opened told plan files k are there ((plan_starts source).within k there)
+    ∙ ap (λ (i : ℕ). Some (slice_index_or files i [])) (sym (begin_is plan files are.count k))

@@ -1,5 +1,5 @@
 -- A file that was opened.
-use Rattle.std.proofs.Common.{◌≡◌, ℕ, ◌+◌, ◌<◌, ◌≤◌, true, false, List, ◌++◌, Some, None, length, take, sym, ap, ◌∙◌, arith}
+use Rattle.std.proofs.Common.{◌≡◌, ℕ, ◌+◌, ◌<◌, ◌≤◌, true, false, List, ◌++◌, Some, None, length, take, sym, ap, ◌∙◌, subst, arith}
 use Rattle.std.specs.Prelude.{slice_get}
 use Rattle.std.proofs.lemmas.Bool.{true≢false}
 use Rattle.dada_model.specs.Fields.{header_of}
@@ -12,16 +12,17 @@ use Rattle.disk_feeder.specs.declared.answers.FeedEnd.TheVariants.{Whole, ReadFa
 use Rattle.disk_feeder.specs.declared.place.First.{First}
 use Rattle.disk_feeder.specs.declared.place.Place.{Place}
 use Rattle.disk_feeder.specs.Ends.{end_of, IsOfHeader}
-use Rattle.disk_feeder.specs.Plan.{Plan, stream_of, AreTold, begin_at}
-use Rattle.disk_feeder.specs.Reading.{IsAt, HasRead, IsFront, IsEnd, EndsReading}
+use Rattle.disk_feeder.specs.Plan.{Plan, stream_of, IsAmong, AreToldTo, opened_at, begin_at}
+use Rattle.disk_feeder.specs.Reading.{IsAt, HasRead, IsFront, IsEnd, StopsAtFile, EndsReading}
 use Rattle.disk_feeder.specs.Reached.{WalkGoesOn}
 use Rattle.disk_feeder.proofs.Reaching.{IsWithin, came_to}
-use Rattle.disk_feeder.proofs.Headers.{stop_blocks, stop_of_header}
-use Rattle.disk_feeder.proofs.Streams.{told_before, starts_of, begin_most, is_in, first_of, judged_by}
+use Rattle.disk_feeder.proofs.Headers.{stop_blocks, stop_number, stop_of_header}
+use Rattle.disk_feeder.proofs.Needed.{told_before}
+use Rattle.disk_feeder.proofs.Streams.{starts_of, begin_most, is_in, first_of, judged_by}
 
 -- an end of a header is the walk's
 ends_by_header : (s : FileStream) (at : Place) (before : List (List ℕ)) (current : List ℕ) (room : ℕ) (end : FeedEnd) →
-    IsOfHeader end → IsEnd s before current room end → EndsReading s at before current room end
+    IsOfHeader end → IsEnd s at before current room end → EndsReading s at before current room end
 ends_by_header s at before current room (Whole bytes) kind is = absurd kind
 ends_by_header s at before current room ReadFault kind is = absurd kind
 ends_by_header s at before current room (BadHeader file cause) kind is = is
@@ -40,18 +41,22 @@ pub record Opens (plan : Plan) (told told' : Told) (at : Place) : Type 0 where
 
 module _ (plan : Plan) (told told' : Told) (at : Place) (before : List (List ℕ)) (current : List ℕ)
     (o : Opens plan told told' at) (has : HasRead plan told at before current)
-    (transfers : FilesAreInTransfers) (files : List (List ℕ)) (are : AreTold told' plan.names files) where
+    (transfers : FilesAreInTransfers) (files : List (List ℕ))
+    (are : AreToldTo (opened_at at) told' plan files) where
   abbrev s : FileStream
   s = stream_of plan files
 
+  abbrev still : AreToldTo (opened_at at) told plan files
+  still = told_before (IsAmong (opened_at at) plan.starts (length plan.names)) told told' plan.names files o.names are
+
   was : IsAt s plan told at before current
-  was = has.known files (told_before told told' plan.names files o.names are)
+  was = has.known files still
 
   starts : AreStarts plan.starts (length files)
-  starts = starts_of plan told' files are o.starts
+  starts = starts_of plan files are.count o.starts
 
   inside : IsIn s at.transfer at.file
-  inside = is_in plan told' files are at.transfer at.file o.there o.from o.upto
+  inside = is_in plan files are.count at.transfer at.file o.there o.from o.upto
 
   transfer_is : transfer_of plan.starts at.file ≡ at.transfer
   transfer_is = transfers s at.transfer at.file starts inside
@@ -79,9 +84,9 @@ module _ (plan : Plan) (told told' : Told) (at : Place) (before : List (List ℕ
       (sym has.since ∙ ap (length {A = ℕ}) so_far)
 
   -- it goes on
-  pub opened_at : DataGrow → header_stop s at.file ≡ None → left_to_read told' ≡ Some (data_of (file_at s at.file)) →
+  pub went_on : DataGrow → header_stop s at.file ≡ None → left_to_read told' ≡ Some (data_of (file_at s at.file)) →
       IsAt s plan told' (record at { is_open = true }) before current
-  opened_at grow none left = record {
+  went_on grow none left = record {
     headers = was.headers;
     earlier = was.earlier;
     passed = was.passed;
@@ -102,7 +107,9 @@ module _ (plan : Plan) (told told' : Told) (at : Place) (before : List (List ℕ
   unfolding walk_stream
   stopped_at counts stop end room is end_is kind =
       let whole = counts s at.file stop was.passed there (stop_of_header s at.file stop is) in
+      let Stops : WalkStop → Type 0 = λ w. StopsAtFile w at.file in
       ends_by_header s at before current room end kind (record {
+        stops = subst Stops (sym whole) (stop_number s at.file stop is);
         is = end_is (length (joined_data (walk_data s))) plan.max_bytes
             ∙ ap (end_of (length (joined_data (walk_data s))) plan.max_bytes) (sym whole);
         blocks = λ size fulls held sum fits some.
@@ -145,6 +152,5 @@ module _ (plan : Plan) (told told' : Told) (at : Place) (before : List (List ℕ
         front = sym (join files begin at.file next from (omega arith) (omega arith))
             ∙ ap (λ (xs : List ℕ). xs ++ data_between files at.file next) (sym so_far);
         begins = goes s at.transfer at.file before current
-            (came_to plan told at before current is_within has files
-            (told_before told told' plan.names files o.names are));
+            (came_to plan told at before current is_within has files still);
       }

@@ -4,7 +4,7 @@ use Rattle.std.proofs.lemmas.List.{append-nil}
 use Rattle.psr_base.specs.Told.{Told}
 use Rattle.stream_model.specs.WalkLaws.{AreStarts}
 use Rattle.disk_feeder.specs.declared.place.Place.{Place}
-use Rattle.disk_feeder.specs.Plan.{Plan, stream_of, AreTold, begin_at}
+use Rattle.disk_feeder.specs.Plan.{Plan, stream_of, AreToldTo, opened_at, begin_at}
 use Rattle.disk_feeder.specs.Reached.{CameTo}
 use Rattle.disk_feeder.specs.Reading.{IsAt, HasRead}
 use Rattle.disk_feeder.proofs.Streams.{starts_of, begin_is, begin_most}
@@ -20,7 +20,7 @@ pub record IsWithin (plan : Plan) (at : Place) : Type 0 where
 
 -- the walk came to its file
 pub came_to : (plan : Plan) (told : Told) (at : Place) (before : List (List ℕ)) (current : List ℕ) → IsWithin plan at →
-    HasRead plan told at before current → (files : List (List ℕ)) → AreTold told plan.names files →
+    HasRead plan told at before current → (files : List (List ℕ)) → AreToldTo (opened_at at) told plan files →
     CameTo (stream_of plan files) at.transfer at.file before current
 came_to plan told at before current w has files are = by_file at.is_open refl
   where
@@ -29,8 +29,8 @@ came_to plan told at before current w has files are = by_file at.is_open refl
 
     by_file : (b : Bool) → at.is_open ≡ b → CameTo (stream_of plan files) at.transfer at.file before current
     by_file false shut =
-        let begin = begin_is plan told files are at.transfer in
-        let next = begin_is plan told files are (at.transfer + 1) in
+        let begin = begin_is plan files are.count at.transfer in
+        let next = begin_is plan files are.count (at.transfer + 1) in
         let last = begin_most plan.starts (length plan.names) at.transfer w.starts w.there in
         let count = are.count in
         let from = w.from in
@@ -39,7 +39,7 @@ came_to plan told at before current w has files are = by_file at.is_open refl
         let within = w.within in
         record {
           there = w.there;
-          starts = starts_of plan told files are w.starts;
+          starts = starts_of plan files are.count w.starts;
           earlier = was.earlier;
           passed = was.passed;
           from = omega arith;
@@ -52,8 +52,8 @@ came_to plan told at before current w has files are = by_file at.is_open refl
           few = omega arith;
         }
     by_file true opened =
-        let begin = begin_is plan told files are at.transfer in
-        let next = begin_is plan told files are (at.transfer + 1) in
+        let begin = begin_is plan files are.count at.transfer in
+        let next = begin_is plan files are.count (at.transfer + 1) in
         let last = begin_most plan.starts (length plan.names) at.transfer w.starts w.there in
         let count = are.count in
         let from = w.from in
@@ -63,7 +63,7 @@ came_to plan told at before current w has files are = by_file at.is_open refl
         let rest = was.rest opened in
         record {
           there = w.there;
-          starts = starts_of plan told files are w.starts;
+          starts = starts_of plan files are.count w.starts;
           earlier = was.earlier;
           passed = was.passed;
           from = omega arith;

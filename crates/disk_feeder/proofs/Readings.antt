@@ -1,5 +1,5 @@
 -- Data that were read of an open file.
-use Rattle.std.proofs.Common.{◌≡◌, ℕ, ◌+◌, ◌<◌, ◌≤◌, true, false, List, [], ◌++◌, Option, Some, None, length, take, drop, refl, sym, ap, ◌∙◌, inl, inr, append_assoc, arith}
+use Rattle.std.proofs.Common.{◌≡◌, ℕ, ◌+◌, ◌<◌, ◌≤◌, true, false, List, [], ◌++◌, Option, Some, None, length, take, drop, refl, sym, ap, ◌∙◌, subst, inl, inr, append_assoc, arith}
 use Rattle.std.specs.Prelude.{Bool, if◌then◌else◌}
 use Rattle.std.specs.Option.{option_map}
 use Rattle.std.proofs.lemmas.Bool.{true≢false, le-ltb, lt-ltb, cases_eq}
@@ -12,11 +12,12 @@ use Rattle.stream_model.specs.WalkLaws.{AreStarts, IsIn, FilesAreInTransfers, Da
 use Rattle.disk_feeder.specs.declared.answers.FeedEnd.TheVariants.{TooLong}
 use Rattle.disk_feeder.specs.declared.place.Place.{Place}
 use Rattle.disk_feeder.specs.Ends.{end_of}
-use Rattle.disk_feeder.specs.Plan.{Plan, stream_of, AreTold, begin_at}
-use Rattle.disk_feeder.specs.Reading.{IsAt, HasRead, IsFront, IsEnd}
+use Rattle.disk_feeder.specs.Plan.{Plan, stream_of, IsAmong, AreToldTo, opened_at, begin_at}
+use Rattle.disk_feeder.specs.Reading.{IsAt, HasRead, IsFront, IsEnd, StopsAtFile}
 use Rattle.disk_feeder.specs.Reached.{WalkGoesOn}
 use Rattle.disk_feeder.proofs.Reaching.{IsWithin, came_to}
-use Rattle.disk_feeder.proofs.Streams.{told_before, starts_of, begin_most, is_in}
+use Rattle.disk_feeder.proofs.Streams.{starts_of, begin_most, is_in}
+use Rattle.disk_feeder.proofs.Needed.{told_before, told_fewer, told_opened, passed_still}
 use Rattle.disk_feeder.proofs.Fulls.{abandoned_past}
 
 -- what is left of what is told after n bytes
@@ -66,12 +67,15 @@ pub record Reads (plan : Plan) (told told' : Told) (at : Place) : Type 0 where
 
 module _ (plan : Plan) (told told' : Told) (at : Place) (before : List (List ℕ)) (current : List ℕ)
     (o : Reads plan told told' at) (has : HasRead plan told at before current)
-    (files : List (List ℕ)) (are : AreTold told' plan.names files) where
+    (files : List (List ℕ)) (are : AreToldTo (opened_at at) told' plan files) where
   abbrev s : FileStream
   s = stream_of plan files
 
+  abbrev still : AreToldTo (opened_at at) told plan files
+  still = told_before (IsAmong (opened_at at) plan.starts (length plan.names)) told told' plan.names files o.names are
+
   pub was : IsAt s plan told at before current
-  was = has.known files (told_before told told' plan.names files o.names are)
+  was = has.known files still
 
   -- what is left of the file
   abbrev pub left : List ℕ
@@ -84,10 +88,10 @@ module _ (plan : Plan) (told told' : Told) (at : Place) (before : List (List ℕ
   data_is = (was.rest o.opened).2
 
   starts : AreStarts plan.starts (length files)
-  starts = starts_of plan told' files are o.starts
+  starts = starts_of plan files are.count o.starts
 
   inside : IsIn s at.transfer at.file
-  inside = is_in plan told' files are at.transfer at.file o.there o.from o.upto
+  inside = is_in plan files are.count at.transfer at.file o.there o.from o.upto
 
   below : at.file < length files
   below =
@@ -157,7 +161,7 @@ module _ (plan : Plan) (told told' : Told) (at : Place) (before : List (List ℕ
   -- there are too many
   pub too_long : TransfersJoin → FilesAreInTransfers → FirstStopCounts → (n : ℕ) (buffer : List ℕ) →
       GivesNext left n buffer → n ≤ length buffer → plan.max_bytes < at.total + n →
-      IsEnd s before current (length buffer) (TooLong plan.max_bytes)
+      IsEnd s at before current (length buffer) (TooLong plan.max_bytes)
   unfolding walk_stream
   too_long joins transfers counts n buffer gives room past =
       let count = all_count joins in
@@ -166,7 +170,9 @@ module _ (plan : Plan) (told told' : Told) (at : Place) (before : List (List ℕ
       let some = gives.within in
       let whole = counts s at.file (walk.TooLong at.file) was.passed below
       (stops_long s at.file (was.judged o.opened) (omega arith)) in
+      let Stops : WalkStop → Type 0 = λ w. StopsAtFile w at.file in
       record {
+        stops = subst Stops (sym whole) refl;
         is = ap (end_of (length (joined_data (walk_data s))) plan.max_bytes) (sym whole);
         blocks = λ size fulls held sum fits positive.
             ap (stream_to size s) whole
@@ -211,8 +217,7 @@ module _ (plan : Plan) (told told' : Told) (at : Place) (before : List (List ℕ
             ∙ ap (λ (xs : List ℕ). xs ++ rest) data_is
             ∙ append_assoc current left rest;
         begins = goes s at.transfer at.file before current
-            (came_to plan told at before current is_within has files
-            (told_before told told' plan.names files o.names are));
+            (came_to plan told at before current is_within has files still);
       }
 
 -- ---- the same of all that is read
@@ -230,11 +235,20 @@ has_closed plan told told' at before current o has joins buffer gives =
       transfers = has.transfers;
       since = omega arith;
       total = omega arith;
+      passed = λ k less files are. elim (cases_eq k at.file) [
+        | inl same ↦
+            let fewer = told_opened at told' plan files
+            (told_fewer (at.file + 1) (k + 1) told' plan files (omega arith) are) in
+            (closed plan told told' at before current o has files fewer joins buffer
+            (gives (left plan told told' at before current o has files fewer)
+            (left_is plan told told' at before current o has files fewer))).passed k less
+        | inr other ↦ passed_still plan told told' at.file o.names has.passed k (omega arith) files are
+      ];
       known = λ files are.
-          closed plan told told' at before current o has files are joins buffer
-          (gives (left plan told told' at before current o has files are) (left_is plan told told' at before current o
-          has
-          files are));
+          let fewer = told_opened at told' plan files are in
+          closed plan told told' at before current o has files fewer joins buffer
+          (gives (left plan told told' at before current o has files fewer)
+          (left_is plan told told' at before current o has files fewer));
     }
 
 pub has_took : (plan : Plan) (told told' : Told) (at : Place) (before : List (List ℕ)) (current : List ℕ) →
@@ -251,6 +265,7 @@ has_took plan told told' at before current o has n buffer room gives moved =
       transfers = has.transfers;
       since = omega arith;
       total = omega arith;
+      passed = passed_still plan told told' at.file o.names has.passed;
       known = λ files are.
           took plan told told' at before current o has files are n buffer (at.since + n) (at.total + n)
           (gives (left plan told told' at before current o has files are) (left_is plan told told' at before current o

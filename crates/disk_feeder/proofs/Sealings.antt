@@ -20,11 +20,12 @@ use Rattle.disk_feeder.specs.declared.due.Due.{Due}
 use Rattle.disk_feeder.specs.declared.due.Due.TheVariants.{Full, Last, Stopped}
 use Rattle.disk_feeder.specs.declared.place.Place.{Place}
 use Rattle.disk_feeder.specs.Ends.{end_of}
-use Rattle.disk_feeder.specs.Plan.{Plan, stream_of, AreTold, begin_at}
-use Rattle.disk_feeder.specs.Reading.{HasRead, IsFront, EndsReading}
+use Rattle.disk_feeder.specs.Plan.{Plan, stream_of, AreToldTo, opened_at, begin_at}
+use Rattle.disk_feeder.specs.Reading.{HasRead, HasEnded, IsFront, EndsReading}
 use Rattle.disk_feeder.specs.Sources.{IsEarly}
 use Rattle.disk_feeder.specs.Filling.{IsFilled, DueIs}
-use Rattle.disk_feeder.specs.Feeding.{header_entries, IsWalkEnd, EndIs, SealedAs, IsEnded, IsCutAt}
+use Rattle.disk_feeder.specs.Feeding.{header_entries, IsWalkEnd, EndIs, StopsWalkAt, SealedAs, IsEnded, IsCutAt}
+use Rattle.disk_feeder.proofs.Needed.{told_opened}
 use Rattle.disk_feeder.proofs.Fulls.{quotient_is, within_is}
 
 -- ---- a full block
@@ -139,15 +140,14 @@ bare n = omega arith
 
 -- all files were passed
 whole_at : NoStopIsWhole → (plan : Plan) (told : Told) (after : Place) (before : List (List ℕ)) (size : ℕ)
-    (blocks : List Entry) (files : List (List ℕ)) → AreTold told plan.names files → HasRead plan told after before [] →
-    length plan.starts ≡ after.transfer → begin_at plan.starts (length plan.names) after.transfer ≤ after.file →
+    (blocks : List Entry) (files : List (List ℕ)) → AreToldTo (opened_at after) told plan files →
+    HasRead plan told after before [] →
+    length plan.starts ≡ after.transfer → after.file ≡ length plan.names →
     blocks ≡ whole_stream size before → IsWalkEnd (stream_of plan files) size blocks (Whole after.total)
 unfolding walk_stream walk_data
-whole_at whole plan told after before size blocks files are has all from is =
+whole_at whole plan told after before size blocks files are has all last is =
     let s = stream_of plan files in
     let was = has.known files are in
-    let last : begin_at plan.starts (length plan.names) after.transfer ≡ length plan.names =
-    get_or_past plan.starts after.transfer (length plan.names) (omega arith) in
     let count = are.count in
     let stop : walk_stop s ≡ walk.Whole = whole s (λ k below. was.passed k (omega arith)) in
     let data_is : before ≡ walk_data s =
@@ -168,12 +168,14 @@ pub whole_sealed : NoStopIsWhole → (plan : Plan) (told : Told) (after : Place)
     →
     LastSealed plan told after size blocks → length plan.starts ≡ after.transfer →
     length plan.headers ≡ length plan.starts →
-    begin_at plan.starts (length plan.names) after.transfer ≤ after.file →
+    after.file ≡ begin_at plan.starts (length plan.names) after.transfer →
     headers ≡ header_entries (take after.transfer plan.headers) → after.total ≤ plan.max_bytes →
-    IsEnded plan told size headers blocks (Whole after.total)
-whole_sealed whole plan told after size headers blocks f all headed from sealed within =
+    IsEnded plan told after size headers blocks (Whole after.total)
+whole_sealed whole plan told after size headers blocks f all headed at_begin sealed within =
     let has = f.has in
     let total = has.total in
+    let past : after.file ≡ length plan.names =
+    at_begin ∙ get_or_past plan.starts after.transfer (length plan.names) (omega arith) in
     record {
       before = f.before;
       current = [];
@@ -184,8 +186,12 @@ whole_sealed whole plan told after size headers blocks f all headed from sealed 
         sealed ∙ ap header_entries (take_all after.transfer plan.headers (omega arith)),
         sym total ∙ bare (length (joined_data f.before)),
       );
+      passed = has.passed;
+      last = λ bytes is. past;
       known = λ files are.
-          whole_at whole plan told after f.before size blocks files are has all from f.stream;
+          whole_at whole plan told after f.before size blocks files (told_opened after told plan files are) has all past
+          f.stream;
+      stops = λ files are. tt;
     }
 
 -- ---- a stream that ends early
@@ -237,6 +243,15 @@ ends_known s at before current size fulls held blocks sealed (TooLong limit) end
   stream = is ∙ sym (ends.blocks size fulls held count (omega arith) (omega arith));
 }
 
+-- and its file is that of the place
+ends_there : (s : FileStream) (at : Place) (before : List (List ℕ)) (current : List ℕ) (room : ℕ) (end : FeedEnd) →
+    EndsReading s at before current room end → StopsWalkAt end s at.file
+ends_there s at before current room (Whole bytes) ends = tt
+ends_there s at before current room ReadFault ends = tt
+ends_there s at before current room (BadHeader file cause) ends = ends.stops
+ends_there s at before current room (Gap file expected found) ends = ends.stops
+ends_there s at before current room (TooLong limit) ends = ends.stops
+
 sealed_early : (plan : Plan) (size : ℕ) (before : List (List ℕ)) (current : List ℕ) (headers blocks : List Entry)
     (end : FeedEnd) → IsEarly plan end → blocks ≡ abandoned_stream size plan.max_bytes before current →
     length before < length plan.starts → headers ≡ header_entries (take (length before + 1) plan.headers) →
@@ -253,11 +268,15 @@ sealed_early plan size before current headers blocks (Gap file expected found) e
     (is, less, heads, early)
 sealed_early plan size before current headers blocks (TooLong limit) early is less heads = (is, less, heads, early)
 
+-- an early end is not that of all data
+not_early : (plan : Plan) (end : FeedEnd) (bytes : ℕ) → IsEarly plan end → end ≡ Whole bytes → ⊥
+not_early plan end bytes early whole = let P : FeedEnd → Type 0 = λ e. IsEarly plan e in subst P whole early
+
 pub cut_sealed : (plan : Plan) (told : Told) (at : Place) (block : List ℕ) (held : ℕ) (end : FeedEnd)
     (headers blocks blocks' : List Entry) → IsFilled plan told at block held (Some (Stopped end)) blocks →
     at.total ≤ plan.max_bytes → at.transfer < length plan.starts →
     headers ≡ header_entries (take (at.transfer + 1) plan.headers) → blocks' ≡ blocks ++ entry Cut [] ∷ [] →
-    IsEnded plan told (length block) headers blocks' end
+    IsEnded plan told at (length block) headers blocks' end
 cut_sealed plan told at block held end headers blocks blocks' f within there heads is =
     let size = length block in
     let counts = f.next.0 in
@@ -271,24 +290,29 @@ cut_sealed plan told at block held end headers blocks blocks' f within there hea
       few = omega arith;
       sealed = sealed_early plan size f.before f.current headers blocks' end f.next.3 stream (omega arith)
           (heads ∙ ap (λ (n : ℕ). header_entries (take (n + 1) plan.headers)) (sym transfers));
+      passed = f.next.2.passed;
+      last = λ bytes whole. absurd (not_early plan end bytes f.next.3 whole);
       known = λ files are.
           ends_known (stream_of plan files) at f.before f.current size f.fulls held blocks' blocks end
-          (f.next.2 files are) f.count f.next.1 f.sealed is stream;
+          (f.next.2.ends files are) f.count f.next.1 f.sealed is stream;
+      stops = λ files are.
+          ends_there (stream_of plan files) at f.before f.current (size - held) end (f.next.2.ends files are);
     }
 
 -- where a fault ended it, its full blocks are those of the data that were read
 pub cut_at : (plan : Plan) (told : Told) (at : Place) (block : List ℕ) (held : ℕ) (end : FeedEnd)
     (blocks blocks' : List Entry) → IsFilled plan told at block held (Some (Stopped end)) blocks →
     at.total ≤ plan.max_bytes → blocks' ≡ blocks ++ entry Cut [] ∷ [] → end ≡ ReadFault → (files : List (List ℕ)) →
-    AreTold told plan.names files → IsCutAt (stream_of plan files) at (length block) blocks'
+    AreToldTo (opened_at at) told plan files → IsCutAt (stream_of plan files) at (length block) blocks'
 cut_at plan told at block held end blocks blocks' f within is failed files are =
     let size = length block in
     let s = stream_of plan files in
     let counts = f.next.0 in
     let total = counts.total in
     let since = counts.since in
-    let Ends : FeedEnd → Type 0 = λ e. EndsReading s at f.before f.current (size - held) e in
-    let front : IsFront s at f.before f.current = subst Ends failed (f.next.2 files are) in
+    let Ends : FeedEnd → Type 0 = λ e. HasEnded plan told at f.before f.current (size - held) e in
+    let ended : HasEnded plan told at f.before f.current (size - held) ReadFault = subst Ends failed f.next.2 in
+    let front : IsFront s at f.before f.current = ended.ends files are in
     let stream = cut_stream size plan.max_bytes f.before f.current f.fulls held blocks blocks' f.count f.next.1 (omega
     arith) f.sealed is in
     record {

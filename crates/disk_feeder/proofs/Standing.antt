@@ -15,13 +15,14 @@ use Rattle.disk_feeder.specs.declared.due.Due.{Due}
 use Rattle.disk_feeder.specs.declared.due.Due.TheVariants.{Full, Last, Stopped}
 use Rattle.disk_feeder.specs.declared.place.Place.{Place}
 use Rattle.disk_feeder.specs.declared.stream.Stream.{Stream}
-use Rattle.disk_feeder.specs.Plan.{Plan, stream_of, AreTold}
+use Rattle.disk_feeder.specs.Plan.{Plan, stream_of, AreTold, IsAmong, AreToldTo, opened_at}
 use Rattle.disk_feeder.specs.Reached.{WalkGoesOn}
-use Rattle.disk_feeder.specs.Reading.{IsEnd, EndsReading}
+use Rattle.disk_feeder.specs.Reading.{IsEnd, EndsReading, judged_at}
 use Rattle.disk_feeder.specs.Sources.{plan_of}
 use Rattle.disk_feeder.specs.Filling.{DueIs}
 use Rattle.disk_feeder.specs.Feeding.{header_entries, headers_sealed, IsRunning, IsBeginning, HeadersKeepUp, SealedAs, FeedsTo, IsFeeding}
 use Rattle.disk_feeder.proofs.Fulls.{within_is}
+use Rattle.disk_feeder.proofs.Needed.{all_told}
 use Rattle.disk_feeder.proofs.OfSource.{plan_place, plan_starts}
 use Rattle.disk_feeder.proofs.Reaching.{IsWithin, came_to}
 use Rattle.disk_feeder.proofs.Turning.{counts}
@@ -71,11 +72,12 @@ before_cut size max_bytes before current fulls held count less few = (
       (sym (within_is size max_bytes fulls held before current count less few)),
 )
 
-at_stop : (s : FileStream) (before : List (List ℕ)) (current : List ℕ) (size fulls held : ℕ) (end : FeedEnd) →
-    IsEnd s before current (size - held) end → fulls * size + held ≡ length current → held < size →
+at_stop : (s : FileStream) (at : Place) (before : List (List ℕ)) (current : List ℕ) (size fulls held : ℕ)
+    (end : FeedEnd) →
+    IsEnd s at before current (size - held) end → fulls * size + held ≡ length current → held < size →
     length (joined_data before) + length current ≤ s.max_bytes →
     IsPrefix (whole_stream size before ++ full_entries size current fulls) (walk_stream size s)
-at_stop s before current size fulls held end ends count less few =
+at_stop s at before current size fulls held end ends count less few =
     let p = before_cut size s.max_bytes before current fulls held count less few in
     (p.0, p.1 ∙ sym (ends.blocks size fulls held count (omega arith) (omega arith)))
 
@@ -87,11 +89,17 @@ by_end s at before current size fulls held (Whole bytes) ends count less few = a
 by_end s at before current size fulls held ReadFault ends count less few =
     ends.begins size fulls (omega arith) (omega arith)
 by_end s at before current size fulls held (BadHeader file cause) ends count less few =
-    at_stop s before current size fulls held (BadHeader file cause) ends count less few
+    at_stop s at before current size fulls held (BadHeader file cause) ends count less few
 by_end s at before current size fulls held (Gap file expected found) ends count less few =
-    at_stop s before current size fulls held (Gap file expected found) ends count less few
+    at_stop s at before current size fulls held (Gap file expected found) ends count less few
 by_end s at before current size fulls held (TooLong limit) ends count less few =
-    at_stop s before current size fulls held (TooLong limit) ends count less few
+    at_stop s at before current size fulls held (TooLong limit) ends count less few
+
+-- all files are told, so those that were opened are
+told_now : (plan : Plan) (told : Told) (at : Place) (files : List (List ℕ)) → AreTold told plan.names files →
+    AreToldTo (opened_at at) told plan files
+told_now plan told at files are =
+    all_told (IsAmong (opened_at at) plan.starts (length plan.names)) told plan.names files are
 
 by_due : WalkGoesOn → (plan : Plan) (told : Told) (at : Place) (before : List (List ℕ)) (current : List ℕ)
     (size fulls held : ℕ) (due : Option Due) → IsWithin plan at → DueIs plan told at before current size held due →
@@ -99,17 +107,20 @@ by_due : WalkGoesOn → (plan : Plan) (told : Told) (at : Place) (before : List 
     IsPrefix (whole_stream size before ++ full_entries size current fulls) (walk_stream size (stream_of plan files))
 by_due goes plan told at before current size fulls held None w d count some files are =
     goes (stream_of plan files) at.transfer at.file before current
-    (came_to plan told at before current w d.0 files are) size fulls some (omega arith)
+    (came_to plan told at before current w d.0 files (told_now plan told at files are)) size fulls some (omega arith)
 by_due goes plan told at before current size fulls held (Some Full) w d count some files are =
     goes (stream_of plan files) at.transfer at.file before current
-    (came_to plan told at before current w d.0 files are) size fulls some (omega arith)
+    (came_to plan told at before current w d.0 files (told_now plan told at files are)) size fulls some (omega arith)
 by_due goes plan told at before current size fulls held (Some Last) w d count some files are =
     goes (stream_of plan files) at.transfer at.file before current
-    (came_to plan told at before current w d.0 files are) size fulls some (omega arith)
+    (came_to plan told at before current w d.0 files (told_now plan told at files are)) size fulls some (omega arith)
 by_due goes plan told at before current size fulls held (Some (Stopped end)) w d count some files are =
     let total = d.0.total in
     let within = w.within in
-    by_end (stream_of plan files) at before current size fulls held end (d.2 files are) count d.1 (omega arith)
+    by_end (stream_of plan files) at before current size fulls held end
+    (d.2.ends files
+    (all_told (IsAmong (judged_at end at) plan.starts (length plan.names)) told plan.names files are)) count d.1
+    (omega arith)
 
 -- where a stream is
 is_within : (s : Stream) → s.source.place.transfer < length s.source.starts.now →

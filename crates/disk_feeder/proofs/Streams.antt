@@ -8,19 +8,10 @@ use Rattle.dada_model.specs.Fields.{HeaderText, HeaderRefusal, header_of, fields
 use Rattle.dada_model.specs.Observation.{Observation, observation_in}
 use Rattle.obs_plan.specs.Later.{profile_of}
 use Rattle.obs_plan.specs.declared.profile.Profile.{Profile}
-use Rattle.psr_base.specs.Told.{Told}
 use Rattle.stream_model.specs.Walk.{FileStream, file_at, begin_of, transfer_of, data_between, observation_at, fields_past, header_stop, later_stop}
 use Rattle.stream_model.specs.WalkLaws.{AreStarts, IsIn}
 use Rattle.disk_feeder.specs.declared.place.First.{First}
-use Rattle.disk_feeder.specs.Plan.{Plan, stream_of, AreTold, begin_at, AreAccepted, HasHeaders}
-
--- where nothing under a name changed, the same files are told
-pub told_before : (told told' : Told) (names files : List (List ℕ)) → told'.bytes_under ≡ told.bytes_under →
-    AreTold told' names files → AreTold told names files
-told_before told told' names files same are = record {
-  count = are.count;
-  each = λ k below. ap (λ (f : List ℕ → Option (List ℕ)). f (slice_index_or names k [])) (sym same) ∙ are.each k below;
-}
+use Rattle.disk_feeder.specs.Plan.{Plan, stream_of, begin_at, AreAccepted, HasHeaders}
 
 -- the next transfer begins within the files, or past them
 pub begin_most : (starts : List ℕ) (count t : ℕ) → AreStarts starts count → t < length starts →
@@ -30,12 +21,12 @@ begin_most starts count t are there = elim (cases_lt (t + 1) (length starts)) [
   | inr last ↦ let past : begin_at starts count (t + 1) ≡ count = get_or_past starts (t + 1) count last in omega arith
 ]
 
-module _ (plan : Plan) (told : Told) (files : List (List ℕ)) (are : AreTold told plan.names files) where
+module _ (plan : Plan) (files : List (List ℕ)) (count : length files ≡ length plan.names) where
   pub starts_of : AreStarts plan.starts (length plan.names) → AreStarts plan.starts (length files)
-  starts_of h = let P : ℕ → Type 0 = λ n. AreStarts plan.starts n in subst P (sym are.count) h
+  starts_of h = let P : ℕ → Type 0 = λ n. AreStarts plan.starts n in subst P (sym count) h
 
   pub begin_is : (t : ℕ) → begin_of (stream_of plan files) t ≡ begin_at plan.starts (length plan.names) t
-  begin_is t = ap (λ (n : ℕ). slice_index_or plan.starts t n) are.count
+  begin_is t = ap (λ (n : ℕ). slice_index_or plan.starts t n) count
 
   -- an open file, or one that is to be opened, is in its transfer
   pub is_in : (t k : ℕ) → t < length plan.starts → begin_at plan.starts (length plan.names) t ≤ k →

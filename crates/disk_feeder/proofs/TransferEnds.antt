@@ -8,7 +8,7 @@ use Rattle.stream_model.specs.Blocks.{joined_data}
 use Rattle.stream_model.specs.Walk.{begin_of, data_between, walk_data, transfer_data}
 use Rattle.stream_model.specs.WalkLaws.{OneTransferMore, DataNone}
 use Rattle.disk_feeder.specs.declared.place.Place.{Place}
-use Rattle.disk_feeder.specs.Plan.{Plan, stream_of, AreTold, begin_at}
+use Rattle.disk_feeder.specs.Plan.{Plan, stream_of, AreToldTo, opened_at, begin_at}
 use Rattle.disk_feeder.specs.Reading.{IsAt, HasRead}
 use Rattle.disk_feeder.proofs.Streams.{begin_is}
 
@@ -26,12 +26,13 @@ module _ (plan : Plan) (told : Told) (at : Place) (before : List (List ℕ)) (cu
   abbrev after : Place
   after = record at { transfer = at.transfer + 1; since = 0 }
 
-  at_next : (files : List (List ℕ)) → AreTold told plan.names files →
+  at_next : (files : List (List ℕ)) → AreToldTo (opened_at at) told plan files →
       IsAt (stream_of plan files) plan told after (before ++ current ∷ []) []
   at_next files are =
       let s = stream_of plan files in
       let was = has.known files are in
-      let next : at.file ≡ begin_of s (at.transfer + 1) = over ∙ sym (begin_is plan told files are (at.transfer + 1)) in
+      let next : at.file ≡ begin_of s (at.transfer + 1) =
+      over ∙ sym (begin_is plan files are.count (at.transfer + 1)) in
       let all : current ≡ transfer_data s at.transfer =
       was.shut shut ∙ ap (data_between files (begin_of s at.transfer)) next in
       record {
@@ -60,5 +61,6 @@ module _ (plan : Plan) (told : Told) (at : Place) (before : List (List ℕ)) (cu
           length-append (joined_data before)
               current,
         );
+        passed = has.passed;
         known = at_next;
       }

@@ -1,15 +1,16 @@
 -- How a feeder begins: the first header of each transfer is read, and then its observation accepted.
 -- Source: this project's profile.
-use Rattle.std.specs.Prelude.{◌≡◌, ◌≢◌, ℕ, ◌+◌, ◌<◌, Bool, true, false, None, Some, Ok, List, length, slice_get}
+use Rattle.std.specs.Prelude.{◌≡◌, ◌≢◌, ⊤, ℕ, ◌+◌, ◌<◌, Bool, true, false, None, Some, Ok, List, length, IsSome, slice_get}
 use Rattle.psr_base.specs.Told.{Told, OfFile, left_to_read}
 use Rattle.dada_model.specs.Fields.{HeaderText, header_of}
-use Rattle.stream_model.specs.Walk.{file_at, data_of}
+use Rattle.stream_model.specs.Walk.{data_of}
 use Rattle.disk_feeder.specs.declared.answers.FeedFault.{FeedFault}
+use Rattle.disk_feeder.specs.declared.answers.FeedFault.TheVariants as fault
 use Rattle.disk_feeder.specs.declared.place.First.{First}
 use Rattle.disk_feeder.specs.declared.place.Place.{Place}
 use Rattle.disk_feeder.specs.declared.source.Source.{Source}
 use Rattle.disk_feeder.specs.declared.stream.Stream.{Stream}
-use Rattle.disk_feeder.specs.Plan.{Plan, stream_of, AreTold, begin_at, IsFirst, HasHeaders}
+use Rattle.disk_feeder.specs.Plan.{Plan, begin_at, IsFirst}
 use Rattle.disk_feeder.specs.Front.{BreaksAt}
 use Rattle.disk_feeder.specs.History.{firsts_read}
 use Rattle.disk_feeder.specs.Sources.{plan_of, first_place, first_name, HasHeaderAt, RefusesFirst, IsKept}
@@ -44,8 +45,10 @@ FirstsRead told source count told' = (file_of : ℕ → List ℕ) →
     AreFirstFiles told source count file_of →
     told' ≡ firsts_read (first_name source) file_of count told
 
--- a fault came before the first header of some transfer was judged; those before it were read, and are headers
-pub record BreaksFirst (told : Told) (source : Source) (told' : Told) : Type 0 where
+-- A fault came before the first header of some transfer was judged; those before it were read, and are headers. Of
+-- calm inputs it comes only where that file isn't told.
+pub record BreaksFirst (told : Told) (is_calm : Type 0) (source : Source) (told' : Told) :
+    Type 0 where
   pub transfer : ℕ
   pub there : transfer < length source.starts.now
   pub earlier : (k : ℕ) → k < transfer →
@@ -54,11 +57,18 @@ pub record BreaksFirst (told : Told) (source : Source) (told' : Told) : Type 0 w
   pub broke : (file_of : ℕ → List ℕ) → AreFirstFiles told source (transfer + 1) file_of →
       BreaksAt (first_name source transfer) (file_of transfer)
       (firsts_read (first_name source) file_of transfer told) told'
+  pub missing : is_calm → ¬ IsSome (told.bytes_under (first_name source transfer))
+
+-- a fault names this file, if it names one
+abbrev pub NamesFile : FeedFault → ℕ → Type 0
+NamesFile fault.ReadFault file = ⊤
+NamesFile (fault.BadHeader k cause) file = k ≡ file
 
 -- the fault is that of the first file of some transfer; those of the transfers before it have headers
 pub record RefusesSome (told : Told) (source : Source) (fault : FeedFault) : Type 0 where
   pub transfer : ℕ
   pub there : transfer < length source.starts.now
+  pub names : NamesFile fault (begin_at source.starts.now (length source.names.now) transfer)
   pub refuses : OfFile told (first_name source transfer)
       (λ file. RefusesFirst file
       (begin_at source.starts.now (length source.names.now) transfer) fault)
@@ -85,11 +95,9 @@ pub record IsBegunStream (told : Told) (s : Stream) : Type 0 where
   pub due : s.due ≡ None
   pub header_due : s.header_due ≡ false
   pub end : s.end ≡ None
-  pub headers : (files : List (List ℕ)) → AreTold told (plan_of s.source).names files →
-      HasHeaders (plan_of s.source) (stream_of (plan_of s.source) files)
-  pub left : s.source.place.is_open ≡ true → (files : List (List ℕ)) →
-      AreTold told (plan_of s.source).names files →
-      left_to_read told ≡ Some (data_of (file_at (stream_of (plan_of s.source) files) 0))
+  pub headers : HeadersRead told s.source (length s.source.starts.now) s.source
+  pub left : s.source.place.is_open ≡ true →
+      OfFile told (first_name s.source 0) (λ file. left_to_read told ≡ Some (data_of file))
 
 -- a header's observation is kept as that of a transfer
 abbrev pub IsAcceptedIn : Plan → ℕ → HeaderText → Type 0

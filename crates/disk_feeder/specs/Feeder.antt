@@ -9,13 +9,14 @@ use Rattle.disk_feeder.specs.declared.answers.FeedEnd.{FeedEnd}
 use Rattle.disk_feeder.specs.declared.answers.FeedFault.{FeedFault}
 use Rattle.disk_feeder.specs.declared.feeder.Feeder.{Feeder}
 use Rattle.disk_feeder.specs.declared.feeder.FeederSpace.{FeederSpace}
+use Rattle.disk_feeder.specs.declared.place.Place.{Place}
 use Rattle.disk_feeder.specs.declared.stream.Stream.{Stream}
 use Rattle.disk_feeder.specs.Plan.{Plan}
 use Rattle.disk_feeder.specs.Sources.{plan_of}
 use Rattle.disk_feeder.specs.Filling.{IsSince}
 use Rattle.disk_feeder.specs.Streams.{StreamRead, StreamReadsFirsts}
 use Rattle.disk_feeder.specs.Beginning.{IsFreshStream, IsBegunStream, LastLeft, FirstsRead, BreaksFirst, RefusesSome, IsAcceptedIn}
-use Rattle.disk_feeder.specs.Feeding.{FitsRings, IsFaultless, IsFeeding, IsBeginning}
+use Rattle.disk_feeder.specs.Feeding.{FitsRings, IsFaultless, FaultIsMissing, IsFeeding, IsBeginning}
 
 -- the stream of a feeder
 abbrev pub stream_at : {I : Type 0} → Feeder I → Stream
@@ -32,8 +33,12 @@ block_size f = length f.stream.block.items
 abbrev pub names_at : {I : Type 0} → Feeder I → List (List ℕ)
 names_at f = (plan_at f).names
 
-abbrev pub header_at : {I : Type 0} → Feeder I → List HeaderText
-header_at f = (plan_at f).headers
+abbrev pub headers_of : {I : Type 0} → Feeder I → List HeaderText
+headers_of f = (plan_at f).headers
+
+-- where it is in its files
+abbrev pub place_at : {I : Type 0} → Feeder I → Place
+place_at f = f.stream.source.place
 
 -- how it ended, if it did
 abbrev pub has_end : {I : Type 0} → Feeder I → Option FeedEnd
@@ -46,7 +51,7 @@ pub record HasPlan {I : Type 0} (f : Feeder I) (names : List (List ℕ)) (starts
   pub transfers : (plan_at f).starts ≡ starts
   pub limit : (plan_at f).max_bytes ≡ max_bytes
   pub block : block_size f ≡ size
-  pub headers : length (header_at f) ≡ length starts
+  pub headers : length (headers_of f) ≡ length starts
 
 -- a header's observation was accepted as that of a transfer
 abbrev pub IsAcceptedAt : {I : Type 0} → Feeder I → ℕ → HeaderText → Type 0
@@ -58,7 +63,7 @@ pub record SamePlan {I : Type 0} (old new : Feeder I) : Type 0 where
   pub starts : (plan_at new).starts ≡ (plan_at old).starts
   pub limit : (plan_at new).max_bytes ≡ (plan_at old).max_bytes
   pub size : block_size new ≡ block_size old
-  pub headers : length (header_at new) ≡ length (header_at old)
+  pub headers : length (headers_of new) ≡ length (headers_of old)
 
 -- the space of a feeder that is to read these files, in blocks of this size
 pub record IsSpaceFor (space : FeederSpace) (names : List (List ℕ)) (starts : List ℕ)
@@ -90,8 +95,8 @@ abbrev pub FirstHeadersRead : {I : Type 0} → Told → Feeder I → Told → Ty
 FirstHeadersRead told f told' = FirstsRead told f.stream.source (length (plan_at f).starts) told'
 
 -- a fault came before the first header of some transfer was judged, and after those before it were read
-abbrev pub BreaksFirstHeaders : {I : Type 0} → Told → Feeder I → Told → Type 0
-BreaksFirstHeaders told f told' = BreaksFirst told f.stream.source told'
+abbrev pub BreaksFirstHeaders : {I : Type 0} → Told → Type 0 → Feeder I → Told → Type 0
+BreaksFirstHeaders told is_calm f told' = BreaksFirst told is_calm f.stream.source told'
 
 -- why a first header is refused: the inputs failed, or it is the first in the order of the transfers that is refused
 abbrev pub RefusesAt : {I : Type 0} → Told → Feeder I → FeedFault → Type 0
@@ -99,7 +104,7 @@ RefusesAt told f fault = RefusesSome told f.stream.source fault
 
 -- the observation of a transfer's first header was accepted, and what was accepted of others stays
 pub record AcceptsAt {I : Type 0} (old : Feeder I) (transfer : ℕ) (new : Feeder I) : Type 0 where
-  pub first : (header : HeaderText) → slice_get (header_at new) transfer ≡ Some header →
+  pub first : (header : HeaderText) → slice_get (headers_of new) transfer ≡ Some header →
       IsAcceptedAt new transfer header
   pub others : (k : ℕ) (header : HeaderText) → k ≢ transfer → IsAcceptedAt old k header →
       IsAcceptedAt new k header
@@ -123,9 +128,13 @@ FeederSince k faults f = IsSince k faults f.stream.due f.stream.end
 abbrev pub FeederFaultless : {I : Type 0} → Feeder I → Type 0
 FeederFaultless f = IsFaultless f.stream.due f.stream.end
 
+-- where a fault came, the file at the place isn't told
+abbrev pub FeederMisses : {I : Type 0} → Told → Feeder I → Type 0
+FeederMisses told f = FaultIsMissing told f.stream
+
 -- all first headers were accepted
 abbrev pub AllAccepted : {I : Type 0} → Feeder I → Type 0
-AllAccepted f = (k : ℕ) (header : HeaderText) → slice_get (header_at f) k ≡ Some header →
+AllAccepted f = (k : ℕ) (header : HeaderText) → slice_get (headers_of f) k ≡ Some header →
     IsAcceptedAt f k header
 
 -- what it opened and read of its files since its inputs told `before`, until an end is due that is no fault
@@ -140,7 +149,7 @@ ReadsFirstHeaders told old told' new = StreamReadsFirsts told old.stream told' n
 -- fault
 pub record KeepsBegun {I : Type 0} (old new : Feeder I) : Type 0 where
   pub plan : SamePlan old new
-  pub headers : header_at new ≡ header_at old
+  pub headers : headers_of new ≡ headers_of old
   pub reading : HasOpenFile new → HasOpenFile old
   pub reads_on : (before told : Told) → FeederRead before told old → FeederRead before told new
   pub faultless : FeederFaultless new

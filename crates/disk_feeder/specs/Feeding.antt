@@ -1,6 +1,6 @@
 -- What a feeder stands for: the sealed lists of its pass.
 -- Source: this project's profile.
-use Rattle.std.specs.Prelude.{◌≡◌, ◌≢◌, ℕ, ◌+◌, ◌/◌, ◌<◌, ◌≤◌, ◌⊎◌, Bool, true, false, if◌then◌else◌, Option, Some, None, List, [], ◌∷◌, ◌++◌, map, length, take}
+use Rattle.std.specs.Prelude.{◌≡◌, ◌≢◌, ⊤, ℕ, ◌+◌, ◌/◌, ◌<◌, ◌≤◌, ◌⊎◌, Bool, true, false, if◌then◌else◌, Option, IsSome, Some, None, List, [], ◌∷◌, ◌++◌, map, length, take}
 use mathlib.Core.List.{IsPrefix}
 use Rattle.psr_base.specs.Told.{Told}
 use Rattle.dada_model.specs.Fields.{HeaderText}
@@ -21,11 +21,13 @@ use Rattle.disk_feeder.specs.declared.answers.FeedTurn.TheVariants.{Moved, Ended
 use Rattle.disk_feeder.specs.declared.place.Place.{Place}
 use Rattle.disk_feeder.specs.declared.stream.Stream.{Stream}
 use Rattle.disk_feeder.specs.Ends.{end_of}
-use Rattle.disk_feeder.specs.History.{IsReadUpTo, IsBreaking}
-use Rattle.disk_feeder.specs.Plan.{Plan, stream_of, AreTold, AreAccepted}
-use Rattle.disk_feeder.specs.Sources.{plan_of, IsEarly}
+use Rattle.disk_feeder.specs.declared.source.Source.{Source}
+use Rattle.disk_feeder.specs.History.{BreaksIf}
+use Rattle.disk_feeder.specs.Plan.{Plan, stream_of, AreTold, AreToldTo, opened_at, AreAccepted}
+use Rattle.disk_feeder.specs.Reading.{NoStopBefore, StopsAtFile, judged_at}
+use Rattle.disk_feeder.specs.Sources.{plan_of, current_name, IsEarly}
 use Rattle.disk_feeder.specs.Streams.{IsStream}
-use Rattle.disk_feeder.specs.Filling.{IsSince, HoldsAll}
+use Rattle.disk_feeder.specs.Filling.{IsSince}
 use Rattle.disk_feeder.specs.Turns.{sealed_headers, sealed_blocks}
 
 -- the blocks of headers
@@ -101,16 +103,27 @@ pub record IsEnding (transfers : ℕ) (blocks : List Entry) (end : FeedEnd) : Ty
   pub count : (bytes : ℕ) → end ≡ Whole bytes → length (joined_bytes blocks) ≡ bytes
   pub cut : ((bytes : ℕ) → end ≢ Whole bytes) → has_cut blocks ≡ true
 
--- Once it ended, they are the stream of the data that were read, which lie within the limit; and where the files are
--- told, the walk's.
-pub record IsEnded (plan : Plan) (told : Told) (size : ℕ) (headers blocks : List Entry)
-    (end : FeedEnd) : Type 0 where
+-- where an end is a stop of the walk, the walk stops at this file
+abbrev pub StopsWalkAt : FeedEnd → FileStream → ℕ → Type 0
+StopsWalkAt (Whole bytes) s file = ⊤
+StopsWalkAt ReadFault s file = ⊤
+StopsWalkAt end s file = StopsAtFile (walk_stop s) file
+
+-- Once it ended at a place, they are the stream of the data that were read, which lie within the limit; and where the
+-- files that judge the end are told, the walk's. No file before that of the place stops the walk; where all data were
+-- sealed it is past all files.
+pub record IsEnded (plan : Plan) (told : Told) (at : Place) (size : ℕ)
+    (headers blocks : List Entry) (end : FeedEnd) : Type 0 where
   pub before : List (List ℕ)
   pub current : List ℕ
   pub few : length (joined_data before) + length current ≤ plan.max_bytes
   pub sealed : SealedAs plan size before current headers blocks end
-  pub known : (files : List (List ℕ)) → AreTold told plan.names files →
+  pub passed : NoStopBefore plan told at.file
+  pub last : (bytes : ℕ) → end ≡ Whole bytes → at.file ≡ length plan.names
+  pub known : (files : List (List ℕ)) → AreToldTo (judged_at end at) told plan files →
       EndIs (stream_of plan files) size blocks end
+  pub stops : (files : List (List ℕ)) → AreToldTo (judged_at end at) told plan files →
+      StopsWalkAt end (stream_of plan files) at.file
 
 -- What was sealed where a fault came at a place: nothing that was read stops the walk, and the full blocks are those of
 -- the data that were read of the transfer, all within the limit, with a Cut
@@ -125,9 +138,10 @@ pub record IsCutAt (s : FileStream) (at : Place) (size : ℕ) (blocks : List Ent
 -- once a stream ended, and where it did so by a fault
 pub record HasEndedAs (s : Stream) (told : Told) (headers blocks : List Entry) (end : FeedEnd) :
     Type 0 where
-  pub ended : IsEnded (plan_of s.source) told (length s.block.items) headers blocks end
+  pub ended : IsEnded (plan_of s.source) told s.source.place (length s.block.items) headers blocks
+      end
   pub cut : end ≡ ReadFault → (files : List (List ℕ)) →
-      AreTold told (plan_of s.source).names files →
+      AreToldTo (opened_at s.source.place) told (plan_of s.source) files →
       IsCutAt (stream_of (plan_of s.source) files) s.source.place (length s.block.items) blocks
 
 abbrev pub FeedsTo : Stream → Told → List Entry → List Entry → Option FeedEnd → Type 0
@@ -138,22 +152,18 @@ FeedsTo s told headers blocks (Some end) = HasEndedAs s told headers blocks end
 abbrev pub IsFeeding : Stream → Told → List Entry → List Entry → Type 0
 IsFeeding s told headers blocks = FeedsTo s told headers blocks s.end
 
--- What a fault of the inputs leaves of the walk of these files, over what inputs told before anything was read and tell
--- now. Nothing that was read stops the walk, by a header or by the limit. The file at which the fault came was not
--- opened, or its header isn't judged by what was read; or its header goes on, and so many bytes of it were read. With
--- `count` the data bytes that were read of the transfer, its full blocks are those of that many bytes, and no other.
-pub record BreaksReading (names : List (List ℕ)) (s : FileStream) (before after : Told) (size : ℕ)
+-- What a fault of the inputs leaves of the walk of files, over what inputs told before anything was read and tell now.
+-- It came at this place, and no file before stops the walk. Where the files that were opened are told, nothing that was
+-- read stops it, and the full blocks of the transfer are those of the data bytes that were read of it, and no other.
+-- Where the file at the place is told too, it was not opened, or its header isn't judged by what was read; or its header
+-- goes on, and it was read up to the place.
+pub record BreaksReading (plan : Plan) (before after : Told) (at : Place) (size : ℕ)
     (blocks : List Entry) : Type 0 where
-  pub transfer : ℕ
-  pub file : ℕ
-  pub inside : IsIn s transfer file
-  pub passed : (j : ℕ) → j < file → stop_at s j ≡ None
-  pub count : ℕ
-  pub stood : IsBreaking names s before after transfer file count
-      ⊎ ((header_stop s file ≡ None) × IsReadUpTo names s before after transfer file count)
-  pub few : length (joined_data (take transfer (walk_data s))) + count ≤ s.max_bytes
-  pub stream : blocks ≡ abandoned_stream size s.max_bytes (take transfer (walk_data s))
-      (take count (transfer_data s transfer))
+  pub passed : NoStopBefore plan after at.file
+  pub cut : (files : List (List ℕ)) → AreToldTo (opened_at at) after plan files →
+      IsCutAt (stream_of plan files) at size blocks
+  pub stood : (files : List (List ℕ)) → AreToldTo (at.file + 1) after plan files →
+      BreaksIf at.is_open plan.names (stream_of plan files) before after at
 
 -- the plan and the size of a block stay
 pub record KeepsPlan (old new : Stream) : Type 0 where
@@ -166,13 +176,23 @@ Feeds old pass new pass' = (told : Told) →
     IsRunning old told (sealed_headers pass) (sealed_blocks pass) →
     IsFeeding new told (sealed_headers pass') (sealed_blocks pass')
 
+-- the file at the place isn't told
+pub record IsMissing (told : Told) (source : Source) : Type 0 where
+  pub there : source.place.file < length (plan_of source).names
+  pub untold : ¬ IsSome (told.bytes_under (current_name source))
+
+-- where a fault of the inputs is due or came, the file at the place is such a one
+abbrev pub FaultIsMissing : Told → Stream → Type 0
+FaultIsMissing told s = (s.due ≡ Some (Stopped ReadFault)) ⊎ (s.end ≡ Some ReadFault) →
+    IsMissing told s.source
+
 -- no fault of the inputs came
 abbrev pub IsFaultless : Option Due → Option FeedEnd → Type 0
 IsFaultless due end = (due ≢ Some (Stopped ReadFault)) × (end ≢ Some ReadFault)
 
 -- What reading keeps of the inputs. Files stay as they are told; a fault is due or came only where the count of faults
--- rose; and calm inputs that hold all files give none. In this: what inputs tell, whether they are calm, and how many
--- calls have failed.
+-- rose, and of calm inputs only at a file that isn't told. In this: what inputs tell, whether they are calm, and how
+-- many calls have failed.
 pub record KeepsInputs {I : Type 0} (told : I → Told) (is_calm : I → Type 0) (faults : I → ℕ)
     (old new : Stream) (inputs inputs' : I) : Type 0 where
   pub names : (told inputs').bytes_under ≡ (told inputs).bytes_under
@@ -181,17 +201,17 @@ pub record KeepsInputs {I : Type 0} (told : I → Told) (is_calm : I → Type 0)
   pub since : (k : ℕ) → IsSince k (faults inputs) old.due old.end →
       IsSince k (faults inputs') new.due new.end
   pub calm : is_calm inputs → is_calm inputs'
-  pub serves : is_calm inputs → HoldsAll (told inputs) (plan_of old.source).names →
-      IsFaultless old.due old.end → IsFaultless new.due new.end
+  pub missing : is_calm inputs → FaultIsMissing (told inputs) old →
+      FaultIsMissing (told inputs') new
 
 -- What a seal leaves, which reads nothing: the plan and the size of a block stay, and no file is opened. Where a fault
--- came before, one has come still, and where none did, none has
+-- came before, one has come still, and where it came at a file that isn't told, it still stands there
 pub record AfterSeal (old new : Stream) : Type 0 where
   pub plan : plan_of new.source ≡ plan_of old.source
   pub size : length new.block.items ≡ length old.block.items
   pub opened : new.source.place.is_open ≡ true → old.source.place.is_open ≡ true
   pub since : (k faults : ℕ) → IsSince k faults old.due old.end → IsSince k faults new.due new.end
-  pub faultless : IsFaultless old.due old.end → IsFaultless new.due new.end
+  pub missing : (told : Told) → FaultIsMissing told old → FaultIsMissing told new
   pub failed : IsFaultless new.due new.end → IsFaultless old.due old.end
 
 -- after a transfer: the header of the next one is due, or all data were sealed

@@ -1,9 +1,9 @@
 -- What is read of a file's header.
 -- Source: PSRDADA manual (headers at the front of files, HDR_SIZE); that it is read in two pieces is this project's
 -- choice.
-use Rattle.std.specs.Prelude.{◌≡◌, ℕ, ◌+◌, ◌-◌, ◌<◌, ◌⊎◌, ⊤, List, ◌++◌, min, length, take, drop, Option, Some, unwrap_or, Result, Ok, Err}
+use Rattle.std.specs.Prelude.{◌≡◌, ℕ, ◌+◌, ◌-◌, ⊤, List, ◌++◌, min, length, take, drop, Option, Some, unwrap_or, Result, Ok, Err}
 use Rattle.dada_model.specs.Fields.{HeaderText, HeaderRefusal, header_of, header_size, least_header}
-use Rattle.psr_base.specs.Told.{Told, opened, moved_by}
+use Rattle.psr_base.specs.Told.{Told, BreaksOff}
 use Rattle.dada_header.specs.Faults.{IsHeaderRefusal}
 use Rattle.disk_feeder.specs.declared.front.HeaderStop.{HeaderStop}
 use Rattle.disk_feeder.specs.declared.front.HeaderStop.TheVariants.{Failed, Refused}
@@ -49,10 +49,6 @@ front_of file = front_in file (header_of file)
 unfoldable pub judged_after : List ℕ → ℕ
 judged_after file = unwrap_or (header_size file) least_header
 
--- a fault came before n more bytes were read; no end was seen
-abbrev pub BreaksWithin : ℕ → Told → Told → Type 0
-BreaksWithin n old new = (k : ℕ) × (k < n) × (new ≡ moved_by k old)
-
 -- a fault came before the header of a file was judged: it was not opened, or too few bytes were read of it
 abbrev pub BreaksAt : List ℕ → List ℕ → Told → Told → Type 0
-BreaksAt name file old new = (new ≡ old) ⊎ BreaksWithin (judged_after file) (opened name old) new
+BreaksAt name file old new = BreaksOff (judged_after file) name old new

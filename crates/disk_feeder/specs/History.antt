@@ -9,7 +9,7 @@ use Rattle.disk_feeder.specs.declared.due.Due.{Due}
 use Rattle.disk_feeder.specs.declared.due.Due.TheVariants.{Full, Last, Stopped}
 use Rattle.disk_feeder.specs.declared.place.Place.{Place}
 use Rattle.disk_feeder.specs.Front.{front_of, BreaksAt}
-use Rattle.disk_feeder.specs.Plan.{Plan, stream_of, AreTold}
+use Rattle.disk_feeder.specs.Plan.{Plan, stream_of, AreToldTo, opened_at}
 
 -- ---- what was read
 
@@ -84,20 +84,23 @@ abbrev pub StandsIf : Bool → List (List ℕ) → FileStream → Told → Told 
 StandsIf false names s before told at = IsShut names s before told at.transfer at.file at.since
 StandsIf true names s before told at = IsReadUpTo names s before told at.transfer at.file at.since
 
+-- the same where a fault came: before the header of the file was judged, or past it
 abbrev pub BreaksIf : Bool → List (List ℕ) → FileStream → Told → Told → Place → Type 0
 BreaksIf false names s before told at =
     IsBreaking names s before told at.transfer at.file at.since
 BreaksIf true names s before told at =
     IsReadUpTo names s before told at.transfer at.file at.since
 
--- where the files are told, they were read up to the place
+-- where the files that were opened are told, they were read up to the place
 abbrev pub ReadsUpTo : Plan → Told → Told → Place → Type 0
-ReadsUpTo plan before told at = (files : List (List ℕ)) → AreTold told plan.names files →
+ReadsUpTo plan before told at = (files : List (List ℕ)) →
+    AreToldTo (opened_at at) told plan files →
     StandsIf at.is_open plan.names (stream_of plan files) before told at
 
--- and there a fault came
+-- and there a fault came, where the file at the place is told too
 abbrev pub BreaksOffAt : Plan → Told → Told → Place → Type 0
-BreaksOffAt plan before told at = (files : List (List ℕ)) → AreTold told plan.names files →
+BreaksOffAt plan before told at = (files : List (List ℕ)) →
+    AreToldTo (at.file + 1) told plan files →
     BreaksIf at.is_open plan.names (stream_of plan files) before told at
 
 -- a call read on, or a fault came; of another end nothing is said here

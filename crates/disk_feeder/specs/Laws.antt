@@ -1,14 +1,13 @@
 -- Laws of feeders; the functions of this crate carry them.
 -- Source: this project's profile.
-use Rattle.std.specs.Prelude.{◌≡◌, ℕ, List, length, None, Some}
+use Rattle.std.specs.Prelude.{◌≡◌, List, length, None, Some}
 use Rattle.psr_base.specs.Told.{Told}
 use Rattle.ring_blocks.specs.declared.Entry.{Entry}
 use Rattle.disk_feeder.specs.declared.answers.FeedEnd.{FeedEnd}
 use Rattle.disk_feeder.specs.declared.answers.FeedEnd.TheVariants.{ReadFault}
 use Rattle.disk_feeder.specs.declared.feeder.Feeder.{Feeder}
-use Rattle.disk_feeder.specs.Feeder.{FeederFeeds, FeederBegins, FeederRead, has_end, header_at, names_at, plan_at, block_size}
+use Rattle.disk_feeder.specs.Feeder.{FeederFeeds, FeederBegins, FeederRead, has_end, headers_of, plan_at, place_at, block_size}
 use Rattle.disk_feeder.specs.Feeding.{HeadersKeepUp, IsEnding, BreaksReading}
-use Rattle.disk_feeder.specs.Plan.{stream_of, AreTold}
 
 -- until a feeder ended, the data blocks that it stands for are a beginning of the stream of its files, without a Cut
 abbrev pub FeedersBegin : Type 0 → Type 0
@@ -24,12 +23,11 @@ FeedersEnd I = (f : Feeder I) (told : Told) (headers blocks : List Entry) (end :
 -- the header blocks that it stands for are those of the first transfers, of as many as ended, or of one more
 abbrev pub HeadersAreFirst : Type 0 → Type 0
 HeadersAreFirst I = (f : Feeder I) (told : Told) (headers blocks : List Entry) →
-    FeederFeeds told f headers blocks → HeadersKeepUp (header_at f) headers blocks
+    FeederFeeds told f headers blocks → HeadersKeepUp (headers_of f) headers blocks
 
 -- where a fault of the inputs ended it, nothing that was read stops the walk of its files, and its full blocks are
 -- those of the data that were read, as they are told
 abbrev pub FaultsLeave : Type 0 → Type 0
 FaultsLeave I = (f : Feeder I) (before told : Told) (headers blocks : List Entry) →
     FeederFeeds told f headers blocks → has_end f ≡ Some ReadFault → FeederRead before told f →
-    (files : List (List ℕ)) → AreTold told (names_at f) files →
-    BreaksReading (names_at f) (stream_of (plan_at f) files) before told (block_size f) blocks
+    BreaksReading (plan_at f) before told (place_at f) (block_size f) blocks

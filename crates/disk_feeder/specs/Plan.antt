@@ -1,6 +1,6 @@
 -- The files that a feeder reads, and where it may be in them.
 -- Source: this project's profile.
-use Rattle.std.specs.Prelude.{◌≡◌, ℕ, ◌+◌, ◌<◌, ◌≤◌, true, Option, Some, Ok, List, [], length, slice_get, slice_index_or}
+use Rattle.std.specs.Prelude.{◌≡◌, ℕ, ◌+◌, ◌<◌, ◌≤◌, ◌⊎◌, true, if◌then◌else◌, Option, Some, Ok, List, [], length, slice_get, slice_index_or}
 use Rattle.dada_model.specs.Fields.{HeaderText, fields_of, header_of}
 use Rattle.dada_model.specs.Observation.{observation_of, observation_in}
 use Rattle.obs_plan.specs.Later.{profile_of}
@@ -31,6 +31,37 @@ pub record AreTold (told : Told) (names files : List (List ℕ)) : Type 0 where
 -- the file with which a transfer begins, of so many files
 abbrev pub begin_at : List ℕ → ℕ → ℕ → ℕ
 begin_at starts count transfer = slice_index_or starts transfer count
+
+-- ---- where not all of them are told
+
+-- some transfer begins with this file, of so many
+abbrev pub IsFirstFile : List ℕ → ℕ → ℕ → Type 0
+IsFirstFile starts count k =
+    (transfer : ℕ) × (transfer < length starts) × (k ≡ begin_at starts count transfer)
+
+-- some transfer begins with this file, which comes before another
+abbrev pub IsFirstBefore : ℕ → List ℕ → ℕ → ℕ → Type 0
+IsFirstBefore end starts count k = (k < end) × IsFirstFile starts count k
+
+-- it is one of so many from the first on, or a transfer begins with it: those are opened before all others
+abbrev pub IsAmong : ℕ → List ℕ → ℕ → ℕ → Type 0
+IsAmong opened starts count k = (k < opened) ⊎ IsFirstFile starts count k
+
+-- these are the bytes that are told of the files that are needed; of all others nothing is said
+pub record AreToldAt (Needed : ℕ → Type 0) (told : Told) (names files : List (List ℕ)) :
+    Type 0 where
+  pub count : length files ≡ length names
+  pub each : (k : ℕ) → k < length names → Needed k →
+      told.bytes_under (slice_index_or names k []) ≡ Some (slice_index_or files k [])
+
+-- these are the bytes that are told of so many files from the first on, and of the first one of each transfer
+abbrev pub AreToldTo : ℕ → Told → Plan → List (List ℕ) → Type 0
+AreToldTo opened told plan files =
+    AreToldAt (IsAmong opened plan.starts (length plan.names)) told plan.names files
+
+-- into how many files a walk has come at a place, past their headers
+abbrev pub opened_at : Place → ℕ
+opened_at at = if at.is_open then at.file + 1 else at.file
 
 -- a place among the files: within a transfer or at its end, or after all transfers
 pub record IsPlace (starts : List ℕ) (count max_bytes : ℕ) (at : Place) : Type 0 where

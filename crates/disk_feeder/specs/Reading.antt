@@ -4,13 +4,14 @@ use Rattle.std.specs.Prelude.{◌≡◌, ℕ, ◌+◌, ◌*◌, ◌<◌, ◌≤�
 use mathlib.Core.List.{IsPrefix}
 use Rattle.psr_base.specs.Told.{Told, left_to_read}
 use Rattle.stream_model.specs.Blocks.{full_entries, whole_stream, joined_data, abandoned_stream}
-use Rattle.stream_model.specs.Walk.{FileStream, begin_of, data_between, transfer_data, walk_data, header_stop, stop_at, walk_stop, walk_stream}
+use Rattle.stream_model.specs.Walk as walk
+use Rattle.stream_model.specs.Walk.{FileStream, WalkStop, begin_of, data_between, transfer_data, walk_data, header_stop, stop_at, walk_stop, walk_stream}
 use Rattle.stream_model.specs.WalkLaws.{IsIn}
 use Rattle.disk_feeder.specs.declared.answers.FeedEnd.{FeedEnd}
 use Rattle.disk_feeder.specs.declared.answers.FeedEnd.TheVariants.{Whole, ReadFault}
 use Rattle.disk_feeder.specs.declared.place.Place.{Place}
 use Rattle.disk_feeder.specs.Ends.{end_of}
-use Rattle.disk_feeder.specs.Plan.{Plan, stream_of, AreTold, AreAccepted, HasHeaders}
+use Rattle.disk_feeder.specs.Plan.{Plan, stream_of, AreToldTo, opened_at, AreAccepted, HasHeaders}
 
 -- The walk of these files came to this place: `before` are the data of the transfers before, `current` those that were
 -- read of the transfer, and what is left of the open file and the files after it are still to come.
@@ -24,14 +25,20 @@ pub record IsAt (s : FileStream) (plan : Plan) (told : Told) (at : Place)
   pub rest : at.is_open ≡ true → (left : List ℕ) × (left_to_read told ≡ Some left)
       × (data_between s.files (begin_of s at.transfer) (at.file + 1) ≡ current ++ left)
 
--- a feeder at a place has read these data, where what it reads is told
+-- none of the files before this one stops the walk, each by the files up to it and the first ones of the transfers
+abbrev pub NoStopBefore : Plan → Told → ℕ → Type 0
+NoStopBefore plan told file = (k : ℕ) → k < file → (files : List (List ℕ)) →
+    AreToldTo (k + 1) told plan files → stop_at (stream_of plan files) k ≡ None
+
+-- a feeder at a place has read these data, where the files that were opened are told
 pub record HasRead (plan : Plan) (told : Told) (at : Place) (before : List (List ℕ))
     (current : List ℕ) : Type 0 where
   pub accepted : AreAccepted plan
   pub transfers : length before ≡ at.transfer
   pub since : length current ≡ at.since
   pub total : length (joined_data before) + length current ≡ at.total
-  pub known : (files : List (List ℕ)) → AreTold told plan.names files →
+  pub passed : NoStopBefore plan told at.file
+  pub known : (files : List (List ℕ)) → AreToldTo (opened_at at) told plan files →
       IsAt (stream_of plan files) plan told at before current
 
 -- Where reading ended by the inputs' fault, the data read are a front of those of the files, and their full blocks
@@ -48,10 +55,19 @@ pub record IsFront (s : FileStream) (at : Place) (before : List (List ℕ)) (cur
   pub begins : (size n : ℕ) → 0 < size → n * size ≤ length current →
       IsPrefix (whole_stream size before ++ full_entries size current n) (walk_stream size s)
 
--- Elsewhere the end is that of the walk. Its blocks are those of the data read, for every size at which the block that
--- was being filled has no more room than was asked for.
-pub record IsEnd (s : FileStream) (before : List (List ℕ)) (current : List ℕ) (room : ℕ)
-    (end : FeedEnd) : Type 0 where
+-- the walk stops at this file
+abbrev pub StopsAtFile : WalkStop → ℕ → Type 0
+StopsAtFile walk.Whole file = ⊥
+StopsAtFile (walk.BadText k refusal) file = k ≡ file
+StopsAtFile (walk.BadFields k fault) file = k ≡ file
+StopsAtFile (walk.Gap k expected found) file = k ≡ file
+StopsAtFile (walk.TooLong k) file = k ≡ file
+
+-- Elsewhere the end is that of the walk, which stops at the file of the place. Its blocks are those of the data read,
+-- for every size at which the block that was being filled has no more room than was asked for.
+pub record IsEnd (s : FileStream) (at : Place) (before : List (List ℕ)) (current : List ℕ)
+    (room : ℕ) (end : FeedEnd) : Type 0 where
+  pub stops : StopsAtFile (walk_stop s) at.file
   pub is : end ≡ end_of (length (joined_data (walk_data s))) s.max_bytes (walk_stop s)
   pub blocks : (size fulls held : ℕ) → fulls * size + held ≡ length current →
       held + room ≡ size → 0 < room →
@@ -61,13 +77,19 @@ pub record IsEnd (s : FileStream) (before : List (List ℕ)) (current : List ℕ
 abbrev pub EndsReading : FileStream → Place → List (List ℕ) → List ℕ → ℕ → FeedEnd → Type 0
 EndsReading s at before current room ReadFault = IsFront s at before current
 EndsReading s at before current room (Whole bytes) = ⊥
-EndsReading s at before current room end = IsEnd s before current room end
+EndsReading s at before current room end = IsEnd s at before current room end
 
--- the same where the files are told
-abbrev pub HasEnded : Plan → Told → Place → List (List ℕ) → List ℕ → ℕ → FeedEnd → Type 0
-HasEnded plan told at before current room end = (files : List (List ℕ)) →
-    AreTold told plan.names files →
-    EndsReading (stream_of plan files) at before current room end
+-- how many files judge an end that came at a place: those that were opened, and at a stop of the walk the one there
+abbrev pub judged_at : FeedEnd → Place → ℕ
+judged_at ReadFault at = opened_at at
+judged_at end at = at.file + 1
+
+-- the same where these are told, and no file before that of the place stops the walk
+pub record HasEnded (plan : Plan) (told : Told) (at : Place) (before : List (List ℕ))
+    (current : List ℕ) (room : ℕ) (end : FeedEnd) : Type 0 where
+  pub passed : NoStopBefore plan told at.file
+  pub ends : (files : List (List ℕ)) → AreToldTo (judged_at end at) told plan files →
+      EndsReading (stream_of plan files) at before current room end
 
 -- a file was opened at a place: the data read stay, or reading ended there
 abbrev pub OpensTo : Plan → Place → Told → Told → Result (Unit {0}) FeedEnd → Type 0

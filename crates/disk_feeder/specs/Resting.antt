@@ -8,9 +8,8 @@ use Rattle.dada_hdu.specs.declared.passes.HduWriter.{HduWriter}
 use Rattle.disk_feeder.specs.declared.feeder.Feeder.{Feeder}
 use Rattle.disk_feeder.specs.declared.feeder.FeederSpace.{FeederSpace}
 use Rattle.disk_feeder.specs.declared.stream.Stream.{Stream}
-use Rattle.disk_feeder.specs.Filling.{HoldsAll}
 use Rattle.disk_feeder.specs.Turns.{sealed_headers, sealed_blocks}
-use Rattle.disk_feeder.specs.Feeder.{HasOpenFile, plan_at, block_size, names_at, FeederFits, FeederFeeds, FeederSince, FeederFaultless, FeederRead}
+use Rattle.disk_feeder.specs.Feeder.{HasOpenFile, plan_at, block_size, FeederFits, FeederFeeds, FeederSince, FeederFaultless, FeederMisses, FeederRead}
 
 -- the stream of a space
 abbrev pub stream_in : FeederSpace → Stream
@@ -48,5 +47,5 @@ pub record FeederKept {I : Type 0} (told : I → Told) (is_calm : I → Type 0) 
   pub reads_on : (before : Told) → FeederRead before (told old.inputs.now) old →
       FeederRead before (told new.inputs.now) new
   pub calm : is_calm old.inputs.now → is_calm new.inputs.now
-  pub serves : is_calm old.inputs.now → HoldsAll (told old.inputs.now) (names_at old) →
-      FeederFaultless old → FeederFaultless new
+  pub missing : is_calm old.inputs.now → FeederMisses (told old.inputs.now) old →
+      FeederMisses (told new.inputs.now) new

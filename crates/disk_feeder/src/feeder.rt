@@ -27,7 +27,7 @@ pub struct FeederSpace<'a> {
 }
 
 impl<'a> FeederSpace<'a> {
-    ghost use Rattle.disk_feeder.specs.Feeder.{HasPlan, SamePlan, IsSpaceFor, IsFresh, IsBegun, ReadsFirstHeaders, BreaksFirstHeaders, RefusesAt, HasOpenFile, has_end, header_at, names_at, KeepsBegun, AcceptsAt, AllAccepted, FeederFeeds};
+    ghost use Rattle.disk_feeder.specs.Feeder.{HasPlan, SamePlan, IsSpaceFor, IsFresh, IsBegun, ReadsFirstHeaders, BreaksFirstHeaders, RefusesAt, HasOpenFile, has_end, headers_of, names_at, KeepsBegun, AcceptsAt, AllAccepted, FeederFeeds};
     ghost use Rattle.disk_feeder.specs.Feeding.{header_entries};
     ghost use Rattle.disk_feeder.specs.Resting.{feeder_over, at_rest, FeederStands, FeederKept};
     ghost use Rattle.psr_base.specs.Told.{Told};
@@ -73,7 +73,7 @@ impl<'a> FeederSpace<'a> {
         ensures reads { OnOk result (ReadsFirstHeaders (I.told inputs.old) (at_rest self.old)
             (I.told inputs.new) (at_rest self.new)) }
         ensures broke { result ≡ Err FeedFault.ReadFault → BreaksFirstHeaders (I.told inputs.old)
-            (at_rest self.old) (I.told inputs.new) }
+            (I.is_calm inputs.old) (at_rest self.old) (I.told inputs.new) }
         ensures refused { IfErr result (RefusesAt (I.told inputs.old) (at_rest self.old)) }
         ensures inputs { HasReadFrom I.told I.is_calm I.faults (result ≡ Err FeedFault.ReadFault)
             inputs.old inputs.new }
@@ -86,22 +86,22 @@ impl<'a> FeederSpace<'a> {
 
     /// The first header of a transfer.
     pub fn header(&self, transfer: usize) -> &Header
-        requires { transfer < length (header_at (at_rest self.now)) }
-        ensures { slice_get (header_at (at_rest self.now)) transfer ≡ Some result.now }
+        requires { transfer < length (headers_of (at_rest self.now)) }
+        ensures { slice_get (headers_of (at_rest self.now)) transfer ≡ Some result.now }
     {
         self.stream.header_of(transfer)
     }
 
     /// Keeps the observation of a transfer's first header, as `Feeder::accept` does, whatever is lent.
     pub fn accept(&mut self, transfer: usize, observation: &Observation)
-        requires there { transfer < length (header_at (at_rest self.old)) }
+        requires there { transfer < length (headers_of (at_rest self.old)) }
         requires begun { (told : Told) × IsBegun told (at_rest self.old) }
-        requires accepted { (header : _) → slice_get (header_at (at_rest self.old)) transfer
+        requires accepted { (header : _) → slice_get (headers_of (at_rest self.old)) transfer
             ≡ Some header → observation_of (fields_of header.text) ≡ Ok observation.now }
         ensures kept { KeepsBegun (at_rest self.old) (at_rest self.new) }
         ensures feeds { (told : Told) → IsBegun told (at_rest self.old)
             → AllAccepted (at_rest self.new) → FeederFeeds told (at_rest self.new)
-            (header_entries (take 1 (header_at (at_rest self.new)))) [] }
+            (header_entries (take 1 (headers_of (at_rest self.new)))) [] }
         ensures accepts { AcceptsAt (at_rest self.old) transfer (at_rest self.new) }
     {
         first_files_continue();
@@ -147,7 +147,7 @@ pub struct Feeder<'a, I> {
 }
 
 impl<'a, I: Inputs> Feeder<'a, I> {
-    ghost use Rattle.disk_feeder.specs.Feeder.{stream_at, HasPlan, SamePlan, IsSpaceFor, IsFresh, IsBegun, ReadsFirstHeaders, BreaksFirstHeaders, HasOpenFile, has_end, FeederFeeds, header_at, KeepsBegun, AcceptsAt, AllAccepted, names_at, FeederBegins, RefusesAt};
+    ghost use Rattle.disk_feeder.specs.Feeder.{stream_at, HasPlan, SamePlan, IsSpaceFor, IsFresh, IsBegun, ReadsFirstHeaders, BreaksFirstHeaders, HasOpenFile, has_end, FeederFeeds, headers_of, KeepsBegun, AcceptsAt, AllAccepted, names_at, FeederBegins, RefusesAt};
     ghost use Rattle.disk_feeder.specs.Feeding.{header_entries, HeadersKeepUp};
     ghost use Rattle.disk_feeder.specs.Resting.{stream_in, FeederStands, FeederKept};
 
@@ -174,7 +174,8 @@ impl<'a, I: Inputs> Feeder<'a, I> {
         ensures reads { OnOk result (ReadsFirstHeaders (I.told self.old.inputs.now) self.old
             (I.told self.new.inputs.now) self.new) }
         ensures broke { result ≡ Err FeedFault.ReadFault → BreaksFirstHeaders
-            (I.told self.old.inputs.now) self.old (I.told self.new.inputs.now) }
+            (I.told self.old.inputs.now) (I.is_calm self.old.inputs.now) self.old
+            (I.told self.new.inputs.now) }
         ensures refused { IfErr result (RefusesAt (I.told self.old.inputs.now) self.old) }
         ensures inputs { HasReadFrom I.told I.is_calm I.faults (result ≡ Err FeedFault.ReadFault)
             self.old.inputs.now self.new.inputs.now }
@@ -187,23 +188,23 @@ impl<'a, I: Inputs> Feeder<'a, I> {
 
     /// The first header of a transfer.
     pub fn header(&self, transfer: usize) -> &Header
-        requires { transfer < length (header_at self.now) }
-        ensures { slice_get (header_at self.now) transfer ≡ Some result.now }
+        requires { transfer < length (headers_of self.now) }
+        ensures { slice_get (headers_of self.now) transfer ≡ Some result.now }
     {
         self.stream.header_of(transfer)
     }
 
     /// Keeps the observation of a transfer's first header: the headers of its files are judged by it.
     pub fn accept(&mut self, transfer: usize, observation: &Observation)
-        requires there { transfer < length (header_at self.old) }
+        requires there { transfer < length (headers_of self.old) }
         requires begun { IsBegun (I.told self.old.inputs.now) self.old }
-        requires accepted { (header : _) → slice_get (header_at self.old) transfer ≡ Some header
+        requires accepted { (header : _) → slice_get (headers_of self.old) transfer ≡ Some header
             → observation_of (fields_of header.text) ≡ Ok observation.now }
         ensures same_reference { self.new.inputs.ghost_name ≡ self.old.inputs.ghost_name }
         ensures inputs { self.new.inputs.now ≡ self.old.inputs.now }
         ensures kept { KeepsBegun self.old self.new }
         ensures feeds { AllAccepted self.new → FeederFeeds (I.told self.new.inputs.now) self.new
-            (header_entries (take 1 (header_at self.new))) [] }
+            (header_entries (take 1 (headers_of self.new))) [] }
         ensures begun { IsBegun (I.told self.new.inputs.now) self.new }
         ensures accepts { AcceptsAt self.old transfer self.new }
     {
@@ -225,7 +226,7 @@ impl<'a, I: Inputs> Feeder<'a, I> {
         ensures kept { FeederKept I.told I.is_calm I.faults self.old self.new }
         ensures begins { has_end self.new ≡ None → FeederBegins (I.told self.new.inputs.now)
             self.new (sealed_blocks pass.new) }
-        ensures headers { HeadersKeepUp (header_at self.new) (sealed_headers pass.new)
+        ensures headers { HeadersKeepUp (headers_of self.new) (sealed_headers pass.new)
             (sealed_blocks pass.new) }
         ensures answer { TurnAnswers pass.old pass.new (has_end self.new) result }
     {

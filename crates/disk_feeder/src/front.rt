@@ -2,9 +2,9 @@
 ghost use Rattle.std.specs.Prelude.{◌≡◌, ◌+◌, ◌-◌, ◌≤◌, length, take, Some, Ok, Err, MatchResult, IfOk, IfErr, OnOk, OnErr, IsOk, IsErr, IsSome};
 ghost use Rattle.std.specs.Option.{ForSome};
 ghost use Rattle.psr_base.specs.Inputs.{HasReadFrom};
-ghost use Rattle.psr_base.specs.Told.{OfFile, left_to_read, opened, moved_by, filled_by};
+ghost use Rattle.psr_base.specs.Told.{OfFile, left_to_read, opened, moved_by, filled_by, BreaksWithin};
 ghost use Rattle.dada_model.specs.Fields.{HeaderText, header_of};
-ghost use Rattle.disk_feeder.specs.Front.{HasReadPart, IsFrontRead, IsFailure, StopsHeader, front_of, judged_after, BreaksWithin, BreaksAt};
+ghost use Rattle.disk_feeder.specs.Front.{HasReadPart, IsFrontRead, IsFailure, StopsHeader, front_of, judged_after, BreaksAt};
 ghost use Rattle.stream_model.specs.Walk.{data_of};
 
 use dada_header::{Header, HeaderFault};

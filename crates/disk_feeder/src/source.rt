@@ -59,7 +59,7 @@ impl<'a> Source<'a> {
     ghost use Rattle.psr_base.specs.Told.{Told};
     ghost use Rattle.disk_feeder.specs.Reading.{OpensTo, ReadsTo, EndsTransfer};
     ghost use Rattle.disk_feeder.specs.History.{ReadsUpTo, ReadsOn};
-    ghost use Rattle.disk_feeder.specs.Beginning.{KeepsSource, HeadersRead, LastLeft, FirstsRead, BreaksFirst, RefusesSome};
+    ghost use Rattle.disk_feeder.specs.Beginning.{KeepsSource, HeadersRead, LastLeft, FirstsRead, BreaksFirst, NamesFile, RefusesSome};
     ghost use Rattle.disk_feeder.specs.Filling.{HoldsAll};
     ghost use Rattle.disk_feeder.specs.Plan.{AreAccepted};
 
@@ -123,8 +123,9 @@ impl<'a> Source<'a> {
             → OfFile (I.told inputs.old) (first_name self.old transfer)
             (λ file. BreaksAt (first_name self.old transfer) file (I.told inputs.old)
             (I.told inputs.new)) }
-        ensures refused { IfErr result (λ fault. OfFile (I.told inputs.old)
-            (first_name self.old transfer) (λ file. RefusesFirst file
+        ensures refused { IfErr result (λ fault. NamesFile fault
+            (begin_at self.old.starts.now (length self.old.names.now) transfer)
+            × OfFile (I.told inputs.old) (first_name self.old transfer) (λ file. RefusesFirst file
             (begin_at self.old.starts.now (length self.old.names.now) transfer) fault)) }
         ensures is_open { OnOk result (I.is_open inputs.new) }
         ensures inputs { HasReadFrom I.told I.is_calm I.faults (result ≡ Err FeedFault.ReadFault)
@@ -156,7 +157,8 @@ impl<'a> Source<'a> {
         ensures read { OnOk result (FirstsRead (I.told inputs.old) self.old
             (length self.old.starts.now) (I.told inputs.new)) }
         ensures broke { result ≡ Err FeedFault.ReadFault
-            → BreaksFirst (I.told inputs.old) self.old (I.told inputs.new) }
+            → BreaksFirst (I.told inputs.old) (I.is_calm inputs.old) self.old
+            (I.told inputs.new) }
         ensures refused { IfErr result (RefusesSome (I.told inputs.old) self.old) }
         ensures is_open { OnOk result (I.is_open inputs.new) }
         ensures inputs { HasReadFrom I.told I.is_calm I.faults (result ≡ Err FeedFault.ReadFault)

@@ -70,7 +70,7 @@ impl<'a> Stream<'a> {
     ghost use Rattle.disk_feeder.specs.Beginning.{IsFreshStream, IsBegunStream, BreaksFirst, RefusesSome, KeepsFiles, AcceptsIn};
     ghost use Rattle.disk_feeder.specs.Streams.{work_left, KeepsStream, Fills, IsIdle, IsFilling, HoldsLast, StreamRead, StreamReadsFirsts};
     ghost use Rattle.psr_base.specs.Told.{Told};
-    ghost use Rattle.disk_feeder.specs.Feeding.{KeepsPlan, Feeds, AfterSeal, GoesOn, IsFeeding, KeepsInputs, StreamStands};
+    ghost use Rattle.disk_feeder.specs.Feeding.{KeepsPlan, Feeds, AfterSeal, IsMissing, GoesOn, IsFeeding, KeepsInputs, StreamStands};
 
     /// Nothing was read. The space for a block of so many bytes, and for all headers, is taken here.
     pub(crate) fn open(
@@ -111,7 +111,8 @@ impl<'a> Stream<'a> {
         ensures reads { OnOk result
             (StreamReadsFirsts (I.told inputs.old) self.old (I.told inputs.new) self.new) }
         ensures broke { result ≡ Err FeedFault.ReadFault
-            → BreaksFirst (I.told inputs.old) self.old.source (I.told inputs.new) }
+            → BreaksFirst (I.told inputs.old) (I.is_calm inputs.old) self.old.source
+            (I.told inputs.new) }
         ensures refused { IfErr result (RefusesSome (I.told inputs.old) self.old.source) }
         ensures is_open { OnOk result
             (self.new.source.place.is_open ≡ true → I.is_open inputs.new) }
@@ -183,9 +184,9 @@ impl<'a> Stream<'a> {
         ensures is_open { self.new.source.place.is_open ≡ true → I.is_open inputs.new }
         ensures inputs { HasReadFrom I.told I.is_calm I.faults
             (self.new.due ≡ Some (Due.Stopped FeedEnd.ReadFault)) inputs.old inputs.new }
-        ensures serves { I.is_calm inputs.old
-            → HoldsAll (I.told inputs.old) (plan_of self.old.source).names
-            → self.new.due ≢ Some (Due.Stopped FeedEnd.ReadFault) }
+        ensures missing { I.is_calm inputs.old
+            → self.new.due ≡ Some (Due.Stopped FeedEnd.ReadFault)
+            → IsMissing (I.told inputs.old) self.new.source }
     {
         streams_grow();
         if self.source.is_transfer_over() {

@@ -1,15 +1,14 @@
 -- What was read of the first files of two transfers.
-use Rattle.std.proofs.Common.{◌≡◌, ℕ, zero, suc, ◌+◌, ◌<◌, List, [], ◌∷◌, ◌++◌, length, false, Option, Some, None, Ok, refl, sym, ap, ◌∙◌, subst, arith}
+use Rattle.std.proofs.Common.{◌≡◌, ℕ, zero, suc, ◌+◌, List, [], ◌∷◌, ◌++◌, length, false, Option, Some, None, Ok, refl, sym, ap, ◌∙◌, subst, arith}
 use Rattle.std.specs.Prelude.{slice_get, slice_index_or, IsSome}
 use Rattle.dada_model.specs.Fields.{HeaderText, header_of}
 use Rattle.psr_base.specs.Told.{Told, Reading, history}
 use Rattle.disk_feeder.specs.declared.feeder.Feeder.{Feeder}
 use Rattle.disk_feeder.specs.Beginning.{AreFirstFiles, FirstsRead}
-use Rattle.disk_feeder.specs.Feeder.{FirstHeadersRead, IsBegun, SamePlan, header_at, names_at, plan_at}
+use Rattle.disk_feeder.specs.Feeder.{FirstHeadersRead, IsBegun, SamePlan, headers_of, names_at, plan_at}
 use Rattle.disk_feeder.specs.Filling.{HoldsAll}
 use Rattle.disk_feeder.specs.Front.{front_in, front_of}
 use Rattle.disk_feeder.specs.History.{file_name, firsts_read}
-use Rattle.disk_feeder.specs.Plan.{AreTold}
 use Rattle.disk_feeder.specs.Sources.{first_name}
 
 -- a file was read so far, and no end was seen
@@ -45,18 +44,6 @@ held_as : (o : Option (List ℕ)) → IsSome o → (file : List ℕ) × (o ≡ S
 held_as (Some file) is = (file, refl)
 held_as None is = absurd cc
 
--- these are the bytes of both files
-told_two : (told : Told) (names : List (List ℕ)) (first second : List ℕ) → length names ≡ 2 →
-    told.bytes_under (file_name names 0) ≡ Some first → told.bytes_under (file_name names 1) ≡ Some second →
-    AreTold told names (first ∷ second ∷ [])
-told_two told names first second two at_first at_second = record { count = sym two; each = each }
-  where
-    each : (k : ℕ) → k < length names →
-        told.bytes_under (slice_index_or names k []) ≡ Some (slice_index_or (first ∷ second ∷ []) k [])
-    each zero lt = at_first
-    each (suc zero) lt = at_second
-    each (suc (suc k)) lt = absurd (omega (arith, two))
-
 -- each transfer begins with one of them
 first_is : {I : Type 0} (f : Feeder I) (names : List (List ℕ)) → (plan_at f).starts ≡ 0 ∷ 1 ∷ [] →
     names_at f ≡ names → first_name f.stream.source 0 ≡ file_name names 0
@@ -84,7 +71,8 @@ first_files told f names first second starts is at_first at_second (suc (suc k))
 pub two_begun : {I : Type 0} (told told' : Told) (old new : Feeder I) (names : List (List ℕ)) (h k : HeaderText)
     (n m : ℕ) → n ≡ h.size → m ≡ k.size → (plan_at old).starts ≡ 0 ∷ 1 ∷ [] → names_at old ≡ names →
     length names ≡ 2 → HoldsAll told names → history told ≡ [] → told'.bytes_under ≡ told.bytes_under →
-    SamePlan old new → FirstHeadersRead told old told' → IsBegun told' new → slice_get (header_at new) 0 ≡ Some h → slice_get (header_at new) 1 ≡ Some k →
+    SamePlan old new → FirstHeadersRead told old told' → IsBegun told' new → slice_get (headers_of new) 0 ≡ Some h →
+    slice_get (headers_of new) 1 ≡ Some k →
     history told' ≡ read_to (file_name names 0) n ∷ read_to (file_name names 1) m ∷ []
 unfolding pick
 two_begun told told' old new names h k n m n_is m_is starts is two held unread stays same read begun at_h at_k =
@@ -95,18 +83,17 @@ two_begun told told' old new names h k n m n_is m_is starts is two held unread s
     let read' = subst (λ (many : ℕ). FirstsRead told source many told') count read in
     let now : told' ≡ firsts_read (first_name source) (pick x.0 y.0) 2 told =
     read' (pick x.0 y.0) (first_files told old names x.0 y.0 starts is x.1 y.1) in
-    let still : AreTold told' (plan_at new).names (x.0 ∷ y.0 ∷ []) =
-    subst (λ (l : List (List ℕ)). AreTold told' l (x.0 ∷ y.0 ∷ [])) (sym (same.names ∙ is))
-    (told_two told' names x.0 y.0 two (ap (λ (b : List ℕ → Option (List ℕ)). b (file_name names 0)) stays ∙ x.1)
-    (ap (λ (b : List ℕ → Option (List ℕ)). b (file_name names 1)) stays ∙ y.1)) in
-    let has = begun.headers (x.0 ∷ y.0 ∷ []) still in
     let starts' : (plan_at new).starts ≡ 0 ∷ 1 ∷ [] = same.starts ∙ starts in
+    let is' : names_at new ≡ names = same.names ∙ is in
+    let count' : length (plan_at new).starts ≡ 2 = ap (length {A = ℕ}) starts' in
+    let still : (name : List ℕ) → told'.bytes_under name ≡ told.bytes_under name = λ name.
+    ap (λ (b : List ℕ → Option (List ℕ)). b name) stays in
     let h_is : header_of x.0 ≡ Ok h =
-    subst (λ (l : List ℕ). header_of (slice_index_or (x.0 ∷ y.0 ∷ []) (slice_index_or l 0 2) []) ≡ Ok h) starts'
-    (has 0 h at_h) in
+    begun.headers 0 (omega arith) x.0
+    (ap told'.bytes_under (first_is new names starts' is') ∙ still (file_name names 0) ∙ x.1) h at_h in
     let k_is : header_of y.0 ≡ Ok k =
-    subst (λ (l : List ℕ). header_of (slice_index_or (x.0 ∷ y.0 ∷ []) (slice_index_or l 1 2) []) ≡ Ok k) starts'
-    (has 1 k at_k) in
+    begun.headers 1 (omega arith) y.0
+    (ap told'.bytes_under (second_is new names starts' is') ∙ still (file_name names 1) ∙ y.1) k at_k in
     ap history now ∙ read_two (first_name source) (pick x.0 y.0) told unread
     ∙ named (first_is old names starts is) (front_is x.0 h h_is ∙ sym n_is) (second_is old names starts is)
     (front_is y.0 k k_is ∙ sym m_is)

@@ -2,7 +2,7 @@
 ghost use Rattle.std.specs.Prelude.{◌≡◌, ◌≤◌, ◌<◌, ◌+◌, ◌/◌, ◌^◌, map, string_bytes, length, None, true, false, Ok, [], take, IsTrue};
 ghost use Rattle.stream_model.specs.WalkLaws.{AreStarts};
 ghost use Rattle.dada_hdu.specs.Passes.{WritesBoth, ReadsBoth, data_shape};
-ghost use Rattle.disk_feeder.specs.Feeder.{FeederFeeds, HasPlan, IsBegun, IsFresh, IsSpaceFor, KeepsBegun, header_at, has_end};
+ghost use Rattle.disk_feeder.specs.Feeder.{FeederFeeds, HasPlan, IsBegun, IsFresh, IsSpaceFor, KeepsBegun, headers_of, has_end};
 ghost use Rattle.disk_feeder.specs.Feeding.{header_entries};
 ghost use Rattle.disk_feeder.specs.Resting.{FeederStands};
 ghost use Rattle.disk_feeder.specs.Turns.{sealed_headers, sealed_blocks};
@@ -124,13 +124,13 @@ fn accept_all<I: Inputs>(
     transfers: usize,
 ) -> Result<bool, Fail>
     requires begun { IsBegun (I.told feeder.old.inputs.now) feeder.old }
-    requires count { length (header_at feeder.old) ≡ transfers }
+    requires count { length (headers_of feeder.old) ≡ transfers }
     requires some { 0 < transfers }
     ensures same_reference { feeder.new.inputs.ghost_name ≡ feeder.old.inputs.ghost_name }
     ensures inputs { feeder.new.inputs.now ≡ feeder.old.inputs.now }
     ensures kept { KeepsBegun feeder.old feeder.new }
     ensures feeds { result ≡ Ok true → FeederFeeds (I.told feeder.new.inputs.now) feeder.new
-        (header_entries (take 1 (header_at feeder.new))) [] }
+        (header_entries (take 1 (headers_of feeder.new))) [] }
 {
     for k in 0..transfers {
         let Ok(observation) = Observation::of(alloc, feeder.header(k)) else {
@@ -191,9 +191,9 @@ fn write_first<I: Inputs>(feeder: &Feeder<'_, I>, hdu: &Hdu, pass: &mut HduWrite
     requires writes { WritesBoth hdu.now pass.old }
     requires no_header { sealed_headers pass.old ≡ [] }
     requires no_block { sealed_blocks pass.old ≡ [] }
-    requires there { 0 < length (header_at feeder.now) }
+    requires there { 0 < length (headers_of feeder.now) }
     requires feeds { FeederFeeds (I.told feeder.now.inputs.now) feeder.now
-        (header_entries (take 1 (header_at feeder.now))) [] }
+        (header_entries (take 1 (headers_of feeder.now))) [] }
     ensures writes { WritesBoth hdu.now pass.new }
     ensures feeding { result ≡ true → FeederFeeds (I.told feeder.now.inputs.now) feeder.now
         (sealed_headers pass.new) (sealed_blocks pass.new) }

@@ -2,10 +2,10 @@ use Rattle.std.proofs.Common.{◌≡◌, ◌+◌, ◌-◌, ◌≤◌, ◌<◌, �
 use Rattle.std.specs.Option.{ForSome}
 use Rattle.std.proofs.Math.Seq.{take-append-add}
 use Rattle.std.proofs.lemmas.List.{take-append-le, length-take-le, take_min, drop_min}
-use Rattle.psr_base.specs.Told.{FillsFrom, left_to_read, rest_after, moved_by, filled_by}
+use Rattle.psr_base.specs.Told.{FillsFrom, left_to_read, rest_after, moved_by, filled_by, BreaksWithin}
 use Rattle.psr_base.specs.declared.faults.Failed.{Failed}
 use borrow.Rule.Slice.PartMut.{put_mid, post_of}
-use Rattle.disk_feeder.specs.Front.{HasReadPart, BreaksWithin}
+use Rattle.disk_feeder.specs.Front.{HasReadPart}
 use Rattle.disk_feeder.proofs.front.fill_part.Goals as goal
 
 -- the next bytes were put at a place

@@ -5,7 +5,7 @@ use Rattle.std.proofs.lemmas.Option.{slice_get_within}
 use Rattle.psr_base.specs.Told.{Told}
 use Rattle.dada_model.specs.Fields.{HeaderText}
 use Rattle.disk_feeder.specs.declared.feeder.Feeder.{Feeder}
-use Rattle.disk_feeder.specs.Feeder.{IsAcceptedAt, IsBegun, KeepsBegun, header_at}
+use Rattle.disk_feeder.specs.Feeder.{IsAcceptedAt, IsBegun, KeepsBegun, headers_of}
 use Rattle.stream_tests.proofs.feeding.accept_all.Goals as goal
 
 -- before anything was accepted
@@ -60,7 +60,7 @@ loop-k-preserved g c =
       accepted = λ j header below at. elim (cases_eq j k) [
         | inl same ↦
             let P : ℕ → Type 0 = λ i. IsAcceptedAt new i header in
-            subst P (sym same) (after.accepts.first header (ap (slice_get (header_at new)) (sym same) ∙ at))
+            subst P (sym same) (after.accepts.first header (ap (slice_get (headers_of new)) (sym same) ∙ at))
         | inr other ↦
             after.accepts.others j header other
             (before.accepted j header (omega arith)
@@ -72,8 +72,8 @@ loop-k-preserved g c =
 pub returns-clause-feeds : goal.returns-clause-feeds
 returns-clause-feeds g c = λ ended.
     let all = c.loop-k.invariant in
-    let count : length (header_at c.loop-k.feeder) ≡ c.args.transfers =
+    let count : length (headers_of c.loop-k.feeder) ≡ c.args.transfers =
     ap (length {A = HeaderText}) all.kept.headers ∙ c.requires.count in
     all.feeds (omega arith) (λ j header at.
-    let within = slice_get_within (header_at c.loop-k.feeder) j header at in
+    let within = slice_get_within (headers_of c.loop-k.feeder) j header at in
     all.accepted j header (omega arith) at)

@@ -7,7 +7,7 @@ use Rattle.ring_ends.specs.declared.passes.WriterPass.{WriterPass}
 use Rattle.ring_ends.specs.Passes.{writer_knows}
 use Rattle.ring_ends.specs.Answers.{IsWritten}
 use Rattle.dada_hdu.specs.Answers.{header_entry}
-use Rattle.disk_feeder.specs.Feeder.{FeederFeeds, header_at}
+use Rattle.disk_feeder.specs.Feeder.{FeederFeeds, headers_of}
 use Rattle.disk_feeder.specs.Feeding.{header_entries}
 use Rattle.disk_feeder.specs.Turns.{sealed_headers, sealed_blocks}
 use Rattle.stream_tests.proofs.feeding.write_first.Goals as goal
@@ -31,12 +31,12 @@ returns-in-Ok-clause-feeding g c = λ done.
     let old = c.args.pass.now in
     let new = c.write_header.new.pass in
     let header = c.header.result.now in
-    let headers : sealed_headers new ≡ header_entries (take 1 (header_at f)) =
+    let headers : sealed_headers new ≡ header_entries (take 1 (headers_of f)) =
     written (writer_knows old.header) (writer_knows new.header) (header_entry header) _ c.in-Ok.ensures.header
     ∙ ap (λ (es : List Entry). es ++ header_entry header ∷ []) c.requires.no_header
-    ∙ one_header (header_at f) header c.header.ensures in
+    ∙ one_header (headers_of f) header c.header.ensures in
     let blocks : sealed_blocks new ≡ [] =
     ap (λ (p : WriterPass). (writer_knows p).sealed) c.write_header.ensures.blocks ∙ c.requires.no_block in
     let P : List Entry → Type 0 = λ h. FeederFeeds told f h (sealed_blocks new) in
-    let Q : List Entry → Type 0 = λ b. FeederFeeds told f (header_entries (take 1 (header_at f))) b in
+    let Q : List Entry → Type 0 = λ b. FeederFeeds told f (header_entries (take 1 (headers_of f))) b in
     subst P (sym headers) (subst Q (sym blocks) c.requires.feeds)

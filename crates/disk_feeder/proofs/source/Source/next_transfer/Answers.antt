@@ -3,7 +3,7 @@ use Rattle.psr_base.specs.Told.{Told}
 use Rattle.stream_model.specs.WalkLaws.{DataNone}
 use Rattle.disk_feeder.specs.declared.place.Place.{Place}
 use Rattle.disk_feeder.specs.History.{StandsIf}
-use Rattle.disk_feeder.specs.Plan.{Plan, stream_of, AreTold, begin_at}
+use Rattle.disk_feeder.specs.Plan.{Plan, stream_of, AreToldTo, opened_at, begin_at}
 use Rattle.disk_feeder.specs.Sources.{plan_of}
 use Rattle.disk_feeder.proofs.Histories.{next_on, stands_shut}
 use Rattle.disk_feeder.proofs.Streams.{begin_is}
@@ -20,8 +20,9 @@ returns-clause-read c = λ told before current has.
     c.one_transfer_more.ensures c.data_none.ensures
 
 -- the next transfer begins where the files of this one ended
-next_shut : (plan : Plan) (before told : Told) (at : Place) (files : List (List ℕ)) → AreTold told plan.names files →
-    DataNone → at.is_open ≡ false → at.file ≡ begin_at plan.starts (length plan.names) (at.transfer + 1) →
+next_shut : (plan : Plan) (before told : Told) (at : Place) (files : List (List ℕ)) →
+    AreToldTo (opened_at at) told plan files → DataNone → at.is_open ≡ false →
+    at.file ≡ begin_at plan.starts (length plan.names) (at.transfer + 1) →
     StandsIf at.is_open plan.names (stream_of plan files) before told at →
     StandsIf at.is_open plan.names (stream_of plan files) before told
     (record at { transfer = at.transfer + 1; since = 0 })
@@ -32,7 +33,7 @@ next_shut plan before told at files are none shut over stands =
     subst P (sym shut)
     (next_on none plan.names s before told at.transfer at.file at.since
     (stands_shut at.is_open plan.names s before told at shut stands)
-    (over ∙ sym (begin_is plan told files are (at.transfer + 1))))
+    (over ∙ sym (begin_is plan files are.count (at.transfer + 1))))
 
 pub returns-clause-reads_on : goal.returns-clause-reads_on
 returns-clause-reads_on c = λ before told reads files are.

@@ -5,7 +5,7 @@ use Rattle.dada_header.specs.Faults.{IsHeaderRefusal}
 use Rattle.dada_header.specs.declared.faults.HeaderFault.{HeaderFault}
 use Rattle.dada_header.specs.declared.faults.HeaderFault.TheVariants.{Short, NotText, BadSize, Memory}
 use Rattle.obs_plan.specs.Later.{profile_of, later_offset_of}
-use Rattle.psr_base.specs.Told.{Told}
+use Rattle.psr_base.specs.Told.{Told, OfFile}
 use Rattle.stream_model.specs.Walk as walk
 use Rattle.stream_model.specs.Walk.{FileStream, WalkStop, file_at, begin_of, transfer_of, observation_at, data_between, header_stop, later_stop, offset_stop}
 use Rattle.stream_model.specs.WalkLaws.{FirstStopCounts, DataJoin, FilesAreInTransfers}
@@ -16,14 +16,15 @@ use Rattle.disk_feeder.specs.declared.place.First.{First}
 use Rattle.disk_feeder.specs.declared.place.Place.{Place}
 use Rattle.disk_feeder.specs.declared.source.Source.{Source}
 use Rattle.disk_feeder.specs.Ends.{IsStop, IsOfHeader, fault_of}
-use Rattle.disk_feeder.specs.Plan.{Plan, stream_of, AreTold, AreAccepted}
-use Rattle.disk_feeder.specs.History.{ReadsUpTo, BreaksOffAt}
+use Rattle.disk_feeder.specs.Plan.{Plan, stream_of, IsAmong, AreToldTo, opened_at, AreAccepted}
+use Rattle.disk_feeder.specs.History.{StandsIf, ReadsUpTo, BreaksOffAt}
 use Rattle.disk_feeder.specs.Reached.{WalkGoesOn}
-use Rattle.disk_feeder.specs.Reading.{HasRead, EndsReading}
+use Rattle.disk_feeder.specs.Reading.{NoStopBefore, HasRead, HasEnded, EndsReading, judged_at}
 use Rattle.disk_feeder.specs.Sources.{plan_of, RefusesText}
 use Rattle.disk_feeder.proofs.Histories.{opened_on, broken_on, stands_shut, shut_breaks}
-use Rattle.disk_feeder.proofs.Openings.{Opens, stop_is, opened_at, stopped_at, front_at}
-use Rattle.disk_feeder.proofs.Streams.{told_before, begin_most}
+use Rattle.disk_feeder.proofs.Openings.{Opens, stop_is, went_on, stopped_at, front_at}
+use Rattle.disk_feeder.proofs.Needed.{told_before, told_opened, told_within, passed_still}
+use Rattle.disk_feeder.proofs.Streams.{begin_most}
 use Rattle.disk_feeder.proofs.OfSource.{opens}
 use Rattle.disk_feeder.proofs.source.Source.open_next.Goals as goal
 
@@ -36,57 +37,70 @@ header_stops s k refusal is =
     let first = observation_at (file_at s begin) in
     ap (later_stop k (profile_of first) (first.obs_offset + length (data_between s.files begin k))) is
 
+-- the bytes of the file of a place
+known_at : (plan : Plan) (told told' : Told) (at : Place) (files : List (List ℕ)) → Opens plan told told' at →
+    AreToldTo (at.file + 1) told' plan files →
+    told.bytes_under (slice_index_or plan.names at.file []) ≡ Some (file_at (stream_of plan files) at.file)
+known_at plan told told' at files o are =
+    let most = begin_most plan.starts (length plan.names) at.transfer o.starts o.there in
+    let upto = o.upto in
+    let Needed : ℕ → Type 0 = IsAmong (at.file + 1) plan.starts (length plan.names) in
+    told_within (at.file + 1) told plan files at.file (told_before Needed told told' plan.names files o.names are)
+    (omega arith) (omega arith)
+
 -- what a file's text says of the end
 by_text : (plan : Plan) (told told' : Told) (at : Place) (before : List (List ℕ)) (current : List ℕ) →
     Opens plan told told' at → HasRead plan told at before current → FilesAreInTransfers → FirstStopCounts → DataJoin →
-    WalkGoesOn → (room : ℕ) (files : List (List ℕ)) → AreTold told' plan.names files → (end : FeedEnd) →
-    RefusesText (file_at (stream_of plan files) at.file) at.file end →
-    EndsReading (stream_of plan files) at before current room end
-by_text plan told told' at before current o has transfers counts join goes room files are (Whole bytes) refuses =
-    absurd refuses
-by_text plan told told' at before current o has transfers counts join goes room files are ReadFault refuses =
-    front_at plan told told' at before current o has transfers files are goes join
-by_text plan told told' at before current o has transfers counts join goes room files are
-    (Gap file expected found) refuses = absurd refuses
-by_text plan told told' at before current o has transfers counts join goes room files are (TooLong limit) refuses =
-    absurd refuses
-by_text plan told told' at before current o has transfers counts join goes room files are (BadHeader k (Fields fault))
-    refuses = absurd refuses
-by_text plan told told' at before current o has transfers counts join goes room files are
-    (BadHeader k (Text fault)) refuses =
-    by_fault fault refuses.1
+    WalkGoesOn → (room : ℕ) (end : FeedEnd) →
+    OfFile told (slice_index_or plan.names at.file []) (λ file. RefusesText file at.file end) →
+    HasEnded plan told' at before current room end
+by_text plan told told' at before current o has transfers counts join goes room end refuses = record {
+  passed = passed_still plan told told' at.file o.names has.passed;
+  ends = by_end end refuses;
+}
   where
-    s : FileStream
-    s = stream_of plan files
+    refused : (end : FeedEnd) → OfFile told (slice_index_or plan.names at.file []) (λ file. RefusesText file at.file end)
+        → (files : List (List ℕ)) → AreToldTo (at.file + 1) told' plan files →
+        RefusesText (file_at (stream_of plan files) at.file) at.file end
+    refused end refuses files are =
+        refuses (file_at (stream_of plan files) at.file) (known_at plan told told' at files o are)
 
-    stops : (fault : HeaderFault) (refusal : HeaderRefusal) → header_of (file_at s at.file) ≡ Err refusal →
-        fault ≡ fault_of refusal → EndsReading s at before current room (BadHeader k (Text fault))
-    stops fault refusal is same =
+    stops : (k : ℕ) (files : List (List ℕ)) → AreToldTo (opened_at at) told' plan files → k ≡ at.file →
+        (fault : HeaderFault) (refusal : HeaderRefusal) →
+        header_of (file_at (stream_of plan files) at.file) ≡ Err refusal → fault ≡ fault_of refusal →
+        EndsReading (stream_of plan files) at before current room (BadHeader k (Text fault))
+    stops k files are number fault refusal is same =
         stopped_at plan told told' at before current o has transfers files are counts (walk.BadText at.file refusal)
-        (BadHeader k (Text fault)) room (header_stops s at.file refusal is)
-        (λ bytes limit. ap (λ (n : ℕ). BadHeader n (Text fault)) refuses.0 ∙ ap (λ (f : HeaderFault). BadHeader at.file
+        (BadHeader k (Text fault)) room (header_stops (stream_of plan files) at.file refusal is)
+        (λ bytes limit. ap (λ (n : ℕ). BadHeader n (Text fault)) number ∙ ap (λ (f : HeaderFault). BadHeader at.file
         (Text f)) same) tt
 
-    by_fault : (fault : HeaderFault) → IsHeaderRefusal (file_at s at.file) fault →
-        EndsReading s at before current room (BadHeader k (Text fault))
-    by_fault (Short had) is = stops (Short had) (ShortHeader had) is refl
-    by_fault (NotText place) is = stops (NotText place) (NotTextAt place) is refl
-    by_fault BadSize is = stops BadSize BadHeaderSize is refl
-    by_fault Memory is = absurd is
+    by_fault : (k : ℕ) (files : List (List ℕ)) → AreToldTo (opened_at at) told' plan files → k ≡ at.file →
+        (fault : HeaderFault) → IsHeaderRefusal (file_at (stream_of plan files) at.file) fault →
+        EndsReading (stream_of plan files) at before current room (BadHeader k (Text fault))
+    by_fault k files are number (Short had) is = stops k files are number (Short had) (ShortHeader had) is refl
+    by_fault k files are number (NotText place) is = stops k files are number (NotText place) (NotTextAt place) is refl
+    by_fault k files are number BadSize is = stops k files are number BadSize BadHeaderSize is refl
+    by_fault k files are number Memory is = absurd is
+
+    by_end : (end : FeedEnd) → OfFile told (slice_index_or plan.names at.file []) (λ file. RefusesText file at.file end)
+        → (files : List (List ℕ)) → AreToldTo (judged_at end at) told' plan files →
+        EndsReading (stream_of plan files) at before current room end
+    by_end ReadFault refuses files are =
+        front_at plan told told' at before current o has transfers files are goes join
+    by_end (Whole bytes) refuses files are = absurd (refused (Whole bytes) refuses files are)
+    by_end (Gap file expected found) refuses files are = absurd (refused (Gap file expected found) refuses files are)
+    by_end (TooLong limit) refuses files are = absurd (refused (TooLong limit) refuses files are)
+    by_end (BadHeader k (Fields fault)) refuses files are =
+        absurd (refused (BadHeader k (Fields fault)) refuses files are)
+    by_end (BadHeader k (Text fault)) refuses files are =
+        let r = refused (BadHeader k (Text fault)) refuses files are in
+        by_fault k files (told_opened at told' plan files are) r.0 fault r.1
 
 pub first-requires-clause-accepted : goal.first-requires-clause-accepted
 first-requires-clause-accepted g c =
     let P : Plan → Type 0 = λ plan. AreAccepted plan in
     subst P (sym c.in-Ok.ensures.stays.plan) c.requires.more.accepted
-
--- the bytes of the file of a place
-known_at : (plan : Plan) (told told' : Told) (at : Place) (files : List (List ℕ)) → Opens plan told told' at →
-    AreTold told' plan.names files →
-    told.bytes_under (slice_index_or plan.names at.file []) ≡ Some (file_at (stream_of plan files) at.file)
-known_at plan told told' at files o are =
-    let most = begin_most plan.starts (length plan.names) at.transfer o.starts o.there in
-    let upto = o.upto in
-    (told_before told told' plan.names files o.names are).each at.file (omega arith)
 
 -- a header that was judged
 judged_stop : (k : ℕ) (first : First) (since : ℕ) (file : List ℕ) (header : HeaderText) → header_of file ≡ Ok header →
@@ -104,7 +118,8 @@ first_is old new first plan place is =
 -- the stop of a header that was judged
 by_judge : (plan : Plan) (told told' : Told) (at : Place) (before : List (List ℕ)) (current : List ℕ) →
     Opens plan told told' at → HasRead plan told at before current → FilesAreInTransfers → FirstStopCounts →
-    (room : ℕ) (files : List (List ℕ)) → AreTold told' plan.names files → (end : FeedEnd) (stop : Option WalkStop) →
+    (room : ℕ) (files : List (List ℕ)) → AreToldTo (opened_at at) told' plan files →
+    (end : FeedEnd) (stop : Option WalkStop) →
     header_stop (stream_of plan files) at.file ≡ stop → IsStop stop end → IsOfHeader end →
     EndsReading (stream_of plan files) at before current room end
 by_judge plan told told' at before current o has transfers counts room files are end None is stops kind = absurd stops
@@ -129,22 +144,37 @@ returns-in-Ok-judge-clause-read g c = λ before current has.
       transfers = has.transfers;
       since = has.since;
       total = has.total;
+      passed = passed_still plan told told' at.file o.names has.passed;
       known = λ files are.
           let file = file_at (stream_of plan files) at.file in
           let known = known_at plan told told' at files o are in
           let Q : Place → Type 0 = λ pl. offset_stop pl.file (first.offset + pl.since)
           (later_offset_of first.profile (fields_of new.later.text)) ≡ None in
-          opened_at plan told told' at before current o has c.files_are_in_transfers.ensures files are
+          let fewer = told_opened at told' plan files are in
+          went_on plan told told' at before current o has c.files_are_in_transfers.ensures files fewer
           c.data_grow.ensures
-          (stop_is plan told told' at before current o has c.files_are_in_transfers.ensures files are first there
+          (stop_is plan told told' at before current o has c.files_are_in_transfers.ensures files fewer first there
           source.headed
           ∙ judged_stop at.file first at.since file new.later (c.in-Ok.ensures.header file known)
           ∙ subst Q c.in-Ok.ensures.stays.place c.in-Ok-judge.ensures.judged)
           (c.in-Ok.ensures.left file known);
     }
 
+-- an end of a header is judged by its file
+ended_by_header : (plan : Plan) (told : Told) (at : Place) (before : List (List ℕ)) (current : List ℕ) (room : ℕ)
+    (end : FeedEnd) → IsOfHeader end → NoStopBefore plan told at.file →
+    ((files : List (List ℕ)) → AreToldTo (at.file + 1) told plan files →
+    EndsReading (stream_of plan files) at before current room end) → HasEnded plan told at before current room end
+ended_by_header plan told at before current room (Whole bytes) kind passed ends = absurd kind
+ended_by_header plan told at before current room ReadFault kind passed ends = absurd kind
+ended_by_header plan told at before current room (BadHeader file cause) kind passed ends =
+    record { passed = passed; ends = ends }
+ended_by_header plan told at before current room (Gap file expected found) kind passed ends =
+    record { passed = passed; ends = ends }
+ended_by_header plan told at before current room (TooLong limit) kind passed ends = absurd kind
+
 pub returns-in-Err-judge-clause-read : goal.returns-in-Err-judge-clause-read
-returns-in-Err-judge-clause-read g c = λ before current has room files are.
+returns-in-Err-judge-clause-read g c = λ before current has room.
     let source = c.args.self.now in
     let new = c.open_file.new.self in
     let plan = plan_of source in
@@ -156,21 +186,23 @@ returns-in-Err-judge-clause-read g c = λ before current has room files are.
     c.open_file.ensures.inputs.names in
     let first = c.first.result in
     let there = first_is source new first c.in-Ok.ensures.stays.plan c.in-Ok.ensures.stays.place c.first.ensures in
+    ended_by_header plan told' at before current room c.in-Err-judge.end c.in-Err-judge.ensures.kind
+    (passed_still plan told told' at.file o.names has.passed) (λ files are.
+    let fewer = told_opened at told' plan files are in
     let file = file_at (stream_of plan files) at.file in
     let known = known_at plan told told' at files o are in
     let Q : Place → Type 0 = λ pl. IsStop (offset_stop pl.file (first.offset + pl.since)
     (later_offset_of first.profile (fields_of new.later.text))) c.in-Err-judge.end in
     by_judge plan told told' at before current o has c.files_are_in_transfers.ensures c.first_stop_counts.ensures room
-    files
-    are c.in-Err-judge.end
+    files fewer c.in-Err-judge.end
     (offset_stop at.file (first.offset + at.since) (later_offset_of first.profile (fields_of new.later.text)))
-    (stop_is plan told told' at before current o has c.files_are_in_transfers.ensures files are first there
+    (stop_is plan told told' at before current o has c.files_are_in_transfers.ensures files fewer first there
     source.headed
     ∙ judged_stop at.file first at.since file new.later (c.in-Ok.ensures.header file known))
-    (subst Q c.in-Ok.ensures.stays.place c.in-Err-judge.ensures.judged) c.in-Err-judge.ensures.kind
+    (subst Q c.in-Ok.ensures.stays.place c.in-Err-judge.ensures.judged) c.in-Err-judge.ensures.kind)
 
 pub returns-in-Err-clause-read : goal.returns-in-Err-clause-read
-returns-in-Err-clause-read g c = λ before current has room files are.
+returns-in-Err-clause-read g c = λ before current has room.
     let source = c.args.self.now in
     let plan = plan_of source in
     let at = source.place in
@@ -180,10 +212,17 @@ returns-in-Err-clause-read g c = λ before current has room files are.
     opens source told told' c.requires.shut c.requires.more.there c.requires.more.more
     c.open_file.ensures.inputs.names in
     by_text plan told told' at before current o has c.files_are_in_transfers.ensures c.first_stop_counts.ensures
-    c.data_join.ensures c.walk_goes_on.ensures room files are c.in-Err.end
-    (c.in-Err.ensures.stopped.1 (file_at (stream_of plan files) at.file) (known_at plan told told' at files o are))
+    c.data_join.ensures c.walk_goes_on.ensures room c.in-Err.end c.in-Err.ensures.stopped.1
 
 -- ---- what was read
+
+-- the files before were
+read_before : (plan : Plan) (told told' before : Told) (at : Place) (files : List (List ℕ)) → Opens plan told told' at →
+    AreToldTo (opened_at at) told' plan files → ReadsUpTo plan before told at →
+    StandsIf at.is_open plan.names (stream_of plan files) before told at
+read_before plan told told' before at files o are reads =
+    let Needed : ℕ → Type 0 = IsAmong (opened_at at) plan.starts (length plan.names) in
+    reads files (told_before Needed told told' plan.names files o.names are)
 
 pub returns-in-Ok-judge-clause-reads_on : goal.returns-in-Ok-judge-clause-reads_on
 returns-in-Ok-judge-clause-reads_on g c = λ before reads.
@@ -200,7 +239,7 @@ returns-in-Ok-judge-clause-reads_on g c = λ before reads.
     let s = stream_of plan files in
     opened_on plan.names s before told told' at.transfer at.file at.since
     (stands_shut at.is_open plan.names s before told at o.shut
-    (reads files (told_before told told' plan.names files o.names are)))
+    (read_before plan told told' before at files o (told_opened at told' plan files are) reads))
     (c.in-Ok.ensures.read (file_at s at.file) (known_at plan told told' at files o are)))
 
 -- an end that a header gives is no fault
@@ -227,5 +266,5 @@ returns-in-Err-clause-reads_on g c = λ before reads failed.
     shut_breaks at.is_open plan.names s before told' at o.shut
     (broken_on plan.names s before told told' at.transfer at.file at.since
     (stands_shut at.is_open plan.names s before told at o.shut
-    (reads files (told_before told told' plan.names files o.names are)))
+    (read_before plan told told' before at files o (told_opened at told' plan files are) reads))
     (c.in-Err.ensures.broke (ap Err failed) (file_at s at.file) (known_at plan told told' at files o are))))

@@ -4,12 +4,13 @@ use Rattle.disk_feeder.specs.declared.answers.FeedEnd.{FeedEnd}
 use Rattle.disk_feeder.specs.declared.place.Place.{Place}
 use Rattle.stream_model.specs.Walk.{file_at}
 use Rattle.disk_feeder.specs.History.{file_name, IsReadUpTo, ReadsUpTo}
-use Rattle.disk_feeder.specs.Plan.{Plan, stream_of, AreTold}
-use Rattle.disk_feeder.specs.Reading.{HasRead, EndsReading}
+use Rattle.disk_feeder.specs.Plan.{Plan, stream_of, IsAmong, AreToldTo, opened_at}
+use Rattle.disk_feeder.specs.Reading.{HasRead, HasEnded}
 use Rattle.disk_feeder.specs.Sources.{plan_of}
 use Rattle.disk_feeder.proofs.Histories as history
 use Rattle.disk_feeder.proofs.Histories.{closed_on, read_more, stands_open, open_stands, open_breaks}
-use Rattle.disk_feeder.proofs.Streams.{told_before, begin_most, is_in}
+use Rattle.disk_feeder.proofs.Needed.{told_before, told_opened, told_to_open, told_within, passed_still}
+use Rattle.disk_feeder.proofs.Streams.{begin_most, is_in}
 use Rattle.disk_feeder.proofs.Readings.{Reads, has_closed, has_took, left, left_is, too_long, front_open}
 use Rattle.disk_feeder.proofs.OfSource.{reads}
 use Rattle.disk_feeder.proofs.source.Source.read.Goals as goal
@@ -48,58 +49,69 @@ returns-in-Ok-count-clause-read g c = λ before current has.
     c.in-Ok.ensures.next (c.in-Ok.ensures.moved ∙ c.reads_join.ensures.some n told c.if-n-eq0.false)))
 
 pub returns-in-Err-count-clause-read : goal.returns-in-Err-count-clause-read
-returns-in-Err-count-clause-read g c = λ before current has files are.
+returns-in-Err-count-clause-read g c = λ before current has.
     let source = c.args.self.now in
     let plan = plan_of source in
     let told = g.I.Inputs.told c.args.inputs.now in
     let told' = g.I.Inputs.told c.read.new.self in
     let o = reads source told told' c.requires.opened (ap (λ (t : Told). t.bytes_under) c.in-Ok.ensures.moved) in
     let counted = c.in-Err-count.ensures.counted in
-    let gives = c.in-Ok.ensures.next (left plan told told' source.place before current o has files are)
-    (left_is plan told told' source.place before current o has files are) in
     let P : FeedEnd → Type 0 = λ end.
-    EndsReading (stream_of plan files) source.place before current (length c.read.new.into) end in
-    subst P (sym counted.0)
-    (too_long plan told told' source.place before current o has files are c.transfers_join.ensures
-    c.files_are_in_transfers.ensures c.first_stop_counts.ensures c.in-Ok.n c.read.new.into gives c.in-Ok.ensures.bound
-    counted.1)
+    HasEnded plan told' source.place before current (length c.read.new.into) end in
+    subst P (sym counted.0) (record {
+      passed = passed_still plan told told' source.place.file o.names has.passed;
+      ends = λ files are.
+          let fewer = told_opened source.place told' plan files are in
+          let gives = c.in-Ok.ensures.next (left plan told told' source.place before current o has files fewer)
+          (left_is plan told told' source.place before current o has files fewer) in
+          too_long plan told told' source.place before current o has files fewer c.transfers_join.ensures
+          c.files_are_in_transfers.ensures c.first_stop_counts.ensures c.in-Ok.n c.read.new.into gives
+          c.in-Ok.ensures.bound counted.1;
+    })
 
 pub returns-in-Err-clause-read : goal.returns-in-Err-clause-read
-returns-in-Err-clause-read g c = λ before current has files are.
+returns-in-Err-clause-read g c = λ before current has.
     let source = c.args.self.now in
     let plan = plan_of source in
     let told = g.I.Inputs.told c.args.inputs.now in
     let told' = g.I.Inputs.told c.read.new.self in
-    front_open plan told told' source.place before current
-    (reads source told told' c.requires.opened (ap (λ (t : Told). t.bytes_under) c.in-Err.ensures.unchanged)) has files
-    are c.walk_goes_on.ensures c.data_join.ensures
+    let o = reads source told told' c.requires.opened (ap (λ (t : Told). t.bytes_under) c.in-Err.ensures.unchanged) in
+    record {
+      passed = passed_still plan told told' source.place.file o.names has.passed;
+      ends = λ files are.
+          front_open plan told told' source.place before current o has files are c.walk_goes_on.ensures
+          c.data_join.ensures;
+    }
 
 -- ---- what was read
 
 -- the file of a place is there
 below : (plan : Plan) (told told' : Told) (at : Place) (files : List (List ℕ)) → Reads plan told told' at →
-    AreTold told' plan.names files → at.file < length files
-below plan told told' at files o are =
+    length files ≡ length plan.names → at.file < length files
+below plan told told' at files o count =
     let most = begin_most plan.starts (length plan.names) at.transfer o.starts o.there in
     let upto = o.upto in
-    let count = are.count in
     omega arith
 
 -- its bytes are told
 known_at : (plan : Plan) (told told' : Told) (at : Place) (files : List (List ℕ)) → Reads plan told told' at →
-    AreTold told' plan.names files →
+    AreToldTo (at.file + 1) told' plan files →
     told.bytes_under (file_name plan.names at.file) ≡ Some (file_at (stream_of plan files) at.file)
 known_at plan told told' at files o are =
-    let there = below plan told told' at files o are in
-    (told_before told told' plan.names files o.names are).each at.file (let count = are.count in omega arith)
+    let count = are.count in
+    let there = below plan told told' at files o count in
+    let Needed : ℕ → Type 0 = IsAmong (at.file + 1) plan.starts (length plan.names) in
+    told_within (at.file + 1) told plan files at.file (told_before Needed told told' plan.names files o.names are)
+    (omega arith) (omega arith)
 
 -- it is read
 reading_now : (plan : Plan) (told told' before : Told) (at : Place) (files : List (List ℕ)) →
-    Reads plan told told' at → AreTold told' plan.names files → ReadsUpTo plan before told at →
+    Reads plan told told' at → AreToldTo (opened_at at) told' plan files → ReadsUpTo plan before told at →
     IsReadUpTo plan.names (stream_of plan files) before told at.transfer at.file at.since
 reading_now plan told told' before at files o are reads =
+    let Needed : ℕ → Type 0 = IsAmong (opened_at at) plan.starts (length plan.names) in
     stands_open at.is_open plan.names (stream_of plan files) before told at o.opened
-    (reads files (told_before told told' plan.names files o.names are))
+    (reads files (told_before Needed told told' plan.names files o.names are))
 
 pub returns-then-n-eq0-clause-reads_on : goal.returns-then-n-eq0-clause-reads_on
 returns-then-n-eq0-clause-reads_on g c = λ before reads_so_far.
@@ -112,14 +124,14 @@ returns-then-n-eq0-clause-reads_on g c = λ before reads_so_far.
     let P : Place → Type 0 = λ pl. ReadsUpTo plan before told' pl in
     subst P (sym c.close_file.ensures.place) (λ files are.
     let s = stream_of plan files in
-    let was = reading_now plan told told' before at files o are reads_so_far in
-    let inside = is_in plan told' files are at.transfer at.file o.there o.from o.upto in
+    let was = reading_now plan told told' before at files o (told_opened at told' plan files are) reads_so_far in
+    let inside = is_in plan files are.count at.transfer at.file o.there o.from o.upto in
     closed_on plan.names s before told told' at.transfer at.file at.since c.reads_join.ensures c.data_grow.ensures was
     (c.in-Ok.ensures.moved ∙ c.reads_join.ensures.none c.in-Ok.n told c.if-n-eq0.true)
     ((c.in-Ok.ensures.next (drop was.place (file_at s at.file))
     (history.left_is plan.names s before told told' at.transfer at.file at.since was
     (known_at plan told told' at files o are))).ends c.if-n-eq0.true)
-    inside.from (below plan told told' at files o are))
+    inside.from (below plan told told' at files o are.count))
 
 pub returns-in-Ok-count-clause-reads_on : goal.returns-in-Ok-count-clause-reads_on
 returns-in-Ok-count-clause-reads_on g c = λ before reads_so_far.
@@ -140,7 +152,7 @@ returns-in-Ok-count-clause-reads_on g c = λ before reads_so_far.
     (c.in-Ok.ensures.moved ∙ c.reads_join.ensures.some n told c.if-n-eq0.false)
     (c.in-Ok.ensures.next (drop was.place (file_at s at.file))
     (history.left_is plan.names s before told told' at.transfer at.file at.since was
-    (known_at plan told told' at files o are))).within))
+    (known_at plan told told' at files o (told_to_open at told' plan files o.opened are)))).within))
 
 pub returns-in-Err-count-clause-reads_on : goal.returns-in-Err-count-clause-reads_on
 returns-in-Err-count-clause-reads_on g c = λ before reads_so_far failed.
@@ -157,4 +169,5 @@ returns-in-Err-clause-reads_on g c = λ before reads_so_far failed files are.
     let o = reads source told told' c.requires.opened (ap (λ (t : Told). t.bytes_under) c.in-Err.ensures.unchanged) in
     let P : Told → Type 0 = λ t. IsReadUpTo plan.names s before t at.transfer at.file at.since in
     open_breaks at.is_open plan.names s before told' at o.opened
-    (subst P (sym c.in-Err.ensures.unchanged) (reading_now plan told told' before at files o are reads_so_far))
+    (subst P (sym c.in-Err.ensures.unchanged)
+    (reading_now plan told told' before at files o (told_opened at told' plan files are) reads_so_far))

@@ -1,5 +1,5 @@
 use Rattle.std.proofs.Common.{◌≡◌, ℕ, suc, ◌+◌, ◌<◌, List, [], Option, Some, length, get_or, map, refl, sym, ap, ◌∙◌, subst, inl, inr, arith}
-use Rattle.std.specs.Prelude.{slice_get, slice_index_or, string_bytes}
+use Rattle.std.specs.Prelude.{IsSome, slice_get, slice_index_or, string_bytes}
 use Rattle.std.proofs.lemmas.Bool.{cases_eq}
 use Rattle.std.proofs.lemmas.Option.{slice_get-get_or}
 use Rattle.dada_model.specs.Fields.{HeaderText}
@@ -9,7 +9,7 @@ use Rattle.disk_feeder.specs.Plan.{begin_at}
 use Rattle.disk_feeder.specs.Sources.{first_name, KeepsHeaders, RefusesFirst}
 use Rattle.disk_feeder.specs.Front.{front_of, BreaksAt}
 use Rattle.disk_feeder.specs.History.{firsts_read}
-use Rattle.disk_feeder.specs.Beginning.{KeepsSource}
+use Rattle.disk_feeder.specs.Beginning.{KeepsSource, NamesFile}
 use Rattle.disk_feeder.proofs.source.Source.read_headers.Goals as goal
 
 keeps : (a b c : Source) (k : ℕ) → KeepsSource a b → KeepsHeaders b k c → KeepsSource a c
@@ -35,6 +35,15 @@ told_still old now told told' k j file kept names same known =
     ∙ ap told.bytes_under (name_same old now j kept)
     ∙ ap (λ (i : ℕ). told.bytes_under (first_name old i)) (sym same)
     ∙ known
+
+-- whether something is
+some_still : (old now : Source) (told told' : Told) (k : ℕ) → KeepsSource old now →
+    told'.bytes_under ≡ told.bytes_under → IsSome (told.bytes_under (first_name old k)) →
+    IsSome (told'.bytes_under (first_name now k))
+some_still old now told told' k kept names some =
+    let P : Option (List ℕ) → Type 0 = λ o. IsSome o in
+    subst P (sym (ap (λ (f : List ℕ → Option (List ℕ)). f (first_name now k)) names
+    ∙ ap told.bytes_under (name_same old now k kept))) some
 
 -- no first header was read yet
 none_read : (name_of file_of : ℕ → List ℕ) (told : Told) → told ≡ firsts_read name_of file_of 0 told
@@ -124,15 +133,20 @@ returns-in-Err-clause-refused g c =
     let starts : length now.starts.now ≡ length old.starts.now = ap (λ s. length s.now) before.kept.starts in
     let headed : length now.headers.items ≡ length now.starts.now = now.headed in
     let below : t < length old.starts.now = omega arith in
+    let same_number : begin_at now.starts.now (length now.names.now) t
+    ≡ begin_at old.starts.now (length old.names.now) t =
+    ap (λ s. begin_at s.now (length now.names.now) t) before.kept.starts
+    ∙ ap (λ n. begin_at old.starts.now (length n.now) t) before.kept.names in
     record {
       transfer = t;
       there = below;
+      names =
+          let Q : ℕ → Type 0 = λ n. NamesFile c.in-Err.fault n in
+          subst Q same_number c.in-Err.ensures.refused.0;
       refuses = λ file known.
           let P : ℕ → Type 0 = λ n. RefusesFirst file n c.in-Err.fault in
-          subst P
-          (ap (λ s. begin_at s.now (length now.names.now) t) before.kept.starts
-          ∙ ap (λ n. begin_at old.starts.now (length n.now) t) before.kept.names)
-          (c.in-Err.ensures.refused file (told_still old now told told' t t file before.kept before.names refl known));
+          subst P same_number
+          (c.in-Err.ensures.refused.1 file (told_still old now told told' t t file before.kept before.names refl known));
       earlier = λ k less file known.
           let none : HeaderText = record { size = 0; text = [] } in
           let header = get_or now.headers.items k none in (
@@ -167,4 +181,7 @@ returns-in-Err-clause-broke g c = λ failed.
           (name_same old now t before.kept)
           (c.in-Err.ensures.broke failed (file_of t)
           (told_still old now told told' t t (file_of t) before.kept before.names refl (are t (omega arith))));
+      missing = λ calm some.
+          c.in-Err.ensures.serves (before.calm calm) (some_still old now told told' t before.kept before.names some)
+          failed;
     }

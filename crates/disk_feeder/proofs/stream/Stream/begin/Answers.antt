@@ -1,19 +1,19 @@
-use Rattle.std.proofs.Common.{◌≡◌, ◌≢◌, ℕ, [], length, map, true, sym, ap, ◌∙◌, subst, inl, inr, arith}
+use Rattle.std.proofs.Common.{◌≡◌, ◌≢◌, ℕ, [], length, map, true, sym, ap, ◌∙◌, subst, inl, inr}
 use Rattle.std.specs.Prelude.{slice_index_or, string_bytes}
 use Rattle.std.proofs.lemmas.Bool.{cases_eq}
 use Rattle.psr_base.specs.Told.{Told}
-use Rattle.stream_model.specs.Walk.{begin_of}
 use Rattle.stream_model.specs.WalkLaws.{DataNone}
 use Rattle.disk_feeder.specs.declared.place.Place.{Place}
 use Rattle.disk_feeder.specs.declared.source.Source.{Source}
 use Rattle.disk_feeder.specs.Beginning.{AreFirstFiles, FirstsRead}
 use Rattle.disk_feeder.specs.History.{Fate, firsts_read, first_of, name_of_first, StandsIf, IsFated, ReadsUpTo}
-use Rattle.disk_feeder.specs.Plan.{stream_of}
+use Rattle.disk_feeder.specs.Plan.{IsAmong, opened_at, stream_of}
 use Rattle.disk_feeder.specs.Sources.{plan_of, first_place}
 use Rattle.disk_feeder.proofs.Fates.{goes_on, same_files}
 use Rattle.disk_feeder.proofs.Histories.{begun_open, begun_shut}
-use Rattle.disk_feeder.proofs.OfSource.{name_count, plan_starts}
-use Rattle.disk_feeder.proofs.Streams.{told_before, starts_of}
+use Rattle.disk_feeder.proofs.OfSource.{name_count, plan_starts, first_known}
+use Rattle.disk_feeder.proofs.Needed.{told_before}
+use Rattle.disk_feeder.proofs.Streams.{starts_of}
 use Rattle.disk_feeder.proofs.stream.Stream.begin.Goals as goal
 
 -- the first headers were read of the files of a source
@@ -26,11 +26,11 @@ begun none source before told at names one more read = λ files are.
     let s = stream_of plan files in
     let transfers = length source.starts.now in
     let count : length source.names.now ≡ length files = sym (are.count ∙ name_count source) in
-    let starts = starts_of plan told files are (plan_starts source) in
-    let was = told_before before told plan.names files names are in
-    let known : AreFirstFiles before source transfers (first_of s) = λ k below.
-    ap (λ (n : ℕ). before.bytes_under (slice_index_or plan.names (slice_index_or plan.starts k n) [])) count
-    ∙ was.each (begin_of s k) (let within = starts.within k below in let same = are.count in omega arith) in
+    let starts = starts_of plan files are.count (plan_starts source) in
+    let Needed : ℕ → Type 0 = IsAmong (opened_at at) plan.starts (length plan.names) in
+    let was = told_before Needed before told plan.names files names are in
+    let known : AreFirstFiles before source transfers (first_of s) =
+    first_known (opened_at at) source before files was in
     let all : told ≡ firsts_read (name_of_first plan.names s) (first_of s) transfers before =
     read (first_of s) known
     ∙ ap (λ (n : ℕ). firsts_read (λ k. slice_index_or plan.names (slice_index_or plan.starts k n) []) (first_of s)

@@ -1,9 +1,9 @@
-use Rattle.std.proofs.Common.{sym, ap, ◌∙◌, subst, arith, rules}
+use Rattle.std.proofs.Common.{refl, sym, ◌∙◌, subst, arith, rules}
 use Rattle.disk_feeder.specs.Plan.{Plan, AreAccepted}
-use Rattle.disk_feeder.specs.Sources.{plan_of}
 use Rattle.disk_feeder.specs.Streams.{KeepsStream, work_left}
 use Rattle.disk_feeder.specs.declared.stream.Stream.{Stream}
-use Rattle.disk_feeder.proofs.Counting.{not_due, not_ended, since_more, holds_still, fewer_steps}
+use Rattle.disk_feeder.proofs.Counting.{not_due, not_ended, since_more, fewer_steps}
+use Rattle.disk_feeder.proofs.Missing.{missing_of, fault_due}
 use Rattle.disk_feeder.proofs.stream.Stream.fill.Goals as goal
 
 keeps : (a b c : Stream) → KeepsStream a b → KeepsStream b c → KeepsStream a c
@@ -50,11 +50,10 @@ loop-self-preserved g c =
             c.step.new.self.end (before.inputs.since k was) c.step.ensures.inputs.count c.in_default.is running
             c.step.ensures.kept.end c.step.ensures.inputs.rose c.step.ensures.inputs.quiet;
         calm = λ h. c.step.ensures.inputs.calm (before.inputs.calm h);
-        serves = λ calm holds fine. (
-          c.step.ensures.serves (before.inputs.calm calm)
-              (holds_still (i.told c.args.inputs.now) (i.told c.loop-self.inputs) (plan_of c.args.self.now.source).names
-              (plan_of mid.source).names before.inputs.names (ap (λ (p : Plan). p.names) before.kept.plan) holds),
-          not_ended c.step.new.self.end (c.step.ensures.kept.end ∙ running),
-        );
+        missing = λ calm was.
+            fault_due c.step.new.self (i.told c.step.new.inputs) (c.step.ensures.kept.end ∙ running)
+            (λ due. missing_of c.step.new.self.source c.step.new.self.source (i.told c.loop-self.inputs)
+            (i.told c.step.new.inputs) refl refl c.step.ensures.inputs.names
+            (c.step.ensures.missing (before.inputs.calm calm) due));
       };
     }

@@ -20,7 +20,7 @@ returns-in-Ok-clause-feeds c = λ told was.
     let pass = c.args.pass.now in
     let pass' = c.write_block.new.pass in
     let P : ℕ → Type 0 = λ n.
-    IsEnded plan told n (sealed_headers pass') (sealed_blocks pass') c.args.end in
+    IsEnded plan told old.source.place n (sealed_headers pass') (sealed_blocks pass') c.args.end in
     let filled = with_due old told (Some (Stopped c.args.end)) (sealed_blocks pass) c.requires.due was.stream in
     record {
       ended = subst P (sym c.write_block.ensures.space)

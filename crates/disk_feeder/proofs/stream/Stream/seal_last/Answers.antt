@@ -11,13 +11,13 @@ use Rattle.disk_feeder.specs.declared.due.Due.TheVariants.{Last}
 use Rattle.disk_feeder.specs.declared.place.Place.{Place}
 use Rattle.disk_feeder.specs.declared.source.Source.{Source}
 use Rattle.disk_feeder.specs.declared.stream.Stream.{Stream}
-use Rattle.disk_feeder.specs.Plan.{Plan, AreAccepted}
+use Rattle.disk_feeder.specs.Plan.{Plan, AreAccepted, begin_at}
 use Rattle.disk_feeder.specs.History.{Running, ReadsUpTo}
 use Rattle.disk_feeder.specs.Sources.{plan_of}
 use Rattle.disk_feeder.proofs.Fates.{is_last, of_fate, after_last}
 use Rattle.disk_feeder.specs.Turns.{sealed_headers, sealed_blocks}
 use Rattle.disk_feeder.specs.Feeding.{header_entries, headers_sealed, IsFeeding, IsEnded, GoesOn}
-use Rattle.disk_feeder.proofs.OfSource.{plan_place}
+use Rattle.disk_feeder.proofs.OfSource.{name_count, plan_place}
 use Rattle.disk_feeder.proofs.Runs.{feeds_running, feeds_ended, blocks_full, stream_is, with_due}
 use Rattle.disk_feeder.proofs.Sealings.{LastSealed, last_sealed, next_begun, whole_sealed}
 use Rattle.disk_feeder.proofs.stream.Stream.seal_last.Goals as goal
@@ -27,6 +27,8 @@ record After (mid : Stream) (told : Told) (headers blocks : List Entry) : Type 0
   pub sealed : LastSealed (plan_of mid.source) told mid.source.place (length mid.block.items) blocks
   pub accepted : AreAccepted (plan_of mid.source)
   pub headers_are : headers ≡ header_entries (take mid.source.place.transfer (plan_of mid.source).headers)
+  pub over : mid.source.place.file
+      ≡ begin_at (plan_of mid.source).starts (length (plan_of mid.source).names) mid.source.place.transfer
   pub held : mid.held ≡ 0
   pub due : mid.due ≡ None
 
@@ -52,18 +54,31 @@ go_on whole mid new told headers blocks Moved a source block held due goes =
 go_on whole mid new told headers blocks (Waiting reader cleared) a source block held due goes = absurd goes
 go_on whole mid new told headers blocks (Ended end) a source block held due goes =
     let plan = plan_of mid.source in
-    let P : FeedEnd → Type 0 = λ e. IsEnded plan told (length mid.block.items) headers blocks e in
-    let Q : Source → Type 0 = λ x. IsEnded (plan_of x) told (length mid.block.items) headers blocks end in
-    let R : ℕ → Type 0 = λ n. IsEnded (plan_of new.source) told n headers blocks end in
+    let P : FeedEnd → Type 0 = λ e.
+    IsEnded plan told mid.source.place (length mid.block.items) headers blocks e in
+    let Q : Source → Type 0 = λ x.
+    IsEnded (plan_of x) told x.place (length mid.block.items) headers blocks end in
+    let R : ℕ → Type 0 = λ n. IsEnded (plan_of new.source) told new.source.place n headers blocks end in
     feeds_ended new told headers blocks end goes.2
     (record {
       ended = subst R (sym (ap (λ v. length v.items) block))
           (subst Q (sym source)
           (subst P (sym goes.1)
           (whole_sealed whole plan told mid.source.place (length mid.block.items) headers blocks a.sealed goes.0
-          mid.source.headed (plan_place mid.source).from a.headers_are (plan_place mid.source).total)));
+          mid.source.headed a.over a.headers_are (plan_place mid.source).total)));
       cut = λ failed files are. let all = goes.1 in absurd cc;
     })
+
+-- the next transfer begins where the one before ended
+begins_next : (source : Source) (next : Place) →
+    next ≡ record source.place { transfer = source.place.transfer + 1; since = 0 } →
+    source.place.file ≡ begin_at source.starts.now (length source.names.now) (source.place.transfer + 1) →
+    next.file ≡ begin_at (plan_of source).starts (length (plan_of source).names) next.transfer
+begins_next source next moved over =
+    let P : Place → Type 0 = λ p.
+    p.file ≡ begin_at (plan_of source).starts (length (plan_of source).names) p.transfer in
+    subst P (sym moved)
+    (over ∙ ap (λ (n : ℕ). begin_at source.starts.now n (source.place.transfer + 1)) (sym (name_count source)))
 
 pub returns-in-Ok-clause-feeds : goal.returns-in-Ok-clause-feeds
 returns-in-Ok-clause-feeds c = λ told was.
@@ -89,6 +104,9 @@ returns-in-Ok-clause-feeds c = λ told was.
     let R : ℕ → Type 0 = λ n. LastSealed (plan_of mid.source) told mid.source.place n (sealed_blocks pass') in
     let S : Plan → Type 0 = λ x. AreAccepted x in
     let T : Source → Type 0 = λ x. AreAccepted (plan_of x) in
+    let U : Plan → Type 0 = λ x. next.place.file ≡ begin_at x.starts (length x.names) next.place.transfer in
+    let V : Source → Type 0 = λ x.
+    x.place.file ≡ begin_at (plan_of x).starts (length (plan_of x).names) x.place.transfer in
     go_on c.no_stop_is_whole.ensures mid new told (sealed_headers pass') (sealed_blocks pass') c.after_transfer.result
     (record {
       sealed = subst R (sym (ap (λ v. length v.items) c.empty.ensures.block ∙ c.write_block.ensures.space))
@@ -101,6 +119,8 @@ returns-in-Ok-clause-feeds c = λ told was.
           ∙ ap (λ (n : ℕ). header_entries (take n plan.headers)) (sym moved)
           ∙ ap (λ (x : Plan). header_entries (take next.place.transfer x.headers)) (sym same)
           ∙ ap (λ (x : Source). header_entries (take x.place.transfer (plan_of x).headers)) (sym source);
+      over = subst V (sym source) (subst U (sym same)
+          (begins_next old.source next.place c.next_transfer.ensures.place c.requires.last.over.1));
       held = c.empty.ensures.held;
       due = c.empty.ensures.due;
     }) c.after_transfer.ensures.source c.after_transfer.ensures.block c.after_transfer.ensures.held

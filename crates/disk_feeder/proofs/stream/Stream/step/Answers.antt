@@ -1,8 +1,9 @@
-use Rattle.std.proofs.Common.{◌≡◌, ℕ, List, ◌++◌, Option, Some, None, length, take, drop, sym, ap, ◌∙◌, subst, rules}
+use Rattle.std.proofs.Common.{◌≡◌, ℕ, List, ◌++◌, Option, Some, None, Err, length, take, drop, refl, sym, ap, ◌∙◌, subst, rules}
 use Rattle.psr_base.specs.Told.{Told}
 use Rattle.ring_blocks.specs.declared.Entry.{Entry}
 use Rattle.disk_feeder.specs.declared.due.Due.{Due}
 use Rattle.disk_feeder.specs.declared.answers.FeedEnd.{FeedEnd}
+use Rattle.disk_feeder.specs.declared.answers.FeedEnd.TheVariants.{ReadFault}
 use Rattle.disk_feeder.specs.declared.due.Due.TheVariants.{Last, Stopped}
 use Rattle.disk_feeder.specs.declared.stream.Stream.{Stream}
 use Rattle.disk_feeder.specs.declared.source.Source.{Source}
@@ -10,9 +11,10 @@ use Rattle.disk_feeder.specs.declared.place.Place.{Place}
 use Rattle.disk_feeder.specs.Plan.{Plan}
 use Rattle.disk_feeder.specs.Filling.{IsFilled}
 use Rattle.disk_feeder.specs.History.{Running, fate, IsFated, ReadsUpTo, BreaksOffAt}
-use Rattle.disk_feeder.specs.Sources.{plan_of}
+use Rattle.disk_feeder.specs.Sources.{plan_of, HasMore}
 use Rattle.disk_feeder.specs.Streams.{StreamRead}
 use Rattle.disk_feeder.proofs.Fates.{goes_on, held_goes_on, at_stop, of_fate, to_fate}
+use Rattle.disk_feeder.proofs.Missing.{missing_of, missing_here}
 use Rattle.disk_feeder.proofs.Fillings.{whole_written, filled_more, filled_stopped}
 use Rattle.disk_feeder.proofs.stream.Stream.step.Goals as goal
 
@@ -121,3 +123,14 @@ returns-then-is_transfer_over-clause-reads_on g c = λ before was.
     let P : Option FeedEnd → Type 0 = λ e.
     IsFated (fate (Some Last) e) (plan_of old.source) before told old.source.place in
     subst P (sym c.requires.idle.running) (read_so_far old before told c.requires.idle.due c.requires.idle.running was)
+
+-- ---- a fault
+
+pub returns-in-Err-clause-missing : goal.returns-in-Err-clause-missing
+returns-in-Err-clause-missing g c = λ calm due.
+    let old = c.args.self.now in
+    let told = g.I.Inputs.told c.args.inputs.now in
+    let more : HasMore old.source = search rules in
+    let failed : Err c.in-Err.end ≡ Err ReadFault = cc in
+    missing_of old.source c.read_behind.new.source told told c.read_behind.ensures.on.plan c.in-Err.ensures.on.place
+    refl (missing_here old.source told more (λ some. c.in-Err.ensures.serves calm some failed))

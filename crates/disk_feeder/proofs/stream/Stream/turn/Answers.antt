@@ -80,7 +80,7 @@ returns-clause-inputs g c =
       quiet = λ fine. reads.quiet (after.failed fine);
       since = λ k was. after.since k (g.I.Inputs.faults c.fill-due.new.inputs) (reads.since k was);
       calm = reads.calm;
-      serves = λ calm holds fine. after.faultless (reads.serves calm holds fine);
+      missing = λ calm was. after.missing (g.I.Inputs.told c.fill-due.new.inputs) (reads.missing calm was);
     }
 
 pub returns-then-self-clause-inputs : goal.returns-then-self-clause-inputs
@@ -92,7 +92,7 @@ returns-then-self-clause-inputs g c =
       quiet = λ fine. refl;
       since = λ k was. after.since k (g.I.Inputs.faults c.args.inputs.now) was;
       calm = λ calm. calm;
-      serves = λ calm holds fine. after.faultless fine;
+      missing = λ calm was. after.missing (g.I.Inputs.told c.args.inputs.now) was;
     }
 
 pub returns-clause-reads_on : goal.returns-clause-reads_on

@@ -1,0 +1,80 @@
+-- Files of which only those are told that are needed.
+use Rattle.std.proofs.Common.{◌≡◌, ℕ, ◌+◌, ◌<◌, ◌≤◌, Bool, true, false, List, [], Option, Some, length, refl, sym, ap, ◌∙◌, subst, inl, inr, arith}
+use Rattle.std.specs.Prelude.{slice_index_or, if◌then◌else◌}
+use Rattle.psr_base.specs.Told.{Told}
+use Rattle.disk_feeder.specs.declared.place.Place.{Place}
+use Rattle.disk_feeder.specs.Plan.{Plan, AreTold, begin_at, IsAmong, AreToldAt, AreToldTo, opened_at}
+use Rattle.disk_feeder.specs.Reading.{NoStopBefore}
+
+-- where nothing under a name changed, the same files are told
+pub told_before : (Needed : ℕ → Type 0) (told told' : Told) (names files : List (List ℕ)) →
+    told'.bytes_under ≡ told.bytes_under → AreToldAt Needed told' names files → AreToldAt Needed told names files
+told_before Needed told told' names files same are = record {
+  count = are.count;
+  each = λ k below needed.
+      ap (λ (f : List ℕ → Option (List ℕ)). f (slice_index_or names k [])) (sym same) ∙ are.each k below needed;
+}
+
+-- all files are told
+pub all_told : (Needed : ℕ → Type 0) (told : Told) (names files : List (List ℕ)) → AreTold told names files →
+    AreToldAt Needed told names files
+all_told Needed told names files are = record { count = are.count; each = λ k below needed. are.each k below }
+
+-- ---- the first of them
+
+among_more : (few many : ℕ) (starts : List ℕ) (count k : ℕ) → few ≤ many → IsAmong few starts count k →
+    IsAmong many starts count k
+among_more few many starts count k less (inl below) = inl (omega arith)
+among_more few many starts count k less (inr first) = inr first
+
+-- where more are told, fewer are
+pub told_fewer : (few many : ℕ) (told : Told) (plan : Plan) (files : List (List ℕ)) → few ≤ many →
+    AreToldTo many told plan files → AreToldTo few told plan files
+told_fewer few many told plan files less are = record {
+  count = are.count;
+  each = λ k below needed.
+      are.each k below (among_more few many plan.starts (length plan.names) k less needed);
+}
+
+-- a file of the first ones is told
+pub told_within : (opened : ℕ) (told : Told) (plan : Plan) (files : List (List ℕ)) (k : ℕ) →
+    AreToldTo opened told plan files → k < length plan.names → k < opened →
+    told.bytes_under (slice_index_or plan.names k []) ≡ Some (slice_index_or files k [])
+told_within opened told plan files k are below within = are.each k below (inl within)
+
+-- and the first file of each transfer
+pub told_first : (opened : ℕ) (told : Told) (plan : Plan) (files : List (List ℕ)) (transfer : ℕ) →
+    AreToldTo opened told plan files → transfer < length plan.starts →
+    begin_at plan.starts (length plan.names) transfer < length plan.names →
+    told.bytes_under (slice_index_or plan.names (begin_at plan.starts (length plan.names) transfer) [])
+    ≡ Some (slice_index_or files (begin_at plan.starts (length plan.names) transfer) [])
+told_first opened told plan files transfer are there below =
+    are.each (begin_at plan.starts (length plan.names) transfer) below (inr (transfer, there, refl))
+
+-- ---- those that were opened at a place
+
+opened_by : (b : Bool) (n : ℕ) → (if b then n + 1 else n) ≤ n + 1
+opened_by true n = omega arith
+opened_by false n = omega arith
+
+-- no more than up to the file of the place
+pub told_opened : (at : Place) (told : Told) (plan : Plan) (files : List (List ℕ)) →
+    AreToldTo (at.file + 1) told plan files → AreToldTo (opened_at at) told plan files
+told_opened at told plan files are =
+    told_fewer (opened_at at) (at.file + 1) told plan files (opened_by at.is_open at.file) are
+
+-- where that is open, it is the last of them
+pub told_to_open : (at : Place) (told : Told) (plan : Plan) (files : List (List ℕ)) → at.is_open ≡ true →
+    AreToldTo (opened_at at) told plan files → AreToldTo (at.file + 1) told plan files
+told_to_open at told plan files open_now are =
+    let P : Bool → Type 0 = λ b. AreToldTo (if b then at.file + 1 else at.file) told plan files in
+    subst P open_now are
+
+-- ---- those that were passed
+
+-- where nothing under a name changed, they stop no walk still
+pub passed_still : (plan : Plan) (told told' : Told) (file : ℕ) → told'.bytes_under ≡ told.bytes_under →
+    NoStopBefore plan told file → NoStopBefore plan told' file
+passed_still plan told told' file same passed = λ k less files are.
+    passed k less files
+    (told_before (IsAmong (k + 1) plan.starts (length plan.names)) told told' plan.names files same are)
