@@ -1,14 +1,15 @@
 -- The first headers that a feeder read, and those of the files.
-use Rattle.std.proofs.Common.{◌≡◌, ℕ, ◌+◌, ◌<◌, inl, inr, List, [], length, get_or, slice_get, Option, Some, None, Ok, refl, sym, ap, subst, ◌∙◌, arith}
-use Rattle.std.specs.Prelude.{slice_index_or}
-use Rattle.std.proofs.lemmas.Option.{slice_get-get_or}
+use Rattle.std.proofs.Common.{◌≡◌, ◌≢◌, ℕ, zero, suc, ◌+◌, ◌<◌, ◌≤◌, inl, inr, List, [], length, get_or, slice_get, Option, Some, None, Ok, refl, sym, ap, subst, ◌∙◌, arith}
+use Rattle.std.specs.Prelude.{IsSome, slice_index_or, string_bytes}
+use Rattle.std.proofs.lemmas.Bool.{cases_lt}
+use Rattle.std.proofs.lemmas.List.{length-map}
+use Rattle.std.proofs.lemmas.Option.{slice_get_within, slice_get-get_or}
 use Rattle.psr_base.specs.Told.{Told, OfFile}
 use Rattle.dada_model.specs.Fields.{HeaderText, header_of, fields_of}
 use Rattle.dada_model.specs.Observation.{Observation, observation_of, observation_in}
 use Rattle.dada_model.specs.Laws.{AcceptedByRows}
 use Rattle.dada_header.specs.declared.faults.HeaderFault.{HeaderFault}
 use Rattle.dada_header.specs.declared.faults.HeaderFault.TheVariants as header
-use Rattle.dada_header.specs.Faults.{IsHeaderRefusal}
 use Rattle.obs_plan.specs.declared.fault.ObsFault.{ObsFault}
 use Rattle.obs_plan.specs.declared.fault.ObsFault.TheVariants as obs
 use Rattle.obs_plan.specs.Faults.{ExplainsObservation}
@@ -16,28 +17,45 @@ use Rattle.stream_model.specs.Walk.{FileStream, begin_of, fields_past, observati
 use Rattle.stream_model.specs.WalkLaws.{AreStarts}
 use Rattle.disk_feeder.specs.declared.answers.FeedFault.{FeedFault}
 use Rattle.disk_feeder.specs.declared.answers.FeedFault.TheVariants as feed
-use Rattle.disk_feeder.specs.Plan.{Plan, stream_of, AreTold, begin_at}
+use Rattle.disk_feeder.specs.declared.source.Source.{Source}
+use Rattle.disk_feeder.specs.Beginning.{HeadersRead, FirstsRead, BreaksFirst, RefusesSome}
+use Rattle.disk_feeder.specs.Plan.{Plan, stream_of, AreToldAt, IsFirstFile, IsFirstBefore, begin_at}
 use Rattle.disk_feeder.specs.Front.{BreaksAt}
-use Rattle.disk_feeder.specs.History.{firsts_read, first_of}
-use Rattle.disk_feeder.specs.Sources.{RefusesFirst}
-use Rattle.run_stop.specs.declared.stop.Stop.{Stop}
+use Rattle.disk_feeder.specs.History.{firsts_read, first_of, file_name}
+use Rattle.disk_feeder.specs.Sources as sources
+use Rattle.disk_feeder.specs.Sources.{plan_of}
 use Rattle.run_stop.specs.declared.stop.Stop.TheVariants.{Memory, ReadFault}
 use Rattle.run_stop.specs.Conversions.{stop_of_begin, stop_of_fields}
-use Rattle.run_stop.specs.Firsts.{first_file, HasHeader, ReadsFirsts, BreaksFirstOf, RefusesFirstText, RefusesFirstFields}
+use Rattle.run_stop.specs.Firsts.{first_file, first_at, first_name, HasHeader, HaveHeaders, ReadsFirsts, RefusesTextAt, BreaksFirstAt, RefusesFirstFields}
 use Rattle.run_stop.specs.Ends.{ComesBefore}
-use Rattle.search_opening.specs.First.{StopsFirsts, AreFirsts, AreObserved}
+use Rattle.search_opening.specs.First.{OfFirsts, StopsFirsts, AreFirsts, AreHeadersOf, AreObserved}
 use Rattle.search_opening.proofs.Observed.{as_many, some_at, accepted_at}
 
 -- ---- files that are told
 
--- the same files are told where the bytes under names stay
-pub still_told : (told told' : Told) (names names' files : List (List ℕ)) → told'.bytes_under ≡ told.bytes_under →
-    names' ≡ names → AreTold told names files → AreTold told' names' files
-still_told told told' names names' files bytes same are =
-    subst (λ ns. AreTold told' ns files) (sym same) (record {
+-- the same first files are told where the bytes under names stay
+pub still_told : (told told' : Told) (old new : Plan) (files : List (List ℕ)) →
+    told'.bytes_under ≡ told.bytes_under → new.names ≡ old.names → new.starts ≡ old.starts →
+    AreToldAt (IsFirstFile old.starts (length old.names)) told old.names files →
+    AreToldAt (IsFirstFile new.starts (length new.names)) told' new.names files
+still_told told told' old new files bytes names starts are =
+    subst (λ ss. AreToldAt (IsFirstFile ss (length new.names)) told' new.names files) (sym starts)
+    (subst (λ ns. AreToldAt (IsFirstFile old.starts (length ns)) told' ns files) (sym names) (record {
       count = are.count;
-      each = λ k within. ap (λ under. under (slice_index_or names k [])) bytes ∙ are.each k within;
-    })
+      each = λ k within needed.
+          ap (λ under. under (slice_index_or old.names k [])) bytes ∙ are.each k within needed;
+    }))
+
+-- and they have headers still
+pub still_headed : (told told' : Told) (old new : Plan) → told'.bytes_under ≡ told.bytes_under →
+    new.names ≡ old.names → new.starts ≡ old.starts →
+    HaveHeaders told' new.names new.starts (length new.starts) →
+    HaveHeaders told old.names old.starts (length old.starts)
+still_headed told told' old new bytes names starts have k below file is =
+    have k (subst (λ ss. k < length ss) (sym starts) below) file
+    (ap (λ under. under (first_name new.names new.starts k)) bytes
+    ∙ ap (λ ns. told.bytes_under (first_name ns new.starts k)) names
+    ∙ ap (λ ss. told.bytes_under (first_name old.names ss k)) starts ∙ is)
 
 abbrev stream : List (List ℕ) → List ℕ → ℕ → FileStream
 stream files starts most = record { files = files; starts = starts; max_bytes = most }
@@ -47,100 +65,141 @@ pub same_stream : (p q : Plan) (files : List (List ℕ)) → p.starts ≡ q.star
 same_stream p q files starts most =
     ap (λ x. stream files x p.max_bytes) starts ∙ ap (stream files q.starts) most
 
--- the first file of each transfer, of so many files, is told
-module _ (plan : Plan) (count : ℕ) (told : Told) (files : List (List ℕ)) (count_is : length plan.names ≡ count)
-    (starts : AreStarts plan.starts count) (are : AreTold told plan.names files) where
-  same_begin : (k : ℕ) → begin_at plan.starts count k ≡ begin_of (stream_of plan files) k
-  same_begin k = ap (λ n. slice_index_or plan.starts k n) (sym (are.count ∙ count_is))
+-- no transfer begins with a later file than one after it
+begins_rise : (starts : List ℕ) (count : ℕ) → AreStarts starts count → (k transfer : ℕ) → k ≤ transfer →
+    transfer < length starts → begin_at starts count k ≤ begin_at starts count transfer
+begins_rise starts count are k zero most there =
+    let same : k ≡ zero = omega (arith, most) in
+    let equal = ap (begin_at starts count) same in
+    omega (arith, equal)
+begins_rise starts count are k (suc transfer) most there = elim (cases_lt k (suc transfer)) [
+  | inl below ↦
+      let before = begins_rise starts count are k transfer (omega (arith, below)) (omega (arith, there)) in
+      let one : transfer + 1 ≡ suc transfer = omega arith in
+      let rise = subst (λ n. begin_at starts count transfer < begin_at starts count n) one
+      (are.rise transfer (omega (arith, there))) in
+      omega (arith, before, rise)
+  | inr above ↦
+      let same : k ≡ suc transfer = omega (arith, most, above) in
+      let equal = ap (begin_at starts count) same in
+      omega (arith, equal)
+]
 
-  first_told : (k : ℕ) → k < length plan.starts →
-      told.bytes_under (slice_index_or plan.names (begin_at plan.starts count k) [])
-      ≡ Some (first_file (stream_of plan files) k)
-  first_told k there =
-      let within = starts.within k there in
-      are.each (begin_at plan.starts count k) (omega (arith, within, count_is))
-      ∙ ap (λ i. Some (slice_index_or files i [])) (same_begin k)
+-- a header for each transfer
+header_there : (headers : List HeaderText) (k : ℕ) → k < length headers →
+    (header : HeaderText) × (slice_get headers k ≡ Some header)
+header_there headers k within =
+    let none : HeaderText = record { size = 0; text = [] } in
+    (get_or headers k none, slice_get-get_or headers k none within)
 
-  -- why the first file of a transfer has no header
-  refused_text : (file : ℕ) (cause : HeaderFault) (transfer : ℕ) → transfer < length plan.starts →
-      OfFile told (slice_index_or plan.names (begin_at plan.starts count transfer) [])
-      (λ bytes. (file ≡ begin_at plan.starts count transfer) × IsHeaderRefusal bytes cause) →
-      ((k : ℕ) → k < transfer →
-      OfFile told (slice_index_or plan.names (begin_at plan.starts count k) []) HasHeader) →
-      RefusesFirstText (stream_of plan files) file cause
-  refused_text file cause transfer there refuses earlier =
-      let w = stream_of plan files in
-      let r = refuses (first_file w transfer) (first_told transfer there) in
-      record {
-        transfer = transfer;
-        there = there;
-        is = r.0 ∙ same_begin transfer;
-        cause = r.1;
-        earlier = λ k before.
-            earlier k before (first_file w k) (first_told k (omega (arith, before, there)));
-      }
+-- the first files that a source reads
+module _ (told : Told) (source : Source)
+    (starts : AreStarts source.starts.now (length (plan_of source).names)) where
+  -- as many names as files
+  many : length source.names.now ≡ length (plan_of source).names
+  many = sym (length-map source.names.now string_bytes)
 
-  pub stops_text : (fault : FeedFault) (transfer : ℕ) → transfer < length plan.starts →
-      OfFile told (slice_index_or plan.names (begin_at plan.starts count transfer) [])
-      (λ file. RefusesFirst file (begin_at plan.starts count transfer) fault) →
-      ((k : ℕ) → k < transfer →
-      OfFile told (slice_index_or plan.names (begin_at plan.starts count k) []) HasHeader) →
-      StopsFirsts (stream_of plan files) (stop_of_begin fault)
-  stops_text feed.ReadFault transfer there refuses earlier = tt
-  stops_text (feed.BadHeader file (header.Short had)) transfer there refuses earlier =
-      refused_text file (header.Short had) transfer there refuses earlier
-  stops_text (feed.BadHeader file (header.NotText place)) transfer there refuses earlier =
-      refused_text file (header.NotText place) transfer there refuses earlier
-  stops_text (feed.BadHeader file header.BadSize) transfer there refuses earlier =
-      refused_text file header.BadSize transfer there refuses earlier
-  stops_text (feed.BadHeader file header.Memory) transfer there refuses earlier = tt
+  named : (k : ℕ) → sources.first_name source k ≡ first_name (plan_of source).names (plan_of source).starts k
+  named k = ap (λ n. file_name (plan_of source).names (begin_at (plan_of source).starts n k)) many
 
-  -- no header is refused for want of memory
-  pub no_want : (fault : FeedFault) (transfer : ℕ) → transfer < length plan.starts →
-      OfFile told (slice_index_or plan.names (begin_at plan.starts count transfer) [])
-      (λ file. RefusesFirst file (begin_at plan.starts count transfer) fault) →
-      stop_of_begin fault ≡ Memory → ⊥
-  no_want feed.ReadFault transfer there refuses is = cc
-  no_want (feed.BadHeader file (header.Short had)) transfer there refuses is = cc
-  no_want (feed.BadHeader file (header.NotText place)) transfer there refuses is = cc
-  no_want (feed.BadHeader file header.BadSize) transfer there refuses is = cc
-  no_want (feed.BadHeader file header.Memory) transfer there refuses is =
-      (refuses (first_file (stream_of plan files) transfer) (first_told transfer there)).1
+  have_headers : (last : ℕ) →
+      ((k : ℕ) → k < last → OfFile told (sources.first_name source k) HasHeader) →
+      HaveHeaders told (plan_of source).names (plan_of source).starts last
+  have_headers last have k below = subst (λ name. OfFile told name HasHeader) (named k) (have k below)
+
+  -- the first file of a transfer is told where it is needed
+  told_at : (Needed : ℕ → Type 0) (files : List (List ℕ)) → AreToldAt Needed told (plan_of source).names files →
+      (k : ℕ) → k < length source.starts.now → Needed (first_at (plan_of source).names source.starts.now k) →
+      told.bytes_under (sources.first_name source k)
+      ≡ Some (slice_index_or files (first_at (plan_of source).names source.starts.now k) [])
+  told_at Needed files are k there needed =
+      ap (λ name. told.bytes_under name) (named k)
+      ∙ are.each (first_at (plan_of source).names source.starts.now k) (starts.within k there) needed
+
+  all_told : (files : List (List ℕ)) →
+      AreToldAt (IsFirstFile (plan_of source).starts (length (plan_of source).names)) told (plan_of source).names
+      files → (k : ℕ) → k < length source.starts.now →
+      told.bytes_under (sources.first_name source k) ≡ Some (first_file (stream_of (plan_of source) files) k)
+  all_told files are k there =
+      told_at (IsFirstFile (plan_of source).starts (length (plan_of source).names)) files are k there (k, there, refl)
+      ∙ ap (λ n. Some (slice_index_or files (begin_at source.starts.now n k) [])) (sym are.count)
+
+  -- the headers that were read are those of the files
+  pub headers_are : length (plan_of source).headers ≡ length (plan_of source).starts →
+      HeadersRead told source (length source.starts.now) source →
+      OfFirsts told (plan_of source) (λ w. AreHeadersOf w (plan_of source).headers)
+  headers_are headed read files are k header at =
+      let within = slice_get_within (plan_of source).headers k header at in
+      let there : k < length source.starts.now = omega (arith, within, headed) in
+      read k there (first_file (stream_of (plan_of source) files) k) (all_told files are k there) header at
+
+  pub texts_are : length (plan_of source).headers ≡ length (plan_of source).starts →
+      HeadersRead told source (length source.starts.now) source →
+      HaveHeaders told (plan_of source).names (plan_of source).starts (length (plan_of source).starts)
+  texts_are headed read = have_headers (length source.starts.now) (λ k there file is.
+      let at = header_there (plan_of source).headers k (omega (arith, there, headed)) in
+      (at.0, read k there file is at.0 at.1))
 
   -- the first headers were read, in the words of the files
-  pub firsts_are : (told' : Told) →
-      ((file_of : ℕ → List ℕ) → ((k : ℕ) → k < length plan.starts →
-      told.bytes_under (slice_index_or plan.names (begin_at plan.starts count k) []) ≡ Some (file_of k)) →
-      told' ≡ firsts_read (λ k. slice_index_or plan.names (begin_at plan.starts count k) []) file_of
-      (length plan.starts) told) →
-      ReadsFirsts plan.names (stream_of plan files) told told'
-  firsts_are told' read =
-      let w = stream_of plan files in
-      read (first_of w) first_told
-      ∙ ap (λ (n : ℕ). firsts_read (λ k. slice_index_or plan.names (slice_index_or plan.starts k n) []) (first_of w)
-      (length plan.starts) told) (sym (are.count ∙ count_is))
+  pub firsts_are : (told' : Told) → FirstsRead told source (length source.starts.now) told' →
+      OfFirsts told (plan_of source) (λ w. ReadsFirsts (plan_of source).names w told told')
+  firsts_are told' read files are =
+      let w = stream_of (plan_of source) files in
+      read (first_of w) (all_told files are)
+      ∙ ap (λ (n : ℕ). firsts_read (λ k. file_name (plan_of source).names (begin_at source.starts.now n k)) (first_of w)
+      (length source.starts.now) told) (many ∙ sym are.count)
 
-  -- and where a fault came
-  pub breaks_first : (told' : Told) (transfer : ℕ) → transfer < length plan.starts →
-      ((k : ℕ) → k < transfer →
-      OfFile told (slice_index_or plan.names (begin_at plan.starts count k) []) HasHeader) →
-      ((file_of : ℕ → List ℕ) → ((k : ℕ) → k < transfer + 1 →
-      told.bytes_under (slice_index_or plan.names (begin_at plan.starts count k) []) ≡ Some (file_of k)) →
-      BreaksAt (slice_index_or plan.names (begin_at plan.starts count transfer) []) (file_of transfer)
-      (firsts_read (λ k. slice_index_or plan.names (begin_at plan.starts count k) []) file_of transfer told) told') →
-      BreaksFirstOf plan.names (stream_of plan files) transfer told told'
-  breaks_first told' transfer there earlier broke =
-      let w = stream_of plan files in
-      let P : ℕ → Type 0 = λ n.
-      BreaksAt (slice_index_or plan.names (slice_index_or plan.starts transfer n) []) (first_of w transfer)
-      (firsts_read (λ k. slice_index_or plan.names (slice_index_or plan.starts k n) []) (first_of w) transfer told)
-      told' in
-      record {
-        there = there;
-        earlier = λ k before. earlier k before (first_file w k) (first_told k (omega (arith, before, there)));
-        broke = subst P (sym (are.count ∙ count_is))
-            (broke (first_of w) (λ k below. first_told k (omega (arith, below, there))));
-      }
+  -- why the first file of a transfer has no header
+  refused_text : (file : ℕ) (cause : HeaderFault) → RefusesSome told source (feed.BadHeader file cause) →
+      RefusesTextAt told (plan_of source).names (plan_of source).starts file cause
+  refused_text file cause r = record {
+    transfer = r.transfer;
+    there = r.there;
+    is = r.names ∙ ap (λ n. begin_at source.starts.now n r.transfer) many;
+    refused = λ bytes is.
+        (r.refuses bytes (ap (λ k. told.bytes_under (file_name (plan_of source).names k)) (sym r.names) ∙ is)).1;
+    earlier = have_headers r.transfer r.earlier;
+  }
+
+  pub stops_text : (fault : FeedFault) → RefusesSome told source fault →
+      StopsFirsts told (plan_of source) (stop_of_begin fault)
+  stops_text feed.ReadFault r = tt
+  stops_text (feed.BadHeader file (header.Short had)) r = refused_text file (header.Short had) r
+  stops_text (feed.BadHeader file (header.NotText place)) r = refused_text file (header.NotText place) r
+  stops_text (feed.BadHeader file header.BadSize) r = refused_text file header.BadSize r
+  stops_text (feed.BadHeader file header.Memory) r = tt
+
+  -- no header of files that are told is refused for want of memory
+  pub no_want : (fault : FeedFault) → RefusesSome told source fault → stop_of_begin fault ≡ Memory →
+      OfFirsts told (plan_of source) (λ w. ⊥)
+  no_want feed.ReadFault r is files are = cc
+  no_want (feed.BadHeader file (header.Short had)) r is files are = cc
+  no_want (feed.BadHeader file (header.NotText place)) r is files are = cc
+  no_want (feed.BadHeader file header.BadSize) r is files are = cc
+  no_want (feed.BadHeader file header.Memory) r is files are =
+      (r.refuses (first_file (stream_of (plan_of source) files) r.transfer) (all_told files are r.transfer r.there)).1
+
+  -- what a fault leaves that came before one was judged
+  pub breaks_first : (is_calm : Type 0) (told' : Told) → BreaksFirst told is_calm source told' →
+      BreaksFirstAt (plan_of source).names (plan_of source).starts is_calm told told'
+  breaks_first is_calm told' b = record {
+    transfer = b.transfer;
+    there = b.there;
+    earlier = have_headers b.transfer b.earlier;
+    broke = λ files are.
+        let file_of : ℕ → List ℕ = λ k.
+        slice_index_or files (first_at (plan_of source).names source.starts.now k) [] in
+        subst (λ n. BreaksAt (file_name (plan_of source).names (begin_at source.starts.now n b.transfer))
+        (file_of b.transfer) (firsts_read (λ k. file_name (plan_of source).names (begin_at source.starts.now n k))
+        file_of b.transfer told) told') many
+        (b.broke file_of (λ k below.
+        let there : k < length source.starts.now = omega (arith, below, b.there) in
+        let rise = begins_rise source.starts.now (length (plan_of source).names) starts k b.transfer
+        (omega (arith, below)) b.there in
+        told_at (IsFirstBefore (first_at (plan_of source).names source.starts.now b.transfer + 1) source.starts.now
+        (length (plan_of source).names)) files are k there (omega (arith, rise), (k, there, refl))));
+    missing = subst (λ name. is_calm → ¬ IsSome (told.bytes_under name)) (named b.transfer) b.missing;
+  }
 
 -- ---- what the headers say
 
@@ -152,28 +211,28 @@ said_by rows file header o has accepted =
     let is : o ≡ observation_in (fields_of header.text) = ((rows (fields_of header.text) o).0 accepted).0 in
     ap (λ r. observation_in (fields_past r)) has ∙ sym is
 
-stops_cause : (w : FileStream) (file : ℕ) (cause : ObsFault) → RefusesFirstFields w file cause →
-    StopsFirsts w (stop_of_fields file cause)
-stops_cause w file (obs.Missing key) refuses = refuses
-stops_cause w file (obs.BadNumber key) refuses = refuses
-stops_cause w file (obs.OutOfProfile key) refuses = refuses
-stops_cause w file (obs.OutOfRange key) refuses = refuses
-stops_cause w file (obs.TooNarrow bw nchan) refuses = refuses
-stops_cause w file (obs.Differs key) refuses = refuses
-stops_cause w file obs.Memory refuses = tt
+-- what a header says is refused, or there is no memory
+pub stops_fields : (told : Told) (plan : Plan) (file : ℕ) (cause : ObsFault) →
+    HaveHeaders told plan.names plan.starts (length plan.starts) →
+    (cause ≢ obs.Memory → OfFirsts told plan (λ w. RefusesFirstFields w file cause)) →
+    StopsFirsts told plan (stop_of_fields file cause)
+stops_fields told plan file (obs.Missing key) texts refuses = (texts, refuses (λ is. cc))
+stops_fields told plan file (obs.BadNumber key) texts refuses = (texts, refuses (λ is. cc))
+stops_fields told plan file (obs.OutOfProfile key) texts refuses = (texts, refuses (λ is. cc))
+stops_fields told plan file (obs.OutOfRange key) texts refuses = (texts, refuses (λ is. cc))
+stops_fields told plan file (obs.TooNarrow bw nchan) texts refuses = (texts, refuses (λ is. cc))
+stops_fields told plan file (obs.Differs key) texts refuses = (texts, refuses (λ is. cc))
+stops_fields told plan file obs.Memory texts refuses = tt
 
-module _ (w : FileStream) (headers : List HeaderText) (many : length headers ≡ length w.starts)
+module _ (w : FileStream) (headers : List HeaderText) (many_headers : length headers ≡ length w.starts)
     (have : (k : ℕ) (header : HeaderText) → slice_get headers k ≡ Some header →
     header_of (first_file w k) ≡ Ok header) where
-  -- a header for each transfer
-  header_there : (k : ℕ) → k < length w.starts → (header : HeaderText) × (slice_get headers k ≡ Some header)
-  header_there k within =
-      let none : HeaderText = record { size = 0; text = [] } in
-      (get_or headers k none, slice_get-get_or headers k none (omega (arith, within, many)))
+  header_of_transfer : (k : ℕ) → k < length w.starts → (header : HeaderText) × (slice_get headers k ≡ Some header)
+  header_of_transfer k within = header_there headers k (omega (arith, within, many_headers))
 
-  pub texts_of : (k : ℕ) → k < length w.starts → HasHeader (first_file w k)
+  texts_of : (k : ℕ) → k < length w.starts → HasHeader (first_file w k)
   texts_of k within =
-      let at = header_there k within in
+      let at = header_of_transfer k within in
       (at.0, have k at.0 at.1)
 
   -- their observations
@@ -185,8 +244,8 @@ module _ (w : FileStream) (headers : List HeaderText) (many : length headers ≡
         walked = record {
           starts = starts;
           accepted = λ k within.
-              let at = header_there k within in
-              let o = some_at headers observations observed k (omega (arith, within, all, many)) in
+              let at = header_of_transfer k within in
+              let o = some_at headers observations observed k (omega (arith, within, all, many_headers)) in
               record {
                 header = at.0;
                 observation = o.0;
@@ -194,45 +253,44 @@ module _ (w : FileStream) (headers : List HeaderText) (many : length headers ≡
                 is_observation = accepted_at headers observations observed k o.0 at.0 o.1 at.1;
               };
         };
-        count = omega (arith, all, many);
+        count = omega (arith, all, many_headers);
         each = λ k within.
-            let at = header_there k within in
-            let o = some_at headers observations observed k (omega (arith, within, all, many)) in
+            let at = header_of_transfer k within in
+            let o = some_at headers observations observed k (omega (arith, within, all, many_headers)) in
             let said = said_by rows (first_file w k) at.0 o.0 (have k at.0 at.1)
             (accepted_at headers observations observed k o.0 at.0 o.1 at.1) in
-            slice_get-get_or observations k None (omega (arith, within, all, many))
+            slice_get-get_or observations k None (omega (arith, within, all, many_headers))
             ∙ ap (λ (x : Option Observation). Some x) (o.1 ∙ ap (λ (x : Observation). Some x) (sym said));
       }
 
   -- why what the header of a transfer says is refused
-  pub stops_fields : (transfer file : ℕ) (cause : ObsFault) (header : HeaderText) (s : Stop) →
+  pub refuses_fields : (transfer file : ℕ) (cause : ObsFault) (header : HeaderText) →
       transfer < length w.starts → file ≡ begin_of w transfer → slice_get headers transfer ≡ Some header →
-      ExplainsObservation (fields_of header.text) cause →
+      ExplainsObservation (fields_of header.text) cause → cause ≢ obs.Memory →
       ((k : ℕ) (other : HeaderText) → k < transfer → slice_get headers k ≡ Some other →
       (o : Observation) × (observation_of (fields_of other.text) ≡ Ok o)) →
-      s ≡ stop_of_fields file cause → StopsFirsts w s
-  stops_fields transfer file cause header s there is at why earlier stop_is =
-      subst (StopsFirsts w) (sym stop_is) (elim why [
-        | inl want ↦ subst (λ c. StopsFirsts w (stop_of_fields file c)) (sym want) tt
-        | inr refused ↦ stops_cause w file cause (record {
-          texts = texts_of;
-          transfer = transfer;
-          there = there;
-          is = is;
-          header = header;
-          has = have transfer header at;
-          cause = refused;
-          earlier = λ k before.
-              let here = header_there k (omega (arith, before, there)) in
-              let o = earlier k here.0 before here.1 in
-              record {
-                header = here.0;
-                observation = o.0;
-                is_header = have k here.0 here.1;
-                is_observation = o.1;
-              };
-        })
-      ])
+      RefusesFirstFields w file cause
+  refuses_fields transfer file cause header there is at why other earlier = elim why [
+    | inl want ↦ absurd (other want)
+    | inr refused ↦ record {
+      texts = texts_of;
+      transfer = transfer;
+      there = there;
+      is = is;
+      header = header;
+      has = have transfer header at;
+      cause = refused;
+      earlier = λ k before.
+          let here = header_of_transfer k (omega (arith, before, there)) in
+          let o = earlier k here.0 before here.1 in
+          record {
+            header = here.0;
+            observation = o.0;
+            is_header = have k here.0 here.1;
+            is_observation = o.1;
+          };
+    }
+  ]
 
 -- ---- these stops come before the session
 

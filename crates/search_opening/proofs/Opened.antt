@@ -6,12 +6,13 @@ use Rattle.std.proofs.lemmas.Option.{slice_get-get_or}
 use Rattle.dada_model.specs.Observation.{Observation}
 use Rattle.search_model.specs.declared.search.Search.{Search}
 use Rattle.search_session.specs.declared.lane.Lane.{Lane}
+use Rattle.search_session.specs.Lanes.{engines_of}
 use Rattle.search_opening.specs.Engines.{AreEnginesFor, AreLanesTo}
 
 module _ (s : Search) (observations : List (Option Observation)) where
   -- the engines of a lane are those of a shard
   abbrev pub IsLaneFor : ℕ → Lane → Type 0
-  IsLaneFor shard lane = AreEnginesFor s shard observations lane.engines.value.items
+  IsLaneFor shard lane = AreEnginesFor s shard observations (engines_of lane)
 
   found : (shard : ℕ) (slot : Option Lane) → IsSome slot → IfSome slot (IsLaneFor shard) →
       (lane : Lane) × (slot ≡ Some lane) × IsLaneFor shard lane

@@ -6,7 +6,7 @@ use Rattle.search_model.specs.Search.{SettingsInRange}
 use Rattle.search_model.specs.declared.search.Search.{Search}
 use Rattle.search_engine.specs.Engine.{EngineState, IsOpenedEngine, StandsForData}
 use Rattle.search_session.specs.declared.lane.Lane.{Lane}
-use Rattle.search_session.specs.Lanes.{HasEngine}
+use Rattle.search_session.specs.Lanes.{HasEngine, engines_of}
 use Rattle.search_session.specs.Books.{HasLane}
 use Rattle.search_opening.specs.Plans.{PlansFit}
 
@@ -37,7 +37,7 @@ pub record AreLanesTo
   pub count : length lanes ≡ shards
   pub each : (shard : ℕ) → shard < shards →
       (lane : Lane) × HasLane lanes shard lane
-      × AreEnginesFor s shard observations lane.engines.value.items
+      × AreEnginesFor s shard observations (engines_of lane)
 
 -- those of all shards
 abbrev pub AreOpenedLanes : Search → List (Option Observation) → List (Option Lane) → Type 0

@@ -7,18 +7,19 @@ use Rattle.dada_model.specs.Observation.{Observation, observation_of}
 use Rattle.obs_plan.specs.Faults.{ExplainsObservation}
 use Rattle.stream_model.specs.Walk.{FileStream, observation_at}
 use Rattle.stream_model.specs.WalkLaws.{AreWalked}
-use Rattle.disk_feeder.specs.Plan.{Plan, stream_of, AreTold}
+use Rattle.disk_feeder.specs.declared.answers.HeaderCause.TheVariants.{Text, Fields}
+use Rattle.disk_feeder.specs.Plan.{Plan, stream_of, AreToldAt, IsFirstFile}
 use Rattle.run_stop.specs.declared.stop.Stop.{Stop}
 use Rattle.run_stop.specs.declared.stop.Stop.TheVariants.{Header, Memory, ReadFault}
-use Rattle.run_stop.specs.Firsts.{first_file}
-use Rattle.run_stop.specs.Runs.{RefusesFirstHeader}
+use Rattle.run_stop.specs.Firsts.{first_file, HaveHeaders, RefusesTextAt, RefusesFirstFields}
 use Rattle.search_opening.specs.declared.first.RefusedHeader.{RefusedHeader}
 
 -- ---- the files
 
--- P holds of the files as a walk sees them, where the bytes of all are told
-abbrev pub OfFiles : Told → Plan → (FileStream → Type 0) → Type 0
-OfFiles told plan P = (files : List (List ℕ)) → AreTold told plan.names files →
+-- P holds of the files as a walk sees them, where the first one of each transfer is told
+abbrev pub OfFirsts : Told → Plan → (FileStream → Type 0) → Type 0
+OfFirsts told plan P = (files : List (List ℕ)) →
+    AreToldAt (IsFirstFile plan.starts (length plan.names)) told plan.names files →
     P (stream_of plan files)
 
 -- all first headers are accepted, and these are their observations
@@ -33,12 +34,17 @@ abbrev pub AreHeadersOf : FileStream → List HeaderText → Type 0
 AreHeadersOf w headers = (k : ℕ) (header : HeaderText) → slice_get headers k ≡ Some header →
     header_of (first_file w k) ≡ Ok header
 
--- what a stop says of the first files: the header of one of them is the first that is refused
-abbrev pub StopsFirsts : FileStream → Stop → Type 0
-StopsFirsts w (Header file cause) = RefusesFirstHeader w file cause
-StopsFirsts w Memory = ⊤
-StopsFirsts w ReadFault = ⊤
-StopsFirsts w _ = ⊥
+-- What a stop says of the first files: the header of one of them is the first that is refused, its text by those up to
+-- it, each by itself, and what it says by all of them
+abbrev pub StopsFirsts : Told → Plan → Stop → Type 0
+StopsFirsts told plan (Header file (Text fault)) =
+    RefusesTextAt told plan.names plan.starts file fault
+StopsFirsts told plan (Header file (Fields fault)) =
+    HaveHeaders told plan.names plan.starts (length plan.starts)
+    × OfFirsts told plan (λ w. RefusesFirstFields w file fault)
+StopsFirsts told plan Memory = ⊤
+StopsFirsts told plan ReadFault = ⊤
+StopsFirsts told plan _ = ⊥
 
 -- ---- the headers that were read
 

@@ -7,7 +7,7 @@ use Rattle.dada_model.specs.Fields.{HeaderText}
 use Rattle.ring_words.specs.declared.shape.RingShape.{RingShape}
 use Rattle.search_engine.specs.Engine.{most_fed}
 use Rattle.disk_feeder.specs.declared.feeder.Feeder.{Feeder}
-use Rattle.disk_feeder.specs.Feeder.{HasOpenFile, has_end, header_at, plan_at, block_size, FeederFeeds}
+use Rattle.disk_feeder.specs.Feeder.{HasOpenFile, has_end, headers_of, plan_at, block_size, FeederFeeds}
 use Rattle.disk_feeder.specs.Feeding.{header_entries}
 use Rattle.dada_recorder.specs.declared.recorder.Recorder.{Recorder}
 use Rattle.search_session.specs.declared.lane.Lane.{Lane}
@@ -40,9 +40,9 @@ pub record IsSpaceOf {I F : Type 0} (lanes : ArrayVec (Option Lane)) (shape : Ri
 -- of them than the rings may carry.
 pub record FeedsRings {I : Type 0} (told : I → Told) (is_open : I → Type 0) (shape : RingShape)
     (header : HeaderText) (feeder : Feeder I) : Type 0 where
-  pub first : slice_get (header_at feeder) 0 ≡ Some header
+  pub first : slice_get (headers_of feeder) 0 ≡ Some header
   pub feeds : FeederFeeds (told feeder.inputs.now) feeder
-      (header_entries (take 1 (header_at feeder))) []
+      (header_entries (take 1 (headers_of feeder))) []
   pub running : has_end feeder ≡ None
   pub file : HasOpenFile feeder → is_open feeder.inputs.now
   pub size : shape.size ≡ block_size feeder

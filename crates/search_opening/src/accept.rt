@@ -1,6 +1,6 @@
 // The observations of all transfers are given to the feeder.
 ghost use Rattle.std.specs.Prelude.{◌≡◌, ◌≤◌, length};
-ghost use Rattle.disk_feeder.specs.Feeder.{IsBegun, header_at};
+ghost use Rattle.disk_feeder.specs.Feeder.{IsBegun, headers_of};
 ghost use Rattle.search_opening.specs.Feeders.{HasAcceptedFirsts};
 ghost use Rattle.search_opening.specs.First.{AreObserved};
 
@@ -13,7 +13,7 @@ use psr_base::Inputs;
 pub fn accept_all<'a, I: Inputs>(feeder: &mut Feeder<'a, I>, observations: &[Option<Observation>])
     requires some { 1 ≤ length observations.now }
     requires begun { IsBegun (I.told feeder.old.inputs.now) feeder.old }
-    requires observed { AreObserved (header_at feeder.old) observations.now }
+    requires observed { AreObserved (headers_of feeder.old) observations.now }
     ensures same_reference { feeder.new.inputs.ghost_name ≡ feeder.old.inputs.ghost_name }
     ensures accepted { HasAcceptedFirsts I.told feeder.old feeder.new }
 {

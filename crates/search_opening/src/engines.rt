@@ -4,13 +4,13 @@ ghost use Rattle.dada_model.specs.Observation.{Observation as Described};
 ghost use Rattle.search_model.specs.Search.{SettingsInRange};
 ghost use Rattle.search_model.specs.Plan.{plan_refusal};
 ghost use Rattle.search_opening.specs.Engines.{CanBeSearched, IsEngineFor, AreEnginesFor, AreOpenedLanes};
+ghost use Rattle.search_session.specs.Lanes.{engines_of};
 
-use crate::first::MOST_TRANSFERS;
 use arrayvec::ArrayVec;
 use obs_plan::Observation;
 use psr_base::Memory;
 use search_engine::{Engine, PlanFault};
-use search_model::Search;
+use search_model::{MOST_SHARDS, MOST_TRANSFERS, Search};
 use search_session::Lane;
 use std::alloc::Global;
 use std::thread::{Threads, for_each_mut};
@@ -70,7 +70,7 @@ fn open_lane(
     requires searched { CanBeSearched search.now observations.now }
     requires shard { shard < search.now.shards }
     ensures { IfSome result (λ lane.
-        AreEnginesFor search.now shard observations.now lane.engines.value.items) }
+        AreEnginesFor search.now shard observations.now (engines_of lane)) }
 {
     let Ok(engines) = open_engines(alloc, observations, search, shard) else {
         return None;
@@ -82,7 +82,7 @@ fn open_lane(
 }
 
 // So many slots.
-fn no_lanes(shards: u32) -> ArrayVec<Option<Lane>, 7>
+fn no_lanes(shards: u32) -> ArrayVec<Option<Lane>, MOST_SHARDS>
     requires { shards ≤ 7 }
     ensures { length result.items ≡ shards }
 {
@@ -120,7 +120,7 @@ fn fill_lanes<R: Threads + Sync>(
     ensures count { length lanes.new ≡ length lanes.old }
     ensures lanes { (shard : ℕ) → shard < length lanes.old
         → IfSome (slice_index_or lanes.new shard None) (λ lane.
-        AreEnginesFor search.now shard observations.now lane.engines.value.items) }
+        AreEnginesFor search.now shard observations.now (engines_of lane)) }
 {
     for_each_mut(
         rt,
@@ -129,7 +129,7 @@ fn fill_lanes<R: Threads + Sync>(
         &|shard: usize, lane: &mut Option<Lane>|
             requires { CanBeSearched search.now observations.now × (shard < search.now.shards) }
             ensures { IfSome lane.new (λ l.
-                AreEnginesFor search.entry.now shard observations.entry.now l.engines.value.items) }
+                AreEnginesFor search.entry.now shard observations.entry.now (engines_of l)) }
         { *lane = open_lane(alloc, observations, search, shard as u32) },
     );
 }
@@ -142,7 +142,7 @@ pub fn open_lanes<R: Threads + Sync>(
     observations: &[Option<Observation>],
     search: &Search,
     threads: u32,
-) -> Result<ArrayVec<Option<Lane>, 7>, Memory>
+) -> Result<ArrayVec<Option<Lane>, MOST_SHARDS>, Memory>
     requires searched { CanBeSearched search.now observations.now }
     requires threads { 1 ≤ threads }
     ensures { IfOk result (λ lanes. AreOpenedLanes search.now observations.now lanes.items) }

@@ -1,7 +1,7 @@
 // The first headers of all transfers, and their observations.
 ghost use Rattle.std.specs.Prelude.{◌≡◌, ◌≢◌, ◌≤◌, Err, IfOk, IfErr, length};
 ghost use Rattle.psr_base.specs.Inputs.{HasReadFrom};
-ghost use Rattle.disk_feeder.specs.Feeder.{SamePlan, header_at, names_at};
+ghost use Rattle.disk_feeder.specs.Feeder.{SamePlan, headers_of, names_at};
 ghost use Rattle.disk_feeder.specs.Filling.{HoldsAll};
 ghost use Rattle.search_opening.specs.First.{AreObserved, RefusesTransferHeader};
 ghost use Rattle.search_opening.specs.Feeders.{CanReadFirsts, HasReadFirsts, StopsReadingFirsts};
@@ -14,9 +14,7 @@ use run_stop::Stop;
 use std::alloc::Global;
 // Laws: they do nothing when they run, and the proofs use what they ensure.
 use dada_model::accepted_by_rows;
-
-/// How many transfers there are at most.
-pub const MOST_TRANSFERS: usize = 8;
+use search_model::MOST_TRANSFERS;
 
 // The first header of a transfer has no observation. Transfers count from 0.
 #[derive(Clone, Copy)]
@@ -32,10 +30,10 @@ fn observe_all<'a, I: Inputs>(
     transfers: usize,
 ) -> Result<ArrayVec<Option<Observation>, MOST_TRANSFERS>, RefusedHeader>
     requires few { transfers ≤ 8 }
-    requires all { transfers ≡ length (header_at feeder.now) }
+    requires all { transfers ≡ length (headers_of feeder.now) }
     ensures observed { IfOk result (λ observations.
-        AreObserved (header_at feeder.now) observations.items) }
-    ensures refused { IfErr result (RefusesTransferHeader (header_at feeder.now)) }
+        AreObserved (headers_of feeder.now) observations.items) }
+    ensures refused { IfErr result (RefusesTransferHeader (headers_of feeder.now)) }
 {
     let mut observations = ArrayVec::new();
     for transfer in 0..transfers {
@@ -65,7 +63,8 @@ pub fn begin_feed<'a, I: Inputs>(
         → result ≢ Err Stop.ReadFault }
     ensures read { IfOk result (λ observations.
         HasReadFirsts I.told I.is_open feeder.old feeder.new observations.items) }
-    ensures stopped { IfErr result (StopsReadingFirsts I.told feeder.old feeder.new) }
+    ensures stopped { IfErr result
+        (StopsReadingFirsts I.told I.is_calm feeder.old feeder.new) }
 {
     accepted_by_rows();
     match feeder.begin() {

@@ -13,7 +13,7 @@ mod space;
 
 pub use accept::accept_all;
 pub use engines::open_lanes;
-pub use first::{MOST_TRANSFERS, begin_feed};
+pub use first::begin_feed;
 pub use offsets::first_offsets;
 pub use plans::check_plans;
 pub use recordings::fit_all;

@@ -3,9 +3,9 @@ ghost use Rattle.std.specs.Prelude.{◌≡◌, ◌≤◌, ◌^◌, Some, All, Is
 ghost use Rattle.dada_model.specs.Observation.{Observation as Described};
 ghost use Rattle.search_opening.specs.Offsets.{AreOffsetsOf};
 
-use crate::first::MOST_TRANSFERS;
 use arrayvec::ArrayVec;
 use obs_plan::Observation;
+use search_model::MOST_TRANSFERS;
 
 // The OBS_OFFSET of an observation.
 fn offset_of(observation: &Option<Observation>) -> u64

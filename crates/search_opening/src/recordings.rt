@@ -2,7 +2,7 @@
 ghost use Rattle.std.specs.Prelude.{◌≡◌, ◌^◌, ◌≤◌, Some, IsSome, IfErr, OnOk, length};
 ghost use Rattle.dada_model.specs.ChangeLaws.{IsReadBack};
 ghost use Rattle.dada_model.specs.Observation.{Observation as Described};
-ghost use Rattle.disk_feeder.specs.Feeder.{header_at};
+ghost use Rattle.disk_feeder.specs.Feeder.{headers_of};
 ghost use Rattle.dada_recorder.specs.Changes.{recording, RefusesRecording};
 ghost use Rattle.stream_model.specs.Walk.{FileStream};
 ghost use Rattle.run_stop.specs.Runs.{CanRecordFirst};
@@ -51,13 +51,13 @@ fn judge_recordings<'a, I: Inputs>(
     file_size: u64,
     max_bytes: u64,
 ) -> Result<(), RecordFault>
-    requires observed { AreObserved (header_at feeder.now) observations.now }
+    requires observed { AreObserved (headers_of feeder.now) observations.now }
     requires file_size { (1 ≤ file_size) × (file_size ≤ 2 ^ 40) }
     requires limit { max_bytes ≤ 2 ^ 48 }
-    ensures fit { OnOk result (RecordingsFit file_size max_bytes (header_at feeder.now)
+    ensures fit { OnOk result (RecordingsFit file_size max_bytes (headers_of feeder.now)
         observations.now (length observations.now)) }
-    ensures read_back { OnOk result (AreReadBack (header_at feeder.now)) }
-    ensures refused { IfErr result (RefusesTransfer file_size max_bytes (header_at feeder.now)
+    ensures read_back { OnOk result (AreReadBack (headers_of feeder.now)) }
+    ensures refused { IfErr result (RefusesTransfer file_size max_bytes (headers_of feeder.now)
         observations.now) }
 {
     for k in 0..observations.len() {
@@ -79,18 +79,18 @@ pub fn fit_all<'a, I: Inputs>(
     file_size: u64,
     max_bytes: u64,
 ) -> Result<(), Stop>
-    requires observed { AreObserved (header_at feeder.now) observations.now }
+    requires observed { AreObserved (headers_of feeder.now) observations.now }
     requires file_size { (1 ≤ file_size) × (file_size ≤ 2 ^ 40) }
     requires limit { max_bytes ≤ 2 ^ 48 }
-    ensures fit { OnOk result (RecordingsFit file_size max_bytes (header_at feeder.now)
+    ensures fit { OnOk result (RecordingsFit file_size max_bytes (headers_of feeder.now)
         observations.now (length observations.now)) }
-    ensures read_back { OnOk result (AreReadBack (header_at feeder.now)) }
+    ensures read_back { OnOk result (AreReadBack (headers_of feeder.now)) }
     ensures recorded { OnOk result ((w : FileStream) → AreFirsts w observations.now
-        → AreHeadersOf w (header_at feeder.now) → w.max_bytes ≡ max_bytes
+        → AreHeadersOf w (headers_of feeder.now) → w.max_bytes ≡ max_bytes
         → CanRecordFirst file_size w (length w.starts)) }
     ensures kind { IfErr result IsOfRecording }
     ensures refused { IfErr result (λ stop. (w : FileStream) → AreFirsts w observations.now
-        → AreHeadersOf w (header_at feeder.now) → w.max_bytes ≡ max_bytes
+        → AreHeadersOf w (headers_of feeder.now) → w.max_bytes ≡ max_bytes
         → StopsRecording file_size w stop) }
 {
     match judge_recordings(feeder, observations, space, file_size, max_bytes) {

@@ -7,7 +7,7 @@ use arrayvec::ArrayVec;
 use dada_hdu::{Hdu, HduReader, HduWriter};
 use dada_header::Header;
 use psr_base::Memory;
-use ring_words::RingShape;
+use ring_words::{MOST_READERS, RingShape};
 use std::alloc::Global;
 
 /// The measures of the data ring of a run: `max_bytes` data bytes in so many transfers are sealed in blocks of `size`
@@ -35,7 +35,7 @@ pub(crate) fn open_rings(
     alloc: Global,
     shape: RingShape,
     header: &Header,
-) -> Result<(Hdu, HduWriter, ArrayVec<Option<HduReader>, 8>), Memory>
+) -> Result<(Hdu, HduWriter, ArrayVec<Option<HduReader>, MOST_READERS>), Memory>
     requires { IsRing shape }
     ensures { IfOk result (λ r. AreOpened shape header.now r.0 r.1 r.2.items) }
 {

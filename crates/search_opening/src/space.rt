@@ -10,7 +10,8 @@ use dada_header::Header;
 use dada_recorder::Recorder;
 use disk_feeder::Feeder;
 use psr_base::{Files, Inputs, Memory};
-use ring_words::RingShape;
+use ring_words::{MOST_READERS, RingShape};
+use search_model::MOST_SHARDS;
 use search_session::{Hand, Lane, Stage};
 use std::alloc::Global;
 
@@ -32,7 +33,7 @@ fn open_spaces(
     alloc: Global,
     count: usize,
     size: u32,
-) -> Result<ArrayVec<Option<Vec<u8>>, 7>, Memory>
+) -> Result<ArrayVec<Option<Vec<u8>>, MOST_SHARDS>, Memory>
     requires few { count ≤ 7 }
     requires size { 65537 ≤ size }
     ensures count { IfOk result (λ spaces. length spaces.items ≡ count) }
@@ -68,9 +69,9 @@ fn open_hands<'a, I: Inputs, F: Files>(
 pub struct StageSpace<'a, I, F> {
     hdu: Hdu,
     writer: HduWriter,
-    readers: ArrayVec<Option<HduReader>, 8>,
-    lanes: ArrayVec<Option<Lane>, 7>,
-    spaces: ArrayVec<Option<Vec<u8>>, 7>,
+    readers: ArrayVec<Option<HduReader>, MOST_READERS>,
+    lanes: ArrayVec<Option<Lane>, MOST_SHARDS>,
+    spaces: ArrayVec<Option<Vec<u8>>, MOST_SHARDS>,
     hands: Vec<Hand<'a, I, F>>,
 }
 
@@ -81,7 +82,7 @@ impl<'a, I: Inputs, F: Files> StageSpace<'a, I, F> {
     /// for so many hands.
     pub fn take(
         alloc: Global,
-        lanes: ArrayVec<Option<Lane>, 7>,
+        lanes: ArrayVec<Option<Lane>, MOST_SHARDS>,
         shape: RingShape,
         header: &Header,
         hands: u32,

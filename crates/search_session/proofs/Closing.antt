@@ -26,7 +26,7 @@ use Rattle.search_session.specs.Feeds.{FeedOn}
 use Rattle.search_session.specs.Hands.{HandOn, HandMoved, HandEnded, EachMoved}
 use Rattle.search_session.specs.Gathering.{recorder_of, recorder_in}
 use Rattle.search_session.specs.Stages.{IsUnfed, IsFreshRecorder, HasFeeder, HasShard, HasRecorder, RecorderWorks, IsInHand, AreOfLanes, recorder_count}
-use Rattle.search_session.specs.Lanes.{HasEngine}
+use Rattle.search_session.specs.Lanes.{HasEngine, engines_of}
 use Rattle.search_session.specs.Books.{HasLane, HasBook, AreCounted}
 use Rattle.search_session.specs.Ends.{HaveEnginesIn, recorder_passes}
 use Rattle.search_session.specs.Recorded.{HasNoRecording, RecordedAnswers}
@@ -117,8 +117,8 @@ module _ {I F : Type 0} (told : I → Told) (is_open is_calm : I → Type 0) (fa
       (lane : Lane) × (slice_get lanes s ≡ Some (Some lane)) × IsUnfed transfers lane)
       (all : AllEnded hdu start lanes recorder hands) where
     -- each shard has as many engines as its lane
-    pub engines_of : HaveEnginesIn hands (length lanes) transfers
-    engines_of = λ x is near.
+    pub have_engines : HaveEnginesIn hands (length lanes) transfers
+    have_engines = λ x is near.
         let h = unfed (shard_number x) near in
         (of_lane_in lanes hands x all.of_lanes is h.0 h.1).count ∙ h.2.count
 
@@ -161,12 +161,12 @@ module _ {I F : Type 0} (told : I → Told) (is_open is_calm : I → Type 0) (fa
           book_there k s below near =
               let x = ends s near in
               let number : shard_number x.0 ≡ s = x.2 in
-              let many : length x.0.part.engines.value.items ≡ transfers = engines_of x.0 x.1 (omega arith) in
+              let many : length (engines_of x.0.part) ≡ transfers = have_engines x.0 x.1 (omega arith) in
               let engine = (on_in told is_open files_open hdu hands all.on x.0 x.1).engines k (omega arith) in
               (engine.0.book, x.3.books k engine.0 engine.1)
 
           all_searched : (bytes : ℕ) → end.feed ≡ Whole bytes → (transfer s : ℕ) (lane : Lane) (e : EngineState)
-              (o : Observation) → HasLane lanes s lane → HasEngine lane.engines.value.items transfer e →
+              (o : Observation) → HasLane lanes s lane → HasEngine (engines_of lane) transfer e →
               StandsForData o [] e → IsSearched end transfer s o e
           all_searched bytes whole transfer s lane e o at has stands =
               let near = slice_get_within lanes s (Some lane) at in
@@ -176,7 +176,7 @@ module _ {I F : Type 0} (told : I → Told) (is_open is_calm : I → Type 0) (fa
               searched hdu transfers lanes end ends_so s x.0 x.2 x.3
               (on_in told is_open files_open hdu hands all.on x.0 x.1) (ended_in hands x.0 all.ended x.1)
               (of_lane_in lanes hands x.0 all.of_lanes x.1) lane at
-              (ap (λ (l : Lane). length l.engines.value.items) (sym this) ∙ h.2.count)
+              (ap (λ (l : Lane). length (engines_of l)) (sym this) ∙ h.2.count)
               bytes whole transfer e o has stands
             where
               inside : (a b : Lane) → Some (Some a) ≡ Some (Some b) → a ≡ b

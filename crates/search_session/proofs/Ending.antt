@@ -24,7 +24,7 @@ use Rattle.search_session.specs.declared.shard.ShardActor.{ShardActor}
 use Rattle.search_session.specs.declared.record.RecordActor.{RecordActor}
 use Rattle.search_session.specs.declared.hand.Hand.{Hand}
 use Rattle.search_session.specs.declared.ended.SessionEnd.{SessionEnd}
-use Rattle.search_session.specs.Lanes.{HasEnded, HasEngine, Stands}
+use Rattle.search_session.specs.Lanes.{HasEnded, HasEngine, Stands, engines_of}
 use Rattle.search_session.specs.Shards.{StandsAt, EnginesFollow, shard_cleared, shard_number, ShardOn}
 use Rattle.search_session.specs.Feeds.{FeedOn}
 use Rattle.search_session.specs.Records.{RecordOn}
@@ -119,8 +119,8 @@ module _ {I F : Type 0} (hdu : Hdu) (transfers : ℕ) (lanes : List (Option Lane
     (ending : IsEnding transfers (sealed_at_end end.blocks) end.feed) (s : ℕ) (x : ShardActor)
     (number : shard_number x ≡ s) (is_end : IsEndOf end s x) (on : ShardOn hdu x) (ended : x.ended ≡ true)
     (of : IsOfLane lanes x) (lane : Lane) (at : HasLane lanes s lane)
-    (count : length lane.engines.value.items ≡ transfers) where
-  follow : EnginesFollow [] (shard_cleared x) lane.engines.value.items x.part.engines.value.items
+    (count : length (engines_of lane) ≡ transfers) where
+  follow : EnginesFollow [] (shard_cleared x) (engines_of lane) (engines_of x.part)
   follow = of lane (subst (λ (k : ℕ). slice_get lanes k ≡ Some (Some lane)) (sym number) at)
 
   over : is_over transfers (shard_cleared x) ≡ true
@@ -135,10 +135,10 @@ module _ {I F : Type 0} (hdu : Hdu) (transfers : ℕ) (lanes : List (Option Lane
   cleared_at = is_end.cleared ∙ cleared_all
 
   pub searched : (bytes : ℕ) → end.feed ≡ Whole bytes → (transfer : ℕ) (e : EngineState) (o : Observation) →
-      HasEngine lane.engines.value.items transfer e → StandsForData o [] e → IsSearched end transfer s o e
+      HasEngine (engines_of lane) transfer e → StandsForData o [] e → IsSearched end transfer s o e
   searched bytes whole transfer e o has stands =
       let f = follow.each transfer e has in
-      let near = slice_get_within lane.engines.value.items transfer (Some e) has in
+      let near = slice_get_within (engines_of lane) transfer (Some e) has in
       let all = ending.all bytes whole in
       let below : nat_lt transfer (ended_transfers (sealed_at_end end.blocks)) ≡ true =
       below_true transfer (ended_transfers (sealed_at_end end.blocks)) (omega arith) in

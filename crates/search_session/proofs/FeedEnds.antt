@@ -1,5 +1,6 @@
 -- The feeder's end.
-use Rattle.std.proofs.Common.{◌≡◌, ℕ, ◌≤◌, List, length, Option, Some, None, refl, sym, ap, ◌∙◌, subst, arith}
+use Rattle.std.proofs.Common.{◌≡◌, ℕ, ◌<◌, ◌≤◌, inl, inr, List, length, Option, Some, None, refl, sym, ap, ◌∙◌, subst, arith}
+use Rattle.std.specs.Prelude.{IsSome}
 use Rattle.psr_base.specs.Count.{Rose}
 use Rattle.psr_base.specs.Told.{Told}
 use Rattle.ring_blocks.specs.declared.Entry.{Entry}
@@ -10,9 +11,11 @@ use Rattle.stream_model.specs.BlockLaws.{BytesAreJoined, EndsAreCounted, Streams
 use Rattle.disk_feeder.specs.declared.answers.FeedEnd.{FeedEnd}
 use Rattle.disk_feeder.specs.declared.answers.FeedEnd.TheVariants.{Whole, ReadFault}
 use Rattle.disk_feeder.specs.declared.feeder.Feeder.{Feeder}
-use Rattle.disk_feeder.specs.Plan.{Plan, stream_of, AreTold}
-use Rattle.disk_feeder.specs.Feeder.{plan_at, names_at, header_at, block_size, has_end, stream_at, FeederFaultless, FeederSince, FeederRead}
-use Rattle.disk_feeder.specs.Feeding.{HeadersKeepUp, IsEnding, IsEnded, HasEndedAs, FeedsTo, SealedAs, EndIs, BreaksReading}
+use Rattle.disk_feeder.specs.declared.place.Place.{Place}
+use Rattle.disk_feeder.specs.History.{file_name}
+use Rattle.disk_feeder.specs.Plan.{Plan, stream_of}
+use Rattle.disk_feeder.specs.Feeder.{plan_at, names_at, headers_of, place_at, block_size, has_end, stream_at, FeederFaultless, FeederMisses, FeederSince, FeederRead}
+use Rattle.disk_feeder.specs.Feeding.{HeadersKeepUp, IsEnding, IsEnded, IsMissing, HasEndedAs, FeedsTo, SealedAs, EndIs, BreaksReading}
 use Rattle.disk_feeder.specs.Turns.{sealed_headers, sealed_blocks}
 use Rattle.disk_feeder.specs.Laws.{FeedersEnd, HeadersAreFirst, FaultsLeave}
 use Rattle.dada_recorder.specs.RecordingLaws.{RecordingsEnd}
@@ -43,6 +46,13 @@ since_now f k running faultless = record {
   end_quiet = λ stop end other. refl;
 }
 
+-- one that met no fault has none at a file that is told
+none_missing : {I : Type 0} (f : Feeder I) (told : Told) → FeederFaultless f → FeederMisses told f
+none_missing f told faultless = λ fault. elim fault [
+  | inl due ↦ absurd (faultless.0 due)
+  | inr end ↦ absurd (faultless.1 end)
+]
+
 module _ {I F : Type 0} (laws : SessionLaws I) (told : I → Told) (is_open is_calm : I → Type 0) (faults : I → ℕ)
     (hdu : Hdu) (start f : FeedActor I) (n : ℕ) (moved : FeedMoved told is_calm faults n start f)
     (on : FeedOn told is_open hdu f) (end : SessionEnd I F) (feed : f.end ≡ Some end.feed)
@@ -50,7 +60,11 @@ module _ {I F : Type 0} (laws : SessionLaws I) (told : I → Told) (is_open is_c
   part_end : has_end f.part ≡ Some end.feed
   part_end = sym on.end ∙ feed
 
-  part_ended : IsEnded (plan_at f.part) (told f.part.inputs.now) (block_size f.part) (sealed_headers f.pass)
+  -- where it is in its files
+  abbrev at : Place
+  at = place_at f.part
+
+  part_ended : IsEnded (plan_at f.part) (told f.part.inputs.now) at (block_size f.part) (sealed_headers f.pass)
       (sealed_blocks f.pass) end.feed
   part_ended =
       let was : HasEndedAs (stream_at f.part) (told f.part.inputs.now) (sealed_headers f.pass) (sealed_blocks f.pass)
@@ -59,41 +73,49 @@ module _ {I F : Type 0} (laws : SessionLaws I) (told : I → Told) (is_open is_c
 
   -- what a fault of the inputs left
   fault_left : end.feed ≡ ReadFault → (before : Told) → FeederRead before (told start.part.inputs.now) start.part →
-      (files : List (List ℕ)) → AreTold (told end.inputs.now) (names_at start.part) files →
-      BreaksReading (names_at start.part) (stream_of (plan_at start.part) files) before (told end.inputs.now)
-      (block_size start.part) (sealed_at_end end.blocks)
-  fault_left failed before read files are =
+      BreaksReading (plan_at start.part) before (told end.inputs.now) at (block_size start.part)
+      (sealed_at_end end.blocks)
+  fault_left failed before read =
       let now = told f.part.inputs.now in
-      let told_now : AreTold now (names_at f.part) files =
-      subst (λ (p : Plan). AreTold now p.names files) (sym moved.plan)
-      (subst (λ (i : I). AreTold (told i) (names_at start.part) files) inputs are) in
-      subst (λ (p : Plan). BreaksReading p.names (stream_of p files) before (told end.inputs.now)
-      (block_size start.part) (sealed_at_end end.blocks)) moved.plan
-      (subst (λ (i : I). BreaksReading (names_at f.part) (stream_of (plan_at f.part) files) before (told i)
-      (block_size start.part) (sealed_at_end end.blocks)) (sym inputs)
-      (subst (λ (z : ℕ). BreaksReading (names_at f.part) (stream_of (plan_at f.part) files) before now z
-      (sealed_at_end end.blocks)) moved.size
-      (subst (λ (l : List Entry). BreaksReading (names_at f.part) (stream_of (plan_at f.part) files) before now
-      (block_size f.part) l) (sym sealed)
+      subst (λ (p : Plan). BreaksReading p before (told end.inputs.now) at (block_size start.part)
+      (sealed_at_end end.blocks)) moved.plan
+      (subst (λ (i : I). BreaksReading (plan_at f.part) before (told i) at (block_size start.part)
+      (sealed_at_end end.blocks)) (sym inputs)
+      (subst (λ (z : ℕ). BreaksReading (plan_at f.part) before now at z (sealed_at_end end.blocks)) moved.size
+      (subst (λ (l : List Entry). BreaksReading (plan_at f.part) before now at (block_size f.part) l) (sym sealed)
       (laws.leave f.part before now (sealed_headers f.pass) (sealed_blocks f.pass) on.feeding
-      (part_end ∙ ap (λ (e : FeedEnd). Some e) failed) (moved.inputs.reads_on before read) files told_now))))
+      (part_end ∙ ap (λ (e : FeedEnd). Some e) failed) (moved.inputs.reads_on before read)))))
 
-  all_sealed : IsEnded (plan_at start.part) (told end.inputs.now) (block_size start.part) (sealed_headers f.pass)
+  -- of calm inputs the file at which it came isn't told
+  fault_missing : FeederFaultless start.part → is_calm start.part.inputs.now → end.feed ≡ ReadFault →
+      (at.file < length (names_at start.part))
+      × ¬ IsSome ((told start.part.inputs.now).bytes_under (file_name (names_at start.part) at.file))
+  fault_missing faultless calm failed =
+      let now = told f.part.inputs.now in
+      let is : IsMissing now f.part.stream.source =
+      moved.inputs.missing calm (none_missing start.part (told start.part.inputs.now) faultless)
+      (inr (part_end ∙ ap (λ (e : FeedEnd). Some e) failed)) in
+      subst (λ (under : List ℕ → Option (List ℕ)). (at.file < length (names_at start.part))
+      × ¬ IsSome (under (file_name (names_at start.part) at.file))) moved.inputs.names
+      (subst (λ (p : Plan). (at.file < length p.names) × ¬ IsSome (now.bytes_under (file_name p.names at.file)))
+      moved.plan (is.there, is.untold))
+
+  all_sealed : IsEnded (plan_at start.part) (told end.inputs.now) at (block_size start.part) (sealed_headers f.pass)
       (sealed_at_end end.blocks) end.feed
   all_sealed =
-      subst (λ (p : Plan). IsEnded p (told end.inputs.now) (block_size start.part) (sealed_headers f.pass)
+      subst (λ (p : Plan). IsEnded p (told end.inputs.now) at (block_size start.part) (sealed_headers f.pass)
       (sealed_at_end end.blocks) end.feed) moved.plan
-      (subst (λ (i : I). IsEnded (plan_at f.part) (told i) (block_size start.part) (sealed_headers f.pass)
+      (subst (λ (i : I). IsEnded (plan_at f.part) (told i) at (block_size start.part) (sealed_headers f.pass)
       (sealed_at_end end.blocks) end.feed) (sym inputs)
-      (subst (λ (z : ℕ). IsEnded (plan_at f.part) (told f.part.inputs.now) z (sealed_headers f.pass)
+      (subst (λ (z : ℕ). IsEnded (plan_at f.part) (told f.part.inputs.now) at z (sealed_headers f.pass)
       (sealed_at_end end.blocks) end.feed) moved.size
-      (subst (λ (l : List Entry). IsEnded (plan_at f.part) (told f.part.inputs.now) (block_size f.part)
+      (subst (λ (l : List Entry). IsEnded (plan_at f.part) (told f.part.inputs.now) at (block_size f.part)
       (sealed_headers f.pass) l end.feed) (sym sealed) part_ended)))
 
-  pub keep_up : HeadersKeepUp (header_at start.part) (sealed_headers f.pass) (sealed_at_end end.blocks)
+  pub keep_up : HeadersKeepUp (headers_of start.part) (sealed_headers f.pass) (sealed_at_end end.blocks)
   keep_up =
       subst (λ (p : Plan). HeadersKeepUp p.headers (sealed_headers f.pass) (sealed_at_end end.blocks)) moved.plan
-      (subst (λ (l : List Entry). HeadersKeepUp (header_at f.part) (sealed_headers f.pass) l) (sym sealed)
+      (subst (λ (l : List Entry). HeadersKeepUp (headers_of f.part) (sealed_headers f.pass) l) (sym sealed)
       (laws.first f.part (told f.part.inputs.now) (sealed_headers f.pass) (sealed_blocks f.pass) on.feeding))
 
   pub headers_sealed : sealed_headers f.pass ≡ headers_through start.part end
@@ -124,10 +146,13 @@ module _ {I F : Type 0} (laws : SessionLaws I) (told : I → Told) (is_open is_c
         failed = λ is. subst (λ (m : ℕ). Rose k m) (sym same) (since.end_failed (part_end ∙ ap (λ (e : FeedEnd). Some e)
             is));
         quiet = λ other. same ∙ since.end_quiet end.feed part_end other;
-        serves = λ calm holds is. (moved.inputs.serves calm holds faultless).1
-            (part_end ∙ ap (λ (e : FeedEnd). Some e) is);
-        sealed = subst (λ (l : List Entry). IsEnded (plan_at start.part) (told end.inputs.now) (block_size start.part) l
-            (sealed_at_end end.blocks) end.feed) headers_sealed all_sealed;
+        serves = λ calm holds is.
+            let missing = fault_missing faultless calm is in
+            missing.1 (holds at.file missing.0);
+        place = at;
+        missing = fault_missing faultless;
+        sealed = subst (λ (l : List Entry). IsEnded (plan_at start.part) (told end.inputs.now) at
+            (block_size start.part) l (sealed_at_end end.blocks) end.feed) headers_sealed all_sealed;
         broke = fault_left;
         few = all_few;
         parts = λ bytes whole.
@@ -138,7 +163,8 @@ module _ {I F : Type 0} (laws : SessionLaws I) (told : I → Told) (is_open is_c
             walked_data laws.transfers (stream_of (plan_at start.part) files) (block_size start.part)
             (sealed_at_end end.blocks) bytes k
             (subst (λ (e : FeedEnd). EndIs (stream_of (plan_at start.part) files) (block_size start.part)
-            (sealed_at_end end.blocks) e) whole (all_sealed.known files are)) near;
+            (sealed_at_end end.blocks) e) whole
+            (all_sealed.known files (record { count = are.count; each = λ j there needed. are.each j there }))) near;
       }
 
   pub is_ending : IsEnding (length (plan_at start.part).starts) (sealed_at_end end.blocks) end.feed

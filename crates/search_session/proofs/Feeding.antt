@@ -1,16 +1,14 @@
 -- Turns of a feeder that follow one another.
-use Rattle.std.proofs.Common.{◌≡◌, ℕ, zero, suc, ◌+◌, ◌<◌, ◌^◌, min, [], Option, Some, None, slice_index_or, refl, sym, ◌∙◌, subst, arith, rules}
+use Rattle.std.proofs.Common.{◌≡◌, ℕ, zero, suc, ◌+◌, ◌<◌, ◌^◌, min, Option, Some, None, refl, sym, ◌∙◌, subst, arith, rules}
 use Rattle.std.specs.Prelude.{IsSome}
 use Rattle.psr_base.specs.Told.{Told}
 use Rattle.ring_core.specs.Machine.{greatest}
 use Rattle.dada_hdu.specs.declared.passes.HduWriter.{HduWriter}
 use Rattle.disk_feeder.specs.declared.answers.FeedEnd.{FeedEnd}
 use Rattle.disk_feeder.specs.declared.answers.FeedTurn.{FeedTurn}
-use Rattle.disk_feeder.specs.Feeder.{names_at, plan_at, has_end}
+use Rattle.disk_feeder.specs.Feeder.{has_end}
 use Rattle.disk_feeder.specs.Resting.{FeederKept}
 use Rattle.disk_feeder.specs.Turns.{TurnAnswers}
-use Rattle.disk_feeder.specs.Filling.{HoldsAll}
-use Rattle.disk_feeder.specs.Plan.{Plan}
 use Rattle.search_session.specs.declared.feed.FeedActor.{FeedActor}
 use Rattle.search_session.specs.Feeds.{HasWritten, Writes, InputsKept, FeedMoved}
 
@@ -51,12 +49,12 @@ module _ {I : Type 0} (told : I → Told) (is_calm : I → Type 0) (faults : I �
     since = λ k was. was;
     reads_on = λ before was. was;
     calm = λ was. was;
-    serves = λ calm holds was. was;
+    missing = λ calm was. was;
   }
 
-  keeps_more : (f g h : FeedActor I) → plan_at g.part ≡ plan_at f.part → InputsKept told is_calm faults f g →
-      InputsKept told is_calm faults g h → InputsKept told is_calm faults f h
-  keeps_more f g h plan a b =
+  keeps_more : (f g h : FeedActor I) → InputsKept told is_calm faults f g → InputsKept told is_calm faults g h →
+      InputsKept told is_calm faults f h
+  keeps_more f g h a b =
       let first = a.count in
       let second = b.count in
       record {
@@ -66,18 +64,8 @@ module _ {I : Type 0} (told : I → Told) (is_calm : I → Type 0) (faults : I �
         since = λ k was. b.since k (a.since k was);
         reads_on = λ before was. b.reads_on before (a.reads_on before was);
         calm = λ was. b.calm (a.calm was);
-        serves = λ calm holds was. b.serves (a.calm calm) (holds_still holds) (a.serves calm holds was);
+        missing = λ calm was. b.missing (a.calm calm) (a.missing calm was);
       }
-    where
-      holds_still : HoldsAll (told f.part.inputs.now) (names_at f.part) →
-          HoldsAll (told g.part.inputs.now) (names_at g.part)
-      holds_still holds =
-          subst (λ (p : Plan). HoldsAll (told g.part.inputs.now) p.names) (sym plan) (holds_names holds)
-        where
-          holds_names : HoldsAll (told f.part.inputs.now) (names_at f.part) →
-              HoldsAll (told g.part.inputs.now) (names_at f.part)
-          holds_names all = λ k near. subst (λ w. IsSome (w (slice_index_or (names_at f.part) k []))) (sym a.names)
-              (all k near)
 
   stands : (n : ℕ) (f : FeedActor I) → f.turns < 2 ^ 64 → (f.end ≡ None → 0 ≡ n) →
       FeedMoved told is_calm faults n f f
@@ -115,7 +103,7 @@ module _ {I : Type 0} (told : I → Told) (is_calm : I → Type 0) (faults : I �
       since = kept.since;
       reads_on = kept.reads_on;
       calm = kept.calm;
-      serves = kept.serves;
+      missing = kept.missing;
     };
     plan = kept.plan;
     size = kept.size;
@@ -139,7 +127,7 @@ module _ {I : Type 0} (told : I → Told) (is_calm : I → Type 0) (faults : I �
       let turns_a = a.turns in
       let turns_b = b.turns in
       record {
-        inputs = keeps_more f g h a.plan a.inputs b.inputs;
+        inputs = keeps_more f g h a.inputs b.inputs;
         plan = b.plan ∙ a.plan;
         size = b.size ∙ a.size;
         made = a.made + b.made;

@@ -17,7 +17,7 @@ use Rattle.candidate_book.specs.Book.{BookContents, book_of}
 use Rattle.search_engine.specs.Engine.{EngineState, StandsForData}
 use Rattle.search_session.specs.declared.lane.Lane.{Lane}
 use Rattle.search_session.specs.declared.ended.SessionEnd.{SessionEnd}
-use Rattle.search_session.specs.Lanes.{HasEngine}
+use Rattle.search_session.specs.Lanes.{HasEngine, engines_of}
 use Rattle.search_session.specs.Books.{HasLane, HasBook, AreCounted}
 use Rattle.search_session.specs.Sessions.{data_through, IsSearched, AreLanesFor, shard_books, HoldFound}
 use Rattle.search_session.proofs.Ending.{all_at}
@@ -43,7 +43,7 @@ book_there settings list s d near =
 module _ {I F : Type 0} (transfers : ℕ) (lanes : List (Option Lane)) (end : SessionEnd I F)
     (counted : AreCounted (length lanes) transfers end.books.items end.spectra.items)
     (searched : (transfer s : ℕ) (lane : Lane) (e : EngineState) (o : Observation) → HasLane lanes s lane →
-    HasEngine lane.engines.value.items transfer e → StandsForData o [] e → IsSearched end transfer s o e)
+    HasEngine (engines_of lane) transfer e → StandsForData o [] e → IsSearched end transfer s o e)
     (settings : Search)
     (o : ℕ → Observation) (found : ℕ → List ℕ) (opened : AreLanesFor settings o transfers lanes)
     (same : (k : ℕ) → k < transfers → data_through end k ≡ found k) where

@@ -17,7 +17,7 @@ use Rattle.search_session.specs.declared.lane.Lane.{Lane}
 use Rattle.search_session.specs.declared.shard.ShardActor.{ShardActor}
 use Rattle.search_session.specs.declared.lone.LoneSession.{LoneSession}
 use Rattle.search_session.specs.declared.lone.LoneEnd.{LoneEnd}
-use Rattle.search_session.specs.Lanes.{HasEngine, Stands}
+use Rattle.search_session.specs.Lanes.{HasEngine, Stands, engines_of}
 use Rattle.search_session.specs.Shards.{StandsAt, IsEngineAt, EnginesFollow, shard_cleared, shard_number, ShardOn}
 use Rattle.search_session.specs.Feeds.{FeedOn}
 use Rattle.search_session.specs.Ends.{IsDone, AreDone}
@@ -30,7 +30,7 @@ use Rattle.search_session.proofs.LoneTurns.{feed_on}
 
 -- the one shard is all readers
 pub one_done : (hdu : Hdu) (x : ShardActor) → (data_shape hdu).readers ≡ 1 → shard_number x ≡ 0 → ShardOn hdu x →
-    x.ended ≡ true → AreDone {F = ⊤} hdu (length x.part.engines.value.items) (Some x ∷ []) None
+    x.ended ≡ true → AreDone {F = ⊤} hdu (length (engines_of x.part)) (Some x ∷ []) None
 one_done hdu x alone number on ended = record {
   all = sym alone;
   each = at;
@@ -38,7 +38,7 @@ one_done hdu x alone number on ended = record {
 }
   where
     at : (s : ℕ) → s < 1 → (y : ShardActor) × (slice_get (Some x ∷ []) s ≡ Some (Some y))
-        × IsDone hdu (length x.part.engines.value.items) s y
+        × IsDone hdu (length (engines_of x.part)) s y
     at zero near = (x, refl, record { number = number; on = on; ended = ended; count = refl })
     at (suc s) near = absurd (omega arith)
 
@@ -69,10 +69,10 @@ module _ {I : Type 0} (laws : SessionLaws I) (told : I → Told) (is_calm : I �
   ending = is_ending laws told anywhere is_calm faults now.hdu (feed_over before start.feed)
       (feed_over after now.feed) n moved.feed stands (session_end after end) is.feed refl is.sealed
 
-  follow : EnginesFollow [] (shard_cleared now.shard) (lone_lane start).engines.value.items
-      now.shard.part.engines.value.items
-  follow = subst (λ (l : List Entry). EnginesFollow l (shard_cleared now.shard) (lone_lane start).engines.value.items
-      now.shard.part.engines.value.items) begins.unread moved.shard.engines
+  follow : EnginesFollow [] (shard_cleared now.shard) (engines_of (lone_lane start))
+      (engines_of now.shard.part)
+  follow = subst (λ (l : List Entry). EnginesFollow l (shard_cleared now.shard) (engines_of (lone_lane start))
+      (engines_of now.shard.part)) begins.unread moved.shard.engines
 
   over : is_over (transfers_at (lone_feeder start)) (shard_cleared now.shard) ≡ true
   over = ap (λ (k : ℕ). is_over k (shard_cleared now.shard)) (sym (follow.count ∙ begins.engines))
@@ -85,19 +85,19 @@ module _ {I : Type 0} (laws : SessionLaws I) (told : I → Told) (is_calm : I �
       ∙ append-nil (shard_cleared now.shard)))
 
   went : (bytes : ℕ) → end.feed ≡ Whole bytes → (transfer : ℕ) (e : EngineState) →
-      HasEngine (lone_lane start).engines.value.items transfer e →
-      (f : EngineState) × HasEngine now.shard.part.engines.value.items transfer f
+      HasEngine (engines_of (lone_lane start)) transfer e →
+      (f : EngineState) × HasEngine (engines_of now.shard.part) transfer f
       × WentThrough e (transfer_bytes transfer (sealed_at_end end.blocks)) f
   went bytes whole transfer e has =
       let f = follow.each transfer e has in
-      let near = slice_get_within (lone_lane start).engines.value.items transfer (Some e) has in
+      let near = slice_get_within (engines_of (lone_lane start)) transfer (Some e) has in
       let count = follow.count in
       let counted = begins.engines in
       let all = ending.all bytes whole in
       let below : nat_lt transfer (ended_transfers (sealed_at_end end.blocks)) ≡ true =
       below_true transfer (ended_transfers (sealed_at_end end.blocks)) (omega arith) in
       let there = on.shard.engines transfer (omega arith) in
-      let this = same_engine now.shard.part.engines.value.items transfer there.0 f.0 there.1 f.1 in
+      let this = same_engine (engines_of now.shard.part) transfer there.0 f.0 there.1 f.1 in
       let at : IsEngineAt (data_shape now.hdu).size (sealed_at_end end.blocks) transfer f.0 =
       subst (λ (l : List Entry). IsEngineAt (data_shape now.hdu).size l transfer f.0) cleared_all
       (subst (λ (g : EngineState). IsEngineAt (data_shape now.hdu).size (shard_cleared now.shard) transfer g) this
@@ -120,12 +120,12 @@ module _ {I : Type 0} (laws : SessionLaws I) (told : I → Told) (is_calm : I �
   lane_is = record {
     cleared = is.cleared ∙ cleared_all;
     engines = subst (λ (l : Lane). EnginesFollow [] (sealed_at_end end.blocks)
-        (lone_lane start).engines.value.items l.engines.value.items) (sym is.lane)
-        (subst (λ (l : List Entry). EnginesFollow [] l (lone_lane start).engines.value.items
-        now.shard.part.engines.value.items) cleared_all follow);
+        (engines_of (lone_lane start)) (engines_of l)) (sym is.lane)
+        (subst (λ (l : List Entry). EnginesFollow [] l (engines_of (lone_lane start))
+        (engines_of now.shard.part)) cleared_all follow);
     searched = subst (λ (l : Lane). (bytes : ℕ) → end.feed ≡ Whole bytes → (transfer : ℕ) (e : EngineState) →
-        HasEngine (lone_lane start).engines.value.items transfer e →
-        (f : EngineState) × HasEngine l.engines.value.items transfer f
+        HasEngine (engines_of (lone_lane start)) transfer e →
+        (f : EngineState) × HasEngine (engines_of l) transfer f
         × WentThrough e (transfer_bytes transfer (sealed_at_end end.blocks)) f) (sym is.lane) went;
   }
 

@@ -9,6 +9,7 @@ use Rattle.search_session.specs.Shards.{shard_cleared, EnginesFollow, ShardMoved
 use Rattle.search_session.specs.Hands.{SlotMoved, EachMoved}
 use Rattle.search_session.proofs.ManyReads.{begins_itself, begins_more, rested_itself, no_reads, one_read, reads_more, read_number, read_tries, read_blocks}
 use Rattle.search_session.proofs.Engines.{follow_still, follow_more}
+use Rattle.search_session.specs.Lanes.{engines_of}
 
 -- ---- shards
 
@@ -25,10 +26,10 @@ stands n x small all =
       none = λ ended. refl;
       stays = λ ended. ended;
       turns = turns;
-      reads = no_reads (HasMore (length x.part.engines.value.items)) x.pass x.pass (rested_itself x.pass);
+      reads = no_reads (HasMore (length (engines_of x.part))) x.pass x.pass (rested_itself x.pass);
       tries = tries;
       grown = begins_itself (shard_cleared x);
-      engines = follow_still (shard_cleared x) (shard_cleared x) x.part.engines.value.items refl;
+      engines = follow_still (shard_cleared x) (shard_cleared x) (engines_of x.part) refl;
     }
 
 pub shard_none : (x : ShardActor) → x.turns < 2 ^ 64 → ShardMoved 0 x x
@@ -42,8 +43,8 @@ shard_still n x small ended = stands n x small (λ running. absurd (apart (x.end
 
 -- a turn and its read
 pub shard_turned : (x y : ShardActor) → x.ended ≡ false →
-    x.ended ≡ is_over (length x.part.engines.value.items) (shard_cleared x) → ReadsNext x.pass y.pass →
-    EnginesFollow (shard_cleared x) (shard_cleared y) x.part.engines.value.items y.part.engines.value.items →
+    x.ended ≡ is_over (length (engines_of x.part)) (shard_cleared x) → ReadsNext x.pass y.pass →
+    EnginesFollow (shard_cleared x) (shard_cleared y) (engines_of x.part) (engines_of y.part) →
     y.turns ≡ min greatest (x.turns + 1) → ShardMoved 1 x y
 shard_turned x y running over read engines turns = record {
   number = read_number (header_is_next x.pass) x.pass y.pass read;
@@ -53,7 +54,7 @@ shard_turned x y running over read engines turns = record {
   none = λ ended. absurd (apart (x.ended) ended running);
   stays = λ ended. absurd (apart (x.ended) ended running);
   turns = turns;
-  reads = one_read (HasMore (length x.part.engines.value.items)) x.pass y.pass (sym over ∙ running) read;
+  reads = one_read (HasMore (length (engines_of x.part))) x.pass y.pass (sym over ∙ running) read;
   tries = read_tries (header_is_next x.pass) x.pass y.pass read;
   grown = read_blocks (header_is_next x.pass) x.pass y.pass read;
   engines = engines;
@@ -78,13 +79,13 @@ shard_more n m x y z a b =
       none = λ ended. let none_a = a.none ended in let none_b = b.none (a.stays ended) in omega arith;
       stays = λ ended. b.stays (a.stays ended);
       turns = omega arith;
-      reads = reads_more (HasMore (length x.part.engines.value.items)) (HasMore (length y.part.engines.value.items))
+      reads = reads_more (HasMore (length (engines_of x.part))) (HasMore (length (engines_of y.part)))
           (λ p more. ap (λ (n : ℕ). is_over n (data_view p).cleared) (sym a.engines.count) ∙ more)
           a.made b.made x.pass y.pass z.pass a.reads b.reads;
       tries = omega arith;
       grown = begins_more (shard_cleared x) (shard_cleared y) (shard_cleared z) a.grown b.grown;
-      engines = follow_more (shard_cleared x) (shard_cleared y) (shard_cleared z) x.part.engines.value.items
-          y.part.engines.value.items z.part.engines.value.items a.engines b.engines;
+      engines = follow_more (shard_cleared x) (shard_cleared y) (shard_cleared z) (engines_of x.part)
+          (engines_of y.part) (engines_of z.part) a.engines b.engines;
     }
   where
     apart : (c : Bool) → c ≡ true → c ≡ false → ⊥

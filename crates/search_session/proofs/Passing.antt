@@ -8,7 +8,7 @@ use Rattle.ring_words.specs.Steps.{CopiesTo}
 use Rattle.ring_ends.specs.declared.answers.Taken.{Taken}
 use Rattle.ring_ends.specs.Answers.{CanTakeNext, IsRead}
 use Rattle.search_session.specs.declared.lane.Lane.{Lane}
-use Rattle.search_session.specs.Lanes.{CanFeedAt, CanFeed}
+use Rattle.search_session.specs.Lanes.{CanFeedAt, CanFeed, engines_of}
 
 -- its bytes stand in front
 in_front : (into into' : List ℕ) (block : Entry) (used : ℕ) → CopiesTo into block into' → used ≡ length block.bytes →
@@ -20,7 +20,7 @@ in_front into into' block used copied is =
 -- the engine that can take it where it lay can take it from there
 pub can_feed_copy : (lane : Lane) (transfer : ℕ) (ring : RingShape) (old new : ReaderView) (into into' : List ℕ)
     (taken : Taken) → old.shape ≡ ring → CanTakeNext (CanFeed lane transfer) ring old →
-    IsRead old into taken new into' → CanFeedAt lane.engines.value.items transfer (take taken.used into')
+    IsRead old into taken new into' → CanFeedAt (engines_of lane) transfer (take taken.used into')
 can_feed_copy lane transfer ring old new into into' taken shape ready read =
     let within : length old.cleared < ring.max_blocks =
     subst (λ (r : RingShape). length old.cleared < r.max_blocks) shape
@@ -28,5 +28,5 @@ can_feed_copy lane transfer ring old new into into' taken shape ready read =
     let fits : length read.entry.bytes ≤ ring.size =
     subst (λ (r : RingShape). length read.entry.bytes ≤ r.size) shape
     (subst (λ (k : ℕ). k ≤ old.shape.size) read.used read.fits) in
-    subst (λ (bytes : List ℕ). CanFeedAt lane.engines.value.items transfer bytes)
+    subst (λ (bytes : List ℕ). CanFeedAt (engines_of lane) transfer bytes)
     (sym (in_front into into' read.entry taken.used read.bytes read.used)) (ready read.entry within fits)

@@ -10,7 +10,7 @@ use Rattle.dada_hdu.specs.declared.hdu.Hdu.{Hdu}
 use Rattle.stream_model.specs.Blocks.{joined_bytes}
 use Rattle.stream_model.specs.RecordedLaws.{recorded_of_transfers}
 use Rattle.disk_feeder.specs.declared.feeder.Feeder.{Feeder}
-use Rattle.disk_feeder.specs.Feeder.{plan_at, header_at}
+use Rattle.disk_feeder.specs.Feeder.{plan_at, headers_of}
 use Rattle.disk_feeder.specs.Feeding.{HeadersKeepUp, IsEnding}
 use Rattle.dada_recorder.specs.declared.answers.RecordEnd.{RecordEnd}
 use Rattle.dada_recorder.specs.declared.answers.RecordEnd.TheVariants.{FileFault}
@@ -131,7 +131,7 @@ module _ {F : Type 0} (seen : F → FilesSeen) (files_open : F → Type 0) (hdu 
 
     module _ {I : Type 0} (law : RecordingsEnd) (feeder : Feeder I) (end : SessionEnd I F) (headers : List Entry)
         (headers_are : headers ≡ headers_through feeder end)
-        (up : HeadersKeepUp (header_at feeder) headers (sealed_at_end end.blocks))
+        (up : HeadersKeepUp (headers_of feeder) headers (sealed_at_end end.blocks))
         (ending : IsEnding (length (plan_at feeder).starts) (sealed_at_end end.blocks) end.feed)
         (few : length (joined_bytes (sealed_at_end end.blocks)) ≤ (plan_at feeder).max_bytes) (reader : ℕ)
         (is_end : IsEndOfRecorder end reader headers x) (answer : RecordEnd) (is_answer : x.end ≡ Some answer) where

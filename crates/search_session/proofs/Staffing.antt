@@ -25,6 +25,7 @@ use Rattle.search_session.proofs.Feeding.{feed_none}
 use Rattle.search_session.proofs.Recording.{record_none}
 use Rattle.search_session.proofs.Rows.{removed, first_left, longer, at_end}
 use Rattle.search_session.proofs.Gathered.{put_at, put_here, count_same}
+use Rattle.search_session.specs.Lanes.{engines_of}
 
 all_at : {A : Type 0} (P : A → Type 0) (xs : List A) (k : ℕ) (x : A) → slice_get xs k ≡ Some x → All P xs → P x
 all_at P xs k x at all = subst P (get_or_from_slice_get xs k x x at) (all k x (slice_get_within xs k x at))
@@ -179,8 +180,8 @@ module _ {I F : Type 0} (told : I → Told) (is_open : I → Type 0) (files_open
   some_lane x n lane at new = λ other there.
       let same : lane ≡ other = inside lane other (sym at
       ∙ (ap (λ (k : ℕ). slice_get lanes k) (sym new.number_is) ∙ there)) in
-      subst (λ (l : Lane). EnginesFollow [] (shard_cleared x) l.engines.value.items x.part.engines.value.items)
-      (new.lane_is ∙ same) (follow_still [] (shard_cleared x) x.part.engines.value.items new.nothing)
+      subst (λ (l : Lane). EnginesFollow [] (shard_cleared x) (engines_of l) (engines_of x.part))
+      (new.lane_is ∙ same) (follow_still [] (shard_cleared x) (engines_of x.part) new.nothing)
     where
       inside : (a b : Lane) → Some (Some a) ≡ Some (Some b) → a ≡ b
       inside a b e = cc

@@ -12,6 +12,7 @@ use Rattle.search_engine.specs.Engine.{EngineState}
 use Rattle.search_session.specs.declared.lane.Lane.{Lane}
 use Rattle.search_session.specs.Books.{HasLane, HaveEngines, transfers_searched, book_at, GivesFirst, FirstsGiven, AreBooks, BooksTaken}
 use Rattle.search_session.proofs.Rows.{get_set_same, get_set_other, longer, at_end}
+use Rattle.search_session.specs.Lanes.{engines_of}
 
 -- the first element is taken
 pub first_taken : {X : Type 0} (old new : List X) (r : Option X) (x slot : X) (rest : List X) → r ≡ slice_get old 0 →
@@ -91,7 +92,7 @@ taken_more all left new n transfers books row have near so_far firsts = record {
   shards = All-push (λ r. length r.items ≡ length all) books row so_far.shards (firsts.books_count ∙ so_far.count);
   taken = λ transfer s lane e before at has. dite (ℕ_discrete transfer n)
       (λ same.
-      let gave = gives s lane (Some e) at (ap (λ (k : ℕ). slice_get lane.engines.value.items k) (sym same) ∙ has) in
+      let gave = gives s lane (Some e) at (ap (λ (k : ℕ). slice_get (engines_of lane) k) (sym same) ∙ has) in
       (row, at_end books row transfer (so_far.books_count ∙ sym same), gave.0))
       (λ other.
       let was = so_far.taken transfer s lane e (omega arith) at has in
@@ -101,10 +102,10 @@ taken_more all left new n transfers books row have near so_far firsts = record {
       let less : n < transfers = near (omega arith) in
       let h = have s here in
       let same : h.0 ≡ lane = inside h.0 lane (sym h.1 ∙ at) in
-      let many : length lane.engines.value.items ≡ transfers =
-      subst (λ (l : Lane). length l.engines.value.items ≡ transfers) same h.2 in
-      let slot = get_or lane.engines.value.items n None in
-      let gave = gives s lane slot at (slice_get-get_or lane.engines.value.items n None (omega arith)) in
+      let many : length (engines_of lane) ≡ transfers =
+      subst (λ (l : Lane). length (engines_of l) ≡ transfers) same h.2 in
+      let slot = get_or (engines_of lane) n None in
+      let gave = gives s lane slot at (slice_get-get_or (engines_of lane) n None (omega arith)) in
       gave.1;
 }
   where
@@ -115,16 +116,16 @@ taken_more all left new n transfers books row have near so_far firsts = record {
     inside a b e = cc
 
     gives : (s : ℕ) (lane : Lane) (slot : Option EngineState) → HasLane all s lane →
-        slice_get lane.engines.value.items n ≡ Some slot → (slice_get row.items s ≡ Some (book_at slot))
-        × ((lane' : Lane) × HasLane new s lane' × (lane'.engines.value.items ≡ drop (n + 1) lane.engines.value.items))
+        slice_get (engines_of lane) n ≡ Some slot → (slice_get row.items s ≡ Some (book_at slot))
+        × ((lane' : Lane) × HasLane new s lane' × (engines_of lane' ≡ drop (n + 1) (engines_of lane)))
     gives s lane slot at has =
         let was = so_far.rest s lane at in
-        let within = slice_get_within lane.engines.value.items n slot has in
-        let head = drop_more lane.engines.value.items n slot within
-        ∙ ap (λ (x : Option EngineState). x ∷ drop (n + 1) lane.engines.value.items)
-        (get_or_from_slice_get lane.engines.value.items n slot slot has) in
+        let within = slice_get_within (engines_of lane) n slot has in
+        let head = drop_more (engines_of lane) n slot within
+        ∙ ap (λ (x : Option EngineState). x ∷ drop (n + 1) (engines_of lane))
+        (get_or_from_slice_get (engines_of lane) n slot slot has) in
         let place = slice_get_within left s (Some was.0) was.1 in
-        firsts.given s was.0 slot (drop (n + 1) lane.engines.value.items) place was.1 (was.2 ∙ head)
+        firsts.given s was.0 slot (drop (n + 1) (engines_of lane)) place was.1 (was.2 ∙ head)
 
 -- how many engines there are in each of some lanes
 pub some_searched : (shards transfers : ℕ) → 0 < shards → transfers_searched shards transfers ≡ transfers
@@ -141,9 +142,9 @@ all_taken lanes left n transfers books have all taken = record {
       let here = slice_get_within lanes s (Some lane) at in
       let h = have s here in
       let same : h.0 ≡ lane = inside h.0 lane (sym h.1 ∙ at) in
-      let many : length lane.engines.value.items ≡ transfers =
-      subst (λ (l : Lane). length l.engines.value.items ≡ transfers) same h.2 in
-      let within = slice_get_within lane.engines.value.items transfer (Some e) has in
+      let many : length (engines_of lane) ≡ transfers =
+      subst (λ (l : Lane). length (engines_of l) ≡ transfers) same h.2 in
+      let within = slice_get_within (engines_of lane) transfer (Some e) has in
       let n_is : n ≡ transfers = all ∙ some_searched (length lanes) transfers (omega arith) in
       taken.taken transfer s lane e (omega arith) at has;
 }

@@ -17,7 +17,7 @@ use Rattle.stream_model.specs.BlockLaws.{EndsAreCounted, EntriesAreOfTransfers}
 use Rattle.search_engine.specs.Engine.{EngineState, most_fed}
 use Rattle.search_session.specs.declared.lane.Lane.{Lane}
 use Rattle.search_session.specs.declared.shard.ShardActor.{ShardActor}
-use Rattle.search_session.specs.Lanes.{HasEngine, WasFedAt}
+use Rattle.search_session.specs.Lanes.{HasEngine, WasFedAt, engines_of}
 use Rattle.search_session.specs.Stages.{IsUnfed}
 use Rattle.search_session.specs.Reads.{TriesNext, header_is_next, ReadsRing, ReadsNext, HasMore, HasRested}
 use Rattle.search_session.specs.Shards.{AreEnginesAt, EnginesFollow, blocks_cleared, shard_cleared, IsHereOrRetired, IsRetired, ShardOn, ShardStepped, ShardMoved}
@@ -93,10 +93,10 @@ module _ (hdu : Hdu) (x y : ShardActor) (reader reader' : HduReader) (was : x.pa
         few = on.few;
         done = done ∙ (on.done ∙ ap ended_transfers (sym (cleared_same same)));
         over = ended ∙ (on.over
-            ∙ (ap (λ (l : List Entry). is_over (length x.part.engines.value.items) l) (sym (cleared_same same))
-            ∙ ap (λ (lane : Lane). is_over (length lane.engines.value.items) (shard_cleared y)) (sym part)));
-        engines = subst (λ (lane : Lane). AreEnginesAt (data_shape hdu).size (shard_cleared y) lane.engines.value.items)
-            (sym part) (subst (λ (l : List Entry). AreEnginesAt (data_shape hdu).size l x.part.engines.value.items)
+            ∙ (ap (λ (l : List Entry). is_over (length (engines_of x.part)) l) (sym (cleared_same same))
+            ∙ ap (λ (lane : Lane). is_over (length (engines_of lane)) (shard_cleared y)) (sym part)));
+        engines = subst (λ (lane : Lane). AreEnginesAt (data_shape hdu).size (shard_cleared y) (engines_of lane))
+            (sym part) (subst (λ (l : List Entry). AreEnginesAt (data_shape hdu).size l (engines_of x.part))
             (sym (cleared_same same)) on.engines);
         count = omega arith;
       }
@@ -108,9 +108,9 @@ module _ (hdu : Hdu) (x y : ShardActor) (reader reader' : HduReader) (was : x.pa
     turns = turns;
     read = pass_read next is read;
     idle = λ none. record { part = part; done = done; ended = ended };
-    engines = subst (λ (lane : Lane). EnginesFollow (shard_cleared x) (shard_cleared y) x.part.engines.value.items
-        lane.engines.value.items) (sym part)
-        (follow_still (shard_cleared x) (shard_cleared y) x.part.engines.value.items
+    engines = subst (λ (lane : Lane). EnginesFollow (shard_cleared x) (shard_cleared y) (engines_of x.part)
+        (engines_of lane)) (sym part)
+        (follow_still (shard_cleared x) (shard_cleared y) (engines_of x.part)
         (cleared_same same));
   }
 
@@ -119,24 +119,24 @@ module _ (hdu : Hdu) (x y : ShardActor) (reader reader' : HduReader) (was : x.pa
   module _ (counted : EndsAreCounted) (of : EntriesAreOfTransfers) (e : Entry)
       (more : blocks_cleared reader' ≡ blocks_cleared reader ++ e ∷ []) (fits : length e.bytes ≤ (data_shape hdu).size)
       (on : ShardOn hdu x)
-      (fed : WasFedAt x.part.engines.value.items x.done e.bytes (is_end e.mark) y.part.engines.value.items)
+      (fed : WasFedAt (engines_of x.part) x.done e.bytes (is_end e.mark) (engines_of y.part))
     where
       cleared_more : shard_cleared y ≡ shard_cleared x ++ e ∷ []
       cleared_more = cleared_now ∙ (more ∙ ap (λ (l : List Entry). l ++ e ∷ []) (sym cleared_was))
 
-      fed_at : WasFedAt x.part.engines.value.items (ended_transfers (shard_cleared x)) e.bytes (is_end e.mark)
-          y.part.engines.value.items
+      fed_at : WasFedAt (engines_of x.part) (ended_transfers (shard_cleared x)) e.bytes (is_end e.mark)
+          (engines_of y.part)
       fed_at = subst
-          (λ (k : ℕ). WasFedAt x.part.engines.value.items k e.bytes (is_end e.mark) y.part.engines.value.items)
+          (λ (k : ℕ). WasFedAt (engines_of x.part) k e.bytes (is_end e.mark) (engines_of y.part))
           on.done fed
 
       pub on_fed : ReadsBoth hdu reader' → vec_len y.space ≡ vec_len x.space → y.turns ≡ x.turns →
           x.ended ≡ false → y.done ≡ x.done + (if is_end e.mark then 1 else 0) →
-          y.ended ≡ (nat_le (length y.part.engines.value.items) y.done || is_cut e.mark) → ShardOn hdu y
+          y.ended ≡ (nat_le (length (engines_of y.part)) y.done || is_cut e.mark) → ShardOn hdu y
       on_fed reads space turns running done ended =
           let header_room = on.header_room in
           let count = on.count in
-          let off : is_over (length y.part.engines.value.items) (shard_cleared x) ≡ false =
+          let off : is_over (length (engines_of y.part)) (shard_cleared x) ≡ false =
           ap (λ (n : ℕ). is_over n (shard_cleared x)) fed.count ∙ (sym on.over ∙ running) in
           let done_is : y.done ≡ ended_transfers (shard_cleared x ++ e ∷ []) =
           done ∙ (ap (λ (k : ℕ). k + (if is_end e.mark then 1 else 0)) on.done
@@ -149,11 +149,11 @@ module _ (hdu : Hdu) (x y : ShardActor) (reader reader' : HduReader) (was : x.pa
             few = on.few;
             done = done_is ∙ ap ended_transfers (sym cleared_more);
             over = ended
-                ∙ (sym (over_more counted (length y.part.engines.value.items) y.done (shard_cleared x) e off done_is)
-                ∙ ap (λ (l : List Entry). is_over (length y.part.engines.value.items) l) (sym cleared_more));
-            engines = subst (λ (l : List Entry). AreEnginesAt (data_shape hdu).size l y.part.engines.value.items)
+                ∙ (sym (over_more counted (length (engines_of y.part)) y.done (shard_cleared x) e off done_is)
+                ∙ ap (λ (l : List Entry). is_over (length (engines_of y.part)) l) (sym cleared_more));
+            engines = subst (λ (l : List Entry). AreEnginesAt (data_shape hdu).size l (engines_of y.part))
                 (sym cleared_more) (engines_at counted of (data_shape hdu).size (shard_cleared x) e fits
-                x.part.engines.value.items y.part.engines.value.items on.engines fed_at);
+                (engines_of x.part) (engines_of y.part) on.engines fed_at);
             count = omega arith;
           }
 
@@ -166,10 +166,10 @@ module _ (hdu : Hdu) (x y : ShardActor) (reader reader' : HduReader) (was : x.pa
             let more = ap length cleared_more ∙ length-append (shard_cleared x) (e ∷ []) in
             let same = ap length none in
             absurd (omega arith);
-        engines = subst (λ (l : List Entry). EnginesFollow (shard_cleared x) l x.part.engines.value.items
-            y.part.engines.value.items) (sym cleared_more)
+        engines = subst (λ (l : List Entry). EnginesFollow (shard_cleared x) l (engines_of x.part)
+            (engines_of y.part)) (sym cleared_more)
             (engines_follow counted of (data_shape hdu).size (shard_cleared x) e
-            fits x.part.engines.value.items y.part.engines.value.items fed_at);
+            fits (engines_of x.part) (engines_of y.part) fed_at);
       }
 
 -- ---- a block that was read and is cleared
@@ -195,9 +195,9 @@ ended_as r a a' d m m' is count mark = is ∙ (ap (λ (n : ℕ). nat_le n d || i
 
 -- the transfer that goes on is one of those searched
 pub done_below : (hdu : Hdu) (x : ShardActor) → ShardOn hdu x → x.ended ≡ false →
-    x.done < length x.part.engines.value.items
+    x.done < length (engines_of x.part)
 done_below hdu x on running =
-    let less = few_ended (length x.part.engines.value.items) (shard_cleared x) (sym on.over ∙ running) in
+    let less = few_ended (length (engines_of x.part)) (shard_cleared x) (sym on.over ∙ running) in
     let done = on.done in
     omega arith
 
@@ -214,14 +214,14 @@ most_more n m z a b c fed fits within few =
 -- the engine of the transfer that goes on takes one block more
 pub takes_block : (hdu : Hdu) (x : ShardActor) (used : ℕ) → ShardOn hdu x → x.ended ≡ false →
     used ≤ (data_shape hdu).size → length (shard_cleared x) < (data_shape hdu).max_blocks →
-    (e : EngineState) × HasEngine x.part.engines.value.items x.done e × (e.has_ended ≡ false)
+    (e : EngineState) × HasEngine (engines_of x.part) x.done e × (e.has_ended ≡ false)
     × (e.fed + used ≤ most_fed)
 takes_block hdu x used on running fits within =
     let d = ended_transfers (shard_cleared x) in
-    let less = few_ended (length x.part.engines.value.items) (shard_cleared x) (sym on.over ∙ running) in
+    let less = few_ended (length (engines_of x.part)) (shard_cleared x) (sym on.over ∙ running) in
     let h = on.engines d less in (
       h.0,
-      subst (λ (k : ℕ). HasEngine x.part.engines.value.items k h.0) (sym on.done) h.1,
+      subst (λ (k : ℕ). HasEngine (engines_of x.part) k h.0) (sym on.done) h.1,
       h.2.ended ∙ not_below_itself d,
       most_more (length (shard_cleared x)) (data_shape hdu).max_blocks (data_shape hdu).size h.0.fed used most_fed
           h.2.most fits within on.few,
@@ -249,7 +249,7 @@ not_over n some = ap (λ (k : ℕ). nat_le n k || has_cut []) none_ended
 
 -- engines that were fed nothing, where no block was cleared
 pub unfed_at : (size transfers : ℕ) (xs : List Entry) (lane : Lane) → xs ≡ [] → IsUnfed transfers lane →
-    AreEnginesAt size xs lane.engines.value.items
+    AreEnginesAt size xs (engines_of lane)
 unfed_at size transfers xs lane none unfed = λ k near.
     let count = unfed.count in
     let h = unfed.each k (omega arith) in
@@ -265,10 +265,10 @@ unfed_at size transfers xs lane none unfed = λ k near.
     )
 
 pub unread_over : (transfers : ℕ) (xs : List Entry) (lane : Lane) → xs ≡ [] → 0 < transfers → IsUnfed transfers lane →
-    false ≡ is_over (length lane.engines.value.items) xs
+    false ≡ is_over (length (engines_of lane)) xs
 unread_over transfers xs lane none some unfed =
     sym (not_over transfers some) ∙ (ap (λ (n : ℕ). is_over n []) (sym unfed.count)
-    ∙ ap (λ (l : List Entry). is_over (length lane.engines.value.items) l) (sym none))
+    ∙ ap (λ (l : List Entry). is_over (length (engines_of lane)) l) (sym none))
 
 pub unread_done : (xs : List Entry) → xs ≡ [] → 0 ≡ ended_transfers xs
 unread_done xs none = sym none_ended ∙ ap ended_transfers (sym none)
@@ -298,10 +298,10 @@ module _ (hdu : Hdu) (x y : ShardActor) (same : HasRested x.pass y.pass) (part :
         few = on.few;
         done = done ∙ (on.done ∙ ap ended_transfers (sym cleared_still));
         over = ended ∙ (on.over
-            ∙ (ap (λ (l : List Entry). is_over (length x.part.engines.value.items) l) (sym cleared_still)
-            ∙ ap (λ (lane : Lane). is_over (length lane.engines.value.items) (shard_cleared y)) (sym part)));
-        engines = subst (λ (lane : Lane). AreEnginesAt (data_shape hdu).size (shard_cleared y) lane.engines.value.items)
-            (sym part) (subst (λ (l : List Entry). AreEnginesAt (data_shape hdu).size l x.part.engines.value.items)
+            ∙ (ap (λ (l : List Entry). is_over (length (engines_of x.part)) l) (sym cleared_still)
+            ∙ ap (λ (lane : Lane). is_over (length (engines_of lane)) (shard_cleared y)) (sym part)));
+        engines = subst (λ (lane : Lane). AreEnginesAt (data_shape hdu).size (shard_cleared y) (engines_of lane))
+            (sym part) (subst (λ (l : List Entry). AreEnginesAt (data_shape hdu).size l (engines_of x.part))
             (sym cleared_still) on.engines);
         count = omega arith;
       }
@@ -320,11 +320,11 @@ module _ (hdu : Hdu) (x y : ShardActor) (same : HasRested x.pass y.pass) (part :
         none = λ was. refl;
         stays = λ was. ended ∙ was;
         turns = omega arith;
-        reads = no_reads (HasMore (length x.part.engines.value.items)) x.pass y.pass same;
+        reads = no_reads (HasMore (length (engines_of x.part))) x.pass y.pass same;
         tries = omega arith;
         grown = ([], cleared_still ∙ sym (append-nil (shard_cleared x)));
-        engines = subst (λ (lane : Lane). EnginesFollow (shard_cleared x) (shard_cleared y) x.part.engines.value.items
-            lane.engines.value.items) (sym part)
-            (follow_still (shard_cleared x) (shard_cleared y) x.part.engines.value.items
+        engines = subst (λ (lane : Lane). EnginesFollow (shard_cleared x) (shard_cleared y) (engines_of x.part)
+            (engines_of lane)) (sym part)
+            (follow_still (shard_cleared x) (shard_cleared y) (engines_of x.part)
             cleared_still);
       }

@@ -18,6 +18,7 @@ use Rattle.search_session.specs.Stages.{HasFeeder, HasShard, HasRecorder, Record
 use Rattle.search_session.proofs.Engines.{follow_more}
 use Rattle.search_session.proofs.Feeding.{feed_more}
 use Rattle.search_session.proofs.Recording.{record_more}
+use Rattle.search_session.specs.Lanes.{engines_of}
 
 -- ---- slots and places
 
@@ -50,8 +51,8 @@ module _ {A : Type 0} (R : A → A → Type 0) where
 of_lane_moved : (lanes : List (Option Lane)) (n : ℕ) (x y : ShardActor) → ShardMoved n x y → IsOfLane lanes x →
     IsOfLane lanes y
 of_lane_moved lanes n x y moved of = λ lane at.
-    follow_more [] (shard_cleared x) (shard_cleared y) lane.engines.value.items x.part.engines.value.items
-    y.part.engines.value.items
+    follow_more [] (shard_cleared x) (shard_cleared y) (engines_of lane) (engines_of x.part)
+    (engines_of y.part)
     (of lane (subst (λ (s : ℕ). slice_get lanes s ≡ Some (Some lane)) moved.number at)) moved.engines
 
 slot_of_lane : (lanes : List (Option Lane)) (n : ℕ) (a b : Option ShardActor) → SlotMoved (ShardMoved n) a b →

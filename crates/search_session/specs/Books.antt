@@ -7,7 +7,7 @@ use Rattle.search_engine.specs.Engine.{EngineState}
 use Rattle.dada_hdu.specs.declared.ended.HduEnded.{HduEnded}
 use Rattle.search_session.specs.declared.lane.Lane.{Lane}
 use Rattle.search_session.specs.declared.shard.ShardActor.{ShardActor}
-use Rattle.search_session.specs.Lanes.{HasEngine}
+use Rattle.search_session.specs.Lanes.{HasEngine, engines_of}
 
 abbrev pub passes_of : List (Option ShardActor) → List (Option HduEnded)
 passes_of shards = map (option_map (λ x. x.pass)) shards
@@ -22,7 +22,7 @@ HasLane lanes s lane = slice_get lanes s ≡ Some (Some lane)
 -- there is a lane of so many engines at each place
 abbrev pub HaveEngines : ℕ → List (Option Lane) → Type 0
 HaveEngines transfers lanes = (s : ℕ) → s < length lanes →
-    (lane : Lane) × HasLane lanes s lane × (length lane.engines.value.items ≡ transfers)
+    (lane : Lane) × HasLane lanes s lane × (length (engines_of lane) ≡ transfers)
 
 -- how many transfers so many shards search: none where there is no shard
 abbrev pub transfers_searched : ℕ → ℕ → ℕ
@@ -42,8 +42,8 @@ book_at slot = option_map (λ (e : EngineState). e.book) slot
 abbrev pub GivesFirst : Option Lane → Option BookContents → Option Lane → Type 0
 GivesFirst old book new = (lane : Lane) (slot : Option EngineState)
     (rest : List (Option EngineState)) →
-    old ≡ Some lane → lane.engines.value.items ≡ slot ∷ rest →
-    (book ≡ book_at slot) × ((lane' : Lane) × (new ≡ Some lane') × (lane'.engines.value.items ≡ rest))
+    old ≡ Some lane → engines_of lane ≡ slot ∷ rest →
+    (book ≡ book_at slot) × ((lane' : Lane) × (new ≡ Some lane') × (engines_of lane' ≡ rest))
 
 -- the first n of the lanes did
 pub record FirstsGiven (n : ℕ) (old : List (Option Lane)) (books : List (Option BookContents))
@@ -52,15 +52,15 @@ pub record FirstsGiven (n : ℕ) (old : List (Option Lane)) (books : List (Optio
   pub books_count : length books ≡ n
   pub given : (s : ℕ) (lane : Lane) (slot : Option EngineState)
       (rest : List (Option EngineState)) → s < n →
-      HasLane old s lane → lane.engines.value.items ≡ slot ∷ rest →
+      HasLane old s lane → engines_of lane ≡ slot ∷ rest →
       (slice_get books s ≡ Some (book_at slot))
-      × ((lane' : Lane) × HasLane new s lane' × (lane'.engines.value.items ≡ rest))
+      × ((lane' : Lane) × HasLane new s lane' × (engines_of lane' ≡ rest))
   pub ahead : (s : ℕ) → n ≤ s → slice_get new s ≡ slice_get old s
 
 -- all books of these lanes
 abbrev pub HasBooks : List (Option Lane) → List (ArrayVec (Option BookContents)) → Type 0
 HasBooks lanes books = (transfer s : ℕ) (lane : Lane) (e : EngineState) → HasLane lanes s lane →
-    HasEngine lane.engines.value.items transfer e → HasBook books transfer s e.book
+    HasEngine (engines_of lane) transfer e → HasBook books transfer s e.book
 
 -- the books of all engines of these lanes, as many as lanes in each row
 pub record AreBooks (transfers : ℕ) (lanes : List (Option Lane))
@@ -84,6 +84,6 @@ pub record BooksTaken (n : ℕ) (all : List (Option Lane))
   pub books_count : length books ≡ n
   pub shards : All (λ row. length row.items ≡ length all) books
   pub taken : (transfer s : ℕ) (lane : Lane) (e : EngineState) → transfer < n → HasLane all s lane →
-      HasEngine lane.engines.value.items transfer e → HasBook books transfer s e.book
+      HasEngine (engines_of lane) transfer e → HasBook books transfer s e.book
   pub rest : (s : ℕ) (lane : Lane) → HasLane all s lane →
-      (lane' : Lane) × HasLane left s lane' × (lane'.engines.value.items ≡ drop n lane.engines.value.items)
+      (lane' : Lane) × HasLane left s lane' × (engines_of lane' ≡ drop n (engines_of lane))

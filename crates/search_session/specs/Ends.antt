@@ -12,6 +12,7 @@ use Rattle.search_session.specs.Shards.{ShardOn, shard_number}
 use Rattle.search_session.specs.Gathering.{recorder_in}
 use Rattle.search_session.specs.Stages.{HasShard, IsInHand}
 use Rattle.search_session.specs.Books.{passes_of}
+use Rattle.search_session.specs.Lanes.{engines_of}
 
 -- the pass of a slot, where there is one
 abbrev pub as_passes : Option HduEnded → List (Option HduEnded)
@@ -32,7 +33,7 @@ pub record IsDone (hdu : Hdu) (transfers s : ℕ) (x : ShardActor) : Type 0 wher
   pub number : shard_number x ≡ s
   pub on : ShardOn hdu x
   pub ended : x.ended ≡ true
-  pub count : length x.part.engines.value.items ≡ transfers
+  pub count : length (engines_of x.part) ≡ transfers
 
 -- a recorder that reads by a reader with this number
 pub record ReadsLast {F : Type 0} (hdu : Hdu) (reader : ℕ) (x : RecordActor F) : Type 0 where
@@ -50,7 +51,7 @@ pub record AreDone {F : Type 0} (hdu : Hdu) (transfers : ℕ) (shards : List (Op
 -- in these hands, each shard with a number below this has so many engines
 abbrev pub HaveEnginesIn : {I F : Type 0} → List (Hand I F) → ℕ → ℕ → Type 0
 HaveEnginesIn hands shards transfers = (x : ShardActor) → IsInHand hands x →
-    shard_number x < shards → length x.part.engines.value.items ≡ transfers
+    shard_number x < shards → length (engines_of x.part) ≡ transfers
 
 -- In these hands work a feeder, so many shards, each with as many engines, and the recorder, where there is one. They
 -- have all readers of the rings, the shards in order and the recorder the last.

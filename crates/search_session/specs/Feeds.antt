@@ -8,8 +8,7 @@ use Rattle.dada_hdu.specs.declared.passes.HduWriter.{HduWriter}
 use Rattle.dada_hdu.specs.Passes.{WritesBoth}
 use Rattle.disk_feeder.specs.declared.answers.FeedEnd.{FeedEnd}
 use Rattle.disk_feeder.specs.declared.answers.FeedTurn.{FeedTurn}
-use Rattle.disk_feeder.specs.Feeder.{HasOpenFile, has_end, block_size, plan_at, names_at, FeederFits, FeederFeeds, FeederSince, FeederFaultless, FeederRead}
-use Rattle.disk_feeder.specs.Filling.{HoldsAll}
+use Rattle.disk_feeder.specs.Feeder.{HasOpenFile, has_end, block_size, plan_at, FeederFits, FeederFeeds, FeederSince, FeederMisses, FeederRead}
 use Rattle.disk_feeder.specs.Turns.{TurnAnswers, sealed_headers, sealed_blocks}
 use Rattle.search_session.specs.declared.feed.FeedActor.{FeedActor}
 
@@ -50,8 +49,8 @@ pub record InputsKept {I : Type 0} (told : I → Told) (is_calm : I → Type 0) 
   pub reads_on : (before : Told) → FeederRead before (told f.part.inputs.now) f.part →
       FeederRead before (told g.part.inputs.now) g.part
   pub calm : is_calm f.part.inputs.now → is_calm g.part.inputs.now
-  pub serves : is_calm f.part.inputs.now → HoldsAll (told f.part.inputs.now) (names_at f.part) →
-      FeederFaultless f.part → FeederFaultless g.part
+  pub missing : is_calm f.part.inputs.now → FeederMisses (told f.part.inputs.now) f.part →
+      FeederMisses (told g.part.inputs.now) g.part
 
 -- n turns of a feeder, or fewer where it ended: each made one write, and none came once it had ended
 pub record FeedMoved {I : Type 0} (told : I → Told) (is_calm : I → Type 0) (faults : I → ℕ) (n : ℕ)

@@ -7,6 +7,10 @@ use Rattle.search_engine.specs.Engine.{EngineState, StandsForPart, HasFoundPart,
 use Rattle.search_engine.specs.Scope.{whole_scope}
 use Rattle.search_session.specs.declared.lane.Lane.{Lane}
 
+-- the engines of a lane, by transfer
+abbrev pub engines_of : Lane → List (Option EngineState)
+engines_of lane = lane.engines.value.items
+
 -- the engine of a transfer
 abbrev pub HasEngine : List (Option EngineState) → ℕ → EngineState → Type 0
 HasEngine engines transfer e = slice_get engines transfer ≡ Some (Some e)
@@ -50,9 +54,9 @@ CanFeedAt engines transfer bytes = (e : EngineState) × HasEngine engines transf
 
 -- the engine of a transfer can be fed a block
 abbrev pub CanFeed : Lane → ℕ → Entry → Type 0
-CanFeed lane transfer block = CanFeedAt lane.engines.value.items transfer block.bytes
+CanFeed lane transfer block = CanFeedAt (engines_of lane) transfer block.bytes
 
 -- it was fed the block, and has not ended
 abbrev pub WasFedBlock : Lane → ℕ → Entry → Lane → Type 0
 WasFedBlock old transfer block new =
-    WasFedAt old.engines.value.items transfer block.bytes false new.engines.value.items
+    WasFedAt (engines_of old) transfer block.bytes false (engines_of new)

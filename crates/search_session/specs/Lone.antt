@@ -12,7 +12,7 @@ use Rattle.dada_hdu.specs.declared.passes.HduReader.{HduReader}
 use Rattle.dada_hdu.specs.Passes.{data_shape, WritesBoth, HasFreshReader}
 use Rattle.search_engine.specs.Engine.{most_fed}
 use Rattle.disk_feeder.specs.declared.feeder.FeederSpace.{FeederSpace}
-use Rattle.disk_feeder.specs.Feeder.{HasOpenFile, has_end, header_at, plan_at, block_size, FeederFeeds, FeederFaultless}
+use Rattle.disk_feeder.specs.Feeder.{HasOpenFile, has_end, headers_of, plan_at, block_size, FeederFeeds, FeederFaultless}
 use Rattle.disk_feeder.specs.Feeding.{header_entries}
 use Rattle.disk_feeder.specs.Resting.{feeder_over, at_rest}
 use Rattle.disk_feeder.specs.Turns.{sealed_headers, sealed_blocks}
@@ -24,6 +24,7 @@ use Rattle.search_session.specs.declared.lone_space.LoneSpace.{LoneSpace}
 use Rattle.search_session.specs.Shards.{shard_cleared, shard_number, ShardOn, ShardMoved}
 use Rattle.search_session.specs.Feeds.{FeedOn, FeedMoved}
 use Rattle.search_session.specs.Stages.{IsUnread, IsUnfed}
+use Rattle.search_session.specs.Lanes.{engines_of}
 
 -- ---- the parts of a session
 
@@ -100,9 +101,9 @@ lane_in space = space.lane
 -- fault. It seals blocks of the rings' size, no more of them than the rings may carry.
 pub record FeedsAlone (told : Told) (shape : RingShape) (header : HeaderText)
     (feeder : FeederSpace) : Type 0 where
-  pub first : slice_get (header_at (at_rest feeder)) 0 ≡ Some header
+  pub first : slice_get (headers_of (at_rest feeder)) 0 ≡ Some header
   pub feeds : FeederFeeds told (at_rest feeder)
-      (header_entries (take 1 (header_at (at_rest feeder)))) []
+      (header_entries (take 1 (headers_of (at_rest feeder)))) []
   pub running : has_end (at_rest feeder) ≡ None
   pub faultless : FeederFaultless (at_rest feeder)
   pub size : shape.size ≡ block_size (at_rest feeder)
@@ -130,4 +131,4 @@ pub record LoneBegins (told : Told) (s : LoneSession) : Type 0 where
   pub running : s.feed.end ≡ None
   pub faultless : FeederFaultless (at_rest (lone_feeder s))
   pub unread : shard_cleared s.shard ≡ []
-  pub engines : length (lone_lane s).engines.value.items ≡ transfers_at (lone_feeder s)
+  pub engines : length (engines_of (lone_lane s)) ≡ transfers_at (lone_feeder s)

@@ -14,7 +14,7 @@ use Rattle.search_session.specs.declared.lane.Lane.{Lane}
 use Rattle.search_session.specs.declared.ended.SessionEnd.{SessionEnd}
 use Rattle.search_session.specs.declared.lone.LoneSession.{LoneSession}
 use Rattle.search_session.specs.declared.lone.LoneEnd.{LoneEnd}
-use Rattle.search_session.specs.Lanes.{HasEngine, Stands}
+use Rattle.search_session.specs.Lanes.{HasEngine, Stands, engines_of}
 use Rattle.search_session.specs.Shards.{shard_cleared, EnginesFollow}
 use Rattle.search_session.specs.Sessions.{FeedAnswers}
 use Rattle.search_session.specs.Lone.{lone_feeder, lone_lane, LoneOn, LoneMoved, LoneBegins, HasLoneEnded}
@@ -52,11 +52,11 @@ pub record WentThrough (e : EngineState) (bytes : List ℕ) (f : EngineState) : 
 -- Where all data were sealed, each engine has searched those of its transfer.
 pub record LaneAnswers (lane : Lane) (end : LoneEnd) : Type 0 where
   pub cleared : cleared_at_end end.blocks 0 ≡ sealed_at_end end.blocks
-  pub engines : EnginesFollow [] (sealed_at_end end.blocks) lane.engines.value.items
-      end.lane.engines.value.items
+  pub engines : EnginesFollow [] (sealed_at_end end.blocks) (engines_of lane)
+      (engines_of end.lane)
   pub searched : (bytes : ℕ) → end.feed ≡ Whole bytes → (transfer : ℕ) (e : EngineState) →
-      HasEngine lane.engines.value.items transfer e →
-      (f : EngineState) × HasEngine end.lane.engines.value.items transfer f
+      HasEngine (engines_of lane) transfer e →
+      (f : EngineState) × HasEngine (engines_of end.lane) transfer f
       × WentThrough e (transfer_bytes transfer (sealed_at_end end.blocks)) f
 
 -- What a session came to, which was begun over inputs that were `before`, and ended when they were `after`: its feeder

@@ -14,7 +14,7 @@ use Rattle.disk_feeder.specs.declared.answers.FeedEnd.{FeedEnd}
 use Rattle.disk_feeder.specs.declared.answers.FeedEnd.TheVariants as feed
 use Rattle.disk_feeder.specs.declared.feeder.Feeder.{Feeder}
 use Rattle.disk_feeder.specs.Plan.{Plan}
-use Rattle.disk_feeder.specs.Feeder.{plan_at, header_at}
+use Rattle.disk_feeder.specs.Feeder.{plan_at, headers_of}
 use Rattle.disk_feeder.specs.Feeding.{header_entries}
 use Rattle.dada_recorder.specs.declared.answers.RecordEnd.{RecordEnd}
 use Rattle.dada_recorder.specs.declared.answers.RecordEnd.TheVariants.{Whole, Cut, FileFault, BadHeader, TooLong}
@@ -29,7 +29,7 @@ use Rattle.search_session.specs.declared.ended.SessionEnd.{SessionEnd}
 -- the header blocks that a feeder sealed: those of the transfers that ended, and that of the next one
 abbrev pub headers_through : {I F : Type 0} → Feeder I → SessionEnd I F → List Entry
 headers_through feeder end =
-    header_entries (take (ended_transfers (sealed_at_end end.blocks) + 1) (header_at feeder))
+    header_entries (take (ended_transfers (sealed_at_end end.blocks) + 1) (headers_of feeder))
 
 -- the files of all blocks that were sealed
 abbrev pub files_through : {I F : Type 0} → Feeder I → Recorder F → SessionEnd I F →

@@ -1,6 +1,6 @@
 -- What a session answers.
 -- Source: this project's choice.
-use Rattle.std.specs.Prelude.{◌≡◌, ◌≢◌, ℕ, ◌<◌, ◌≤◌, List, [], length, map, slice_get, Option, Some}
+use Rattle.std.specs.Prelude.{◌≡◌, ◌≢◌, ℕ, ◌<◌, ◌≤◌, List, [], length, map, slice_get, Option, Some, IsSome}
 use Rattle.std.specs.List.{sum_by, range_with_len}
 use Rattle.std.specs.Borrow.{MutBor}
 use Rattle.dada_model.specs.Observation.{Observation}
@@ -20,9 +20,11 @@ use Rattle.stream_model.specs.Walk.{transfer_data}
 use Rattle.search_engine.specs.Engine.{EngineState, IsOpenedEngine, StandsForData}
 use Rattle.disk_feeder.specs.declared.answers.FeedEnd.TheVariants.{Whole, ReadFault}
 use Rattle.disk_feeder.specs.declared.feeder.Feeder.{Feeder}
+use Rattle.disk_feeder.specs.declared.place.Place.{Place}
 use Rattle.disk_feeder.specs.Feeder.{plan_at, names_at, block_size, FeederRead}
 use Rattle.disk_feeder.specs.Feeding.{IsEnded, BreaksReading}
 use Rattle.disk_feeder.specs.Filling.{HoldsAll}
+use Rattle.disk_feeder.specs.History.{file_name}
 use Rattle.disk_feeder.specs.Plan.{stream_of, AreTold}
 use Rattle.disk_feeder.specs.Turns.{sealed_blocks}
 use Rattle.search_session.specs.declared.lane.Lane.{Lane}
@@ -30,7 +32,7 @@ use Rattle.search_session.specs.declared.feed.FeedActor.{FeedActor}
 use Rattle.search_session.specs.declared.shard.ShardActor.{ShardActor}
 use Rattle.search_session.specs.declared.record.RecordActor.{RecordActor}
 use Rattle.search_session.specs.declared.ended.SessionEnd.{SessionEnd}
-use Rattle.search_session.specs.Lanes.{HasEngine}
+use Rattle.search_session.specs.Lanes.{HasEngine, engines_of}
 use Rattle.search_session.specs.Shards.{shard_cleared}
 use Rattle.search_session.specs.Records.{recorded_headers, recorded_blocks}
 use Rattle.search_session.specs.Books.{HasLane, HasBook, AreCounted}
@@ -40,9 +42,9 @@ use Rattle.search_session.specs.Recorded.{headers_through}
 abbrev pub data_through : {I F : Type 0} → SessionEnd I F → ℕ → List ℕ
 data_through end transfer = transfer_bytes transfer (sealed_at_end end.blocks)
 
--- What the feeder came to: the end of the walk of its files with the walk's stream sealed, or the inputs' fault, which
--- comes only where their count rose, and leaves the full blocks of what was read. Where all data were sealed, those of
--- each transfer are those of its files.
+-- What the feeder came to at some place: the end of the walk of its files with the walk's stream sealed, or the inputs'
+-- fault, which comes only where their count rose, of calm inputs only at a file that isn't told, and leaves the full
+-- blocks of what was read. Where all data were sealed, those of each transfer are those of its files.
 pub record FeedAnswers {I F : Type 0} (told : I → Told) (is_calm : I → Type 0) (faults : I → ℕ)
     (feeder : Feeder I) (end : SessionEnd I F) : Type 0 where
   pub same_reference : end.inputs.ghost_name ≡ feeder.inputs.ghost_name
@@ -53,15 +55,18 @@ pub record FeedAnswers {I F : Type 0} (told : I → Told) (is_calm : I → Type 
   pub quiet : end.feed ≢ ReadFault → faults end.inputs.now ≡ faults feeder.inputs.now
   pub serves : is_calm feeder.inputs.now → HoldsAll (told feeder.inputs.now) (names_at feeder) →
       end.feed ≢ ReadFault
-  pub sealed : IsEnded (plan_at feeder) (told end.inputs.now) (block_size feeder)
+  pub place : Place
+  pub missing : is_calm feeder.inputs.now → end.feed ≡ ReadFault →
+      (place.file < length (names_at feeder))
+      × ¬ IsSome ((told feeder.inputs.now).bytes_under (file_name (names_at feeder) place.file))
+  pub sealed : IsEnded (plan_at feeder) (told end.inputs.now) place (block_size feeder)
       (headers_through feeder end)
       (sealed_at_end end.blocks)
       end.feed
   pub broke : end.feed ≡ ReadFault → (before : Told) →
-      FeederRead before (told feeder.inputs.now) feeder → (files : List (List ℕ)) →
-      AreTold (told end.inputs.now) (names_at feeder) files →
-      BreaksReading (names_at feeder) (stream_of (plan_at feeder) files) before
-      (told end.inputs.now) (block_size feeder) (sealed_at_end end.blocks)
+      FeederRead before (told feeder.inputs.now) feeder →
+      BreaksReading (plan_at feeder) before (told end.inputs.now) place (block_size feeder)
+      (sealed_at_end end.blocks)
   pub few : length (joined_bytes (sealed_at_end end.blocks)) ≤ (plan_at feeder).max_bytes
   pub parts : (bytes : ℕ) → end.feed ≡ Whole bytes →
       sum_by (λ k. length (data_through end k)) (range_with_len 0 (length (plan_at feeder).starts))
@@ -88,7 +93,7 @@ pub record AreLanesFor (settings : Search) (o : ℕ → Observation) (transfers 
   pub shards : length lanes ≡ settings.shards
   pub each : (s k : ℕ) → s < length lanes → k < transfers →
       (lane : Lane) × HasLane lanes s lane
-      × ((e : EngineState) × HasEngine lane.engines.value.items k e × IsOpenedEngine e settings s
+      × ((e : EngineState) × HasEngine (engines_of lane) k e × IsOpenedEngine e settings s
       × StandsForData (o k) [] e)
 
 -- the books of the shards, which hold the parts of a candidate list
@@ -116,7 +121,7 @@ pub record ShardAnswers {I F : Type 0} (transfers : ℕ) (lanes : List (Option L
       (book : BookContents) × HasBook end.books.items k s book
   pub searched : (bytes : ℕ) → end.feed ≡ Whole bytes → (transfer s : ℕ) (lane : Lane)
       (e : EngineState)
-      (o : Observation) → HasLane lanes s lane → HasEngine lane.engines.value.items transfer e →
+      (o : Observation) → HasLane lanes s lane → HasEngine (engines_of lane) transfer e →
       StandsForData o [] e →
       IsSearched end transfer s o e
   pub held : (settings : Search) (o : ℕ → Observation) (found : ℕ → List ℕ) (bytes : ℕ) →
@@ -137,9 +142,9 @@ pub record IsEndOfFeeder {I F : Type 0} (end : SessionEnd I F) (f : FeedActor I)
 pub record IsEndOf {I F : Type 0} (end : SessionEnd I F) (s : ℕ) (x : ShardActor) : Type 0 where
   pub cleared : cleared_at_end end.blocks s ≡ shard_cleared x
   pub begins : Begins (shard_cleared x) (sealed_at_end end.blocks)
-  pub books : (k : ℕ) (e : EngineState) → HasEngine x.part.engines.value.items k e →
+  pub books : (k : ℕ) (e : EngineState) → HasEngine (engines_of x.part) k e →
       HasBook end.books.items k s e.book
-  pub spectra : s ≡ 0 → (k : ℕ) (e : EngineState) → HasEngine x.part.engines.value.items k e →
+  pub spectra : s ≡ 0 → (k : ℕ) (e : EngineState) → HasEngine (engines_of x.part) k e →
       slice_get end.spectra.items k ≡ Some e.sums.carry.fed
 
 -- what is known of a recorder, where these are the headers that were sealed

@@ -17,7 +17,7 @@ use Rattle.stream_model.specs.Blocks.{ended_transfers, is_over, transfer_bytes}
 use Rattle.search_engine.specs.Engine.{EngineState, SameShard, scope_of, most_fed}
 use Rattle.search_session.specs.declared.lane.Lane.{Lane}
 use Rattle.search_session.specs.declared.shard.ShardActor.{ShardActor}
-use Rattle.search_session.specs.Lanes.{HasEngine, Stands, WasFedBlock}
+use Rattle.search_session.specs.Lanes.{HasEngine, Stands, WasFedBlock, engines_of}
 use Rattle.search_session.specs.Reads.{ReadsRing, ReadsNext, HasMore, Reads}
 
 -- ---- engines and the blocks that were cleared
@@ -114,8 +114,8 @@ pub record ShardOn (hdu : Hdu) (x : ShardActor) : Type 0 where
   pub header_room : 65537 ≤ vec_len x.space
   pub few : (data_shape hdu).max_blocks * (data_shape hdu).size ≤ most_fed
   pub done : x.done ≡ ended_transfers (shard_cleared x)
-  pub over : x.ended ≡ is_over (length x.part.engines.value.items) (shard_cleared x)
-  pub engines : AreEnginesAt (data_shape hdu).size (shard_cleared x) x.part.engines.value.items
+  pub over : x.ended ≡ is_over (length (engines_of x.part)) (shard_cleared x)
+  pub engines : AreEnginesAt (data_shape hdu).size (shard_cleared x) (engines_of x.part)
   pub count : x.turns < 2 ^ 64
 
 -- its engines stand as they stood
@@ -130,7 +130,7 @@ pub record ShardStepped (x y : ShardActor) : Type 0 where
   pub read : ReadsNext x.pass y.pass
   pub idle : shard_cleared y ≡ shard_cleared x → KeepsEngines x y
   pub engines : EnginesFollow (shard_cleared x)
-      (shard_cleared y) x.part.engines.value.items y.part.engines.value.items
+      (shard_cleared y) (engines_of x.part) (engines_of y.part)
 
 -- n turns of a shard, or fewer where it ended: each made one read, and none came once it had ended
 pub record ShardMoved (n : ℕ) (x y : ShardActor) : Type 0 where
@@ -141,8 +141,8 @@ pub record ShardMoved (n : ℕ) (x y : ShardActor) : Type 0 where
   pub none : x.ended ≡ true → made ≡ 0
   pub stays : x.ended ≡ true → y.ended ≡ true
   pub turns : y.turns ≡ min greatest (x.turns + made)
-  pub reads : Reads (HasMore (length x.part.engines.value.items)) made x.pass y.pass
+  pub reads : Reads (HasMore (length (engines_of x.part))) made x.pass y.pass
   pub tries : tries_of y.pass ≡ tries_of x.pass + made
   pub grown : Begins (shard_cleared x) (shard_cleared y)
   pub engines : EnginesFollow (shard_cleared x)
-      (shard_cleared y) x.part.engines.value.items y.part.engines.value.items
+      (shard_cleared y) (engines_of x.part) (engines_of y.part)

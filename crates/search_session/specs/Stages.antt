@@ -18,7 +18,7 @@ use Rattle.search_session.specs.declared.shard.ShardActor.{ShardActor}
 use Rattle.search_session.specs.declared.record.RecordActor.{RecordActor}
 use Rattle.search_session.specs.declared.hand.Hand.{Hand}
 use Rattle.search_session.specs.declared.stage.Stage.{Stage}
-use Rattle.search_session.specs.Lanes.{HasEngine}
+use Rattle.search_session.specs.Lanes.{HasEngine, engines_of}
 use Rattle.search_session.specs.Shards.{headers_cleared, blocks_cleared, shard_cleared, shard_number, EnginesFollow}
 use Rattle.search_session.specs.Feeds.{FeedMoved}
 use Rattle.search_session.specs.Records.{recorded_headers, recorded_blocks, RecordOn, RecordMoved}
@@ -41,9 +41,9 @@ IsFirstReader hdu number readers =
 
 -- an engine for each transfer, which was fed nothing
 pub record IsUnfed (transfers : ℕ) (lane : Lane) : Type 0 where
-  pub count : length lane.engines.value.items ≡ transfers
+  pub count : length (engines_of lane) ≡ transfers
   pub each : (k : ℕ) → k < transfers →
-      (e : EngineState) × HasEngine lane.engines.value.items k e × (e.fed ≡ 0) × (e.has_ended ≡ false)
+      (e : EngineState) × HasEngine (engines_of lane) k e × (e.fed ≡ 0) × (e.has_ended ≡ false)
 
 -- a recorder of blocks of these rings, which has recorded nothing
 pub record IsFreshRecorder {F : Type 0} (files_open : F → Type 0) (hdu : Hdu) (r : Recorder F) :
@@ -131,7 +131,7 @@ pub record HasRecorder {I F : Type 0} (seen : F → FilesSeen) (start : RecordAc
 -- a shard's engines are those of its lane, and were fed what it cleared
 abbrev pub IsOfLane : List (Option Lane) → ShardActor → Type 0
 IsOfLane lanes x = (lane : Lane) → slice_get lanes (shard_number x) ≡ Some (Some lane) →
-    EnginesFollow [] (shard_cleared x) lane.engines.value.items x.part.engines.value.items
+    EnginesFollow [] (shard_cleared x) (engines_of lane) (engines_of x.part)
 
 abbrev pub AreOfLanes : {I F : Type 0} → List (Option Lane) → List (Hand I F) → Type 0
 AreOfLanes lanes hands = All (λ h. All (λ slot. IfSome slot (IsOfLane lanes)) h.shards.items) hands

@@ -2,7 +2,7 @@
 ghost use Rattle.std.specs.Prelude.{◌≡◌, ℕ, ◌<◌, ◌≤◌, ◌∷◌, Some, length, option_map, slice_get};
 ghost use Rattle.search_engine.specs.Engine.{EngineState};
 ghost use Rattle.search_session.specs.declared.lane.Lane.{Lane as Engines};
-ghost use Rattle.search_session.specs.Lanes.{HasEngine};
+ghost use Rattle.search_session.specs.Lanes.{HasEngine, engines_of};
 ghost use Rattle.search_session.specs.Books.{HasLane, HaveEngines, book_at, GivesFirst, FirstsGiven, AreBooks, transfers_searched, passes_of, lanes_of};
 
 use crate::lane::Lane;
@@ -10,7 +10,9 @@ use crate::shard::ShardActor;
 use arrayvec::ArrayVec;
 use candidate_book::Book;
 use dada_hdu::HduEnded;
+use ring_words::MOST_READERS;
 use search_engine::Engine;
+use search_model::{MOST_SHARDS, MOST_TRANSFERS};
 
 // The pass and the lane of a slot.
 fn both_of(slot: Option<ShardActor>) -> (Option<HduEnded>, Option<Lane>)
@@ -28,8 +30,11 @@ fn both_of(slot: Option<ShardActor>) -> (Option<HduEnded>, Option<Lane>)
 
 // The passes and the lanes of shards, at the same places.
 pub(crate) fn part_shards(
-    mut shards: ArrayVec<Option<ShardActor>, 7>,
-) -> (ArrayVec<Option<HduEnded>, 8>, ArrayVec<Option<Lane>, 7>)
+    mut shards: ArrayVec<Option<ShardActor>, MOST_SHARDS>,
+) -> (
+    ArrayVec<Option<HduEnded>, MOST_READERS>,
+    ArrayVec<Option<Lane>, MOST_SHARDS>,
+)
     ensures passes { result.0.items ≡ passes_of shards.items }
     ensures lanes { result.1.items ≡ lanes_of shards.items }
 {
@@ -54,11 +59,11 @@ fn spectra_at(slot: &Option<Engine>) -> u64
 }
 
 // How many spectra each engine of the first lane searched.
-pub(crate) fn spectra_of(lanes: &[Option<Lane>]) -> ArrayVec<u64, 8>
+pub(crate) fn spectra_of(lanes: &[Option<Lane>]) -> ArrayVec<u64, MOST_TRANSFERS>
     ensures count { (transfers : ℕ) → HaveEngines transfers lanes.now
         → length result.items ≡ transfers_searched (length lanes.now) transfers }
     ensures each { (k : ℕ) (lane : Engines) (e : EngineState) → HasLane lanes.now 0 lane
-        → HasEngine lane.engines.value.items k e
+        → HasEngine (engines_of lane) k e
         → slice_get result.items k ≡ Some e.sums.carry.fed }
 {
     let mut spectra = ArrayVec::new();
@@ -72,7 +77,7 @@ pub(crate) fn spectra_of(lanes: &[Option<Lane>]) -> ArrayVec<u64, 8>
 }
 
 // The first engine, which leaves its list.
-fn first_in(engines: &mut ArrayVec<Option<Engine>, 8>) -> Option<Engine>
+fn first_in(engines: &mut ArrayVec<Option<Engine>, MOST_TRANSFERS>) -> Option<Engine>
     ensures { (slot : _) (rest : _) → engines.old.items ≡ slot ∷ rest
         → (result ≡ slot) × (engines.new.items ≡ rest) }
 {
@@ -84,8 +89,8 @@ fn first_in(engines: &mut ArrayVec<Option<Engine>, 8>) -> Option<Engine>
 
 // The first engine of a lane, which leaves it.
 fn first_of(lane: &mut Lane) -> Option<Engine>
-    ensures { (slot : _) (rest : _) → lane.old.engines.value.items ≡ slot ∷ rest
-        → (result ≡ slot) × (lane.new.engines.value.items ≡ rest) }
+    ensures { (slot : _) (rest : _) → engines_of lane.old ≡ slot ∷ rest
+        → (result ≡ slot) × (engines_of lane.new ≡ rest) }
 {
     first_in(&mut lane.engines)
 }
@@ -109,7 +114,7 @@ fn take_first(slot: &mut Option<Lane>) -> Option<Book>
 }
 
 // The books of the first engines of all lanes.
-fn take_firsts(lanes: &mut [Option<Lane>]) -> ArrayVec<Option<Book>, 7>
+fn take_firsts(lanes: &mut [Option<Lane>]) -> ArrayVec<Option<Book>, MOST_SHARDS>
     requires { length lanes.old ≤ 7 }
     ensures { FirstsGiven (length lanes.old) lanes.old result.items lanes.new }
 {
@@ -134,8 +139,8 @@ fn transfers_of(lanes: &[Option<Lane>]) -> usize
 
 // The books of all engines, by transfer and then by shard.
 pub(crate) fn books_of(
-    mut lanes: ArrayVec<Option<Lane>, 7>,
-) -> ArrayVec<ArrayVec<Option<Book>, 7>, 8>
+    mut lanes: ArrayVec<Option<Lane>, MOST_SHARDS>,
+) -> ArrayVec<ArrayVec<Option<Book>, MOST_SHARDS>, MOST_TRANSFERS>
     requires { (transfers : ℕ) × HaveEngines transfers lanes.items }
     ensures { (transfers : ℕ) → HaveEngines transfers lanes.items
         → AreBooks transfers lanes.items result.items }

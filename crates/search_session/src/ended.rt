@@ -21,6 +21,8 @@ use dada_recorder::RecordEnd;
 use disk_feeder::FeedEnd;
 use psr_base::{Files, Inputs};
 use ring_ends::Finished;
+use ring_words::MOST_READERS;
+use search_model::{MOST_SHARDS, MOST_TRANSFERS};
 
 /// How a session ended: the feeder's end; the books by transfer and then by shard, each `Some`; how many spectra each
 /// transfer has, where there is a shard; the recorder's end, where there is one; what went through the data ring. The
@@ -28,19 +30,12 @@ use ring_ends::Finished;
 #[derive(Drop)]
 pub struct SessionEnd<'a, I, F> {
     pub feed: FeedEnd,
-    pub books: ArrayVec<ArrayVec<Option<Book>, 7>, 8>,
-    pub spectra: ArrayVec<u64, 8>,
+    pub books: ArrayVec<ArrayVec<Option<Book>, MOST_SHARDS>, MOST_TRANSFERS>,
+    pub spectra: ArrayVec<u64, MOST_TRANSFERS>,
     pub recorded: Option<RecordEnd>,
     pub blocks: Finished,
     pub inputs: &'a mut I,
     pub files: Option<&'a mut F>,
-}
-
-/// How a run of a program ended: its status, and what went through its data ring, where there was one.
-#[derive(Drop)]
-pub struct Ran {
-    pub status: u8,
-    pub blocks: Option<Finished>,
 }
 
 // The parts of a recorder that ended, where there is one.
@@ -82,9 +77,9 @@ fn part_recorder<'a, F: Files>(recorder: Option<RecordActor<'a, F>>) -> Recorder
 
 // The passes, and one more after them, where there is one.
 fn with_pass(
-    mut passes: ArrayVec<Option<HduEnded>, 8>,
+    mut passes: ArrayVec<Option<HduEnded>, MOST_READERS>,
     last: Option<HduEnded>,
-) -> ArrayVec<Option<HduEnded>, 8>
+) -> ArrayVec<Option<HduEnded>, MOST_READERS>
     requires { length passes.items < 8 }
     ensures { result.items ≡ passes.items ++ as_passes last }
 {
@@ -98,7 +93,7 @@ fn with_pass(
 pub(crate) fn finish<'a, I: Inputs, F: Files>(
     hdu: Hdu,
     feeder: FeedActor<'a, I>,
-    shards: ArrayVec<Option<ShardActor>, 7>,
+    shards: ArrayVec<Option<ShardActor>, MOST_SHARDS>,
     recorder: Option<RecordActor<'a, F>>,
 ) -> SessionEnd<'a, I, F>
     requires writer { WritesBoth hdu feeder.pass }

@@ -9,6 +9,7 @@ use crate::hand::Hand;
 use crate::record::RecordActor;
 use crate::shard::ShardActor;
 use arrayvec::ArrayVec;
+use search_model::MOST_SHARDS;
 use std::mem;
 
 // Whether the shard of a slot has this number.
@@ -81,7 +82,7 @@ fn take_from<I, F>(hands: &mut [Hand<'_, I, F>], place: usize, number: u32) -> S
 pub(crate) fn gather<I, F>(
     hands: &mut [Hand<'_, I, F>],
     count: usize,
-) -> ArrayVec<Option<ShardActor>, 7>
+) -> ArrayVec<Option<ShardActor>, MOST_SHARDS>
     requires some { 0 < length hands.old }
     requires few { count ≤ 7 }
     requires shards { (s : ℕ) → s < count → HasShard hands.old s }

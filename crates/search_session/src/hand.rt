@@ -12,6 +12,7 @@ use crate::waiting::Watch;
 use arrayvec::ArrayVec;
 use dada_hdu::Hdu;
 use psr_base::{Files, Inputs};
+use search_model::MOST_SHARDS;
 use std::thread::Threads;
 use std::time::{Clock, Duration};
 use std::{mem, thread};
@@ -48,7 +49,7 @@ fn rest<C: Clock>(clock: &C, look: u32) {
 #[derive(Drop)]
 pub struct Hand<'a, I, F> {
     pub feeder: Option<FeedActor<'a, I>>,
-    pub shards: ArrayVec<Option<ShardActor>, 7>,
+    pub shards: ArrayVec<Option<ShardActor>, MOST_SHARDS>,
     pub recorder: Option<RecordActor<'a, F>>,
 }
 

@@ -2,17 +2,18 @@
 ghost use Rattle.std.specs.Prelude.{◌≡◌, ◌+◌, ◌≤◌, false, Some, [], length, take};
 ghost use Rattle.stream_model.specs.Blocks.{is_end};
 ghost use Rattle.search_engine.specs.Engine.{EngineState, most_fed};
-ghost use Rattle.search_session.specs.Lanes.{CanFeedAt, WasFed, WasFedAt};
+ghost use Rattle.search_session.specs.Lanes.{CanFeedAt, WasFed, WasFedAt, engines_of};
 
 use arrayvec::ArrayVec;
 use dada_hdu::{BlockTaker, Mark};
 use search_engine::Engine;
+use search_model::MOST_TRANSFERS;
 
 /// The engines of a shard, one for each transfer in order. Each is `Some`. They lie on the heap: a lane is moved as one
 /// pointer.
 #[derive(Drop)]
 pub struct Lane {
-    pub engines: Box<ArrayVec<Option<Engine>, 8>>,
+    pub engines: Box<ArrayVec<Option<Engine>, MOST_TRANSFERS>>,
 }
 
 // Feeds the engine of a slot, and ends it after the last bytes.
@@ -38,7 +39,12 @@ fn feed_engine(engines: &mut [Option<Engine>], transfer: usize, bytes: &[u8], is
 }
 
 // The same for a list of engines.
-fn feed_in(engines: &mut ArrayVec<Option<Engine>, 8>, transfer: usize, bytes: &[u8], is_last: bool)
+fn feed_in(
+    engines: &mut ArrayVec<Option<Engine>, MOST_TRANSFERS>,
+    transfer: usize,
+    bytes: &[u8],
+    is_last: bool,
+)
     requires { CanFeedAt engines.old.items transfer bytes.now }
     ensures { WasFedAt engines.old.items transfer bytes.now is_last engines.new.items }
 {
@@ -58,9 +64,9 @@ fn ends_transfer(mark: Mark) -> bool
 impl Lane {
     // Feeds the engine of a transfer, and ends it after the last bytes.
     fn feed(&mut self, transfer: usize, bytes: &[u8], is_last: bool)
-        requires { CanFeedAt self.old.engines.value.items transfer bytes.now }
-        ensures { WasFedAt self.old.engines.value.items transfer bytes.now is_last
-            self.new.engines.value.items }
+        requires { CanFeedAt (engines_of self.old) transfer bytes.now }
+        ensures { WasFedAt (engines_of self.old) transfer bytes.now is_last
+            (engines_of self.new) }
     {
         feed_in(&mut self.engines, transfer, bytes, is_last);
     }
@@ -68,16 +74,16 @@ impl Lane {
     /// Feeds the engine of a transfer so many bytes in front of a space. It does not end.
     pub(crate) fn feed_front(&mut self, transfer: usize, space: &[u8], used: usize)
         requires within { used ≤ length space.now }
-        requires ready { CanFeedAt self.old.engines.value.items transfer (take used space.now) }
-        ensures { WasFedAt self.old.engines.value.items transfer (take used space.now) false
-            self.new.engines.value.items }
+        requires ready { CanFeedAt (engines_of self.old) transfer (take used space.now) }
+        ensures { WasFedAt (engines_of self.old) transfer (take used space.now) false
+            (engines_of self.new) }
     {
         self.feed(transfer, &space[..used], false);
     }
 
     /// How many engines there are.
     pub(crate) fn count(&self) -> usize
-        ensures count { result ≡ length self.now.engines.value.items }
+        ensures count { result ≡ length (engines_of self.now) }
         ensures most { result ≤ 8 }
     {
         self.engines.len()
@@ -85,9 +91,9 @@ impl Lane {
 
     /// Ends the engine of a transfer where the block with this mark, which it was fed, is the transfer's last.
     pub(crate) fn end_after(&mut self, transfer: usize, mark: Mark)
-        requires { CanFeedAt self.old.engines.value.items transfer [] }
-        ensures { WasFedAt self.old.engines.value.items transfer [] (is_end mark)
-            self.new.engines.value.items }
+        requires { CanFeedAt (engines_of self.old) transfer [] }
+        ensures { WasFedAt (engines_of self.old) transfer [] (is_end mark)
+            (engines_of self.new) }
     {
         self.feed(transfer, &[], ends_transfer(mark));
     }

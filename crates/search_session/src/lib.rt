@@ -32,7 +32,7 @@ mod staff;
 mod stage;
 mod waiting;
 
-pub use ended::{Ran, SessionEnd};
+pub use ended::SessionEnd;
 pub use feed::FeedActor;
 pub use gate::{Gate, NoGate};
 pub use hand::Hand;

@@ -17,6 +17,7 @@ use ring_ends::Finished;
 use std::sync::Wait;
 // A law: it does nothing when it runs, and the proofs use what it ensures.
 use crate::lone_laws::lone_sessions_end;
+use ring_words::MOST_READERS;
 
 /// A session of one feeder and one shard, without hands: they take turns one after another in the thread that drives
 /// it, so that a block that is sealed is read in the same turn. No turn waits. It holds no inputs: they are lent to it
@@ -49,7 +50,7 @@ fn turn_shard(shard: &mut ShardActor, hdu: &Hdu)
 }
 
 // The readers of rings that have one.
-fn one_reader(reader: HduEnded) -> ArrayVec<Option<HduEnded>, 8>
+fn one_reader(reader: HduEnded) -> ArrayVec<Option<HduEnded>, MOST_READERS>
     ensures { result.items ≡ Some reader ∷ [] }
 {
     let mut readers = ArrayVec::new();

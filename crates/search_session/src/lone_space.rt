@@ -13,7 +13,7 @@ use dada_hdu::{HEADER_SPACE, Hdu, HduReader, HduWriter};
 use dada_header::Header;
 use disk_feeder::FeederSpace;
 use psr_base::Memory;
-use ring_words::RingShape;
+use ring_words::{MOST_READERS, RingShape};
 use std::alloc::Global;
 
 // Opens rings of this shape and seals the first header. No reader has read.
@@ -21,7 +21,7 @@ fn open_rings(
     alloc: Global,
     shape: RingShape,
     header: &Header,
-) -> Result<(Hdu, HduWriter, ArrayVec<Option<HduReader>, 8>), Memory>
+) -> Result<(Hdu, HduWriter, ArrayVec<Option<HduReader>, MOST_READERS>), Memory>
     requires { IsRing shape }
     ensures { IfOk result (λ r. AreLoneRings shape header.now r.0 r.1 r.2.items) }
 {

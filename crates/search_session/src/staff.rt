@@ -17,6 +17,8 @@ use arrayvec::ArrayVec;
 use dada_hdu::{Hdu, HduEnded, HduReader};
 use dada_recorder::Recorder;
 use psr_base::{Files, Inputs};
+use ring_words::MOST_READERS;
+use search_model::MOST_SHARDS;
 use std::mem;
 
 // The shard of a lane before its first turn.
@@ -96,7 +98,7 @@ fn place_any_recorder<'a, I, F: Files>(
     hdu: &Hdu,
     hands: &mut [Hand<'a, I, F>],
     recorder: Option<Recorder<'a, F>>,
-    mut readers: ArrayVec<Option<HduReader>, 8>,
+    mut readers: ArrayVec<Option<HduReader>, MOST_READERS>,
     number: u32,
 )
     requires recorder { IfSome recorder (IsFreshRecorder F.is_open hdu.now) }
@@ -115,9 +117,9 @@ fn place_any_recorder<'a, I, F: Files>(
 fn place_shards<I: Inputs, F: Files>(
     hdu: &Hdu,
     hands: &mut [Hand<'_, I, F>],
-    mut lanes: ArrayVec<Option<Lane>, 7>,
-    readers: &mut ArrayVec<Option<HduReader>, 8>,
-    mut spaces: ArrayVec<Option<Vec<u8>>, 7>,
+    mut lanes: ArrayVec<Option<Lane>, MOST_SHARDS>,
+    readers: &mut ArrayVec<Option<HduReader>, MOST_READERS>,
+    mut spaces: ArrayVec<Option<Vec<u8>>, MOST_SHARDS>,
 )
     requires few { (data_shape hdu.now).max_blocks * (data_shape hdu.now).size ≤ most_fed }
     requires parts { (transfers : _) × PartsOn hdu.now transfers lanes.items readers.old.items }

@@ -5,6 +5,8 @@ use arrayvec::ArrayVec;
 use dada_hdu::{Hdu, HduReader, HduWriter};
 use dada_recorder::Recorder;
 use disk_feeder::Feeder;
+use ring_words::MOST_READERS;
+use search_model::MOST_SHARDS;
 
 /// The parts of a session before its first turn. Lane s has the engines of shard s, and reader s reads for it, to space
 /// s; a space has room for 65537 bytes at least. Where it has room for a block, each is copied there before it is
@@ -13,11 +15,11 @@ use disk_feeder::Feeder;
 #[derive(Drop)]
 pub struct Stage<'a, I, F> {
     pub feeder: Feeder<'a, I>,
-    pub lanes: ArrayVec<Option<Lane>, 7>,
+    pub lanes: ArrayVec<Option<Lane>, MOST_SHARDS>,
     pub recorder: Option<Recorder<'a, F>>,
     pub hdu: Hdu,
     pub writer: HduWriter,
-    pub readers: ArrayVec<Option<HduReader>, 8>,
-    pub spaces: ArrayVec<Option<Vec<u8>>, 7>,
+    pub readers: ArrayVec<Option<HduReader>, MOST_READERS>,
+    pub spaces: ArrayVec<Option<Vec<u8>>, MOST_SHARDS>,
     pub hands: Vec<Hand<'a, I, F>>,
 }

@@ -2,13 +2,13 @@ use Rattle.std.proofs.Common.{◌≡◌, ◌≢◌, ◌<◌, inl, inr, Some, Non
 use Rattle.std.proofs.lemmas.Bool.{cases_lt}
 use Rattle.std.proofs.lemmas.List.{get_or_read}
 use Rattle.std.proofs.lemmas.Option.{slice_get_within}
-use Rattle.disk_feeder.specs.Feeder.{IsAcceptedAt, header_at}
+use Rattle.disk_feeder.specs.Feeder.{IsAcceptedAt, headers_of}
 use Rattle.search_opening.proofs.Observed.{as_many, some_at, accepted_at}
 use Rattle.search_opening.proofs.accept.accept_all.Goals as goal
 
 pub unreachable-requires : goal.unreachable-requires
 unreachable-requires g c =
-    let headers = header_at c.args.feeder.now in
+    let headers = headers_of c.args.feeder.now in
     let observations = c.args.observations.now in
     let o = some_at headers observations c.requires.observed c.loop-k.k c.loop-k-test.true in
     let read = get_or_read observations c.loop-k.k c.index-observations-k.result c.loop-k-test.true
@@ -20,7 +20,7 @@ accept-requires-clause-accepted g c = λ header there.
     let observations = c.args.observations.now in
     let read = get_or_read observations c.loop-k.k c.index-observations-k.result c.loop-k-test.true
     c.index-observations-k.is None in
-    accepted_at (header_at c.args.feeder.now) observations c.requires.observed c.loop-k.k c.in-Some.observation header
+    accepted_at (headers_of c.args.feeder.now) observations c.requires.observed c.loop-k.k c.in-Some.observation header
     (sym read ∙ c.in-Some.is)
     (subst (λ hs. slice_get hs c.loop-k.k ≡ Some header) c.loop-k.invariant.headers there)
 
@@ -49,7 +49,7 @@ loop-k-preserved g c =
         | inr above ↦
             let same : j ≡ c.loop-k.k = omega (arith, within, above) in
             subst (λ i. IsAcceptedAt c.accept.new.self i header) (sym same)
-            (now.accepts.first header (subst (λ i. slice_get (header_at c.accept.new.self) i ≡ Some header) same there))
+            (now.accepts.first header (subst (λ i. slice_get (headers_of c.accept.new.self) i ≡ Some header) same there))
       ];
       reads_on = λ outset told was. kept.reads_on outset told (before.reads_on outset told was);
       reading = λ open_now. before.reading (kept.reading open_now);
@@ -60,7 +60,7 @@ loop-k-preserved g c =
 
 pub returns-clause-accepted : goal.returns-clause-accepted
 returns-clause-accepted g c =
-    let headers = header_at c.args.feeder.now in
+    let headers = headers_of c.args.feeder.now in
     let were = c.loop-k.invariant in
     let many = as_many headers c.args.observations.now c.requires.observed in
     let same = ap length were.headers in
@@ -76,6 +76,6 @@ returns-clause-accepted g c =
       };
       inputs = were.inputs;
       feeds = were.feeds some (λ j header there.
-          let within = slice_get_within (header_at c.loop-k.feeder) j header there in
+          let within = slice_get_within (headers_of c.loop-k.feeder) j header there in
           were.accepted j header (omega (arith, within, same, many, c.loop-k-test.false)) there);
     }

@@ -1,5 +1,5 @@
 use Rattle.std.proofs.Common.{◌≡◌, length, take}
-use Rattle.disk_feeder.specs.Feeder.{header_at}
+use Rattle.disk_feeder.specs.Feeder.{headers_of}
 use Rattle.search_opening.specs.First.{AreObserved}
 use Rattle.search_opening.proofs.first.observe_all.Given as goal
 
@@ -7,5 +7,5 @@ use Rattle.search_opening.proofs.first.observe_all.Given as goal
 abbrev pub invariant-loop-transfer : goal.invariant-loop-transfer
 invariant-loop-transfer g l = record {
   count : length l.observations.items ≡ l.transfer;
-  observed : AreObserved (take l.transfer (header_at l.feeder)) l.observations.items;
+  observed : AreObserved (take l.transfer (headers_of l.feeder)) l.observations.items;
 }

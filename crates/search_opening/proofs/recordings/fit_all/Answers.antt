@@ -1,5 +1,5 @@
 use Rattle.std.proofs.Common.{length, sym, subst, arith}
-use Rattle.disk_feeder.specs.Feeder.{header_at}
+use Rattle.disk_feeder.specs.Feeder.{headers_of}
 use Rattle.search_opening.specs.Recordings.{RecordingsFit, RefusesTransfer}
 use Rattle.search_opening.proofs.Observed.{as_many}
 use Rattle.search_opening.proofs.Stopping.{can_record, stops_recording}
@@ -7,7 +7,7 @@ use Rattle.search_opening.proofs.recordings.fit_all.Goals as goal
 
 pub returns-in-Ok-clause-recorded : goal.returns-in-Ok-clause-recorded
 returns-in-Ok-clause-recorded g c = λ w firsts are most.
-    let headers = header_at c.args.feeder.now in
+    let headers = headers_of c.args.feeder.now in
     let observations = c.args.observations.now in
     can_record w observations headers firsts are (as_many headers observations c.requires.observed) c.args.file_size
     (length w.starts) (omega arith)
@@ -16,7 +16,7 @@ returns-in-Ok-clause-recorded g c = λ w firsts are most.
 
 pub returns-in-Err-clause-refused : goal.returns-in-Err-clause-refused
 returns-in-Err-clause-refused g c = λ w firsts are most.
-    let headers = header_at c.args.feeder.now in
+    let headers = headers_of c.args.feeder.now in
     let observations = c.args.observations.now in
     stops_recording w observations headers firsts are (as_many headers observations c.requires.observed)
     c.args.file_size c.in-Err.fault c.of_recording.result c.of_recording.ensures

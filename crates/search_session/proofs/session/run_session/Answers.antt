@@ -1,15 +1,21 @@
 use Rattle.std.proofs.Common.{◌≡◌, ℕ, ◌<◌, length, refl, sym, ap, ◌∙◌, subst, arith}
-use Rattle.std.specs.Prelude.{IfSome}
+use Rattle.std.specs.Prelude.{All, IfSome}
 use Rattle.dada_hdu.specs.declared.hdu.Hdu.{Hdu}
 use Rattle.dada_hdu.specs.Passes.{data_shape}
 use Rattle.disk_feeder.specs.Turns.{sealed_headers}
 use Rattle.search_session.specs.Stages.{IsFreshRecorder, RecorderWorks, feeder_of, transfers_of}
 use Rattle.search_session.specs.Books.{AreCounted}
+use Rattle.search_session.specs.Hands.{HandOn}
 use Rattle.search_session.specs.Ends.{HaveEnginesIn}
 use Rattle.search_session.specs.Sessions.{IsEndOfRecorder}
 use Rattle.search_session.proofs.FeedEnds.{SessionLaws}
-use Rattle.search_session.proofs.Closing.{AllEnded, hands_ended, engines_of, works_count, works_last, feed_is, shards_are, recorded_are}
+use Rattle.search_session.proofs.Closing.{AllEnded, hands_ended, have_engines, works_count, works_last, feed_is, shards_are, recorded_are}
 use Rattle.search_session.proofs.session.run_session.Goals as goal
+
+pub run_rounds-requires-after_bounds : goal.run_rounds-requires-after_bounds
+run_rounds-requires-after_bounds g c κs within =
+    subst (λ hands. All (HandOn g.I.Inputs.told g.I.Inputs.is_open g.F.Files.is_open c.staff-hdu.result.0) hands)
+    (sym c.as_mut_slice.ensures.value) c.staff-hdu.ensures.on
 
 pub end_session-requires : goal.end_session-requires
 end_session-requires g c =
@@ -53,7 +59,7 @@ end_session-requires g c =
         engines = (
           transfers_of stage,
           subst (λ (k : ℕ). HaveEnginesIn now k (transfers_of stage)) (sym value)
-              (engines_of told is_open is_calm faults files_open seen hdu start lanes recorder now (transfers_of stage)
+              (have_engines told is_open is_calm faults files_open seen hdu start lanes recorder now (transfers_of stage)
               c.requires.stage.lanes all),
         );
       };
@@ -103,7 +109,7 @@ returns g c =
           c.requires.stage.lanes all laws end f.feed f.inputs f.sealed refl
           (subst (λ (k : ℕ). AreCounted k (transfers_of stage) end.books.items end.spectra.items) value
           (e.counted (transfers_of stage) (subst (λ (k : ℕ). HaveEnginesIn now k (transfers_of stage)) (sym value)
-          (engines_of told is_open is_calm faults files_open seen hdu start lanes recorder now (transfers_of stage)
+          (have_engines told is_open is_calm faults files_open seen hdu start lanes recorder now (transfers_of stage)
           c.requires.stage.lanes all))))
           (λ s near. e.shards s (subst (λ (k : ℕ). s < k) (sym value) near));
       recorded = recorded_are told is_open is_calm faults files_open seen hdu start lanes recorder now

@@ -2,7 +2,7 @@ use Rattle.std.proofs.Common.{◌≡◌, ℕ, ◌+◌, ◌*◌, ◌/◌, ◌<◌
 use Rattle.ring_words.specs.declared.shape.RingShape.{RingShape}
 use Rattle.dada_hdu.specs.Passes.{data_shape}
 use Rattle.search_engine.specs.Engine.{most_fed}
-use Rattle.disk_feeder.specs.Feeder.{header_at, plan_at, block_size, FeederFeeds}
+use Rattle.disk_feeder.specs.Feeder.{headers_of, plan_at, block_size, FeederFeeds}
 use Rattle.disk_feeder.specs.Turns.{sealed_blocks}
 use Rattle.disk_feeder.specs.Feeding.{header_entries}
 use Rattle.search_session.specs.declared.lane.Lane.{Lane}
@@ -19,7 +19,7 @@ returns-clause-on g c =
     let is = c.requires.space_is in
     let feeds = c.requires.feeds in
     let shape : data_shape c.args.self.hdu ≡ c.requires.shape = is.rings.shape_is in
-    let headers = is.rings.sealed ∙ sym (first_entry (header_at feeder) c.requires.header feeds.first) in
+    let headers = is.rings.sealed ∙ sym (first_entry (headers_of feeder) c.requires.header feeds.first) in
     record {
       writes = is.rings.writes;
       fits = record {
@@ -30,7 +30,7 @@ returns-clause-on g c =
       file = feeds.file;
       running = feeds.running;
       feeding = subst (λ hs. FeederFeeds told feeder hs (sealed_blocks writer)) (sym headers)
-          (subst (λ bs. FeederFeeds told feeder (header_entries (take 1 (header_at feeder))) bs)
+          (subst (λ bs. FeederFeeds told feeder (header_entries (take 1 (headers_of feeder))) bs)
           (sym is.rings.no_data) feeds.feeds);
       transfers = c.requires.transfers;
       all_readers = is.rings.count ∙ ap (λ (s : RingShape). s.readers) (sym shape);

@@ -6,6 +6,7 @@ use Rattle.dada_hdu.specs.Ended.{AllReadersOfBoth, RingFinished}
 use Rattle.search_session.proofs.Finishing.{passes_in_order, cleared_is, cleared_begins}
 use Rattle.search_session.proofs.LoneEnds.{one_done}
 use Rattle.search_session.proofs.lone.LoneSession.close.Goals as goal
+use Rattle.search_session.specs.Lanes.{engines_of}
 
 pub finish-blocks-requires-clause-readers : goal.finish-blocks-requires-clause-readers
 finish-blocks-requires-clause-readers c =
@@ -14,7 +15,7 @@ finish-blocks-requires-clause-readers c =
     let on = c.requires.on.1 in
     subst (λ (l : List (Option HduEnded)). AllReadersOfBoth s.hdu l) (sym c.one_reader.ensures)
     (c.order_is_enough.ensures s.hdu (Some x.pass ∷ [])
-    (passes_in_order {F = ⊤} s.hdu (length x.part.engines.value.items) (Some x ∷ []) None
+    (passes_in_order {F = ⊤} s.hdu (length (engines_of x.part)) (Some x ∷ []) None
     (one_done s.hdu x on.alone on.number on.shard c.requires.ended.shard)))
 
 pub returns : goal.returns
@@ -22,7 +23,7 @@ returns c =
     let s = c.args.self in
     let x = s.shard in
     let on = c.requires.on.1 in
-    let transfers = length x.part.engines.value.items in
+    let transfers = length (engines_of x.part) in
     let done = one_done s.hdu x on.alone on.number on.shard c.requires.ended.shard in
     let blocks = c.finish-blocks.result.blocks in
     let writer = s.feed.pass.blocks in

@@ -7,6 +7,7 @@ use Rattle.stream_model.specs.Blocks.{is_end}
 use Rattle.search_session.proofs.Engines.{can_end, fed_then_ended, ended_at}
 use Rattle.search_session.proofs.Turning.{on_still, stepped_still, within_was, done_below, one_most, takes_block, ended_as, on_fed, stepped_fed}
 use Rattle.search_session.proofs.shard.ShardActor.take_block.Goals as goal
+use Rattle.search_session.specs.Lanes.{engines_of}
 
 pub pass_block-requires-clause-ready : goal.pass_block-requires-clause-ready
 pass_block-requires-clause-ready c = λ block within fits.
@@ -31,7 +32,7 @@ end_after-requires c =
     let hdu = c.args.hdu.now in
     let x = c.args.self.now in
     let p = c.in-Some.ensures.passed in
-    can_end x.part.engines.value.items c.pass_block.new.lane.engines.value.items x.done p.block.bytes
+    can_end (engines_of x.part) (engines_of c.pass_block.new.lane) x.done p.block.bytes
     (takes_block hdu x (length p.block.bytes) c.requires.on c.requires.running p.fits
     (within_was x c.in-Here.reader (data_shape hdu).max_blocks c.in-Here.is p.within)) p.fed
 
@@ -47,9 +48,9 @@ returns c =
     let x = c.args.self.now in
     let p = c.in-Some.ensures.passed in
     let block : Entry = p.block in
-    let lanes = c.end_after.new.self.engines.value.items in
-    let fed = ended_at x.part.engines.value.items lanes x.done block.bytes c.in-Some.taken.mark block.mark p.mark
-    (fed_then_ended x.part.engines.value.items c.pass_block.new.lane.engines.value.items lanes x.done block.bytes
+    let lanes = (engines_of c.end_after.new.self) in
+    let fed = ended_at (engines_of x.part) lanes x.done block.bytes c.in-Some.taken.mark block.mark p.mark
+    (fed_then_ended (engines_of x.part) (engines_of c.pass_block.new.lane) lanes x.done block.bytes
     (is_end c.in-Some.taken.mark) p.fed c.end_after.ensures) in
     let done : x.done + c.ended_with.result ≡ x.done + (if is_end block.mark then 1 else 0) =
     ap (λ (n : ℕ). x.done + n) (c.ended_with.ensures ∙ ap (λ (m : Mark). if is_end m then 1 else 0) p.mark) in
