@@ -1,5 +1,5 @@
 -- How a program that searches alone ends: what any run comes to, over inputs whose calm may be another.
-use Rattle.std.proofs.Common.{◌≡◌, ◌≢◌, ◌⊎◌, ℕ, zero, suc, ◌<◌, List, [], ◌∷◌, refl, ap, sym, subst, inl, inr, Some, None, Contains, lit<, arith}
+use Rattle.std.proofs.Common.{◌≡◌, ◌≢◌, ◌⊎◌, ℕ, zero, suc, ◌<◌, List, [], ◌∷◌, length, refl, ap, sym, subst, inl, inr, Some, None, Contains, lit<, arith}
 use Rattle.std.specs.Prelude.{Option}
 use Rattle.std.proofs.lemmas.List.Elements.{Contains-append_left}
 use Rattle.psr_base.specs.Told.{InputsSeen}
@@ -20,11 +20,12 @@ use Rattle.run_stop.specs.declared.stop.Stop.TheVariants.{Words, Value, Header, 
 use Rattle.run_stop.specs.Texts.{status_of}
 use Rattle.run_stop.specs.Conversions.{stop_of_words, stop_of_feed}
 use Rattle.run_stop.specs.Lone.{LoneSearch, SayAlone, ExplainsAlone}
-use Rattle.run_stop.specs.Runs.{Alone, ForFiles, CanBegin, stream_for}
+use Rattle.run_stop.specs.Runs.{Alone, ForFiles, PassesTo, CanBegin, stream_for}
 use Rattle.run_stop.specs.Outcomes.{JudgesWords, ReadsInputs, StopsAtFiles, SealsStream, AllCleared}
 use Rattle.run_stop.specs.Ends.{CountsFaults, StopsBefore, IsRecorded, RunsThrough, WordsSayOnce, EndAtWords, EndBeforeSession, EndAtStop, EndAfterWhole}
 use Rattle.lone_run.specs.Outcomes.{SealsAlone, RunsAlone, EndsAlone}
 use Rattle.lone_run.specs.EndLaws.{AloneAtWords, AloneBeforeSession, AloneAtOwnStop, AloneAtFeedStop, AloneAfterWhole, GoesThrough}
+use Rattle.lone_run.proofs.Told.{where_needed}
 
 one_list : (a b : Finished) → Some a ≡ Some b → a ≡ b
 one_list a b e = cc
@@ -83,6 +84,17 @@ with_ring own n other (suc (suc (suc (suc (suc (suc zero))))), below, is) = (6, 
 with_ring own n other (suc (suc (suc (suc (suc (suc (suc zero)))))), below, is) = absurd (other (sym is))
 with_ring own n other (suc (suc (suc (suc (suc (suc (suc (suc k))))))), below, is) = absurd (omega (arith, below))
 
+-- the statuses of a run of which the feeder was stopped, of which 0 is none
+abbrev feed_statuses : List ℕ
+feed_statuses = 3 ∷ 6 ∷ 7 ∷ 8 ∷ []
+
+not_stopped : Contains feed_statuses 0 → ⊥
+not_stopped (zero, below, is) = omega (arith, is)
+not_stopped (suc zero, below, is) = omega (arith, is)
+not_stopped (suc (suc zero), below, is) = omega (arith, is)
+not_stopped (suc (suc (suc zero)), below, is) = omega (arith, is)
+not_stopped (suc (suc (suc (suc k))), below, is) = omega (arith, below)
+
 module _ (own : ℕ) (lone : LoneSearch) (words : List (List ℕ)) (inputs : InputsSeen) where
   -- ---- what the status says
 
@@ -128,6 +140,8 @@ module _ (own : ℕ) (lone : LoneSearch) (words : List (List ℕ)) (inputs : Inp
   none_sealed n known = record {
     none = λ e. known;
     some = λ some. absurd cc;
+    begun = λ some. absurd cc;
+    passed = λ some. absurd cc;
     sealed = λ b e. absurd cc;
     broken = λ b e. absurd cc;
     cleared = λ b e. absurd cc;
@@ -136,11 +150,16 @@ module _ (own : ℕ) (lone : LoneSearch) (words : List (List ℕ)) (inputs : Inp
   none_of : (n : ℕ) → SealsStream (Alone lone) words inputs.told None n → SealsAlone own lone words inputs.told None n
   none_of n seals = none_sealed n (Contains-append_left (2 ∷ 3 ∷ 4 ∷ 5 ∷ 6 ∷ []) (own ∷ []) n (seals.none refl))
 
+  -- where none of its files stops the walk, unless the feeder was stopped
   ring_of : (b : Finished) (n : ℕ) → n ≢ 11 → AllCleared b 0 1 →
+      (¬ Contains feed_statuses n → (s : SettingsSeen) → SayAlone lone words s →
+      PassesTo (length s.names) (Alone lone) words inputs.told) →
       SealsStream (Alone lone) words inputs.told (Some b) n → SealsAlone own lone words inputs.told (Some b) n
-  ring_of b n other cleared seals = record {
+  ring_of b n other cleared passed seals = record {
     none = λ e. absurd cc;
     some = λ some. with_ring own n other (seals.some some);
+    begun = seals.begun;
+    passed = λ some. passed;
     sealed = seals.sealed;
     broken = seals.broken;
     cleared = λ c e. subst (λ x. AllCleared x 0 1) (one_list b c e) cleared;
@@ -189,7 +208,7 @@ module _ (own : ℕ) (lone : LoneSearch) (words : List (List ℕ)) (inputs : Inp
             (λ e. omega (arith, e));
         sealed = none_sealed 6 (4, lit< tt, refl);
       };
-      said = (tt, λ t files says' are. tt);
+      said = (tt, tt);
     }
 
     -- or anything else
@@ -283,23 +302,27 @@ module _ (own : ℕ) (lone : LoneSearch) (words : List (List ℕ)) (inputs : Inp
         sealed = record {
           none = λ e. absurd cc;
           some = λ some. (2, lit< tt, refl);
+          begun = λ some. through.fed.begun;
+          passed = λ some not. absurd (not (1, lit< tt, refl));
           sealed = λ b e other. absurd (other refl);
           broken = λ b e six t files said are.
               subst (λ (x : Finished). CanBegin (Alone lone) t (stream_for t files)
-              × IsBroken (stream_for t files) t.size (sealed_at_end x)) (one_list blocks b e)
-              (through.fed.begun t files said are, through.fed.walked t files said are);
+              × IsBroken (stream_for t files) t.size (sealed_at_end x)) (one_list blocks b e) (
+                through.fed.begun.1 t files said (where_needed _ inputs.told t.names files are),
+                through.fed.walked t files said (where_needed _ inputs.told t.names files are),
+              );
           cleared = λ b e. subst (λ x. AllCleared x 0 1) (one_list blocks b e) through.cleared;
         };
       };
-      said = (tt, λ t files said are. tt);
+      said = (tt, tt);
     }
 
     module _ (calm : Type 0) where
       -- the feeder was stopped at another stop
       other_stop : EndAtStop calm → (end : FeedEnd) (stop : Stop) → end ≢ feed.ReadFault → status_of stop ≢ 6 →
-          GoesThrough lone words s inputs is_calm blocks end → stop_of_feed end ≡ Some stop →
-          EndsAlone own lone words inputs is_calm (Some blocks) stop
-      other_stop law end stop no_fault other through is =
+          Contains feed_statuses (status_of stop) → GoesThrough lone words s inputs is_calm blocks end →
+          stop_of_feed end ≡ Some stop → EndsAlone own lone words inputs is_calm (Some blocks) stop
+      other_stop law end stop no_fault other stopped through is =
           let e = law (Alone lone) words s inputs blocks end None no_files no_files stop
           (through_of calm end no_fault through) is in
           let most = e.most in
@@ -312,7 +335,7 @@ module _ (own : ℕ) (lone : LoneSearch) (words : List (List ℕ)) (inputs : Inp
               read = still_read is_calm (through.read.quiet no_fault) (status_of stop) other;
               stopped = e.run.ends.stopped;
               sealed = ring_of blocks (status_of stop) (λ f. omega (arith, f, most)) through.cleared
-                  e.run.ends.sealed;
+                  (λ not. absurd (not stopped)) e.run.ends.sealed;
             };
             said = e.said;
           }
@@ -326,13 +349,16 @@ module _ (own : ℕ) (lone : LoneSearch) (words : List (List ℕ)) (inputs : Inp
           (at_fault through)
       at_feed_stop law (feed.BadHeader file cause) stop through is =
           let three : 3 ≡ status_of stop = ap status_of (one_stop (Header file cause) stop is) in
-          other_stop law (feed.BadHeader file cause) stop (λ f. absurd cc) (λ e. omega (arith, three, e)) through is
+          other_stop law (feed.BadHeader file cause) stop (λ f. absurd cc) (λ e. omega (arith, three, e))
+          (0, lit< tt, three) through is
       at_feed_stop law (feed.Gap file expected found) stop through is =
           let seven : 7 ≡ status_of stop = ap status_of (one_stop (Gap file expected found) stop is) in
-          other_stop law (feed.Gap file expected found) stop (λ f. absurd cc) (λ e. omega (arith, seven, e)) through is
+          other_stop law (feed.Gap file expected found) stop (λ f. absurd cc) (λ e. omega (arith, seven, e))
+          (2, lit< tt, seven) through is
       at_feed_stop law (feed.TooLong limit) stop through is =
           let eight : 8 ≡ status_of stop = ap status_of (one_stop (TooLong limit) stop is) in
-          other_stop law (feed.TooLong limit) stop (λ f. absurd cc) (λ e. omega (arith, eight, e)) through is
+          other_stop law (feed.TooLong limit) stop (λ f. absurd cc) (λ e. omega (arith, eight, e))
+          (3, lit< tt, eight) through is
 
       -- all data were sealed
       at_late : EndAfterWhole calm → (end : FeedEnd) (n : ℕ) → GoesThrough lone words s inputs is_calm blocks end →
@@ -351,7 +377,8 @@ module _ (own : ℕ) (lone : LoneSearch) (words : List (List ℕ)) (inputs : Inp
               judged = e.0.judged;
               read = still_read is_calm (through.read.quiet no_fault) n six;
               stopped = e.0.ends.stopped;
-              sealed = ring_of blocks n last through.cleared e.0.ends.sealed;
+              sealed = ring_of blocks n last through.cleared (λ not. e.0.ends.sealed.passed refl known)
+                  e.0.ends.sealed;
             },
             e.1,
           )
@@ -368,6 +395,8 @@ module _ (own : ℕ) (lone : LoneSearch) (words : List (List ℕ)) (inputs : Inp
         sealed = record {
           none = λ e. absurd cc;
           some = λ some. (7, lit< tt, refl);
+          begun = at.sealed.begun;
+          passed = λ some not. at.sealed.passed some not_stopped;
           sealed = λ b e other. at.sealed.sealed b e (λ f. omega (arith, f));
           broken = λ b e six. absurd (omega (arith, six, far));
           cleared = at.sealed.cleared;
@@ -386,7 +415,8 @@ module _ (own : ℕ) (lone : LoneSearch) (words : List (List ℕ)) (inputs : Inp
       after_whole law end n far through whole (suc (suc zero), below, is) =
           at_late law end n through whole (λ e. omega (arith, e, is)) (λ e. omega (arith, e, is)) (2, lit< tt, is)
       after_whole law end n far through whole (suc (suc (suc zero)), below, is) =
-          let at = at_late law end 0 through whole (λ e. omega (arith, e)) (λ e. omega (arith, e)) (0, lit< tt, refl) in (
+          let at =
+          at_late law end 0 through whole (λ e. omega (arith, e)) (λ e. omega (arith, e)) (0, lit< tt, refl) in (
             subst (λ m. RunsAlone own lone words inputs is_calm (Some blocks) m) is
                 (own_of end far through whole at.0),
             at.1,

@@ -13,18 +13,20 @@ use Rattle.stream_model.specs.Walk.{FileStream, transfer_data}
 use Rattle.search_engine.specs.Scope.{Scope}
 use Rattle.search_engine.specs.Engine.{EngineState, HasFoundIn, scope_of}
 use Rattle.disk_feeder.specs.declared.answers.FeedEnd.{FeedEnd}
-use Rattle.disk_feeder.specs.declared.answers.FeedEnd.TheVariants.{Whole}
+use Rattle.disk_feeder.specs.declared.answers.FeedEnd.TheVariants.{Whole, ReadFault}
 use Rattle.disk_feeder.specs.declared.feeder.Feeder.{Feeder}
 use Rattle.disk_feeder.specs.declared.feeder.FeederSpace.{FeederSpace}
+use Rattle.disk_feeder.specs.declared.place.Place.{Place}
 use Rattle.disk_feeder.specs.declared.stream.Stream.{Stream}
 use Rattle.disk_feeder.specs.Feeder.{stream_at, names_at, plan_at, block_size}
-use Rattle.disk_feeder.specs.Feeding.{EndIs, IsEnded, SealedAs, BreaksReading}
-use Rattle.disk_feeder.specs.Plan.{Plan, stream_of}
+use Rattle.disk_feeder.specs.Feeding.{EndIs, IsEnded, SealedAs, StopsWalkAt}
+use Rattle.disk_feeder.specs.Plan.{Plan, IsAmong}
+use Rattle.disk_feeder.specs.Reading.{judged_at}
 use Rattle.disk_feeder.specs.Resting.{stream_in, feeder_over}
 use Rattle.search_session.specs.declared.lane.Lane.{Lane}
 use Rattle.search_session.specs.declared.lone_space.LoneSpace.{LoneSpace}
 use Rattle.search_session.specs.declared.lone.LoneEnd.{LoneEnd}
-use Rattle.search_session.specs.Lanes.{HasEngine}
+use Rattle.search_session.specs.Lanes.{HasEngine, engines_of}
 use Rattle.search_session.specs.Stages.{IsUnfed}
 use Rattle.search_session.specs.Sessions.{FeedAnswers}
 use Rattle.search_session.specs.Lone.{IsLoneSpace, IsLoneReady, lane_in}
@@ -32,12 +34,13 @@ use Rattle.search_session.specs.LoneEnds.{LaneAnswers, session_end}
 use Rattle.search_opening.specs.First.{AreFirsts}
 use Rattle.run_stop.specs.Outcomes.{AllCleared}
 use Rattle.run_stop.specs.Runs.{first_observation, stream_for}
-use Rattle.whole_run.specs.Wholes.{OfRun}
+use Rattle.whole_run.specs.Ends.{FaultLeaves}
+use Rattle.whole_run.specs.Wholes.{OfRunTo}
 use Rattle.lone_run.specs.declared.found.LoneFound.{LoneFound}
 use Rattle.lone_run.specs.Scopes.{IsLaneOf}
 use Rattle.lone_run.specs.Openings.{IsOpenedAlone, shape_for}
-use Rattle.lone_run.specs.Found.{FaultLeaves, GoesAlone}
-use Rattle.lone_run.proofs.Told.{of_plan, still_told}
+use Rattle.lone_run.specs.Found.{GoesAlone}
+use Rattle.lone_run.proofs.Told.{Every, where_all, all_told, of_plan, passes_plan}
 
 -- ---- a feeder that is taken apart
 
@@ -71,6 +74,7 @@ rested told is_open s f o scope space opened = record {
   lane_is = opened.lane_is;
   space_is = opened.space_is;
   total = opened.total;
+  texts = opened.texts;
   firsts = opened.firsts;
   fits = opened.fits;
 }
@@ -97,8 +101,8 @@ is_unfed s o scope lane n one is = record {
   each = λ k below.
       let first : k ≡ 0 = omega (arith, below, one) in (
         is.engine,
-        subst (λ j. HasEngine lane.engines.value.items j is.engine) (sym first)
-            (has_engine is.engine lane.engines.value.items is.alone),
+        subst (λ j. HasEngine (engines_of lane) j is.engine) (sym first)
+            (has_engine is.engine (engines_of lane) is.alone),
         is.opened.nothing_fed,
         is.opened.running,
       );
@@ -141,18 +145,18 @@ lone_ready told is_open s lent feeder o scope space opened =
 pub lane_engine : {I : Type 0} (told : I → Told) (is_open : I → Type 0) (s : SettingsSeen) (lent : I)
     (feeder : FeederSpace) (o : Observation) (scope : Scope) (space : LoneSpace) (start : Lane) (end : LoneEnd) →
     IsOpenedAlone told is_open s (feeder_over lent feeder) o scope space → start ≡ lane_in space →
-    LaneAnswers start end → (f : EngineState) × HasEngine end.lane.engines.value.items 0 f
+    LaneAnswers start end → (f : EngineState) × HasEngine (engines_of end.lane) 0 f
 lane_engine told is_open s lent feeder o scope space start end opened same answers =
     let is = opened.lane_is in
-    let engines = ap (λ (l : Lane). l.engines.value.items) (same ∙ opened.space_is.lane_is) ∙ is.alone in
-    let f = answers.engines.each 0 is.engine (has_engine is.engine start.engines.value.items engines) in
+    let engines = ap (λ (l : Lane). engines_of l) (same ∙ opened.space_is.lane_is) ∙ is.alone in
+    let f = answers.engines.each 0 is.engine (has_engine is.engine (engines_of start) engines) in
     (f.0, f.1)
 
 -- the data that an end tells of
-few_bytes : (plan : Plan) (told : Told) (size : ℕ) (headers blocks : List Entry) (end : FeedEnd) (bytes limit : ℕ) →
-    IsEnded plan told size headers blocks end → end ≡ Whole bytes → plan.max_bytes ≡ limit → limit ≤ 2 ^ 48 →
-    bytes ≤ 2 ^ 48
-few_bytes plan told size headers blocks end bytes limit is whole same most =
+few_bytes : (plan : Plan) (told : Told) (at : Place) (size : ℕ) (headers blocks : List Entry) (end : FeedEnd)
+    (bytes limit : ℕ) → IsEnded plan told at size headers blocks end → end ≡ Whole bytes → plan.max_bytes ≡ limit →
+    limit ≤ 2 ^ 48 → bytes ≤ 2 ^ 48
+few_bytes plan told at size headers blocks end bytes limit is whole same most =
     let By : FeedEnd → Type 0 = λ e. SealedAs plan size is.before is.current headers blocks e in
     let sealed = subst By whole is.sealed in
     let few = is.few in
@@ -180,71 +184,85 @@ pub goes_alone : {I : Type 0} (told : I → Told) (is_open is_calm : I → Type 
     IsOpenedAlone told is_open s (feeder_over lent feeder) o scope space → start ≡ lane_in space →
     FeedAnswers told is_calm faults (feeder_over lent feeder) (session_end after end) → LaneAnswers start end →
     found.feed ≡ end.feed → found.observation ≡ o → found.blocks ≡ end.blocks →
-    ((e : EngineState) → HasEngine end.lane.engines.value.items 0 e → found.engine ≡ e) →
+    ((e : EngineState) → HasEngine (engines_of end.lane) 0 e → found.engine ≡ e) →
     GoesAlone s (told lent) o scope found
 goes_alone told is_open is_calm faults s lent after feeder o scope space start end found opened same fed lane feed
     observed blocks engine =
     let f = feeder_over lent feeder in
     let plan = opened.feeder.plan in
     let is = opened.lane_is in
-    let engines = ap (λ (l : Lane). l.engines.value.items) (same ∙ opened.space_is.lane_is) ∙ is.alone in
+    let engines = ap (λ (l : Lane). engines_of l) (same ∙ opened.space_is.lane_is) ∙ is.alone in
     let sealed = sealed_at_end end.blocks in
     let transfers : length (plan_at f).starts ≡ 1 = ap length plan.transfers ∙ opened.one.transfer in
-    let End : ℕ → Type 0 = λ size. OfRun (told lent) s (λ w. EndIs w size sealed end.feed) in
+    let at = fed.place in
+    let judged = judged_at end.feed at in
+    let End : ℕ → Type 0 = λ size. OfRunTo judged (told lent) s (λ w. EndIs w size sealed end.feed) in
+    let Through : List ℕ → FileStream → Type 0 = λ bytes w. bytes ≡ transfer_data w 0 in
     let Blocks : _ → Type 0 = λ b. AllCleared b 0 1 in
     record {
-      begun = λ lone files are.
-          let firsts = opened.firsts files are in
-          record {
-            accepted = firsts.walked;
-            searched = λ task. opened.fits (stream_for s files) firsts;
-            recorded = λ on. absurd (true≢false (sym on ∙ opened.one.unrecorded));
-          };
-      walked = subst (λ b. OfRun (told lent) s (λ w. EndIs w s.size (sealed_at_end b) found.feed)) (sym blocks)
-          (subst (λ e. OfRun (told lent) s (λ w. EndIs w s.size sealed e)) (sym feed)
+      begun = λ lone. (
+        opened.texts,
+        λ files are.
+            let firsts = opened.firsts files are in
+            record {
+              accepted = firsts.walked;
+              searched = λ task. opened.fits (stream_for s files) firsts;
+              recorded = λ on. absurd (true≢false (sym on ∙ opened.one.unrecorded));
+            },
+      );
+      at = at;
+      last = λ bytes whole. fed.sealed.last bytes (sym feed ∙ whole) ∙ ap length plan.files;
+      passed = passes_plan f s (told lent) (told after) at.file plan fed.names fed.sealed.passed;
+      walked = subst (λ b. OfRunTo (judged_at found.feed at) (told lent) s (λ w.
+          EndIs w s.size (sealed_at_end b) found.feed)) (sym blocks)
+          (subst (λ e. OfRunTo (judged_at e at) (told lent) s (λ w. EndIs w s.size sealed e)) (sym feed)
           (subst End plan.block
-          (of_plan f s (told lent) (told after) (λ w. EndIs w (block_size f) sealed end.feed) plan fed.names
-          fed.sealed.known)));
+          (of_plan (IsAmong judged) f s (told lent) (told after) (λ w. EndIs w (block_size f) sealed end.feed) plan
+          fed.names fed.sealed.known)));
+      stops = subst (λ e. OfRunTo (judged_at e at) (told lent) s (λ w. StopsWalkAt e w at.file)) (sym feed)
+          (of_plan (IsAmong judged) f s (told lent) (told after) (λ w. StopsWalkAt end.feed w at.file) plan fed.names
+          fed.sealed.stops);
       observed = observed;
       first = λ files are. first_is (stream_for s files) o 0 (opened.firsts files are) opened.one.transfer
           ∙ sym observed;
       cleared = subst Blocks (sym blocks) (λ k below.
-          let at : k ≡ 0 = omega (arith, below) in
-          subst (λ j. cleared_at_end end.blocks (0 + j) ≡ sealed) (sym at) lane.cleared);
+          let first : k ≡ 0 = omega (arith, below) in
+          subst (λ j. cleared_at_end end.blocks (0 + j) ≡ sealed) (sym first) lane.cleared);
       held = λ bytes whole.
           let feed_whole : end.feed ≡ Whole bytes = sym feed ∙ whole in
           let through = transfer_bytes 0 sealed in
           let went = lane.searched bytes feed_whole 0 is.engine
-          (has_engine is.engine start.engines.value.items engines) in
-          let at = engine went.0 went.1 in
-          let scope_is = ap scope_of at ∙ went.2.scope ∙ is.scope_is in
+          (has_engine is.engine (engines_of start) engines) in
+          let same_engine = engine went.0 went.1 in
+          let scope_is = ap scope_of same_engine ∙ went.2.scope ∙ is.scope_is in
           let count = one_place (λ k. length (transfer_bytes k sealed)) (length (plan_at f).starts) bytes transfers
           (fed.parts bytes feed_whole) in
-          let few = few_bytes (plan_at f) (told after) (block_size f) _ _ end.feed bytes s.max_bytes fed.sealed
+          let few = few_bytes (plan_at f) (told after) at (block_size f) _ _ end.feed bytes s.max_bytes fed.sealed
           feed_whole plan.limit opened.most in
           record {
             bytes = through;
             few = omega (arith, count, few);
             scope_is = scope_is;
-            search_is = ap (λ (e : EngineState). e.search) at ∙ went.2.same.search ∙ is.opened.search_is;
-            shard_is = ap (λ (e : EngineState). e.shard) at ∙ went.2.same.shard ∙ is.opened.shard_is;
-            ended = ap (λ (e : EngineState). e.has_ended) at ∙ went.2.ended;
+            search_is = ap (λ (e : EngineState). e.search) same_engine ∙ went.2.same.search ∙ is.opened.search_is;
+            shard_is = ap (λ (e : EngineState). e.shard) same_engine ∙ went.2.same.shard ∙ is.opened.shard_is;
+            ended = ap (λ (e : EngineState). e.has_ended) same_engine ∙ went.2.ended;
             searched = subst (λ x. HasFoundIn x scope through found.engine) (sym observed)
                 (subst (λ c. HasFoundIn o c through found.engine) scope_is
-                (subst (λ e. HasFoundIn o (scope_of e) through e) (sym at) (went.2.stands o is.stands).found));
-            known = of_plan f s (told lent) (told after) (λ w. through ≡ transfer_data w 0) plan fed.names
-                (λ files are. fed.walked bytes feed_whole files are 0 (omega (arith, transfers)));
+                (subst (λ e. HasFoundIn o (scope_of e) through e) (sym same_engine)
+                (went.2.stands o is.stands).found));
+            known = where_all (told lent) s (Through through)
+                (of_plan (λ starts count. Every) f s (told lent) (told after) (Through through) plan fed.names
+                (λ files are. fed.walked bytes feed_whole files (all_told (told after) (names_at f) files are) 0
+                (omega (arith, transfers))));
           };
     }
 
 -- what a fault of the inputs left
 pub fault_leaves : {I : Type 0} (told : I → Told) (is_calm : I → Type 0) (faults : I → ℕ) (feeder : Feeder I)
-    (after : I) (end : LoneEnd) (found : LoneFound) →
-    FeedAnswers told is_calm faults feeder (session_end after end) → found.feed ≡ end.feed →
-    found.blocks ≡ end.blocks → FaultLeaves told feeder after found
-fault_leaves told is_calm faults feeder after end found fed feed blocks failed before read files are =
-    let names = names_at feeder in
-    subst (λ b. BreaksReading names (stream_of (plan_at feeder) files) before (told after) (block_size feeder)
-    (sealed_at_end b)) (sym blocks)
-    (fed.broke (sym feed ∙ failed) before read files
-    (still_told (told feeder.inputs.now) (told after) names files fed.names are))
+    (after : I) (end : LoneEnd) → FeedAnswers told is_calm faults feeder (session_end after end) →
+    end.feed ≡ ReadFault → FaultLeaves told (is_calm feeder.inputs.now) feeder after end.blocks
+fault_leaves told is_calm faults feeder after end fed failed = record {
+  place = fed.place;
+  broke = fed.broke failed;
+  missing = λ calm. fed.missing calm failed;
+}

@@ -1,30 +1,89 @@
 -- Files that are told, by the settings and by the feeder's plan.
-use Rattle.std.proofs.Common.{◌≡◌, ℕ, List, [], Option, Ok, Err, sym, ap, ◌∙◌, subst, arith}
-use Rattle.std.specs.Prelude.{IsSome, slice_index_or}
+use Rattle.std.proofs.Common.{◌≡◌, ℕ, ◌+◌, List, [], Option, None, Ok, Err, length, sym, ap, ◌∙◌, subst, arith}
+use Rattle.std.specs.Prelude.{⊤, IsSome, slice_index_or}
 use Rattle.psr_base.specs.Count.{Rose}
 use Rattle.psr_base.specs.Inputs.{HasReadFrom}
-use Rattle.psr_base.specs.Told.{Told}
+use Rattle.psr_base.specs.Told.{Told, OfFile}
+use Rattle.dada_header.specs.declared.faults.HeaderFault.{HeaderFault}
+use Rattle.dada_header.specs.Faults.{IsHeaderRefusal}
 use Rattle.search_words.specs.Settings.{SettingsSeen}
-use Rattle.stream_model.specs.Walk.{FileStream}
+use Rattle.stream_model.specs.Walk.{FileStream, stop_at}
 use Rattle.disk_feeder.specs.declared.feeder.Feeder.{Feeder}
 use Rattle.disk_feeder.specs.Feeder.{HasPlan, plan_at}
 use Rattle.disk_feeder.specs.Filling.{HoldsAll}
-use Rattle.disk_feeder.specs.Plan.{stream_of, AreTold}
+use Rattle.disk_feeder.specs.History.{file_name}
+use Rattle.disk_feeder.specs.Plan.{stream_of, AreTold, AreToldAt, IsFirstFile, IsAmong}
+use Rattle.disk_feeder.specs.Reading.{NoStopBefore}
+use Rattle.run_stop.specs.Firsts.{HasHeader, HaveHeaders, RefusesTextAt, first_name}
 use Rattle.run_stop.specs.Runs.{stream_for}
-use Rattle.whole_run.specs.Wholes.{OfRun}
+use Rattle.whole_run.specs.Wholes.{OfRun, OfRunAt, OfRunFirsts, JudgesRun, PassesRunTo}
 
 -- files are told as long as what is told under the names stands
-pub still_told : (old new : Told) (names files : List (List ℕ)) → new.bytes_under ≡ old.bytes_under →
-    AreTold old names files → AreTold new names files
-still_told old new names files same are = record {
+still_told : (Needed : ℕ → Type 0) (old new : Told) (names files : List (List ℕ)) →
+    new.bytes_under ≡ old.bytes_under → AreToldAt Needed old names files → AreToldAt Needed new names files
+still_told Needed old new names files same are = record {
   count = are.count;
-  each = λ k below.
-      ap (λ (under : List ℕ → Option (List ℕ)). under (slice_index_or names k [])) same ∙ are.each k below;
+  each = λ k below needed.
+      ap (λ (under : List ℕ → Option (List ℕ)). under (slice_index_or names k [])) same ∙ are.each k below needed;
 }
 
-pub before_reading : (s : SettingsSeen) (old new : Told) (P : FileStream → Type 0) → new.bytes_under ≡ old.bytes_under →
-    OfRun new s P → OfRun old s P
-before_reading s old new P same holds files are = holds files (still_told old new s.names files same are)
+pub before_reading : (Needed : ℕ → Type 0) (s : SettingsSeen) (old new : Told) (P : FileStream → Type 0) →
+    new.bytes_under ≡ old.bytes_under → OfRunAt Needed new s P → OfRunAt Needed old s P
+before_reading Needed s old new P same holds files are =
+    holds files (still_told Needed old new s.names files same are)
+
+-- in particular of the first files; and what each of these has by itself
+pub firsts_before_reading : (s : SettingsSeen) (old new : Told) (P : FileStream → Type 0) →
+    new.bytes_under ≡ old.bytes_under → OfRunFirsts new s P → OfRunFirsts old s P
+firsts_before_reading s = before_reading (IsFirstFile s.starts (length s.names)) s
+
+file_before_reading : (old new : Told) (name : List ℕ) (P : List ℕ → Type 0) → new.bytes_under ≡ old.bytes_under →
+    OfFile new name P → OfFile old name P
+file_before_reading old new name P same holds file is =
+    holds file (ap (λ (under : List ℕ → Option (List ℕ)). under name) same ∙ is)
+
+headers_before_reading : (old new : Told) (names : List (List ℕ)) (starts : List ℕ) (count : ℕ) →
+    new.bytes_under ≡ old.bytes_under → HaveHeaders new names starts count → HaveHeaders old names starts count
+headers_before_reading old new names starts count same have k below =
+    file_before_reading old new (first_name names starts k) HasHeader same (have k below)
+
+pub refused_before_reading : (old new : Told) (names : List (List ℕ)) (starts : List ℕ) (file : ℕ)
+    (fault : HeaderFault) → new.bytes_under ≡ old.bytes_under → RefusesTextAt new names starts file fault →
+    RefusesTextAt old names starts file fault
+refused_before_reading old new names starts file fault same refuses = record {
+  transfer = refuses.transfer;
+  there = refuses.there;
+  is = refuses.is;
+  refused = file_before_reading old new (file_name names file) (λ bytes. IsHeaderRefusal bytes fault) same
+      refuses.refused;
+  earlier = headers_before_reading old new names starts refuses.transfer same refuses.earlier;
+}
+
+pub judged_before_reading : (s : SettingsSeen) (old new : Told) (P : FileStream → Type 0) →
+    new.bytes_under ≡ old.bytes_under → JudgesRun new s P → JudgesRun old s P
+judged_before_reading s old new P same judged = (
+  headers_before_reading old new s.names s.starts (length s.starts) same judged.0,
+  firsts_before_reading s old new P same judged.1,
+)
+
+pub passed_before_reading : (file : ℕ) (s : SettingsSeen) (old new : Told) → new.bytes_under ≡ old.bytes_under →
+    PassesRunTo file new s → PassesRunTo file old s
+passed_before_reading file s old new same passed k below =
+    before_reading (IsAmong (k + 1) s.starts (length s.names)) s old new (λ w. stop_at w k ≡ None) same (passed k below)
+
+-- files of which all are told are those that are told where each is needed
+abbrev pub Every : ℕ → Type 0
+Every k = ⊤
+
+pub where_needed : (Needed : ℕ → Type 0) (told : Told) (names files : List (List ℕ)) → AreTold told names files →
+    AreToldAt Needed told names files
+where_needed Needed told names files are = record { count = are.count; each = λ k below needed. are.each k below }
+
+pub where_all : (told : Told) (s : SettingsSeen) (P : FileStream → Type 0) → OfRunAt Every told s P → OfRun told s P
+where_all told s P holds files are = holds files (where_needed Every told s.names files are)
+
+pub all_told : (told : Told) (names files : List (List ℕ)) → AreToldAt Every told names files → AreTold told names files
+all_told told names files are = record { count = are.count; each = λ k below. are.each k below tt }
 
 pub hold_still : (old new : Told) (names names' : List (List ℕ)) → new.bytes_under ≡ old.bytes_under →
     names' ≡ names → HoldsAll old names → HoldsAll new names'
@@ -75,12 +134,30 @@ same_stream feeder s files plan =
     plan.transfers
     ∙ ap (λ (limit : ℕ). record { files = files; starts = s.starts; max_bytes = limit }) plan.limit
 
--- what holds of the feeder's files holds of those of the settings
-pub of_plan : {I : Type 0} (feeder : Feeder I) (s : SettingsSeen) (old new : Told) (P : FileStream → Type 0) →
-    FeedsRun feeder s → new.bytes_under ≡ old.bytes_under →
-    ((files : List (List ℕ)) → AreTold new (plan_at feeder).names files → P (stream_of (plan_at feeder) files)) →
-    OfRun old s P
-of_plan feeder s old new P plan same holds files are =
-    let Told : List (List ℕ) → Type 0 = λ names. AreTold new names files in
+-- what holds of the feeder's files holds of those of the settings; `Needed` says which files need to be told, of those
+-- with which transfers begin, and of so many in all
+pub of_plan : {I : Type 0} (Needed : List ℕ → ℕ → ℕ → Type 0) (feeder : Feeder I) (s : SettingsSeen) (old new : Told)
+    (P : FileStream → Type 0) → FeedsRun feeder s → new.bytes_under ≡ old.bytes_under →
+    ((files : List (List ℕ)) →
+    AreToldAt (Needed (plan_at feeder).starts (length (plan_at feeder).names)) new (plan_at feeder).names files →
+    P (stream_of (plan_at feeder) files)) → OfRunAt (Needed s.starts (length s.names)) old s P
+of_plan Needed feeder s old new P plan same holds files are =
+    let Names : List (List ℕ) → Type 0 =
+    λ names. AreToldAt (Needed (plan_at feeder).starts (length names)) new names files in
+    let Starts : List ℕ → Type 0 = λ starts. AreToldAt (Needed starts (length s.names)) new s.names files in
     subst P (same_stream feeder s files plan)
-    (holds files (subst Told (sym plan.files) (still_told old new s.names files same are)))
+    (holds files (subst Names (sym plan.files) (subst Starts (sym plan.transfers)
+    (still_told (Needed s.starts (length s.names)) old new s.names files same are))))
+
+-- and so does what holds of the names and of the files with which transfers begin
+pub of_names : {I : Type 0} (feeder : Feeder I) (s : SettingsSeen) (P : List (List ℕ) → List ℕ → Type 0) →
+    FeedsRun feeder s → P (plan_at feeder).names (plan_at feeder).starts → P s.names s.starts
+of_names feeder s P plan holds =
+    subst (λ names. P names s.starts) plan.files
+    (subst (λ starts. P (plan_at feeder).names starts) plan.transfers holds)
+
+pub passes_plan : {I : Type 0} (feeder : Feeder I) (s : SettingsSeen) (old new : Told) (file : ℕ) →
+    FeedsRun feeder s → new.bytes_under ≡ old.bytes_under → NoStopBefore (plan_at feeder) new file →
+    PassesRunTo file old s
+passes_plan feeder s old new file plan same passed k below =
+    of_plan (IsAmong (k + 1)) feeder s old new (λ w. stop_at w k ≡ None) plan same (passed k below)

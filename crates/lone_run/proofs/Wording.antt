@@ -1,38 +1,95 @@
 -- What a lone run comes to, for all words that say its settings.
-use Rattle.std.proofs.Common.{◌≡◌, ℕ, inr, List, Some, None, sym, subst}
+use Rattle.std.proofs.Common.{◌≡◌, ℕ, ◌+◌, ◌<◌, inr, List, Option, Some, None, length, sym, ◌∙◌, subst}
+use Rattle.std.specs.Prelude.{IsSome}
 use Rattle.psr_base.specs.Told.{Told}
 use Rattle.dada_model.specs.Observation.{Observation}
 use Rattle.search_model.specs.declared.search.Search.{Search}
 use Rattle.search_engine.specs.Scope.{Scope}
 use Rattle.search_words.specs.Settings.{SettingsSeen}
-use Rattle.stream_model.specs.Walk.{FileStream, transfer_data}
+use Rattle.stream_model.specs.Walk.{FileStream, transfer_data, stop_at}
+use Rattle.ring_ends.specs.declared.finished.Finished.{Finished}
 use Rattle.ring_ends.specs.Ended.{sealed_at_end}
-use Rattle.disk_feeder.specs.declared.answers.FeedEnd.TheVariants.{ReadFault}
+use Rattle.disk_feeder.specs.declared.answers.HeaderCause.TheVariants.{Text, Fields}
 use Rattle.disk_feeder.specs.declared.feeder.Feeder.{Feeder}
-use Rattle.disk_feeder.specs.Feeder.{HasPlan, names_at, block_size, FeederRead}
-use Rattle.disk_feeder.specs.Feeding.{EndIs, BreaksReading}
-use Rattle.disk_feeder.specs.Plan.{AreTold}
+use Rattle.disk_feeder.specs.Feeder.{names_at, block_size, FeederRead}
+use Rattle.disk_feeder.specs.Feeding.{EndIs, StopsWalkAt, IsCutAt}
+use Rattle.disk_feeder.specs.History.{file_name, BreaksIf}
+use Rattle.disk_feeder.specs.Plan.{AreToldAt, IsFirstFile, IsAmong, opened_at}
+use Rattle.disk_feeder.specs.Reading.{judged_at}
+use Rattle.run_stop.specs.declared.stop.Stop.{Stop}
+use Rattle.run_stop.specs.declared.stop.Stop.TheVariants.{Words, Value, Header, Plan, Recording, Memory, ReadFault, Gap, TooLong, TooMany, SinkFault, FileFault}
 use Rattle.run_stop.specs.Lone.{LoneSearch}
 use Rattle.run_stop.specs.Ends.{WordsSayOnce, SaysBefore, IsRunFed}
-use Rattle.run_stop.specs.Firsts.{ReadsFirsts, BreaksFirstOf}
+use Rattle.run_stop.specs.Firsts.{HaveHeaders, ReadsFirsts, RefusesTextAt, BreaksFirstAt, RefusesFirstFields}
 use Rattle.run_stop.specs.Outcomes.{ReadsNoData, LeavesAtFault}
-use Rattle.run_stop.specs.Runs.{Alone, Says, ForFiles, CanBegin, first_observation, stream_for}
-use Rattle.whole_run.specs.Wholes.{OfRun, ForWords}
+use Rattle.run_stop.specs.Runs.{Task, Alone, Says, ForFilesAt, ForFirsts, ForFilesTo, JudgesFirsts, PassesTo, CanBegin, RefusesSearch, RefusesToRecord, first_observation, stream_for}
+use Rattle.whole_run.specs.Ends.{FaultLeaves}
+use Rattle.whole_run.specs.Openings.{SaysEarly}
+use Rattle.whole_run.specs.Wholes.{OfRunAt, OfRunFirsts, OfRunTo, JudgesRun, PassesRunTo, ForWords}
 use Rattle.lone_run.specs.declared.found.LoneFound.{LoneFound}
 use Rattle.lone_run.specs.declared.stop.LoneStop.{LoneStop}
 use Rattle.lone_run.specs.declared.stop.LoneStop.TheVariants.{Run, Unscoped}
 use Rattle.lone_run.specs.Stops.{RefusesFirst, ScopesFirst, StopsEarly, StopsAlone}
-use Rattle.lone_run.specs.Found.{FaultLeaves, GoesAlone, HasFoundAll, IsFoundAlone}
-use Rattle.lone_run.proofs.Told.{before_reading, of_plan}
+use Rattle.lone_run.specs.Found.{GoesAlone, HasFoundAll, IsFoundAlone}
+use Rattle.lone_run.proofs.Told.{Every, FeedsRun, before_reading, firsts_before_reading, judged_before_reading, passed_before_reading, where_all, all_told, of_plan, passes_plan}
 
 -- words say one settings: so what holds of the files of a run holds for them
-for_files : WordsSayOnce → (lone : LoneSearch) (words : List (List ℕ)) (s : SettingsSeen) (told : Told)
-    (P : SettingsSeen → FileStream → Type 0) → Says (Alone lone) words s → OfRun told s (P s) →
-    ForFiles (Alone lone) words told P
-for_files once lone words s told P says holds t files says' are =
-    let same = once (Alone lone) words t s says' says in
+for_files : WordsSayOnce → (Needed : SettingsSeen → ℕ → Type 0) (task : Task) (words : List (List ℕ))
+    (s : SettingsSeen) (told : Told) (P : SettingsSeen → FileStream → Type 0) → Says task words s →
+    OfRunAt (Needed s) told s (P s) → ForFilesAt Needed task words told P
+for_files once Needed task words s told P says holds t files says' are =
+    let same = once task words t s says' says in
     subst (λ u. P u (stream_for u files)) (sym same)
-    (holds files (subst (λ (u : SettingsSeen). AreTold told u.names files) same are))
+    (holds files (subst (λ (u : SettingsSeen). AreToldAt (Needed u) told u.names files) same are))
+
+for_firsts : WordsSayOnce → (task : Task) (words : List (List ℕ)) (s : SettingsSeen) (told : Told)
+    (P : SettingsSeen → FileStream → Type 0) → Says task words s → OfRunFirsts told s (P s) →
+    ForFirsts task words told P
+for_firsts once = for_files once (λ s. IsFirstFile s.starts (length s.names))
+
+for_files_to : WordsSayOnce → (opened : ℕ) (task : Task) (words : List (List ℕ)) (s : SettingsSeen) (told : Told)
+    (P : SettingsSeen → FileStream → Type 0) → Says task words s → OfRunTo opened told s (P s) →
+    ForFilesTo opened task words told P
+for_files_to once opened = for_files once (λ s. IsAmong opened s.starts (length s.names))
+
+-- and what holds of the settings of a run
+for_settings : WordsSayOnce → (task : Task) (words : List (List ℕ)) (s : SettingsSeen) (P : SettingsSeen → Type 0) →
+    Says task words s → P s → (t : SettingsSeen) → Says task words t → P t
+for_settings once task words s P says holds t says' = subst P (once task words s t says says') holds
+
+judges_firsts : WordsSayOnce → (task : Task) (words : List (List ℕ)) (s : SettingsSeen) (told : Told)
+    (P : SettingsSeen → FileStream → Type 0) → Says task words s → JudgesRun told s (P s) →
+    JudgesFirsts task words told P
+judges_firsts once task words s told P says judged = (
+  for_settings once task words s (λ t. HaveHeaders told t.names t.starts (length t.starts)) says judged.0,
+  for_firsts once task words s told P says judged.1,
+)
+
+passes_to : WordsSayOnce → (file : ℕ) (task : Task) (words : List (List ℕ)) (s : SettingsSeen) (told : Told) →
+    Says task words s → PassesRunTo file told s → PassesTo file task words told
+passes_to once file task words s told says passed k below =
+    for_files_to once (k + 1) task words s told (λ t w. stop_at w k ≡ None) says (passed k below)
+
+-- what a stop before the session says of the files
+says_before : WordsSayOnce → (task : Task) (words : List (List ℕ)) (s : SettingsSeen) (told : Told) (stop : Stop) →
+    Says task words s → SaysEarly task s told stop → SaysBefore task words told stop
+says_before once task words s told Words says early = absurd early
+says_before once task words s told (Value opt) says early = absurd early
+says_before once task words s told (Header file (Text fault)) says early =
+    for_settings once task words s (λ t. RefusesTextAt told t.names t.starts file fault) says early
+says_before once task words s told (Header file (Fields fault)) says early =
+    judges_firsts once task words s told (λ t w. RefusesFirstFields w file fault) says early
+says_before once task words s told (Plan cause) says early =
+    (early.0, judges_firsts once task words s told (λ t w. RefusesSearch t.search w cause) says early.1)
+says_before once task words s told (Recording cause) says early =
+    judges_firsts once task words s told (λ t w. RefusesToRecord task t w cause) says early
+says_before once task words s told Memory says early = tt
+says_before once task words s told ReadFault says early = tt
+says_before once task words s told (Gap file expected found) says early = early
+says_before once task words s told (TooLong limit) says early = early
+says_before once task words s told (TooMany count limit) says early = early
+says_before once task words s told SinkFault says early = early
+says_before once task words s told FileFault says early = early
 
 pub stops_alone : {F : Type 0} → WordsSayOnce → (scopes : Observation → Search → Scope → Type 0)
     (refuses : Observation → F → Type 0) (s : SettingsSeen) (told : Told) (stop : LoneStop F) →
@@ -41,62 +98,89 @@ pub stops_alone : {F : Type 0} → WordsSayOnce → (scopes : Observation → Se
 stops_alone once scopes refuses s told (Run stop) early lone words says = (
   record {
     kind = early.kind;
-    says = for_files once lone words s told (λ t w. SaysBefore (Alone lone) t w stop) says
-        (λ files are. (early.says lone files are).0);
+    says = says_before once (Alone lone) words s told stop says (early.says lone).0;
   },
-  λ plan. for_files once lone words s told (ScopesFirst scopes) says (λ files are. (early.says lone files are).1 plan),
+  λ plan. for_firsts once (Alone lone) words s told (ScopesFirst scopes) says ((early.says lone).1 plan),
 )
 stops_alone once scopes refuses s told (Unscoped refusal) early lone words says =
-    for_files once lone words s told (λ t w. RefusesFirst refuses w refusal) says
-    (λ files are. early.says lone files are)
+    judges_firsts once (Alone lone) words s told (λ t w. RefusesFirst refuses w refusal) says (early.says lone)
 
 pub reads_no_data : WordsSayOnce → (s : SettingsSeen) (old new : Told) →
-    OfRun old s (λ w. ReadsFirsts s.names w old new) →
+    OfRunFirsts old s (λ w. ReadsFirsts s.names w old new) →
     (lone : LoneSearch) → ForWords (Alone lone) s (λ words. ReadsNoData (Alone lone) words old new)
 reads_no_data once s old new reads lone words says =
-    inr (for_files once lone words s old (λ t w. ReadsFirsts t.names w old new) says reads)
+    inr (for_firsts once (Alone lone) words s old (λ t w. ReadsFirsts t.names w old new) says reads)
 
 -- what a fault leaves before the session
-pub leaves_before : WordsSayOnce → (s : SettingsSeen) (old new : Told) (transfer : ℕ) →
-    OfRun old s (λ w. BreaksFirstOf s.names w transfer old new) →
-    (lone : LoneSearch) → ForWords (Alone lone) s (λ words. LeavesAtFault (Alone lone) words old new None)
-leaves_before once s old new transfer broke lone words says =
-    (transfer, for_files once lone words s old (λ t w. BreaksFirstOf t.names w transfer old new) says broke)
+pub leaves_before : WordsSayOnce → (task : Task) (s : SettingsSeen) (is_calm : Type 0) (old new : Told) →
+    BreaksFirstAt s.names s.starts is_calm old new →
+    ForWords task s (λ words. LeavesAtFault task words is_calm old new None)
+leaves_before once task s is_calm old new broke words says =
+    for_settings once task words s (λ t. BreaksFirstAt t.names t.starts is_calm old new) says broke
 
 -- and from the session on
-pub leaves_session : {I : Type 0} → WordsSayOnce → (told : I → Told) (s : SettingsSeen) (before : Told)
-    (feeder : Feeder I) (after : I) (found : LoneFound) → (told feeder.inputs.now).bytes_under ≡ before.bytes_under →
-    HasPlan feeder s.names s.starts s.size s.max_bytes →
-    ((lone : LoneSearch) → OfRun (told feeder.inputs.now) s (λ w. CanBegin (Alone lone) s w)) →
-    FeederRead before (told feeder.inputs.now) feeder → FaultLeaves told feeder after found →
-    found.feed ≡ ReadFault → (lone : LoneSearch) →
-    ForWords (Alone lone) s (λ words. LeavesAtFault (Alone lone) words before (told after) (Some found.blocks))
-leaves_session once told s before feeder after found same plan begun read leaves failed lone words says =
+pub leaves_session : {I : Type 0} → WordsSayOnce → (told : I → Told) (task : Task) (s : SettingsSeen)
+    (is_calm calm : Type 0) (before : Told) (feeder : Feeder I) (after : I) (blocks : Finished) →
+    (told feeder.inputs.now).bytes_under ≡ before.bytes_under →
+    (told after).bytes_under ≡ (told feeder.inputs.now).bytes_under → FeedsRun feeder s →
+    JudgesRun (told feeder.inputs.now) s (λ w. CanBegin task s w) →
+    FeederRead before (told feeder.inputs.now) feeder → FaultLeaves told calm feeder after blocks → (is_calm → calm) →
+    ForWords task s (λ words. LeavesAtFault task words is_calm before (told after) (Some blocks))
+leaves_session once told task s is_calm calm before feeder after blocks same still plan begun read leaves calms words
+    says =
     let mid = told feeder.inputs.now in
-    let blocks = sealed_at_end found.blocks in
-    let Names : List (List ℕ) → Type 0 = λ names. OfRun before s (λ w.
-    BreaksReading names w before (told after) s.size blocks) in
-    let Size : ℕ → Type 0 = λ size. OfRun before s (λ w.
-    BreaksReading (names_at feeder) w before (told after) size blocks) in
-    let broke = subst Names plan.files (subst Size plan.block
-    (of_plan feeder s before mid (λ w. BreaksReading (names_at feeder) w before (told after) (block_size feeder) blocks)
-    plan same (leaves failed before read))) in
-    for_files once lone words s before
-    (λ t w. CanBegin (Alone lone) t w × BreaksReading t.names w before (told after) t.size blocks) says
-    (λ files are. (
-      before_reading s before mid (λ w. CanBegin (Alone lone) s w) same (begun lone) files are,
-      broke files are,
-    ))
+    let now = told after in
+    let sealed = sealed_at_end blocks in
+    let names = names_at feeder in
+    let at = leaves.place in
+    let broke = leaves.broke before read in
+    let Cut : ℕ → Type 0 = λ size. OfRunTo (opened_at at) before s (λ w. IsCutAt w at size sealed) in
+    let Stood : List (List ℕ) → Type 0 = λ ns. OfRunTo (at.file + 1) before s (λ w.
+    BreaksIf at.is_open ns w before now at) in
+    let Missing : List (List ℕ) → Type 0 = λ ns. (at.file < length ns)
+    × ¬ IsSome (before.bytes_under (file_name ns at.file)) in
+    record {
+      at = at;
+      begun = judges_firsts once task words s before (λ t w. CanBegin task t w) says
+          (judged_before_reading s before mid (λ w. CanBegin task s w) same begun);
+      passed = passes_to once at.file task words s before says
+          (passes_plan feeder s before now at.file plan (still ∙ same) broke.passed);
+      cut = for_files_to once (opened_at at) task words s before (λ t w. IsCutAt w at t.size sealed) says
+          (subst Cut plan.block
+          (of_plan (IsAmong (opened_at at)) feeder s before now (λ w. IsCutAt w at (block_size feeder) sealed) plan
+          (still ∙ same) broke.cut));
+      stood = for_files_to once (at.file + 1) task words s before (λ t w. BreaksIf at.is_open t.names w before now at)
+          says (subst Stood plan.files
+          (of_plan (IsAmong (at.file + 1)) feeder s before now (λ w. BreaksIf at.is_open names w before now at) plan
+          (still ∙ same) broke.stood));
+      missing = λ is t says'.
+          let lost = leaves.missing (calms is) in
+          let untold = subst (λ (under : List ℕ → Option (List ℕ)). ¬ IsSome (under (file_name names at.file))) same
+          lost.1 in
+          for_settings once task words s (λ u. Missing u.names) says (subst Missing plan.files (lost.0, untold)) t
+          says';
+    }
 
 pub is_fed : WordsSayOnce → (s : SettingsSeen) (old new : Told) (o : Observation) (scope : Scope) (found : LoneFound) →
     new.bytes_under ≡ old.bytes_under → GoesAlone s new o scope found → (lone : LoneSearch) →
     ForWords (Alone lone) s (λ words. IsRunFed (Alone lone) words old found.blocks found.feed)
-is_fed once s old new o scope found same went lone words says = record {
-  begun = for_files once lone words s old (λ t w. CanBegin (Alone lone) t w) says
-      (before_reading s old new (λ w. CanBegin (Alone lone) s w) same (went.begun lone));
-  walked = for_files once lone words s old (λ t w. EndIs w t.size (sealed_at_end found.blocks) found.feed) says
-      (before_reading s old new (λ w. EndIs w s.size (sealed_at_end found.blocks) found.feed) same went.walked);
-}
+is_fed once s old new o scope found same went lone words says =
+    let sealed = sealed_at_end found.blocks in
+    let judged = judged_at found.feed went.at in
+    let needed = IsAmong judged s.starts (length s.names) in
+    record {
+      begun = judges_firsts once (Alone lone) words s old (λ t w. CanBegin (Alone lone) t w) says
+          (judged_before_reading s old new (λ w. CanBegin (Alone lone) s w) same (went.begun lone));
+      at = went.at;
+      last = λ bytes whole. for_settings once (Alone lone) words s (λ t. went.at.file ≡ length t.names) says
+          (went.last bytes whole);
+      passed = passes_to once went.at.file (Alone lone) words s old says
+          (passed_before_reading went.at.file s old new same went.passed);
+      walked = for_files_to once judged (Alone lone) words s old (λ t w. EndIs w t.size sealed found.feed) says
+          (before_reading needed s old new (λ w. EndIs w s.size sealed found.feed) same went.walked);
+      stops = for_files_to once judged (Alone lone) words s old (λ t w. StopsWalkAt found.feed w went.at.file) says
+          (before_reading needed s old new (λ w. StopsWalkAt found.feed w went.at.file) same went.stops);
+    }
 
 still_found : (s : SettingsSeen) (old new : Told) (scope : Scope) (found : LoneFound) →
     new.bytes_under ≡ old.bytes_under → HasFoundAll s new scope found → HasFoundAll s old scope found
@@ -108,7 +192,9 @@ still_found s old new scope found same all = record {
   shard_is = all.shard_is;
   ended = all.ended;
   searched = all.searched;
-  known = before_reading s old new (λ w. all.bytes ≡ transfer_data w 0) same all.known;
+  known = where_all old s (λ w. all.bytes ≡ transfer_data w 0)
+      (before_reading Every s old new (λ w. all.bytes ≡ transfer_data w 0) same
+      (λ files are. all.known files (all_told new s.names files are)));
 }
 
 pub is_found : (scopes : Observation → Search → Scope → Type 0) (s : SettingsSeen) (old new : Told) (o : Observation)
@@ -117,7 +203,7 @@ pub is_found : (scopes : Observation → Search → Scope → Type 0) (s : Setti
 is_found scopes s old new o scope found same scoped went = record {
   scope = scope;
   scoped = subst (λ x. scopes x s.search scope) (sym went.observed) scoped;
-  first = before_reading s old new (λ w. first_observation w 0 ≡ found.observation) same went.first;
+  first = firsts_before_reading s old new (λ w. first_observation w 0 ≡ found.observation) same went.first;
   cleared = went.cleared;
   held = λ bytes whole. still_found s old new scope found same (went.held bytes whole);
 }

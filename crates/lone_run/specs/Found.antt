@@ -8,17 +8,16 @@ use Rattle.search_model.specs.Search.{in_one_shard}
 use Rattle.search_words.specs.Settings.{SettingsSeen}
 use Rattle.stream_model.specs.Walk.{transfer_data}
 use Rattle.ring_ends.specs.Ended.{sealed_at_end}
-use Rattle.disk_feeder.specs.declared.answers.FeedEnd.TheVariants.{Whole, ReadFault}
-use Rattle.disk_feeder.specs.declared.feeder.Feeder.{Feeder}
-use Rattle.disk_feeder.specs.Feeder.{plan_at, names_at, block_size, FeederRead}
-use Rattle.disk_feeder.specs.Feeding.{EndIs, BreaksReading}
-use Rattle.disk_feeder.specs.Plan.{stream_of, AreTold}
+use Rattle.disk_feeder.specs.declared.answers.FeedEnd.TheVariants.{Whole}
+use Rattle.disk_feeder.specs.declared.place.Place.{Place}
+use Rattle.disk_feeder.specs.Feeding.{EndIs, StopsWalkAt}
+use Rattle.disk_feeder.specs.Reading.{judged_at}
 use Rattle.search_engine.specs.Scope.{Scope}
 use Rattle.search_engine.specs.Engine.{HasFoundIn, scope_of}
 use Rattle.run_stop.specs.Lone.{LoneSearch}
 use Rattle.run_stop.specs.Outcomes.{AllCleared}
 use Rattle.run_stop.specs.Runs.{Alone, CanBegin, first_observation}
-use Rattle.whole_run.specs.Wholes.{OfRun}
+use Rattle.whole_run.specs.Wholes.{OfRun, OfRunFirsts, OfRunTo, JudgesRun, PassesRunTo}
 use Rattle.lone_run.specs.declared.found.LoneFound.{LoneFound}
 
 -- The engine has searched a scope of all data, which are those of the transfer's files where these are told.
@@ -33,23 +32,19 @@ pub record HasFoundAll (s : SettingsSeen) (told : Told) (scope : Scope) (found :
   pub searched : HasFoundIn found.observation scope bytes found.engine
   pub known : OfRun told s (λ w. bytes ≡ transfer_data w 0)
 
--- where a fault of the inputs ended a session, its blocks are those of what was read since the inputs told `before`,
--- up to its end, where the inputs are `after`
-abbrev pub FaultLeaves : {I : Type 0} → (I → Told) → Feeder I → I → LoneFound → Type 0
-FaultLeaves told feeder after found = found.feed ≡ ReadFault → (before : Told) →
-    FeederRead before (told feeder.inputs.now) feeder → (files : List (List ℕ)) →
-    AreTold (told feeder.inputs.now) (names_at feeder) files →
-    BreaksReading (names_at feeder) (stream_of (plan_at feeder) files) before (told after)
-    (block_size feeder) (sealed_at_end found.blocks)
-
--- A session went through, whose feeder ended at the end of the walk or at a fault of its inputs. Its engine searches
--- this scope of the observation of the first header; its reader cleared all that was sealed.
+-- A session went through, whose feeder ended at the end of the walk or at a fault of its inputs, at some place. Its
+-- engine searches this scope of the observation of the first header; its reader cleared all that was sealed.
 pub record GoesAlone (s : SettingsSeen) (told : Told) (o : Observation) (scope : Scope)
     (found : LoneFound) : Type 0 where
-  pub begun : (lone : LoneSearch) → OfRun told s (λ w. CanBegin (Alone lone) s w)
-  pub walked : OfRun told s (λ w. EndIs w s.size (sealed_at_end found.blocks) found.feed)
+  pub begun : (lone : LoneSearch) → JudgesRun told s (λ w. CanBegin (Alone lone) s w)
+  pub at : Place
+  pub last : (bytes : ℕ) → found.feed ≡ Whole bytes → at.file ≡ length s.names
+  pub passed : PassesRunTo at.file told s
+  pub walked : OfRunTo (judged_at found.feed at) told s (λ w.
+      EndIs w s.size (sealed_at_end found.blocks) found.feed)
+  pub stops : OfRunTo (judged_at found.feed at) told s (λ w. StopsWalkAt found.feed w at.file)
   pub observed : found.observation ≡ o
-  pub first : OfRun told s (λ w. first_observation w 0 ≡ found.observation)
+  pub first : OfRunFirsts told s (λ w. first_observation w 0 ≡ found.observation)
   pub cleared : AllCleared found.blocks 0 1
   pub held : (bytes : ℕ) → found.feed ≡ Whole bytes → HasFoundAll s told scope found
 
@@ -59,6 +54,6 @@ pub record IsFoundAlone (scopes : Observation → Search → Scope → Type 0) (
     (told : Told) (found : LoneFound) : Type 0 where
   pub scope : Scope
   pub scoped : scopes found.observation s.search scope
-  pub first : OfRun told s (λ w. first_observation w 0 ≡ found.observation)
+  pub first : OfRunFirsts told s (λ w. first_observation w 0 ≡ found.observation)
   pub cleared : AllCleared found.blocks 0 1
   pub held : (bytes : ℕ) → found.feed ≡ Whole bytes → HasFoundAll s told scope found

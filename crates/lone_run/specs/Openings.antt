@@ -11,16 +11,17 @@ use Rattle.ring_words.specs.declared.shape.RingShape.{RingShape}
 use Rattle.search_engine.specs.Engine.{most_fed}
 use Rattle.search_engine.specs.Scope.{Scope}
 use Rattle.disk_feeder.specs.declared.feeder.Feeder.{Feeder}
-use Rattle.disk_feeder.specs.Feeder.{HasPlan, IsFresh, IsBegun, FeederFeeds, FeederFaultless, HasOpenFile, header_at, has_end}
+use Rattle.disk_feeder.specs.Feeder.{HasPlan, IsFresh, IsBegun, FeederFeeds, FeederFaultless, HasOpenFile, headers_of, has_end}
 use Rattle.disk_feeder.specs.Feeding.{header_entries}
 use Rattle.search_session.specs.declared.lane.Lane.{Lane}
 use Rattle.search_session.specs.declared.lone_space.LoneSpace.{LoneSpace}
 use Rattle.search_session.specs.Lone.{IsLoneSpace}
 use Rattle.search_opening.specs.First.{AreFirsts, AreObserved}
 use Rattle.search_opening.specs.Rings.{run_shape}
+use Rattle.run_stop.specs.Firsts.{HaveHeaders}
 use Rattle.run_stop.specs.Lone.{IsOfOne}
 use Rattle.run_stop.specs.Runs.{CanSearchFirst}
-use Rattle.whole_run.specs.Wholes.{OfRun}
+use Rattle.whole_run.specs.Wholes.{OfRunFirsts}
 use Rattle.lone_run.specs.Scopes.{IsLaneOf}
 
 -- the data ring of a lone run
@@ -37,8 +38,8 @@ pub record IsFreshFor {I : Type 0} (s : SettingsSeen) (f : Feeder I) : Type 0 wh
 pub record IsFeederReady {I : Type 0} (told : I → Told) (is_open : I → Type 0) (s : SettingsSeen)
     (header : HeaderText) (f : Feeder I) : Type 0 where
   pub plan : HasPlan f s.names s.starts s.size s.max_bytes
-  pub first : slice_get (header_at f) 0 ≡ Some header
-  pub feeds : FeederFeeds (told f.inputs.now) f (header_entries (take 1 (header_at f))) []
+  pub first : slice_get (headers_of f) 0 ≡ Some header
+  pub feeds : FeederFeeds (told f.inputs.now) f (header_entries (take 1 (headers_of f))) []
   pub faultless : FeederFaultless f
   pub running : has_end f ≡ None
   pub file : HasOpenFile f → is_open f.inputs.now
@@ -49,8 +50,9 @@ pub record HasBegun {I : Type 0} (told : I → Told) (is_open : I → Type 0) (s
   pub plan : HasPlan f s.names s.starts s.size s.max_bytes
   pub begun : IsBegun (told f.inputs.now) f
   pub file : HasOpenFile f → is_open f.inputs.now
-  pub observed : AreObserved (header_at f) observations
-  pub firsts : OfRun (told f.inputs.now) s (λ w. AreFirsts w observations)
+  pub observed : AreObserved (headers_of f) observations
+  pub texts : HaveHeaders (told f.inputs.now) s.names s.starts (length s.starts)
+  pub firsts : OfRunFirsts (told f.inputs.now) s (λ w. AreFirsts w observations)
 
 -- Nothing stands against a lone run, and all of its memory is taken: its engine searches this scope of the observation
 -- of the first header.
@@ -64,7 +66,8 @@ pub record IsOpenedAlone {I : Type 0} (told : I → Told) (is_open : I → Type 
   pub lane_is : IsLaneOf s.search o scope lane
   pub space_is : IsLoneSpace lane (shape_for s) header space
   pub total : (shape_for s).max_blocks * s.size ≤ most_fed
-  pub firsts : OfRun (told f.inputs.now) s (λ w. AreFirsts w (Some o ∷ []))
+  pub texts : HaveHeaders (told f.inputs.now) s.names s.starts (length s.starts)
+  pub firsts : OfRunFirsts (told f.inputs.now) s (λ w. AreFirsts w (Some o ∷ []))
   pub fits : (w : FileStream) → AreFirsts w (Some o ∷ []) →
       CanSearchFirst s.search w (length w.starts)
 

@@ -1,26 +1,32 @@
 -- What the exit status of a program that searches alone says. Such a program makes no files, and may stop for a reason
 -- of its own, before its session or after it.
 -- Source: this project's choice.
-use Rattle.std.specs.Prelude.{◌≡◌, ◌≢◌, ℕ, ◌≤◌, List, [], ◌∷◌, Option, Some, None, IsSome, Contains}
+use Rattle.std.specs.Prelude.{◌≡◌, ◌≢◌, ℕ, ◌≤◌, List, [], ◌∷◌, length, Option, Some, None, IsSome, Contains}
 use Rattle.psr_base.specs.Told.{Told, InputsSeen}
 use Rattle.ring_ends.specs.declared.finished.Finished.{Finished}
 use Rattle.ring_ends.specs.Ended.{sealed_at_end}
+use Rattle.search_words.specs.Settings.{SettingsSeen}
 use Rattle.stream_model.specs.Walk.{walk_stream}
 use Rattle.disk_feeder.specs.Feeding.{IsBroken}
 use Rattle.run_stop.specs.declared.stop.Stop.{Stop}
 use Rattle.run_stop.specs.Texts.{status_of}
-use Rattle.run_stop.specs.Lone.{LoneSearch}
-use Rattle.run_stop.specs.Runs.{Alone, ForFiles, CanBegin}
+use Rattle.run_stop.specs.Lone.{LoneSearch, SayAlone}
+use Rattle.run_stop.specs.Runs.{Alone, ForFiles, JudgesFirsts, PassesTo, CanBegin}
 use Rattle.run_stop.specs.Outcomes.{JudgesWords, ReadsInputs, StopsAtFiles, AllCleared}
 use Rattle.run_stop.specs.Ends.{IsSaid, short_statuses}
 
 -- What went through the data ring, which is there from the session on, and was cleared by its reader: the stream of the
--- walk, whole or abandoned; at a fault of the inputs an abandoned stream of what was read. `own` is the status of the
--- program's own stop.
+-- walk, whole or abandoned; at a fault of the inputs an abandoned stream of what was read. Nothing stands against a run
+-- then by its first file, and where all data were sealed no file stops the walk, each by the files up to it. `own` is
+-- the status of the program's own stop.
 pub record SealsAlone (own : ℕ) (lone : LoneSearch) (words : List (List ℕ)) (told : Told)
     (blocks : Option Finished) (status : ℕ) : Type 0 where
   pub none : blocks ≡ None → Contains (2 ∷ 3 ∷ 4 ∷ 5 ∷ 6 ∷ own ∷ []) status
   pub some : IsSome blocks → Contains (0 ∷ 3 ∷ 6 ∷ 7 ∷ 8 ∷ 9 ∷ 10 ∷ own ∷ []) status
+  pub begun : IsSome blocks → JudgesFirsts (Alone lone) words told (λ s w.
+      CanBegin (Alone lone) s w)
+  pub passed : IsSome blocks → ¬ Contains (3 ∷ 6 ∷ 7 ∷ 8 ∷ []) status → (s : SettingsSeen) →
+      SayAlone lone words s → PassesTo (length s.names) (Alone lone) words told
   pub sealed : (b : Finished) → blocks ≡ Some b → status ≢ 6 →
       ForFiles (Alone lone) words told (λ s w.
       CanBegin (Alone lone) s w × (sealed_at_end b ≡ walk_stream s.size w))

@@ -7,6 +7,7 @@ use Rattle.search_model.specs.Search.{in_one_shard}
 use Rattle.search_engine.specs.Scope.{Scope}
 use Rattle.search_engine.specs.Engine.{EngineState, IsOpenedEngine, StandsForPart, scope_of}
 use Rattle.search_session.specs.declared.lane.Lane.{Lane}
+use Rattle.search_session.specs.Lanes.{engines_of}
 use Rattle.lone_run.specs.declared.scoping.ScopeFault.{ScopeFault}
 use Rattle.lone_run.specs.declared.scoping.ScopeFault.TheVariants.{Refused, Memory}
 
@@ -23,7 +24,7 @@ ExplainsScope refuses o Memory = ⊤
 -- the lane has one engine, which searches a scope of an observation, and was fed nothing
 pub record IsLaneOf (s : Search) (o : Observation) (scope : Scope) (lane : Lane) : Type 0 where
   pub engine : EngineState
-  pub alone : lane.engines.value.items ≡ Some engine ∷ []
+  pub alone : engines_of lane ≡ Some engine ∷ []
   pub opened : IsOpenedEngine engine (in_one_shard s) 0
   pub scope_is : scope_of engine ≡ scope
   pub stands : StandsForPart o [] engine

@@ -14,9 +14,10 @@ use Rattle.search_opening.specs.First.{AreFirsts}
 use Rattle.search_opening.specs.Plans.{IsOfPlan, StopsSearch}
 use Rattle.run_stop.specs.declared.stop.Stop.TheVariants.{Memory, ReadFault}
 use Rattle.run_stop.specs.Lone.{LoneSearch}
-use Rattle.run_stop.specs.Runs.{Alone, ForFiles, first_observation}
-use Rattle.run_stop.specs.Ends.{ComesBefore, SaysBefore, StopsBefore}
-use Rattle.whole_run.specs.Wholes.{OfRun}
+use Rattle.run_stop.specs.Runs.{Alone, ForFirsts, JudgesFirsts, first_observation}
+use Rattle.run_stop.specs.Ends.{ComesBefore, StopsBefore}
+use Rattle.whole_run.specs.Openings.{SaysEarly}
+use Rattle.whole_run.specs.Wholes.{OfRunFirsts, JudgesRun}
 use Rattle.lone_run.specs.declared.found.LoneFound.{LoneFound}
 use Rattle.lone_run.specs.declared.stop.LoneStop.{LoneStop}
 use Rattle.lone_run.specs.declared.stop.LoneStop.TheVariants.{Run, Unscoped}
@@ -59,18 +60,20 @@ abbrev pub ComesAlone : {F : Type 0} → LoneStop F → Type 0
 ComesAlone (Run stop) = ComesBefore stop
 ComesAlone (Unscoped refusal) = ⊤
 
--- what it says of the files: that a search is refused is said where the program has found something to search
+-- what it says of the files, over the first ones that it needs: that a search is refused is said where the program has
+-- found something to search
 abbrev pub SaysAlone : {F : Type 0} → (Observation → Search → Scope → Type 0) →
-    (Observation → F → Type 0) → LoneSearch → SettingsSeen → FileStream → LoneStop F → Type 0
-SaysAlone scopes refuses lone s w (Run stop) =
-    SaysBefore (Alone lone) s w stop × (IsOfPlan stop → ScopesFirst scopes s w)
-SaysAlone scopes refuses lone s w (Unscoped refusal) = RefusesFirst refuses w refusal
+    (Observation → F → Type 0) → LoneSearch → SettingsSeen → Told → LoneStop F → Type 0
+SaysAlone scopes refuses lone s told (Run stop) = SaysEarly (Alone lone) s told stop
+    × (IsOfPlan stop → OfRunFirsts told s (ScopesFirst scopes s))
+SaysAlone scopes refuses lone s told (Unscoped refusal) =
+    JudgesRun told s (λ w. RefusesFirst refuses w refusal)
 
 pub record StopsEarly {F : Type 0} (scopes : Observation → Search → Scope → Type 0)
     (refuses : Observation → F → Type 0) (s : SettingsSeen) (told : Told) (stop : LoneStop F) :
     Type 0 where
   pub kind : ComesAlone stop
-  pub says : (lone : LoneSearch) → OfRun told s (λ w. SaysAlone scopes refuses lone s w stop)
+  pub says : (lone : LoneSearch) → SaysAlone scopes refuses lone s told stop
 
 -- ---- over words
 
@@ -79,6 +82,6 @@ abbrev pub StopsAlone : {F : Type 0} → (Observation → Search → Scope → T
     (Observation → F → Type 0) → LoneSearch → List (List ℕ) → Told → LoneStop F → Type 0
 StopsAlone scopes refuses lone words told (Run stop) =
     StopsBefore (Alone lone) words told stop
-    × (IsOfPlan stop → ForFiles (Alone lone) words told (ScopesFirst scopes))
+    × (IsOfPlan stop → ForFirsts (Alone lone) words told (ScopesFirst scopes))
 StopsAlone scopes refuses lone words told (Unscoped refusal) =
-    ForFiles (Alone lone) words told (λ s w. RefusesFirst refuses w refusal)
+    JudgesFirsts (Alone lone) words told (λ s w. RefusesFirst refuses w refusal)

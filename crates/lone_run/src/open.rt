@@ -30,7 +30,7 @@ use obs_plan::Observation;
 use psr_base::{Inputs, Memory};
 use run_stop::Stop;
 use search_engine::{Engine, PlanFault, Scope};
-use search_model::Search;
+use search_model::{MOST_TRANSFERS, Search};
 use search_opening::{accept_all, begin_feed, check_plans, run_shape};
 use search_session::{Lane, LoneSpace};
 use search_words::Settings;
@@ -138,7 +138,7 @@ fn take_space(
 }
 
 // The observation of a transfer.
-fn only_one(mut observations: ArrayVec<Option<Observation>, 8>) -> Observation
+fn only_one(mut observations: ArrayVec<Option<Observation>, MOST_TRANSFERS>) -> Observation
     requires { (o : Described) × (observations.items ≡ Some o ∷ []) }
     ensures { (o : Described) → observations.items ≡ Some o ∷ [] → result ≡ o }
 {
@@ -154,7 +154,7 @@ fn open_begun<'a, I: Inputs, S: Scoping>(
     settings: &Settings,
     scoping: &S,
     feeder: &mut Feeder<'a, I>,
-    observations: ArrayVec<Option<Observation>, 8>,
+    observations: ArrayVec<Option<Observation>, MOST_TRANSFERS>,
 ) -> Result<OpenedAlone, LoneStop<S::Refusal>>
     requires range { AllInRange (settings_seen settings.now) }
     requires one { IsOfOne (settings_seen settings.now) }
@@ -209,8 +209,8 @@ pub(crate) fn open_alone<'a, I: Inputs, S: Scoping>(
     ensures stopped { IfErr result (StopsEarly (S.scopes scoping.now) (S.refuses scoping.now)
         (settings_seen settings.now) (I.told feeder.old.inputs.now)) }
     ensures leaves { (stop : Stopped) → result ≡ Err (LoneStop.Run stop)
-        → LeavesEarly (settings_seen settings.now) (I.told feeder.old.inputs.now)
-        (I.told feeder.new.inputs.now) stop }
+        → LeavesEarly (settings_seen settings.now) (I.is_calm feeder.old.inputs.now)
+        (I.told feeder.old.inputs.now) (I.told feeder.new.inputs.now) stop }
     ensures begins { OnOk result (FeederRead (I.told feeder.old.inputs.now)
         (I.told feeder.new.inputs.now) feeder.new) }
 {

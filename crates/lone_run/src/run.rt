@@ -51,8 +51,8 @@ fn within<'a, I: Inputs, S: Scoping, R: Wait>(
         ReadsNoData (Alone lone) words (I.told inputs.old) (I.told result.inputs.now)) }
     ensures broken { FailsReading result.done → (lone : LoneSearch)
         → ForWords (Alone lone) (settings_seen settings.now) (λ words.
-        LeavesAtFault (Alone lone) words (I.told inputs.old) (I.told result.inputs.now)
-        (blocks_of result.done)) }
+        LeavesAtFault (Alone lone) words (I.is_calm inputs.old) (I.told inputs.old)
+        (I.told result.inputs.now) (blocks_of result.done)) }
     ensures fed { IfOk result.done (λ found. (lone : LoneSearch)
         → ForWords (Alone lone) (settings_seen settings.now) (λ words.
         IsRunFed (Alone lone) words (I.told inputs.old) found.blocks found.feed)) }
@@ -119,8 +119,8 @@ pub fn drive_alone<I: Inputs, S: Scoping, R: Wait>(
         ReadsNoData (Alone lone) words (I.told inputs.old) (I.told inputs.new)) }
     ensures broken { FailsReading result → (lone : LoneSearch)
         → ForWords (Alone lone) (settings_seen settings.now) (λ words.
-        LeavesAtFault (Alone lone) words (I.told inputs.old) (I.told inputs.new)
-        (blocks_of result)) }
+        LeavesAtFault (Alone lone) words (I.is_calm inputs.old) (I.told inputs.old)
+        (I.told inputs.new) (blocks_of result)) }
     ensures fed { IfOk result (λ found. (lone : LoneSearch)
         → ForWords (Alone lone) (settings_seen settings.now) (λ words.
         IsRunFed (Alone lone) words (I.told inputs.old) found.blocks found.feed)) }

@@ -8,9 +8,10 @@ ghost use Rattle.disk_feeder.specs.declared.answers.FeedEnd.TheVariants.{ReadFau
 ghost use Rattle.disk_feeder.specs.Feeder.{names_at};
 ghost use Rattle.disk_feeder.specs.Filling.{HoldsAll};
 ghost use Rattle.disk_feeder.specs.Resting.{feeder_over};
-ghost use Rattle.search_session.specs.Lanes.{HasEngine};
+ghost use Rattle.search_session.specs.Lanes.{HasEngine, engines_of};
+ghost use Rattle.whole_run.specs.Ends.{FaultLeaves};
 ghost use Rattle.lone_run.specs.Openings.{IsOpenedAlone};
-ghost use Rattle.lone_run.specs.Found.{FaultLeaves, GoesAlone};
+ghost use Rattle.lone_run.specs.Found.{GoesAlone};
 
 use crate::found::LoneFound;
 use crate::open::OpenedAlone;
@@ -18,11 +19,12 @@ use arrayvec::ArrayVec;
 use disk_feeder::FeederSpace;
 use psr_base::Inputs;
 use search_engine::Engine;
+use search_model::MOST_TRANSFERS;
 use search_session::{Lane, NoGate, run_alone};
 use std::sync::Wait;
 
 // The first engine of a list.
-fn first_of(engines: &mut ArrayVec<Option<Engine>, 8>) -> Engine
+fn first_of(engines: &mut ArrayVec<Option<Engine>, MOST_TRANSFERS>) -> Engine
     requires { (e : EngineState) × HasEngine engines.old.items 0 e }
     ensures { (e : EngineState) → HasEngine engines.old.items 0 e → result ≡ e }
 {
@@ -34,8 +36,8 @@ fn first_of(engines: &mut ArrayVec<Option<Engine>, 8>) -> Engine
 
 // The engine of a lane that has one.
 fn engine_of(lane: Lane) -> Engine
-    requires { (e : EngineState) × HasEngine lane.engines.value.items 0 e }
-    ensures { (e : EngineState) → HasEngine lane.engines.value.items 0 e → result ≡ e }
+    requires { (e : EngineState) × HasEngine (engines_of lane) 0 e }
+    ensures { (e : EngineState) → HasEngine (engines_of lane) 0 e → result ≡ e }
 {
     let Lane { mut engines } = lane;
     first_of(&mut engines)
@@ -52,7 +54,8 @@ pub(crate) fn go_on<'a, I: Inputs, R: Wait>(
         (feeder_over inputs.old feeder) opened.observation scope opened.space }
     ensures inputs { HasReadFrom I.told I.is_calm I.faults (result.feed ≡ ReadFault) inputs.old
         inputs.new }
-    ensures broke { FaultLeaves I.told (feeder_over inputs.old feeder.entry) inputs.new result }
+    ensures broke { result.feed ≡ ReadFault → FaultLeaves I.told (I.is_calm inputs.old)
+        (feeder_over inputs.old feeder.entry) inputs.new result.blocks }
     ensures serves { I.is_calm inputs.old
         → HoldsAll (I.told inputs.old) (names_at (feeder_over inputs.old feeder.entry))
         → result.feed ≢ ReadFault }

@@ -1,6 +1,6 @@
 -- Where nothing stands against a run, it does not end at its words, its inputs or its files.
-use Rattle.std.proofs.Common.{◌≡◌, ◌≢◌, ◌⊎◌, ℕ, zero, suc, List, [], ◌∷◌, refl, inl, inr, sym, ap, subst, Some, None, Ok, Contains, arith}
-use Rattle.std.specs.Prelude.{Option, IsSome, length, true}
+use Rattle.std.proofs.Common.{◌≡◌, ◌≢◌, ◌⊎◌, ℕ, zero, suc, List, [], ◌∷◌, refl, inl, inr, sym, ap, ◌∙◌, ◌<◌, subst, Some, None, Ok, Contains, arith}
+use Rattle.std.specs.Prelude.{Option, IsSome, length, slice_index_or, true}
 use Rattle.psr_base.specs.Count.{Rose}
 use Rattle.psr_base.specs.Told.{Told, InputsSeen}
 use Rattle.dada_header.specs.declared.faults.HeaderFault.{HeaderFault}
@@ -16,10 +16,10 @@ use Rattle.search_model.specs.Plan.{PlanRefusal}
 use Rattle.search_model.specs.declared.search.Search.{Search}
 use Rattle.search_words.specs.Settings.{SettingsSeen}
 use Rattle.stream_model.specs.Walk as walk
-use Rattle.stream_model.specs.Walk.{FileStream, WalkStop, walk_stop}
+use Rattle.stream_model.specs.Walk.{FileStream, WalkStop, begin_of, walk_stop}
 use Rattle.stream_model.specs.WalkLaws.{AreWalked}
 use Rattle.stream_model.specs.Recorded.{RecordRefusal}
-use Rattle.disk_feeder.specs.Plan.{AreTold}
+use Rattle.disk_feeder.specs.Plan.{AreTold, AreToldAt, IsFirstFile}
 use Rattle.disk_feeder.specs.Filling.{HoldsAll}
 use Rattle.disk_feeder.specs.declared.answers.HeaderCause.{HeaderCause}
 use Rattle.disk_feeder.specs.declared.answers.HeaderCause.TheVariants.{Text, Fields}
@@ -28,14 +28,16 @@ use Rattle.run_stop.specs.declared.causes.PlanCause.TheVariants.{SumBound, FoldT
 use Rattle.run_stop.specs.declared.causes.RecordingCause.{RecordingCause}
 use Rattle.run_stop.specs.declared.causes.RecordingCause.TheVariants.{NoUtc, BadUtc, Overfull, TooManyFiles}
 use Rattle.run_stop.specs.declared.stop.Stop.{Stop}
-use Rattle.run_stop.specs.Runs.{Task, is_search, Says, CanSearchFirst, CanRecordFirst, CanBegin, stream_for, stop_of_walk, RefusesFirstHeader, RefusesSearch, RefusesToRecord, StopsWalk, IsPlanCause, IsRecordingCause}
+use Rattle.run_stop.specs.Firsts.{RefusesTextAt}
+use Rattle.run_stop.specs.Runs.{Task, Says, CanSearchFirst, CanRecordFirst, CanBegin, stream_for, stop_of_walk, RefusesFirstHeader, RefusesSearch, RefusesToRecord, RefusesFirsts, RefusesSearches, RefusesRecordings, StopsWalk, IsPlanCause, IsRecordingCause}
 use Rattle.run_stop.specs.Outcomes.{JudgesWords, ReadsInputs, StopsAtFiles}
 use Rattle.run_stop.specs.Ends.{AcceptedGoesOn, AcceptedIsNotRefused}
+use Rattle.run_stop.proofs.Needs.{told_at, of_file}
 
 -- ---- refusals
 
 -- bytes that have a header are not refused
-has_header : (file : List ℕ) (h : HeaderText) (fault : HeaderFault) → header_of file ≡ Ok h →
+pub has_header : (file : List ℕ) (h : HeaderText) (fault : HeaderFault) → header_of file ≡ Ok h →
     IsHeaderRefusal file fault → ⊥
 has_header file h (header.Short had) ok refused = cc
 has_header file h (header.NotText place) ok refused = cc
@@ -80,7 +82,8 @@ holds_all told names files are k below = subst IsSome (sym (are.each k below)) r
 
 -- ---- the run
 
-pub first_accepted : (w : FileStream) (file : ℕ) (cause : HeaderCause) → AreWalked w → RefusesFirstHeader w file cause → ⊥
+pub first_accepted : (w : FileStream) (file : ℕ) (cause : HeaderCause) → AreWalked w →
+    RefusesFirstHeader w file cause → ⊥
 first_accepted w file (Text fault) walked r =
     let a = walked.accepted r.transfer r.there in
     has_header _ a.header fault a.is_header r.cause
@@ -89,6 +92,24 @@ first_accepted w file (Fields fault) walked r =
     let same = one_header a.header r.header _ a.is_header r.has in
     has_observation (fields_of r.header.text) a.observation fault
     (subst (λ (h : HeaderText). observation_of (fields_of h.text) ≡ Ok a.observation) same a.is_observation) r.cause
+
+-- nor is the text of a first file, where it is told
+pub text_accepted : (told : Told) (s : SettingsSeen) (files : List (List ℕ)) (file : ℕ) (fault : HeaderFault) →
+    AreToldAt (IsFirstFile s.starts (length s.names)) told s.names files → AreWalked (stream_for s files) →
+    RefusesTextAt told s.names s.starts file fault → ⊥
+text_accepted told s files file fault are walked r =
+    let begin : begin_of (stream_for s files) r.transfer ≡ file =
+    ap (λ count. slice_index_or s.starts r.transfer count) are.count ∙ sym r.is in
+    let a = walked.accepted r.transfer r.there in
+    let here : header_of (slice_index_or files file []) ≡ Ok a.header =
+    subst (λ k. header_of (slice_index_or files k []) ≡ Ok a.header) begin a.is_header in
+    let below : file < length s.names =
+    subst (λ k. k < length s.names) begin
+    (subst (λ count. begin_of (stream_for s files) r.transfer < count) are.count
+    (walked.starts.within r.transfer r.there)) in
+    has_header (slice_index_or files file []) a.header fault here
+    (of_file told s.names files file (λ bytes. IsHeaderRefusal bytes fault)
+    (are.each file below (r.transfer, r.there, r.is)) r.refused)
 
 pub searches : (search : Search) (w : FileStream) (cause : PlanCause) → CanSearchFirst search w (length w.starts) →
     RefusesSearch search w cause → ⊥
@@ -111,18 +132,25 @@ module _ (task : Task) (words : List (List ℕ)) (inputs : InputsSeen) (is_calm 
   abbrev w : FileStream
   w = stream_for s files
 
-  not_three : (at : Option Finished) → blocks ≡ at → n ≢ 3
-  not_three None is e =
-      let r = stopped.first_header e is s files says are in
-      first_accepted w r.0 r.1 begins.accepted r.2
-  not_three (Some b) is e =
-      let r = stopped.later_header e (subst IsSome (sym is) refl) s files says are in
-      walks task s w whole _ r.2
+  refuses_none : (file : ℕ) (cause : HeaderCause) → RefusesFirsts task words inputs.told file cause → ⊥
+  refuses_none file (Text fault) r =
+      text_accepted inputs.told s files file fault (told_at inputs.told s.names files are) begins.accepted (r s says)
+  refuses_none file (Fields fault) r = first_accepted w file (Fields fault) begins.accepted
+      (r.1 s files says (told_at inputs.told s.names files are))
 
-  not_four_by : ((cause : PlanCause) × (is_search task ≡ true) × RefusesSearch s.search w cause)
-      ⊎ ((cause : RecordingCause) × RefusesToRecord task s w cause) → ⊥
-  not_four_by (inl r) = searches s.search w r.0 (begins.searched r.1) r.2
-  not_four_by (inr r) = records task s w r.0 begins.recorded r.1
+  not_three : (at : Option Finished) → blocks ≡ at → n ≢ 3
+  not_three None is e = let r = stopped.first_header e is in refuses_none r.0 r.1 r.2
+  not_three (Some b) is e =
+      let r = stopped.later_header e (subst IsSome (sym is) refl) in
+      let x = r.1.says s files says (told_at inputs.told s.names files are) in
+      walks task s w whole _ x.0.2
+
+  not_four_by : ((cause : PlanCause) × RefusesSearches task words inputs.told cause)
+      ⊎ ((cause : RecordingCause) × RefusesRecordings task words inputs.told cause) → ⊥
+  not_four_by (inl r) = searches s.search w r.0 (begins.searched r.1.0)
+      (r.1.1.1 s files says (told_at inputs.told s.names files are))
+  not_four_by (inr r) = records task s w r.0 begins.recorded
+      (r.1.1 s files says (told_at inputs.told s.names files are))
 
   not_six_by : is_calm ⊎ (¬ Rose inputs.faults_before inputs.faults_after) → n ≢ 6
   not_six_by (inl is) e = read.serves is s says (holds_all inputs.told s.names files are) e
@@ -130,17 +158,19 @@ module _ (task : Task) (words : List (List ℕ)) (inputs : InputsSeen) (is_calm 
 
   not_seven : n ≢ 7
   not_seven e =
-      let r = stopped.gap e s files says are in
-      walks task s w whole _ r.3
+      let r = stopped.gap e in
+      let x = r.1.says s files says (told_at inputs.told s.names files are) in
+      walks task s w whole _ x.0.3
 
   pub at_none : ¬ Contains (2 ∷ 3 ∷ 4 ∷ 6 ∷ 7 ∷ 8 ∷ []) n
   at_none (zero, below, is) = judged.refused (sym is) s says
   at_none (suc zero, below, is) = not_three blocks refl (sym is)
-  at_none (suc (suc zero), below, is) = not_four_by (stopped.plan (sym is) s files says are)
+  at_none (suc (suc zero), below, is) = not_four_by (stopped.plan (sym is))
   at_none (suc (suc (suc zero)), below, is) = not_six_by calm (sym is)
   at_none (suc (suc (suc (suc zero))), below, is) = not_seven (sym is)
   at_none (suc (suc (suc (suc (suc zero)))), below, is) =
-      walks task s w whole _ (stopped.too_long (sym is) s files says are)
+      let r = stopped.too_long (sym is) in
+      let x = r.1.says s files says (told_at inputs.told s.names files are) in walks task s w whole _ x.0
   at_none (suc (suc (suc (suc (suc (suc k))))), below, is) = omega (arith, below)
 
 pub goes_on : (is_calm : Type 0) → AcceptedGoesOn is_calm

@@ -1,6 +1,6 @@
 -- What the exit status says after a session.
-use Rattle.std.proofs.Common.{◌≡◌, ◌≢◌, ◌⊎◌, ℕ, zero, suc, ◌<◌, List, [], ◌∷◌, refl, inl, inr, sym, ap, ◌∙◌, subst, Some, None, true, false, Contains, lit<, arith}
-use Rattle.std.specs.Prelude.{Option, Bool}
+use Rattle.std.proofs.Common.{◌≡◌, ◌≢◌, ◌⊎◌, ℕ, zero, suc, ◌+◌, ◌<◌, List, [], ◌∷◌, refl, inl, inr, sym, ap, ◌∙◌, subst, Some, None, true, false, Contains, lit<, arith}
+use Rattle.std.specs.Prelude.{Option, Bool, length}
 use Rattle.psr_base.specs.Told.{Told}
 use Rattle.psr_base.specs.Made.{NamedBytes, FilesSeen}
 use Rattle.ring_blocks.specs.declared.Entry.{Entry}
@@ -14,17 +14,19 @@ use Rattle.disk_feeder.specs.declared.answers.FeedEnd.TheVariants as feed
 use Rattle.disk_feeder.specs.declared.answers.HeaderCause.{HeaderCause}
 use Rattle.disk_feeder.specs.Ends.{end_of}
 use Rattle.disk_feeder.specs.Feeding.{IsWalkEnd, IsBroken}
+use Rattle.disk_feeder.specs.Reading.{StopsAtFile}
 use Rattle.dada_recorder.specs.declared.answers.RecordEnd.{RecordEnd}
 use Rattle.dada_recorder.specs.declared.answers.RecordEnd.TheVariants as recorder
 use Rattle.run_stop.specs.declared.stop.Stop.{Stop}
 use Rattle.run_stop.specs.declared.stop.Stop.TheVariants.{Header, Gap, TooLong}
 use Rattle.run_stop.specs.Texts.{status_of}
 use Rattle.run_stop.specs.Conversions.{stop_of_feed}
-use Rattle.run_stop.specs.Runs.{Task, Says, ForFiles, CanBegin, StopsWalk, IsStopOf, stop_of_walk, stream_for}
+use Rattle.run_stop.specs.Runs.{Task, Says, ForFiles, ForFirsts, ForFilesTo, CanBegin, StopsWalk, StopsThere, StopsAt, PassesTo, SaysOfFiles, stop_of_walk, stream_for}
 use Rattle.run_stop.specs.Outcomes.{StopsAtFiles, SealsStream, RecordsFiles, MadeAll, MadeFront, files_of_stream, files_of_data}
 use Rattle.run_stop.specs.Laws.{WholeRunsRecordData}
 use Rattle.run_stop.specs.Ends.{IsRunFed, IsRecorded, IsLate, EndsAt}
 use Rattle.run_stop.proofs.Before.{none_stopped}
+use Rattle.run_stop.proofs.Needs.{told_at, told_less}
 
 -- what an option has
 one_list : (a b : Finished) → Some a ≡ Some b → a ≡ b
@@ -77,7 +79,7 @@ module _ (task : Task) (words : List (List ℕ)) (told : Told) (blocks : Finishe
 
   took : IsRecorded task words told blocks answer before after →
       (answer ≡ Some recorder.FileFault) ⊎ (answer ≢ Some recorder.FileFault) →
-      ForFiles task words told (λ s w. s.recording ≡ true →
+      ForFirsts task words told (λ s w. s.recording ≡ true →
       MadeAll (files_of_stream w s.file_size (sealed_at_end blocks)) before after
       ⊎ MadeFront (files_of_stream w s.file_size (sealed_at_end blocks)) before after)
   took r (inl failed) s files says are on = inr (r.front failed s files says are on)
@@ -101,12 +103,13 @@ module _ (task : Task) (words : List (List ℕ)) (told : Told) (blocks : Finishe
         let two = r.unrecorded s says off in (two.0, λ e. two.1 (failed e));
     all = λ e s files says are on. subst
         (λ (made : List NamedBytes). MadeAll made before after) (same (inl e) s files says are)
-        (r.all (all e) s files says are on);
+        (r.all (all e) s files says (told_at told s.names files are) on);
     front = λ e s files says are. subst
         (λ (made : List NamedBytes). MadeFront made before after) (same (inr e) s files says are)
-        (r.front (failed e) s files says are (records r (failed e) s says s.recording refl));
+        (r.front (failed e) s files says (told_at told s.names files are)
+        (records r (failed e) s says s.recording refl));
     stream = λ b e. subst
-        (λ (x : Finished). ForFiles task words told (λ s w. s.recording ≡ true →
+        (λ (x : Finished). ForFirsts task words told (λ s w. s.recording ≡ true →
         MadeAll (files_of_stream w s.file_size (sealed_at_end x)) before after
         ⊎ MadeFront (files_of_stream w s.file_size (sealed_at_end x)) before after))
         (one_list blocks b e) (took r (did_fail answer));
@@ -115,19 +118,38 @@ module _ (task : Task) (words : List (List ℕ)) (told : Told) (blocks : Finishe
     count = r.count;
   }
 
+  -- a status of a run whose data were all sealed is none of those between
+  pub apart : (n m : ℕ) → Contains (0 ∷ 9 ∷ 10 ∷ 11 ∷ []) n → 0 < m → m < 9 → n ≢ m
+  apart n m (zero, below, is) some few e = omega (arith, is, e, some)
+  apart n m (suc zero, below, is) some few e = omega (arith, is, e, few)
+  apart n m (suc (suc zero), below, is) some few e = omega (arith, is, e, few)
+  apart n m (suc (suc (suc zero)), below, is) some few e = omega (arith, is, e, few)
+  apart n m (suc (suc (suc (suc k))), below, is) some few e = omega (arith, below)
+
+  -- where all files are told, so are those that judge an end
+  all_told : (file : ℕ) (end : FeedEnd) →
+      ForFilesTo (file + 1) task words told (λ s w. IsWalkEnd w s.size (sealed_at_end blocks) end) →
+      ForFiles task words told (λ s w. IsWalkEnd w s.size (sealed_at_end blocks) end)
+  all_told file end walked s files says are = walked s files says (told_at told s.names files are)
+
   -- the blocks of a walk that went to its stop
   sealed_at : (n : ℕ) → Contains (0 ∷ 3 ∷ 6 ∷ 7 ∷ 8 ∷ 9 ∷ 10 ∷ 11 ∷ []) n → (end : FeedEnd) →
       IsRunFed task words told blocks end → n ≢ 6 →
+      (Contains (0 ∷ 9 ∷ 10 ∷ 11 ∷ []) n → (s : SettingsSeen) → Says task words s →
+      PassesTo (length s.names) task words told) →
       ForFiles task words told (λ s w. IsWalkEnd w s.size (sealed_at_end blocks) end) →
       SealsStream task words told (Some blocks) n
-  sealed_at n known end f six walked = record {
+  sealed_at n known end f six late walked = record {
     none = λ e. absurd cc;
     some = λ e. known;
+    begun = λ some. f.begun;
+    passed = λ some. late;
     sealed = λ b e other. subst
         (λ (x : Finished). ForFiles task words told (λ s w.
         CanBegin task s w × (sealed_at_end x ≡ walk_stream s.size w)))
         (one_list blocks b e)
-        (λ s files says are. (f.begun s files says are, (walked s files says are).stream));
+        (λ s files says are.
+        (f.begun.1 s files says (told_at told s.names files are), (walked s files says are).stream));
     broken = λ b e is. absurd (six is);
   }
 
@@ -137,12 +159,17 @@ module _ (task : Task) (words : List (List ℕ)) (told : Told) (blocks : Finishe
   sealed_broken f = record {
     none = λ e. absurd cc;
     some = λ e. (2, lit< tt, refl);
+    begun = λ some. f.begun;
+    passed = λ some late. absurd (apart 6 6 late (lit< tt) (lit< tt) refl);
     sealed = λ b e other. absurd (other refl);
     broken = λ b e is. subst
         (λ (x : Finished). ForFiles task words told (λ s w.
         CanBegin task s w × IsBroken w s.size (sealed_at_end x)))
         (one_list blocks b e)
-        (λ s files says are. (f.begun s files says are, f.walked s files says are));
+        (λ s files says are. (
+          f.begun.1 s files says (told_at told s.names files are),
+          f.walked s files says (told_at told s.names files are),
+        ));
   }
 
   -- at a status of a feeder's stop nothing is said of all data
@@ -158,36 +185,71 @@ module _ (task : Task) (words : List (List ℕ)) (told : Told) (blocks : Finishe
 
   -- ---- where the feeder was stopped
 
-  -- the walk stops there
-  stops : (end : FeedEnd) (stop : Stop) → IsRunFed task words told blocks end →
-      ForFiles task words told (λ s w. IsWalkEnd w s.size (sealed_at_end blocks) end) →
-      stop_of_feed end ≡ Some stop →
-      ForFiles task words told (λ s w. StopsWalk task s w stop)
-  stops end stop f walked is s files says are = record {
-    begins = f.begun s files says are;
-    stops = walk_stopped (stream_for s files) s.size (sealed_at_end blocks) end (Some stop)
-        (walked s files says are) is;
+  -- the walk stops so at some file, and what was sealed is its stream
+  abbrev StopsSo : Stop → Type 0
+  StopsSo stop = (file : ℕ) × StopsThere file task words told (λ s w.
+      StopsWalk task s w stop × (sealed_at_end blocks ≡ walk_stream s.size w))
+
+  stops : (end : FeedEnd) (stop : Stop) (f : IsRunFed task words told blocks end) →
+      ForFilesTo (f.at.file + 1) task words told (λ s w. IsWalkEnd w s.size (sealed_at_end blocks) end) →
+      ForFilesTo (f.at.file + 1) task words told (λ s w. StopsAtFile (walk_stop w) f.at.file) →
+      stop_of_feed end ≡ Some stop → StopsSo stop
+  stops end stop f walked at is = (
+    f.at.file,
+    record {
+      headers = f.begun.0;
+      passed = f.passed;
+      stops = at;
+      says = λ s files says are. (
+        record {
+          begins = f.begun.1 s files says (told_less told s.names files (λ k first. inr first) are);
+          stops = walk_stopped (stream_for s files) s.size (sealed_at_end blocks) end (Some stop)
+              (walked s files says are) is;
+        },
+        (walked s files says are).stream,
+      );
+    },
+  )
+
+  -- what follows of the files there
+  there : (P Q : SettingsSeen → FileStream → Type 0) →
+      ((s : SettingsSeen) (files : List (List ℕ)) → P s (stream_for s files) → Q s (stream_for s files)) → (file : ℕ) →
+      StopsThere file task words told P → StopsThere file task words told Q
+  there P Q more file at = record {
+    headers = at.headers;
+    passed = at.passed;
+    stops = at.stops;
+    says = λ s files says are. more s files (at.says s files says are);
   }
 
-  header_stopped : (file : ℕ) (cause : HeaderCause) →
-      ForFiles task words told (λ s w. StopsWalk task s w (Header file cause)) →
+  -- so a stop says of the files
+  stops_at : (stop : Stop) → StopsSo stop → StopsAt task words told stop
+  stops_at stop so = (so.0, there _ _ (λ s files x. x.0) so.0 so.1)
+
+  -- and of the blocks
+  sealed_is : (s : SettingsSeen) (w : FileStream) → sealed_at_end blocks ≡ walk_stream s.size w → (b : Finished) →
+      Some blocks ≡ Some b → sealed_at_end b ≡ walk_stream s.size w
+  sealed_is s w is b e = subst (λ (x : Finished). sealed_at_end x ≡ walk_stream s.size w) (one_list blocks b e) is
+
+  header_stopped : (k : ℕ) (cause : HeaderCause) → StopsSo (Header k cause) →
       StopsAtFiles task words told (Some blocks) 3
-  header_stopped file cause stop = record {
+  header_stopped k cause so = record {
     first_header = λ e none. absurd cc;
-    later_header = λ e some s files says are. (file, cause, stop s files says are);
+    later_header = λ e some.
+        (so.0, there _ _ (λ s files x. ((k, cause, x.0), sealed_is s (stream_for s files) x.1)) so.0 so.1);
     plan = λ e. absurd (omega (arith, e));
     gap = λ e. absurd (omega (arith, e));
     too_long = λ e. absurd (omega (arith, e));
   }
 
-  gap_stopped : (file expected found : ℕ) →
-      ForFiles task words told (λ s w. StopsWalk task s w (Gap file expected found)) →
+  gap_stopped : (k expected found : ℕ) → StopsSo (Gap k expected found) →
       StopsAtFiles task words told (Some blocks) 7
-  gap_stopped file expected found stop = record {
+  gap_stopped k expected found so = record {
     first_header = λ e. absurd (omega (arith, e));
     later_header = λ e. absurd (omega (arith, e));
     plan = λ e. absurd (omega (arith, e));
-    gap = λ e s files says are. (file, expected, found, stop s files says are);
+    gap = λ e.
+        (so.0, there _ _ (λ s files x. ((k, expected, found, x.0), sealed_is s (stream_for s files) x.1)) so.0 so.1);
     too_long = λ e. absurd (omega (arith, e));
   }
 
@@ -200,70 +262,77 @@ module _ (task : Task) (words : List (List ℕ)) (told : Told) (blocks : Finishe
   limit_is limit max_bytes (walk.Gap file expected found) is = absurd cc
   limit_is limit max_bytes (walk.TooLong file) is = one_limit max_bytes limit is
 
-  long_stopped : (limit : ℕ) →
-      ForFiles task words told (λ s w. StopsWalk task s w (TooLong limit)) →
+  long_stopped : (limit : ℕ) → StopsSo (TooLong limit) →
       StopsAtFiles task words told (Some blocks) 8
-  long_stopped limit stop = record {
+  long_stopped limit so = record {
     first_header = λ e. absurd (omega (arith, e));
     later_header = λ e. absurd (omega (arith, e));
     plan = λ e. absurd (omega (arith, e));
     gap = λ e. absurd (omega (arith, e));
-    too_long = λ e s files says are. let at = stop s files says are in
-        subst (λ n. StopsWalk task s (stream_for s files) (TooLong n))
-        (limit_is limit s.max_bytes (walk_stop (stream_for s files)) at.stops) at;
+    too_long = λ e. (
+      so.0,
+      there _ _ (λ s files x.
+          let w = stream_for s files in (
+            subst (λ n. StopsWalk task s w (TooLong n)) (limit_is limit s.max_bytes (walk_stop w) x.0.stops) x.0,
+            sealed_is s w x.1,
+          )) so.0 so.1,
+    );
   }
 
   pub ends_stopped : (end : FeedEnd) (stop : Stop) → IsRunFed task words told blocks end →
       IsRecorded task words told blocks answer before after → stop_of_feed end ≡ Some stop →
       EndsAt task words told (Some blocks) before after (status_of stop)
-      × ForFiles task words told (λ s w. IsStopOf task s w stop)
+      × SaysOfFiles task words told stop
   ends_stopped (feed.Whole bytes) stop f r is = absurd cc
   ends_stopped feed.ReadFault stop f r is =
       subst (λ (x : Stop). EndsAt task words told (Some blocks) before after (status_of x)
-      × ForFiles task words told (λ s w. IsStopOf task s w x)) (one_stop _ stop is) (
+      × SaysOfFiles task words told x) (one_stop _ stop is) (
         record {
           stopped = none_stopped task words told (Some blocks) 6 (λ e. omega (arith, e))
               (λ e. omega (arith, e)) (λ e. omega (arith, e)) (λ e. omega (arith, e));
           sealed = sealed_broken f;
           recorded = recorded_stopped 6 (λ e. omega (arith, e)) (λ e. omega (arith, e)) r;
         },
-        λ s files says are. tt,
+        tt,
       )
   ends_stopped (feed.BadHeader file cause) stop f r is =
-      let at = stops (feed.BadHeader file cause) (Header file cause) f f.walked refl in
+      let so = stops (feed.BadHeader file cause) (Header file cause) f f.walked f.stops refl in
       subst (λ (x : Stop). EndsAt task words told (Some blocks) before after (status_of x)
-      × ForFiles task words told (λ s w. IsStopOf task s w x)) (one_stop _ stop is) (
+      × SaysOfFiles task words told x) (one_stop _ stop is) (
         record {
-          stopped = header_stopped file cause at;
+          stopped = header_stopped file cause so;
           sealed = sealed_at 3 (1, lit< tt, refl) (feed.BadHeader file cause) f
-              (λ e. omega (arith, e)) f.walked;
+              (λ e. omega (arith, e)) (λ late. absurd (apart 3 3 late (lit< tt) (lit< tt) refl))
+              (all_told f.at.file (feed.BadHeader file cause) f.walked);
           recorded = recorded_stopped 3 (λ e. omega (arith, e)) (λ e. omega (arith, e)) r;
         },
-        λ s files says are. inr (at s files says are),
+        inr (stops_at (Header file cause) so),
       )
   ends_stopped (feed.Gap file expected found) stop f r is =
-      let at = stops (feed.Gap file expected found) (Gap file expected found) f f.walked refl in
+      let so = stops (feed.Gap file expected found) (Gap file expected found) f f.walked f.stops refl in
       subst (λ (x : Stop). EndsAt task words told (Some blocks) before after (status_of x)
-      × ForFiles task words told (λ s w. IsStopOf task s w x)) (one_stop _ stop is) (
+      × SaysOfFiles task words told x) (one_stop _ stop is) (
         record {
-          stopped = gap_stopped file expected found at;
+          stopped = gap_stopped file expected found so;
           sealed = sealed_at 7 (3, lit< tt, refl) (feed.Gap file expected found) f
-              (λ e. omega (arith, e)) f.walked;
+              (λ e. omega (arith, e)) (λ late. absurd (apart 7 7 late (lit< tt) (lit< tt) refl))
+              (all_told f.at.file (feed.Gap file expected found) f.walked);
           recorded = recorded_stopped 7 (λ e. omega (arith, e)) (λ e. omega (arith, e)) r;
         },
-        at,
+        stops_at (Gap file expected found) so,
       )
   ends_stopped (feed.TooLong limit) stop f r is =
-      let at = stops (feed.TooLong limit) (TooLong limit) f f.walked refl in
+      let so = stops (feed.TooLong limit) (TooLong limit) f f.walked f.stops refl in
       subst (λ (x : Stop). EndsAt task words told (Some blocks) before after (status_of x)
-      × ForFiles task words told (λ s w. IsStopOf task s w x)) (one_stop _ stop is) (
+      × SaysOfFiles task words told x) (one_stop _ stop is) (
         record {
-          stopped = long_stopped limit at;
+          stopped = long_stopped limit so;
           sealed = sealed_at 8 (4, lit< tt, refl) (feed.TooLong limit) f (λ e. omega (arith, e))
-              f.walked;
+              (λ late. absurd (apart 8 8 late (lit< tt) (lit< tt) refl))
+              (all_told f.at.file (feed.TooLong limit) f.walked);
           recorded = recorded_stopped 8 (λ e. omega (arith, e)) (λ e. omega (arith, e)) r;
         },
-        at,
+        stops_at (TooLong limit) so,
       )
 
   -- ---- where all data were sealed
@@ -276,36 +345,30 @@ module _ (task : Task) (words : List (List ℕ)) (told : Told) (blocks : Finishe
   late_known n (suc (suc (suc zero)), below, is) = (7, lit< tt, is)
   late_known n (suc (suc (suc (suc k))), below, is) = absurd (omega (arith, below))
 
-  -- it is none of the statuses between
-  pub apart : (n m : ℕ) → Contains (0 ∷ 9 ∷ 10 ∷ 11 ∷ []) n → 0 < m → m < 9 → n ≢ m
-  apart n m (zero, below, is) some few e = omega (arith, is, e, some)
-  apart n m (suc zero, below, is) some few e = omega (arith, is, e, few)
-  apart n m (suc (suc zero), below, is) some few e = omega (arith, is, e, few)
-  apart n m (suc (suc (suc zero)), below, is) some few e = omega (arith, is, e, few)
-  apart n m (suc (suc (suc (suc k))), below, is) some few e = omega (arith, below)
-
   pub ends_whole : WholeRunsRecordData → (end : FeedEnd) (n : ℕ) → IsRunFed task words told blocks end →
       IsRecorded task words told blocks answer before after → stop_of_feed end ≡ None →
       IsLate answer n →
       EndsAt task words told (Some blocks) before after n
       × ForFiles task words told (λ s w. CanBegin task s w × (walk_stop w ≡ walk.Whole))
   ends_whole law (feed.Whole bytes) n f r is late =
+      let walked = all_told f.at.file (feed.Whole bytes) f.walked in
       let whole : ForFiles task words told (λ s w. walk_stop w ≡ walk.Whole)
       = λ s files says are. let w = stream_for s files in
       whole_walk w.max_bytes (walk_stop w) (walk_stopped w s.size (sealed_at_end blocks)
-      (feed.Whole bytes) None (f.walked s files says are) refl) in (
+      (feed.Whole bytes) None (walked s files says are) refl) in (
         record {
           stopped = none_stopped task words told (Some blocks) n
               (apart n 3 late.known (lit< tt) (lit< tt)) (apart n 4 late.known (lit< tt) (lit< tt))
               (apart n 7 late.known (lit< tt) (lit< tt)) (apart n 8 late.known (lit< tt) (lit< tt));
           sealed = sealed_at n (late_known n late.known) (feed.Whole bytes) f
-              (apart n 6 late.known (lit< tt) (lit< tt)) f.walked;
+              (apart n 6 late.known (lit< tt) (lit< tt))
+              (λ known s says. subst (λ k. PassesTo k task words told) (f.last bytes refl s says) f.passed) walked;
           recorded = recorded_at n r late.all late.failed (λ e s files says are.
               let w = stream_for s files in
-              ap (files_of_stream w s.file_size) (f.walked s files says are).stream
+              ap (files_of_stream w s.file_size) (walked s files says are).stream
               ∙ law s.size s.file_size w (whole s files says are));
         },
-        λ s files says are. (f.begun s files says are, whole s files says are),
+        λ s files says are. (f.begun.1 s files says (told_at told s.names files are), whole s files says are),
       )
   ends_whole law feed.ReadFault n f r is late = absurd cc
   ends_whole law (feed.BadHeader file cause) n f r is late = absurd cc

@@ -10,7 +10,7 @@ use Rattle.run_stop.specs.declared.causes.RecordingCause.{RecordingCause}
 use Rattle.run_stop.specs.declared.stop.Stop.{Stop}
 use Rattle.run_stop.specs.declared.stop.Stop.TheVariants.{Words, Value, Header, Plan, Recording, Memory, ReadFault, Gap, TooLong, TooMany, SinkFault, FileFault}
 use Rattle.run_stop.specs.Texts.{status_of}
-use Rattle.run_stop.specs.Runs.{Task, Searching, RecordingAlone, Alone, ForFiles, IsStopOf}
+use Rattle.run_stop.specs.Runs.{Task, Searching, RecordingAlone, Alone, SaysOfFiles}
 use Rattle.run_stop.specs.Outcomes.{StopsAtFiles, SealsStream, RecordsFiles}
 use Rattle.run_stop.specs.Ends.{StopsBefore, EndsAt, WordsSayOnce}
 
@@ -34,6 +34,8 @@ module _ (task : Task) (words : List (List ℕ)) (told : Told) where
   none_sealed n known = record {
     none = λ e. known;
     some = λ some. absurd cc;
+    begun = λ some. absurd cc;
+    passed = λ some. absurd cc;
     sealed = λ b e. absurd cc;
     broken = λ b e. absurd cc;
   }
@@ -65,7 +67,7 @@ module _ (task : Task) (words : List (List ℕ)) (told : Told) where
   header_stopped : (file : ℕ) (cause : HeaderCause) →
       StopsBefore task words told (Header file cause) → StopsAtFiles task words told None 3
   header_stopped file cause b = record {
-    first_header = λ e f s files says are. (file, cause, b.says s files says are);
+    first_header = λ e f. (file, cause, b.says);
     later_header = λ e some. absurd cc;
     plan = λ e. absurd (omega (arith, e));
     gap = λ e. absurd (omega (arith, e));
@@ -77,7 +79,7 @@ module _ (task : Task) (words : List (List ℕ)) (told : Told) where
   plan_stopped cause b = record {
     first_header = λ e. absurd (omega (arith, e));
     later_header = λ e. absurd (omega (arith, e));
-    plan = λ e s files says are. let two = b.says s files says are in inl (cause, two.0, two.1);
+    plan = λ e. inl (cause, b.says);
     gap = λ e. absurd (omega (arith, e));
     too_long = λ e. absurd (omega (arith, e));
   }
@@ -87,7 +89,7 @@ module _ (task : Task) (words : List (List ℕ)) (told : Told) where
   recording_stopped cause b = record {
     first_header = λ e. absurd (omega (arith, e));
     later_header = λ e. absurd (omega (arith, e));
-    plan = λ e s files says are. inr (cause, b.says s files says are);
+    plan = λ e. inr (cause, b.says);
     gap = λ e. absurd (omega (arith, e));
     too_long = λ e. absurd (omega (arith, e));
   }
@@ -118,20 +120,19 @@ module _ (task : Task) (words : List (List ℕ)) (told : Told) where
   at_status SinkFault b = absurd b.kind
   at_status FileFault b = absurd b.kind
 
-  pub says_of : (stop : Stop) → StopsBefore task words told stop →
-      ForFiles task words told (λ s w. IsStopOf task s w stop)
-  says_of Words b s files says are = absurd b.kind
-  says_of (Value opt) b s files says are = absurd b.kind
-  says_of (Header file cause) b s files says are = inl (b.says s files says are)
-  says_of (Plan cause) b s files says are = b.says s files says are
-  says_of (Recording cause) b s files says are = b.says s files says are
-  says_of Memory b s files says are = tt
-  says_of ReadFault b s files says are = tt
-  says_of (Gap file expected found) b s files says are = absurd b.kind
-  says_of (TooLong limit) b s files says are = absurd b.kind
-  says_of (TooMany count limit) b s files says are = absurd b.kind
-  says_of SinkFault b s files says are = absurd b.kind
-  says_of FileFault b s files says are = absurd b.kind
+  pub says_of : (stop : Stop) → StopsBefore task words told stop → SaysOfFiles task words told stop
+  says_of Words b = absurd b.kind
+  says_of (Value opt) b = absurd b.kind
+  says_of (Header file cause) b = inl b.says
+  says_of (Plan cause) b = b.says
+  says_of (Recording cause) b = b.says
+  says_of Memory b = tt
+  says_of ReadFault b = tt
+  says_of (Gap file expected found) b = absurd b.kind
+  says_of (TooLong limit) b = absurd b.kind
+  says_of (TooMany count limit) b = absurd b.kind
+  says_of SinkFault b = absurd b.kind
+  says_of FileFault b = absurd b.kind
 
 pub say_once : WordsSayOnce
 say_once Searching words s t a b = a.values ∙ sym b.values

@@ -226,14 +226,14 @@ at_words is_calm task words inputs seen fault stop why is still =
       least = omega arith;
       most = omega arith;
       run = refused Refused out refl;
-      said = (out, λ s files says are. tt);
+      said = (out, tt);
     }
     by_fault (OutOfRange opt) out = record {
       known = (0, lit< tt, refl);
       least = omega arith;
       most = omega arith;
       run = refused (OutOfRange opt) out refl;
-      said = (out, λ s files says are. tt);
+      said = (out, tt);
     }
     by_fault words_fault.Memory out = record {
       known = (3, lit< tt, refl);
@@ -246,7 +246,7 @@ at_words is_calm task words inputs seen fault stop why is still =
             (λ e. omega (arith, e)) (λ e. omega (arith, e)) (λ e. omega (arith, e)) (λ e. omega (arith, e))
             (λ e. omega (arith, e)) seen;
       };
-      said = (tt, λ s files says are. tt);
+      said = (tt, tt);
     }
 
 pub before_session : (is_calm : Type 0) → EndBeforeSession is_calm

@@ -1,6 +1,6 @@
 -- How a run of either program ends, before its session or after it, and what its exit status then says.
 -- Source: this project's choice.
-use Rattle.std.specs.Prelude.{◌≡◌, ◌≢◌, ℕ, ◌≤◌, ◌⊎◌, ⊤, true, false, List, [], ◌∷◌, length, Option, Some, None, Contains}
+use Rattle.std.specs.Prelude.{◌≡◌, ◌≢◌, ℕ, ◌+◌, ◌≤◌, ◌⊎◌, ⊤, true, false, List, [], ◌∷◌, length, Option, Some, None, Contains}
 use Rattle.psr_base.specs.Count.{Rose}
 use Rattle.psr_base.specs.Told.{Told, InputsSeen}
 use Rattle.psr_base.specs.Made.{FilesSeen}
@@ -10,13 +10,17 @@ use Rattle.search_model.specs.declared.search.Search.{Search}
 use Rattle.search_words.specs.Settings.{SettingsSeen}
 use Rattle.stream_model.specs.Walk as walk
 use Rattle.stream_model.specs.Walk.{FileStream, walk_stop}
-use Rattle.stream_model.specs.WalkLaws.{AreWalked}
+use Rattle.stream_model.specs.WalkLaws.{AreStarts, AreWalked}
 use Rattle.disk_feeder.specs.declared.answers.FeedEnd.{FeedEnd}
 use Rattle.disk_feeder.specs.declared.answers.FeedEnd.TheVariants as feeder
 use Rattle.disk_feeder.specs.declared.answers.HeaderCause.{HeaderCause}
-use Rattle.disk_feeder.specs.Feeding.{EndIs}
+use Rattle.disk_feeder.specs.declared.answers.HeaderCause.TheVariants.{Text, Fields}
+use Rattle.dada_header.specs.declared.faults.HeaderFault.{HeaderFault}
+use Rattle.disk_feeder.specs.declared.place.Place.{Place}
+use Rattle.disk_feeder.specs.Feeding.{EndIs, StopsWalkAt}
 use Rattle.disk_feeder.specs.Filling.{HoldsAll}
-use Rattle.disk_feeder.specs.Plan.{AreTold}
+use Rattle.disk_feeder.specs.Plan.{AreTold, AreToldAt, IsFirstFile, IsFirstBefore, IsAmong}
+use Rattle.disk_feeder.specs.Reading.{StopsAtFile, judged_at}
 use Rattle.dada_recorder.specs.declared.answers.RecordEnd.{RecordEnd}
 use Rattle.dada_recorder.specs.declared.answers.RecordEnd.TheVariants as recorder
 use Rattle.run_stop.specs.declared.causes.PlanCause.{PlanCause}
@@ -24,10 +28,11 @@ use Rattle.run_stop.specs.declared.causes.RecordingCause.{RecordingCause}
 use Rattle.run_stop.specs.declared.stop.Stop.{Stop}
 use Rattle.run_stop.specs.declared.stop.Stop.TheVariants.{Words, Value, Header, Plan, Recording, Memory, ReadFault, Gap, TooLong, TooMany, SinkFault, FileFault}
 use Rattle.run_stop.specs.Texts.{status_of}
+use Rattle.run_stop.specs.Firsts.{RefusesFirstText, RefusesFirstFields}
 use Rattle.search_words.specs.declared.fault.WordFault.{WordFault}
 use Rattle.run_stop.specs.Conversions.{stop_of_words, stop_of_feed}
-use Rattle.run_stop.specs.Runs.{Task, is_search, Says, ForFiles, stream_for, CanSearchFirst, CanRecordFirst, CanBegin, RefusesFirstHeader, RefusesSearch, RefusesToRecord, IsStopOf, IsStopOfWords, Explains}
-use Rattle.run_stop.specs.Outcomes.{JudgesWords, ReadsInputs, StopsAtFiles, SealsStream, RecordsFiles, MadeAll, MadeFront, files_of_stream}
+use Rattle.run_stop.specs.Runs.{Task, is_search, Says, ForFiles, ForFirsts, ForFilesTo, JudgesFirsts, PassesTo, stream_for, CanSearchFirst, CanRecordFirst, CanBegin, RefusesFirstHeader, RefusesSearch, RefusesToRecord, RefusesFirsts, RefusesSearches, RefusesRecordings, StopsWalk, SaysOfFiles, IsStopOfWords, Explains}
+use Rattle.run_stop.specs.Outcomes.{JudgesWords, ReadsInputs, LeavesAtFault, StopsAtFiles, SealsStream, RecordsFiles, MadeAll, MadeFront, files_of_stream}
 
 -- the status of a run that came to a stop, or to none
 abbrev pub end_status : Option Stop → ℕ
@@ -37,8 +42,8 @@ end_status (Some stop) = status_of stop
 -- what a stop, where there is one, says of the words and of the files
 abbrev pub IsSaid : Task → List (List ℕ) → Told → Option Stop → Type 0
 IsSaid task words told None = ⊤
-IsSaid task words told (Some stop) = IsStopOfWords task words stop
-    × ForFiles task words told (λ s w. IsStopOf task s w stop)
+IsSaid task words told (Some stop) =
+    IsStopOfWords task words stop × SaysOfFiles task words told stop
 
 -- what the exit status says of the files and of the data ring
 pub record EndsAt
@@ -97,13 +102,13 @@ WordsSayOnce = (task : Task) (words : List (List ℕ)) (s t : SettingsSeen) →
 -- ---- before the session
 
 -- what a stop between the words and the session says of the files; others don't come there
-abbrev pub SaysBefore : Task → SettingsSeen → FileStream → Stop → Type 0
-SaysBefore task s w (Header file cause) = RefusesFirstHeader w file cause
-SaysBefore task s w (Plan cause) = (is_search task ≡ true) × RefusesSearch s.search w cause
-SaysBefore task s w (Recording cause) = RefusesToRecord task s w cause
-SaysBefore task s w Memory = ⊤
-SaysBefore task s w ReadFault = ⊤
-SaysBefore task s w _ = ⊥
+abbrev pub SaysBefore : Task → List (List ℕ) → Told → Stop → Type 0
+SaysBefore task words told (Header file cause) = RefusesFirsts task words told file cause
+SaysBefore task words told (Plan cause) = RefusesSearches task words told cause
+SaysBefore task words told (Recording cause) = RefusesRecordings task words told cause
+SaysBefore task words told Memory = ⊤
+SaysBefore task words told ReadFault = ⊤
+SaysBefore task words told _ = ⊥
 
 abbrev pub ComesBefore : Stop → Type 0
 ComesBefore Words = ⊥
@@ -118,7 +123,7 @@ ComesBefore _ = ⊤
 pub record StopsBefore (task : Task) (words : List (List ℕ)) (told : Told) (stop : Stop) :
     Type 0 where
   pub kind : ComesBefore stop
-  pub says : ForFiles task words told (λ s w. SaysBefore task s w stop)
+  pub says : SaysBefore task words told stop
 
 -- no block was sealed, and no file was made
 abbrev pub EndBeforeSession : Type 0 → Type 0
@@ -130,12 +135,18 @@ EndBeforeSession is_calm = (task : Task) (words : List (List ℕ)) (s : Settings
 
 -- ---- after it
 
--- a session went through: nothing stood against it, and its feeder ended so
+-- a session went through: nothing stood against it, and its feeder ended so at some place
 pub record IsRunFed
     (task : Task) (words : List (List ℕ)) (told : Told) (blocks : Finished) (feed : FeedEnd)
     : Type 0 where
-  pub begun : ForFiles task words told (λ s w. CanBegin task s w)
-  pub walked : ForFiles task words told (λ s w. EndIs w s.size (sealed_at_end blocks) feed)
+  pub begun : JudgesFirsts task words told (λ s w. CanBegin task s w)
+  pub at : Place
+  pub last : (bytes : ℕ) → feed ≡ feeder.Whole bytes → (s : SettingsSeen) → Says task words s →
+      at.file ≡ length s.names
+  pub passed : PassesTo at.file task words told
+  pub walked : ForFilesTo (judged_at feed at) task words told (λ s w.
+      EndIs w s.size (sealed_at_end blocks) feed)
+  pub stops : ForFilesTo (judged_at feed at) task words told (λ s w. StopsWalkAt feed w at.file)
 
 -- and recorded what went through, or a front of it where a call failed; or was to record nothing
 pub record IsRecorded
@@ -143,10 +154,11 @@ pub record IsRecorded
     (answer : Option RecordEnd) (before after : FilesSeen) : Type 0 where
   pub unrecorded : (s : SettingsSeen) → Says task words s → s.recording ≡ false →
       (after ≡ before) × (answer ≢ Some recorder.FileFault)
-  pub all : answer ≢ Some recorder.FileFault → ForFiles task words told (λ s w. s.recording ≡ true →
+  pub all : answer ≢ Some recorder.FileFault →
+      ForFirsts task words told (λ s w. s.recording ≡ true →
       MadeAll (files_of_stream w s.file_size (sealed_at_end blocks)) before after)
   pub front : answer ≡ Some recorder.FileFault →
-      ForFiles task words told (λ s w. s.recording ≡ true →
+      ForFirsts task words told (λ s w. s.recording ≡ true →
       MadeFront (files_of_stream w s.file_size (sealed_at_end blocks)) before after)
   pub rose : answer ≡ Some recorder.FileFault → Rose before.faults after.faults
   pub quiet : answer ≢ Some recorder.FileFault → after.faults ≡ before.faults
@@ -209,3 +221,51 @@ pub record AcceptedIsNotRefused : Type 0 where
   pub recording : (task : Task) (s : SettingsSeen) (w : FileStream) (cause : RecordingCause) →
       (s.recording ≡ true → CanRecordFirst s.file_size w (length w.starts)) →
       ¬ RefusesToRecord task s w cause
+
+-- ---- what stands against a run, whatever is told of files that are opened later
+
+-- Q holds of each run of which this is known, over inputs that are calm or count no fault: what its exit status says of
+-- words, inputs, files and data ring, and what a fault of the inputs leaves
+abbrev pub ForRuns : Type 0 → (Task → List (List ℕ) → Told → ℕ → Type 0) → Type 0
+ForRuns is_calm Q = (task : Task) (words : List (List ℕ)) (inputs : InputsSeen) (after : Told)
+    (blocks : Option Finished) (status : ℕ) → JudgesWords task words status →
+    ReadsInputs task words inputs is_calm status →
+    StopsAtFiles task words inputs.told blocks status →
+    SealsStream task words inputs.told blocks status →
+    (status ≡ 6 → LeavesAtFault task words is_calm inputs.told after blocks) →
+    is_calm ⊎ ¬ Rose inputs.faults_before inputs.faults_after → Q task words inputs.told status
+
+-- it ends with the status of this stop, or for want of memory
+abbrev pub EndsSo : Stop → ℕ → Type 0
+EndsSo stop status = Contains (status_of stop ∷ 5 ∷ []) status
+
+-- a first file has no header, and those of the transfers before it have: it ends so, by these alone
+abbrev pub TextsAreAnswered : Type 0 → Type 0
+TextsAreAnswered is_calm = ForRuns is_calm (λ task words told status. (s : SettingsSeen)
+    (files : List (List ℕ)) (file : ℕ) (fault : HeaderFault) → Says task words s →
+    AreStarts s.starts (length s.names) →
+    AreToldAt (IsFirstBefore (file + 1) s.starts (length s.names)) told s.names files →
+    RefusesFirstText (stream_for s files) file fault → EndsSo (Header file (Text fault)) status)
+
+-- what a stop that comes before data are read says of the first files, where all of these have headers
+abbrev pub RefusesByFirsts : Task → SettingsSeen → FileStream → Stop → Type 0
+RefusesByFirsts task s w (Header file (Fields fault)) = RefusesFirstFields w file fault
+RefusesByFirsts task s w (Plan cause) = (is_search task ≡ true) × RefusesSearch s.search w cause
+RefusesByFirsts task s w (Recording cause) = RefusesToRecord task s w cause
+RefusesByFirsts task s w _ = ⊥
+
+-- a first header says no observation, or a search or a recording is refused: it ends so, by the first files alone
+abbrev pub FirstsAreAnswered : Type 0 → Type 0
+FirstsAreAnswered is_calm = ForRuns is_calm (λ task words told status. (s : SettingsSeen)
+    (files : List (List ℕ)) (stop : Stop) → Says task words s →
+    AreStarts s.starts (length s.names) →
+    AreToldAt (IsFirstFile s.starts (length s.names)) told s.names files →
+    RefusesByFirsts task s (stream_for s files) stop → EndsSo stop status)
+
+-- the walk of some files stops at one of them: it ends so, by the files up to that one and the first ones alone
+abbrev pub StopsAreAnswered : Type 0 → Type 0
+StopsAreAnswered is_calm = ForRuns is_calm (λ task words told status. (s : SettingsSeen)
+    (files : List (List ℕ)) (file : ℕ) (stop : Stop) → Says task words s →
+    AreToldAt (IsAmong (file + 1) s.starts (length s.names)) told s.names files →
+    StopsWalk task s (stream_for s files) stop →
+    StopsAtFile (walk_stop (stream_for s files)) file → EndsSo stop status)

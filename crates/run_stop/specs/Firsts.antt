@@ -1,13 +1,14 @@
 -- The first files of transfers, and the first header of them that is refused: the texts are judged in order, and then
 -- what they say.
 -- Source: PSRDADA manual (a transfer is what one header describes); what is refused is this project's choice.
-use Rattle.std.specs.Prelude.{◌≡◌, ◌<◌, ℕ, List, length, Ok}
-use Rattle.psr_base.specs.Told.{Told}
+use Rattle.std.specs.Prelude.{◌≡◌, ◌+◌, ◌<◌, ℕ, List, [], length, slice_index_or, IsSome, Ok}
+use Rattle.psr_base.specs.Told.{Told, OfFile}
 use Rattle.dada_model.specs.Fields.{HeaderText, fields_of, header_of}
 use Rattle.dada_header.specs.declared.faults.HeaderFault.{HeaderFault}
 use Rattle.dada_header.specs.Faults.{IsHeaderRefusal}
 use Rattle.disk_feeder.specs.Front.{BreaksAt}
-use Rattle.disk_feeder.specs.History.{firsts_read, name_of_first}
+use Rattle.disk_feeder.specs.History.{firsts_read, name_of_first, file_name}
+use Rattle.disk_feeder.specs.Plan.{begin_at, IsFirstBefore, AreToldAt}
 use Rattle.obs_plan.specs.declared.fault.ObsFault.{ObsFault}
 use Rattle.obs_plan.specs.Faults.{IsRefusedFirst}
 use Rattle.stream_model.specs.Walk.{FileStream, file_at, begin_of}
@@ -26,14 +27,46 @@ abbrev pub ReadsFirsts : List (List ℕ) → FileStream → Told → Told → Ty
 ReadsFirsts names w before after =
     after ≡ firsts_read (name_of_first names w) (first_file w) (length w.starts) before
 
--- a fault came before the first header of this transfer was judged, and after those of the transfers before it were
--- read, which have headers
-pub record BreaksFirstOf (names : List (List ℕ)) (w : FileStream) (transfer : ℕ)
+-- ---- each file by itself
+
+-- the number of a transfer's first file, and its name, of files with these names
+abbrev pub first_at : List (List ℕ) → List ℕ → ℕ → ℕ
+first_at names starts transfer = begin_at starts (length names) transfer
+
+abbrev pub first_name : List (List ℕ) → List ℕ → ℕ → List ℕ
+first_name names starts transfer = file_name names (first_at names starts transfer)
+
+-- the first files of so many transfers have headers, each of them that is told
+abbrev pub HaveHeaders : Told → List (List ℕ) → List ℕ → ℕ → Type 0
+HaveHeaders told names starts count = (k : ℕ) → k < count →
+    OfFile told (first_name names starts k) HasHeader
+
+-- this file is the first one of some transfer and has no header, and those of the transfers before it have
+pub record RefusesTextAt (told : Told) (names : List (List ℕ)) (starts : List ℕ) (file : ℕ)
+    (fault : HeaderFault) : Type 0 where
+  pub transfer : ℕ
+  pub there : transfer < length starts
+  pub is : file ≡ first_at names starts transfer
+  pub refused : OfFile told (file_name names file) (λ bytes. IsHeaderRefusal bytes fault)
+  pub earlier : HaveHeaders told names starts transfer
+
+-- A fault came before the header of some transfer's first file was judged. Those of the transfers before it have
+-- headers; where they and the file are told, they were read, and of it not enough to judge its header. Calm inputs fail
+-- only where it isn't told.
+pub record BreaksFirstAt (names : List (List ℕ)) (starts : List ℕ) (is_calm : Type 0)
     (before after : Told) : Type 0 where
-  pub there : transfer < length w.starts
-  pub earlier : (k : ℕ) → k < transfer → HasHeader (first_file w k)
-  pub broke : BreaksAt (name_of_first names w transfer) (first_file w transfer)
-      (firsts_read (name_of_first names w) (first_file w) transfer before) after
+  pub transfer : ℕ
+  pub there : transfer < length starts
+  pub earlier : HaveHeaders before names starts transfer
+  pub broke : (files : List (List ℕ)) →
+      AreToldAt (IsFirstBefore (first_at names starts transfer + 1) starts (length names)) before
+      names files →
+      let first_of : ℕ → List ℕ = λ k. slice_index_or files (first_at names starts k) [] in
+      BreaksAt (first_name names starts transfer) (first_of transfer)
+      (firsts_read (first_name names starts) first_of transfer before) after
+  pub missing : is_calm → ¬ IsSome (before.bytes_under (first_name names starts transfer))
+
+-- ---- over the files as a walk sees them
 
 -- the first file of some transfer has no header, and those of the transfers before it have
 pub record RefusesFirstText (w : FileStream) (file : ℕ) (fault : HeaderFault) : Type 0 where

@@ -14,16 +14,19 @@ use Rattle.stream_model.specs.Blocks.{ended_transfers, transfer_bytes}
 use Rattle.stream_model.specs.Walk.{FileStream, transfer_data, walk_stream}
 use Rattle.stream_model.specs.RecordedLaws.{RecordedTransfer, recorded_of_transfers}
 use Rattle.dada_recorder.specs.Making.{Outset, BeginsAt, HasMade, BreaksOff}
-use Rattle.disk_feeder.specs.Feeding.{IsBroken, BreaksReading}
+use Rattle.disk_feeder.specs.declared.place.Place.{Place}
+use Rattle.disk_feeder.specs.Feeding.{IsBroken, IsCutAt}
 use Rattle.disk_feeder.specs.Filling.{HoldsAll}
+use Rattle.disk_feeder.specs.History.{file_name, BreaksIf}
+use Rattle.disk_feeder.specs.Plan.{opened_at}
 use Rattle.disk_feeder.specs.declared.answers.HeaderCause.{HeaderCause}
-use Rattle.run_stop.specs.Firsts.{ReadsFirsts, BreaksFirstOf}
+use Rattle.run_stop.specs.Firsts.{ReadsFirsts, BreaksFirstAt}
 use Rattle.run_stop.specs.declared.causes.PlanCause.{PlanCause}
 use Rattle.run_stop.specs.declared.causes.RecordingCause.{RecordingCause}
 use Rattle.run_stop.specs.declared.stop.Stop.{Stop}
 use Rattle.run_stop.specs.declared.stop.Stop.TheVariants.{Header, Gap, TooLong}
 use Rattle.run_stop.specs.Texts.{status_of, note_of}
-use Rattle.run_stop.specs.Runs.{Task, is_search, Says, ForFiles, first_recording, CanBegin, RefusesFirstHeader, RefusesSearch, RefusesToRecord, StopsWalk, IsStopOf, IsStopOfWords}
+use Rattle.run_stop.specs.Runs.{Task, Says, ForFiles, ForFirsts, ForFilesTo, first_recording, CanBegin, JudgesFirsts, RefusesFirsts, RefusesSearches, RefusesRecordings, PassesTo, StopsThere, StopsWalk, SaysOfFiles, IsStopOfWords}
 
 -- ---- the words
 
@@ -47,45 +50,75 @@ pub record ReadsInputs
 -- no file was opened; or the first file of each transfer was, in order, and no byte past its header was read
 abbrev pub ReadsNoData : Task → List (List ℕ) → Told → Told → Type 0
 ReadsNoData task words before after = (after ≡ before)
-    ⊎ ForFiles task words before (λ s w. ReadsFirsts s.names w before after)
+    ⊎ ForFirsts task words before (λ s w. ReadsFirsts s.names w before after)
 
--- What a fault of the inputs leaves. Before the session, where no block was sealed, the first header of some transfer
--- isn't judged by what was read. From the session on all first headers are accepted, nothing that was read stops the
--- walk of the files, and the full blocks of the transfer are those of the data bytes that were read of it.
-abbrev pub LeavesAtFault : Task → List (List ℕ) → Told → Told → Option Finished → Type 0
-LeavesAtFault task words before after None = (transfer : ℕ) × ForFiles task words before (λ s w.
-    BreaksFirstOf s.names w transfer before after)
-LeavesAtFault task words before after (Some b) = ForFiles task words before (λ s w.
-    CanBegin task s w × BreaksReading s.names w before after s.size (sealed_at_end b))
+-- What a fault of the inputs leaves before the session: the header of some transfer's first file isn't judged by what
+-- was read, and those of the transfers before it have headers.
+abbrev pub BreaksFirsts : Task → List (List ℕ) → Type 0 → Told → Told → Type 0
+BreaksFirsts task words is_calm before after = (s : SettingsSeen) → Says task words s →
+    BreaksFirstAt s.names s.starts is_calm before after
+
+-- What it leaves from the session on: all first headers are accepted, and it came at this place. No file before that of
+-- the place stops the walk, by the files up to it. By those that were opened, nothing that was read does, and the full
+-- blocks of the transfer are those of the data bytes that were read of it. Where the file at the place is told, it was
+-- not opened or its header isn't judged, or it was read up to the place. Calm inputs fail only where it isn't told.
+pub record BreaksWalk
+    (task : Task) (words : List (List ℕ)) (is_calm : Type 0) (before after : Told)
+    (blocks : Finished) : Type 0 where
+  pub at : Place
+  pub begun : JudgesFirsts task words before (λ s w. CanBegin task s w)
+  pub passed : PassesTo at.file task words before
+  pub cut : ForFilesTo (opened_at at) task words before (λ s w.
+      IsCutAt w at s.size (sealed_at_end blocks))
+  pub stood : ForFilesTo (at.file + 1) task words before (λ s w.
+      BreaksIf at.is_open s.names w before after at)
+  pub missing : is_calm → (s : SettingsSeen) → Says task words s →
+      (at.file < length s.names) × ¬ IsSome (before.bytes_under (file_name s.names at.file))
+
+-- what a fault of the inputs leaves, by whether there were blocks of data
+abbrev pub LeavesAtFault : Task → List (List ℕ) → Type 0 → Told → Told → Option Finished → Type 0
+LeavesAtFault task words is_calm before after None = BreaksFirsts task words is_calm before after
+LeavesAtFault task words is_calm before after (Some blocks) =
+    BreaksWalk task words is_calm before after blocks
 
 -- ---- the files that are read
 
+-- the walk stops at some file, and P holds there; what was sealed is its stream
+abbrev pub StopsSealed
+    : Task → List (List ℕ) → Told → Option Finished → (SettingsSeen → FileStream → Type 0) → Type 0
+StopsSealed task words told blocks P = (file : ℕ) × StopsThere file task words told (λ s w.
+    P s w × ((b : Finished) → blocks ≡ Some b → sealed_at_end b ≡ walk_stream s.size w))
+
 -- 3 only where a header is refused, of the first ones before data are read or where the walk stops at it; 4 only where
--- a search or a recording is; 7 only where the walk stops at a gap, and 8 only where there are too many data
+-- a search or a recording is; 7 only where the walk stops at a gap, and 8 only where there are too many data. Each is
+-- so by the files that are opened up to there, the first one of each transfer among them, whatever comes after these.
 pub record StopsAtFiles
     (task : Task) (words : List (List ℕ)) (told : Told) (blocks : Option Finished)
     (status : ℕ) : Type 0 where
-  pub first_header : status ≡ 3 → blocks ≡ None → ForFiles task words told (λ s w.
-      (file : ℕ) × (cause : HeaderCause) × RefusesFirstHeader w file cause)
-  pub later_header : status ≡ 3 → IsSome blocks → ForFiles task words told (λ s w.
+  pub first_header : status ≡ 3 → blocks ≡ None → (file : ℕ) × (cause : HeaderCause)
+      × RefusesFirsts task words told file cause
+  pub later_header : status ≡ 3 → IsSome blocks → StopsSealed task words told blocks (λ s w.
       (file : ℕ) × (cause : HeaderCause) × StopsWalk task s w (Header file cause))
-  pub plan : status ≡ 4 → ForFiles task words told (λ s w.
-      ((cause : PlanCause) × (is_search task ≡ true) × RefusesSearch s.search w cause)
-      ⊎ ((cause : RecordingCause) × RefusesToRecord task s w cause))
-  pub gap : status ≡ 7 → ForFiles task words told (λ s w.
+  pub plan : status ≡ 4 → ((cause : PlanCause) × RefusesSearches task words told cause)
+      ⊎ ((cause : RecordingCause) × RefusesRecordings task words told cause)
+  pub gap : status ≡ 7 → StopsSealed task words told blocks (λ s w.
       (file : ℕ) × (expected : ℕ) × (found : ℕ) × StopsWalk task s w (Gap file expected found))
-  pub too_long : status ≡ 8 → ForFiles task words told (λ s w.
+  pub too_long : status ≡ 8 → StopsSealed task words told blocks (λ s w.
       StopsWalk task s w (TooLong s.max_bytes))
 
 -- ---- the data ring
 
 -- What went through the data ring, which is there from the session on: the stream of the walk, whole or abandoned; at a
--- fault of the inputs an abandoned stream of what was read.
+-- fault of the inputs an abandoned stream of what was read. Nothing stands against a run then by its first files, and
+-- where all data were sealed no file stops the walk, each by the files up to it.
 pub record SealsStream
     (task : Task) (words : List (List ℕ)) (told : Told) (blocks : Option Finished)
     (status : ℕ) : Type 0 where
   pub none : blocks ≡ None → Contains (2 ∷ 3 ∷ 4 ∷ 5 ∷ 6 ∷ []) status
   pub some : IsSome blocks → Contains (0 ∷ 3 ∷ 6 ∷ 7 ∷ 8 ∷ 9 ∷ 10 ∷ 11 ∷ []) status
+  pub begun : IsSome blocks → JudgesFirsts task words told (λ s w. CanBegin task s w)
+  pub passed : IsSome blocks → Contains (0 ∷ 9 ∷ 10 ∷ 11 ∷ []) status →
+      (s : SettingsSeen) → Says task words s → PassesTo (length s.names) task words told
   pub sealed : (b : Finished) → blocks ≡ Some b → status ≢ 6 → ForFiles task words told (λ s w.
       CanBegin task s w × (sealed_at_end b ≡ walk_stream s.size w))
   pub broken : (b : Finished) → blocks ≡ Some b → status ≡ 6 → ForFiles task words told (λ s w.
@@ -127,7 +160,7 @@ pub record MadeFront (files : List NamedBytes) (before after : FilesSeen) : Type
 
 -- A run that records: at 0 the files of all data are made, and at 11, which comes only where a call failed, a front of
 -- those. Where the walk stops, and where the output has no text, they are those of the stream that went through, or a
--- front of them. Before the session, and where nothing is recorded, the files stand.
+-- front of them, by the first files alone. Before the session, and where nothing is recorded, the files stand.
 pub record RecordsFiles
     (task : Task) (words : List (List ℕ)) (told : Told) (blocks : Option Finished)
     (before after : FilesSeen) (status : ℕ) : Type 0 where
@@ -138,7 +171,7 @@ pub record RecordsFiles
       s.recording ≡ true → MadeAll (files_of_data w s.file_size) before after)
   pub front : status ≡ 11 → ForFiles task words told (λ s w.
       MadeFront (files_of_data w s.file_size) before after)
-  pub stream : (b : Finished) → blocks ≡ Some b → ForFiles task words told (λ s w.
+  pub stream : (b : Finished) → blocks ≡ Some b → ForFirsts task words told (λ s w.
       s.recording ≡ true → let files = files_of_stream w s.file_size (sealed_at_end b) in
       MadeAll files before after ⊎ MadeFront files before after)
   pub failed : status ≡ 11 → Rose before.faults after.faults
@@ -155,7 +188,7 @@ pub record NotesStop
   pub stop : Stop
   pub answered : status ≡ status_of stop
   pub words_cause : IsStopOfWords task words stop
-  pub cause : ForFiles task words told (λ s w. IsStopOf task s w stop)
+  pub cause : SaysOfFiles task words told stop
   pub line : Noted (note_of stop) before after
 
 -- nothing at 0, and one line at each other status

@@ -1,6 +1,6 @@
 -- What a run of a program is over: the settings that its words say, and the files that they name, as a walk sees them.
 -- Source: PSRDADA manual (a transfer is what one header describes); what is refused is this project's choice.
-use Rattle.std.specs.Prelude.{◌≡◌, ℕ, ◌^◌, ◌-◌, ◌<◌, ◌⊎◌, min, Bool, true, false, List, length, map, Option, Some, None}
+use Rattle.std.specs.Prelude.{◌≡◌, ℕ, ◌+◌, ◌^◌, ◌-◌, ◌<◌, ◌⊎◌, min, Bool, true, false, List, length, map, Option, Some, None}
 use Rattle.std.specs.List.{range_with_len}
 use Rattle.dada_model.specs.Fields.{header_of}
 use Rattle.dada_model.specs.Observation.{Observation}
@@ -12,7 +12,7 @@ use Rattle.search_words.specs.declared.fault.WordFault.{WordFault}
 use Rattle.search_words.specs.declared.fault.WordFault.TheVariants.{Refused, OutOfRange}
 use Rattle.search_words.specs.Settings.{SettingsSeen, SaySearch, SayRecord, ExplainsSearch, ExplainsRecord}
 use Rattle.stream_model.specs.Walk as walk
-use Rattle.stream_model.specs.Walk.{FileStream, WalkStop, observation_at, transfer_data, walk_stop}
+use Rattle.stream_model.specs.Walk.{FileStream, WalkStop, observation_at, transfer_data, stop_at, walk_stop}
 use Rattle.stream_model.specs.WalkLaws.{AreWalked}
 use Rattle.stream_model.specs.Recorded as recorded
 use Rattle.stream_model.specs.Recorded.{Recording, RecordRefusal, record_refusal}
@@ -20,12 +20,12 @@ use Rattle.transfer_text.specs.Searched.{ObservedTransfer, candidate_total}
 use Rattle.dada_recorder.specs.Blocks.{header_or_none}
 use Rattle.dada_recorder.specs.Changes.{recording}
 use Rattle.disk_feeder.specs.Ends.{fault_of}
-use Rattle.disk_feeder.specs.Plan.{AreTold}
+use Rattle.disk_feeder.specs.Plan.{AreTold, AreToldAt, IsFirstFile, IsAmong}
+use Rattle.disk_feeder.specs.Reading.{StopsAtFile}
 use Rattle.disk_feeder.specs.declared.answers.HeaderCause.{HeaderCause}
 use Rattle.disk_feeder.specs.declared.answers.HeaderCause.TheVariants.{Text, Fields}
 use Rattle.run_stop.specs.Lone.{LoneSearch, SayAlone, ExplainsAlone}
-use Rattle.run_stop.specs.Firsts.{first_file}
-use Rattle.run_stop.specs.Firsts.{RefusesFirstText, RefusesFirstFields}
+use Rattle.run_stop.specs.Firsts.{first_file, HaveHeaders, RefusesTextAt, RefusesFirstText, RefusesFirstFields}
 use Rattle.run_stop.specs.declared.causes.PlanCause.{PlanCause}
 use Rattle.run_stop.specs.declared.causes.PlanCause.TheVariants.{SumBound, FoldTooLarge, TooManyFolds, TooManyShards}
 use Rattle.run_stop.specs.declared.causes.RecordingCause.{RecordingCause}
@@ -67,6 +67,21 @@ stream_for s files = record { files = files; starts = s.starts; max_bytes = s.ma
 abbrev pub ForFiles : Task → List (List ℕ) → Told → (SettingsSeen → FileStream → Type 0) → Type 0
 ForFiles task words told P = (s : SettingsSeen) (files : List (List ℕ)) →
     Says task words s → AreTold told s.names files → P s (stream_for s files)
+
+-- P holds of them where those are told that the settings need; of all other files nothing is said
+abbrev pub ForFilesAt : (SettingsSeen → ℕ → Type 0) → Task → List (List ℕ) → Told
+    → (SettingsSeen → FileStream → Type 0) → Type 0
+ForFilesAt Needed task words told P = (s : SettingsSeen) (files : List (List ℕ)) →
+    Says task words s → AreToldAt (Needed s) told s.names files → P s (stream_for s files)
+
+-- the first file of each transfer
+abbrev pub ForFirsts : Task → List (List ℕ) → Told → (SettingsSeen → FileStream → Type 0) → Type 0
+ForFirsts = ForFilesAt (λ s. IsFirstFile s.starts (length s.names))
+
+-- so many files from the first on, and the first file of each transfer
+abbrev pub ForFilesTo : ℕ → Task → List (List ℕ) → Told
+    → (SettingsSeen → FileStream → Type 0) → Type 0
+ForFilesTo opened = ForFilesAt (λ s. IsAmong opened s.starts (length s.names))
 
 -- the observation of a transfer's first header
 abbrev pub first_observation : FileStream → ℕ → Observation
@@ -183,16 +198,64 @@ abbrev pub HasTooMany : Task → SettingsSeen → FileStream → ℕ → ℕ →
 HasTooMany (Alone lone) s w count limit = FindsAlone lone s w (IsTooMany s count limit)
 HasTooMany _ s w count limit = HasCandidates s w (IsTooMany s count limit)
 
--- what a stop says of the files
-abbrev pub IsStopOf : Task → SettingsSeen → FileStream → Stop → Type 0
-IsStopOf task s w (Header file cause) =
-    RefusesFirstHeader w file cause ⊎ StopsWalk task s w (Header file cause)
-IsStopOf task s w (Plan cause) = (is_search task ≡ true) × RefusesSearch s.search w cause
-IsStopOf task s w (Unrecorded cause) = RefusesToRecord task s w cause
-IsStopOf task s w (Gap file expected found) = StopsWalk task s w (Gap file expected found)
-IsStopOf task s w (TooLong limit) = StopsWalk task s w (TooLong limit)
-IsStopOf task s w (TooMany count limit) = HasTooMany task s w count limit
-IsStopOf task s w _ = Unit {0}
+-- all first files have headers, each of them that is told
+abbrev pub AllHaveHeaders : Task → List (List ℕ) → Told → Type 0
+AllHaveHeaders task words told = (s : SettingsSeen) → Says task words s →
+    HaveHeaders told s.names s.starts (length s.starts)
+
+-- each first file that is told has a header; and where all are told, P holds
+abbrev pub JudgesFirsts
+    : Task → List (List ℕ) → Told → (SettingsSeen → FileStream → Type 0) → Type 0
+JudgesFirsts task words told P = AllHaveHeaders task words told × ForFirsts task words told P
+
+-- The first refused header is that of this file. Its text is refused by this file and the first files before it, each by
+-- itself; what it says is refused by all first files, since all texts are judged before.
+abbrev pub RefusesFirsts : Task → List (List ℕ) → Told → ℕ → HeaderCause → Type 0
+RefusesFirsts task words told file (Text fault) = (s : SettingsSeen) → Says task words s →
+    RefusesTextAt told s.names s.starts file fault
+RefusesFirsts task words told file (Fields fault) =
+    JudgesFirsts task words told (λ s w. RefusesFirstFields w file fault)
+
+-- the search of an observation is refused, or its recording
+abbrev pub RefusesSearches : Task → List (List ℕ) → Told → PlanCause → Type 0
+RefusesSearches task words told cause =
+    (is_search task ≡ true) × JudgesFirsts task words told (λ s w. RefusesSearch s.search w cause)
+
+abbrev pub RefusesRecordings : Task → List (List ℕ) → Told → RecordingCause → Type 0
+RefusesRecordings task words told cause =
+    JudgesFirsts task words told (λ s w. RefusesToRecord task s w cause)
+
+-- none of the files before this one stops the walk, each by the files up to it and the first ones of the transfers
+abbrev pub PassesTo : ℕ → Task → List (List ℕ) → Told → Type 0
+PassesTo file task words told = (k : ℕ) → k < file → ForFilesTo (k + 1) task words told (λ s w.
+    stop_at w k ≡ None)
+
+-- All first files have headers, and no file before this one stops the walk. By the files up to this one and the first
+-- ones of the transfers, the walk stops at it, and P holds.
+pub record StopsThere (file : ℕ) (task : Task) (words : List (List ℕ)) (told : Told)
+    (P : SettingsSeen → FileStream → Type 0) : Type 0 where
+  pub headers : AllHaveHeaders task words told
+  pub passed : PassesTo file task words told
+  pub stops : ForFilesTo (file + 1) task words told (λ s w. StopsAtFile (walk_stop w) file)
+  pub says : ForFilesTo (file + 1) task words told P
+
+-- the walk stops so at some file
+abbrev pub StopsAt : Task → List (List ℕ) → Told → Stop → Type 0
+StopsAt task words told stop =
+    (file : ℕ) × StopsThere file task words told (λ s w. StopsWalk task s w stop)
+
+-- what a stop says of the files, over those that it needs
+abbrev pub SaysOfFiles : Task → List (List ℕ) → Told → Stop → Type 0
+SaysOfFiles task words told (Header file cause) =
+    RefusesFirsts task words told file cause ⊎ StopsAt task words told (Header file cause)
+SaysOfFiles task words told (Plan cause) = RefusesSearches task words told cause
+SaysOfFiles task words told (Unrecorded cause) = RefusesRecordings task words told cause
+SaysOfFiles task words told (Gap file expected found) =
+    StopsAt task words told (Gap file expected found)
+SaysOfFiles task words told (TooLong limit) = StopsAt task words told (TooLong limit)
+SaysOfFiles task words told (TooMany count limit) =
+    ForFiles task words told (λ s w. HasTooMany task s w count limit)
+SaysOfFiles task words told _ = Unit {0}
 
 -- what it says of the words
 abbrev pub IsStopOfWords : Task → List (List ℕ) → Stop → Type 0

@@ -1,10 +1,11 @@
 // Laws of how a run of either program ends, which the contracts of functions that do nothing carry. A caller whose
 // proof needs a law calls its function.
-ghost use Rattle.run_stop.specs.Ends.{EndAtWords, WordsSayOnce, EndBeforeSession, EndAtStop, EndAfterWhole, AcceptedGoesOn, AcceptedIsNotRefused};
+ghost use Rattle.run_stop.specs.Ends.{EndAtWords, WordsSayOnce, EndBeforeSession, EndAtStop, EndAfterWhole, AcceptedGoesOn, TextsAreAnswered, FirstsAreAnswered, StopsAreAnswered, AcceptedIsNotRefused};
 
 use psr_base::Inputs;
-// A law: it does nothing when it runs, and the proofs use what it ensures.
+// Laws: they do nothing when they run, and the proofs use what they ensure.
 use crate::laws::whole_runs_record_data;
+use stream_model::{first_stop_counts, no_stop_is_whole};
 
 /// What the exit status says where the words say no settings.
 pub fn end_at_words<I: Inputs>()
@@ -38,6 +39,27 @@ pub fn end_after_whole<I: Inputs>()
 pub fn accepted_goes_on<I: Inputs>()
     ensures { (inputs : I) → AcceptedGoesOn (I.is_calm inputs) }
 {}
+
+/// Where a first file has no header, and those before it have, a run ends at that with status 3, or for want of memory
+/// with 5, whatever is told of other files.
+pub fn texts_are_answered<I: Inputs>()
+    ensures { (inputs : I) → TextsAreAnswered (I.is_calm inputs) }
+{}
+
+/// Where a first header says no observation, or a search or a recording is refused, a run ends at that with status 3 or
+/// 4, or for want of memory with 5, whatever the other files have.
+pub fn firsts_are_answered<I: Inputs>()
+    ensures { (inputs : I) → FirstsAreAnswered (I.is_calm inputs) }
+{}
+
+/// Where the walk of its files stops, a run ends at that with status 3, 7 or 8, or for want of memory with 5, whatever
+/// is told of files that are opened later.
+pub fn stops_are_answered<I: Inputs>()
+    ensures { (inputs : I) → StopsAreAnswered (I.is_calm inputs) }
+{
+    first_stop_counts();
+    no_stop_is_whole();
+}
 
 /// A first header that is accepted is not refused, nor is a search or a recording that fits.
 pub fn accepted_is_not_refused()

@@ -6,14 +6,17 @@ mod conversions;
 mod ends;
 mod laws;
 mod line;
+mod ran;
 mod stop;
 mod telling;
 
 pub use causes::{PlanCause, RecordingCause};
 pub use ends::{
     accepted_goes_on, accepted_is_not_refused, end_after_whole, end_at_stop, end_at_words,
-    end_before_session, words_say_once,
+    end_before_session, firsts_are_answered, stops_are_answered, texts_are_answered,
+    words_say_once,
 };
 pub use laws::{runs_record_blocks, whole_runs_record_data};
+pub use ran::Ran;
 pub use stop::Stop;
 pub use telling::{tell, tell_line};

@@ -13,7 +13,7 @@ use Rattle.stream_model.specs.Walk.{FileStream}
 use Rattle.stream_model.specs.Recorded.{record_refusal}
 use Rattle.disk_feeder.specs.declared.answers.FeedEnd.{FeedEnd}
 use Rattle.disk_feeder.specs.declared.feeder.Feeder.{Feeder}
-use Rattle.disk_feeder.specs.Feeder.{header_at, plan_at}
+use Rattle.disk_feeder.specs.Feeder.{headers_of, plan_at}
 use Rattle.dada_recorder.specs.declared.answers.RecordEnd.{RecordEnd}
 use Rattle.dada_recorder.specs.declared.answers.RecordEnd.TheVariants.{Whole, Cut, FileFault, BadHeader, TooLong}
 use Rattle.dada_recorder.specs.Changes.{recording}
@@ -51,15 +51,15 @@ pub is_recordable : {I F : Type 0} (told : I → Told) (is_open : I → Type 0) 
     IsReady told is_open task s offsets feeder observations stage → s.recording ≡ true →
     SealsRecordable (plan_for s offsets) (plan_at feeder)
 is_recordable told is_open task s offsets feeder observations stage ready records =
-    let count = as_many (header_at feeder) observations ready.observed in
+    let count = as_many (headers_of feeder) observations ready.observed in
     let headers = ready.plan.headers in
     let starts = ap length ready.plan.transfers in
     let places = ready.offsets_are.count in
     record {
       accepted = λ k header there.
-          let below = slice_get_within (header_at feeder) k header there in
+          let below = slice_get_within (headers_of feeder) k header there in
           let is =
-          observation_at_place (header_at feeder) observations k ready.observed (omega (arith, below, count)) in
+          observation_at_place (headers_of feeder) observations k ready.observed (omega (arith, below, count)) in
           let offset : slice_index_or offsets k 0 ≡ is.0.obs_offset =
           get_or_from_slice_get offsets k is.0.obs_offset 0 (ready.offsets_are.each k is.0 is.1) in (
             ready.fit.read_back records k header there,
@@ -76,8 +76,8 @@ is_recordable told is_open task s offsets feeder observations stage ready record
 pub records_firsts : {I F : Type 0} (told : I → Told) (is_open : I → Type 0) (task : Task) (s : SettingsSeen)
     (offsets : List ℕ) (feeder : Feeder I) (observations : List (Option Observation)) (stage : StageSpace I F)
     (w : FileStream) → IsReady told is_open task s offsets feeder observations stage → s.recording ≡ true →
-    w.starts ≡ s.starts → AreFirsts w observations → AreHeadersOf w (header_at feeder) →
-    RecordsFirsts (plan_for s offsets) w (header_at feeder)
+    w.starts ≡ s.starts → AreFirsts w observations → AreHeadersOf w (headers_of feeder) →
+    RecordsFirsts (plan_for s offsets) w (headers_of feeder)
 records_firsts told is_open task s offsets feeder observations stage w ready records starts firsts headers = record {
   count = ready.plan.headers ∙ ap length (sym starts);
   read = headers;

@@ -7,7 +7,7 @@ use Rattle.search_words.specs.Settings.{SettingsSeen}
 use Rattle.dada_hdu.specs.declared.hdu.Hdu.{Hdu}
 use Rattle.dada_hdu.specs.Passes.{data_shape}
 use Rattle.disk_feeder.specs.declared.feeder.Feeder.{Feeder}
-use Rattle.disk_feeder.specs.Feeder.{header_at, plan_at}
+use Rattle.disk_feeder.specs.Feeder.{headers_of, plan_at}
 use Rattle.dada_recorder.specs.declared.recorder.Recorder.{Recorder}
 use Rattle.dada_recorder.specs.declared.space.RecorderSpace.{RecorderSpace}
 use Rattle.dada_recorder.specs.Blocks.{RecordPlan}
@@ -15,6 +15,7 @@ use Rattle.dada_recorder.specs.Recorder.{IsSpaceFor, IsFreshFor}
 use Rattle.search_session.specs.declared.lane.Lane.{Lane}
 use Rattle.search_session.specs.Books.{HasLane}
 use Rattle.search_session.specs.Stages.{IsUnfed, IsFreshRecorder, recorder_count}
+use Rattle.search_session.specs.Lanes.{engines_of}
 use Rattle.search_opening.specs.declared.space.StageSpace.{StageSpace}
 use Rattle.search_opening.specs.Engines.{AreEnginesFor}
 use Rattle.search_opening.specs.First.{AreObserved}
@@ -27,7 +28,7 @@ use Rattle.whole_run.proofs.Recorded.{as_many, observation_at_place}
 -- ---- lanes
 
 unfed_lane : (s : SettingsSeen) (shard : ℕ) (headers : List _) (observations : List (Option Observation)) (lane : Lane)
-    (n : ℕ) → AreObserved headers observations → AreEnginesFor s.search shard observations lane.engines.value.items →
+    (n : ℕ) → AreObserved headers observations → AreEnginesFor s.search shard observations (engines_of lane) →
     length observations ≡ n → IsUnfed n lane
 unfed_lane s shard headers observations lane n observed engines count = record {
   count = engines.count ∙ count;
@@ -57,7 +58,7 @@ pub is_staged : {I F : Type 0} (told : I → Told) (is_open : I → Type 0) (fil
     ((hdu : Hdu) → (data_shape hdu).size ≡ s.size → IfSome recorder (IsFreshRecorder files_open hdu)) →
     AreStaged told is_open files_open stage feeder recorder
 is_staged told is_open files_open task s offsets feeder observations stage recorder ready count fresh =
-    let many = as_many (header_at feeder) observations ready.observed in
+    let many = as_many (headers_of feeder) observations ready.observed in
     let starts = ap length ready.plan.transfers in
     let headers = ready.plan.headers in
     let lanes = ready.stage_is.lanes in
@@ -68,7 +69,7 @@ is_staged told is_open files_open task s offsets feeder observations stage recor
       space_is = ready.stage_is.space;
       feeds = ready.feeds;
       transfers = omega (arith, starts, ready.some);
-      engines = unfed_lanes task s (header_at feeder) observations lanes.items (length (plan_at feeder).starts)
+      engines = unfed_lanes task s (headers_of feeder) observations lanes.items (length (plan_at feeder).starts)
           ready.observed (omega (arith, many, headers, starts)) ready.stage_is.lanes_are;
       readers = ap (λ n. length lanes.items + n) (sym count);
       recorder_is = fresh _ (ap (λ shape. shape.size) ready.stage_is.space.rings.shape_is);

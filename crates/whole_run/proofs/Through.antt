@@ -1,5 +1,6 @@
 -- What a session left, over the files of a run.
 use Rattle.std.proofs.Common.{◌≡◌, ◌≢◌, ℕ, ◌+◌, ◌^◌, ◌<◌, ◌≤◌, true, false, List, Option, Some, None, length, map, refl, sym, ap, ◌∙◌, subst, arith}
+use Rattle.std.specs.Prelude.{⊤}
 use Rattle.std.specs.List.{sum_by, range_with_len}
 use Rattle.std.proofs.lemmas.List.{length-map}
 use Rattle.arrayvec.specs.ArrayVec.{ArrayVec}
@@ -13,13 +14,15 @@ use Rattle.dada_model.specs.Observation.{Observation}
 use Rattle.search_words.specs.Settings.{SettingsSeen}
 use Rattle.ring_ends.specs.declared.finished.Finished.{Finished}
 use Rattle.ring_ends.specs.Ended.{sealed_at_end, cleared_at_end}
-use Rattle.stream_model.specs.Walk.{transfer_data}
+use Rattle.stream_model.specs.Walk.{FileStream, transfer_data}
 use Rattle.disk_feeder.specs.declared.answers.FeedEnd.{FeedEnd}
-use Rattle.disk_feeder.specs.declared.answers.FeedEnd.TheVariants.{Whole}
-use Rattle.disk_feeder.specs.Plan.{Plan, stream_of}
+use Rattle.disk_feeder.specs.declared.answers.FeedEnd.TheVariants.{Whole, ReadFault}
 use Rattle.disk_feeder.specs.declared.feeder.Feeder.{Feeder}
-use Rattle.disk_feeder.specs.Feeder.{header_at, names_at, plan_at, block_size}
-use Rattle.disk_feeder.specs.Feeding.{EndIs, IsEnded, SealedAs, BreaksReading}
+use Rattle.disk_feeder.specs.declared.place.Place.{Place}
+use Rattle.disk_feeder.specs.Feeder.{FeederRead, headers_of, names_at, plan_at, block_size}
+use Rattle.disk_feeder.specs.Feeding.{EndIs, StopsWalkAt, IsEnded, SealedAs, BreaksReading}
+use Rattle.disk_feeder.specs.Plan.{Plan, IsFirstFile, IsAmong}
+use Rattle.disk_feeder.specs.Reading.{judged_at}
 use Rattle.dada_recorder.specs.declared.answers.RecordEnd.{RecordEnd}
 use Rattle.dada_recorder.specs.declared.answers.RecordEnd.TheVariants.{FileFault}
 use Rattle.dada_recorder.specs.declared.recorder.Recorder.{Recorder}
@@ -39,10 +42,10 @@ use Rattle.run_stop.specs.Laws.{RunsRecordBlocks}
 use Rattle.run_stop.specs.Outcomes.{AllCleared, files_of_stream}
 use Rattle.run_stop.specs.Runs.{Task, Searching, RecordingAlone, Alone, is_search, CanBegin, stream_for}
 use Rattle.whole_run.specs.declared.found.Found.{Found}
-use Rattle.whole_run.specs.Wholes.{OfRun, ClearsAll, HoldsFound, shards_of}
+use Rattle.whole_run.specs.Wholes.{OfRunFirsts, OfRunTo, JudgesRun, ClearsAll, HoldsFound, shards_of}
 use Rattle.whole_run.specs.Openings.{IsReady, RecordsReady, SearchesReady, AreLanesOf, plan_for}
 use Rattle.whole_run.specs.Ends.{IsFoundOf, RecordsRun, FaultLeaves, GoesThrough}
-use Rattle.whole_run.proofs.Told.{still_told, of_plan, FeedsRun}
+use Rattle.whole_run.proofs.Told.{needed_told, all_told, of_plan, passes_run, FeedsRun}
 use Rattle.whole_run.proofs.Recorded.{as_many, is_recordable, records_firsts, made_all, made_front}
 use Rattle.whole_run.proofs.Lists.{some_at}
 use Rattle.whole_run.proofs.Searched.{said_at, transfers_through, lanes_for, hold_transfers, transfers_are_counted, known_transfers}
@@ -50,28 +53,41 @@ use Rattle.whole_run.proofs.Searched.{said_at, transfers_through, lanes_for, hol
 -- ---- the walk
 
 pub goes_walked : {I F : Type 0} (told : I → Told) (is_calm : I → Type 0) (faults : I → ℕ) (feeder : Feeder I)
-    (end : SessionEnd I F) (s : SettingsSeen) → FeedsRun feeder s → FeedAnswers told is_calm faults feeder end →
-    OfRun (told feeder.inputs.now) s (λ w. EndIs w s.size (sealed_at_end end.blocks) end.feed)
+    (end : SessionEnd I F) (s : SettingsSeen) → FeedsRun feeder s →
+    (fed : FeedAnswers told is_calm faults feeder end) →
+    OfRunTo (judged_at end.feed fed.place) (told feeder.inputs.now) s (λ w.
+    EndIs w s.size (sealed_at_end end.blocks) end.feed)
 goes_walked told is_calm faults feeder end s plan fed =
-    let By : ℕ → Type 0 = λ size. OfRun (told feeder.inputs.now) s
+    let judged = judged_at end.feed fed.place in
+    let By : ℕ → Type 0 = λ size. OfRunTo judged (told feeder.inputs.now) s
     (λ w. EndIs w size (sealed_at_end end.blocks) end.feed) in
     subst By plan.block
-    (of_plan feeder s (told feeder.inputs.now) (told end.inputs.now)
+    (of_plan (IsAmong judged) feeder s (told feeder.inputs.now) (told end.inputs.now)
     (λ w. EndIs w (block_size feeder) (sealed_at_end end.blocks) end.feed) plan fed.names fed.sealed.known)
+
+goes_stopped : {I F : Type 0} (told : I → Told) (is_calm : I → Type 0) (faults : I → ℕ) (feeder : Feeder I)
+    (end : SessionEnd I F) (s : SettingsSeen) → FeedsRun feeder s →
+    (fed : FeedAnswers told is_calm faults feeder end) →
+    OfRunTo (judged_at end.feed fed.place) (told feeder.inputs.now) s (λ w. StopsWalkAt end.feed w fed.place.file)
+goes_stopped told is_calm faults feeder end s plan fed =
+    of_plan (IsAmong (judged_at end.feed fed.place)) feeder s (told feeder.inputs.now) (told end.inputs.now)
+    (λ w. StopsWalkAt end.feed w fed.place.file) plan fed.names fed.sealed.stops
 
 -- what a fault of the inputs left
 pub fault_leaves : {I F : Type 0} (told : I → Told) (is_calm : I → Type 0) (faults : I → ℕ) (feeder : Feeder I)
     (end : SessionEnd I F) (observations : ArrayVec (Option Observation)) (found : Found) (after : I) →
     FeedAnswers told is_calm faults feeder end → IsFoundOf observations end found → after ≡ end.inputs.now →
-    FaultLeaves told feeder after found
-fault_leaves told is_calm faults feeder end observations found after fed is same failed before read files are =
-    let names = names_at feeder in
-    let s = stream_of (plan_at feeder) files in
+    found.feed ≡ ReadFault → FaultLeaves told (is_calm feeder.inputs.now) feeder after found.blocks
+fault_leaves told is_calm faults feeder end observations found after fed is same failed =
     let size = block_size feeder in
-    subst (λ i. BreaksReading names s before (told i) size (sealed_at_end found.blocks)) (sym same)
-    (subst (λ b. BreaksReading names s before (told end.inputs.now) size (sealed_at_end b)) (sym is.blocks)
-    (fed.broke (sym is.feed ∙ failed) before read files
-    (still_told (told feeder.inputs.now) (told end.inputs.now) names files fed.names are)))
+    let Left : _ → Finished → Type 0 = λ i b. (before : Told) → FeederRead before (told feeder.inputs.now) feeder →
+    BreaksReading (plan_at feeder) before (told i) fed.place size (sealed_at_end b) in
+    record {
+      place = fed.place;
+      broke = subst (λ i. Left i found.blocks) (sym same)
+          (subst (λ b. Left end.inputs.now b) (sym is.blocks) (fed.broke (sym is.feed ∙ failed)));
+      missing = λ calm. fed.missing calm (sym is.feed ∙ failed);
+    }
 
 -- ---- what was cleared
 
@@ -96,12 +112,12 @@ same_files : {I F : Type 0} → RunsRecordBlocks → (told : I → Told) (is_ope
     (stage : StageSpace I F) (r : Recorder F) (end : SessionEnd I F) →
     IsReady told is_open task s offsets feeder observations stage → s.recording ≡ true →
     plan_of r ≡ plan_for s offsets →
-    OfRun (told feeder.inputs.now) s (λ w. files_through feeder r end
+    OfRunFirsts (told feeder.inputs.now) s (λ w. files_through feeder r end
     ≡ files_of_stream w s.file_size (sealed_at_end end.blocks))
 same_files law told is_open task s offsets feeder observations stage r end ready records plan files are =
     let w = stream_for s files in
     ap (λ (p : RecordPlan). files_of_blocks p (headers_through feeder end) (sealed_at_end end.blocks)) plan
-    ∙ law (plan_for s offsets) w (header_at feeder) (sealed_at_end end.blocks)
+    ∙ law (plan_for s offsets) w (headers_of feeder) (sealed_at_end end.blocks)
     (records_firsts told is_open task s offsets feeder observations stage w ready records refl (ready.firsts files are)
     (ready.headers files are))
 
@@ -195,10 +211,10 @@ clears_found task s observations lanes end found are shards recorder blocks =
           (clears_recorder task s observations lanes end are (recorder records fine));
     }
 
-few_bytes : (plan : Plan) (told : Told) (size : ℕ) (headers blocks : List Entry) (end : FeedEnd) (bytes limit : ℕ) →
-    IsEnded plan told size headers blocks end → end ≡ Whole bytes → plan.max_bytes ≡ limit → limit ≤ 2 ^ 48 →
-    bytes ≤ 2 ^ 48
-few_bytes plan told size headers blocks end bytes limit is whole same most =
+few_bytes : (plan : Plan) (told : Told) (at : Place) (size : ℕ) (headers blocks : List Entry) (end : FeedEnd)
+    (bytes limit : ℕ) → IsEnded plan told at size headers blocks end → end ≡ Whole bytes → plan.max_bytes ≡ limit →
+    limit ≤ 2 ^ 48 → bytes ≤ 2 ^ 48
+few_bytes plan told at size headers blocks end bytes limit is whole same most =
     let By : FeedEnd → Type 0 = λ e. SealedAs plan size is.before is.current headers blocks e in
     let sealed = subst By whole is.sealed in
     let few = is.few in
@@ -218,7 +234,7 @@ holds_found law told is_open is_calm faults task s offsets feeder observations s
     let said = ready.observed.said in
     let here = ready.observed.here in
     let feed_whole : end.feed ≡ Whole bytes = sym is.feed ∙ whole in
-    let many = as_many (header_at feeder) observations.items ready.observed in
+    let many = as_many (headers_of feeder) observations.items ready.observed in
     let count = ap length here ∙ length-map said Some in
     let starts = ap length ready.plan.transfers in
     let headers = ready.plan.headers in
@@ -235,8 +251,8 @@ holds_found law told is_open is_calm faults task s offsets feeder observations s
     let total : sum_by (λ k. length (data_through end k)) (range_with_len 0 (length said)) ≤ 2 ^ 48 =
     subst (λ m. sum_by (λ k. length (data_through end k)) (range_with_len 0 m) ≤ 2 ^ 48) n
     (subst (λ m. m ≤ 2 ^ 48) (sym (fed.parts bytes feed_whole))
-    (few_bytes (plan_at feeder) (told end.inputs.now) (block_size feeder) _ _ end.feed bytes s.max_bytes fed.sealed
-    feed_whole ready.plan.limit ready.most)) in
+    (few_bytes (plan_at feeder) (told end.inputs.now) fed.place (block_size feeder) _ _ end.feed bytes s.max_bytes
+    fed.sealed feed_whole ready.plan.limit ready.most)) in
     let transfers = transfers_through end said other (length said) in
     let Held : ArrayVec (Option Observation) → List (ArrayVec (Option BookContents)) → List ℕ → Type 0 =
     λ os books spectra. HoldTransfers s.search transfers os.items (map (λ row. row.items) books) spectra in
@@ -248,11 +264,15 @@ holds_found law told is_open is_calm faults task s offsets feeder observations s
           (hold_transfers end s observations.items said other here held)));
       total = transfers_are_counted end s observations.items said other law ready.range here
           (omega (arith, many, count, starts, headers, ready.few)) (ready.fit.fits searching) total;
-      known = λ files are. known_transfers end observations.items said other (stream_for s files) here
-          (ready.firsts files are)
-          (of_plan feeder s (told feeder.inputs.now) (told end.inputs.now)
+      known = λ files are.
+          let now = told feeder.inputs.now in
+          let after = told end.inputs.now in
+          known_transfers end observations.items said other (stream_for s files) here
+          (ready.firsts files (needed_told (IsFirstFile s.starts (length s.names)) now s.names files are))
+          (of_plan (λ starts count k. ⊤) feeder s now after
           (λ w. (k : ℕ) → k < length w.starts → data_through end k ≡ transfer_data w k) ready.plan fed.names
-          (fed.walked bytes feed_whole) files are);
+          (λ fs each. fed.walked bytes feed_whole fs (all_told after (names_at feeder) fs each)) files
+          (needed_told (λ k. ⊤) now s.names files are));
     }
 
 -- ---- the whole
@@ -260,24 +280,29 @@ holds_found law told is_open is_calm faults task s offsets feeder observations s
 begins : {I F : Type 0} (told : I → Told) (is_open : I → Type 0) (task : Task) (s : SettingsSeen) (offsets : List ℕ)
     (feeder : Feeder I) (observations : List (Option Observation)) (stage : StageSpace I F) →
     IsReady told is_open task s offsets feeder observations stage →
-    OfRun (told feeder.inputs.now) s (λ w. CanBegin task s w)
-begins told is_open task s offsets feeder observations stage ready files are =
-    let w = stream_for s files in
-    let firsts = ready.firsts files are in
-    record {
-      accepted = firsts.walked;
-      searched = λ is. ready.fit.searched
-          (searching task s observations ready.stage_is.lanes.items ready.stage_is.lanes_are is) w firsts;
-      recorded = λ is. ready.fit.recorded is w firsts (ready.headers files are) refl;
-    }
+    JudgesRun (told feeder.inputs.now) s (λ w. CanBegin task s w)
+begins told is_open task s offsets feeder observations stage ready = (
+  ready.texts,
+  λ files are.
+      let w = stream_for s files in
+      let firsts = ready.firsts files are in
+      record {
+        accepted = firsts.walked;
+        searched = λ is. ready.fit.searched
+            (searching task s observations ready.stage_is.lanes.items ready.stage_is.lanes_are is) w firsts;
+        recorded = λ is. ready.fit.recorded is w firsts (ready.headers files are) refl;
+      },
+)
 
-walked_found : {I F : Type 0} (s : SettingsSeen) (told : Told) (observations : ArrayVec (Option Observation))
-    (end : SessionEnd I F) (found : Found) → IsFoundOf observations end found →
-    OfRun told s (λ w. EndIs w s.size (sealed_at_end end.blocks) end.feed) →
-    OfRun told s (λ w. EndIs w s.size (sealed_at_end found.blocks) found.feed)
-walked_found s told observations end found is walked =
-    subst (λ b. OfRun told s (λ w. EndIs w s.size (sealed_at_end b) found.feed)) (sym is.blocks)
-    (subst (λ f. OfRun told s (λ w. EndIs w s.size (sealed_at_end end.blocks) f)) (sym is.feed) walked)
+-- what holds of the end of a session's feeder holds of what was found
+of_found : {I F : Type 0} (s : SettingsSeen) (told : Told) (observations : ArrayVec (Option Observation)) (at : Place)
+    (end : SessionEnd I F) (found : Found) (P : List Entry → FeedEnd → FileStream → Type 0) →
+    IsFoundOf observations end found →
+    OfRunTo (judged_at end.feed at) told s (P (sealed_at_end end.blocks) end.feed) →
+    OfRunTo (judged_at found.feed at) told s (P (sealed_at_end found.blocks) found.feed)
+of_found s told observations at end found P is holds =
+    let Holds : Finished → FeedEnd → Type 0 = λ b f. OfRunTo (judged_at f at) told s (P (sealed_at_end b) f) in
+    subst (λ b. Holds b found.feed) (sym is.blocks) (subst (λ f. Holds end.blocks f) (sym is.feed) holds)
 
 lanes_of_stage : {I F : Type 0} (told : I → Told) (is_open : I → Type 0) (task : Task) (s : SettingsSeen)
     (offsets : List ℕ) (feeder : Feeder I) (observations : List (Option Observation)) (stage : StageSpace I F)
@@ -307,8 +332,15 @@ goes_with blocks totals told is_open is_calm faults files_open seen task s offse
     (is_recordable told is_open task s offsets feeder observations.items stage ready' ready.records) in
     record {
       begun = begins told is_open task s offsets feeder observations.items stage ready';
-      walked = walked_found s (told feeder.inputs.now) observations end found is
+      at = fed.place;
+      last = λ bytes whole. fed.sealed.last bytes (sym is.feed ∙ whole) ∙ ap length ready'.plan.files;
+      passed = passes_run feeder s (told feeder.inputs.now) (told end.inputs.now) fed.place.file ready'.plan fed.names
+          fed.sealed.passed;
+      walked = of_found s (told feeder.inputs.now) observations fed.place end found (λ b f w. EndIs w s.size b f) is
           (goes_walked told is_calm faults feeder end s ready'.plan fed);
+      stops = of_found s (told feeder.inputs.now) observations fed.place end found
+          (λ b f w. StopsWalkAt f w fed.place.file) is
+          (goes_stopped told is_calm faults feeder end s ready'.plan fed);
       recorded = records_run blocks told is_open files_open seen task s offsets feeder observations.items stage r
           (length lanes) end found after ready by made is.recorded is.blocks;
       cleared = clears_found task s observations.items lanes end found are shards.cleared
@@ -335,8 +367,15 @@ goes_without totals told is_open is_calm faults task s offsets feeder observatio
     let no_answer : found.recorded ≡ None = is.recorded ∙ none.recorded in
     record {
       begun = begins told is_open task s offsets feeder observations.items stage ready';
-      walked = walked_found s (told feeder.inputs.now) observations end found is
+      at = fed.place;
+      last = λ bytes whole. fed.sealed.last bytes (sym is.feed ∙ whole) ∙ ap length ready'.plan.files;
+      passed = passes_run feeder s (told feeder.inputs.now) (told end.inputs.now) fed.place.file ready'.plan fed.names
+          fed.sealed.passed;
+      walked = of_found s (told feeder.inputs.now) observations fed.place end found (λ b f w. EndIs w s.size b f) is
           (goes_walked told is_calm faults feeder end s ready'.plan fed);
+      stops = of_found s (told feeder.inputs.now) observations fed.place end found
+          (λ b f w. StopsWalkAt f w fed.place.file) is
+          (goes_stopped told is_calm faults feeder end s ready'.plan fed);
       recorded = record {
         unrecorded = λ not. (made, λ failed. never (sym no_answer ∙ failed));
         all = λ fine records. absurd (true≢false (sym records ∙ ready.records_not));

@@ -1,24 +1,27 @@
 -- What a session of a run left, over its files.
 -- Source: this project's choice.
-use Rattle.std.specs.Prelude.{◌≡◌, ◌≢◌, ℕ, ◌≤◌, true, false, List, Option, Some}
+use Rattle.std.specs.Prelude.{◌≡◌, ◌≢◌, ℕ, ◌<◌, ◌≤◌, true, false, length, Option, Some, IsSome}
 use Rattle.arrayvec.specs.ArrayVec.{ArrayVec}
 use Rattle.dada_model.specs.Observation.{Observation}
 use Rattle.psr_base.specs.Count.{Rose}
 use Rattle.psr_base.specs.Told.{Told}
 use Rattle.psr_base.specs.Made.{FilesSeen}
 use Rattle.search_words.specs.Settings.{SettingsSeen}
+use Rattle.ring_ends.specs.declared.finished.Finished.{Finished}
 use Rattle.ring_ends.specs.Ended.{sealed_at_end}
-use Rattle.disk_feeder.specs.declared.answers.FeedEnd.TheVariants.{Whole, ReadFault}
+use Rattle.disk_feeder.specs.declared.answers.FeedEnd.TheVariants.{Whole}
 use Rattle.disk_feeder.specs.declared.feeder.Feeder.{Feeder}
+use Rattle.disk_feeder.specs.declared.place.Place.{Place}
 use Rattle.disk_feeder.specs.Feeder.{plan_at, names_at, block_size, FeederRead}
-use Rattle.disk_feeder.specs.Feeding.{EndIs, BreaksReading}
-use Rattle.disk_feeder.specs.Plan.{stream_of, AreTold}
+use Rattle.disk_feeder.specs.Feeding.{EndIs, StopsWalkAt, BreaksReading}
+use Rattle.disk_feeder.specs.History.{file_name}
+use Rattle.disk_feeder.specs.Reading.{judged_at}
 use Rattle.dada_recorder.specs.declared.answers.RecordEnd.TheVariants.{FileFault}
 use Rattle.search_session.specs.declared.ended.SessionEnd.{SessionEnd}
 use Rattle.run_stop.specs.Outcomes.{MadeAll, MadeFront, files_of_stream}
 use Rattle.run_stop.specs.Runs.{Task, Searching, CanBegin}
 use Rattle.whole_run.specs.declared.found.Found.{Found}
-use Rattle.whole_run.specs.Wholes.{OfRun, ClearsAll, HoldsFound}
+use Rattle.whole_run.specs.Wholes.{OfRunFirsts, OfRunTo, JudgesRun, PassesRunTo, ClearsAll, HoldsFound}
 
 -- what was found is what the session answered, for these observations
 pub record IsFoundOf {I F : Type 0} (observations : ArrayVec (Option Observation))
@@ -35,28 +38,35 @@ pub record IsFoundOf {I F : Type 0} (observations : ArrayVec (Option Observation
 pub record RecordsRun (s : SettingsSeen) (told : Told) (before after : FilesSeen) (found : Found) :
     Type 0 where
   pub unrecorded : s.recording ≡ false → (after ≡ before) × (found.recorded ≢ Some FileFault)
-  pub all : found.recorded ≢ Some FileFault → s.recording ≡ true → OfRun told s (λ w.
+  pub all : found.recorded ≢ Some FileFault → s.recording ≡ true → OfRunFirsts told s (λ w.
       MadeAll (files_of_stream w s.file_size (sealed_at_end found.blocks)) before after)
-  pub front : found.recorded ≡ Some FileFault → s.recording ≡ true → OfRun told s (λ w.
+  pub front : found.recorded ≡ Some FileFault → s.recording ≡ true → OfRunFirsts told s (λ w.
       MadeFront (files_of_stream w s.file_size (sealed_at_end found.blocks)) before after)
   pub rose : found.recorded ≡ Some FileFault → Rose before.faults after.faults
   pub quiet : found.recorded ≢ Some FileFault → after.faults ≡ before.faults
   pub count : before.faults ≤ after.faults
 
--- where a fault of the inputs ended a session, its blocks are those of what was read since the inputs told `before`,
--- up to its end, where the inputs are `after`
-abbrev pub FaultLeaves : {I : Type 0} → (I → Told) → Feeder I → I → Found → Type 0
-FaultLeaves told feeder after found = found.feed ≡ ReadFault → (before : Told) →
-    FeederRead before (told feeder.inputs.now) feeder → (files : List (List ℕ)) →
-    AreTold (told feeder.inputs.now) (names_at feeder) files →
-    BreaksReading (names_at feeder) (stream_of (plan_at feeder) files) before (told after)
-    (block_size feeder) (sealed_at_end found.blocks)
+-- Where a fault of the inputs ended a session, its blocks are those of what was read since the inputs told `before`, up
+-- to its end at some place, where the inputs are `after`. Calm inputs fail only where the file there isn't told.
+pub record FaultLeaves {I : Type 0} (told : I → Told) (is_calm : Type 0) (feeder : Feeder I)
+    (after : I) (blocks : Finished) : Type 0 where
+  pub place : Place
+  pub broke : (before : Told) → FeederRead before (told feeder.inputs.now) feeder →
+      BreaksReading (plan_at feeder) before (told after) place (block_size feeder)
+      (sealed_at_end blocks)
+  pub missing : is_calm → (place.file < length (names_at feeder))
+      × ¬ IsSome ((told feeder.inputs.now).bytes_under (file_name (names_at feeder) place.file))
 
 -- a session went through, whose feeder ended at the end of the walk or at a fault of its inputs
 pub record GoesThrough (task : Task) (s : SettingsSeen) (told : Told) (before after : FilesSeen)
     (found : Found) : Type 0 where
-  pub begun : OfRun told s (λ w. CanBegin task s w)
-  pub walked : OfRun told s (λ w. EndIs w s.size (sealed_at_end found.blocks) found.feed)
+  pub begun : JudgesRun told s (λ w. CanBegin task s w)
+  pub at : Place
+  pub last : (bytes : ℕ) → found.feed ≡ Whole bytes → at.file ≡ length s.names
+  pub passed : PassesRunTo at.file told s
+  pub walked : OfRunTo (judged_at found.feed at) told s (λ w.
+      EndIs w s.size (sealed_at_end found.blocks) found.feed)
+  pub stops : OfRunTo (judged_at found.feed at) told s (λ w. StopsWalkAt found.feed w at.file)
   pub recorded : RecordsRun s told before after found
   pub cleared : ClearsAll task s found
   pub held : task ≡ Searching → (bytes : ℕ) → found.feed ≡ Whole bytes → HoldsFound s told found

@@ -1,6 +1,6 @@
 -- What is known of a run once all is opened, or where it stops before.
 -- Source: this project's choice.
-use Rattle.std.specs.Prelude.{◌≡◌, ◌≢◌, ℕ, ◌+◌, ◌*◌, ◌^◌, ◌<◌, ◌≤◌, Bool, true, false, List, [], length, Option, Some, None, if◌then◌else◌}
+use Rattle.std.specs.Prelude.{◌≡◌, ◌≢◌, ℕ, ◌+◌, ◌*◌, ◌^◌, ◌<◌, ◌≤◌, ⊤, Bool, true, false, List, [], length, Option, Some, None, if◌then◌else◌}
 use Rattle.arrayvec.specs.ArrayVec.{ArrayVec}
 use Rattle.psr_base.specs.Told.{Told}
 use Rattle.dada_model.specs.Fields.{HeaderText}
@@ -10,8 +10,9 @@ use Rattle.search_words.specs.Settings.{SettingsSeen}
 use Rattle.stream_model.specs.Walk.{FileStream}
 use Rattle.ring_words.specs.declared.shape.RingShape.{RingShape}
 use Rattle.search_engine.specs.Engine.{most_fed}
+use Rattle.disk_feeder.specs.declared.answers.HeaderCause.TheVariants.{Text, Fields}
 use Rattle.disk_feeder.specs.declared.feeder.Feeder.{Feeder}
-use Rattle.disk_feeder.specs.Feeder.{HasPlan, IsBegun, HasOpenFile, FeederFaultless, header_at}
+use Rattle.disk_feeder.specs.Feeder.{HasPlan, IsBegun, HasOpenFile, FeederFaultless, headers_of}
 use Rattle.dada_recorder.specs.declared.recorder.Recorder.{Recorder}
 use Rattle.dada_recorder.specs.declared.space.RecorderSpace.{RecorderSpace}
 use Rattle.dada_recorder.specs.Blocks.{RecordPlan, record_plan}
@@ -26,24 +27,36 @@ use Rattle.search_opening.specs.Rings.{run_shape}
 use Rattle.search_opening.specs.Space.{IsSpaceOf, FeedsRings}
 use Rattle.search_opening.specs.declared.space.StageSpace.{StageSpace}
 use Rattle.run_stop.specs.declared.stop.Stop.{Stop}
-use Rattle.run_stop.specs.declared.stop.Stop.TheVariants.{Memory, ReadFault}
-use Rattle.run_stop.specs.Ends.{ComesBefore, SaysBefore}
-use Rattle.run_stop.specs.Firsts.{ReadsFirsts, BreaksFirstOf}
-use Rattle.run_stop.specs.Runs.{Task, Searching, RecordingAlone, Alone, CanSearchFirst, CanRecordFirst}
+use Rattle.run_stop.specs.declared.stop.Stop.TheVariants.{Header, Plan, Recording, Memory, ReadFault}
+use Rattle.run_stop.specs.Ends.{ComesBefore}
+use Rattle.run_stop.specs.Firsts.{HaveHeaders, ReadsFirsts, RefusesTextAt, BreaksFirstAt, RefusesFirstFields}
+use Rattle.run_stop.specs.Runs.{Task, Searching, RecordingAlone, Alone, is_search, CanSearchFirst, CanRecordFirst, RefusesSearch, RefusesToRecord}
 use Rattle.whole_run.specs.declared.spaces.Spaces.{Spaces}
-use Rattle.whole_run.specs.Wholes.{OfRun}
+use Rattle.whole_run.specs.Wholes.{OfRunFirsts, JudgesRun}
+
+-- what a stop before the session says of the files, over the first ones that it needs
+abbrev pub SaysEarly : Task → SettingsSeen → Told → Stop → Type 0
+SaysEarly task s told (Header file (Text fault)) = RefusesTextAt told s.names s.starts file fault
+SaysEarly task s told (Header file (Fields fault)) =
+    JudgesRun told s (λ w. RefusesFirstFields w file fault)
+SaysEarly task s told (Plan cause) =
+    (is_search task ≡ true) × JudgesRun told s (λ w. RefusesSearch s.search w cause)
+SaysEarly task s told (Recording cause) = JudgesRun told s (λ w. RefusesToRecord task s w cause)
+SaysEarly task s told Memory = ⊤
+SaysEarly task s told ReadFault = ⊤
+SaysEarly task s told _ = ⊥
 
 -- A run was given up before its session: the stop is one that comes there, and what it says of the files is so.
 pub record StopsEarly (task : Task) (s : SettingsSeen) (told : Told) (stop : Stop) : Type 0 where
   pub kind : ComesBefore stop
-  pub says : OfRun told s (λ w. SaysBefore task s w stop)
+  pub says : SaysEarly task s told stop
 
 -- What it has read: the first headers of all transfers and nothing else, where there was no memory; and a fault came
 -- before that of some transfer was judged.
-pub record LeavesEarly (s : SettingsSeen) (before after : Told) (stop : Stop) : Type 0 where
-  pub unread : stop ≡ Memory → OfRun before s (λ w. ReadsFirsts s.names w before after)
-  pub broke : stop ≡ ReadFault → (transfer : ℕ) × OfRun before s (λ w.
-      BreaksFirstOf s.names w transfer before after)
+pub record LeavesEarly (s : SettingsSeen) (is_calm : Type 0) (before after : Told) (stop : Stop) :
+    Type 0 where
+  pub unread : stop ≡ Memory → OfRunFirsts before s (λ w. ReadsFirsts s.names w before after)
+  pub broke : stop ≡ ReadFault → BreaksFirstAt s.names s.starts is_calm before after
 
 -- ---- what is read
 
@@ -53,9 +66,10 @@ pub record HasFirsts {I : Type 0} (told : I → Told) (is_open : I → Type 0) (
   pub plan : HasPlan feeder s.names s.starts s.size s.max_bytes
   pub begun : IsBegun (told feeder.inputs.now) feeder
   pub file : HasOpenFile feeder → is_open feeder.inputs.now
-  pub observed : AreObserved (header_at feeder) observations
-  pub firsts : OfRun (told feeder.inputs.now) s (λ w. AreFirsts w observations)
-  pub headers : OfRun (told feeder.inputs.now) s (λ w. AreHeadersOf w (header_at feeder))
+  pub observed : AreObserved (headers_of feeder) observations
+  pub texts : HaveHeaders (told feeder.inputs.now) s.names s.starts (length s.starts)
+  pub firsts : OfRunFirsts (told feeder.inputs.now) s (λ w. AreFirsts w observations)
+  pub headers : OfRunFirsts (told feeder.inputs.now) s (λ w. AreHeadersOf w (headers_of feeder))
 
 -- ---- what is judged
 
@@ -73,13 +87,27 @@ pub record AreFit (task : Task) (s : SettingsSeen) (headers : List HeaderText)
       AreHeadersOf w headers → w.max_bytes ≡ s.max_bytes →
       CanRecordFirst s.file_size w (length w.starts)
 
+-- a walk with these first headers and observations, within the limit of the settings
+abbrev pub IsWalkOf : SettingsSeen → List HeaderText → List (Option Observation) → FileStream →
+    Type 0
+IsWalkOf s headers observations w =
+    AreFirsts w observations × AreHeadersOf w headers × (w.max_bytes ≡ s.max_bytes)
+
+-- what a stop says where first headers are judged, of all walks that have them
+abbrev pub RefusesWalks : Task → SettingsSeen → (FileStream → Type 0) → Stop → Type 0
+RefusesWalks task s IsWalk (Plan cause) =
+    (is_search task ≡ true) × ((w : FileStream) → IsWalk w → RefusesSearch s.search w cause)
+RefusesWalks task s IsWalk (Recording cause) =
+    (w : FileStream) → IsWalk w → RefusesToRecord task s w cause
+RefusesWalks task s IsWalk Memory = ⊤
+RefusesWalks task s IsWalk _ = ⊥
+
 -- or one was refused, with its cause over the files of a walk, or there was no memory to judge them
 pub record IsRefused (task : Task) (s : SettingsSeen) (headers : List HeaderText)
     (observations : List (Option Observation)) (stop : Stop) : Type 0 where
   pub kind : ComesBefore stop
   pub readable : stop ≢ ReadFault
-  pub says : (w : FileStream) → AreFirsts w observations → AreHeadersOf w headers →
-      w.max_bytes ≡ s.max_bytes → SaysBefore task s w stop
+  pub says : RefusesWalks task s (IsWalkOf s headers observations) stop
 
 -- ---- the spaces
 
@@ -141,11 +169,12 @@ pub record IsReady {I F : Type 0} (told : I → Told) (is_open : I → Type 0) (
   pub header : HeaderText
   pub stage_is : IsStageSpace task s observations header stage
   pub feeds : FeedsRings told is_open (shape_for s (length stage_is.lanes.items)) header feeder
-  pub observed : AreObserved (header_at feeder) observations
-  pub fit : AreFit task s (header_at feeder) observations
+  pub observed : AreObserved (headers_of feeder) observations
+  pub fit : AreFit task s (headers_of feeder) observations
   pub offsets_are : AreOffsetsOf observations offsets
-  pub firsts : OfRun (told feeder.inputs.now) s (λ w. AreFirsts w observations)
-  pub headers : OfRun (told feeder.inputs.now) s (λ w. AreHeadersOf w (header_at feeder))
+  pub texts : HaveHeaders (told feeder.inputs.now) s.names s.starts (length s.starts)
+  pub firsts : OfRunFirsts (told feeder.inputs.now) s (λ w. AreFirsts w observations)
+  pub headers : OfRunFirsts (told feeder.inputs.now) s (λ w. AreHeadersOf w (headers_of feeder))
 
 -- All is opened: a run is ready, and the space of its recorder is there, where it records.
 pub record IsOpened {I F : Type 0} (told : I → Told) (is_open : I → Type 0) (task : Task)

@@ -3,7 +3,7 @@ ghost use Rattle.std.specs.Prelude.{◌≡◌, ◌≤◌, ◌^◌, ◌⊎◌, tr
 ghost use Rattle.search_model.specs.Search.{SettingsInRange};
 ghost use Rattle.search_words.specs.Settings.{AllInRange, settings_seen};
 ghost use Rattle.stream_model.specs.Walk.{FileStream};
-ghost use Rattle.disk_feeder.specs.Feeder.{header_at};
+ghost use Rattle.disk_feeder.specs.Feeder.{headers_of};
 ghost use Rattle.search_opening.specs.First.{AreFirsts, AreHeadersOf, AreObserved};
 ghost use Rattle.search_opening.specs.Plans.{PlansFit, IsOfPlan, StopsSearch};
 ghost use Rattle.search_opening.specs.Recordings.{RecordingsFit, AreReadBack, IsOfRecording, StopsRecording};
@@ -12,6 +12,7 @@ ghost use Rattle.run_stop.specs.Runs.{CanSearchFirst, CanRecordFirst};
 ghost use Rattle.whole_run.specs.Wholes.{task_of};
 ghost use Rattle.whole_run.specs.Openings.{AreFit, IsRefused};
 
+use crate::purpose::Purpose;
 use dada_header::Header;
 use disk_feeder::Feeder;
 use obs_plan::Observation;
@@ -23,25 +24,25 @@ use std::alloc::Global;
 
 // Whether all transfers can be searched, where that is asked for.
 fn judge_search(
-    searches: bool,
+    purpose: Purpose,
     settings: &Settings,
     observations: &[Option<Observation>],
 ) -> Result<(), Stop>
     requires range { SettingsInRange settings.now.search }
-    ensures fit { OnOk result (searches ≡ true
+    ensures fit { OnOk result (purpose ≡ Purpose.Search
         → PlansFit settings.now.search observations.now) }
-    ensures searched { OnOk result (searches ≡ true → (w : FileStream)
+    ensures searched { OnOk result (purpose ≡ Purpose.Search → (w : FileStream)
         → AreFirsts w observations.now
         → CanSearchFirst settings.now.search w (length w.starts)) }
     ensures kind { IfErr result IsOfPlan }
-    ensures searches { OnErr result (searches ≡ true) }
+    ensures searches { OnErr result (purpose ≡ Purpose.Search) }
     ensures refused { IfErr result (λ stop. (w : FileStream) → AreFirsts w observations.now
         → StopsSearch settings.now.search w stop) }
 {
-    if !searches {
-        return Ok(());
+    match purpose {
+        Purpose::Search => check_plans(observations, &settings.search),
+        Purpose::Record => Ok(()),
     }
-    check_plans(observations, &settings.search)
 }
 
 // Whether all transfers can be recorded, where that is asked for.
@@ -51,22 +52,22 @@ fn judge_recording<'a, I: Inputs>(
     feeder: &Feeder<'a, I>,
     observations: &[Option<Observation>],
 ) -> Result<(), Stop>
-    requires observed { AreObserved (header_at feeder.now) observations.now }
+    requires observed { AreObserved (headers_of feeder.now) observations.now }
     requires file_size { (1 ≤ settings.now.file_size) × (settings.now.file_size ≤ 2 ^ 40) }
     requires limit { settings.now.max_bytes ≤ 2 ^ 48 }
     ensures fit { OnOk result (settings.now.recording ≡ true
-        → RecordingsFit settings.now.file_size settings.now.max_bytes (header_at feeder.now)
+        → RecordingsFit settings.now.file_size settings.now.max_bytes (headers_of feeder.now)
         observations.now (length observations.now)) }
     ensures read_back { OnOk result (settings.now.recording ≡ true
-        → AreReadBack (header_at feeder.now)) }
+        → AreReadBack (headers_of feeder.now)) }
     ensures recorded { OnOk result (settings.now.recording ≡ true → (w : FileStream)
-        → AreFirsts w observations.now → AreHeadersOf w (header_at feeder.now)
+        → AreFirsts w observations.now → AreHeadersOf w (headers_of feeder.now)
         → w.max_bytes ≡ settings.now.max_bytes
         → CanRecordFirst settings.now.file_size w (length w.starts)) }
     ensures kind { IfErr result (λ stop. (stop ≡ Memory) ⊎ IsOfRecording stop) }
     ensures records { OnErr result (settings.now.recording ≡ true) }
     ensures refused { IfErr result (λ stop. (stop ≡ Memory) ⊎ ((w : FileStream)
-        → AreFirsts w observations.now → AreHeadersOf w (header_at feeder.now)
+        → AreFirsts w observations.now → AreHeadersOf w (headers_of feeder.now)
         → w.max_bytes ≡ settings.now.max_bytes
         → StopsRecording settings.now.file_size w stop)) }
 {
@@ -88,19 +89,19 @@ fn judge_recording<'a, I: Inputs>(
 /// Whether all transfers can be searched and recorded, as far as that is asked for, or what is refused first.
 pub(crate) fn judge<'a, I: Inputs>(
     alloc: Global,
-    searches: bool,
+    purpose: Purpose,
     settings: &Settings,
     feeder: &Feeder<'a, I>,
     observations: &[Option<Observation>],
 ) -> Result<(), Stop>
     requires range { AllInRange (settings_seen settings.now) }
-    requires observed { AreObserved (header_at feeder.now) observations.now }
-    ensures fit { OnOk result (AreFit (task_of searches) (settings_seen settings.now)
-        (header_at feeder.now) observations.now) }
-    ensures refused { IfErr result (IsRefused (task_of searches) (settings_seen settings.now)
-        (header_at feeder.now) observations.now) }
+    requires observed { AreObserved (headers_of feeder.now) observations.now }
+    ensures fit { OnOk result (AreFit (task_of purpose) (settings_seen settings.now)
+        (headers_of feeder.now) observations.now) }
+    ensures refused { IfErr result (IsRefused (task_of purpose) (settings_seen settings.now)
+        (headers_of feeder.now) observations.now) }
 {
-    match judge_search(searches, settings, observations) {
+    match judge_search(purpose, settings, observations) {
         Ok(()) => judge_recording(alloc, settings, feeder, observations),
         Err(stop) => Err(stop),
     }

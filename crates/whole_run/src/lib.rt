@@ -6,9 +6,11 @@ mod found;
 mod judge;
 mod lent;
 mod open;
+mod purpose;
 mod run;
 mod session;
 mod spaces;
 
 pub use found::Found;
+pub use purpose::Purpose;
 pub use run::drive;

@@ -9,12 +9,14 @@ ghost use Rattle.whole_run.specs.Wholes.{task_of, CanBeDriven};
 ghost use Rattle.whole_run.specs.Openings.{StopsEarly, LeavesEarly, HasFirsts, IsOpened};
 
 use crate::judge::judge;
+use crate::purpose::Purpose;
 use crate::spaces::Spaces;
 use arrayvec::ArrayVec;
 use disk_feeder::Feeder;
 use obs_plan::Observation;
 use psr_base::{Files, Inputs};
 use run_stop::Stop;
+use search_model::MOST_TRANSFERS;
 use search_opening::{accept_all, begin_feed, first_offsets};
 use search_words::Settings;
 use std::alloc::Global;
@@ -22,7 +24,7 @@ use std::thread::Threads;
 
 /// A run of which all is opened.
 pub(crate) struct Opened<'a, I, F> {
-    pub(crate) observations: ArrayVec<Option<Observation>, 8>,
+    pub(crate) observations: ArrayVec<Option<Observation>, MOST_TRANSFERS>,
     pub(crate) spaces: Spaces<'a, I, F>,
 }
 
@@ -30,26 +32,26 @@ pub(crate) struct Opened<'a, I, F> {
 fn open_begun<'a, I: Inputs, F: Files, R: Threads + Sync>(
     rt: &R,
     alloc: Global,
-    searches: bool,
+    purpose: Purpose,
     settings: &Settings,
     feeder: &mut Feeder<'a, I>,
-    observations: ArrayVec<Option<Observation>, 8>,
-    offsets: &'a mut ArrayVec<u64, 8>,
+    observations: ArrayVec<Option<Observation>, MOST_TRANSFERS>,
+    offsets: &'a mut ArrayVec<u64, MOST_TRANSFERS>,
 ) -> Result<Opened<'a, I, F>, Stop>
-    requires drivable { CanBeDriven (task_of searches) (settings_seen settings.now) }
+    requires drivable { CanBeDriven (task_of purpose) (settings_seen settings.now) }
     requires firsts { HasFirsts I.told I.is_open (settings_seen settings.now) feeder.old
         observations.items }
     ensures same_reference { feeder.new.inputs.ghost_name ≡ feeder.old.inputs.ghost_name }
     ensures inputs { feeder.new.inputs.now ≡ feeder.old.inputs.now }
-    ensures opened { IfOk result (λ o. IsOpened I.told I.is_open (task_of searches)
+    ensures opened { IfOk result (λ o. IsOpened I.told I.is_open (task_of purpose)
         (settings_seen settings.now) feeder.new o.observations.items o.spaces) }
-    ensures stopped { IfErr result (StopsEarly (task_of searches) (settings_seen settings.now)
+    ensures stopped { IfErr result (StopsEarly (task_of purpose) (settings_seen settings.now)
         (I.told feeder.old.inputs.now)) }
     ensures readable { result ≢ Err Stop.ReadFault }
     ensures reads_on { (before told : Told) → FeederRead before told feeder.old
         → FeederRead before told feeder.new }
 {
-    match judge(alloc, searches, settings, feeder, observations.as_slice()) {
+    match judge(alloc, purpose, settings, feeder, observations.as_slice()) {
         Ok(()) => {}
         Err(stop) => return Err(stop),
     }
@@ -57,7 +59,7 @@ fn open_begun<'a, I: Inputs, F: Files, R: Threads + Sync>(
     match Spaces::take(
         rt,
         alloc,
-        searches,
+        purpose,
         settings,
         feeder.header(0),
         observations.as_slice(),
@@ -79,12 +81,12 @@ fn open_begun<'a, I: Inputs, F: Files, R: Threads + Sync>(
 pub(crate) fn open_run<'a, I: Inputs, F: Files, R: Threads + Sync>(
     rt: &R,
     alloc: Global,
-    searches: bool,
+    purpose: Purpose,
     settings: &Settings,
     feeder: &mut Feeder<'a, I>,
-    offsets: &'a mut ArrayVec<u64, 8>,
+    offsets: &'a mut ArrayVec<u64, MOST_TRANSFERS>,
 ) -> Result<Opened<'a, I, F>, Stop>
-    requires drivable { CanBeDriven (task_of searches) (settings_seen settings.now) }
+    requires drivable { CanBeDriven (task_of purpose) (settings_seen settings.now) }
     requires plan { HasPlan feeder.old (settings_seen settings.now).names
         settings.now.starts.items settings.now.size settings.now.max_bytes }
     requires fresh { IsFresh feeder.old }
@@ -94,18 +96,19 @@ pub(crate) fn open_run<'a, I: Inputs, F: Files, R: Threads + Sync>(
     ensures serves { I.is_calm feeder.old.inputs.now
         → HoldsAll (I.told feeder.old.inputs.now) (settings_seen settings.now).names
         → result ≢ Err Stop.ReadFault }
-    ensures opened { IfOk result (λ o. IsOpened I.told I.is_open (task_of searches)
+    ensures opened { IfOk result (λ o. IsOpened I.told I.is_open (task_of purpose)
         (settings_seen settings.now) feeder.new o.observations.items o.spaces) }
-    ensures stopped { IfErr result (StopsEarly (task_of searches) (settings_seen settings.now)
+    ensures stopped { IfErr result (StopsEarly (task_of purpose) (settings_seen settings.now)
         (I.told feeder.old.inputs.now)) }
     ensures leaves { IfErr result (LeavesEarly (settings_seen settings.now)
-        (I.told feeder.old.inputs.now) (I.told feeder.new.inputs.now)) }
+        (I.is_calm feeder.old.inputs.now) (I.told feeder.old.inputs.now)
+        (I.told feeder.new.inputs.now)) }
     ensures begins { OnOk result (FeederRead (I.told feeder.old.inputs.now)
         (I.told feeder.new.inputs.now) feeder.new) }
 {
     match begin_feed(alloc, feeder, settings.starts.as_slice()) {
         Ok(observations) => {
-            open_begun(rt, alloc, searches, settings, feeder, observations, offsets)
+            open_begun(rt, alloc, purpose, settings, feeder, observations, offsets)
         }
         Err(stop) => Err(stop),
     }

@@ -8,6 +8,7 @@ ghost use Rattle.whole_run.specs.Wholes.{task_of, CanBeDriven, FailsReading, IsS
 use crate::found::Found;
 use crate::lent::{Lent, give_back};
 use crate::open::open_run;
+use crate::purpose::Purpose;
 use crate::session::go_on;
 use arrayvec::ArrayVec;
 use disk_feeder::{Feeder, FeederSpace};
@@ -21,19 +22,20 @@ use std::thread::Threads;
 use std::time::Clock;
 // A law: it does nothing when it runs, and the proofs use what it ensures.
 use run_stop::words_say_once;
+use search_model::MOST_TRANSFERS;
 
 // The same with all that is borrowed in one lifetime. `offsets` will hold where the data of each transfer begin.
 fn within<'a, I: Inputs + Send, F: Files + Send, G: Gate + Sync, R: Threads + Wait + Clock + Sync>(
     rt: &R,
     alloc: Global,
-    searches: bool,
+    purpose: Purpose,
     settings: &'a Settings,
     inputs: &'a mut I,
     files: &'a mut F,
-    offsets: &'a mut ArrayVec<u64, 8>,
+    offsets: &'a mut ArrayVec<u64, MOST_TRANSFERS>,
     gate: &G,
 ) -> Lent<'a, I, F, Result<Found, Stop>>
-    requires drivable { CanBeDriven (task_of searches) (settings_seen settings.now) }
+    requires drivable { CanBeDriven (task_of purpose) (settings_seen settings.now) }
     requires closed { settings.now.recording ≡ true → ¬ F.is_open files.old }
     ensures same_inputs { result.inputs.ghost_name ≡ inputs.entry.ghost_name }
     ensures same_files { result.files.ghost_name ≡ files.entry.ghost_name }
@@ -42,12 +44,12 @@ fn within<'a, I: Inputs + Send, F: Files + Send, G: Gate + Sync, R: Threads + Wa
     ensures serves { I.is_calm inputs.old
         → HoldsAll (I.told inputs.old) (settings_seen settings.now).names
         → ¬ FailsReading result.done }
-    ensures stopped { IfErr result.done (IsStopped (task_of searches) (settings_seen settings.now)
+    ensures stopped { IfErr result.done (IsStopped (task_of purpose) (settings_seen settings.now)
         (I.told inputs.old)) }
     ensures stands { OnErr result.done (result.files.now ≡ files.old) }
-    ensures leaves { LeavesInputs (task_of searches) (settings_seen settings.now)
-        (I.told inputs.old) (I.told result.inputs.now) result.done }
-    ensures driven { IfOk result.done (IsDriven (task_of searches) (settings_seen settings.now)
+    ensures leaves { LeavesInputs (task_of purpose) (settings_seen settings.now)
+        (I.is_calm inputs.old) (I.told inputs.old) (I.told result.inputs.now) result.done }
+    ensures driven { IfOk result.done (IsDriven (task_of purpose) (settings_seen settings.now)
         (I.told inputs.old) (F.seen files.old) (F.seen result.files.now)) }
 {
     words_say_once();
@@ -68,7 +70,7 @@ fn within<'a, I: Inputs + Send, F: Files + Send, G: Gate + Sync, R: Threads + Wa
         }
     };
     let mut feeder = Feeder::over(inputs, space);
-    match open_run(rt, alloc, searches, settings, &mut feeder, offsets) {
+    match open_run(rt, alloc, purpose, settings, &mut feeder, offsets) {
         Ok(opened) => {
             let Lent {
                 inputs,
@@ -89,39 +91,38 @@ fn within<'a, I: Inputs + Send, F: Files + Send, G: Gate + Sync, R: Threads + Wa
     }
 }
 
-/// Drives a run of either program, from its settings to the end of its session: with `searches` it searches files, and
-/// else records them alone, which the settings then ask for. At `Ok` the session went to its end; its `feed` says
-/// whether all data were read. At `Err` the run stopped before its session (a first header, a search or a recording is
-/// refused, the inputs failed, or there was no memory), and no file was made. It may not end.
+/// Drives a run of either program, from its settings to the end of its session. At `Ok` the session went to its end;
+/// its `feed` says whether all data were read. At `Err` the run stopped before its session (a first header, a search or
+/// a recording is refused, the inputs failed, or there was no memory), and no file was made. It may not end.
 pub fn drive<I: Inputs + Send, F: Files + Send, G: Gate + Sync, R: Threads + Wait + Clock + Sync>(
     rt: &R,
     alloc: Global,
-    searches: bool,
+    purpose: Purpose,
     settings: &Settings,
     inputs: &mut I,
     files: &mut F,
     gate: &G,
 ) -> Result<Found, Stop>
-    requires drivable { CanBeDriven (task_of searches) (settings_seen settings.now) }
+    requires drivable { CanBeDriven (task_of purpose) (settings_seen settings.now) }
     requires closed { settings.now.recording ≡ true → ¬ F.is_open files.old }
     ensures inputs { HasReadFrom I.told I.is_calm I.faults (FailsReading result) inputs.old
         inputs.new }
     ensures serves { I.is_calm inputs.old
         → HoldsAll (I.told inputs.old) (settings_seen settings.now).names
         → ¬ FailsReading result }
-    ensures stopped { IfErr result (IsStopped (task_of searches) (settings_seen settings.now)
+    ensures stopped { IfErr result (IsStopped (task_of purpose) (settings_seen settings.now)
         (I.told inputs.old)) }
     ensures stands { OnErr result (files.new ≡ files.old) }
-    ensures leaves { LeavesInputs (task_of searches) (settings_seen settings.now)
-        (I.told inputs.old) (I.told inputs.new) result }
-    ensures driven { IfOk result (IsDriven (task_of searches) (settings_seen settings.now)
+    ensures leaves { LeavesInputs (task_of purpose) (settings_seen settings.now)
+        (I.is_calm inputs.old) (I.told inputs.old) (I.told inputs.new) result }
+    ensures driven { IfOk result (IsDriven (task_of purpose) (settings_seen settings.now)
         (I.told inputs.old) (F.seen files.old) (F.seen files.new)) }
 {
     let mut offsets = ArrayVec::new();
     give_back(within(
         rt,
         alloc,
-        searches,
+        purpose,
         settings,
         inputs,
         files,

@@ -26,11 +26,12 @@ use std::thread::Threads;
 use std::time::Clock;
 // Laws: they do nothing when they run, and the proofs use what they ensure.
 use run_stop::runs_record_blocks;
+use search_model::MOST_TRANSFERS;
 use transfer_text::totals_are_counted;
 
 // What a session with a recorder left.
 fn found_of<'a, I, F>(
-    observations: ArrayVec<Option<Observation>, 8>,
+    observations: ArrayVec<Option<Observation>, MOST_TRANSFERS>,
     end: SessionEnd<'a, I, F>,
 ) -> Lent<'a, I, F, Found>
     requires { (files : MutBor F) × (end.files ≡ Some files) }
@@ -66,7 +67,7 @@ fn found_of<'a, I, F>(
 
 // What a session without a recorder left, to which no files were lent.
 fn found_without<'a, I, F>(
-    observations: ArrayVec<Option<Observation>, 8>,
+    observations: ArrayVec<Option<Observation>, MOST_TRANSFERS>,
     end: SessionEnd<'a, I, F>,
     files: &'a mut F,
 ) -> Lent<'a, I, F, Found>
@@ -109,7 +110,7 @@ fn with_recorder<
 >(
     rt: &R,
     turns: u32,
-    observations: ArrayVec<Option<Observation>, 8>,
+    observations: ArrayVec<Option<Observation>, MOST_TRANSFERS>,
     stage: StageSpace<'a, I, F>,
     feeder: Feeder<'a, I>,
     recorder: Recorder<'a, F>,
@@ -122,7 +123,8 @@ fn with_recorder<
     ensures same_files { result.files.ghost_name ≡ recorder.entry.files.ghost_name }
     ensures inputs { HasReadFrom I.told I.is_calm I.faults (result.done.feed ≡ ReadFault)
         feeder.entry.inputs.now result.inputs.now }
-    ensures broke { FaultLeaves I.told feeder.entry result.inputs.now result.done }
+    ensures broke { result.done.feed ≡ ReadFault → FaultLeaves I.told
+        (I.is_calm feeder.entry.inputs.now) feeder.entry result.inputs.now result.done.blocks }
     ensures serves { I.is_calm feeder.entry.inputs.now
         → HoldsAll (I.told feeder.entry.inputs.now) (names_at feeder.entry)
         → result.done.feed ≢ ReadFault }
@@ -149,7 +151,7 @@ fn without_recorder<
 >(
     rt: &R,
     turns: u32,
-    observations: ArrayVec<Option<Observation>, 8>,
+    observations: ArrayVec<Option<Observation>, MOST_TRANSFERS>,
     stage: StageSpace<'a, I, F>,
     feeder: Feeder<'a, I>,
     files: &'a mut F,
@@ -161,7 +163,8 @@ fn without_recorder<
     ensures same_files { result.files.ghost_name ≡ files.entry.ghost_name }
     ensures inputs { HasReadFrom I.told I.is_calm I.faults (result.done.feed ≡ ReadFault)
         feeder.entry.inputs.now result.inputs.now }
-    ensures broke { FaultLeaves I.told feeder.entry result.inputs.now result.done }
+    ensures broke { result.done.feed ≡ ReadFault → FaultLeaves I.told
+        (I.is_calm feeder.entry.inputs.now) feeder.entry result.inputs.now result.done.blocks }
     ensures serves { I.is_calm feeder.entry.inputs.now
         → HoldsAll (I.told feeder.entry.inputs.now) (names_at feeder.entry)
         → result.done.feed ≢ ReadFault }
@@ -198,7 +201,8 @@ pub(crate) fn go_on<
     ensures same_files { result.files.ghost_name ≡ files.entry.ghost_name }
     ensures inputs { HasReadFrom I.told I.is_calm I.faults (result.done.feed ≡ ReadFault)
         feeder.entry.inputs.now result.inputs.now }
-    ensures broke { FaultLeaves I.told feeder.entry result.inputs.now result.done }
+    ensures broke { result.done.feed ≡ ReadFault → FaultLeaves I.told
+        (I.is_calm feeder.entry.inputs.now) feeder.entry result.inputs.now result.done.blocks }
     ensures serves { I.is_calm feeder.entry.inputs.now
         → HoldsAll (I.told feeder.entry.inputs.now) (names_at feeder.entry)
         → result.done.feed ≢ ReadFault }

@@ -1,5 +1,5 @@
 // All space of a run.
-ghost use Rattle.std.specs.Prelude.{◌≡◌, ◌+◌, ◌^◌, ◌≤◌, true, false, All, IsSome, IfOk, List, length, Option};
+ghost use Rattle.std.specs.Prelude.{◌≡◌, ◌+◌, ◌^◌, ◌≤◌, true, All, IsSome, IfOk, List, length, Option};
 ghost use Rattle.search_model.specs.Search.{SettingsInRange};
 ghost use Rattle.dada_model.specs.Observation.{Observation as Observed};
 ghost use Rattle.search_words.specs.Settings.{AllInRange, settings_seen};
@@ -10,11 +10,13 @@ ghost use Rattle.run_stop.specs.Runs.{Task};
 ghost use Rattle.whole_run.specs.Wholes.{task_of};
 ghost use Rattle.whole_run.specs.Openings.{AreLanesOf, IsStageSpace, HasRecorderSpace, recorders, plan_for};
 
+use crate::purpose::Purpose;
 use arrayvec::ArrayVec;
 use dada_header::Header;
 use dada_recorder::RecorderSpace;
 use obs_plan::Observation;
 use psr_base::{Files, Inputs, Memory};
+use search_model::MOST_SHARDS;
 use search_opening::{StageSpace, open_lanes, run_shape};
 use search_session::Lane;
 use search_words::Settings;
@@ -26,22 +28,21 @@ use std::thread::Threads;
 fn take_lanes<R: Threads + Sync>(
     rt: &R,
     alloc: Global,
-    searches: bool,
+    purpose: Purpose,
     settings: &Settings,
     observations: &[Option<Observation>],
-) -> Result<ArrayVec<Option<Lane>, 7>, Memory>
+) -> Result<ArrayVec<Option<Lane>, MOST_SHARDS>, Memory>
     requires few { length observations.now ≤ 8 }
     requires there { All IsSome observations.now }
-    requires fit { searches ≡ true → PlansFit settings.now.search observations.now }
+    requires fit { purpose ≡ Purpose.Search → PlansFit settings.now.search observations.now }
     requires range { SettingsInRange settings.now.search }
     requires hands { 1 ≤ settings.now.hands }
-    ensures { IfOk result (λ lanes. AreLanesOf (task_of searches) (settings_seen settings.now)
+    ensures { IfOk result (λ lanes. AreLanesOf (task_of purpose) (settings_seen settings.now)
         observations.now lanes.items) }
 {
-    if searches {
-        open_lanes(rt, alloc, observations, &settings.search, settings.hands)
-    } else {
-        Ok(ArrayVec::new())
+    match purpose {
+        Purpose::Search => open_lanes(rt, alloc, observations, &settings.search, settings.hands),
+        Purpose::Record => Ok(ArrayVec::new()),
     }
 }
 
@@ -84,7 +85,7 @@ fn recorder_count(settings: &Settings) -> u32
 fn take_stage<'a, I: Inputs, F: Files>(
     alloc: Global,
     settings: &Settings,
-    lanes: ArrayVec<Option<Lane>, 7>,
+    lanes: ArrayVec<Option<Lane>, MOST_SHARDS>,
     header: &Header,
 ) -> Result<StageSpace<'a, I, F>, Memory>
     requires range { AllInRange (settings_seen settings.now) }
@@ -118,7 +119,7 @@ impl<'a, I: Inputs, F: Files> Spaces<'a, I, F> {
     pub(crate) fn take<R: Threads + Sync>(
         rt: &R,
         alloc: Global,
-        searches: bool,
+        purpose: Purpose,
         settings: &Settings,
         header: &Header,
         observations: &[Option<Observation>],
@@ -127,14 +128,14 @@ impl<'a, I: Inputs, F: Files> Spaces<'a, I, F> {
         requires range { AllInRange (settings_seen settings.now) }
         requires few { length observations.now ≤ 8 }
         requires there { All IsSome observations.now }
-        requires fit { searches ≡ true → PlansFit settings.now.search observations.now }
-        requires records { searches ≡ false → settings.now.recording ≡ true }
+        requires fit { purpose ≡ Purpose.Search → PlansFit settings.now.search observations.now }
+        requires records { purpose ≡ Purpose.Record → settings.now.recording ≡ true }
         requires plan { PlanInRange
             (plan_for (settings_seen settings.now) offsets.now) }
-        ensures { IfOk result (AreSpaces (task_of searches) (settings_seen settings.now)
+        ensures { IfOk result (AreSpaces (task_of purpose) (settings_seen settings.now)
             observations.now header.now offsets.now) }
     {
-        let lanes = take_lanes(rt, alloc, searches, settings, observations)?;
+        let lanes = take_lanes(rt, alloc, purpose, settings, observations)?;
         let stage = take_stage(alloc, settings, lanes, header)?;
         let recorder = take_recorder(alloc, settings, offsets)?;
         Ok(Spaces { stage, recorder })

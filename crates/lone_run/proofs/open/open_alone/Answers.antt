@@ -1,15 +1,12 @@
 use Rattle.std.proofs.Common.{◌≡◌, Result, Ok, Err, OnOk, refl, sym, subst}
 use Rattle.search_words.specs.Settings.{settings_seen}
-use Rattle.stream_model.specs.Walk.{FileStream}
 use Rattle.disk_feeder.specs.Feeder.{FeederRead}
 use Rattle.run_stop.specs.declared.stop.Stop.{Stop}
-use Rattle.search_opening.specs.First.{StopsFirsts}
 use Rattle.whole_run.specs.Openings.{LeavesEarly}
 use Rattle.lone_run.specs.declared.stop.LoneStop.{LoneStop}
 use Rattle.lone_run.specs.declared.stop.LoneStop.TheVariants.{Run}
 use Rattle.lone_run.proofs.Opening.{begin_stops, stops_before_reading, leaves_early, leaves_opening}
 use Rattle.lone_run.proofs.Results.{map_err}
-use Rattle.lone_run.proofs.Told.{of_plan}
 use Rattle.lone_run.proofs.open.open_alone.Goals as goal
 
 pub returns-in-Ok-clause-stopped : goal.returns-in-Ok-clause-stopped
@@ -21,12 +18,10 @@ returns-in-Ok-clause-stopped g c =
 
 pub returns-in-Err-clause-stopped : goal.returns-in-Err-clause-stopped
 returns-in-Err-clause-stopped g c =
-    let s = settings_seen c.args.settings.now in
-    let told = g.I.Inputs.told c.args.feeder.now.inputs.now in
     let stops = c.in-Err.ensures.stopped in
-    let Stops : FileStream → Type 0 = λ w. StopsFirsts w c.in-Err.stop in
-    begin_stops (g.S.Scoping.scopes c.args.scoping.now) (g.S.Scoping.refuses c.args.scoping.now) s told c.in-Err.stop
-    stops.kind (of_plan c.args.feeder.now s told told Stops c.requires.fresh.plan refl stops.stopped)
+    begin_stops (g.S.Scoping.scopes c.args.scoping.now) (g.S.Scoping.refuses c.args.scoping.now)
+    (settings_seen c.args.settings.now) c.args.feeder.now (g.I.Inputs.told c.args.feeder.now.inputs.now) c.in-Err.stop
+    c.requires.fresh.plan stops.kind stops.stopped
 
 -- ---- what was read
 
@@ -46,9 +41,10 @@ returns-in-Ok-clause-begins g c =
 
 pub returns-in-Ok-clause-leaves : goal.returns-in-Ok-clause-leaves
 returns-in-Ok-clause-leaves g c = λ stop is.
-    leaves_opening g.I.Inputs.told (settings_seen c.args.settings.now) c.args.feeder.now c.begin_feed.new.feeder
-    c.open_begun.new.feeder c.open_begun.result stop c.requires.fresh.plan c.in-Ok.ensures.read.read
-    c.open_begun.ensures.inputs c.open_begun.ensures.readable is
+    leaves_opening g.I.Inputs.told (g.I.Inputs.is_calm c.args.feeder.now.inputs.now)
+    (settings_seen c.args.settings.now) c.args.feeder.now c.begin_feed.new.feeder c.open_begun.new.feeder
+    c.open_begun.result stop c.requires.fresh.plan c.in-Ok.ensures.read.read c.open_begun.ensures.inputs
+    c.open_begun.ensures.readable is
 
 -- the stop of an answer
 one_stop : {T F : Type 0} (r : Result T (LoneStop F)) (a b : Stop) → r ≡ Err (Run a) → r ≡ Err (Run b) → a ≡ b
@@ -57,8 +53,10 @@ one_stop r a b one other = cc
 pub returns-in-Err-clause-leaves : goal.returns-in-Err-clause-leaves
 returns-in-Err-clause-leaves g c = λ stop is.
     let told = g.I.Inputs.told in
-    let Leaves : Stop → Type 0 = λ x. LeavesEarly (settings_seen c.args.settings.now)
-    (told c.args.feeder.now.inputs.now) (told c.begin_feed.new.feeder.inputs.now) x in
+    let s = settings_seen c.args.settings.now in
+    let old = c.args.feeder.now in
+    let new = c.begin_feed.new.feeder in
+    let Leaves : Stop → Type 0 = λ x. LeavesEarly s (g.I.Inputs.is_calm old.inputs.now) (told old.inputs.now)
+    (told new.inputs.now) x in
     subst Leaves (one_stop _ _ _ refl is)
-    (leaves_early told (settings_seen c.args.settings.now) c.args.feeder.now c.begin_feed.new.feeder c.in-Err.stop
-    c.requires.fresh.plan c.in-Err.ensures.stopped)
+    (leaves_early told g.I.Inputs.is_calm s old new c.in-Err.stop c.requires.fresh.plan c.in-Err.ensures.stopped)

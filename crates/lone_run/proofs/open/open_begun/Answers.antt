@@ -1,6 +1,6 @@
 use Rattle.std.proofs.Common.{◌≡◌, Result, Err, refl, sym, subst, ◌∙◌}
 use Rattle.search_words.specs.Settings.{settings_seen}
-use Rattle.disk_feeder.specs.Feeder.{header_at}
+use Rattle.disk_feeder.specs.Feeder.{headers_of}
 use Rattle.dada_model.specs.Observation.{Observation}
 use Rattle.search_opening.specs.First.{AreFirsts}
 use Rattle.lone_run.specs.Openings.{OpensScope}
@@ -10,14 +10,14 @@ use Rattle.lone_run.proofs.open.open_begun.Goals as goal
 pub lane_for-requires-clause-one : goal.lane_for-requires-clause-one
 lane_for-requires-clause-one g c =
     let begun = c.requires.begun in
-    let only = only_observed (header_at c.args.feeder.now) c.args.observations.items begun.observed
+    let only = only_observed (headers_of c.args.feeder.now) c.args.observations.items begun.observed
     (begun.plan.headers ∙ c.requires.one.transfer) in
     (only.0, c.as_slice.ensures.value ∙ only.1)
 
 pub returns-in-Err-clause-stopped : goal.returns-in-Err-clause-stopped
 returns-in-Err-clause-stopped g c =
     let begun = c.requires.begun in
-    let only = only_observed (header_at c.args.feeder.now) c.args.observations.items begun.observed
+    let only = only_observed (headers_of c.args.feeder.now) c.args.observations.items begun.observed
     (begun.plan.headers ∙ c.requires.one.transfer) in
     lane_stops g.I.Inputs.told g.I.Inputs.is_open _ _ (settings_seen c.args.settings.now) c.args.feeder.now
     c.args.observations.items only.0 c.in-Err.stop begun only.1
@@ -26,13 +26,13 @@ returns-in-Err-clause-stopped g c =
 pub only_one-requires : goal.only_one-requires
 only_one-requires g c =
     let begun = c.requires.begun in
-    only_observed (header_at c.args.feeder.now) c.args.observations.items begun.observed
+    only_observed (headers_of c.args.feeder.now) c.args.observations.items begun.observed
     (begun.plan.headers ∙ c.requires.one.transfer)
 
 pub returns-in-Err-clause-readable : goal.returns-in-Err-clause-readable
 returns-in-Err-clause-readable g c = λ same.
     let begun = c.requires.begun in
-    let only = only_observed (header_at c.args.feeder.now) c.args.observations.items begun.observed
+    let only = only_observed (headers_of c.args.feeder.now) c.args.observations.items begun.observed
     (begun.plan.headers ∙ c.requires.one.transfer) in
     lane_readable (g.S.Scoping.scopes c.args.scoping.now) (g.S.Scoping.refuses c.args.scoping.now)
     c.args.settings.now.search only.0 c.in-Err.stop
@@ -45,7 +45,7 @@ pub returns-in-Ok-take_space-clause-opened : goal.returns-in-Ok-take_space-claus
 returns-in-Ok-take_space-clause-opened g c =
     let begun = c.requires.begun in
     let s = settings_seen c.args.settings.now in
-    let only = only_observed (header_at c.args.feeder.now) c.args.observations.items begun.observed
+    let only = only_observed (headers_of c.args.feeder.now) c.args.observations.items begun.observed
     (begun.plan.headers ∙ c.requires.one.transfer) in
     let o = only.0 in
     let lane = c.in-Ok.ensures.opened o (c.as_slice.ensures.value ∙ only.1) in

@@ -19,11 +19,11 @@ pub returns-clause-broken : goal.returns-clause-broken
 returns-clause-broken g c = λ failed lone.
     let told = g.I.Inputs.told in
     let s = settings_seen c.args.settings.now in
-    let Leaves : _ → Type 0 = λ i. ForWords (Alone lone) s
-    (λ words. LeavesAtFault (Alone lone) words (told c.args.inputs.now) (told i) (blocks_of c.give_back.result)) in
-    let Blocks : _ → Type 0 = λ r. FailsReading r → ForWords (Alone lone) s
-    (λ words. LeavesAtFault (Alone lone) words (told c.args.inputs.now) (told c.within.result.inputs.now)
-    (blocks_of r)) in
+    let calm : Type 0 = g.I.Inputs.is_calm c.args.inputs.now in
+    let Leaves : _ → Type 0 = λ i. ForWords (Alone lone) s (λ words.
+    LeavesAtFault (Alone lone) words calm (told c.args.inputs.now) (told i) (blocks_of c.give_back.result)) in
+    let Blocks : _ → Type 0 = λ r. FailsReading r → ForWords (Alone lone) s (λ words.
+    LeavesAtFault (Alone lone) words calm (told c.args.inputs.now) (told c.within.result.inputs.now) (blocks_of r)) in
     let back : c.inputs-1.given.0 ≡ c.within.result.inputs.now = search rules in
     subst Leaves (sym back)
     (subst Blocks (sym c.give_back.ensures.done) (λ was. c.within.ensures.broken was lone) failed)

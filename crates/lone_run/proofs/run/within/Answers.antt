@@ -99,7 +99,7 @@ returns-in-Err-open_alone-clause-stopped g c =
 -- ---- what a fault leaves
 
 pub returns-in-Ok-open_alone-clause-broken : goal.returns-in-Ok-open_alone-clause-broken
-returns-in-Ok-open_alone-clause-broken g c = λ failed.
+returns-in-Ok-open_alone-clause-broken g c = λ failed lone.
     let told = g.I.Inputs.told in
     let s = settings_seen c.args.settings.now in
     let lent = c.part-inputs.result.inputs.now in
@@ -119,9 +119,13 @@ returns-in-Ok-open_alone-clause-broken g c = λ failed.
     subst Of (sym c.part-inputs.ensures.stream)
     (subst Now (sym c.part-inputs.ensures.inputs)
     (subst Before c.over-feeder.ensures.inputs c.in-Ok-open_alone.ensures.begins)) in
-    leaves_session c.words_say_once.ensures told s (told c.args.inputs.now) feeder c.go_on-found.new.inputs
-    c.go_on-found.result names opened.feeder.plan (c.go_on-found.ensures.went s at.0 opened).begun read
-    c.go_on-found.ensures.broke failed
+    let Calm : _ → Type 0 = g.I.Inputs.is_calm in
+    leaves_session c.words_say_once.ensures told (Alone lone) s (Calm c.args.inputs.now) (Calm lent)
+    (told c.args.inputs.now) feeder c.go_on-found.new.inputs c.go_on-found.result.blocks names
+    c.go_on-found.ensures.inputs.names opened.feeder.plan ((c.go_on-found.ensures.went s at.0 opened).begun lone) read
+    (c.go_on-found.ensures.broke failed)
+    (λ calm. subst Calm (sym c.part-inputs.ensures.inputs)
+    (c.in-Ok-open_alone.ensures.inputs.calm (subst Calm (sym c.over-feeder.ensures.inputs) calm)))
 
 pub returns-in-Err-open_alone-clause-unread : goal.returns-in-Err-open_alone-clause-unread
 returns-in-Err-open_alone-clause-unread g c = λ want lone.
@@ -145,15 +149,15 @@ returns-in-Err-open_alone-clause-broken g c = λ failed lone.
     let told = g.I.Inputs.told in
     let s = settings_seen c.args.settings.now in
     let early = c.in-Err-open_alone.ensures.leaves Stop.ReadFault (ap Err (at_fault c.in-Err-open_alone.stop failed)) in
-    let broke = early.broke refl in
+    let Calm : _ → Type 0 = g.I.Inputs.is_calm in
     let Before : _ → Type 0 = λ i. ForWords (Alone lone) s (λ words.
-    LeavesAtFault (Alone lone) words (told i) (told c.open_alone.new.feeder.inputs.now) None) in
+    LeavesAtFault (Alone lone) words (Calm i) (told i) (told c.open_alone.new.feeder.inputs.now) None) in
     let After : _ → Type 0 = λ i. ForWords (Alone lone) s (λ words.
-    LeavesAtFault (Alone lone) words (told c.args.inputs.now) (told i) None) in
+    LeavesAtFault (Alone lone) words (Calm c.args.inputs.now) (told c.args.inputs.now) (told i) None) in
     subst After (sym c.close.ensures.inputs)
     (subst Before c.over-feeder.ensures.inputs
-    (leaves_before c.words_say_once.ensures s (told c.over-feeder.result.inputs.now)
-    (told c.open_alone.new.feeder.inputs.now) broke.0 broke.1 lone))
+    (leaves_before c.words_say_once.ensures (Alone lone) s (Calm c.over-feeder.result.inputs.now)
+    (told c.over-feeder.result.inputs.now) (told c.open_alone.new.feeder.inputs.now) (early.broke refl)))
   where
     at_fault : {F : Type 0} (stop : LoneStop F) → FailsReading (Err stop) → stop ≡ Run Stop.ReadFault
     at_fault (Run stop) failed = ap (λ (x : Stopped). Run x) failed

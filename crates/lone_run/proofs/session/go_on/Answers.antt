@@ -43,13 +43,7 @@ returns-clause-broke g c =
     (feeder_over c.args.inputs.now space) (session_end c.run_alone-end.new.inputs c.run_alone-end.result) in
     let fed = subst Fed c.session-session.ensures.feeder c.run_alone-end.ensures.feed in
     fault_leaves g.I.Inputs.told g.I.Inputs.is_calm g.I.Inputs.faults (feeder_over c.args.inputs.now c.args.feeder)
-    c.run_alone-end.new.inputs c.run_alone-end.result (record {
-      feed = c.run_alone-end.result.feed;
-      observation = c.args.opened.observation;
-      engine = c.engine_of.result;
-      blocks = c.run_alone-end.result.blocks;
-    })
-    fed refl refl
+    c.run_alone-end.new.inputs c.run_alone-end.result fed
 
 pub returns-clause-went : goal.returns-clause-went
 returns-clause-went g c = λ s scope opened.

@@ -1,13 +1,11 @@
-use Rattle.std.proofs.Common.{Result, Ok, Err, OnOk, refl, sym, subst}
+use Rattle.std.proofs.Common.{Result, Ok, Err, OnOk, sym, subst}
 use Rattle.search_words.specs.Settings.{settings_seen}
-use Rattle.stream_model.specs.Walk.{FileStream}
 use Rattle.disk_feeder.specs.Feeder.{FeederRead}
-use Rattle.run_stop.specs.Ends.{SaysBefore}
 use Rattle.whole_run.specs.Openings.{StopsEarly}
 use Rattle.whole_run.specs.Wholes.{task_of}
 use Rattle.whole_run.proofs.Opening.{has_firsts, firsts_say, leaves_early, leaves_opening}
 use Rattle.whole_run.proofs.Results.{map_err}
-use Rattle.whole_run.proofs.Told.{of_plan, stops_before_reading}
+use Rattle.whole_run.proofs.Told.{stops_before_reading}
 use Rattle.whole_run.proofs.open.open_run.Goals as goal
 
 pub open_begun-requires-clause-firsts : goal.open_begun-requires-clause-firsts
@@ -18,7 +16,7 @@ open_begun-requires-clause-firsts g c = λ lifetimes lives.
 pub returns-in-Ok-clause-stopped : goal.returns-in-Ok-clause-stopped
 returns-in-Ok-clause-stopped g c =
     let s = settings_seen c.args.settings.now in
-    let task = task_of c.args.searches in
+    let task = task_of c.args.purpose in
     let old = g.I.Inputs.told c.args.feeder.now.inputs.now in
     let new = g.I.Inputs.told c.begin_feed.new.feeder.inputs.now in
     map_err (StopsEarly task s new) (StopsEarly task s old) c.open_begun.result
@@ -27,13 +25,11 @@ returns-in-Ok-clause-stopped g c =
 pub returns-in-Err-clause-stopped : goal.returns-in-Err-clause-stopped
 returns-in-Err-clause-stopped g c =
     let s = settings_seen c.args.settings.now in
-    let task = task_of c.args.searches in
+    let task = task_of c.args.purpose in
     let told = g.I.Inputs.told c.args.feeder.now.inputs.now in
-    let Says : FileStream → Type 0 = λ w. SaysBefore task s w c.in-Err.stop in
     record {
       kind = c.in-Err.ensures.stopped.kind;
-      says = of_plan c.args.feeder.now s told told Says c.requires.plan refl
-          (λ files are. firsts_say task s _ c.in-Err.stop (c.in-Err.ensures.stopped.stopped files are));
+      says = firsts_say task s c.args.feeder.now told c.in-Err.stop c.requires.plan c.in-Err.ensures.stopped.stopped;
     }
 
 -- ---- what was read
@@ -54,11 +50,12 @@ returns-in-Ok-clause-begins g c =
 
 pub returns-in-Ok-clause-leaves : goal.returns-in-Ok-clause-leaves
 returns-in-Ok-clause-leaves g c =
-    leaves_opening g.I.Inputs.told (settings_seen c.args.settings.now) c.args.feeder.now c.begin_feed.new.feeder
-    c.open_begun.new.feeder c.open_begun.result c.requires.plan c.in-Ok.ensures.read.read c.open_begun.ensures.inputs
-    c.open_begun.ensures.readable
+    let Calm : _ → Type 0 = g.I.Inputs.is_calm in
+    leaves_opening g.I.Inputs.told (Calm c.args.feeder.now.inputs.now) (settings_seen c.args.settings.now)
+    c.args.feeder.now c.begin_feed.new.feeder c.open_begun.new.feeder c.open_begun.result c.requires.plan
+    c.in-Ok.ensures.read.read c.open_begun.ensures.inputs c.open_begun.ensures.readable
 
 pub returns-in-Err-clause-leaves : goal.returns-in-Err-clause-leaves
 returns-in-Err-clause-leaves g c =
-    leaves_early g.I.Inputs.told (settings_seen c.args.settings.now) c.args.feeder.now c.begin_feed.new.feeder
-    c.in-Err.stop c.requires.plan c.in-Err.ensures.stopped
+    leaves_early g.I.Inputs.told g.I.Inputs.is_calm (settings_seen c.args.settings.now) c.args.feeder.now
+    c.begin_feed.new.feeder c.in-Err.stop c.requires.plan c.in-Err.ensures.stopped

@@ -2,9 +2,9 @@ use Rattle.std.proofs.Common.{ℕ, List, Err, sym, ◌∙◌, ap, subst, map}
 use Rattle.std.specs.Prelude.{string_bytes}
 use Rattle.search_words.specs.Settings.{settings_seen}
 use Rattle.disk_feeder.specs.Feeder.{HasPlan, names_at, FeederRead}
-use Rattle.whole_run.specs.Openings.{LeavesEarly}
+use Rattle.whole_run.specs.Openings.{StopsEarly, LeavesEarly}
 use Rattle.whole_run.specs.Wholes.{task_of, LeavesInputs}
-use Rattle.whole_run.proofs.Wording.{is_driven, hold_still, ok_is_no_err, memory_leaves, leaves_session, leaves_before}
+use Rattle.whole_run.proofs.Wording.{is_driven, hold_still, ok_is_no_err, memory_leaves, stops_before, leaves_session, leaves_before}
 use Rattle.whole_run.proofs.run.within.Goals as goal
 
 pub open_run-requires-clause-plan : goal.open_run-requires-clause-plan
@@ -35,17 +35,28 @@ returns-in-Ok-open_run-clause-serves g c = λ calm holds.
 pub returns-in-Ok-open_run-clause-driven : goal.returns-in-Ok-open_run-clause-driven
 returns-in-Ok-open_run-clause-driven g c =
     let s = settings_seen c.args.settings.now in
-    let task = task_of c.args.searches in
+    let task = task_of c.args.purpose in
     let told = g.I.Inputs.told in
     let names = c.in-Ok-open_run.ensures.inputs.names ∙ ap (λ i. (told i).bytes_under) c.over-feeder.ensures.inputs in
     is_driven c.words_say_once.ensures task s (told c.args.inputs.now) (told c.open_run.new.feeder.inputs.now)
     (g.F.Files.seen c.args.files.now) (g.F.Files.seen c.go_on-inputs.result.files.now) c.go_on-inputs.result.done
     names (c.go_on-inputs.ensures.went task s c.in-Ok-open_run.ensures.opened)
 
+pub returns-in-Err-open_run-clause-stopped : goal.returns-in-Err-open_run-clause-stopped
+returns-in-Err-open_run-clause-stopped g c =
+    let s = settings_seen c.args.settings.now in
+    let task = task_of c.args.purpose in
+    let told = g.I.Inputs.told in
+    let Early : _ → Type 0 = λ i. StopsEarly task s (told i) c.in-Err-open_run.stop in
+    stops_before c.words_say_once.ensures task s (told c.args.inputs.now) c.in-Err-open_run.stop
+    (subst Early c.over-feeder.ensures.inputs c.in-Err-open_run.ensures.stopped)
+
 -- ---- what is left of the inputs
 
 pub returns-in-Err-clause-leaves : goal.returns-in-Err-clause-leaves
-returns-in-Err-clause-leaves g c = memory_leaves (task_of c.args.searches) (settings_seen c.args.settings.now)
+returns-in-Err-clause-leaves g c =
+    let Calm : _ → Type 0 = g.I.Inputs.is_calm in
+    memory_leaves (task_of c.args.purpose) (settings_seen c.args.settings.now) (Calm c.args.inputs.now)
     (g.I.Inputs.told c.args.inputs.now)
 
 pub returns-in-Ok-open_run-clause-leaves : goal.returns-in-Ok-open_run-clause-leaves
@@ -53,27 +64,32 @@ returns-in-Ok-open_run-clause-leaves g c = record {
   unread = λ want. absurd (ok_is_no_err _ _ want);
   broken = λ failed.
       let s = settings_seen c.args.settings.now in
-      let task = task_of c.args.searches in
+      let task = task_of c.args.purpose in
       let told = g.I.Inputs.told in
+      let Calm : _ → Type 0 = g.I.Inputs.is_calm in
       let feeder = c.open_run.new.feeder in
       let begins = c.over-feeder.ensures.inputs in
-      let names = c.in-Ok-open_run.ensures.inputs.names ∙ ap (λ i. (told i).bytes_under) begins in
+      let read = c.in-Ok-open_run.ensures.inputs in
+      let names = read.names ∙ ap (λ i. (told i).bytes_under) begins in
       let opened = c.in-Ok-open_run.ensures.opened in
       let Reads : _ → Type 0 = λ i. FeederRead (told i) (told feeder.inputs.now) feeder in
-      leaves_session c.words_say_once.ensures told task s (told c.args.inputs.now) feeder
-      c.go_on-inputs.result.inputs.now c.go_on-inputs.result.done names opened.ready.plan
-      (c.go_on-inputs.ensures.went task s opened).begun (subst Reads begins c.in-Ok-open_run.ensures.begins)
-      c.go_on-inputs.ensures.broke failed;
+      leaves_session c.words_say_once.ensures told task s (Calm c.args.inputs.now) (Calm feeder.inputs.now)
+      (told c.args.inputs.now) feeder c.go_on-inputs.result.inputs.now c.go_on-inputs.result.done
+      (λ calm. read.calm (subst Calm (sym begins) calm)) names (c.go_on-inputs.ensures.inputs.names ∙ names)
+      opened.ready.plan (c.go_on-inputs.ensures.went task s opened).begun
+      (subst Reads begins c.in-Ok-open_run.ensures.begins) (c.go_on-inputs.ensures.broke failed);
 }
 
 pub returns-in-Err-open_run-clause-leaves : goal.returns-in-Err-open_run-clause-leaves
 returns-in-Err-open_run-clause-leaves g c =
     let s = settings_seen c.args.settings.now in
-    let task = task_of c.args.searches in
+    let task = task_of c.args.purpose in
     let told = g.I.Inputs.told in
-    let After : _ → Type 0 = λ i. LeavesInputs task s (told c.args.inputs.now) (told i) (Err c.in-Err-open_run.stop) in
-    let Before : _ → Type 0 = λ i. LeavesEarly s (told i) (told c.open_run.new.feeder.inputs.now)
+    let Calm : _ → Type 0 = g.I.Inputs.is_calm in
+    let now = c.args.inputs.now in
+    let After : _ → Type 0 = λ i. LeavesInputs task s (Calm now) (told now) (told i) (Err c.in-Err-open_run.stop) in
+    let Before : _ → Type 0 = λ i. LeavesEarly s (Calm i) (told i) (told c.open_run.new.feeder.inputs.now)
     c.in-Err-open_run.stop in
     subst After (sym c.close.ensures.inputs)
-    (leaves_before c.words_say_once.ensures task s (told c.args.inputs.now) (told c.open_run.new.feeder.inputs.now)
+    (leaves_before c.words_say_once.ensures task s (Calm now) (told now) (told c.open_run.new.feeder.inputs.now)
     c.in-Err-open_run.stop (subst Before c.over-feeder.ensures.inputs c.in-Err-open_run.ensures.leaves))

@@ -25,14 +25,14 @@ returns-clause-serves g c = λ calm holds fault.
     fed.serves calm holds (sym c.found_without.ensures.found.feed ∙ fault)
 
 pub returns-clause-broke : goal.returns-clause-broke
-returns-clause-broke g c =
+returns-clause-broke g c = λ failed.
     let end = c.run_session-end.result in
     let Fed : Feeder _ → Type 0 = λ feeder.
     FeedAnswers g.I.Inputs.told g.I.Inputs.is_calm g.I.Inputs.faults feeder end in
     fault_leaves g.I.Inputs.told g.I.Inputs.is_calm g.I.Inputs.faults c.args.feeder end c.args.observations
     c.found_without.result.done c.found_without.result.inputs.now
     (subst Fed c.stage-stage.ensures.feeder c.run_session-end.ensures.feed) c.found_without.ensures.found
-    c.found_without.ensures.inputs
+    c.found_without.ensures.inputs failed
 
 pub returns-clause-went : goal.returns-clause-went
 returns-clause-went g c = λ task s offsets ready.
