@@ -7,7 +7,7 @@ use Rattle.clap.proofs.OnLiterals.{clap_on_literals}
 use Rattle.psr_base.specs.Count.{CallCount}
 use Rattle.psr_base.specs.InMemory.{free_room, sink_calls, told_where, room_told}
 use Rattle.psr_base.specs.declared.mem_sink.MemSink.{MemSink}
-use Rattle.psr_base.specs.Told.{InputsSeen}
+use Rattle.psr_base.specs.Told.{Told, InputsSeen}
 use Rattle.psr_base.specs.Made.{FilesSeen}
 use Rattle.psr_base.specs.Written.{SinkSeen, Noted}
 use Rattle.dada_model.specs.Number.{number_value}
@@ -24,11 +24,11 @@ use Rattle.stream_model.specs.Walk.{FileStream, walk_stop, header_stop, data_bet
 use Rattle.stream_model.specs.WalkLaws.{AreWalked, IsAccepted, FirstFilesContinue, WholeExactly}
 use Rattle.transfer_text.specs.Searched.{candidate_total, searched_text}
 use Rattle.disk_feeder.specs.Plan.{AreTold}
-use Rattle.search_session.specs.declared.ended.Ran.{Ran}
+use Rattle.run_stop.specs.declared.ran.Ran.{Ran}
 use Rattle.run_stop.specs.declared.stop.Stop.{Stop}
 use Rattle.run_stop.specs.declared.stop.Stop.TheVariants as stop
 use Rattle.run_stop.specs.Texts.{status_of, note_of}
-use Rattle.run_stop.specs.Runs.{Searching, observed_transfers, first_observation, CanBegin, IsStopOf}
+use Rattle.run_stop.specs.Runs.{Searching, observed_transfers, first_observation, CanBegin, SaysOfFiles}
 use Rattle.run_stop.specs.Ends.{AcceptedGoesOn}
 use Rattle.psr_search.specs.Outcome.{Outcome}
 use Rattle.psr_make.specs.Made.{made_observation, made_data, made_file}
@@ -132,24 +132,27 @@ module _ (by_front : HeadersByFront) (continues : FirstFilesContinue) (exactly :
   total_is = ap (candidate_total demo_search) transfers_are ∙ none_more (length (demo_candidates number))
 
   -- the line at 5, and that at 9
-  line_at : (at : Stop) → IsStopOf Searching settings stream at →
-      (status_of at ≡ 5 → note_of at ≡ note_of stop.Memory)
-      × (status_of at ≡ 9 → note_of at ≡ note_of (stop.TooMany (length (demo_candidates number)) 100000))
-  line_at stop.Words cause = (λ e. absurd (omega (arith, e)), λ e. absurd (omega (arith, e)))
-  line_at (stop.Value opt) cause = (λ e. absurd (omega (arith, e)), λ e. absurd (omega (arith, e)))
-  line_at (stop.Header file why) cause = (λ e. absurd (omega (arith, e)), λ e. absurd (omega (arith, e)))
-  line_at (stop.Plan why) cause = (λ e. absurd (omega (arith, e)), λ e. absurd (omega (arith, e)))
-  line_at (stop.Recording why) cause = (λ e. absurd (omega (arith, e)), λ e. absurd (omega (arith, e)))
-  line_at stop.Memory cause = (λ e. refl, λ e. absurd (omega (arith, e)))
-  line_at stop.ReadFault cause = (λ e. absurd (omega (arith, e)), λ e. absurd (omega (arith, e)))
-  line_at (stop.Gap file expected found) cause = (λ e. absurd (omega (arith, e)), λ e. absurd (omega (arith, e)))
-  line_at (stop.TooLong limit) cause = (λ e. absurd (omega (arith, e)), λ e. absurd (omega (arith, e)))
-  line_at (stop.TooMany count limit) cause = (
-    λ e. absurd (omega (arith, e)),
-    λ e. ap₂ (λ (a b : ℕ). note_of (stop.TooMany a b)) (sym cause.total.0 ∙ total_is) cause.total.1,
-  )
-  line_at stop.SinkFault cause = (λ e. absurd (omega (arith, e)), λ e. absurd (omega (arith, e)))
-  line_at stop.FileFault cause = (λ e. absurd (omega (arith, e)), λ e. absurd (omega (arith, e)))
+  module _ (words : List (List ℕ)) (told : Told) (said : SaySearch words settings)
+      (are : AreTold told settings.names (made_file (demo_spec number) ∷ [])) where
+    line_at : (at : Stop) → SaysOfFiles Searching words told at →
+        (status_of at ≡ 5 → note_of at ≡ note_of stop.Memory)
+        × (status_of at ≡ 9 → note_of at ≡ note_of (stop.TooMany (length (demo_candidates number)) 100000))
+    line_at stop.Words cause = (λ e. absurd (omega (arith, e)), λ e. absurd (omega (arith, e)))
+    line_at (stop.Value opt) cause = (λ e. absurd (omega (arith, e)), λ e. absurd (omega (arith, e)))
+    line_at (stop.Header file why) cause = (λ e. absurd (omega (arith, e)), λ e. absurd (omega (arith, e)))
+    line_at (stop.Plan why) cause = (λ e. absurd (omega (arith, e)), λ e. absurd (omega (arith, e)))
+    line_at (stop.Recording why) cause = (λ e. absurd (omega (arith, e)), λ e. absurd (omega (arith, e)))
+    line_at stop.Memory cause = (λ e. refl, λ e. absurd (omega (arith, e)))
+    line_at stop.ReadFault cause = (λ e. absurd (omega (arith, e)), λ e. absurd (omega (arith, e)))
+    line_at (stop.Gap file expected found) cause = (λ e. absurd (omega (arith, e)), λ e. absurd (omega (arith, e)))
+    line_at (stop.TooLong limit) cause = (λ e. absurd (omega (arith, e)), λ e. absurd (omega (arith, e)))
+    line_at (stop.TooMany count limit) cause =
+        let has = (cause settings (made_file (demo_spec number) ∷ []) said are).total in (
+          λ e. absurd (omega (arith, e)),
+          λ e. ap₂ (λ (a b : ℕ). note_of (stop.TooMany a b)) (sym has.0 ∙ total_is) has.1,
+        )
+    line_at stop.SinkFault cause = (λ e. absurd (omega (arith, e)), λ e. absurd (omega (arith, e)))
+    line_at stop.FileFault cause = (λ e. absurd (omega (arith, e)), λ e. absurd (omega (arith, e)))
 
   begins : CanBegin Searching settings stream
   begins = record {
@@ -266,11 +269,13 @@ module _ (by_front : HeadersByFront) (continues : FirstFilesContinue) (exactly :
     silent = o.noted.silent;
     memory = λ e. let n = o.noted.noted (λ f. omega (arith, e, f)) in
         subst (λ (line : List ℕ). Noted line notes_before notes_after)
-        ((line_at by_front continues exactly number n.stop (n.cause settings files said are)).0 (sym n.answered ∙ e))
+        ((line_at by_front continues exactly number words inputs.told said are n.stop n.cause).0
+        (sym n.answered ∙ e))
         n.line;
     many = λ e. let n = o.noted.noted (λ f. omega (arith, e, f)) in
         subst (λ (line : List ℕ). Noted line notes_before notes_after)
-        ((line_at by_front continues exactly number n.stop (n.cause settings files said are)).1 (sym n.answered ∙ e))
+        ((line_at by_front continues exactly number words inputs.told said are n.stop n.cause).1
+        (sym n.answered ∙ e))
         n.line;
   }
 

@@ -102,7 +102,7 @@ module _ (words : List (List ℕ)) (inputs : InputsSeen) (is_calm : Type 0) (fil
             made = data_at 11 at;
             run = (late 11 at).0;
             cleared = λ e. absurd (omega (arith, e));
-            said = (tt, λ s files says are. tt);
+            said = (tt, tt);
           }
 
       at_files : (answer : Option RecordEnd) → recorded ≡ answer →

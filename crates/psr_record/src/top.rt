@@ -8,14 +8,14 @@ ghost use Rattle.psr_record.specs.Ends.{Ends, stop_of_session};
 
 use psr_base::{Files, Inputs, Sink};
 use ring_ends::Finished;
-use run_stop::{Stop, tell};
-use search_session::{Gate, Ran};
+use run_stop::{Ran, Stop, tell};
+use search_session::Gate;
 use search_words::Settings;
 use std::alloc::Global;
 use std::sync::Wait;
 use std::thread::Threads;
 use std::time::Clock;
-use whole_run::{Found, drive};
+use whole_run::{Found, Purpose, drive};
 // Laws: they do nothing when they run, and the proofs use what they ensure.
 use run_stop::{end_after_whole, end_at_stop, end_at_words, end_before_session};
 
@@ -57,7 +57,7 @@ pub fn run_record<
     ensures early { result.status ≡ 5 → ReadsNoData RecordingAlone (map string_bytes words.now)
         (I.told inputs.old) (I.told inputs.new) }
     ensures broken { result.status ≡ 6 → LeavesAtFault RecordingAlone (map string_bytes words.now)
-        (I.told inputs.old) (I.told inputs.new) result.blocks }
+        (I.is_calm inputs.old) (I.told inputs.old) (I.told inputs.new) result.blocks }
 {
     let Ended { stop, blocks } = record_files(rt, alloc, words, inputs, files, gate);
     let status = tell(stop, notes);
@@ -93,8 +93,8 @@ fn record_files<
         → ReadsNoData RecordingAlone (map string_bytes words.now) (I.told inputs.old)
         (I.told inputs.new) }
     ensures broken { result.stop ≡ Some Stop.ReadFault
-        → LeavesAtFault RecordingAlone (map string_bytes words.now) (I.told inputs.old)
-        (I.told inputs.new) result.blocks }
+        → LeavesAtFault RecordingAlone (map string_bytes words.now) (I.is_calm inputs.old)
+        (I.told inputs.old) (I.told inputs.new) result.blocks }
 {
     end_at_words::<I>();
     end_before_session::<I>();
@@ -109,7 +109,7 @@ fn record_files<
             };
         }
     };
-    match drive(rt, alloc, false, &settings, inputs, files, gate) {
+    match drive(rt, alloc, Purpose::Record, &settings, inputs, files, gate) {
         Ok(found) => {
             let stop = stop_of(&found);
             Ended {

@@ -3,8 +3,8 @@
 
 use psr_base::{NoWords, RealFiles, RealInputs, RealSink, TakenStreams, command_words};
 use psr_record::run_record;
-use run_stop::{Stop, tell};
-use search_session::{NoGate, Ran};
+use run_stop::{Ran, Stop, tell};
+use search_session::NoGate;
 use std::env;
 use std::process::ExitCode;
 

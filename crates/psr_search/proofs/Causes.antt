@@ -1,21 +1,25 @@
 -- From what stands against a search to its status: at no other status it could stand there.
-use Rattle.std.proofs.Common.{◌≡◌, ◌<◌, ◌⊎◌, ℕ, zero, suc, List, [], ◌∷◌, inl, inr, true, sym, ◌∙◌, ap, subst, refl, Some, None, Contains, arith}
-use Rattle.std.specs.Prelude.{Option, IsSome}
+use Rattle.std.proofs.Common.{◌≡◌, ◌<◌, ◌⊎◌, ℕ, zero, suc, List, [], ◌∷◌, inl, inr, sym, ◌∙◌, ap, subst, refl, Some, None, Contains, arith}
+use Rattle.std.specs.Prelude.{Option, IsSome, slice_index_or}
 use Rattle.psr_base.specs.Count.{Rose}
 use Rattle.psr_base.specs.Told.{Told}
 use Rattle.ring_ends.specs.declared.finished.Finished.{Finished}
 use Rattle.search_words.specs.Settings.{SettingsSeen, SaySearch}
 use Rattle.stream_model.specs.Walk as walk
-use Rattle.stream_model.specs.Walk.{FileStream, WalkStop, walk_stop}
-use Rattle.disk_feeder.specs.Plan.{AreTold}
+use Rattle.stream_model.specs.Walk.{FileStream, WalkStop, begin_of, walk_stop}
+use Rattle.stream_model.specs.WalkLaws.{AreWalked}
+use Rattle.disk_feeder.specs.History.{file_name}
+use Rattle.disk_feeder.specs.Plan.{AreTold, AreToldAt}
 use Rattle.disk_feeder.specs.Filling.{HoldsAll}
 use Rattle.disk_feeder.specs.declared.answers.HeaderCause.{HeaderCause}
+use Rattle.disk_feeder.specs.declared.answers.HeaderCause.TheVariants.{Text, Fields}
 use Rattle.run_stop.specs.declared.causes.PlanCause.{PlanCause}
 use Rattle.run_stop.specs.declared.causes.RecordingCause.{RecordingCause}
 use Rattle.run_stop.specs.declared.stop.Stop.{Stop}
 use Rattle.run_stop.specs.declared.stop.Stop.TheVariants.{Header, Gap, TooLong}
 use Rattle.run_stop.specs.Texts.{status_of}
-use Rattle.run_stop.specs.Runs.{Searching, is_search, stream_for, stop_of_walk, CanBegin, RefusesFirstHeader, RefusesSearch, RefusesToRecord, StopsWalk, HasCandidates}
+use Rattle.run_stop.specs.Firsts.{first_file}
+use Rattle.run_stop.specs.Runs.{Searching, stream_for, stop_of_walk, CanBegin, RefusesFirstHeader, RefusesSearch, RefusesToRecord, RefusesFirsts, RefusesSearches, RefusesRecordings, StopsWalk, HasCandidates}
 use Rattle.run_stop.specs.Ends.{AcceptedIsNotRefused}
 use Rattle.psr_search.specs.Outcome.{Outcome, SearchSeen, IsSearched}
 use Rattle.psr_search.specs.Causes.{Answers, EachIsAnswered, CausesAreAnswered, ToldRoomIsEnough}
@@ -75,6 +79,33 @@ module _ (words : List (List ℕ)) (is_calm : Type 0) (seen : SearchSeen)
   not_six (inl is) e = o.read.serves is s says (holds_all seen.inputs.told s.names files are) e
   not_six (inr still) e = still (o.read.failed e)
 
+  -- those that a status needs are told, as all are
+  needed : {Needed : ℕ → Type 0} → AreToldAt Needed seen.inputs.told s.names files
+  needed = record { count = are.count; each = λ k there is. are.each k there }
+
+  -- first headers that are accepted are not refused
+  not_firsts : AreWalked w → (file : ℕ) (cause : HeaderCause) →
+      RefusesFirsts Searching words seen.inputs.told file cause → ⊥
+  not_firsts walked file (Fields fault) r = not_refused.header w file (Fields fault) walked (r.1 s files says needed)
+  not_firsts walked file (Text fault) r =
+      let t = r s says in
+      let there = t.there in
+      let at : file ≡ begin_of w t.transfer = t.is ∙ ap (slice_index_or s.starts t.transfer) (sym are.count) in
+      let bytes = first_file w t.transfer in
+      let told : seen.inputs.told.bytes_under (file_name s.names file) ≡ Some bytes =
+      subst (λ k. seen.inputs.told.bytes_under (file_name s.names k) ≡ Some bytes) (sym at)
+      (are.each (begin_of w t.transfer)
+      (subst (λ n. begin_of w t.transfer < n) are.count (walked.starts.within t.transfer there))) in
+      not_refused.header w file (Text fault) walked (record {
+        transfer = t.transfer;
+        there = there;
+        is = at;
+        cause = t.refused bytes told;
+        earlier = λ k less.
+            let a = walked.accepted k (omega (arith, less, there)) in
+            (a.header, a.is_header);
+      })
+
   -- ---- what each status says
 
   -- all data were read, with so few candidates
@@ -85,28 +116,37 @@ module _ (words : List (List ℕ)) (is_calm : Type 0) (seen : SearchSeen)
 
   -- it stopped at a header: at a first one, or where the walk stops
   at_header : (blocks : Option Finished) → seen.ran.blocks ≡ blocks → n ≡ 3 →
-      ((file : ℕ) × (cause : HeaderCause) × RefusesFirstHeader w file cause)
+      ((file : ℕ) × (cause : HeaderCause) × RefusesFirsts Searching words seen.inputs.told file cause)
       ⊎ ((file : ℕ) × (cause : HeaderCause) × StopsWalk Searching s w (Header file cause))
-  at_header None is e = inl (o.stopped.first_header e is s files says are)
-  at_header (Some b) is e = inr (o.stopped.later_header e (subst IsSome (sym is) refl) s files says are)
+  at_header None is e = inl (o.stopped.first_header e is)
+  at_header (Some b) is e =
+      let r = o.stopped.later_header e (subst IsSome (sym is) refl) in inr (r.1.says s files says needed).0
 
   -- a search or a recording was refused
   at_plan : n ≡ 4 → ((cause : PlanCause) × RefusesSearch s.search w cause)
       ⊎ ((cause : RecordingCause) × RefusesToRecord Searching s w cause)
-  at_plan e = by_cause (o.stopped.plan e s files says are)
+  at_plan e = by_cause (o.stopped.plan e)
     where
-      by_cause : ((cause : PlanCause) × (is_search Searching ≡ true) × RefusesSearch s.search w cause)
-          ⊎ ((cause : RecordingCause) × RefusesToRecord Searching s w cause) →
+      by_cause : ((cause : PlanCause) × RefusesSearches Searching words seen.inputs.told cause)
+          ⊎ ((cause : RecordingCause) × RefusesRecordings Searching words seen.inputs.told cause) →
           ((cause : PlanCause) × RefusesSearch s.search w cause)
           ⊎ ((cause : RecordingCause) × RefusesToRecord Searching s w cause)
-      by_cause (inl r) = inl (r.0, r.2)
-      by_cause (inr r) = inr r
+      by_cause (inl r) = inl (r.0, r.1.1.1 s files says needed)
+      by_cause (inr r) = inr (r.0, r.1.1 s files says needed)
+
+  -- the walk stopped at a gap, or at the limit
+  at_gap : n ≡ 7 → (file : ℕ) × (expected : ℕ) × (found : ℕ) × StopsWalk Searching s w (Gap file expected found)
+  at_gap e = ((o.stopped.gap e).1.says s files says needed).0
+
+  at_limit : n ≡ 8 → StopsWalk Searching s w (TooLong s.max_bytes)
+  at_limit e = ((o.stopped.too_long e).1.says s files says needed).0
 
   -- ---- each cause against each status
 
   -- Where a search stops before its data are read, each status that comes later has a run that begins.
   module _ (calm : Quiet) (begins_not : CanBegin Searching s w → ⊥) (wanted : ℕ)
-      (first : n ≡ 3 → (file : ℕ) (cause : HeaderCause) → RefusesFirstHeader w file cause → Answers n wanted)
+      (first : n ≡ 3 → (file : ℕ) (cause : HeaderCause) → RefusesFirsts Searching words seen.inputs.told file cause →
+      Answers n wanted)
       (plan : n ≡ 4 → Answers n wanted) where
     before_data : Answers n wanted
     before_data = by_status (λ k. n ≡ k → Answers n wanted) n o.known
@@ -116,14 +156,14 @@ module _ (words : List (List ℕ)) (is_calm : Type 0) (seen : SearchSeen)
         plan
         (λ e. inr e)
         (λ e. absurd (not_six calm e))
-        (λ e. absurd (begins_not (o.stopped.gap e s files says are).3.begins))
-        (λ e. absurd (begins_not (o.stopped.too_long e s files says are).begins))
+        (λ e. absurd (begins_not (at_gap e).3.begins))
+        (λ e. absurd (begins_not (at_limit e).begins))
         (λ e. absurd (begins_not (o.too_many e s files says are).begins))
         (λ e. absurd (begins_not (searched_at (inl (inr e))).begins))
         (λ e. absurd (begins_not (searched_at (inr e)).begins))
         refl
       where
-        by_header : ((file : ℕ) × (cause : HeaderCause) × RefusesFirstHeader w file cause)
+        by_header : ((file : ℕ) × (cause : HeaderCause) × RefusesFirsts Searching words seen.inputs.told file cause)
             ⊎ ((file : ℕ) × (cause : HeaderCause) × StopsWalk Searching s w (Header file cause)) → n ≡ 3 →
             Answers n wanted
         by_header (inl r) e = first e r.0 r.1 r.2
@@ -145,12 +185,12 @@ module _ (words : List (List ℕ)) (is_calm : Type 0) (seen : SearchSeen)
   plan : Quiet → (cause : PlanCause) → RefusesSearch s.search w cause → Answers n 4
   plan calm cause refuses = before_data calm
       (λ begins. not_refused.search s.search w cause (begins.searched refl) refuses) 4
-      (λ e file first again. absurd (not_refused.header w file first refuses.accepted again)) (λ e. inl e)
+      (λ e file first again. absurd (not_firsts refuses.accepted file first again)) (λ e. inl e)
 
   recording : Quiet → (cause : RecordingCause) → RefusesToRecord Searching s w cause → Answers n 4
   recording calm cause refuses = before_data calm
       (λ begins. not_refused.recording Searching s w cause begins.recorded refuses) 4
-      (λ e file first again. absurd (not_refused.header w file first refuses.accepted again)) (λ e. inl e)
+      (λ e file first again. absurd (not_firsts refuses.accepted file first again)) (λ e. inl e)
 
   -- Where a run begins, nothing is refused before its data are read.
   module _ (calm : Quiet) (begins : CanBegin Searching s w) (wanted : ℕ)
@@ -166,17 +206,17 @@ module _ (words : List (List ℕ)) (is_calm : Type 0) (seen : SearchSeen)
         (λ e. absurd (fits (at_plan e)))
         (λ e. inr e)
         (λ e. absurd (not_six calm e))
-        (λ e. let r = o.stopped.gap e s files says are in stops (Gap r.0 r.1 r.2) e r.3.stops)
-        (λ e. stops (TooLong s.max_bytes) e (o.stopped.too_long e s files says are).stops)
+        (λ e. let r = at_gap e in stops (Gap r.0 r.1 r.2) e r.3.stops)
+        (λ e. stops (TooLong s.max_bytes) e (at_limit e).stops)
         nine
         (λ e. searched (searched_at (inl (inr e))))
         (λ e. searched (searched_at (inr e)))
         refl
       where
-        by_header : ((file : ℕ) × (cause : HeaderCause) × RefusesFirstHeader w file cause)
+        by_header : ((file : ℕ) × (cause : HeaderCause) × RefusesFirsts Searching words seen.inputs.told file cause)
             ⊎ ((file : ℕ) × (cause : HeaderCause) × StopsWalk Searching s w (Header file cause)) → n ≡ 3 →
             Answers n wanted
-        by_header (inl r) e = absurd (not_refused.header w r.0 r.1 begins.accepted r.2)
+        by_header (inl r) e = absurd (not_firsts begins.accepted r.0 r.1 r.2)
         by_header (inr r) e = stops (Header r.0 r.1) e r.2.stops
 
         at_three : n ≡ 3 → Answers n wanted

@@ -179,7 +179,7 @@ module _ (words : List (List ℕ)) (inputs : InputsSeen) (is_calm : Type 0) (fil
             run = (late 11 at).0;
             too_many = λ e. absurd (omega (arith, e));
             cleared = clears 11 (λ e. absurd (omega (arith, e)));
-            said = (tt, λ s files says are. tt);
+            said = (tt, tt);
           }
 
       broken_off : (before after : SinkSeen) → HasFew s0.search transfers →
@@ -204,7 +204,7 @@ module _ (words : List (List ℕ)) (inputs : InputsSeen) (is_calm : Type 0) (fil
             run = (late 10 at).0;
             too_many = λ e. absurd (omega (arith, e));
             cleared = clears 10 (λ e. absurd (omega (arith, e)));
-            said = (tt, λ s files says are. tt);
+            said = (tt, tt);
           }
 
       crowded : (before after : SinkSeen) (n limit : ℕ) → candidate_total s0.search transfers ≡ n →

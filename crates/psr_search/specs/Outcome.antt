@@ -10,7 +10,7 @@ use Rattle.search_words.specs.Settings.{SettingsSeen, SaySearch}
 use Rattle.stream_model.specs.Walk.{FileStream}
 use Rattle.disk_feeder.specs.Plan.{AreTold}
 use Rattle.transfer_text.specs.Searched.{searched_text}
-use Rattle.search_session.specs.declared.ended.Ran.{Ran}
+use Rattle.run_stop.specs.declared.ran.Ran.{Ran}
 use Rattle.run_stop.specs.Runs.{Searching, stream_for, ForFiles, observed_transfers, HasCandidates}
 use Rattle.run_stop.specs.Outcomes.{JudgesWords, ReadsInputs, StopsAtFiles, SealsStream, AllCleared, RecordsFiles, TellsNotes}
 

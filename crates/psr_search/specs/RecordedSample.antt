@@ -7,7 +7,7 @@ use Rattle.psr_base.specs.Count.{Rose}
 use Rattle.psr_base.specs.Made.{NamedBytes, FilesSeen}
 use Rattle.psr_base.specs.Told.{InputsSeen}
 use Rattle.psr_base.specs.Written.{SinkSeen}
-use Rattle.search_session.specs.declared.ended.Ran.{Ran}
+use Rattle.run_stop.specs.declared.ran.Ran.{Ran}
 use Rattle.run_stop.specs.Outcomes.{MadeAll}
 use Rattle.psr_search.specs.Outcome.{Outcome}
 use Rattle.psr_search.specs.Causes.{Answers}

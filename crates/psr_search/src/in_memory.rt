@@ -7,7 +7,8 @@ ghost use Rattle.psr_search.specs.Outcome.{AsksToRecord, Outcome};
 
 use crate::top::run;
 use psr_base::{MemFiles, MemInputs, MemSink};
-use search_session::{Gate, Ran};
+use run_stop::Ran;
+use search_session::Gate;
 use std::alloc::Global;
 use std::sync::Wait;
 use std::thread::Threads;
@@ -37,7 +38,7 @@ pub fn run_in_memory<G: Gate + Sync, R: Threads + Wait + Clock + Sync>(
     ensures early { result.status ≡ 5 → ReadsNoData Searching (map string_bytes words.now)
         (told_of inputs.old) (told_of inputs.new) }
     ensures broken { result.status ≡ 6 → LeavesAtFault Searching (map string_bytes words.now)
-        (told_of inputs.old) (told_of inputs.new) result.blocks }
+        ((calls_of inputs.old).fail ≡ []) (told_of inputs.old) (told_of inputs.new) result.blocks }
 {
     run(rt, alloc, words, inputs, files, out, notes, gate)
 }

@@ -8,14 +8,14 @@ ghost use Rattle.psr_search.specs.Ends.{Ends};
 use crate::writing::write_end;
 use psr_base::{Files, Inputs, Sink};
 use ring_ends::Finished;
-use run_stop::{Stop, tell};
-use search_session::{Gate, Ran};
+use run_stop::{Ran, Stop, tell};
+use search_session::Gate;
 use search_words::Settings;
 use std::alloc::Global;
 use std::sync::Wait;
 use std::thread::Threads;
 use std::time::Clock;
-use whole_run::drive;
+use whole_run::{Purpose, drive};
 // Laws: they do nothing when they run, and the proofs use what they ensure.
 use run_stop::{end_after_whole, end_at_stop, end_at_words, end_before_session, words_say_once};
 
@@ -60,7 +60,7 @@ pub fn run<
     ensures early { result.status ≡ 5 → ReadsNoData Searching (map string_bytes words.now)
         (I.told inputs.old) (I.told inputs.new) }
     ensures broken { result.status ≡ 6 → LeavesAtFault Searching (map string_bytes words.now)
-        (I.told inputs.old) (I.told inputs.new) result.blocks }
+        (I.is_calm inputs.old) (I.told inputs.old) (I.told inputs.new) result.blocks }
 {
     let Ended { stop, blocks } = search(rt, alloc, words, inputs, files, out, gate);
     let status = tell(stop, notes);
@@ -96,8 +96,8 @@ fn search<
         → ReadsNoData Searching (map string_bytes words.now) (I.told inputs.old)
         (I.told inputs.new) }
     ensures broken { result.stop ≡ Some Stop.ReadFault
-        → LeavesAtFault Searching (map string_bytes words.now) (I.told inputs.old)
-        (I.told inputs.new) result.blocks }
+        → LeavesAtFault Searching (map string_bytes words.now) (I.is_calm inputs.old)
+        (I.told inputs.old) (I.told inputs.new) result.blocks }
 {
     end_at_words::<I>();
     words_say_once();
@@ -113,7 +113,7 @@ fn search<
             };
         }
     };
-    match drive(rt, alloc, true, &settings, inputs, files, gate) {
+    match drive(rt, alloc, Purpose::Search, &settings, inputs, files, gate) {
         Ok(found) => {
             let stop = write_end(&settings.search, &found, out);
             Ended {

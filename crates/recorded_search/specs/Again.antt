@@ -7,7 +7,7 @@ use Rattle.psr_base.specs.Made.{FilesSeen}
 use Rattle.psr_base.specs.Written.{SinkSeen, WroteAll}
 use Rattle.search_words.specs.Settings.{SettingsSeen, AllInRange, SaySearch}
 use Rattle.disk_feeder.specs.Plan.{AreTold}
-use Rattle.search_session.specs.declared.ended.Ran.{Ran}
+use Rattle.run_stop.specs.declared.ran.Ran.{Ran}
 use Rattle.run_stop.specs.Runs.{stream_for}
 use Rattle.psr_record.specs.Outcome.{IsRecordable}
 use Rattle.psr_search.specs.Outcome.{IsSearched, Outcome}

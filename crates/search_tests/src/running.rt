@@ -2,7 +2,8 @@
 use psr_base::{MemFiles, MemInputs, MemSink};
 use psr_record::run_record;
 use psr_search::run_in_memory;
-use search_session::{Gate, Ran};
+use run_stop::Ran;
+use search_session::Gate;
 use std::alloc::Global;
 use std::sync::Wait;
 use std::test::Fail;
