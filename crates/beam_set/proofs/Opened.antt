@@ -3,7 +3,7 @@ use Rattle.std.proofs.Common.{◌≡◌, ℕ, zero, suc, ◌<◌, List, [], ◌�
 use Rattle.psr_base.specs.Told.{Told}
 use Rattle.search_engine.specs.Engine.{EngineState}
 use Rattle.disk_feeder.specs.declared.feeder.FeederSpace.{FeederSpace}
-use Rattle.search_session.specs.Lanes.{HasEngine}
+use Rattle.search_session.specs.Lanes.{HasEngine, engines_of}
 use Rattle.search_session.specs.Lone.{IsLoneReady, LoneBegins, lane_in, lone_lane}
 use Rattle.beam_set.specs.declared.space.BeamSpace.{BeamSpace}
 use Rattle.beam_set.specs.declared.beam.Beam.{Beam}
@@ -42,5 +42,5 @@ module _ (told : Told) (space : BeamSpace) (feeder : FeederSpace) (ready : IsBea
   beam_begins beam begins same = record {
     session = begins;
     engine = ready.engine;
-    engine_is = ap (λ l. l.engines.value.items) same ∙ ready.space_is.engine_is;
+    engine_is = ap (λ l. engines_of l) same ∙ ready.space_is.engine_is;
   }

@@ -9,6 +9,7 @@ use Rattle.disk_feeder.specs.declared.feeder.FeederSpace.{FeederSpace}
 use Rattle.search_session.specs.declared.lone.LoneSession.{LoneSession}
 use Rattle.search_session.specs.declared.lone_space.LoneSpace.{LoneSpace}
 use Rattle.search_session.specs.Lone.{HasFileOpen, HasLoneEnded, IsLoneSpace, FeedsAlone, LoneBegins, LoneMoved, LoneOn, lane_in, lone_feeder, lone_lane, transfers_at}
+use Rattle.search_session.specs.Lanes.{engines_of}
 use Rattle.beam_set.specs.declared.space.BeamSpace.{BeamSpace}
 use Rattle.beam_set.specs.declared.beam.Beam.{Beam}
 
@@ -24,7 +25,7 @@ feeder_in beam = lone_feeder (session_in beam)
 
 -- its engine, alone in a list
 abbrev pub engines_in : Beam → List (Option EngineState)
-engines_in beam = (lone_lane (session_in beam)).engines.value.items
+engines_in beam = engines_of (lone_lane (session_in beam))
 
 -- where its feeder has a file open, so have these inputs
 abbrev pub HasBeamFile : {I : Type 0} → (I → Type 0) → I → Beam → Type 0
@@ -37,7 +38,7 @@ session_space space = space.lone
 
 -- the engine of a space, alone in a list
 abbrev pub engines_held : BeamSpace → List (Option EngineState)
-engines_held space = (lane_in (session_space space)).engines.value.items
+engines_held space = engines_of (lane_in (session_space space))
 
 -- the space of a beam with this engine: rings of this shape, of which the header is sealed
 pub record IsBeamSpace (engine : EngineState) (shape : RingShape) (header : HeaderText)

@@ -2,7 +2,7 @@
 ghost use Rattle.std.specs.Prelude.{◌≡◌, ◌↔◌, Some, IsTrue};
 ghost use Rattle.psr_base.specs.Told.{Told};
 ghost use Rattle.search_engine.specs.Engine.{EngineState};
-ghost use Rattle.search_session.specs.Lanes.{HasEngine};
+ghost use Rattle.search_session.specs.Lanes.{HasEngine, engines_of};
 ghost use Rattle.beam_set.specs.Beam.{BeamOn, BeamMoved, HasBeamEnded, HasBeamFile, engines_in};
 ghost use Rattle.beam_set.specs.Answers.{IsBeamEnd};
 
@@ -10,7 +10,11 @@ use crate::ended::BeamEnd;
 use arrayvec::ArrayVec;
 use psr_base::Inputs;
 use search_engine::Engine;
+use search_model::MOST_TRANSFERS;
 use search_session::{Gate, Lane, LoneEnd, LoneSession};
+
+/// How many beams a set has at most.
+pub const MOST_BEAMS: usize = 7;
 
 /// A beam of a set: its feeder and the reader of its one engine, over rings of its own. It holds no inputs: they are
 /// lent to it at each turn, always the same ones.
@@ -20,7 +24,7 @@ pub struct Beam<'a> {
 }
 
 // The first engine of a list.
-fn first_of(engines: &mut ArrayVec<Option<Engine>, 8>) -> Engine
+fn first_of(engines: &mut ArrayVec<Option<Engine>, MOST_TRANSFERS>) -> Engine
     requires { (e : EngineState) × HasEngine engines.old.items 0 e }
     ensures { (e : EngineState) → HasEngine engines.old.items 0 e → result ≡ e }
 {
@@ -32,8 +36,8 @@ fn first_of(engines: &mut ArrayVec<Option<Engine>, 8>) -> Engine
 
 // The first engine of a lane.
 fn engine_of(lane: Lane) -> Engine
-    requires { (e : EngineState) × HasEngine lane.engines.value.items 0 e }
-    ensures { (e : EngineState) → HasEngine lane.engines.value.items 0 e → result ≡ e }
+    requires { (e : EngineState) × HasEngine (engines_of lane) 0 e }
+    ensures { (e : EngineState) → HasEngine (engines_of lane) 0 e → result ≡ e }
 {
     let Lane { mut engines } = lane;
     first_of(&mut engines)

@@ -13,7 +13,7 @@ mod set;
 mod space;
 mod texts;
 
-pub use beam::Beam;
+pub use beam::{Beam, MOST_BEAMS};
 pub use candidate_book::SinkStop;
 pub use ended::BeamEnd;
 pub use laws::{later_headers_agree, searched_beams_are_found};

@@ -3,7 +3,7 @@ ghost use Rattle.std.specs.Prelude.{◌≡◌, ◌↔◌, ◌+◌, ◌++◌, ◌
 ghost use Rattle.std.specs.Thread.{IsSend, IsSync};
 ghost use Rattle.beam_set.specs.Sets.{EachPair, PairsMoved, SlotOn, SlotMoved, HasSlotEnded};
 
-use crate::beam::Beam;
+use crate::beam::{Beam, MOST_BEAMS};
 use arrayvec::ArrayVec;
 use psr_base::Inputs;
 use search_session::Gate;
@@ -71,9 +71,9 @@ fn drive_first<I: Inputs, G: Gate>(
 
 // So many beams leave the front of others.
 fn take_front<'a>(
-    beams: &mut ArrayVec<Option<Beam<'a>>, 7>,
+    beams: &mut ArrayVec<Option<Beam<'a>>, MOST_BEAMS>,
     count: usize,
-) -> ArrayVec<Option<Beam<'a>>, 7>
+) -> ArrayVec<Option<Beam<'a>>, MOST_BEAMS>
     requires few { count ≤ 7 }
     requires there { count ≤ length beams.old.items }
     ensures all { result.items ++ beams.new.items ≡ beams.old.items }
@@ -87,7 +87,9 @@ fn take_front<'a>(
 }
 
 // The later half of some beams leaves them.
-fn split<'a>(beams: &mut ArrayVec<Option<Beam<'a>>, 7>) -> ArrayVec<Option<Beam<'a>>, 7>
+fn split<'a>(
+    beams: &mut ArrayVec<Option<Beam<'a>>, MOST_BEAMS>,
+) -> ArrayVec<Option<Beam<'a>>, MOST_BEAMS>
     requires { 2 ≤ length beams.old.items }
     ensures all { beams.new.items ++ result.items ≡ beams.old.items }
     ensures some { 0 < length beams.new.items }
@@ -98,7 +100,10 @@ fn split<'a>(beams: &mut ArrayVec<Option<Beam<'a>>, 7>) -> ArrayVec<Option<Beam<
 }
 
 // Beams come after others.
-fn append<'a>(beams: &mut ArrayVec<Option<Beam<'a>>, 7>, mut rest: ArrayVec<Option<Beam<'a>>, 7>)
+fn append<'a>(
+    beams: &mut ArrayVec<Option<Beam<'a>>, MOST_BEAMS>,
+    mut rest: ArrayVec<Option<Beam<'a>>, MOST_BEAMS>,
+)
     requires { length beams.old.items + length rest.items ≤ 7 }
     ensures { beams.new.items ≡ beams.old.items ++ rest.entry.items }
 {
@@ -116,7 +121,7 @@ pub(crate) fn drive_from<I: Inputs + Send, G: Gate + Sync, R: Threads + Sync>(
     gate: &G,
     first: u32,
     turns: u32,
-    beams: &mut ArrayVec<Option<Beam<'_>>, 7>,
+    beams: &mut ArrayVec<Option<Beam<'_>>, MOST_BEAMS>,
     inputs: &mut [I],
 )
     requires { EachPair (SlotOn I.told I.is_open) beams.old.items inputs.old }
@@ -141,9 +146,9 @@ fn drive_halves<I: Inputs + Send, G: Gate + Sync, R: Threads + Sync>(
     gate: &G,
     first: u32,
     turns: u32,
-    left: &mut ArrayVec<Option<Beam<'_>>, 7>,
+    left: &mut ArrayVec<Option<Beam<'_>>, MOST_BEAMS>,
     left_inputs: &mut [I],
-    right: &mut ArrayVec<Option<Beam<'_>>, 7>,
+    right: &mut ArrayVec<Option<Beam<'_>>, MOST_BEAMS>,
     right_inputs: &mut [I],
 )
     requires some { (0 < length left.old.items) × (0 < length right.old.items) }

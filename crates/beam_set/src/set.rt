@@ -2,7 +2,7 @@
 ghost use Rattle.std.specs.Prelude.{◌≡◌, ◌*◌, ◌<◌, ◌≤◌, ℕ, All};
 ghost use Rattle.beam_set.specs.Sets.{EachPair, PairsMoved, SlotOn, SlotMoved, HasSlotEnded, CanClose, IsSlotEnd, AreSetEnds, SetBegins, SetAnswers};
 
-use crate::beam::Beam;
+use crate::beam::{Beam, MOST_BEAMS};
 use crate::ended::BeamEnd;
 use crate::rounds::{all_ended, drive_from};
 use arrayvec::ArrayVec;
@@ -37,7 +37,7 @@ fn run_rounds<I: Inputs + Send, G: Gate + Sync, R: Threads + Wait + Sync>(
     rt: &R,
     gate: &G,
     turns: u32,
-    beams: &mut ArrayVec<Option<Beam<'_>>, 7>,
+    beams: &mut ArrayVec<Option<Beam<'_>>, MOST_BEAMS>,
     inputs: &mut [I],
 )
     requires on { EachPair (SlotOn I.told I.is_open) beams.old.items inputs.old }
@@ -70,7 +70,9 @@ fn close_slot(slot: Option<Beam<'_>>) -> Option<BeamEnd>
 }
 
 // The ends of all beams, at their places.
-fn close_all(mut beams: ArrayVec<Option<Beam<'_>>, 7>) -> ArrayVec<Option<BeamEnd>, 7>
+fn close_all(
+    mut beams: ArrayVec<Option<Beam<'_>>, MOST_BEAMS>,
+) -> ArrayVec<Option<BeamEnd>, MOST_BEAMS>
     requires { All CanClose beams.items }
     ensures { AreSetEnds beams.entry.items result.items }
 {
@@ -89,11 +91,11 @@ fn close_all(mut beams: ArrayVec<Option<Beam<'_>>, 7>) -> ArrayVec<Option<BeamEn
 /// nothing in it. Inputs past the beams stand. It takes no memory but what the system takes for a thread. It may wait.
 pub fn run_set<'a, I: Inputs + Send, G: Gate + Sync, R: Threads + Wait + Sync>(
     rt: &R,
-    mut beams: ArrayVec<Option<Beam<'a>>, 7>,
+    mut beams: ArrayVec<Option<Beam<'a>>, MOST_BEAMS>,
     inputs: &mut [I],
     turns: u32,
     gate: &G,
-) -> ArrayVec<Option<BeamEnd>, 7>
+) -> ArrayVec<Option<BeamEnd>, MOST_BEAMS>
     requires { SetBegins I.told I.is_open beams.items inputs.old }
     ensures { SetAnswers I.told I.is_calm I.faults beams.entry.items inputs.old inputs.new
         result.items }

@@ -3,6 +3,7 @@ ghost use Rattle.std.specs.Prelude.{◌≡◌, ◌∷◌, [], Some, IfOk};
 ghost use Rattle.psr_base.specs.Told.{Told};
 ghost use Rattle.ring_words.specs.Shape.{IsRing};
 ghost use Rattle.beam_set.specs.Beam.{IsBeamSpace, IsBeamReady, BeamBegins, engines_held, engines_in, feeder_in};
+ghost use Rattle.search_session.specs.Lanes.{engines_of};
 
 use crate::beam::Beam;
 use arrayvec::ArrayVec;
@@ -22,7 +23,7 @@ pub struct BeamSpace {
 
 // The lane that has one engine.
 fn lane_of(alloc: Global, engine: Engine) -> Result<Lane, Memory>
-    ensures { IfOk result (λ lane. lane.engines.value.items ≡ Some engine ∷ []) }
+    ensures { IfOk result (λ lane. engines_of lane ≡ Some engine ∷ []) }
 {
     let mut engines = ArrayVec::new();
     engines.push(Some(engine));

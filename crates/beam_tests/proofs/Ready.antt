@@ -6,7 +6,7 @@ use Rattle.dada_model.specs.Fields.{HeaderText}
 use Rattle.ring_words.specs.declared.shape.RingShape.{RingShape}
 use Rattle.search_engine.specs.Engine.{EngineState}
 use Rattle.disk_feeder.specs.declared.feeder.FeederSpace.{FeederSpace}
-use Rattle.disk_feeder.specs.Feeder.{HasPlan, SamePlan, IsBegun, header_at, plan_at, block_size, has_end, AcceptsAt, AllAccepted, FeederFeeds, FeederFaultless}
+use Rattle.disk_feeder.specs.Feeder.{HasPlan, SamePlan, IsBegun, headers_of, plan_at, block_size, has_end, AcceptsAt, AllAccepted, FeederFeeds, FeederFaultless}
 use Rattle.disk_feeder.specs.Feeding.{header_entries}
 use Rattle.disk_feeder.specs.Resting.{at_rest}
 use Rattle.beam_set.specs.declared.space.BeamSpace.{BeamSpace}
@@ -15,9 +15,9 @@ use Rattle.beam_set.specs.Beam.{IsBeamReady, IsBeamSpace}
 -- the feeder accepted the observation of its one header
 pub record HasAccepted (old new : FeederSpace) : Type 0 where
   pub plan : SamePlan (at_rest old) (at_rest new)
-  pub headers : header_at (at_rest new) ≡ header_at (at_rest old)
+  pub headers : headers_of (at_rest new) ≡ headers_of (at_rest old)
   pub feeds : (told : Told) → IsBegun told (at_rest old) → AllAccepted (at_rest new) →
-      FeederFeeds told (at_rest new) (header_entries (take 1 (header_at (at_rest new)))) []
+      FeederFeeds told (at_rest new) (header_entries (take 1 (headers_of (at_rest new)))) []
   pub faultless : FeederFaultless (at_rest new)
   pub running : has_end (at_rest new) ≡ None
   pub accepts : AcceptsAt (at_rest old) 0 (at_rest new)
@@ -31,15 +31,15 @@ module _ (names : List (List ℕ)) (old new : FeederSpace) (plan : HasPlan (at_r
   all_accepted : AllAccepted (at_rest new)
   all_accepted zero header at = is.accepts.first header at
   all_accepted (suc k) header at =
-      let within = slice_get_within (header_at (at_rest new)) (suc k) header at in
-      let one : length (header_at (at_rest new)) ≡ 1 = ap length is.headers ∙ plan.headers in
+      let within = slice_get_within (headers_of (at_rest new)) (suc k) header at in
+      let one : length (headers_of (at_rest new)) ≡ 1 = ap length is.headers ∙ plan.headers in
       absurd (omega (arith, within, one))
 
   starts_one : length (plan_at (at_rest new)).starts ≡ 1
   starts_one = ap length (is.plan.starts ∙ plan.transfers)
 
   pub ready : (told : Told) (space : BeamSpace) (engine : EngineState) (header : HeaderText) →
-      IsBegun told (at_rest old) → slice_get (header_at (at_rest old)) 0 ≡ Some header →
+      IsBegun told (at_rest old) → slice_get (headers_of (at_rest old)) 0 ≡ Some header →
       IsBeamSpace engine small header space → engine.fed ≡ 0 → engine.has_ended ≡ false → IsBeamReady told space new
   ready told space engine header begun first space_is unfed running = record {
     engine = engine;

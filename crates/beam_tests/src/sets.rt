@@ -7,7 +7,7 @@ ghost use Rattle.disk_feeder.specs.Resting.{at_rest};
 ghost use Rattle.beam_set.specs.Beam.{BeamBegins, HasBeamFile, feeder_in};
 
 use arrayvec::ArrayVec;
-use beam_set::{Beam, BeamEnd, BeamSpace, run_set};
+use beam_set::{Beam, BeamEnd, BeamSpace, MOST_BEAMS, run_set};
 use disk_feeder::FeederSpace;
 use obs_plan::Observation;
 use psr_base::{Inputs, MemInputs};
@@ -118,7 +118,7 @@ pub(crate) fn run_three<G: Gate + Sync, R: Threads + Wait + Sync>(
     mut two: MemInputs,
     mut three: MemInputs,
     gate: &G,
-) -> Result<ArrayVec<Option<BeamEnd>, 7>, Fail>
+) -> Result<ArrayVec<Option<BeamEnd>, MOST_BEAMS>, Fail>
     requires { length names.now ≡ 1 }
 {
     let starts = [0_u32];

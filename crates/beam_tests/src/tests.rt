@@ -6,7 +6,7 @@ use crate::rows::{REFUSED, SEARCHED, STOPPED};
 use crate::running::{ENOUGH, Ended, Limits, NEVER, all_inputs, run_past, words_of};
 use crate::sets::run_three;
 use arrayvec::ArrayVec;
-use beam_set::BeamEnd;
+use beam_set::{BeamEnd, MOST_BEAMS};
 use disk_feeder::FeedEnd;
 use meeting_gate::Meeting;
 use search_model::Candidate;
@@ -75,7 +75,7 @@ fn ends_of<G: Gate + Sync, R: Threads + Wait + Sync>(
     failing: usize,
     call: u64,
     gate: &G,
-) -> Result<ArrayVec<Option<BeamEnd>, 7>, Fail> {
+) -> Result<ArrayVec<Option<BeamEnd>, MOST_BEAMS>, Fail> {
     let mut names = Vec::new(alloc);
     names.push(String::from_str(alloc, "pulse")?)?;
     let names = names.as_slice();

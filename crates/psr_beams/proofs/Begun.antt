@@ -10,21 +10,20 @@ use Rattle.disk_feeder.specs.declared.answers.FeedFault.{FeedFault}
 use Rattle.disk_feeder.specs.declared.answers.FeedFault.TheVariants as fault
 use Rattle.disk_feeder.specs.declared.feeder.FeederSpace.{FeederSpace}
 use Rattle.disk_feeder.specs.declared.source.Source.{Source}
-use Rattle.disk_feeder.specs.Feeder.{HasPlan, SamePlan, IsBegun, FirstHeadersRead, BreaksFirstHeaders, RefusesAt, HasOpenFile, header_at, names_at, plan_at}
+use Rattle.disk_feeder.specs.Feeder.{HasPlan, SamePlan, IsBegun, FirstHeadersRead, BreaksFirstHeaders, RefusesAt, HasOpenFile, headers_of, names_at}
 use Rattle.disk_feeder.specs.Beginning.{AreFirstFiles}
 use Rattle.disk_feeder.specs.Filling.{HoldsAll}
 use Rattle.disk_feeder.specs.Front.{BreaksAt}
 use Rattle.disk_feeder.specs.History.{firsts_read}
-use Rattle.disk_feeder.specs.Plan.{HasHeaders, AreTold, begin_at}
 use Rattle.disk_feeder.specs.Resting.{at_rest}
-use Rattle.disk_feeder.specs.Sources.{first_name, plan_of, RefusesFirst}
+use Rattle.disk_feeder.specs.Sources.{first_name, RefusesFirst}
 use Rattle.run_stop.specs.declared.stop.Stop.{Stop}
 use Rattle.run_stop.specs.declared.stop.Stop.TheVariants.{Memory, ReadFault}
 use Rattle.run_stop.specs.Firsts.{HasHeader}
-use Rattle.psr_beams.specs.Files.{beam_name, stream_of_one, header_read}
+use Rattle.psr_beams.specs.Files.{beam_name, header_read}
 use Rattle.psr_beams.specs.Feeders.{LeavesData, SlotRead, HasBegun, SlotBegun, ReadsHeader, SaysText, FailsHeader, AreRead, AreBegun, HaveRead, stop_of_header_at}
 use Rattle.psr_beams.proofs.Counting.{retyped}
-use Rattle.psr_beams.proofs.OneFile.{one_told, holds_one, stream_is, some_of, one_there}
+use Rattle.psr_beams.proofs.OneFile.{first_name_is, holds_one, some_of, one_there}
 
 -- ---- the plan of the feeder of one file
 
@@ -48,8 +47,7 @@ module _ (s : SettingsSeen) (name : List ℕ) (old : FeederSpace) (starts : s.st
   starts_are = plan.transfers ∙ starts
 
   name_is : first_name source 0 ≡ name
-  name_is = ap (λ st. get_or (plan_of source).names (begin_at st (length source.names.now) 0) []) starts_are
-      ∙ ap (λ ns. get_or ns 0 []) plan.files
+  name_is = first_name_is source name starts_are plan.files
 
   -- ---- the header was read
 
@@ -81,17 +79,15 @@ module _ (s : SettingsSeen) (name : List ℕ) (old : FeederSpace) (starts : s.st
         IsBegun (told after) (at_rest new) → (file : List ℕ) → (told before).bytes_under name ≡ Some file →
         HasHeader file
     text names same is file at =
-        let p = plan_at (at_rest new) in
         let kept = new_plan old new name s.starts s.size s.max_bytes plan same in
         let now : (told after).bytes_under name ≡ Some file =
         subst (λ (under : List ℕ → Option (List ℕ)). under name ≡ Some file) (sym names) at in
-        let are = subst (λ ns. AreTold (told after) ns (file ∷ [])) (sym kept.files)
-        (one_told name file (told after) now) in
-        let h = some_of (slice_get (header_at (at_rest new)) 0)
-        (one_there (header_at (at_rest new)) (kept.headers ∙ ap length starts)) in
-        let have : HasHeaders p (stream_of_one s file) =
-        subst (HasHeaders p) (stream_is p s file (kept.transfers ∙ starts) kept.limit) (is.headers (file ∷ []) are) in
-        (h.0, have 0 h.0 h.1)
+        let count = ap length (kept.transfers ∙ starts) in
+        let at_first = ap (told after).bytes_under
+        (first_name_is new.stream.source name (kept.transfers ∙ starts) kept.files) ∙ now in
+        let h = some_of (slice_get (headers_of (at_rest new)) 0)
+        (one_there (headers_of (at_rest new)) (kept.headers ∙ ap length starts)) in
+        (h.0, is.headers 0 (omega (arith, count)) file at_first h.0 h.1)
 
     pub reads : (failed : Type 0) → ¬ failed → SamePlan (at_rest old) (at_rest new) →
         IsBegun (told after) (at_rest new) → FirstHeadersRead (told before) (at_rest old) (told after) →
@@ -136,10 +132,10 @@ module _ (s : SettingsSeen) (name : List ℕ) (old : FeederSpace) (starts : s.st
   unread before after beam (fault.BadHeader k header.BadSize) r is = absurd cc
 
   -- a fault came before the header was judged
-  breaks : (before after : Told) → BreaksFirstHeaders before (at_rest old) after → (file : List ℕ) →
-      before.bytes_under name ≡ Some file → BreaksAt name file before after
+  breaks : (before : Told) (is_calm : Type 0) (after : Told) → BreaksFirstHeaders before is_calm (at_rest old) after →
+      (file : List ℕ) → before.bytes_under name ≡ Some file → BreaksAt name file before after
   unfolding firsts_read
-  breaks before after b file at =
+  breaks before is_calm after b file at =
       let there = b.there in
       let count : length source.starts.now ≡ 1 = ap length starts_are in
       let zeroth : b.transfer ≡ 0 = omega (arith, there, count) in
@@ -165,7 +161,7 @@ module _ (s : SettingsSeen) (name : List ℕ) (old : FeederSpace) (starts : s.st
 
   pub fails : {I : Type 0} (told : I → Told) (is_calm : I → Type 0) (faults : I → ℕ) (beam : ℕ) (before after : I)
       (f : FeedFault) (stop : Stop) → RefusesAt (told before) (at_rest old) f →
-      (bad f ≡ bad fault.ReadFault → BreaksFirstHeaders (told before) (at_rest old) (told after)) →
+      (bad f ≡ bad fault.ReadFault → BreaksFirstHeaders (told before) (is_calm before) (at_rest old) (told after)) →
       HasReadFrom told is_calm faults (bad f ≡ bad fault.ReadFault) before after →
       (is_calm before → HoldsAll (told before) (names_at (at_rest old)) → bad f ≢ bad fault.ReadFault) →
       stop ≡ stop_of_header_at beam f → FailsHeader told is_calm faults name beam before after stop
@@ -178,7 +174,7 @@ module _ (s : SettingsSeen) (name : List ℕ) (old : FeederSpace) (starts : s.st
             (fails_back beam f e);
         says = says (told before) beam f r;
         unread = unread (told before) (told after) beam f r;
-        broke = λ e. breaks (told before) (told after) (broke (fails_back beam f e));
+        broke = λ e. breaks (told before) (is_calm before) (told after) (broke (fails_back beam f e));
       })
 
 -- ---- one beam after another

@@ -63,8 +63,8 @@ module _ (is_calm : ℕ → Type 0) (words : List (List ℕ)) (seen : BeamsSeen)
   searched_at (inl e) = (o.written.text e s files says are).0
   searched_at (inr e) = (o.written.front e s files says are).0
 
-  header_at : n ≡ 3 → (beam : ℕ) × (cause : HeaderCause) × IsStopOfBeams s files (Header beam cause)
-  header_at e = o.stopped.header e s files says are
+  headers_of : n ≡ 3 → (beam : ℕ) × (cause : HeaderCause) × IsStopOfBeams s files (Header beam cause)
+  headers_of e = o.stopped.header e s files says are
 
   plan_at : n ≡ 4 → (cause : PlanCause) × RefusesSearch s files cause
   plan_at e = o.stopped.plan e s files says are
@@ -104,7 +104,7 @@ module _ (is_calm : ℕ → Type 0) (words : List (List ℕ)) (seen : BeamsSeen)
   after_headers quiet accepted wanted not four eight nine = by_status (λ k. n ≡ k → Answers n wanted) n o.known
       (λ e. absurd (not (searched_at (inl e))))
       (λ e. absurd (o.judged.refused e s says))
-      (λ e. let h = header_at e in absurd (no_header files s h.0 h.1 accepted h.2))
+      (λ e. let h = headers_of e in absurd (no_header files s h.0 h.1 accepted h.2))
       four
       (λ e. inr e)
       (λ e. absurd (not_six quiet e))
@@ -122,7 +122,7 @@ module _ (is_calm : ℕ → Type 0) (words : List (List ℕ)) (seen : BeamsSeen)
   offset : NoneFails is_calm seen.inputs s → (beam expected found : ℕ) →
       RefusesLater files (Gap beam expected found) → Answers n 7
   offset quiet beam expected found r = before_search quiet (λ a. no_later files _ a r) 7
-      (λ e. let h = header_at e in absurd (no_header_at_gap files s h.0 h.1 beam expected found r h.2))
+      (λ e. let h = headers_of e in absurd (no_header_at_gap files s h.0 h.1 beam expected found r h.2))
       (λ e. inl e)
 
   plan : NoneFails is_calm seen.inputs s → (cause : PlanCause) → RefusesSearch s files cause → Answers n 4
@@ -145,7 +145,7 @@ module _ (is_calm : ℕ → Type 0) (words : List (List ℕ)) (seen : BeamsSeen)
   accepted quiet all still = by_status (λ k. n ≡ k → (n ≡ 0) ⊎ (n ≡ 5)) n o.known
       (λ e. inl e)
       (λ e. absurd (o.judged.refused e s says))
-      (λ e. let h = header_at e in absurd (no_header files s h.0 h.1 all.read.begins.accepted h.2))
+      (λ e. let h = headers_of e in absurd (no_header files s h.0 h.1 all.read.begins.accepted h.2))
       (λ e. let p = plan_at e in absurd (no_plan files s p.0 all.read.begins p.1))
       (λ e. inr e)
       (λ e. absurd (not_six quiet e))

@@ -24,7 +24,7 @@ use Rattle.psr_beams.specs.Feeders.{SlotRead}
 use Rattle.psr_beams.specs.Engines.{IsBeamOf}
 use Rattle.psr_beams.specs.Joined.{IsSlotJoined}
 use Rattle.psr_beams.specs.Driven.{HasCome, HasSlotCome, SlotBreaks}
-use Rattle.psr_beams.proofs.OneFile.{one_told, holds_one, stream_is, one_data, one_broken}
+use Rattle.psr_beams.proofs.OneFile.{one_told, one_needed, holds_one, stream_is, one_data, one_broken}
 
 -- the end is that of the walk where the inputs did not fail
 walk_end : (w : FileStream) (size : ℕ) (blocks : _) (end : FeedEnd) → EndIs w size blocks end →
@@ -63,9 +63,8 @@ module _ {I : Type 0} (told : I → Told) (is_calm : I → Type 0) (faults : I �
             (subst (HoldsAll (told before)) (sym is.plan.files) (holds_one name (told before) there));
         walked = λ not file at.
             let now = subst (λ under. Under under file) (sym feed.names) at in
-            let are = subst (λ ns. AreTold (told after) ns (file ∷ [])) (sym is.plan.files)
-            (one_told name file (told after) now) in
-            let ended = walk_end (stream_of plan (file ∷ [])) _ _ end.feed (feed.sealed.known (file ∷ []) are) not in
+            let ended = walk_end (stream_of plan (file ∷ [])) _ _ end.feed (feed.sealed.known (file ∷ [])
+            (one_needed plan.names name file (told after) is.plan.files now)) not in
             let same = stream_is plan s file starts is.plan.limit in
             let walk = stream_of plan (file ∷ []) in
             let total = length (joined_data (walk_data walk)) in (
@@ -95,10 +94,8 @@ module _ {I : Type 0} (told : I → Told) (is_calm : I → Type 0) (faults : I �
       let feed = answers.feed in
       let Under : (List ℕ → Option (List ℕ)) → List ℕ → Type 0 = λ under f. under name ≡ Some f in
       let now = subst (λ under. Under under file) (sym feed.names) at in
-      let are = subst (λ ns. AreTold (told after) ns (file ∷ [])) (sym is.plan.files)
-      (one_told name file (told after) now) in
-      one_broken plan s name file is.plan.files (is.plan.transfers ∙ one) is.plan.limit start (told after) _ _
-      (feed.broke failed start reads (file ∷ []) are)
+      one_broken plan s name file is.plan.files (is.plan.transfers ∙ one) is.plan.limit start (told after) now feed.place
+      _ _ (feed.broke failed start reads)
 
   pub slot_breaks : (start : Told) (slot : Option FeederSpace) (beam : Option Beam) (end : Option BeamEnd) →
       s.starts ≡ 0 ∷ [] → IsSlotJoined (told before) s o name slot beam →

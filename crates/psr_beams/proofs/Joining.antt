@@ -7,7 +7,7 @@ use Rattle.psr_base.specs.Told.{Told}
 use Rattle.dada_model.specs.Observation.{Observation}
 use Rattle.search_words.specs.Settings.{SettingsSeen}
 use Rattle.disk_feeder.specs.declared.feeder.FeederSpace.{FeederSpace}
-use Rattle.disk_feeder.specs.Feeder.{HasPlan, IsBegun, HasOpenFile, header_at, plan_at, block_size, AcceptsAt, AllAccepted, FeederFeeds, FeederRead, KeepsBegun}
+use Rattle.disk_feeder.specs.Feeder.{HasPlan, IsBegun, HasOpenFile, headers_of, plan_at, block_size, AcceptsAt, AllAccepted, FeederFeeds, FeederRead, KeepsBegun}
 use Rattle.disk_feeder.specs.Feeding.{header_entries}
 use Rattle.disk_feeder.specs.Resting.{at_rest}
 use Rattle.beam_set.specs.declared.space.BeamSpace.{BeamSpace}
@@ -23,23 +23,23 @@ use Rattle.psr_beams.specs.Joined.{CanJoin, IsJoined, CanJoinSlots, IsSlotJoined
 pub record HasAccepted (old new : FeederSpace) : Type 0 where
   pub kept : KeepsBegun (at_rest old) (at_rest new)
   pub feeds : (told : Told) → IsBegun told (at_rest old) → AllAccepted (at_rest new) →
-      FeederFeeds told (at_rest new) (header_entries (take 1 (header_at (at_rest new)))) []
+      FeederFeeds told (at_rest new) (header_entries (take 1 (headers_of (at_rest new)))) []
   pub accepts : AcceptsAt (at_rest old) 0 (at_rest new)
 
 module _ (told : Told) (s : SettingsSeen) (o : Observation) (name : List ℕ) (space : BeamSpace) (feeder : FeederSpace)
     (can : CanJoin told s o name space feeder) where
-  one_header : length (header_at (at_rest feeder)) ≡ 1
+  one_header : length (headers_of (at_rest feeder)) ≡ 1
   one_header = can.plan.headers ∙ ap length can.one
 
-  pub header_there : 0 < length (header_at (at_rest feeder))
+  pub header_there : 0 < length (headers_of (at_rest feeder))
   header_there = let one = one_header in omega (arith, one)
 
   module _ (new : FeederSpace) (is : HasAccepted feeder new) where
     all_accepted : AllAccepted (at_rest new)
     all_accepted zero header at = is.accepts.first header at
     all_accepted (suc k) header at =
-        let within = slice_get_within (header_at (at_rest new)) (suc k) header at in
-        let one : length (header_at (at_rest new)) ≡ 1 = ap length is.kept.headers ∙ one_header in
+        let within = slice_get_within (headers_of (at_rest new)) (suc k) header at in
+        let one : length (headers_of (at_rest new)) ≡ 1 = ap length is.kept.headers ∙ one_header in
         absurd (omega (arith, within, one))
 
     new_plan : HasPlan (at_rest new) (name ∷ []) s.starts s.size s.max_bytes

@@ -1,5 +1,5 @@
 -- The one file of a beam.
-use Rattle.std.proofs.Common.{◌≡◌, ℕ, zero, suc, ◌+◌, ◌-◌, ◌<◌, ◌≤◌, List, [], ◌∷◌, append-nil, length, map, take, drop, get_or, slice_get, Option, Some, None, refl, sym, ap, subst, ◌∙◌, inl, inr, arith}
+use Rattle.std.proofs.Common.{◌≡◌, ℕ, zero, suc, ◌+◌, ◌-◌, ◌<◌, ◌≤◌, List, [], ◌∷◌, append-nil, length, map, take, drop, get_or, slice_get, Option, Some, None, Bool, true, false, refl, sym, ap, subst, ◌∙◌, arith}
 use Rattle.std.specs.Prelude.{IsSome}
 use Rattle.std.proofs.lemmas.List.{drop_more, get_or-map}
 use Rattle.search_words.specs.Transfers.{AreTransferStarts}
@@ -7,11 +7,14 @@ use Rattle.psr_base.specs.Told.{Told}
 use Rattle.search_words.specs.Settings.{SettingsSeen}
 use Rattle.stream_model.specs.Walk.{FileStream, data_of, data_between, transfer_data}
 use Rattle.stream_model.specs.WalkLaws.{IsIn}
-use Rattle.disk_feeder.specs.Feeding.{BreaksReading}
+use Rattle.disk_feeder.specs.Feeding.{BreaksReading, IsCutAt}
 use Rattle.disk_feeder.specs.Filling.{HoldsAll}
 use Rattle.disk_feeder.specs.Front.{front_of}
-use Rattle.disk_feeder.specs.History.{files_read, data_so_far, IsReadUpTo}
-use Rattle.disk_feeder.specs.Plan.{Plan, stream_of, AreTold}
+use Rattle.disk_feeder.specs.History.{files_read, data_so_far, IsReadUpTo, BreaksIf}
+use Rattle.disk_feeder.specs.Plan.{Plan, stream_of, begin_at, AreTold, AreToldAt}
+use Rattle.disk_feeder.specs.Sources.{plan_of, first_name}
+use Rattle.disk_feeder.specs.declared.place.Place.{Place}
+use Rattle.disk_feeder.specs.declared.source.Source.{Source}
 use Rattle.psr_beams.specs.Files.{stream_of_one, IsReadOn}
 use Rattle.psr_beams.proofs.Counting.{element}
 
@@ -23,6 +26,20 @@ one_name name file told is (suc k) below = absurd (omega (arith, below))
 pub one_told : (name : List ℕ) (file : List ℕ) (told : Told) → told.bytes_under name ≡ Some file →
     AreTold told (name ∷ []) (file ∷ [])
 one_told name file told is = record { count = refl; each = one_name name file told is }
+
+-- it is told wherever it is needed
+pub one_needed : {Needed : ℕ → Type 0} (names : List (List ℕ)) (name file : List ℕ) (told : Told) → names ≡ name ∷ [] →
+    told.bytes_under name ≡ Some file → AreToldAt Needed told names (file ∷ [])
+one_needed {Needed} names name file told same is =
+    subst (λ (ns : List (List ℕ)). AreToldAt Needed told ns (file ∷ [])) (sym same)
+    (record { count = refl; each = λ k below needed. one_name name file told is k below })
+
+-- a source of one file has its name for that of the one transfer's first file
+pub first_name_is : (source : Source) (name : List ℕ) → source.starts.now ≡ 0 ∷ [] → (plan_of source).names ≡ name ∷ [] →
+    first_name source 0 ≡ name
+first_name_is source name starts names =
+    ap (λ st. get_or (plan_of source).names (begin_at st (length source.names.now) 0) []) starts
+    ∙ ap (λ ns. get_or ns 0 []) names
 
 pub holds_one : (name : List ℕ) (told : Told) → IsSome (told.bytes_under name) → HoldsAll told (name ∷ [])
 holds_one name told is zero below = is
@@ -67,28 +84,30 @@ read_first s name file before after transfer count least r =
     }
 
 -- what a fault of the inputs leaves, once the header of the one file was read
-one_left : (s : SettingsSeen) (name file : List ℕ) (before after : Told) (size : ℕ) (blocks : _) →
-    BreaksReading (name ∷ []) (stream_of_one s file) before after size blocks →
-    IsReadOn s.max_bytes name file before after
-one_left s name file before after size blocks b =
-    let first = zeroth_file s file b.transfer b.file b.inside in
-    elim b.stood [
-      | inl broke ↦ let later = broke.begun refl in absurd (omega (arith, first, later))
-      | inr reading ↦
-          let P : ℕ → Type 0 = λ k. IsReadUpTo (name ∷ []) (stream_of_one s file) before after b.transfer k b.count in
-          let few = b.few in
-          read_first s name file before after b.transfer b.count (omega (arith, few)) (subst P first reading.1)
-    ]
+one_left : (s : SettingsSeen) (name file : List ℕ) (before after : Told) (at : Place) (size : ℕ) (blocks : _) →
+    IsCutAt (stream_of_one s file) at size blocks → (is_open : Bool) →
+    BreaksIf is_open (name ∷ []) (stream_of_one s file) before after at → IsReadOn s.max_bytes name file before after
+one_left s name file before after at size blocks cut false broke =
+    let first = zeroth_file s file at.transfer at.file cut.inside in
+    let later = broke.begun refl in
+    absurd (omega (arith, first, later))
+one_left s name file before after at size blocks cut true reading =
+    let first = zeroth_file s file at.transfer at.file cut.inside in
+    let P : ℕ → Type 0 = λ k. IsReadUpTo (name ∷ []) (stream_of_one s file) before after at.transfer k at.since in
+    let few = cut.few in
+    read_first s name file before after at.transfer at.since (omega (arith, few)) (subst P first reading)
 
 pub one_broken : (plan : Plan) (s : SettingsSeen) (name file : List ℕ) → plan.names ≡ name ∷ [] →
-    plan.starts ≡ 0 ∷ [] → plan.max_bytes ≡ s.max_bytes → (before after : Told) (size : ℕ) (blocks : _) →
-    BreaksReading plan.names (stream_of plan (file ∷ [])) before after size blocks →
+    plan.starts ≡ 0 ∷ [] → plan.max_bytes ≡ s.max_bytes → (before after : Told) → after.bytes_under name ≡ Some file →
+    (at : Place) (size : ℕ) (blocks : _) → BreaksReading plan before after at size blocks →
     IsReadOn s.max_bytes name file before after
-one_broken plan s name file names starts limit before after size blocks b =
-    one_left s name file before after size blocks
-    (subst (λ (w : FileStream). BreaksReading (name ∷ []) w before after size blocks)
-    (stream_is plan s file starts limit)
-    (subst (λ (ns : List (List ℕ)). BreaksReading ns (stream_of plan (file ∷ [])) before after size blocks) names b))
+one_broken plan s name file names starts limit before after is at size blocks b =
+    let same = stream_is plan s file starts limit in
+    one_left s name file before after at size blocks
+    (subst (λ (w : FileStream). IsCutAt w at size blocks) same (b.cut (file ∷ []) (one_needed plan.names name file after names is))) at.is_open
+    (subst (λ (w : FileStream). BreaksIf at.is_open (name ∷ []) w before after at) same
+    (subst (λ (ns : List (List ℕ)). BreaksIf at.is_open ns (stream_of plan (file ∷ [])) before after at) names
+    (b.stood (file ∷ []) (one_needed plan.names name file after names is))))
 
 -- the one start of a transfer
 pub only_start : (starts : List ℕ) (count : ℕ) → AreTransferStarts starts count → length starts ≡ 1 → starts ≡ 0 ∷ []

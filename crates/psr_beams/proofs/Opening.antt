@@ -9,8 +9,7 @@ use Rattle.obs_plan.specs.declared.fault.ObsFault.{ObsFault}
 use Rattle.obs_plan.specs.Later.{profile_of, later_offset_of}
 use Rattle.search_words.specs.Settings.{SettingsSeen}
 use Rattle.disk_feeder.specs.declared.feeder.FeederSpace.{FeederSpace}
-use Rattle.disk_feeder.specs.Feeder.{header_at, plan_at}
-use Rattle.disk_feeder.specs.Plan.{HasHeaders, AreTold}
+use Rattle.disk_feeder.specs.Feeder.{headers_of}
 use Rattle.disk_feeder.specs.Resting.{at_rest}
 use Rattle.beam_set.specs.declared.space.BeamSpace.{BeamSpace}
 use Rattle.beam_set.specs.Later.{LaterHeadersAgree}
@@ -18,7 +17,7 @@ use Rattle.disk_feeder.specs.declared.answers.HeaderCause.TheVariants.{Fields}
 use Rattle.run_stop.specs.declared.stop.Stop.{Stop}
 use Rattle.run_stop.specs.declared.stop.Stop.TheVariants.{Header, Gap}
 use Rattle.psr_beams.specs.Seen.{told_at}
-use Rattle.psr_beams.specs.Files.{beam_name, stream_of_one}
+use Rattle.psr_beams.specs.Files.{beam_name}
 use Rattle.psr_beams.specs.Refusals.{stop_of_offset, later_stop}
 use Rattle.psr_beams.specs.Judged.{slot_header, headers_in, AreOfOne}
 use Rattle.psr_beams.specs.Feeders.{SlotBegun, AreRead, AreBegun}
@@ -26,7 +25,7 @@ use Rattle.psr_beams.specs.Engines.{IsSpaceOf, AreSpaces}
 use Rattle.psr_beams.specs.Joined.{CanJoinSlots}
 use Rattle.psr_beams.specs.Driven.{HasSlotFile, CanRun, AreHeaders}
 use Rattle.psr_beams.proofs.Counting.{element, seen_there}
-use Rattle.psr_beams.proofs.OneFile.{one_told, stream_is, some_of, one_there}
+use Rattle.psr_beams.proofs.OneFile.{first_name_is, some_of, one_there}
 
 -- ---- what a header says of a later beam
 
@@ -82,7 +81,7 @@ module _ {I : Type 0} (told : I → Told) (is_open : I → Type 0) (s : Settings
       IsSome (slot_header slot)
   begun_header name lent None begun = absurd begun
   begun_header name lent (Some space) begun =
-      one_there (header_at (at_rest space)) (begun.plan.headers ∙ ap length starts)
+      one_there (headers_of (at_rest space)) (begun.plan.headers ∙ ap length starts)
 
   -- the header that was read is that of the file
   header_said : (name : List ℕ) (lent : I) (slot : Option FeederSpace) (h : HeaderText) (file : List ℕ) →
@@ -90,13 +89,10 @@ module _ {I : Type 0} (told : I → Told) (is_open : I → Type 0) (s : Settings
       (told lent).bytes_under name ≡ Some file → header_of file ≡ Ok h
   header_said name lent None h file begun at is = absurd begun
   header_said name lent (Some space) h file begun at is =
-      let plan = plan_at (at_rest space) in
-      let are = subst (λ ns. AreTold (told lent) ns (file ∷ [])) (sym begun.plan.files)
-      (one_told name file (told lent) is) in
-      let same = stream_is plan s file (begun.plan.transfers ∙ starts) begun.plan.limit in
-      let have : HasHeaders plan (stream_of_one s file) =
-      subst (HasHeaders plan) same (begun.begun.headers (file ∷ []) are) in
-      have 0 h at
+      let first = begun.plan.transfers ∙ starts in
+      let count = ap length first in
+      let at_first = ap (told lent).bytes_under (first_name_is space.stream.source name first begun.plan.files) ∙ is in
+      begun.begun.headers 0 (omega (arith, count)) file at_first h at
 
   pub headers_there : (count : ℕ) (lent : List I) (slots : List (Option FeederSpace)) →
       AreBegun told is_open s count lent slots → count ≤ length lent → (k : ℕ) → k < count →

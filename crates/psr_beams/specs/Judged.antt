@@ -7,7 +7,7 @@ use Rattle.obs_plan.specs.declared.fault.ObsFault.{ObsFault}
 use Rattle.obs_plan.specs.Faults.{IsRefusedFirst}
 use Rattle.disk_feeder.specs.declared.answers.HeaderCause.TheVariants.{Fields}
 use Rattle.disk_feeder.specs.declared.feeder.FeederSpace.{FeederSpace}
-use Rattle.disk_feeder.specs.Feeder.{header_at}
+use Rattle.disk_feeder.specs.Feeder.{headers_of}
 use Rattle.disk_feeder.specs.Resting.{at_rest}
 use Rattle.run_stop.specs.declared.stop.Stop.{Stop}
 use Rattle.run_stop.specs.declared.stop.Stop.TheVariants.{Header, Memory}
@@ -16,7 +16,7 @@ use Rattle.psr_beams.specs.Refusals.{later_stop}
 -- the header that a feeder has read
 abbrev pub slot_header : Option FeederSpace → Option HeaderText
 slot_header None = None
-slot_header (Some space) = slice_get (header_at (at_rest space)) 0
+slot_header (Some space) = slice_get (headers_of (at_rest space)) 0
 
 -- those of the feeders of beams, by their numbers
 abbrev pub headers_in : List (Option FeederSpace) → ℕ → Option HeaderText

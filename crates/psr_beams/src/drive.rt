@@ -11,7 +11,7 @@ use crate::joined::join_all;
 use crate::opened::{OpenedBeams, open_all};
 use crate::words::BeamWords;
 use arrayvec::ArrayVec;
-use beam_set::{BeamEnd, BeamSpace, run_set};
+use beam_set::{BeamEnd, BeamSpace, MOST_BEAMS, run_set};
 use disk_feeder::FeederSpace;
 use obs_plan::Observation;
 use psr_base::{Inputs, Sink};
@@ -27,12 +27,12 @@ use beam_set::later_headers_agree;
 fn run_joined<I: Inputs + Send, G: Gate + Sync, R: Threads + Wait + Sync>(
     rt: &R,
     turns: u32,
-    spaces: ArrayVec<Option<BeamSpace>, 7>,
-    feeders: ArrayVec<Option<FeederSpace<'_>>, 7>,
+    spaces: ArrayVec<Option<BeamSpace>, MOST_BEAMS>,
+    feeders: ArrayVec<Option<FeederSpace<'_>>, MOST_BEAMS>,
     observation: &Observation,
     inputs: &mut [I],
     gate: &G,
-) -> ArrayVec<Option<BeamEnd>, 7>
+) -> ArrayVec<Option<BeamEnd>, MOST_BEAMS>
     requires { (s : SettingsSeen) × (count : ℕ) × CanRun I.told I.is_open s observation.now count
         inputs.old spaces.items feeders.items }
     ensures come { (s : SettingsSeen) (count : ℕ) → CanRun I.told I.is_open s observation.now count

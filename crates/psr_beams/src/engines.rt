@@ -5,6 +5,7 @@ ghost use Rattle.search_model.specs.Plan.{plan_refusal};
 ghost use Rattle.psr_beams.specs.Engines.{IsEngineOf, HaveEngines};
 
 use arrayvec::ArrayVec;
+use beam_set::MOST_BEAMS;
 use obs_plan::Observation;
 use psr_base::Memory;
 use search_engine::{Engine, PlanFault};
@@ -27,7 +28,7 @@ fn open_engine(alloc: Global, observation: &Observation, search: &Search) -> Opt
 }
 
 // So many slots.
-fn no_engines(beams: usize) -> ArrayVec<Option<Engine>, 7>
+fn no_engines(beams: usize) -> ArrayVec<Option<Engine>, MOST_BEAMS>
     requires { beams ≤ 7 }
     ensures { length result.items ≡ beams }
 {
@@ -85,7 +86,7 @@ pub(crate) fn open_engines<R: Threads + Sync>(
     observation: &Observation,
     search: &Search,
     beams: usize,
-) -> Result<ArrayVec<Option<Engine>, 7>, Memory>
+) -> Result<ArrayVec<Option<Engine>, MOST_BEAMS>, Memory>
     requires range { SettingsInRange search.now }
     requires fits { plan_refusal observation.now search.now ≡ None }
     requires beams { (1 ≤ beams) × (beams ≤ 7) }

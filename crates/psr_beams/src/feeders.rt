@@ -6,6 +6,7 @@ ghost use Rattle.psr_beams.specs.Files.{beam_name};
 ghost use Rattle.psr_beams.specs.Feeders.{HasBegun, SlotRead, ReadsHeader, FailsHeader, AreRead, AreBegun, HaveRead, StopsReading, stop_of_header_at};
 
 use arrayvec::ArrayVec;
+use beam_set::MOST_BEAMS;
 use disk_feeder::{FeedFault, FeederSpace};
 use psr_base::Inputs;
 use run_stop::Stop;
@@ -65,7 +66,7 @@ pub(crate) fn begin_all<'a, I: Inputs>(
     alloc: Global,
     settings: &'a Settings,
     inputs: &mut [I],
-) -> Result<ArrayVec<Option<FeederSpace<'a>>, 7>, Stop>
+) -> Result<ArrayVec<Option<FeederSpace<'a>>, MOST_BEAMS>, Stop>
     requires range { AllInRange (settings_seen settings.now) }
     requires one { IsOfOne (settings_seen settings.now) }
     requires few { length settings.now.names.items ≤ 7 }

@@ -5,7 +5,7 @@ ghost use Rattle.search_words.specs.Settings.{SettingsSeen};
 ghost use Rattle.psr_beams.specs.Joined.{CanJoin, IsJoined, CanJoinSlots, IsSlotJoined, CanJoinAll, AreJoined};
 
 use arrayvec::ArrayVec;
-use beam_set::{Beam, BeamSpace};
+use beam_set::{Beam, BeamSpace, MOST_BEAMS};
 use disk_feeder::FeederSpace;
 use obs_plan::Observation;
 
@@ -45,10 +45,10 @@ fn join_slots<'a>(
 
 /// The beams of these spaces and feeders, which accept the observation. It takes no memory.
 pub(crate) fn join_all<'a>(
-    mut spaces: ArrayVec<Option<BeamSpace>, 7>,
-    mut feeders: ArrayVec<Option<FeederSpace<'a>>, 7>,
+    mut spaces: ArrayVec<Option<BeamSpace>, MOST_BEAMS>,
+    mut feeders: ArrayVec<Option<FeederSpace<'a>>, MOST_BEAMS>,
     observation: &Observation,
-) -> ArrayVec<Option<Beam<'a>>, 7>
+) -> ArrayVec<Option<Beam<'a>>, MOST_BEAMS>
     requires { (told : ℕ → Told) × (s : SettingsSeen) × (count : ℕ)
         × CanJoinAll told s observation.now count spaces.items feeders.items }
     ensures { (told : ℕ → Told) (s : SettingsSeen) (count : ℕ)

@@ -10,7 +10,7 @@ ghost use Rattle.psr_beams.specs.Opened.{StopsOpening};
 use crate::engines::open_engines;
 use crate::judge::{header_of, judge};
 use arrayvec::ArrayVec;
-use beam_set::BeamSpace;
+use beam_set::{BeamSpace, MOST_BEAMS};
 use disk_feeder::FeederSpace;
 use obs_plan::Observation;
 use psr_base::Memory;
@@ -24,11 +24,11 @@ use std::thread::Threads;
 /// The observation of all beams, and a space for each: all memory of a search but that of the feeders.
 pub(crate) struct OpenedBeams {
     pub(crate) observation: Observation,
-    pub(crate) spaces: ArrayVec<Option<BeamSpace>, 7>,
+    pub(crate) spaces: ArrayVec<Option<BeamSpace>, MOST_BEAMS>,
 }
 
 // The last engine of a list.
-fn take_engine(engines: &mut ArrayVec<Option<Engine>, 7>) -> Engine
+fn take_engine(engines: &mut ArrayVec<Option<Engine>, MOST_BEAMS>) -> Engine
     requires some { 0 < length engines.old.items }
     requires there { All IsSome engines.old.items }
     ensures { engines.old.items ≡ engines.new.items ++ Some result ∷ [] }
@@ -59,9 +59,9 @@ fn take_space(
 fn take_spaces(
     alloc: Global,
     settings: &Settings,
-    mut engines: ArrayVec<Option<Engine>, 7>,
+    mut engines: ArrayVec<Option<Engine>, MOST_BEAMS>,
     slots: &[Option<FeederSpace<'_>>],
-) -> Result<ArrayVec<Option<BeamSpace>, 7>, Memory>
+) -> Result<ArrayVec<Option<BeamSpace>, MOST_BEAMS>, Memory>
     requires range { AllInRange (settings_seen settings.now) }
     requires headers { (k : ℕ) → k < length slots.now → IsSome (headers_in slots.now k) }
     requires many { length engines.items ≡ length slots.now }
@@ -86,7 +86,7 @@ fn take_all<R: Threads + Sync>(
     settings: &Settings,
     observation: &Observation,
     slots: &[Option<FeederSpace<'_>>],
-) -> Result<ArrayVec<Option<BeamSpace>, 7>, Memory>
+) -> Result<ArrayVec<Option<BeamSpace>, MOST_BEAMS>, Memory>
     requires range { AllInRange (settings_seen settings.now) }
     requires fits { plan_refusal observation.now settings.now.search ≡ None }
     requires beams { (1 ≤ length slots.now) × (length slots.now ≤ 7) }

@@ -1,15 +1,18 @@
 -- From what stands against a search to its status: at no other status it could stand there.
 use Rattle.std.proofs.Common.{◌≡◌, ◌<◌, ◌⊎◌, ℕ, zero, suc, List, [], ◌∷◌, Bool, true, false, inl, inr, sym, ◌∙◌, ap, subst, refl, Some, None, Contains, arith}
-use Rattle.std.specs.Prelude.{Option, IsSome, nat_le, ◌&&◌, ◌||◌, ◌==◌}
+use Rattle.std.specs.Prelude.{Option, IsSome, slice_index_or, nat_le, ◌&&◌, ◌||◌, ◌==◌}
 use Rattle.psr_base.specs.Count.{Rose}
 use Rattle.psr_base.specs.Told.{Told}
 use Rattle.ring_ends.specs.declared.finished.Finished.{Finished}
 use Rattle.search_words.specs.Settings.{SettingsSeen}
 use Rattle.stream_model.specs.Walk as walk
-use Rattle.stream_model.specs.Walk.{FileStream, WalkStop, walk_stop}
-use Rattle.disk_feeder.specs.Plan.{AreTold}
+use Rattle.stream_model.specs.Walk.{FileStream, WalkStop, begin_of, walk_stop}
+use Rattle.stream_model.specs.WalkLaws.{AreWalked}
+use Rattle.disk_feeder.specs.History.{file_name}
+use Rattle.disk_feeder.specs.Plan.{AreTold, AreToldAt}
 use Rattle.disk_feeder.specs.Filling.{HoldsAll}
 use Rattle.disk_feeder.specs.declared.answers.HeaderCause.{HeaderCause}
+use Rattle.disk_feeder.specs.declared.answers.HeaderCause.TheVariants.{Text, Fields}
 use Rattle.channel_mask.specs.MaskLaws.{MasksAreNotRefused}
 use Rattle.channel_mask.specs.Masks.{mask_of}
 use Rattle.channel_mask.specs.declared.fault.MaskFault.TheVariants as fault
@@ -19,7 +22,8 @@ use Rattle.run_stop.specs.declared.stop.Stop.{Stop}
 use Rattle.run_stop.specs.declared.stop.Stop.TheVariants.{Header, Gap, TooLong}
 use Rattle.run_stop.specs.Texts.{status_of}
 use Rattle.run_stop.specs.Lone.{SayAlone}
-use Rattle.run_stop.specs.Runs.{Alone, is_search, first_observation, stream_for, stop_of_walk, CanBegin, RefusesFirstHeader, RefusesSearch, RefusesToRecord, StopsWalk}
+use Rattle.run_stop.specs.Firsts.{first_file}
+use Rattle.run_stop.specs.Runs.{Alone, first_observation, stream_for, stop_of_walk, CanBegin, RefusesFirstHeader, RefusesSearch, RefusesFirsts, RefusesSearches, RefusesRecordings, StopsWalk}
 use Rattle.run_stop.specs.Ends.{AcceptedIsNotRefused}
 use Rattle.psr_mask.specs.Masking.{AcceptsFirst, RefusesFiles, fault_of, mask_search, mask_word}
 use Rattle.psr_mask.specs.Notes.{mask_status}
@@ -32,6 +36,11 @@ use Rattle.psr_mask.proofs.Statuses.{by_status}
 -- the bytes of all names are told
 holds_all : (told : Told) (names files : List (List ℕ)) → AreTold told names files → HoldsAll told names
 holds_all told names files are k below = subst IsSome (sym (are.each k below)) refl
+
+-- and those that are needed
+pub needed_told : (told : Told) (names files : List (List ℕ)) → AreTold told names files → {Needed : ℕ → Type 0} →
+    AreToldAt Needed told names files
+needed_told told names files are = record { count = are.count; each = λ k there is. are.each k there }
 
 -- a whole walk has no stop
 no_stop : (limit : ℕ) (at : WalkStop) (stop : Stop) → at ≡ walk.Whole → stop_of_walk limit at ≡ Some stop → ⊥
@@ -103,6 +112,32 @@ module _ (words : List (List ℕ)) (is_calm : Type 0) (seen : SearchSeen)
       outcome.answered.run.read.serves is s says (holds_all seen.inputs.told s.names files are) e
   not_six (inr still) e = still (outcome.answered.run.read.failed e)
 
+  needed : {Needed : ℕ → Type 0} → AreToldAt Needed seen.inputs.told s.names files
+  needed = needed_told seen.inputs.told s.names files are
+
+  -- first headers that are accepted are not refused
+  not_firsts : AreWalked w → (file : ℕ) (cause : HeaderCause) →
+      RefusesFirsts (Alone (mask_search words)) words seen.inputs.told file cause → ⊥
+  not_firsts walked file (Fields fault) r = not_refused.header w file (Fields fault) walked (r.1 s files says needed)
+  not_firsts walked file (Text fault) r =
+      let t = r s says in
+      let there = t.there in
+      let at : file ≡ begin_of w t.transfer = t.is ∙ ap (slice_index_or s.starts t.transfer) (sym are.count) in
+      let bytes = first_file w t.transfer in
+      let told : seen.inputs.told.bytes_under (file_name s.names file) ≡ Some bytes =
+      subst (λ k. seen.inputs.told.bytes_under (file_name s.names k) ≡ Some bytes) (sym at)
+      (are.each (begin_of w t.transfer)
+      (subst (λ n. begin_of w t.transfer < n) are.count (walked.starts.within t.transfer there))) in
+      not_refused.header w file (Text fault) walked (record {
+        transfer = t.transfer;
+        there = there;
+        is = at;
+        cause = t.refused bytes told;
+        earlier = λ k less.
+            let a = walked.accepted k (omega (arith, less, there)) in
+            (a.header, a.is_header);
+      })
+
   -- ---- what each status says
 
   -- all data were read, with so few candidates
@@ -112,27 +147,38 @@ module _ (words : List (List ℕ)) (is_calm : Type 0) (seen : SearchSeen)
 
   -- it stopped at a header: at a first one, or where the walk stops
   at_header : (blocks : Option Finished) → seen.ran.blocks ≡ blocks → n ≡ 3 →
-      ((file : ℕ) × (cause : HeaderCause) × RefusesFirstHeader w file cause)
+      ((file : ℕ) × (cause : HeaderCause) × RefusesFirsts (Alone (mask_search words)) words seen.inputs.told file cause)
       ⊎ (IsSome seen.ran.blocks × (file : ℕ) × (cause : HeaderCause)
       × StopsWalk (Alone (mask_search words)) s w (Header file cause))
-  at_header None is e =
-      inl (outcome.answered.run.stopped.first_header e is s files says are)
+  at_header None is e = inl (outcome.answered.run.stopped.first_header e is)
   at_header (Some b) is e =
       let some : IsSome seen.ran.blocks = subst IsSome (sym is) refl in
-      let r = outcome.answered.run.stopped.later_header e some s files says are in inr (some, r.0, r.1, r.2)
+      let r = ((outcome.answered.run.stopped.later_header e some).1.says s files says needed).0 in
+      inr (some, r.0, r.1, r.2)
 
   -- the plan was refused: a search alone makes no recording
   at_plan : n ≡ 4 → (cause : PlanCause) × RefusesSearch s.search w cause
-  at_plan e = by_cause (outcome.answered.run.stopped.plan e s files says are)
+  at_plan e = by_cause (outcome.answered.run.stopped.plan e)
     where
-      by_cause : ((cause : PlanCause) × (is_search (Alone (mask_search words)) ≡ true)
-          × RefusesSearch s.search w cause)
-          ⊎ ((cause : RecordingCause) × RefusesToRecord (Alone (mask_search words)) s w cause) →
+      by_cause : ((cause : PlanCause) × RefusesSearches (Alone (mask_search words)) words seen.inputs.told cause)
+          ⊎ ((cause : RecordingCause) × RefusesRecordings (Alone (mask_search words)) words seen.inputs.told cause) →
           (cause : PlanCause) × RefusesSearch s.search w cause
-      by_cause (inl r) = (r.0, r.2)
+      by_cause (inl r) = (r.0, r.1.1.1 s files says needed)
       by_cause (inr r) =
-          let on = r.1.records in
+          let on = (r.1.1 s files says needed).records in
           let off = says.search.one.unrecorded in absurd cc
+
+  -- the walk stopped at a gap, or at the limit
+  at_gap : n ≡ 7 → (file : ℕ) × (expected : ℕ) × (found : ℕ)
+      × StopsWalk (Alone (mask_search words)) s w (Gap file expected found)
+  at_gap e = ((outcome.answered.run.stopped.gap e).1.says s files says needed).0
+
+  at_limit : n ≡ 8 → StopsWalk (Alone (mask_search words)) s w (TooLong s.max_bytes)
+  at_limit e = ((outcome.answered.run.stopped.too_long e).1.says s files says needed).0
+
+  -- the mask was refused
+  at_mask : n ≡ 12 → (refusal : MaskRefusal) × RefusesFiles words w refusal
+  at_mask e = let r = outcome.answered.mask.refused e in (r.1, r.2.1 s files says needed)
 
   -- where all data or the walk were read, there is a data ring
   ring_at : (k : ℕ) → n ≡ k → is_late k ≡ true → (b : Option Finished) → seen.ran.blocks ≡ b → IsSome seen.ran.blocks
@@ -143,13 +189,14 @@ module _ (words : List (List ℕ)) (is_calm : Type 0) (seen : SearchSeen)
   -- so the mask was accepted
   accepted_at : (k : ℕ) → n ≡ k → is_late k ≡ true → AcceptsFirst words w
   accepted_at k e late =
-      outcome.answered.mask.accepted (inr (ring_at k e late seen.ran.blocks refl)) s files says are
+      outcome.answered.mask.accepted (inr (ring_at k e late seen.ran.blocks refl)) s files says needed
 
   -- ---- each cause against each status
 
   -- Where a search stops before its data are read, each status that comes later has a run that begins.
   module _ (calm : Quiet) (begins_not : Begins → ⊥) (wanted : ℕ)
-      (first : n ≡ 3 → (file : ℕ) (cause : HeaderCause) → RefusesFirstHeader w file cause → Answers n wanted)
+      (first : n ≡ 3 → (file : ℕ) (cause : HeaderCause) →
+      RefusesFirsts (Alone (mask_search words)) words seen.inputs.told file cause → Answers n wanted)
       (plan : n ≡ 4 → Answers n wanted) (own : n ≡ 12 → Answers n wanted) where
     before_data : Answers n wanted
     before_data = by_status (λ k. n ≡ k → Answers n wanted) n outcome.answered.known
@@ -159,14 +206,15 @@ module _ (words : List (List ℕ)) (is_calm : Type 0) (seen : SearchSeen)
         plan
         (λ e. inr e)
         (λ e. absurd (not_six calm e))
-        (λ e. absurd (begins_not (outcome.answered.run.stopped.gap e s files says are).3.begins))
-        (λ e. absurd (begins_not (outcome.answered.run.stopped.too_long e s files says are).begins))
+        (λ e. absurd (begins_not (at_gap e).3.begins))
+        (λ e. absurd (begins_not (at_limit e).begins))
         (λ e. absurd (begins_not (outcome.answered.too_many e s files says are).begins))
         (λ e. absurd (begins_not (searched_at (inr e)).begins))
         own
         refl
       where
-        by_header : ((file : ℕ) × (cause : HeaderCause) × RefusesFirstHeader w file cause)
+        by_header : ((file : ℕ) × (cause : HeaderCause)
+            × RefusesFirsts (Alone (mask_search words)) words seen.inputs.told file cause)
             ⊎ (IsSome seen.ran.blocks × (file : ℕ) × (cause : HeaderCause)
             × StopsWalk (Alone (mask_search words)) s w (Header file cause)) → n ≡ 3 → Answers n wanted
         by_header (inl r) e = first e r.0 r.1 r.2
@@ -179,19 +227,16 @@ module _ (words : List (List ℕ)) (is_calm : Type 0) (seen : SearchSeen)
   header calm file cause refuses = before_data calm
       (λ begins. not_refused.header w file cause begins.accepted refuses) 3 (λ e file cause again. inl e)
       (λ e. absurd (not_refused.header w file cause (at_plan e).1.accepted refuses))
-      (λ e. absurd (not_refused.header w file cause
-      ((outcome.answered.mask.refused e).1 s files says are).1.0 refuses))
+      (λ e. absurd (not_refused.header w file cause (at_mask e).1.0 refuses))
 
   -- 12 does not come where the mask is accepted
   no_mask : AcceptsFirst words w → n ≡ 12 → ⊥
-  no_mask accepts e =
-      let refused = (outcome.answered.mask.refused e).1 s files says are in
-      mask_not_refused masks words w accepts refused.0 refused.1
+  no_mask accepts e = let r = at_mask e in mask_not_refused masks words w accepts r.0 r.1
 
   plan : Quiet → AcceptsFirst words w → (cause : PlanCause) → RefusesSearch s.search w cause → Answers n 4
   plan calm accepts cause refuses = before_data calm
       (λ begins. not_refused.search s.search w cause (begins.searched refl) refuses) 4
-      (λ e file first again. absurd (not_refused.header w file first refuses.accepted again)) (λ e. inl e)
+      (λ e file first again. absurd (not_firsts refuses.accepted file first again)) (λ e. inl e)
       (λ e. absurd (no_mask accepts e))
 
   -- where it is refused
@@ -204,7 +249,7 @@ module _ (words : List (List ℕ)) (is_calm : Type 0) (seen : SearchSeen)
         (λ e. absurd (not_accepted (accepted_at 0 e refl)))
         (λ e. absurd (outcome.answered.run.judged.refused e s says))
         (λ e. absurd (no_header (at_header seen.ran.blocks refl e)))
-        (λ e. absurd (not_accepted (outcome.answered.mask.accepted (inl e) s files says are)))
+        (λ e. absurd (not_accepted (outcome.answered.mask.accepted (inl e) s files says needed)))
         (λ e. inr e)
         (λ e. absurd (not_six calm e))
         (λ e. absurd (not_accepted (accepted_at 7 e refl)))
@@ -214,11 +259,12 @@ module _ (words : List (List ℕ)) (is_calm : Type 0) (seen : SearchSeen)
         (λ e. inl e)
         refl
       where
-        no_header : ((file : ℕ) × (cause : HeaderCause) × RefusesFirstHeader w file cause)
+        no_header : ((file : ℕ) × (cause : HeaderCause)
+            × RefusesFirsts (Alone (mask_search words)) words seen.inputs.told file cause)
             ⊎ (IsSome seen.ran.blocks × (file : ℕ) × (cause : HeaderCause)
             × StopsWalk (Alone (mask_search words)) s w (Header file cause)) → ⊥
-        no_header (inl r) = not_refused.header w r.0 r.1 refuses.0 r.2
-        no_header (inr r) = not_accepted (outcome.answered.mask.accepted (inr r.0) s files says are)
+        no_header (inl r) = not_firsts refuses.0 r.0 r.1 r.2
+        no_header (inr r) = not_accepted (outcome.answered.mask.accepted (inr r.0) s files says needed)
 
   -- Where a run begins, nothing is refused before its data are read.
   module _ (calm : Quiet) (accepts : AcceptsFirst words w) (begins : Begins) (wanted : ℕ)
@@ -234,17 +280,18 @@ module _ (words : List (List ℕ)) (is_calm : Type 0) (seen : SearchSeen)
         (λ e. let r = at_plan e in absurd (not_refused.search s.search w r.0 (begins.searched refl) r.1))
         (λ e. inr e)
         (λ e. absurd (not_six calm e))
-        (λ e. let r = outcome.answered.run.stopped.gap e s files says are in stops (Gap r.0 r.1 r.2) e r.3.stops)
-        (λ e. stops (TooLong s.max_bytes) e (outcome.answered.run.stopped.too_long e s files says are).stops)
+        (λ e. let r = at_gap e in stops (Gap r.0 r.1 r.2) e r.3.stops)
+        (λ e. stops (TooLong s.max_bytes) e (at_limit e).stops)
         nine
         (λ e. searched (searched_at (inr e)))
         (λ e. absurd (no_mask accepts e))
         refl
       where
-        by_header : ((file : ℕ) × (cause : HeaderCause) × RefusesFirstHeader w file cause)
+        by_header : ((file : ℕ) × (cause : HeaderCause)
+            × RefusesFirsts (Alone (mask_search words)) words seen.inputs.told file cause)
             ⊎ (IsSome seen.ran.blocks × (file : ℕ) × (cause : HeaderCause)
             × StopsWalk (Alone (mask_search words)) s w (Header file cause)) → n ≡ 3 → Answers n wanted
-        by_header (inl r) e = absurd (not_refused.header w r.0 r.1 begins.accepted r.2)
+        by_header (inl r) e = absurd (not_firsts begins.accepted r.0 r.1 r.2)
         by_header (inr r) e = stops (Header r.1 r.2) e r.3.stops
 
         at_three : n ≡ 3 → Answers n wanted

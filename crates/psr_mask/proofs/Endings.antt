@@ -18,7 +18,7 @@ use Rattle.search_words.specs.declared.fault.WordFault.TheVariants as words_faul
 use Rattle.search_words.specs.Settings.{SettingsSeen}
 use Rattle.stream_model.specs.Walk as walk
 use Rattle.stream_model.specs.Walk.{FileStream, walk_stop}
-use Rattle.disk_feeder.specs.Plan.{AreTold}
+use Rattle.disk_feeder.specs.Plan.{AreTold, AreToldAt, IsFirstFile}
 use Rattle.run_stop.specs.declared.stop.Stop.{Stop}
 use Rattle.run_stop.specs.declared.stop.Stop.TheVariants.{Words, Value, Header, Plan, Recording, Memory, ReadFault, Gap, TooLong, TooMany, SinkFault, FileFault}
 use Rattle.run_stop.specs.Texts.{status_of}
@@ -34,11 +34,12 @@ use Rattle.lone_run.specs.Found.{IsFoundAlone, HasFoundAll}
 use Rattle.lone_run.specs.Stops.{StopsAlone, FailsReading}
 use Rattle.lone_run.specs.Outcomes.{RunsAlone, EndsAlone}
 use Rattle.lone_run.specs.EndLaws.{AloneBeforeSession, AloneAtOwnStop, AloneAtFeedStop, AloneAfterWhole, GoesThrough}
-use Rattle.psr_mask.specs.Masking.{ForMask, AcceptsFirst, AcceptsMask, RefusesMask, RefusesFiles, ScopesMask, mask_search, mask_word, masked_list, text_without}
+use Rattle.psr_mask.specs.Masking.{ForMask, AcceptsFirst, AcceptsMask, AcceptsMaskWord, RefusesMask, RefusesMaskWord, ScopesMask, mask_search, mask_word, masked_list, text_without}
 use Rattle.psr_mask.specs.Notes.{mask_status, end_status}
 use Rattle.psr_mask.specs.Outcome.{Answered, HasMasked, HasText, JudgesMask, Outcome, TellsMask, WritesMasked}
 use Rattle.psr_mask.specs.Ends.{Ends, EndsFed, EndsKept, HoldsKept, as_alone}
 use Rattle.psr_mask.specs.declared.refusal.MaskRefusal.{MaskRefusal}
+use Rattle.psr_mask.proofs.Causes.{needed_told}
 use Rattle.psr_mask.proofs.Statuses.{whole_is}
 
 no_ring : IsSome {T = Finished} None → ⊥
@@ -66,6 +67,15 @@ module _ (words : List (List ℕ)) where
       subst (λ (t : SettingsSeen). (files : List (List ℕ)) → AreTold told t.names files → P t (stream_for t files))
       (once (Alone (mask_search words)) words s0 s says0 says) holds files are
 
+  -- and that their mask is accepted
+  for_first : (told : Told) → WordsSayOnce → (s0 : SettingsSeen) → SayAlone (mask_search words) words s0 →
+      ((files : List (List ℕ)) → AreToldAt (IsFirstFile s0.starts (length s0.names)) told s0.names files →
+      AcceptsFirst words (stream_for s0 files)) → AcceptsMaskWord words told
+  for_first told once s0 says0 holds s files says are =
+      subst (λ (t : SettingsSeen). (files : List (List ℕ)) →
+      AreToldAt (IsFirstFile t.starts (length t.names)) told t.names files → AcceptsFirst words (stream_for t files))
+      (once (Alone (mask_search words)) words s0 s says0 says) holds files are
+
   none_written : (told : Told) (n : ℕ) (before after : SinkSeen) → n ≢ 0 → n ≢ 10 → after ≡ before →
       WritesMasked words told before after n
   none_written told n before after zeroth tenth same = record {
@@ -79,13 +89,14 @@ module _ (words : List (List ℕ)) where
 -- a plan that is refused, and no recording: a search alone makes none
 plan_is : (words : List (List ℕ)) (told : Told) (s : SettingsSeen) (files : List (List ℕ)) (stop : Stop) →
     StopsBefore (Alone (mask_search words)) words told stop → status_of stop ≡ 4 →
-    SayAlone (mask_search words) words s → AreTold told s.names files → IsOfPlan stop
+    SayAlone (mask_search words) words s → AreToldAt (IsFirstFile s.starts (length s.names)) told s.names files →
+    IsOfPlan stop
 plan_is words told s files Words b e says are = absurd (omega (arith, e))
 plan_is words told s files (Value opt) b e says are = absurd (omega (arith, e))
 plan_is words told s files (Header file cause) b e says are = absurd (omega (arith, e))
 plan_is words told s files (Plan cause) b e says are = (cause, refl)
 plan_is words told s files (Recording cause) b e says are =
-    let on = (b.says s files says are).records in
+    let on = (b.says.1 s files says are).records in
     let off = says.search.one.unrecorded in absurd cc
 plan_is words told s files Memory b e says are = absurd (omega (arith, e))
 plan_is words told s files ReadFault b e says are = absurd (omega (arith, e))
@@ -118,7 +129,7 @@ module _ (words : List (List ℕ)) (inputs : InputsSeen) (is_calm : Type 0) wher
 
   -- where the plan is refused, and once there is a data ring, the mask is accepted
   abbrev Accepts : Option Finished → ℕ → Type 0
-  Accepts blocks n = (n ≡ 4) ⊎ IsSome blocks → ForMask words inputs.told (λ s w. AcceptsFirst words w)
+  Accepts blocks n = (n ≡ 4) ⊎ IsSome blocks → AcceptsMaskWord words inputs.told
 
   at_short : (blocks : Option Finished) (stop : Stop) (before after : SinkSeen) →
       EndsAlone mask_status (mask_search words) words inputs is_calm blocks stop → Accepts blocks (status_of stop) →
@@ -165,7 +176,7 @@ module _ (words : List (List ℕ)) (inputs : InputsSeen) (is_calm : Type 0) wher
         at_short None stop out out (law mask_status (mask_search words) words s0 inputs stop says0 stops.0 read)
         accepted refl
       where
-        by_plan : status_of stop ≡ 4 → ForMask words inputs.told (λ s w. AcceptsFirst words w)
+        by_plan : status_of stop ≡ 4 → AcceptsMaskWord words inputs.told
         by_plan four s files says are =
             (stops.1 (plan_is words inputs.told s files stop stops.0 four says are) s files says are).1.accepted
 
@@ -174,7 +185,7 @@ module _ (words : List (List ℕ)) (inputs : InputsSeen) (is_calm : Type 0) wher
         accepted (inr some) = absurd (no_ring some)
 
     own_before : AloneAtOwnStop is_calm → (refusal : MaskRefusal) (out : SinkSeen) →
-        ForMask words inputs.told (λ s w. RefusesFiles words w refusal) → CountsFaults inputs is_calm s0.names ⊥ →
+        RefusesMaskWord words inputs.told refusal → CountsFaults inputs is_calm s0.names ⊥ →
         Ends words inputs is_calm out out (Some (Unscoped refusal)) None
     own_before law refusal out refused read = record {
       answered = record {
@@ -182,7 +193,7 @@ module _ (words : List (List ℕ)) (inputs : InputsSeen) (is_calm : Type 0) wher
         written = none_written words inputs.told 12 out out (λ e. omega (arith, e)) (λ e. omega (arith, e)) refl;
         run = law mask_status (mask_search words) words s0 inputs (lit< tt) says0 read;
         mask = record {
-          refused = λ e. (refl, λ s files says are. (refusal, refused s files says are));
+          refused = λ e. (refl, refusal, refused);
           accepted = not_accepted;
         };
         too_many = λ e. absurd (omega (arith, e));
@@ -211,8 +222,8 @@ module _ (words : List (List ℕ)) (inputs : InputsSeen) (is_calm : Type 0) wher
     abbrev text : List ℕ
     text = mask_word words
 
-    accepts : ForMask words inputs.told (λ s w. AcceptsFirst words w)
-    accepts = for_settings words inputs.told once s0 through.says (λ s w. AcceptsFirst words w) (λ files are.
+    accepts : AcceptsMaskWord words inputs.told
+    accepts = for_first words inputs.told once s0 through.says (λ files are.
         subst (AcceptsMask text) (sym (is.first files are)) is.scoped.accepted)
 
     stopped : AloneAtFeedStop is_calm → (stop : Stop) (before after : SinkSeen) → stop_of_feed found.feed ≡ Some stop →
@@ -244,13 +255,13 @@ module _ (words : List (List ℕ)) (inputs : InputsSeen) (is_calm : Type 0) wher
       list_is : (files : List (List ℕ)) → AreTold inputs.told s0.names files →
           list ≡ masked_list words s0 (stream_for s0 files)
       list_is files are =
-          ap (λ (o : Observation). list_of o all.bytes) (sym (is.first files are))
+          ap (λ (o : Observation). list_of o all.bytes) (sym (is.first files (needed_told _ _ _ are)))
           ∙ ap (list_of (first_observation (stream_for s0 files) 0)) (all.known files are)
 
       lines_are : (files : List (List ℕ)) → AreTold inputs.told s0.names files →
           lines ≡ text_without words s0 (stream_for s0 files)
       lines_are files are =
-          ap (λ (o : Observation). text_of o all.bytes) (sym (is.first files are))
+          ap (λ (o : Observation). text_of o all.bytes) (sym (is.first files (needed_told _ _ _ are)))
           ∙ ap (text_of (first_observation (stream_for s0 files) 0)) (all.known files are)
 
       late : (n : ℕ) → Contains late_statuses n →
@@ -319,7 +330,7 @@ module _ (words : List (List ℕ)) (inputs : InputsSeen) (is_calm : Type 0) wher
               mask = judges 10 (λ e. omega (arith, e));
               too_many = λ e. absurd (omega (arith, e));
             };
-            said = (tt, λ s files says are. tt);
+            said = (tt, tt);
           }
 
       crowded : (before after : SinkSeen) (n limit : ℕ) → length list ≡ n → limit ≡ s0.search.max_candidates →

@@ -17,7 +17,7 @@ use Rattle.run_stop.specs.Ends.{IsSaid}
 use Rattle.run_stop.specs.Runs.{Alone}
 use Rattle.lone_run.specs.declared.stop.LoneStop.{LoneStop}
 use Rattle.lone_run.specs.declared.stop.LoneStop.TheVariants.{Run, Unscoped}
-use Rattle.psr_mask.specs.Masking.{ForMask, RefusesFiles, mask_search}
+use Rattle.psr_mask.specs.Masking.{RefusesMaskWord, mask_search}
 use Rattle.psr_mask.specs.Notes.{end_status}
 use Rattle.psr_mask.specs.Outcome.{Answered}
 use Rattle.psr_mask.specs.declared.refusal.MaskRefusal.{MaskRefusal}
@@ -65,8 +65,7 @@ as_alone (Some stop) = Some (Run stop)
 abbrev pub IsSaidOf : List (List ℕ) → Told → Option (LoneStop MaskRefusal) → Type 0
 IsSaidOf words told None = ⊤
 IsSaidOf words told (Some (Run stop)) = IsSaid (Alone (mask_search words)) words told (Some stop)
-IsSaidOf words told (Some (Unscoped refusal)) =
-    ForMask words told (λ s w. RefusesFiles words w refusal)
+IsSaidOf words told (Some (Unscoped refusal)) = RefusesMaskWord words told refusal
 
 -- all that the outcome says but for the notes
 pub record Ends (words : List (List ℕ)) (inputs : InputsSeen) (is_calm : Type 0)

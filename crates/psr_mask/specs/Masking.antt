@@ -15,7 +15,7 @@ use Rattle.channel_mask.specs.Masked.{IsScopeOf}
 use Rattle.channel_mask.specs.declared.fault.MaskFault.{MaskFault}
 use Rattle.channel_mask.specs.declared.fault.MaskFault.TheVariants as fault
 use Rattle.run_stop.specs.Lone.{LoneSearch}
-use Rattle.run_stop.specs.Runs.{Alone, ForFiles, first_observation}
+use Rattle.run_stop.specs.Runs.{Alone, ForFiles, ForFirsts, JudgesFirsts, first_observation}
 use Rattle.lone_run.specs.Stops.{RefusesFirst}
 use Rattle.psr_mask.specs.declared.refusal.MaskRefusal.{MaskRefusal}
 use Rattle.psr_mask.specs.declared.refusal.MaskRefusal.TheVariants.{BadMask, OutOfRange, AllMasked}
@@ -82,3 +82,13 @@ mask_search words = record {
 -- P holds of the settings that the words say and of the files that they name, where all of these are told
 abbrev pub ForMask : List (List ℕ) → Told → (SettingsSeen → FileStream → Type 0) → Type 0
 ForMask words = ForFiles (Alone (mask_search words)) words
+
+-- by the first file alone, whatever comes after it: the mask text of the words is a mask of the observation of its
+-- header; or the header is accepted, and the text is no mask of it
+abbrev pub AcceptsMaskWord : List (List ℕ) → Told → Type 0
+AcceptsMaskWord words told =
+    ForFirsts (Alone (mask_search words)) words told (λ s w. AcceptsFirst words w)
+
+abbrev pub RefusesMaskWord : List (List ℕ) → Told → MaskRefusal → Type 0
+RefusesMaskWord words told refusal =
+    JudgesFirsts (Alone (mask_search words)) words told (λ s w. RefusesFiles words w refusal)

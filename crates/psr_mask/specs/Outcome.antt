@@ -8,12 +8,12 @@ use Rattle.ring_ends.specs.declared.finished.Finished.{Finished}
 use Rattle.search_words.specs.Settings.{SettingsSeen}
 use Rattle.stream_model.specs.Walk.{FileStream}
 use Rattle.disk_feeder.specs.Plan.{AreTold}
-use Rattle.search_session.specs.declared.ended.Ran.{Ran}
+use Rattle.run_stop.specs.declared.ran.Ran.{Ran}
 use Rattle.run_stop.specs.Lone.{SayAlone}
 use Rattle.run_stop.specs.Outcomes.{NotesStop}
 use Rattle.run_stop.specs.Runs.{Alone, FindsAlone, stream_for}
 use Rattle.lone_run.specs.Outcomes.{RunsAlone}
-use Rattle.psr_mask.specs.Masking.{ForMask, AcceptsFirst, RefusesFiles, mask_search, text_without}
+use Rattle.psr_mask.specs.Masking.{ForMask, AcceptsFirst, AcceptsMaskWord, RefusesMaskWord, mask_search, text_without}
 use Rattle.psr_mask.specs.Notes.{mask_status, mask_note}
 use Rattle.psr_mask.specs.declared.refusal.MaskRefusal.{MaskRefusal}
 
@@ -45,13 +45,12 @@ pub record WritesMasked
 -- ---- the mask
 
 -- 12 only where the first header is accepted and the mask text of the words is no mask of its observation; where the
--- plan is refused, and once there is a data ring, it is one
+-- plan is refused, and once there is a data ring, it is one. Each is so by the first file, whatever comes after it.
 pub record JudgesMask (words : List (List ℕ)) (told : Told) (blocks : Option Finished)
     (status : ℕ) : Type 0 where
   pub refused : status ≡ mask_status → (blocks ≡ None)
-      × ForMask words told (λ s w. (refusal : MaskRefusal) × RefusesFiles words w refusal)
-  pub accepted : (status ≡ 4) ⊎ IsSome blocks →
-      ForMask words told (λ s w. AcceptsFirst words w)
+      × (refusal : MaskRefusal) × RefusesMaskWord words told refusal
+  pub accepted : (status ≡ 4) ⊎ IsSome blocks → AcceptsMaskWord words told
 
 -- ---- the notes
 
@@ -60,8 +59,7 @@ pub record TellsMask (words : List (List ℕ)) (told : Told) (before after : Sin
     (status : ℕ) : Type 0 where
   pub silent : status ≡ 0 → after ≡ before
   pub refused : status ≡ mask_status → (refusal : MaskRefusal)
-      × ForMask words told (λ s w. RefusesFiles words w refusal)
-      × Noted (mask_note refusal) before after
+      × RefusesMaskWord words told refusal × Noted (mask_note refusal) before after
   pub noted : status ≢ 0 → status ≢ mask_status →
       NotesStop (Alone (mask_search words)) words told before after status
 

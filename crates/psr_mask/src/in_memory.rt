@@ -8,7 +8,7 @@ ghost use Rattle.psr_mask.specs.Outcome.{Outcome};
 
 use crate::top::run_mask;
 use psr_base::{MemInputs, MemSink};
-use search_session::Ran;
+use run_stop::Ran;
 use std::alloc::Global;
 use std::sync::Wait;
 
@@ -34,7 +34,8 @@ pub fn run_mask_in_memory<R: Wait>(
         (map string_bytes words.now) (told_of inputs.old) (told_of inputs.new) }
     ensures broken { result.status ≡ 6
         → LeavesAtFault (Alone (mask_search (map string_bytes words.now)))
-        (map string_bytes words.now) (told_of inputs.old) (told_of inputs.new) result.blocks }
+        (map string_bytes words.now) ((calls_of inputs.old).fail ≡ []) (told_of inputs.old)
+        (told_of inputs.new) result.blocks }
 {
     run_mask(rt, alloc, words, inputs, out, notes)
 }

@@ -13,8 +13,7 @@ use crate::writing::write_end;
 use lone_run::{LoneFound, LoneStop, drive_alone};
 use psr_base::{Inputs, Sink};
 use ring_ends::Finished;
-use run_stop::Stop;
-use search_session::Ran;
+use run_stop::{Ran, Stop};
 use std::alloc::Global;
 use std::sync::Wait;
 // Laws: they do nothing when they run, and the proofs use what they ensure.
@@ -67,7 +66,8 @@ pub fn run_mask<R: Wait, I: Inputs, K: Sink, E: Sink>(
         (map string_bytes words.now) (I.told inputs.old) (I.told inputs.new) }
     ensures broken { result.status ≡ 6
         → LeavesAtFault (Alone (mask_search (map string_bytes words.now)))
-        (map string_bytes words.now) (I.told inputs.old) (I.told inputs.new) result.blocks }
+        (map string_bytes words.now) (I.is_calm inputs.old) (I.told inputs.old)
+        (I.told inputs.new) result.blocks }
 {
     let Ended { stop, blocks } = search(rt, alloc, words, inputs, out);
     let status = tell_mask(stop, notes);
@@ -94,7 +94,8 @@ fn search<R: Wait, I: Inputs, K: Sink>(
         (map string_bytes words.now) (I.told inputs.old) (I.told inputs.new) }
     ensures broken { result.stop ≡ Some (LoneStop.Run Stop.ReadFault)
         → LeavesAtFault (Alone (mask_search (map string_bytes words.now)))
-        (map string_bytes words.now) (I.told inputs.old) (I.told inputs.new) result.blocks }
+        (map string_bytes words.now) (I.is_calm inputs.old) (I.told inputs.old)
+        (I.told inputs.new) result.blocks }
 {
     alone_at_words::<I>();
     words_say_once();

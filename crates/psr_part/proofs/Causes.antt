@@ -1,6 +1,6 @@
 -- From what stands against the search of a part to its status: at no other status it could stand there.
 use Rattle.std.proofs.Common.{◌≡◌, ◌<◌, ◌≤◌, ◌⊎◌, ℕ, zero, suc, List, [], ◌∷◌, Bool, inl, inr, true, false, sym, ◌∙◌, ap, subst, refl, Some, None, Contains, lit<, arith}
-use Rattle.std.specs.Prelude.{Option, IsSome, length, if◌then◌else◌}
+use Rattle.std.specs.Prelude.{Option, IsSome, length, slice_index_or, if◌then◌else◌}
 use Rattle.std.specs.Str.{bytes_eq}
 use Rattle.psr_base.specs.Count.{Rose}
 use Rattle.psr_base.specs.Told.{Told}
@@ -8,10 +8,13 @@ use Rattle.search_model.specs.Parts.{check_line}
 use Rattle.ring_ends.specs.declared.finished.Finished.{Finished}
 use Rattle.search_words.specs.Settings.{SettingsSeen}
 use Rattle.stream_model.specs.Walk as walk
-use Rattle.stream_model.specs.Walk.{FileStream, WalkStop, walk_stop}
-use Rattle.disk_feeder.specs.Plan.{AreTold}
+use Rattle.stream_model.specs.Walk.{FileStream, WalkStop, begin_of, walk_stop}
+use Rattle.stream_model.specs.WalkLaws.{AreWalked}
+use Rattle.disk_feeder.specs.History.{file_name}
+use Rattle.disk_feeder.specs.Plan.{AreTold, AreToldAt}
 use Rattle.disk_feeder.specs.Filling.{HoldsAll}
 use Rattle.disk_feeder.specs.declared.answers.HeaderCause.{HeaderCause}
+use Rattle.disk_feeder.specs.declared.answers.HeaderCause.TheVariants.{Text, Fields}
 use Rattle.warm_restart.specs.declared.checkpoint.Checkpoint.{Checkpoint}
 use Rattle.warm_restart.specs.Checkpoint.{IsCheckpointText, IsNoCheckpointText}
 use Rattle.warm_restart.specs.Laws.{TextsSayOne}
@@ -22,7 +25,8 @@ use Rattle.run_stop.specs.declared.stop.Stop.{Stop}
 use Rattle.run_stop.specs.declared.stop.Stop.TheVariants.{Header, Gap, TooLong}
 use Rattle.run_stop.specs.Texts.{status_of}
 use Rattle.run_stop.specs.Lone.{SayAlone}
-use Rattle.run_stop.specs.Runs.{is_search, stream_for, stop_of_walk, CanBegin, RefusesFirstHeader, RefusesSearch, RefusesToRecord, StopsWalk, FindsAlone}
+use Rattle.run_stop.specs.Firsts.{first_file}
+use Rattle.run_stop.specs.Runs.{stream_for, stop_of_walk, CanBegin, RefusesFirstHeader, RefusesSearch, RefusesFirsts, RefusesSearches, RefusesRecordings, StopsWalk, FindsAlone}
 use Rattle.run_stop.specs.Outcomes.{ReadsInputs}
 use Rattle.run_stop.specs.Ends.{AcceptedGoesOn, AcceptedIsNotRefused}
 use Rattle.psr_part.specs.declared.stop.CheckpointRefusal.{CheckpointRefusal}
@@ -31,7 +35,7 @@ use Rattle.psr_part.specs.Texts.{statuses}
 use Rattle.psr_part.specs.Part.{until_in, check_word, check_names, check_text_of, GoesOnFrom, spectra_in, text_in_part, part_search, searching}
 use Rattle.psr_part.specs.Outcome.{IsSearched, IsCrowded, IsRefused}
 use Rattle.psr_part.specs.Causes.{PartSeen, IsOutcome, IsQuiet, Answers, EachIsAnswered, CausesAreAnswered, AcceptedIsSearched, ToldRoomIsEnough}
-use Rattle.psr_part.proofs.Moved.{says_any}
+use Rattle.psr_part.proofs.Moved.{says_any, needed_told}
 
 -- the bytes of all names are told
 holds_all : (told : Told) (names files : List (List ℕ)) → AreTold told names files → HoldsAll told names
@@ -105,6 +109,10 @@ module _ (words : List (List ℕ)) (is_calm : Type 0) (seen : PartSeen) (o : IsO
 
   says : SayAlone (part_search words o.from) words s
   says = says_any words any o.from s says_any_one
+
+  -- those that a status needs are told, as all are
+  needed : {Needed : ℕ → Type 0} → AreToldAt Needed seen.inputs.told s.names files
+  needed = needed_told seen.inputs.told s.names files are
 
   not_six : IsQuiet is_calm seen → n ≡ 6 → ⊥
   not_six (inl is) e =
@@ -187,20 +195,31 @@ module _ (words : List (List ℕ)) (is_calm : Type 0) (seen : PartSeen) (o : IsO
 
     -- it stopped at a header: at a first one, or where the walk stops
     at_header : (blocks : Option Finished) → seen.ran.blocks ≡ blocks → n ≡ 3 →
-        ((file : ℕ) × (cause : HeaderCause) × RefusesFirstHeader w file cause)
+        ((file : ℕ) × (cause : HeaderCause) × RefusesFirsts (searching words o.from) words seen.inputs.told file cause)
         ⊎ ((file : ℕ) × (cause : HeaderCause) × StopsWalk (searching words o.from) s w (Header file cause))
-    at_header None is e = inl (o.run.stopped.first_header e is s files says are)
-    at_header (Some b) is e = inr (o.run.stopped.later_header e (subst IsSome (sym is) refl) s files says are)
+    at_header None is e = inl (o.run.stopped.first_header e is)
+    at_header (Some b) is e =
+        let r = o.run.stopped.later_header e (subst IsSome (sym is) refl) in inr (r.1.says s files says needed).0
 
     -- the search was refused
     at_plan : n ≡ 4 → (cause : PlanCause) × RefusesSearch s.search w cause
-    at_plan e = by_cause (o.run.stopped.plan e s files says are)
+    at_plan e = by_cause (o.run.stopped.plan e)
       where
-        by_cause : ((cause : PlanCause) × (is_search (searching words o.from) ≡ true) × RefusesSearch s.search w cause)
-            ⊎ ((cause : RecordingCause) × RefusesToRecord (searching words o.from) s w cause) →
+        by_cause : ((cause : PlanCause) × RefusesSearches (searching words o.from) words seen.inputs.told cause)
+            ⊎ ((cause : RecordingCause) × RefusesRecordings (searching words o.from) words seen.inputs.told cause) →
             (cause : PlanCause) × RefusesSearch s.search w cause
-        by_cause (inl r) = (r.0, r.2)
-        by_cause (inr r) = let off = says.search.one.unrecorded in let on = r.1.records in absurd cc
+        by_cause (inl r) = (r.0, r.1.1.1 s files says needed)
+        by_cause (inr r) =
+            let off = says.search.one.unrecorded in
+            let on = (r.1.1 s files says needed).records in absurd cc
+
+    -- the walk stopped at a gap, or at the limit
+    at_gap : n ≡ 7 → (file : ℕ) × (expected : ℕ) × (found : ℕ)
+        × StopsWalk (searching words o.from) s w (Gap file expected found)
+    at_gap e = ((o.run.stopped.gap e).1.says s files says needed).0
+
+    at_limit : n ≡ 8 → StopsWalk (searching words o.from) s w (TooLong s.max_bytes)
+    at_limit e = ((o.run.stopped.too_long e).1.says s files says needed).0
 
     -- ---- what is accepted
 
@@ -237,9 +256,33 @@ module _ (words : List (List ℕ)) (is_calm : Type 0) (seen : PartSeen) (o : IsO
     -- ---- each cause against each status
 
     module _ (not_refused : AcceptedIsNotRefused) (quiet : IsQuiet is_calm seen) where
+      -- first headers that are accepted are not refused
+      not_firsts : AreWalked w → (file : ℕ) (cause : HeaderCause) →
+          RefusesFirsts (searching words o.from) words seen.inputs.told file cause → ⊥
+      not_firsts walked file (Fields fault) r = not_refused.header w file (Fields fault) walked (r.1 s files says needed)
+      not_firsts walked file (Text fault) r =
+          let t = r s says in
+          let there = t.there in
+          let at : file ≡ begin_of w t.transfer = t.is ∙ ap (slice_index_or s.starts t.transfer) (sym are.count) in
+          let bytes = first_file w t.transfer in
+          let told : seen.inputs.told.bytes_under (file_name s.names file) ≡ Some bytes =
+          subst (λ k. seen.inputs.told.bytes_under (file_name s.names k) ≡ Some bytes) (sym at)
+          (are.each (begin_of w t.transfer)
+          (subst (λ n. begin_of w t.transfer < n) are.count (walked.starts.within t.transfer there))) in
+          not_refused.header w file (Text fault) walked (record {
+            transfer = t.transfer;
+            there = there;
+            is = at;
+            cause = t.refused bytes told;
+            earlier = λ k less.
+                let a = walked.accepted k (omega (arith, less, there)) in
+                (a.header, a.is_header);
+          })
+
       -- Where a search stops before its data are read, each status that comes later has a run that begins.
       module _ (begins_not : CanBegin (searching words from) s w → ⊥) (wanted : ℕ)
-          (first : n ≡ 3 → (file : ℕ) (cause : HeaderCause) → RefusesFirstHeader w file cause → Answers n wanted)
+          (first : n ≡ 3 → (file : ℕ) (cause : HeaderCause) →
+          RefusesFirsts (searching words o.from) words seen.inputs.told file cause → Answers n wanted)
           (plan : n ≡ 4 → Answers n wanted) where
         before_data : Answers n wanted
         before_data = by_status (λ k. n ≡ k → Answers n wanted) n o.known
@@ -249,14 +292,15 @@ module _ (words : List (List ℕ)) (is_calm : Type 0) (seen : PartSeen) (o : IsO
             plan
             (λ e. inr e)
             (λ e. absurd (not_six quiet e))
-            (λ e. absurd (begins_not (begins (o.run.stopped.gap e s files says are).3.begins)))
-            (λ e. absurd (begins_not (begins (o.run.stopped.too_long e s files says are).begins)))
+            (λ e. absurd (begins_not (begins (at_gap e).3.begins)))
+            (λ e. absurd (begins_not (begins (at_limit e).begins)))
             (λ e. absurd (begins_not (crowded_at e).finds.begins))
             (λ e. absurd (begins_not (searched_at (inr e)).finds.begins))
             (λ e. absurd (begins_not (behind_at e).begins))
             refl
           where
-            by_header : ((file : ℕ) × (cause : HeaderCause) × RefusesFirstHeader w file cause)
+            by_header : ((file : ℕ) × (cause : HeaderCause)
+                × RefusesFirsts (searching words o.from) words seen.inputs.told file cause)
                 ⊎ ((file : ℕ) × (cause : HeaderCause) × StopsWalk (searching words o.from) s w (Header file cause)) →
                 n ≡ 3 → Answers n wanted
             by_header (inl r) e = first e r.0 r.1 r.2
@@ -269,7 +313,7 @@ module _ (words : List (List ℕ)) (is_calm : Type 0) (seen : PartSeen) (o : IsO
 
       plan : (cause : PlanCause) → RefusesSearch s.search w cause → Answers n 4
       plan cause refuses = before_data (λ b. not_refused.search s.search w cause (b.searched refl) refuses) 4
-          (λ e file first again. absurd (not_refused.header w file first refuses.accepted again)) (λ e. inl e)
+          (λ e file first again. absurd (not_firsts refuses.accepted file first again)) (λ e. inl e)
 
       -- Where a run begins, nothing is refused before its data are read.
       module _ (starts : CanBegin (searching words from) s w) (wanted : ℕ)
@@ -285,17 +329,18 @@ module _ (words : List (List ℕ)) (is_calm : Type 0) (seen : PartSeen) (o : IsO
             (λ e. let r = at_plan e in absurd (not_refused.search s.search w r.0 (starts.searched refl) r.1))
             (λ e. inr e)
             (λ e. absurd (not_six quiet e))
-            (λ e. let r = o.run.stopped.gap e s files says are in stops (Gap r.0 r.1 r.2) e r.3.stops)
-            (λ e. stops (TooLong s.max_bytes) e (o.run.stopped.too_long e s files says are).stops)
+            (λ e. let r = at_gap e in stops (Gap r.0 r.1 r.2) e r.3.stops)
+            (λ e. stops (TooLong s.max_bytes) e (at_limit e).stops)
             nine
             (λ e. searched (searched_at (inr e)))
             thirteen
             refl
           where
-            by_header : ((file : ℕ) × (cause : HeaderCause) × RefusesFirstHeader w file cause)
+            by_header : ((file : ℕ) × (cause : HeaderCause)
+                × RefusesFirsts (searching words o.from) words seen.inputs.told file cause)
                 ⊎ ((file : ℕ) × (cause : HeaderCause) × StopsWalk (searching words o.from) s w (Header file cause)) →
                 n ≡ 3 → Answers n wanted
-            by_header (inl r) e = absurd (not_refused.header w r.0 r.1 starts.accepted r.2)
+            by_header (inl r) e = absurd (not_firsts starts.accepted r.0 r.1 r.2)
             by_header (inr r) e = stops (Header r.0 r.1) e r.2.stops
 
       walk_stops : (stop : Stop) → StopsWalk (searching words from) s w stop → Answers n (status_of stop)

@@ -195,7 +195,7 @@ module _ (words : List (List ℕ)) (inputs : InputsSeen) (is_calm : Type 0) wher
       subst (λ (x : PartStop). Ends words inputs is_calm out out (Some x) None) (sym is)
       (at_stop no_checkpoint None ReadFault out out
       (before 13 lone words s inputs ReadFault (says no_checkpoint)
-      (record { kind = tt; says = λ t files said are. tt }) (failed refl))
+      (record { kind = tt; says = tt }) (failed refl))
       (λ later. absurd ((later_apart 6 later).2 refl)) refl)
   at_checkpoint before own s until same says check.Form failed quiet judged late stop is out =
       let lone = part_search words no_checkpoint in
@@ -294,7 +294,7 @@ module _ (words : List (List ℕ)) (inputs : InputsSeen) (is_calm : Type 0) wher
             };
             run = (late 10 late_one).0;
             too_many = λ e. absurd (omega (arith, e));
-            said = (tt, λ s files says are. tt);
+            said = (tt, tt);
           }
 
       crowded : (before after : SinkSeen) (count limit : ℕ) → from.place ≤ spectra_of o bytes →

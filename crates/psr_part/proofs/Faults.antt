@@ -1,11 +1,13 @@
 -- What a fault of the inputs leaves.
-use Rattle.std.proofs.Common.{◌≡◌, ◌≢◌, ℕ, List, Some, None, Err, inl, refl, sym, ap, ◌∙◌, subst, arith}
-use Rattle.std.specs.Prelude.{Option, IfSome, Result}
+use Rattle.std.proofs.Common.{◌≡◌, ◌≢◌, ℕ, List, Bool, true, false, Some, None, Err, inl, refl, sym, ap, ◌∙◌, subst, arith}
+use Rattle.std.specs.Prelude.{Option, IfSome, IsSome, Result, if◌then◌else◌}
+use Rattle.std.specs.Str.{bytes_eq}
 use Rattle.dada_model.specs.Observation.{Observation}
-use Rattle.psr_base.specs.Told.{Told, OfFile}
+use Rattle.psr_base.specs.Told.{Told, OfFile, BreaksOff}
 use Rattle.psr_base.specs.Written.{SinkSeen}
 use Rattle.ring_ends.specs.declared.finished.Finished.{Finished}
 use Rattle.search_model.specs.declared.search.Search.{Search}
+use Rattle.search_model.specs.Parts.{check_line}
 use Rattle.search_words.specs.declared.fault.WordFault.{WordFault}
 use Rattle.search_words.specs.declared.fault.WordFault.TheVariants as word
 use Rattle.disk_feeder.specs.declared.answers.FeedEnd.{FeedEnd}
@@ -13,7 +15,7 @@ use Rattle.disk_feeder.specs.declared.answers.FeedEnd.TheVariants as feed
 use Rattle.warm_restart.specs.declared.checkpoint.Checkpoint.{Checkpoint}
 use Rattle.warm_restart.specs.declared.checkpoint.CheckpointFault.{CheckpointFault}
 use Rattle.warm_restart.specs.declared.checkpoint.CheckpointFault.TheVariants as check
-use Rattle.warm_restart.specs.Named.{most_read, new_word, BreaksOffWithin}
+use Rattle.warm_restart.specs.Named.{most_read, named_text, new_word}
 use Rattle.run_stop.specs.declared.stop.Stop.{Stop}
 use Rattle.run_stop.specs.declared.stop.Stop.TheVariants.{Words, Value, Header, Plan, Recording, Memory, ReadFault, Gap, TooLong, TooMany, SinkFault, FileFault}
 use Rattle.run_stop.specs.Texts.{status_of}
@@ -51,14 +53,30 @@ failed_is (check.Place place until) stop of same = absurd cc
 abbrev pub as_result : CheckpointFault → Result Checkpoint CheckpointFault
 as_result f = Err f
 
-pub at_check : (words : List (List ℕ)) (word : List ℕ) (old new : Told) (f : CheckpointFault) (stop : PartStop) →
-    word ≡ check_word words → (word ≡ new_word → as_result f ≢ Err check.Failed) →
-    (as_result f ≡ Err check.Failed → OfFile old word (λ _. BreaksOffWithin most_read word old new)) →
-    stop ≡ stop_of_checkpoint f → Some stop ≡ Some (Run ReadFault) → LeavesAtFault words old new None
-at_check words word old new f stop is not_new broke of same =
+-- a file that is told tells the text that its name stands for
+named_there : (is_new : Bool) (word : List ℕ) (told : Told) → IsSome (told.bytes_under word) →
+    IsSome (if is_new then Some (check_line 0 0) else told.bytes_under word)
+named_there true word told there = refl
+named_there false word told there = there
+
+pub at_check : (words : List (List ℕ)) (is_calm : Type 0) (word : List ℕ) (old new : Told) (f : CheckpointFault)
+    (stop : PartStop) → word ≡ check_word words → (word ≡ new_word → as_result f ≢ Err check.Failed) →
+    (as_result f ≡ Err check.Failed → OfFile old word (λ _. BreaksOff most_read word old new)) →
+    (is_calm → IsSome (named_text old word) → as_result f ≢ Err check.Failed) →
+    stop ≡ stop_of_checkpoint f → Some stop ≡ Some (Run ReadFault) → LeavesAtFault words is_calm old new None
+at_check words is_calm word old new f stop is not_new broke serves of same =
     let failed : as_result f ≡ Err check.Failed = ap as_result (failed_is f stop of same) in
-    let At : List ℕ → Type 0 = λ x. OfFile old x (λ _. BreaksOffWithin most_read x old new) in
-    inl (refl, record { other = λ e. not_new (is ∙ e) failed; broke = subst At is (broke failed) })
+    let At : List ℕ → Type 0 = λ x. OfFile old x (λ _. BreaksOff most_read x old new) in
+    inl (
+      refl,
+      record {
+        other = λ e. not_new (is ∙ e) failed;
+        broke = subst At is (broke failed);
+        missing = λ calm there.
+            let told = subst (λ (x : List ℕ). IsSome (old.bytes_under x)) (sym is) there in
+            serves calm (named_there (bytes_eq word new_word) word old told) failed;
+      },
+    )
 
 -- 6 is a fault of the inputs alone
 six_of : (stop : Stop) → status_of stop ≡ 6 → stop ≡ ReadFault
@@ -105,6 +123,7 @@ fed_fault (feed.Gap file expected found) stop o s from until before after stoppe
 fed_fault (feed.TooLong limit) stop o s from until before after stopped ended is = let e = stopped.0 in absurd cc
 
 -- it stands on what went through the data ring
-pub with_them : (words : List (List ℕ)) (old new : Told) (blocks all : Option Finished) → all ≡ blocks →
-    LeavesAtFault words old new blocks → LeavesAtFault words old new all
-with_them words old new blocks all is = subst (λ (x : Option Finished). LeavesAtFault words old new x) (sym is)
+pub with_them : (words : List (List ℕ)) (is_calm : Type 0) (old new : Told) (blocks all : Option Finished) →
+    all ≡ blocks → LeavesAtFault words is_calm old new blocks → LeavesAtFault words is_calm old new all
+with_them words is_calm old new blocks all is =
+    subst (λ (x : Option Finished). LeavesAtFault words is_calm old new x) (sym is)

@@ -1,27 +1,32 @@
 -- What is said of files that are told, once CHECK was read.
-use Rattle.std.proofs.Common.{◌≡◌, ℕ, List, [], ◌∷◌, Bool, true, false, Option, Some, refl, sym, ap, ◌∙◌, subst, arith, lit<}
+use Rattle.std.proofs.Common.{◌≡◌, ℕ, ◌+◌, List, [], ◌∷◌, length, Bool, true, false, Option, Some, None, refl, sym, ap, ◌∙◌, subst, arith, lit<}
 use Rattle.std.specs.Prelude.{IsSome, slice_index_or, if◌then◌else◌}
 use Rattle.std.specs.Str.{bytes_eq}
 use Rattle.psr_base.specs.Count.{Rose}
 use Rattle.psr_base.specs.Inputs.{HasReadFrom}
-use Rattle.psr_base.specs.Told.{Told}
+use Rattle.psr_base.specs.Told.{Told, OfFile}
 use Rattle.search_model.specs.Parts.{check_line}
 use Rattle.search_words.specs.Settings.{SettingsSeen}
-use Rattle.stream_model.specs.Walk.{FileStream}
+use Rattle.stream_model.specs.Walk.{FileStream, stop_at}
 use Rattle.ring_ends.specs.declared.finished.Finished.{Finished}
 use Rattle.ring_ends.specs.Ended.{sealed_at_end}
 use Rattle.disk_feeder.specs.declared.answers.FeedEnd.{FeedEnd}
-use Rattle.disk_feeder.specs.Feeding.{EndIs}
+use Rattle.disk_feeder.specs.Feeding.{EndIs, StopsWalkAt}
 use Rattle.disk_feeder.specs.Filling.{HoldsAll}
-use Rattle.disk_feeder.specs.Plan.{AreTold}
+use Rattle.disk_feeder.specs.History.{file_name}
+use Rattle.disk_feeder.specs.Plan.{AreTold, AreToldAt, IsFirstFile, IsAmong}
+use Rattle.disk_feeder.specs.Reading.{judged_at}
+use Rattle.disk_feeder.specs.declared.answers.HeaderCause.TheVariants.{Text, Fields}
 use Rattle.warm_restart.specs.declared.checkpoint.Checkpoint.{Checkpoint}
 use Rattle.warm_restart.specs.Named.{new_word}
 use Rattle.run_stop.specs.declared.stop.Stop.{Stop}
-use Rattle.run_stop.specs.declared.stop.Stop.TheVariants.{ReadFault}
+use Rattle.run_stop.specs.declared.stop.Stop.TheVariants.{Words, Value, Header, Plan, Recording, Memory, ReadFault, Gap, TooLong, TooMany, SinkFault, FileFault}
 use Rattle.run_stop.specs.Lone.{SayAlone}
-use Rattle.run_stop.specs.Runs.{Task, ForFiles, CanBegin}
+use Rattle.run_stop.specs.Firsts.{first_name, RefusesFirstFields}
+use Rattle.run_stop.specs.Runs.{Task, ForFilesAt, ForFirsts, ForFilesTo, JudgesFirsts, CanBegin, RefusesSearch, RefusesToRecord}
+use Rattle.run_stop.specs.Outcomes.{LeavesAtFault}
 use Rattle.run_stop.specs.Ends.{CountsFaults, StopsBefore, SaysBefore, IsRunFed}
-use Rattle.whole_run.specs.Wholes.{OfRun}
+use Rattle.whole_run.specs.Wholes.{OfRun, OfRunAt, OfRunFirsts}
 use Rattle.psr_part.specs.Part.{check_word, check_names, check_text_of, part_search}
 
 -- the words say the same settings whatever the checkpoint is
@@ -38,27 +43,110 @@ still_told old new names files same are = record {
       ap (λ (under : List ℕ → Option (List ℕ)). under (slice_index_or names k [])) same ∙ are.each k below;
 }
 
-for_files : (task : Task) (words : List (List ℕ)) (old new : Told) (P : SettingsSeen → FileStream → Type 0) →
-    new.bytes_under ≡ old.bytes_under → ForFiles task words new P → ForFiles task words old P
-for_files task words old new P same holds s files says are =
-    holds s files says (still_told old new s.names files same are)
+-- those that are needed are told where all are
+pub needed_told : (told : Told) (names files : List (List ℕ)) → AreTold told names files → {Needed : ℕ → Type 0} →
+    AreToldAt Needed told names files
+needed_told told names files are = record { count = are.count; each = λ k below needed. are.each k below }
+
+-- and they are as long as the others
+needed_still_told : (Needed : ℕ → Type 0) (old new : Told) (names files : List (List ℕ)) →
+    new.bytes_under ≡ old.bytes_under → AreToldAt Needed old names files → AreToldAt Needed new names files
+needed_still_told Needed old new names files same are = record {
+  count = are.count;
+  each = λ k below needed.
+      ap (λ (under : List ℕ → Option (List ℕ)). under (slice_index_or names k [])) same ∙ are.each k below needed;
+}
 
 pub of_run : (s : SettingsSeen) (old new : Told) (P : FileStream → Type 0) → new.bytes_under ≡ old.bytes_under →
     OfRun new s P → OfRun old s P
 of_run s old new P same holds files are = holds files (still_told old new s.names files same are)
 
-pub stops_before : (task : Task) (words : List (List ℕ)) (old new : Told) (stop : Stop) →
-    new.bytes_under ≡ old.bytes_under → StopsBefore task words new stop → StopsBefore task words old stop
-stops_before task words old new stop same is = record {
-  kind = is.kind;
-  says = for_files task words old new (λ s w. SaysBefore task s w stop) same is.says;
-}
+of_run_at : (Needed : ℕ → Type 0) (s : SettingsSeen) (old new : Told) (P : FileStream → Type 0) →
+    new.bytes_under ≡ old.bytes_under → OfRunAt Needed new s P → OfRunAt Needed old s P
+of_run_at Needed s old new P same holds files are =
+    holds files (needed_still_told Needed old new s.names files same are)
 
-pub is_run_fed : (task : Task) (words : List (List ℕ)) (old new : Told) (blocks : Finished) (feed : FeedEnd) →
-    new.bytes_under ≡ old.bytes_under → IsRunFed task words new blocks feed → IsRunFed task words old blocks feed
-is_run_fed task words old new blocks feed same is = record {
-  begun = for_files task words old new (λ s w. CanBegin task s w) same is.begun;
-  walked = for_files task words old new (λ s w. EndIs w s.size (sealed_at_end blocks) feed) same is.walked;
+pub of_run_firsts : (s : SettingsSeen) (old new : Told) (P : FileStream → Type 0) →
+    new.bytes_under ≡ old.bytes_under → OfRunFirsts new s P → OfRunFirsts old s P
+of_run_firsts s = of_run_at (IsFirstFile s.starts (length s.names)) s
+
+module _ (task : Task) (words : List (List ℕ)) (old new : Told) (same : new.bytes_under ≡ old.bytes_under) where
+  for_files_at : (Needed : SettingsSeen → ℕ → Type 0) (P : SettingsSeen → FileStream → Type 0) →
+      ForFilesAt Needed task words new P → ForFilesAt Needed task words old P
+  for_files_at Needed P holds s files says are =
+      holds s files says (needed_still_told (Needed s) old new s.names files same are)
+
+  for_firsts : (P : SettingsSeen → FileStream → Type 0) → ForFirsts task words new P → ForFirsts task words old P
+  for_firsts = for_files_at (λ s. IsFirstFile s.starts (length s.names))
+
+  for_files_to : (opened : ℕ) (P : SettingsSeen → FileStream → Type 0) → ForFilesTo opened task words new P →
+      ForFilesTo opened task words old P
+  for_files_to opened = for_files_at (λ s. IsAmong opened s.starts (length s.names))
+
+  of_file : (name : List ℕ) {P : List ℕ → Type 0} → OfFile new name P → OfFile old name P
+  of_file name says bytes is =
+      says bytes (ap (λ (under : List ℕ → Option (List ℕ)). under name) same ∙ is)
+
+  judges_firsts : (P : SettingsSeen → FileStream → Type 0) → JudgesFirsts task words new P →
+      JudgesFirsts task words old P
+  judges_firsts P says = (
+    λ s said k less. of_file (first_name s.names s.starts k) (says.0 s said k less),
+    for_firsts P says.1,
+  )
+
+  says_before : (stop : Stop) → SaysBefore task words new stop → SaysBefore task words old stop
+  says_before (Header file (Text fault)) says = λ s said. let r = says s said in record {
+    transfer = r.transfer;
+    there = r.there;
+    is = r.is;
+    refused = of_file (file_name s.names file) r.refused;
+    earlier = λ k less. of_file (first_name s.names s.starts k) (r.earlier k less);
+  }
+  says_before (Header file (Fields fault)) says = judges_firsts (λ s w. RefusesFirstFields w file fault) says
+  says_before (Plan cause) says = (says.0, judges_firsts (λ s w. RefusesSearch s.search w cause) says.1)
+  says_before (Recording cause) says = judges_firsts (λ s w. RefusesToRecord task s w cause) says
+  says_before Memory says = tt
+  says_before ReadFault says = tt
+  says_before Words says = absurd says
+  says_before (Value opt) says = absurd says
+  says_before (Gap file expected found) says = absurd says
+  says_before (TooLong limit) says = absurd says
+  says_before (TooMany count limit) says = absurd says
+  says_before SinkFault says = absurd says
+  says_before FileFault says = absurd says
+
+  pub stops_before : (stop : Stop) → StopsBefore task words new stop → StopsBefore task words old stop
+  stops_before stop is = record { kind = is.kind; says = says_before stop is.says }
+
+  pub is_run_fed : (blocks : Finished) (feed : FeedEnd) → IsRunFed task words new blocks feed →
+      IsRunFed task words old blocks feed
+  is_run_fed blocks feed is = record {
+    begun = judges_firsts (λ s w. CanBegin task s w) is.begun;
+    at = is.at;
+    last = is.last;
+    passed = λ k less. for_files_to (k + 1) (λ s w. stop_at w k ≡ None) (is.passed k less);
+    walked = for_files_to (judged_at feed is.at) (λ s w. EndIs w s.size (sealed_at_end blocks) feed) is.walked;
+    stops = for_files_to (judged_at feed is.at) (λ s w. StopsWalkAt feed w is.at.file) is.stops;
+  }
+
+-- what a fault leaves where the inputs are calm, of inputs that are so where these are
+pub where_calm : (task : Task) (words : List (List ℕ)) (first next : Type 0) (before after : Told)
+    (blocks : Option Finished) → (first → next) → LeavesAtFault task words next before after blocks →
+    LeavesAtFault task words first before after blocks
+where_calm task words first next before after None calm is = λ s said. let b = is s said in record {
+  transfer = b.transfer;
+  there = b.there;
+  earlier = b.earlier;
+  broke = b.broke;
+  missing = λ c. b.missing (calm c);
+}
+where_calm task words first next before after (Some blocks) calm is = record {
+  at = is.at;
+  begun = is.begun;
+  passed = is.passed;
+  cut = is.cut;
+  stood = is.stood;
+  missing = λ c. is.missing (calm c);
 }
 
 hold_still : (old new : Told) (names : List (List ℕ)) → new.bytes_under ≡ old.bytes_under → HoldsAll old names →

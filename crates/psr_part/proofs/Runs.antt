@@ -29,7 +29,7 @@ use Rattle.run_stop.specs.Lone.{SayAlone}
 use Rattle.run_stop.specs.Runs.{first_observation}
 use Rattle.run_stop.specs.Ends.{StopsBefore, WordsSayOnce, IsRunFed}
 use Rattle.run_stop.specs.Outcomes.{AllCleared}
-use Rattle.whole_run.specs.Wholes.{OfRun}
+use Rattle.whole_run.specs.Wholes.{OfRun, OfRunFirsts}
 use Rattle.lone_run.specs.declared.found.LoneFound.{LoneFound}
 use Rattle.lone_run.specs.declared.stop.LoneStop.{LoneStop}
 use Rattle.lone_run.specs.declared.stop.LoneStop.TheVariants as lone
@@ -42,7 +42,7 @@ use Rattle.psr_part.specs.Texts.{stop_of_checkpoint}
 use Rattle.psr_part.specs.Part.{until_in, check_word, check_names, GoesOnFrom, part_search, searching}
 use Rattle.psr_part.specs.Outcome.{ReadsCheck, AfterCheck}
 use Rattle.psr_part.specs.Ends.{EndsFed, Ends}
-use Rattle.psr_part.proofs.Moved.{of_run, stops_before, is_run_fed, counts_through, counts_failed, counts_none, check_held}
+use Rattle.psr_part.proofs.Moved.{needed_told, of_run, of_run_firsts, stops_before, is_run_fed, counts_through, counts_failed, counts_none, check_held}
 use Rattle.psr_part.proofs.Endings.{at_stop, at_checkpoint, after_session}
 
 abbrev fails_so : {F : Type 0} → LoneStop F → Result LoneFound (LoneStop F)
@@ -199,7 +199,7 @@ module _ {I : Type 0} (told : I → Told) (is_calm : I → Type 0) (faults : I �
     where_stopped stop more serves stops law out =
         at_stop words (seen new) (is_calm old) from None stop out out
         (law 13 (part_search words from) words s (seen new) stop says
-        (stops_before (searching words from) words (told old) (told mid) stop first.names stops)
+        (stops_before (searching words from) words (told old) (told mid) first.names stop stops)
         (counts_through told is_calm faults First (stop ≡ ReadFault) old mid new s.names (check_names words) first not
         more serves)) (λ later. goes) refl
 
@@ -221,7 +221,7 @@ module _ {I : Type 0} (told : I → Told) (is_calm : I → Type 0) (faults : I �
     pub where_driven : (found : LoneFound) → HasReadFrom told is_calm faults (found.feed ≡ feed.ReadFault) mid new →
         (is_calm mid → HoldsAll (told mid) s.names → found.feed ≡ feed.ReadFault → ⊥) →
         IsRunFed (searching words from) words (told mid) found.blocks found.feed → AllCleared found.blocks 0 1 →
-        OfRun (told mid) s (λ w. first_observation w 0 ≡ found.observation) → WordsSayOnce →
+        OfRunFirsts (told mid) s (λ w. first_observation w 0 ≡ found.observation) → WordsSayOnce →
         AloneAtFeedStop Calm → AloneAfterWhole Calm → (before after : SinkSeen) (stop : Option PartStop) →
         IfSome (stop_of_feed found.feed) (λ fed. (stop ≡ Some (Run fed)) × (after ≡ before)) →
         (until : ℕ) → until ≡ until_in words →
@@ -232,7 +232,7 @@ module _ {I : Type 0} (told : I → Told) (is_calm : I → Type 0) (faults : I �
     where_driven found more serves fed cleared observed once stops wholes before after stop stopped until same ended =
         after_session words (seen new) (is_calm old) from once s found.blocks found.feed (record {
           says = says;
-          fed = is_run_fed (searching words from) words (told old) (told mid) found.blocks found.feed first.names fed;
+          fed = is_run_fed (searching words from) words (told old) (told mid) first.names found.blocks found.feed fed;
           read = counts_through told is_calm faults First (found.feed ≡ feed.ReadFault) old mid new s.names
               (check_names words) first not more serves;
           cleared = cleared;
@@ -240,8 +240,8 @@ module _ {I : Type 0} (told : I → Told) (is_calm : I → Type 0) (faults : I �
           observation = found.observation;
           bytes = e.0;
           known = λ files are. (
-            sym (of_run s (told old) (told mid) (λ w. first_observation w 0 ≡ found.observation) first.names observed
-                files are),
+            sym (of_run_firsts s (told old) (told mid) (λ w. first_observation w 0 ≡ found.observation) first.names
+                observed files (needed_told (told old) s.names files are)),
             of_run s (told old) (told mid) (λ w. e.0 ≡ transfer_data w 0) first.names e.1 files are,
           );
           ended = subst (λ (n : ℕ). EndsFed (stop_of_feed found.feed) found.observation s.search from n e.0 before

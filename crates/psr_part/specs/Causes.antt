@@ -8,7 +8,7 @@ use Rattle.search_words.specs.Settings.{SettingsSeen}
 use Rattle.stream_model.specs.Walk.{FileStream}
 use Rattle.disk_feeder.specs.declared.answers.HeaderCause.{HeaderCause}
 use Rattle.disk_feeder.specs.Plan.{AreTold}
-use Rattle.search_session.specs.declared.ended.Ran.{Ran}
+use Rattle.run_stop.specs.declared.ran.Ran.{Ran}
 use Rattle.warm_restart.specs.declared.checkpoint.Checkpoint.{Checkpoint}
 use Rattle.warm_restart.specs.Checkpoint.{IsCheckpointText, IsNoCheckpointText}
 use Rattle.run_stop.specs.declared.causes.PlanCause.{PlanCause}

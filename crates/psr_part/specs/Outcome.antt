@@ -3,16 +3,16 @@
 use Rattle.std.specs.Prelude.{◌≡◌, ◌≢◌, ℕ, ◌≤◌, ◌<◌, ◌⊎◌, List, [], ◌∷◌, Option, None, IsSome, Contains}
 use Rattle.std.specs.Option.{ForSome}
 use Rattle.psr_base.specs.Count.{Rose}
-use Rattle.psr_base.specs.Told.{Told, InputsSeen, OfFile}
+use Rattle.psr_base.specs.Told.{Told, InputsSeen, OfFile, BreaksOff}
 use Rattle.psr_base.specs.Written.{SinkSeen, WroteAll, WroteFront, Noted}
 use Rattle.ring_ends.specs.declared.finished.Finished.{Finished}
 use Rattle.search_words.specs.Settings.{SettingsSeen}
 use Rattle.stream_model.specs.Walk.{FileStream}
 use Rattle.disk_feeder.specs.Filling.{HoldsAll}
-use Rattle.search_session.specs.declared.ended.Ran.{Ran}
+use Rattle.run_stop.specs.declared.ran.Ran.{Ran}
 use Rattle.warm_restart.specs.declared.checkpoint.Checkpoint.{Checkpoint}
 use Rattle.warm_restart.specs.Checkpoint.{IsCheckpointText, IsNoCheckpointText}
-use Rattle.warm_restart.specs.Named.{most_read, new_word, ReadsFront, BreaksOffWithin}
+use Rattle.warm_restart.specs.Named.{most_read, new_word, ReadsFront}
 use Rattle.run_stop.specs.Runs.{FindsAlone}
 use Rattle.run_stop.specs.Outcomes.{TellsNotes}
 use Rattle.run_stop.specs.Outcomes as runs
@@ -134,15 +134,19 @@ abbrev pub ReadsNoData : List (List ℕ) → Told → Told → Type 0
 ReadsNoData words before after = (after ≡ before) ⊎ AfterCheck words before (λ from told.
     runs.ReadsNoData (searching words from) words told after)
 
--- a fault came before CHECK was judged: it names a file, and fewer bytes were read of it than judge it
-pub record BreaksAtCheck (words : List (List ℕ)) (before after : Told) : Type 0 where
+-- A fault came before CHECK was judged: it names a file, and fewer bytes were read of it than judge it. Calm inputs fail
+-- there only where that file isn't told.
+pub record BreaksAtCheck (words : List (List ℕ)) (is_calm : Type 0) (before after : Told) :
+    Type 0 where
   pub other : check_word words ≢ new_word
   pub broke : OfFile before (check_word words)
-      (λ _. BreaksOffWithin most_read (check_word words) before after)
+      (λ _. BreaksOff most_read (check_word words) before after)
+  pub missing : is_calm → ¬ IsSome (before.bytes_under (check_word words))
 
 -- What a fault of the inputs leaves: it came before CHECK was judged, and there is no data ring; or CHECK was accepted,
 -- and then the fault left what it leaves in any search.
-abbrev pub LeavesAtFault : List (List ℕ) → Told → Told → Option Finished → Type 0
-LeavesAtFault words before after blocks = ((blocks ≡ None) × BreaksAtCheck words before after)
+abbrev pub LeavesAtFault : List (List ℕ) → Type 0 → Told → Told → Option Finished → Type 0
+LeavesAtFault words is_calm before after blocks =
+    ((blocks ≡ None) × BreaksAtCheck words is_calm before after)
     ⊎ AfterCheck words before (λ from told.
-    runs.LeavesAtFault (searching words from) words told after blocks)
+    runs.LeavesAtFault (searching words from) words is_calm told after blocks)

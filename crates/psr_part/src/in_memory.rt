@@ -5,7 +5,7 @@ ghost use Rattle.psr_part.specs.Outcome.{Outcome, ReadsNoData, LeavesAtFault};
 
 use crate::top::run_part;
 use psr_base::{MemInputs, MemSink};
-use search_session::Ran;
+use run_stop::Ran;
 use std::alloc::Global;
 use std::sync::Wait;
 
@@ -29,7 +29,8 @@ pub fn run_part_in_memory<R: Wait>(
     ensures early { result.status ≡ 5
         → ReadsNoData (map string_bytes words.now) (told_of inputs.old) (told_of inputs.new) }
     ensures broken { result.status ≡ 6 → LeavesAtFault (map string_bytes words.now)
-        (told_of inputs.old) (told_of inputs.new) result.blocks }
+        ((calls_of inputs.old).fail ≡ []) (told_of inputs.old) (told_of inputs.new)
+        result.blocks }
 {
     run_part(rt, alloc, words, inputs, out, notes)
 }

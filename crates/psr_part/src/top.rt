@@ -12,8 +12,7 @@ use crate::words::{PartWords, check_of, part_words};
 use crate::writing::{Ended, finish};
 use lone_run::{LoneStop, drive_alone};
 use psr_base::{Inputs, Sink};
-use run_stop::Stop;
-use search_session::Ran;
+use run_stop::{Ran, Stop};
 use std::alloc::Global;
 use std::convert::Infallible;
 use std::sync::Wait;
@@ -48,7 +47,7 @@ pub fn run_part<R: Wait, I: Inputs, K: Sink, E: Sink>(
     ensures early { result.status ≡ 5
         → ReadsNoData (map string_bytes words.now) (I.told inputs.old) (I.told inputs.new) }
     ensures broken { result.status ≡ 6 → LeavesAtFault (map string_bytes words.now)
-        (I.told inputs.old) (I.told inputs.new) result.blocks }
+        (I.is_calm inputs.old) (I.told inputs.old) (I.told inputs.new) result.blocks }
 {
     let Ended { stop, blocks } = search(rt, alloc, words, inputs, out);
     let status = tell_part(stop, notes);
@@ -83,7 +82,7 @@ fn search<R: Wait, I: Inputs, K: Sink>(
     ensures early { result.stop ≡ Some (Run Memory)
         → ReadsNoData (map string_bytes words.now) (I.told inputs.old) (I.told inputs.new) }
     ensures broken { result.stop ≡ Some (Run ReadFault) → LeavesAtFault (map string_bytes words.now)
-        (I.told inputs.old) (I.told inputs.new) result.blocks }
+        (I.is_calm inputs.old) (I.told inputs.old) (I.told inputs.new) result.blocks }
 {
     alone_at_words::<I>();
     alone_before_session::<I>();

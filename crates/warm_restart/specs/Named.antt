@@ -1,8 +1,8 @@
 -- The checkpoint that a word of a command names.
 -- Source: this project's choice.
-use Rattle.std.specs.Prelude.{◌≡◌, ℕ, ◌<◌, ◌⊎◌, min, List, length, codes, Option, Some, if◌then◌else◌}
+use Rattle.std.specs.Prelude.{◌≡◌, ℕ, min, List, length, codes, Option, Some, if◌then◌else◌}
 use Rattle.std.specs.Str.{bytes_eq}
-use Rattle.psr_base.specs.Told.{Told, opened, moved_by, filled_by}
+use Rattle.psr_base.specs.Told.{Told, opened, filled_by}
 use Rattle.search_model.specs.Parts.{check_line}
 
 -- the word of a search that begins with the first spectrum
@@ -23,8 +23,3 @@ named_text told word =
 abbrev pub ReadsFront : ℕ → List ℕ → List ℕ → Told → Told → Type 0
 ReadsFront few name file old new =
     new ≡ filled_by (min (length file) few) few (opened name old)
-
--- a fault came first: it was not opened, or fewer bytes were read of it, and no end was seen
-abbrev pub BreaksOffWithin : ℕ → List ℕ → Told → Told → Type 0
-BreaksOffWithin few name old new =
-    (new ≡ old) ⊎ ((n : ℕ) × (n < few) × (new ≡ moved_by n (opened name old)))

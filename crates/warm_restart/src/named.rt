@@ -2,9 +2,9 @@
 ghost use Rattle.std.specs.Prelude.{◌≡◌, ◌≢◌, ℕ, ◌≤◌, ◌<◌, length, take, Err, IfOk, OnOk, IsErr, IsOk, IsSome};
 ghost use Rattle.std.specs.Option.{ForSome};
 ghost use Rattle.psr_base.specs.Inputs.{HasReadFrom};
-ghost use Rattle.psr_base.specs.Told.{OfFile};
+ghost use Rattle.psr_base.specs.Told.{OfFile, BreaksOff};
 ghost use Rattle.warm_restart.specs.Checkpoint.{IsJudged, CanBeSaid};
-ghost use Rattle.warm_restart.specs.Named.{new_word, most_read, named_text, ReadsFront, BreaksOffWithin};
+ghost use Rattle.warm_restart.specs.Named.{new_word, most_read, named_text, ReadsFront};
 
 use crate::checkpoint::{Checkpoint, CheckpointFault};
 use psr_base::{Failed, Inputs, fill};
@@ -22,7 +22,7 @@ fn read_first<I: Inputs>(inputs: &mut I, name: &str, space: &mut [u8]) -> Result
     ensures read { OnOk result (OfFile (I.told inputs.old) name.now (λ file.
         ReadsFront (length space.new) name.now file (I.told inputs.old) (I.told inputs.new))) }
     ensures broke { IsErr result → OfFile (I.told inputs.old) name.now
-        (λ _. BreaksOffWithin (length space.new) name.now (I.told inputs.old) (I.told inputs.new)) }
+        (λ _. BreaksOff (length space.new) name.now (I.told inputs.old) (I.told inputs.new)) }
     ensures inputs { HasReadFrom I.told I.is_calm I.faults (IsErr result) inputs.old inputs.new }
     ensures serves { I.is_calm inputs.old → IsSome ((I.told inputs.old).bytes_under name.now)
         → IsOk result }
@@ -52,7 +52,7 @@ pub fn read_checkpoint<I: Inputs>(
         → OfFile (I.told inputs.old) word.now (λ file.
         ReadsFront most_read word.now file (I.told inputs.old) (I.told inputs.new)) }
     ensures broke { result ≡ Err CheckpointFault.Failed → OfFile (I.told inputs.old) word.now
-        (λ _. BreaksOffWithin most_read word.now (I.told inputs.old) (I.told inputs.new)) }
+        (λ _. BreaksOff most_read word.now (I.told inputs.old) (I.told inputs.new)) }
     ensures inputs { HasReadFrom I.told I.is_calm I.faults
         (result ≡ Err CheckpointFault.Failed) inputs.old inputs.new }
     ensures serves { I.is_calm inputs.old → IsSome (named_text (I.told inputs.old) word.now)

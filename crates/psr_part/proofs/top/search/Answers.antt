@@ -6,6 +6,7 @@ use Rattle.warm_restart.specs.Warm.{part_scope}
 use Rattle.psr_part.specs.Part.{check_names, searching}
 use Rattle.psr_part.proofs.Said.{until_is}
 use Rattle.psr_part.proofs.Runs.{goes_on, never, after_check, part_found, is_memory, with_blocks, where_refused, where_lone, where_driven}
+use Rattle.psr_part.proofs.Moved.{where_calm}
 use Rattle.psr_part.proofs.Faults.{not_words, not_memory, at_check, fails, fed_fault, with_them}
 use Rattle.psr_part.proofs.top.search.Goals as goal
 
@@ -111,9 +112,9 @@ returns-in-Err-read_checkpoint-clause-broken g c = λ is.
     let words = map string_bytes c.args.words.now in
     let told = g.I.Inputs.told c.args.inputs.now in
     let read = c.in-Err-read_checkpoint.ensures in
-    at_check words c.check_of.result.now told
+    at_check words (g.I.Inputs.is_calm c.args.inputs.now) c.check_of.result.now told
     (g.I.Inputs.told c.read_checkpoint.new.inputs) c.in-Err-read_checkpoint.fault c.of_checkpoint.result
-    c.check_of.ensures (λ new. (read.new new).1) read.broke c.of_checkpoint.ensures is
+    c.check_of.ensures (λ new. (read.new new).1) read.broke read.serves c.of_checkpoint.ensures is
 
 pub returns-in-Ok-drive_alone-clause-broken : goal.returns-in-Ok-drive_alone-clause-broken
 returns-in-Ok-drive_alone-clause-broken g c = λ is.
@@ -128,14 +129,16 @@ returns-in-Ok-drive_alone-clause-broken g c = λ is.
     let part = part_found _ _ found from until _ _ read.within c.in-Ok.ensures.bound c.in-Ok.ensures.unfolded
     c.in-Ok.ensures.in_range c.of-scope.ensures.place c.of-scope.ensures.until driven.found count whole in
     (part.0, c.finish.ensures.ended part.0 part.2)) is in
-    with_them words told (g.I.Inputs.told c.drive_alone.new.inputs) (Some found.blocks)
+    with_them words (g.I.Inputs.is_calm c.args.inputs.now) told (g.I.Inputs.told c.drive_alone.new.inputs)
+    (Some found.blocks)
     c.finish.result.blocks c.finish.ensures.blocks
     (inr (after_check g.I.Inputs.told words c.check_of.result.now until from c.args.inputs.now
     c.read_checkpoint.new.inputs c.check_of.ensures (until_is words until c.in-Ok.ensures.until) read.within.1
     read.judged (λ new. (read.new new).0) read.read read.inputs.names
-    (λ x told. runs.LeavesAtFault (searching words x) words told (g.I.Inputs.told c.drive_alone.new.inputs)
-    (Some found.blocks))
-    (driven.broken fault _ words (c.in-Ok.ensures.says from))))
+    (λ x told. runs.LeavesAtFault (searching words x) words (g.I.Inputs.is_calm c.args.inputs.now) told
+    (g.I.Inputs.told c.drive_alone.new.inputs) (Some found.blocks))
+    (where_calm (searching words from) words _ _ _ _ (Some found.blocks) read.inputs.calm
+    (driven.broken fault _ words (c.in-Ok.ensures.says from)))))
 
 pub returns-clause-early : goal.returns-clause-early
 returns-clause-early g c = λ is.
@@ -160,7 +163,8 @@ returns-clause-broken g c = λ is.
     inr (after_check g.I.Inputs.told words c.check_of.result.now until from c.args.inputs.now
     c.read_checkpoint.new.inputs c.check_of.ensures (until_is words until c.in-Ok.ensures.until) read.within.1
     read.judged (λ new. (read.new new).0) read.read read.inputs.names
-    (λ x told. runs.LeavesAtFault (searching words x) words told (g.I.Inputs.told c.drive_alone.new.inputs) None)
-    (c.in-Err-drive_alone.ensures.broken
+    (λ x told. runs.LeavesAtFault (searching words x) words (g.I.Inputs.is_calm c.args.inputs.now) told
+    (g.I.Inputs.told c.drive_alone.new.inputs) None)
+    (where_calm (searching words from) words _ _ _ _ None read.inputs.calm (c.in-Err-drive_alone.ensures.broken
     (fails c.in-Err-drive_alone.stop c.stop_of_run.result c.stop_of_run.ensures is) _ words
-    (c.in-Ok.ensures.says from)))
+    (c.in-Ok.ensures.says from))))
