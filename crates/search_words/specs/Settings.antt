@@ -134,3 +134,8 @@ ExplainsSearch = ExplainsWords PsrSearch
 
 abbrev pub ExplainsRecord : List Text → WordFault → Type 0
 ExplainsRecord = ExplainsWords PsrRecord
+
+-- every value of settings that words say lies in its range
+pub record SaidIsInRange : Type 0 where
+  pub search : (words : List Text) (s : SettingsSeen) → SaySearch words s → AllInRange s
+  pub recording : (words : List Text) (s : SettingsSeen) → SayRecord words s → AllInRange s

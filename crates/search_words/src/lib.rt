@@ -4,6 +4,7 @@
 
 mod command;
 mod fault;
+mod laws;
 mod opt;
 mod reading;
 mod settings;
@@ -12,5 +13,6 @@ mod transfers;
 mod values;
 
 pub use fault::WordFault;
+pub use laws::said_is_in_range;
 pub use opt::Opt;
 pub use settings::Settings;
