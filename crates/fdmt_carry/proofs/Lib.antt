@@ -6,6 +6,7 @@ pub mod Stops
 pub mod Plainly
 pub mod Bounds
 pub mod Reading
+pub mod Tabled
 pub mod Running
 pub mod Carried
 pub mod Rooms

@@ -6,7 +6,8 @@ use Rattle.row_model.specs.declared.Rows.{Rows}
 use Rattle.row_model.specs.Sums.{Sums, AddUp, is_narrow}
 use Rattle.row_schedule.specs.declared.builder.Order.{Order}
 use Rattle.row_schedule.specs.Orders.{holds, order_at}
-use Rattle.row_schedule.specs.Running.{Stores, Running, stores}
+use Rattle.row_schedule.specs.Filling.{own_place}
+use Rattle.row_schedule.specs.Running.{Stores, Running}
 use Rattle.row_schedule.specs.Schedules.{Scheduled}
 use Rattle.subband_plan.specs.declared.nodes.Node.{Node}
 use Rattle.subband_plan.specs.Nodes.{HasRow, root, nodes_of, node_at}
@@ -14,9 +15,9 @@ use Rattle.subband_plan.specs.NodeLaws.{PlansAreLaid}
 use Rattle.subband_plan.specs.RowLaws.{RowsAreNumbered}
 use Rattle.subband_plan.specs.Rows.{IsRow}
 use Rattle.subband_plan.specs.Values.{BandRowsArePathSums, RowsAddUp, RowsAreBounded}
-use Rattle.fdmt_carry.specs.Orders.{band_row, in_own_slot, place_of, start_of}
+use Rattle.fdmt_carry.specs.Orders.{band_row}
 use Rattle.fdmt_carry.specs.declared.passing.Passing.{Passing}
-use Rattle.fdmt_carry.specs.Tables.{Tables, AreTables, node_count, table_sums}
+use Rattle.fdmt_carry.specs.Tables.{Tables, AreTables, table_sums}
 use Rattle.fdmt_carry.specs.Passing.{IsPassOf, stop_at}
 use Rattle.fdmt_carry.specs.Making.{ReadsBand, ReadsNode, ShowsRow}
 use Rattle.fdmt_carry.proofs.Bounds.{sum_is_plain, sum_of_node}
@@ -30,22 +31,18 @@ ReadsRow rows s order spectra wide row = (x : ℕ → ℕ → ℕ) (y : Sums) (u
     holds s.orders j (order_at s.orders order).slot ≡ Some (order_at s.orders order).row → k < spectra →
     slice_index row k ≡ y (order_at s.orders order).row (u + k) 0 % 2 ^ 32
 
-pub node_read : RowsAddUp → RowsAreBounded → PlansAreLaid → SplitsFit → (t : Tables) (k d r order spectra : ℕ)
-    (wide row : List ℕ) → AreTables t → k < node_count t → start_of t.rows k ≤ r →
-    r < start_of t.rows (k + 1) → IsRow t.rows k d r → order ≡ place_of t.rows k r →
-    ReadsRow t.rows.rows t.plain order spectra wide row → ReadsNode t k d spectra wide row
-node_read adds bounded laid fit t k d r order spectra wide row is node from to row_is order_is reads f m u i st
-    fits stream same stands lt =
-    let y = table_sums t f in
-    let orders = t.plain.orders in
+-- a row that stands at its place is read
+abbrev pub ReadsPlace : ℕ → ℕ → ℕ → List ℕ → List ℕ → Type 0
+ReadsPlace room r spectra wide row = (i : ℕ) → i < spectra →
+    slice_index row i ≡ slice_index wide (own_place room r + i)
+
+pub node_read : RowsAreBounded → PlansAreLaid → SplitsFit → (t : Tables) (k d r spectra : ℕ) (wide row : List ℕ) →
+    AreTables t → IsRow t.rows k d r → ReadsPlace t.most r spectra wide row → ReadsNode t k d spectra wide row
+node_read bounded laid fit t k d r spectra wide row is row_is reads f m u i st fits stream same stands lt =
     let there = row_is.there in
-    let at : order_at orders order ≡ in_own_slot r =
-    ap (λ n. order_at orders n) order_is ∙ is.plain.orders.each k r node from to in
-    let held : holds orders (length orders) (order_at orders order).slot ≡ Some (order_at orders order).row =
-    subst (λ (o : Order). holds orders (length orders) o.slot ≡ Some o.row) (sym at) (is.plain.orders.own r there) in
-    reads f.value y u (length orders) i (stores st.narrow st.wide stands.kept_narrow st.kept_wide)
-    (adds t.plan t.rows f is.plan is.rows stream.channels) same stands.made held lt
-    ∙ ap (λ (o : Order). y o.row (u + i) 0 % 2 ^ 32) at
+    reads i lt
+    ∙ ap (λ xs. slice_index xs (own_place t.most r + i)) (sym same)
+    ∙ stands r (omega arith) there i lt
     ∙ sum_is_plain fit bounded t.plan t.rows f m r (u + i) is.plan (laid t.plan is.plan).0 is.rows stream fits there
     ∙ sum_of_node t.plan t.rows f k d r (u + i) row_is
 

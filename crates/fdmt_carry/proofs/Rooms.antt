@@ -1,12 +1,14 @@
 -- Lists that are long enough for schedules.
-use Rattle.std.proofs.Common.{◌≡◌, ℕ, List, Option, None, Some, length, ap, ◌∙◌, arith}
+use Rattle.std.proofs.Common.{◌≡◌, ℕ, List, Option, None, Some, length, ap, ◌∙◌, arith, refl}
 use Rattle.std.specs.Option.{IfSome}
 use Rattle.std.proofs.lemmas.List.{length-replicate}
+use Rattle.row_model.specs.declared.Rows.{Rows}
 use Rattle.row_schedule.specs.declared.stores.Sizes.{Sizes}
 use Rattle.row_schedule.specs.Schedules.{Scheduled}
 use Rattle.row_schedule.specs.Moving.{SlotsStay}
+use Rattle.row_schedule.specs.Filling.{HaveTableRoom, WroteKept, WroteWide}
 use Rattle.row_schedule.specs.Running.{AreAsLong, HaveRoom, Stores, stores}
-use Rattle.row_schedule.specs.Sizes.{AreEnough, AreZeros}
+use Rattle.row_schedule.specs.Sizes.{AreEnough, AreEnoughForTables, AreZeros}
 use Rattle.fdmt_carry.specs.declared.passing.Passing.{Passing}
 
 pub same_stores : {a a' b b' c c' d d' : List ℕ} → a ≡ a' → b ≡ b' → c ≡ c' → d ≡ d' →
@@ -38,6 +40,64 @@ have_room s sizes st zeros enough =
       kept_narrow_room = omega (arith, d, keeps);
       kept_wide_room = omega (arith, e, keeps);
     }
+
+pub have_table_room : (rows : Rows) (room : ℕ) (sizes : Sizes) (st : Stores) → AreZeros sizes st →
+    AreEnoughForTables rows room sizes → HaveTableRoom rows room st
+have_table_room rows room sizes st zeros enough =
+    let b = ap length zeros.wide ∙ length-replicate sizes.wide 0 in
+    let d = ap length zeros.kept_narrow ∙ length-replicate sizes.kept 0 in
+    let e = ap length zeros.kept_wide ∙ length-replicate sizes.kept 0 in
+    let wides = enough.wide in
+    let keeps = enough.kept in
+    record {
+      wide_room = omega (arith, b, wides);
+      kept_narrow_room = omega (arith, d, keeps);
+      kept_wide_room = omega (arith, e, keeps);
+    }
+
+-- lists that are as long as they were have room for the tables that they had room for
+pub table_room_stays : (rows : Rows) (room : ℕ) (old new : Stores) → AreAsLong old new →
+    HaveTableRoom rows room old → HaveTableRoom rows room new
+table_room_stays rows room old new long has =
+    let b = long.wide in
+    let d = long.kept_narrow in
+    let e = long.kept_wide in
+    let wides = has.wide_room in
+    let keeps = has.kept_narrow_room in
+    let keeps' = has.kept_wide_room in
+    record {
+      wide_room = omega (arith, b, wides);
+      kept_narrow_room = omega (arith, d, keeps);
+      kept_wide_room = omega (arith, e, keeps');
+    }
+
+-- where one list was written
+pub wide_long : (old new : Stores) → WroteWide old new → AreAsLong old new
+wide_long old new wrote = record {
+  narrow = ap length wrote.narrow;
+  wide = wrote.long;
+  kept_narrow = ap length wrote.kept_narrow;
+  kept_wide = ap length wrote.kept_wide;
+}
+
+pub kept_long : (old new : Stores) → WroteKept old new → AreAsLong old new
+kept_long old new wrote = record {
+  narrow = ap length wrote.narrow;
+  wide = ap length wrote.wide;
+  kept_narrow = ap length wrote.kept_narrow;
+  kept_wide = wrote.long;
+}
+
+pub wrote_yet : (old mid new : Stores) → WroteWide old mid → WroteWide mid new → WroteWide old new
+wrote_yet old mid new first second = record {
+  long = second.long ∙ first.long;
+  narrow = second.narrow ∙ first.narrow;
+  kept_narrow = second.kept_narrow ∙ first.kept_narrow;
+  kept_wide = second.kept_wide ∙ first.kept_wide;
+}
+
+pub nothing_written : (st : Stores) → WroteWide st st
+nothing_written st = record { long = refl; narrow = refl; kept_narrow = refl; kept_wide = refl }
 
 pub spare_room : (spare : Option Passing) (sizes : Sizes) (st : Stores) → AreZeros sizes st →
     IfSome spare (λ pass. AreEnough pass.schedule sizes) → IfSome spare (λ pass. HaveRoom pass.schedule st)

@@ -1,23 +1,19 @@
 -- What schedules leave of tables.
-use Rattle.std.proofs.Common.{◌≡◌, ℕ, ◌+◌, false, Bool, List, length, arith, sym, ◌∙◌, subst, refl}
-use Rattle.std.proofs.lemmas.Bool.{false≢true}
+use Rattle.std.proofs.Common.{◌≡◌, ℕ, ◌+◌, false, Bool, List, [], arith, sym, ◌∙◌, subst, refl}
+use Rattle.band_paths.specs.Edges.{channels_of}
 use Rattle.search_model.specs.Samples.{Filterbank}
 use Rattle.row_model.specs.declared.Rows.{Rows}
 use Rattle.row_model.specs.Sums.{Sums, AddUp, Fit, is_narrow}
 use Rattle.row_schedule.specs.Samples.{AreNext}
-use Rattle.row_schedule.specs.Moving.{SlotsStay}
 use Rattle.row_schedule.specs.Schedules.{Scheduled}
 use Rattle.row_schedule.specs.Follows.{Follows}
 use Rattle.row_schedule.specs.Running.{Stores, Kept, Running}
-use Rattle.row_schedule.specs.Laws.{RunningBegins, RunningEnds}
+use Rattle.row_schedule.specs.Filling.{KeepsOn, KeepsWide}
 use Rattle.subband_plan.specs.Values.{RowsAddUp, RowsAreBounded}
 use Rattle.fdmt_carry.specs.declared.passing.Passing.{Passing}
-use Rattle.fdmt_carry.specs.Orders.{AreWide}
-use Rattle.fdmt_carry.specs.Tables.{Tables, AreTables, AreSamples, IsScheduled, table_sums}
+use Rattle.fdmt_carry.specs.Tables.{Tables, AreTables, AreSamples, IsScheduled, MakesTables, RowsStand, table_sums}
 use Rattle.fdmt_carry.specs.Passing.{stop_at}
 use Rattle.fdmt_carry.specs.Making.{AreFit, Fills, KeepsFor, MakesRow}
-use Rattle.fdmt_carry.proofs.Narrow.{none_narrow}
-use Rattle.fdmt_carry.proofs.Rooms.{same_stores}
 
 -- what a schedule does between two orders
 abbrev pub Ran : Scheduled → ℕ → ℕ → ℕ → List ℕ → Stores → Stores → Type 0
@@ -33,9 +29,9 @@ sums_fit bounded t pass f m e is fit r u late has early =
     let fits = fit.pass_is.low r has in
     omega arith
 
--- and where there are none
-wide_fit : (narrow : List Bool) (y : Sums) (e : ℕ) → AreWide narrow → Fit narrow y e
-wide_fit narrow y e wide r u late has early = absurd (false≢true (sym (wide r) ∙ has))
+-- no row is among none
+none_of_none : (r : ℕ) → is_narrow [] r ≡ false
+none_of_none r = refl
 
 samples_next : (t : Tables) (s : Scheduled) (f : Filterbank) (most u spectra : ℕ) (samples : List ℕ) →
     IsScheduled t.plan t.rows t.chunk most s → AreSamples t f u spectra samples →
@@ -73,34 +69,32 @@ pub kept_for : RowsAreBounded → (t : Tables) (pass next : Passing) (old widene
     KeepsFor t pass next old new
 kept_for bounded t pass next old widened new is widens narrows f m u fit before =
     let y = table_sums t f in
-    let none = t.plain.narrow in
-    let wide = none_narrow _ none is.plain.narrow in
-    narrows none y u wide (sums_fit bounded t next f m u is fit) (widens none y u wide before)
+    narrows [] y u none_of_none (sums_fit bounded t next f m u is fit) (widens [] y u none_of_none before)
 
--- the tables of all nodes: what is kept was widened, all orders were carried out, and what is kept was narrowed
-pub filled : RowsAddUp → RowsAreBounded → RunningBegins → RunningEnds → (t : Tables) (pass : Passing)
-    (spectra : ℕ) (samples : List ℕ) (old widened ran new : Stores) → AreTables t →
-    Widens t.rows.rows pass.schedule.narrow old widened →
-    Ran t.plain spectra 0 (length t.plain.orders) samples widened ran →
-    Narrows t.rows.rows pass.schedule.narrow ran new → SlotsStay ran new → new.kept_wide ≡ ran.kept_wide →
-    Fills t pass spectra samples old new
-unfolding RunningBegins RunningEnds
-filled adds bounded begins ends t pass spectra samples old widened ran new is widens runs narrows stays wide_stays f m u
-    taken kept =
+-- the tables of all nodes: what is kept was widened, their rows were made and kept, and what is kept was narrowed
+pub filled : RowsAddUp → RowsAreBounded → (t : Tables) (pass : Passing) (spectra : ℕ) (samples : List ℕ)
+    (old widened made kept new : Stores) → AreTables t → Widens t.rows.rows pass.schedule.narrow old widened →
+    MakesTables t spectra samples widened made → made.kept_wide ≡ widened.kept_wide →
+    KeepsOn t.rows.rows t.most spectra made.wide made.kept_wide kept.kept_wide → kept.wide ≡ made.wide →
+    Narrows t.rows.rows pass.schedule.narrow kept new → new.wide ≡ kept.wide → Fills t pass spectra samples old new
+filled adds bounded t pass spectra samples old widened made kept new is widens makes same keeps wide narrows wide_stays f
+    m u taken before =
     let y = table_sums t f in
     let rows = t.rows.rows in
-    let s = t.plain in
-    let wide = none_narrow _ s.narrow is.plain.narrow in
-    let running = runs rows f.value y u is.plain.runs.follows
-    (adds t.plan t.rows f is.plan is.rows taken.fit.channels) (wide_fit s.narrow y (u + spectra) wide)
-    (samples_next t s f t.most u spectra samples is.plain.runs taken.samples_are)
-    (begins rows s y u spectra widened (widens s.narrow y u wide kept)) in
-    let after = ends rows s y u spectra ran is.plain.runs.follows running in
+    let sums = adds t.plan t.rows f is.plan is.rows taken.fit.channels in
+    let first = widens [] y u none_of_none before in
+    let stands = makes f.value y u (record {
+      adds = sums;
+      channels = channels_of t.plan.edges;
+      rows_are = is.rows.are_rows;
+      next = taken.samples_are;
+      kept_are = λ r lt. first r lt;
+    }) in
+    let after = keeps f.value y u sums
+    (λ r lt. subst (λ xs. KeepsWide rows y u xs r) (sym same) (first r lt))
+    (λ r lt. stands r (omega arith) lt) in
     record {
-      kept = narrows s.narrow y (u + spectra) wide (sums_fit bounded t pass f m (u + spectra) is taken.fit) after;
-      stands = record {
-        kept_narrow = ran.kept_narrow;
-        made = subst (λ (st : Stores). Running rows s y u spectra (length s.orders) st)
-            (same_stores (sym stays.narrow) (sym stays.wide) refl (sym wide_stays)) running;
-      };
+      kept = narrows [] y (u + spectra) none_of_none (sums_fit bounded t pass f m (u + spectra) is taken.fit)
+          (λ r lt. after r lt);
+      stands = subst (λ xs. RowsStand t 0 y u spectra xs) (sym (wide_stays ∙ wide)) stands;
     }

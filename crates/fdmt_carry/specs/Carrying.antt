@@ -3,6 +3,7 @@
 -- that a stream is fed chunk by chunk is this project's choice.
 use Rattle.std.specs.Prelude.{◌≡◌, ◌≢◌, ℕ, ◌+◌, ◌-◌, ◌*◌, ◌^◌, ◌≤◌, ◌<◌, ◌⊎◌, true, false, Bool, List, Option, None, IfSome, length, slice_index}
 use Rattle.band_paths.specs.Edges.{channels_of}
+use Rattle.row_schedule.specs.Filling.{HaveTableRoom}
 use Rattle.row_schedule.specs.Running.{Stores, HaveRoom}
 use Rattle.search_model.specs.Samples.{Filterbank}
 use Rattle.subband_plan.specs.Nodes.{BandPlan}
@@ -132,7 +133,7 @@ pub record IsSound (c : Carrying) : Type 0 where
   pub short : c.last ≤ c.tables.chunk
   pub few_made : c.has_tables ≡ true → c.last ≤ c.tables.most
   pub few : c.is_passing ≡ true → c.fed + c.last ≤ 2 ^ 48
-  pub plain_room : HaveRoom c.tables.plain c.stores
+  pub table_room : HaveTableRoom c.tables.rows.rows c.tables.most c.stores
   pub pass_room : HaveRoom c.pass.schedule c.stores
   pub alone : c.is_passing ≡ true → c.has_tables ≡ false
   pub from : c.is_passing ≡ true → c.tables.plan.first ≤ c.next

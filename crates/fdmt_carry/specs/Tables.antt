@@ -1,38 +1,32 @@
 -- The tables of a plan, and the schedule that makes the rows of all nodes.
 -- Source: Zackay & Ofek, ApJ 835:11, 2017, section 2 (the partial sums of the transform); that
 -- values are kept from chunk to chunk is this project's choice.
-use Rattle.std.specs.Prelude.{◌≡◌, ℕ, ◌≤◌, false, List, length, replicate}
+use Rattle.std.specs.Prelude.{◌≡◌, ℕ, ◌+◌, ◌≤◌, ◌<◌, false, List, length, replicate}
 use Rattle.band_paths.specs.Edges.{channels_of}
 use Rattle.row_model.specs.Sums.{Sums}
 use Rattle.row_schedule.specs.Samples.{AreNext}
 use Rattle.row_schedule.specs.Schedules.{Scheduled}
 use Rattle.row_schedule.specs.Follows.{Follows}
-use Rattle.row_schedule.specs.Running.{Stores, Running, stores}
+use Rattle.row_schedule.specs.Filling.{AreGiven, StandsAtPlace}
+use Rattle.row_schedule.specs.Running.{Stores}
 use Rattle.search_model.specs.Samples.{Filterbank}
 use Rattle.subband_plan.specs.declared.nodes.Node.{Node}
 use Rattle.subband_plan.specs.declared.rows.PlanRows.{PlanRows}
 use Rattle.subband_plan.specs.Nodes.{BandPlan, IsPlan, nodes_of, node_at}
 use Rattle.subband_plan.specs.Rows.{ArePlanRows, all_rows}
 use Rattle.subband_plan.specs.Values.{row_sum}
-use Rattle.fdmt_carry.specs.Orders.{ArePlain}
+use Rattle.fdmt_carry.specs.Orders.{ArePlain, start_of}
 
--- The tables of a plan, for up to `chunk` spectra at a time. The schedule `plain` makes the rows of
--- all nodes so that they stand, of up to `most` spectra.
+-- The tables of a plan, for up to `chunk` spectra at a time, and up to `most` where the rows of all
+-- nodes are made, each at a place of its own.
 pub record Tables : Type 0 where
   pub plan : BandPlan
   pub chunk : ℕ
   pub most : ℕ
   pub rows : PlanRows
-  pub plain : Scheduled
 
-abbrev pub tables : BandPlan → ℕ → ℕ → PlanRows → Scheduled → Tables
-tables plan chunk most rows plain = record {
-  plan = plan;
-  chunk = chunk;
-  most = most;
-  rows = rows;
-  plain = plain;
-}
+abbrev pub tables : BandPlan → ℕ → ℕ → PlanRows → Tables
+tables plan chunk most rows = record { plan = plan; chunk = chunk; most = most; rows = rows }
 
 -- node k
 abbrev pub node_of : Tables → ℕ → Node
@@ -67,16 +61,30 @@ pub record AreTables (t : Tables) : Type 0 where
   pub rows : ArePlanRows t.plan t.rows
   pub short : t.chunk ≤ 65536
   pub within : t.most ≤ t.chunk
-  pub plain : IsPlain t.plan t.rows t.chunk t.most t.plain
 
 -- the samples of the next spectra, from spectrum u on
 abbrev pub AreSamples : Tables → Filterbank → ℕ → ℕ → List ℕ → Type 0
 AreSamples t f u spectra samples =
     AreNext f.value (channels_of t.plan.edges) t.chunk u spectra samples
 
--- The rows of all nodes stand: they were made, with the sums that end at so many spectra from
--- spectrum u on. What is kept in 16 bits was changed since then.
-pub record TablesStand (t : Tables) (f : Filterbank) (u spectra : ℕ) (st : Stores) : Type 0 where
-  pub kept_narrow : List ℕ
-  pub made : Running t.rows.rows t.plain (table_sums t f) u spectra (length t.plain.orders)
-      (stores st.narrow st.wide kept_narrow st.kept_wide)
+-- the sums of some rows stand, from row `from` on, at so many spectra from spectrum u on
+abbrev pub RowsStand : Tables → ℕ → Sums → ℕ → ℕ → List ℕ → Type 0
+RowsStand t from y u spectra wide = (r : ℕ) → from ≤ r → r < all_rows t.rows →
+    StandsAtPlace t.most y u spectra wide r
+
+-- the rows of all nodes stand
+abbrev pub TablesStand : Tables → Filterbank → ℕ → ℕ → Stores → Type 0
+TablesStand t f u spectra st = RowsStand t 0 (table_sums t f) u spectra st.wide
+
+-- the rows of all nodes are made of the next spectra
+abbrev pub MakesTables : Tables → ℕ → List ℕ → Stores → Stores → Type 0
+MakesTables t spectra samples old new = (x : ℕ → ℕ → ℕ) (y : Sums) (u : ℕ) →
+    AreGiven t.rows.rows x y u t.chunk spectra samples old.kept_wide →
+    RowsStand t 0 y u spectra new.wide
+
+-- and so are those of node k, where those of the nodes after it stand
+abbrev pub MakesNode : Tables → ℕ → ℕ → List ℕ → Stores → Stores → Type 0
+MakesNode t k spectra samples old new = (x : ℕ → ℕ → ℕ) (y : Sums) (u : ℕ) →
+    AreGiven t.rows.rows x y u t.chunk spectra samples old.kept_wide →
+    RowsStand t (start_of t.rows (k + 1)) y u spectra old.wide →
+    RowsStand t (start_of t.rows k) y u spectra new.wide

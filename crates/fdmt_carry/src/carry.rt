@@ -91,7 +91,7 @@ impl Carry {
         rows_begin_empty();
         let tables = Tables::of(alloc, plan, chunk, most)?;
         let passes = Passes::of(alloc, &tables, max_sample)?;
-        let stores = Stores::zeros(alloc, passes.sizes(tables.plain()))?;
+        let stores = Stores::zeros(alloc, passes.sizes(tables.room()))?;
         tables.hold();
         let Passes { pass, limit, spare } = passes;
         Ok(Carry {

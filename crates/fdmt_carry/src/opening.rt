@@ -1,12 +1,13 @@
 // What a carry has beside its tables: the schedules of its passes.
-ghost use Rattle.std.specs.Prelude.{◌≢◌, ◌<◌, None, IfOk, IfSome};
-ghost use Rattle.row_schedule.specs.Sizes.{AreEnough};
+ghost use Rattle.std.specs.Prelude.{◌≢◌, ℕ, ◌<◌, None, IfOk, IfSome};
+ghost use Rattle.row_schedule.specs.Sizes.{AreEnough, AreEnoughForTables};
 ghost use Rattle.fdmt_carry.specs.Passing.{IsPassOf};
 
 use crate::passing::Passing;
 use crate::tables::Tables;
 use psr_base::Memory;
-use row_schedule::{Schedule, Sizes};
+use row_model::Rows;
+use row_schedule::Sizes;
 use std::alloc::Global;
 
 /// A pass for samples up to a limit, and one for all samples where some may be greater.
@@ -30,13 +31,14 @@ impl Passes {
         Ok(Passes { pass, limit, spare })
     }
 
-    /// How long lists are that the plain schedule of tables and the passes can all work on.
-    pub fn sizes(&self, plain: &Schedule) -> Sizes
-        ensures plain { AreEnough plain.now result }
+    /// How long lists are that tables, which need so long ones, and the passes can all work on.
+    pub fn sizes(&self, tables: Sizes) -> Sizes
+        ensures tables { (rows : Rows) (room : ℕ) → AreEnoughForTables rows room tables
+            → AreEnoughForTables rows room result }
         ensures pass { AreEnough self.now.pass.schedule result }
         ensures spare { IfSome self.now.spare (λ pass. AreEnough pass.schedule result) }
     {
-        let both = plain.sizes().most(self.pass.schedule.sizes());
+        let both = tables.most(self.pass.schedule.sizes());
         both.most(spare_sizes(&self.spare))
     }
 }

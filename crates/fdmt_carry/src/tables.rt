@@ -3,23 +3,24 @@ ghost use Rattle.std.specs.Prelude.{◌≡◌, ℕ, ◌+◌, ◌-◌, ◌*◌, �
 ghost use Rattle.band_paths.specs.Edges.{channels_of};
 ghost use Rattle.row_schedule.specs.Running.{AreAsLong, HaveRoom};
 ghost use Rattle.row_schedule.specs.Moving.{SlotsStay};
+ghost use Rattle.row_schedule.specs.Sizes.{AreEnoughForTables};
+ghost use Rattle.row_schedule.specs.Filling.{HaveTableRoom, WroteWide};
 ghost use Rattle.row_schedule.specs.Samples.{values_of};
 ghost use Rattle.subband_plan.specs.Nodes.{IsPlan, HasRow, root};
-ghost use Rattle.fdmt_carry.specs.Tables.{AreTables, node_of, node_count};
+ghost use Rattle.fdmt_carry.specs.Tables.{AreTables, MakesNode, MakesTables, node_of, node_count};
 ghost use Rattle.fdmt_carry.specs.Passing.{IsPassOf, stop_at};
 ghost use Rattle.fdmt_carry.specs.Making.{Fills, KeepsFor, MakesRow, ReadsBand, ReadsNode, ShowsRow};
 
-use crate::numbers::{place_in_order, row_number, whole_band};
+use crate::numbers::{row_number, whole_band};
 use crate::passing::{Passing, narrow_limit};
-use crate::plain::plain_schedule;
 use psr_base::Memory;
-use row_schedule::{Samples, Schedule, Stores, running_begins, running_ends};
+use row_schedule::{Samples, Sizes, Stores};
 use search_model::splits_fit;
 use std::alloc::Global;
 use std::marker::Model;
 use subband_plan::{
     Plan, PlanRows, band_rows_are_path_sums, plans_are_laid, rows_add_up, rows_are_bounded,
-    rows_are_numbered,
+    rows_are_numbered, rows_come_after,
 };
 
 /// The tables of a plan.
@@ -29,7 +30,6 @@ pub struct Tables {
     chunk: u32,
     most: u32,
     rows: PlanRows,
-    plain: Schedule,
 }
 
 impl Model for Tables {
@@ -37,9 +37,9 @@ impl Model for Tables {
 
     ghost Value = { Tables };
 
-    ghost view = { λ t. tables t.plan t.chunk t.most t.rows t.plain };
+    ghost view = { λ t. tables t.plan t.chunk t.most t.rows };
 
-    ghost invariant = { λ t. AreTables (tables t.plan t.chunk t.most t.rows t.plain) };
+    ghost invariant = { λ t. AreTables (tables t.plan t.chunk t.most t.rows) };
 }
 
 impl Tables {
@@ -53,14 +53,12 @@ impl Tables {
         ensures most { IfOk result (λ t. t.most ≡ most) }
     {
         let rows = PlanRows::of(alloc, &plan)?;
-        let plain = plain_schedule(alloc, &plan, &rows, chunk, most)?;
         let _ = plan.edges();
         Ok(Tables {
             plan,
             chunk,
             most,
             rows,
-            plain,
         })
     }
 
@@ -90,11 +88,12 @@ impl Tables {
         &self.plan
     }
 
-    /// The schedule of the rows of all nodes.
-    pub fn plain(&self) -> &Schedule
-        ensures { result.now ≡ self.now.plain }
+    /// How long lists are in which the rows of all nodes are made.
+    pub fn room(&self) -> Sizes
+        ensures { AreEnoughForTables self.now.rows.rows self.now.most result }
     {
-        &self.plain
+        self.hold();
+        Sizes::of_tables(&self.rows.rows, self.most as usize)
     }
 
     /// Of how many spectra the rows of all nodes are made at most.
@@ -140,8 +139,7 @@ impl Tables {
     /// Makes the rows of all nodes, with the sums that end at the next spectra, and keeps what a pass goes on by.
     pub fn fill(&self, pass: &Passing, stores: &mut Stores, samples: Samples<'_>, spectra: usize)
         requires pass { (m : ℕ) × IsPassOf self.now m pass.now }
-        requires plain_room { HaveRoom self.now.plain stores.old }
-        requires pass_room { HaveRoom pass.now.schedule stores.old }
+        requires room { HaveTableRoom self.now.rows.rows self.now.most stores.old }
         requires samples { channels_of self.now.plan.edges * self.now.chunk
             ≤ length (values_of samples) + (self.now.chunk - spectra) }
         requires short { spectra ≤ self.now.most }
@@ -151,13 +149,50 @@ impl Tables {
     {
         rows_add_up();
         rows_are_bounded();
-        running_begins();
-        running_ends();
+        self.hold();
         let widths = pass.schedule.narrow();
         stores.widen_kept(&self.rows.rows, widths);
-        self.plain
-            .run(0, self.plain.orders(), stores, samples, spectra);
+        self.fill_nodes(stores, samples, spectra);
+        stores.keep_rows(&self.rows.rows, self.most as usize, spectra);
         stores.narrow_kept(&self.rows.rows, widths);
+    }
+
+    // Makes the rows of all nodes, from the last node to the first.
+    fn fill_nodes(&self, stores: &mut Stores, samples: Samples<'_>, spectra: usize)
+        requires room { HaveTableRoom self.now.rows.rows self.now.most stores.old }
+        requires samples { channels_of self.now.plan.edges * self.now.chunk
+            ≤ length (values_of samples) + (self.now.chunk - spectra) }
+        requires short { spectra ≤ self.now.most }
+        ensures wrote { WroteWide stores.old stores.new }
+        ensures makes { MakesTables self.now spectra (values_of samples.entry) stores.old
+            stores.new }
+    {
+        self.hold();
+        let count = self.plan.nodes();
+        for done in 0..count {
+            self.fill_node(count - 1 - done, stores, samples, spectra);
+        }
+    }
+
+    // Makes the rows of node `k`, by their delays.
+    fn fill_node(&self, k: usize, stores: &mut Stores, samples: Samples<'_>, spectra: usize)
+        requires node { k < node_count self.now }
+        requires room { HaveTableRoom self.now.rows.rows self.now.most stores.old }
+        requires samples { channels_of self.now.plan.edges * self.now.chunk
+            ≤ length (values_of samples) + (self.now.chunk - spectra) }
+        requires short { spectra ≤ self.now.most }
+        ensures wrote { WroteWide stores.old stores.new }
+        ensures makes { MakesNode self.now k spectra (values_of samples.entry) stores.old
+            stores.new }
+    {
+        plans_are_laid();
+        rows_are_numbered();
+        rows_come_after();
+        self.hold();
+        let (room, chunk) = (self.most as usize, self.chunk as usize);
+        for r in self.rows.starts[k]..self.rows.starts[k + 1] {
+            stores.fill_row(&self.rows.rows, r, room, samples, chunk, spectra);
+        }
     }
 
     /// Writes what is kept for one pass as it is kept for another, which then goes on by it.
@@ -224,17 +259,16 @@ impl Tables {
     pub fn table<'a>(&self, k: usize, d: u32, stores: &'a Stores, spectra: usize) -> &'a [u32]
         requires node { k < node_count self.now }
         requires row { HasRow (node_of self.now k) d }
-        requires room { self.now.plain.wide_size ≤ length stores.now.wide }
+        requires room { HaveTableRoom self.now.rows.rows self.now.most stores.now }
         requires short { spectra ≤ self.now.most }
         ensures long { length result.now ≡ spectra }
         ensures sums { ReadsNode self.now k d spectra stores.now.wide result.now }
     {
-        rows_add_up();
         rows_are_bounded();
         plans_are_laid();
         splits_fit();
+        self.hold();
         let r = row_number(&self.plan, &self.rows, k, d);
-        let order = place_in_order(&self.plan, &self.rows, k, r);
-        self.plain.row(&self.rows.rows, stores, order, spectra)
+        stores.filled(self.most as usize, r, spectra)
     }
 }

@@ -1,4 +1,5 @@
 pub mod Parts
+pub mod OwnPlaces
 pub mod Holding
 pub mod Appending
 pub mod Marking

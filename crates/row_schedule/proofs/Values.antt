@@ -32,7 +32,7 @@ pub value_now : (rows : Rows) (x : ℕ → ℕ → ℕ) (y : Sums) (u r i : ℕ)
 value_now rows x y u r i adds = value_at rows x y u r i _ 0 adds (omega arith) (omega arith)
 
 -- sums in 32 bits
-wraps : (a b : ℕ) → (a % 2 ^ 32 + b % 2 ^ 32) % 2 ^ 32 ≡ (a + b) % 2 ^ 32
+pub wraps : (a b : ℕ) → (a % 2 ^ 32 + b % 2 ^ 32) % 2 ^ 32 ≡ (a + b) % 2 ^ 32
 wraps a b = add-mod-mod (a % 2 ^ 32) b (2 ^ 32) ∙ mod-add-mod a (2 ^ 32) b
 
 -- a sum that fits into 16 bits has one value in either width

@@ -9,4 +9,5 @@ pub mod Running
 pub mod Sizes
 pub mod Making
 pub mod Moving
+pub mod Filling
 pub mod Laws

@@ -1,15 +1,23 @@
 -- How long the lists are that schedules work on.
 -- Source: this project's choice.
-use Rattle.std.specs.Prelude.{◌≡◌, ◌≤◌, replicate}
+use Rattle.std.specs.Prelude.{◌≡◌, ℕ, ◌≤◌, replicate}
+use Rattle.row_model.specs.declared.Rows.{Rows}
 use Rattle.row_schedule.specs.declared.stores.Sizes.{Sizes}
+use Rattle.row_schedule.specs.Layout.{kept_room}
 use Rattle.row_schedule.specs.Running.{Stores}
 use Rattle.row_schedule.specs.Schedules.{Scheduled}
+use Rattle.row_schedule.specs.Filling.{table_size}
 
 -- they are as long as a schedule needs, or longer
 pub record AreEnough (s : Scheduled) (sizes : Sizes) : Type 0 where
   pub narrow : s.narrow_size ≤ sizes.narrow
   pub wide : s.wide_size ≤ sizes.wide
   pub kept : s.kept_size ≤ sizes.kept
+
+-- or as rows need that are made each at a place of its own
+pub record AreEnoughForTables (rows : Rows) (room : ℕ) (sizes : Sizes) : Type 0 where
+  pub wide : table_size rows room ≤ sizes.wide
+  pub kept : kept_room rows ≤ sizes.kept
 
 -- lists of as many zeros
 pub record AreZeros (sizes : Sizes) (st : Stores) : Type 0 where

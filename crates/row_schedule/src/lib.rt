@@ -6,6 +6,7 @@
 #![tactic(auto)]
 
 mod builder;
+mod filling;
 mod kept;
 mod layout;
 mod lead;

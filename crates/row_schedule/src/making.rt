@@ -13,7 +13,7 @@ use fdmt_rows::{
 
 // So many values from a place of a list on, of which these parts stand before and after its values up to `past`.
 #[inline(always)]
-fn beside<'a, T>(
+pub(crate) fn beside<'a, T>(
     before: &'a [T],
     after: &'a [T],
     past: usize,
@@ -38,7 +38,7 @@ fn beside<'a, T>(
 
 // Copies so many values.
 #[inline(always)]
-fn copy_part(out: &mut [u32], at: usize, from: &[u32], place: usize, count: usize)
+pub(crate) fn copy_part(out: &mut [u32], at: usize, from: &[u32], place: usize, count: usize)
     requires own { at + count ≤ length out.old }
     requires from { place + count ≤ length from.now }
     ensures { Puts out.old out.new at count (λ i. slice_index from.now (place + i)) }
@@ -69,7 +69,13 @@ fn copy_narrow_samples(out: &mut [u16], at: usize, samples: Samples<'_>, place: 
 }
 
 #[inline(always)]
-fn copy_samples(out: &mut [u32], at: usize, samples: Samples<'_>, place: usize, count: usize)
+pub(crate) fn copy_samples(
+    out: &mut [u32],
+    at: usize,
+    samples: Samples<'_>,
+    place: usize,
+    count: usize,
+)
     requires own { at + count ≤ length out.old }
     requires from { place + count ≤ length (values_of samples) }
     ensures { Puts out.old out.new at count
@@ -80,7 +86,7 @@ fn copy_samples(out: &mut [u32], at: usize, samples: Samples<'_>, place: usize, 
 
 // Adds two parts of a list into a third one.
 #[inline(always)]
-fn add_parts(list: &mut [u32], at: usize, upper: usize, lower: usize, count: usize)
+pub(crate) fn add_parts(list: &mut [u32], at: usize, upper: usize, lower: usize, count: usize)
     requires own { at + count ≤ length list.old }
     requires upper { upper + count ≤ length list.old }
     requires lower { lower + count ≤ length list.old }

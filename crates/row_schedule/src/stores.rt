@@ -1,14 +1,19 @@
 // The lists that schedules work on.
-ghost use Rattle.std.specs.Prelude.{◌≡◌, ℕ, ◌≤◌, false, List, Bool, length, replicate, IfOk};
+ghost use Rattle.std.specs.Prelude.{◌≡◌, ◌≢◌, ℕ, ◌+◌, ◌^◌, ◌<◌, ◌≤◌, false, List, Bool, length, replicate, slice_index, IfOk};
 ghost use Rattle.row_model.specs.Sums.{Sums, Fit, is_narrow};
-ghost use Rattle.row_model.specs.Tails.{AreRows};
+ghost use Rattle.row_model.specs.Tails.{AreRows, row_count};
+ghost use Rattle.row_schedule.specs.Samples.{values_of};
 ghost use Rattle.row_schedule.specs.Layout.{kept_room};
 ghost use Rattle.row_schedule.specs.Running.{Kept};
 ghost use Rattle.row_schedule.specs.Moving.{SlotsStay};
+ghost use Rattle.row_schedule.specs.Filling.{AreGiven, HasSources, HaveSamples, HaveTableRoom, IsOfOthers, KeepsOn, StandsAtPlace, WroteKept, WroteWide, own_place};
 ghost use Rattle.row_schedule.specs.Schedules.{Scheduled};
-ghost use Rattle.row_schedule.specs.Sizes.{AreEnough, AreZeros};
+ghost use Rattle.row_schedule.specs.Sizes.{AreEnough, AreEnoughForTables, AreZeros};
 
+use crate::filling::{fill_row, keep_rows, own_place};
 use crate::kept::{narrow_rows, widen_rows};
+use crate::reading::kept_room;
+use crate::samples::Samples;
 use psr_base::Memory;
 use row_model::Rows;
 use std::alloc::Global;
@@ -26,8 +31,23 @@ pub struct Sizes {
 }
 
 impl Sizes {
+    /// For rows that are made each at a place of its own, of `room` values.
+    pub fn of_tables(rows: &Rows, room: usize) -> Sizes
+        requires rows { (c : ℕ) × AreRows c rows.now }
+        requires few { room ≤ 65536 }
+        ensures { AreEnoughForTables rows.now room result }
+    {
+        Sizes {
+            narrow: 0,
+            wide: own_place(room, rows.sources.len()),
+            kept: kept_room(rows),
+        }
+    }
+
     /// The greater ones of both.
     pub fn most(self, other: Sizes) -> Sizes
+        ensures tables { (rows : Rows) (room : ℕ) → AreEnoughForTables rows room self
+            → AreEnoughForTables rows room result }
         ensures own { (s : Scheduled) → AreEnough s self → AreEnough s result }
         ensures others { (s : Scheduled) → AreEnough s other → AreEnough s result }
     {
@@ -118,6 +138,82 @@ impl Stores {
             self.kept_wide.as_slice(),
             self.kept_narrow.as_mut_slice(),
         );
+    }
+}
+
+impl Stores {
+    /// Makes row `row` of the next spectra, so many, in 32 bits at its place, where each row has one of `room` values:
+    /// the samples of channel `c` begin at `c` times the chunk, the rows that it is made of stand at their places, and
+    /// what is kept of all rows is there in 32 bits.
+    pub fn fill_row(
+        &mut self,
+        rows: &Rows,
+        row: usize,
+        room: usize,
+        samples: Samples<'_>,
+        chunk: usize,
+        spectra: usize,
+    )
+        requires samples { HaveSamples rows.now chunk spectra (values_of samples) }
+        requires row { row < row_count rows.now }
+        requires others { IsOfOthers rows.now row }
+        requires short { spectra ≤ room }
+        requires within { room ≤ chunk }
+        requires few { chunk ≤ 65536 }
+        requires room { HaveTableRoom rows.now room self.old }
+        ensures wrote { WroteWide self.old self.new }
+        ensures stands { (x : ℕ → ℕ → ℕ) (y : Sums) (u : ℕ)
+            → AreGiven rows.now x y u chunk spectra (values_of samples.entry) self.old.kept_wide
+            → HasSources rows.now room y u spectra self.old.wide row
+            → StandsAtPlace room y u spectra self.new.wide row }
+        ensures others { (y : Sums) (u q : ℕ) → q ≢ row
+            → StandsAtPlace room y u spectra self.old.wide q
+            → StandsAtPlace room y u spectra self.new.wide q }
+    {
+        fill_row(
+            rows,
+            row,
+            room,
+            samples,
+            chunk,
+            spectra,
+            self.kept_wide.as_slice(),
+            self.wide.as_mut_slice(),
+        );
+    }
+
+    /// Keeps all rows, which stand at their places of `room` values, for the spectra after these, in 32 bits.
+    pub fn keep_rows(&mut self, rows: &Rows, room: usize, spectra: usize)
+        requires rows { (c : ℕ) × AreRows c rows.now }
+        requires short { spectra ≤ room }
+        requires few { room ≤ 65536 }
+        requires room { HaveTableRoom rows.now room self.old }
+        ensures wrote { WroteKept self.old self.new }
+        ensures keeps { KeepsOn rows.now room spectra self.old.wide self.old.kept_wide
+            self.new.kept_wide }
+    {
+        keep_rows(
+            rows,
+            room,
+            spectra,
+            self.wide.as_slice(),
+            self.kept_wide.as_mut_slice(),
+        );
+    }
+
+    /// So many values of row `row`, which stands at its place of `room` values.
+    pub fn filled(&self, room: usize, row: usize, spectra: usize) -> &[u32]
+        requires few { row ≤ 2 ^ 32 }
+        requires most { room ≤ 65536 }
+        requires short { spectra ≤ room }
+        requires there { (count : ℕ) × (row < count)
+            × (own_place room count ≤ length self.now.wide) }
+        ensures long { length result.now ≡ spectra }
+        ensures values { (i : ℕ) → i < spectra → slice_index result.now i
+            ≡ slice_index self.now.wide (own_place room row + i) }
+    {
+        let at = own_place(room, row);
+        &self.wide()[at..at + spectra]
     }
 }
 

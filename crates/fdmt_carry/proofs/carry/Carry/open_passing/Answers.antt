@@ -1,12 +1,10 @@
 use Rattle.std.proofs.Common.{ℕ, ◌+◌, ◌*◌, ◌^◌, ◌<◌, arith, subst, sym}
 use Rattle.std.proofs.lemmas.Bool.{false≢true}
 use Rattle.band_paths.specs.Edges.{channels_of}
-use Rattle.row_schedule.specs.Schedules.{Scheduled}
 use Rattle.subband_plan.specs.Nodes.{BandPlan}
-use Rattle.row_schedule.specs.Sizes.{AreEnough}
 use Rattle.fdmt_carry.specs.Carrying.{IsStream}
 use Rattle.fdmt_carry.proofs.Carried.{opened_stands}
-use Rattle.fdmt_carry.proofs.Rooms.{have_room, spare_room}
+use Rattle.fdmt_carry.proofs.Rooms.{have_room, have_table_room, spare_room}
 use Rattle.fdmt_carry.proofs.carry.Carry.open_passing.Goals as goal
 
 pub invariant_of-result : goal.invariant_of-result
@@ -25,8 +23,8 @@ invariant_of-result c =
         short = omega arith;
         few_made = λ has. absurd (false≢true has);
         few = λ passing. absurd (false≢true passing);
-        plain_room = have_room t.plain sizes st zeros
-            (subst (λ (s : Scheduled). AreEnough s sizes) c.plain.ensures c.sizes.ensures.plain);
+        table_room = have_table_room t.rows.rows t.most sizes st zeros
+            (c.sizes.ensures.tables t.rows.rows t.most c.room.ensures);
         pass_room = have_room passes.pass.schedule sizes st zeros c.sizes.ensures.pass;
         alone = λ passing. absurd (false≢true passing);
         from = λ passing. absurd (false≢true passing);

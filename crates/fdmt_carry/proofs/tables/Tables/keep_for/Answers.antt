@@ -7,7 +7,7 @@ use Rattle.fdmt_carry.proofs.tables.Tables.keep_for.Goals as goal
 pub returns-clause-keeps : goal.returns-clause-keeps
 returns-clause-keeps c =
     let s = c.self.inside in
-    let t = tables s.plan s.chunk s.most s.rows s.plain in
+    let t = tables s.plan s.chunk s.most s.rows in
     let rows = s.rows.rows in
     let old = c.args.stores.now in
     let widened = c.widen_kept.new.self in
