@@ -24,7 +24,7 @@ pub struct Recorder<'a, F> {
 impl<'a, F: Files> Recorder<'a, F> {
     ghost use Rattle.dada_recorder.specs.Recorder.{block_size, has_end, has_header, has_open_file, RecorderStands, IsSpaceFor, IsFreshFor, IsSameRecorder, TurnMakes};
 
-    /// Takes all space, as `RecorderSpace::take` does.
+    /// Takes all space, as `RecorderSpace::reserve` does.
     pub fn open(
         alloc: Global,
         files: &'a mut F,
@@ -41,7 +41,7 @@ impl<'a, F: Files> Recorder<'a, F> {
         ensures fresh { IfOk result (λ r.
             IsFreshFor r (record_plan first_offsets.now file_size max_bytes) block) }
     {
-        let space = RecorderSpace::take(alloc, first_offsets, block, file_size, max_bytes)?;
+        let space = RecorderSpace::reserve(alloc, first_offsets, block, file_size, max_bytes)?;
         Ok(Recorder::over(files, space))
     }
 

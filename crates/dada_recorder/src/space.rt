@@ -17,7 +17,7 @@ impl<'a> RecorderSpace<'a> {
 
     /// Takes all space. `first_offsets` has the OBS_OFFSET of each transfer's first data byte, `block` is the size of
     /// the data ring's blocks, a file has at most `file_size` data bytes, and all transfers together `max_bytes`.
-    pub fn take(
+    pub fn reserve(
         alloc: Global,
         first_offsets: &'a [u64],
         block: u32,

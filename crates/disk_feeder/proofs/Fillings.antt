@@ -12,7 +12,7 @@ use Rattle.disk_feeder.specs.declared.due.Due.TheVariants.{Full, Stopped}
 use Rattle.disk_feeder.specs.declared.place.Place.{Place}
 use Rattle.disk_feeder.specs.Plan.{Plan}
 use Rattle.disk_feeder.specs.Reading.{HasEnded}
-use Rattle.disk_feeder.specs.Sources.{IsEarly}
+use Rattle.disk_feeder.specs.Sources.{ComesEarly}
 use Rattle.disk_feeder.specs.Filling.{FillsTo, DueIs, IsFilled}
 
 -- a vector that was written as a slice
@@ -65,7 +65,7 @@ filled_more grow plan told told' at at' block block' held held' n due' blocks f 
 pub filled_stopped : (plan : Plan) (told told' : Told) (at : Place) (block block' : List ℕ) (held : ℕ) (end : FeedEnd)
     (blocks : List Entry) → IsFilled plan told at block held None blocks →
     FillsTo plan at told at told' held block block' (Err end) → length block' ≡ length block →
-    take held block' ≡ take held block → IsEarly plan end →
+    take held block' ≡ take held block → ComesEarly plan at end →
     IsFilled plan told' at block' held (Some (Stopped end)) blocks
 filled_stopped plan told told' at block block' held end blocks f fills same front early =
     let has = f.next.0 in

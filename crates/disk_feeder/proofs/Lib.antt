@@ -14,6 +14,7 @@ pub mod TransferEnds
 pub mod Fillings
 pub mod Counting
 pub mod Missing
+pub mod Unopened
 pub mod Sealings
 pub mod Runs
 pub mod Turning

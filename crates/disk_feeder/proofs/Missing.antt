@@ -9,13 +9,13 @@ use Rattle.disk_feeder.specs.declared.source.Source.{Source}
 use Rattle.disk_feeder.specs.declared.stream.Stream.{Stream}
 use Rattle.disk_feeder.specs.Plan.{Plan, begin_at}
 use Rattle.disk_feeder.specs.Sources.{plan_of, current_name, HasMore}
-use Rattle.disk_feeder.specs.Feeding.{IsMissing, FaultIsMissing}
+use Rattle.disk_feeder.specs.Feeding.{IsUntold, FaultIsUntold}
 use Rattle.disk_feeder.proofs.OfSource.{name_count, plan_starts}
 use Rattle.disk_feeder.proofs.Streams.{begin_most}
 
 -- the same of another source with the same plan and place, where the same is told under names
 pub missing_of : (old new : Source) (told told' : Told) → plan_of new ≡ plan_of old → new.place ≡ old.place →
-    told'.bytes_under ≡ told.bytes_under → IsMissing told old → IsMissing told' new
+    told'.bytes_under ≡ told.bytes_under → IsUntold told old → IsUntold told' new
 missing_of old new told told' plan place names was =
     let named : slice_index_or (plan_of new).names new.place.file [] ≡ current_name old =
     ap (λ (p : Plan). slice_index_or p.names new.place.file []) plan
@@ -31,7 +31,7 @@ missing_of old new told told' plan place names was =
 
 -- a file that was to be opened or read
 pub missing_here : (source : Source) (told : Told) → HasMore source →
-    (IsSome (told.bytes_under (current_name source)) → ⊥) → IsMissing told source
+    (IsSome (told.bytes_under (current_name source)) → ⊥) → IsUntold told source
 missing_here source told more untold =
     let most = begin_most (plan_of source).starts (length (plan_of source).names) source.place.transfer
     (plan_starts source) more.there in
@@ -44,9 +44,9 @@ missing_here source told more untold =
 
 -- a call that finds one due, where it had not ended
 pub fault_due : (s : Stream) (told : Told) → s.end ≡ None →
-    (s.due ≡ Some (Stopped ReadFault) → IsMissing told s.source) → FaultIsMissing told s
+    (s.due ≡ Some (Stopped ReadFault) → IsUntold told s.source) → FaultIsUntold told s
 fault_due s told running missing = by_fault
   where
-    by_fault : (s.due ≡ Some (Stopped ReadFault)) ⊎ (s.end ≡ Some ReadFault) → IsMissing told s.source
+    by_fault : (s.due ≡ Some (Stopped ReadFault)) ⊎ (s.end ≡ Some ReadFault) → IsUntold told s.source
     by_fault (inl due) = missing due
     by_fault (inr end) = absurd cc

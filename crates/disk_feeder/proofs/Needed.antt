@@ -3,7 +3,7 @@ use Rattle.std.proofs.Common.{◌≡◌, ℕ, ◌+◌, ◌<◌, ◌≤◌, Bool,
 use Rattle.std.specs.Prelude.{slice_index_or, if◌then◌else◌}
 use Rattle.psr_base.specs.Told.{Told}
 use Rattle.disk_feeder.specs.declared.place.Place.{Place}
-use Rattle.disk_feeder.specs.Plan.{Plan, AreTold, begin_at, IsAmong, AreToldAt, AreToldTo, opened_at}
+use Rattle.disk_feeder.specs.Plan.{Plan, AreTold, begin_at, IsAmong, AreToldAt, AreToldTo, AreToldWithFirsts, opened_at, HeadersAreTold}
 use Rattle.disk_feeder.specs.Reading.{NoStopBefore}
 
 -- where nothing under a name changed, the same files are told
@@ -22,29 +22,48 @@ all_told Needed told names files are = record { count = are.count; each = λ k b
 
 -- ---- the first of them
 
-among_more : (few many : ℕ) (starts : List ℕ) (count k : ℕ) → few ≤ many → IsAmong few starts count k →
-    IsAmong many starts count k
-among_more few many starts count k less (inl below) = inl (omega arith)
-among_more few many starts count k less (inr first) = inr first
-
 -- where more are told, fewer are
 pub told_fewer : (few many : ℕ) (told : Told) (plan : Plan) (files : List (List ℕ)) → few ≤ many →
     AreToldTo many told plan files → AreToldTo few told plan files
 told_fewer few many told plan files less are = record {
   count = are.count;
-  each = λ k below needed.
-      are.each k below (among_more few many plan.starts (length plan.names) k less needed);
+  each = λ k below needed. are.each k below (more k needed);
 }
+  where
+    more : (k : ℕ) → k < few → k < many
+    more k below = omega arith
 
 -- a file of the first ones is told
 pub told_within : (opened : ℕ) (told : Told) (plan : Plan) (files : List (List ℕ)) (k : ℕ) →
     AreToldTo opened told plan files → k < length plan.names → k < opened →
     told.bytes_under (slice_index_or plan.names k []) ≡ Some (slice_index_or files k [])
-told_within opened told plan files k are below within = are.each k below (inl within)
+told_within opened told plan files k are below within = are.each k below within
 
--- and the first file of each transfer
+-- ---- and the first file of each transfer
+
+among_more : (few many : ℕ) (starts : List ℕ) (count k : ℕ) → few ≤ many → IsAmong few starts count k →
+    IsAmong many starts count k
+among_more few many starts count k less (inl below) = inl (omega arith)
+among_more few many starts count k less (inr first) = inr first
+
+firsts_fewer : (few many : ℕ) (told : Told) (plan : Plan) (files : List (List ℕ)) → few ≤ many →
+    AreToldWithFirsts many told plan files → AreToldWithFirsts few told plan files
+firsts_fewer few many told plan files less are = record {
+  count = are.count;
+  each = λ k below needed.
+      are.each k below (among_more few many plan.starts (length plan.names) k less needed);
+}
+
+-- without those
+pub firsts_aside : (opened : ℕ) (told : Told) (plan : Plan) (files : List (List ℕ)) →
+    AreToldWithFirsts opened told plan files → AreToldTo opened told plan files
+firsts_aside opened told plan files are = record {
+  count = are.count;
+  each = λ k below within. are.each k below (inl within);
+}
+
 pub told_first : (opened : ℕ) (told : Told) (plan : Plan) (files : List (List ℕ)) (transfer : ℕ) →
-    AreToldTo opened told plan files → transfer < length plan.starts →
+    AreToldWithFirsts opened told plan files → transfer < length plan.starts →
     begin_at plan.starts (length plan.names) transfer < length plan.names →
     told.bytes_under (slice_index_or plan.names (begin_at plan.starts (length plan.names) transfer) [])
     ≡ Some (slice_index_or files (begin_at plan.starts (length plan.names) transfer) [])
@@ -63,6 +82,11 @@ pub told_opened : (at : Place) (told : Told) (plan : Plan) (files : List (List �
 told_opened at told plan files are =
     told_fewer (opened_at at) (at.file + 1) told plan files (opened_by at.is_open at.file) are
 
+pub firsts_opened : (at : Place) (told : Told) (plan : Plan) (files : List (List ℕ)) →
+    AreToldWithFirsts (at.file + 1) told plan files → AreToldWithFirsts (opened_at at) told plan files
+firsts_opened at told plan files are =
+    firsts_fewer (opened_at at) (at.file + 1) told plan files (opened_by at.is_open at.file) are
+
 -- where that is open, it is the last of them
 pub told_to_open : (at : Place) (told : Told) (plan : Plan) (files : List (List ℕ)) → at.is_open ≡ true →
     AreToldTo (opened_at at) told plan files → AreToldTo (at.file + 1) told plan files
@@ -76,5 +100,12 @@ told_to_open at told plan files open_now are =
 pub passed_still : (plan : Plan) (told told' : Told) (file : ℕ) → told'.bytes_under ≡ told.bytes_under →
     NoStopBefore plan told file → NoStopBefore plan told' file
 passed_still plan told told' file same passed = λ k less files are.
-    passed k less files
-    (told_before (IsAmong (k + 1) plan.starts (length plan.names)) told told' plan.names files same are)
+    passed k less files (told_before (λ j. j < k + 1) told told' plan.names files same are)
+
+-- and the first headers are those of their files still
+pub headers_still : (plan : Plan) (told told' : Told) → told'.bytes_under ≡ told.bytes_under →
+    HeadersAreTold plan told → HeadersAreTold plan told'
+headers_still plan told told' same headers = λ transfer header at file known.
+    headers transfer header at file
+    (ap (λ (f : List ℕ → Option (List ℕ)).
+    f (slice_index_or plan.names (begin_at plan.starts (length plan.names) transfer) [])) (sym same) ∙ known)

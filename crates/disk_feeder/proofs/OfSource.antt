@@ -6,7 +6,7 @@ use Rattle.psr_base.specs.Told.{Told}
 use Rattle.stream_model.specs.Walk.{file_at, begin_of}
 use Rattle.stream_model.specs.WalkLaws.{AreStarts}
 use Rattle.disk_feeder.specs.declared.source.Source.{Source}
-use Rattle.disk_feeder.specs.Plan.{stream_of, begin_at, AreToldTo, IsPlace}
+use Rattle.disk_feeder.specs.Plan.{stream_of, begin_at, AreToldWithFirsts, IsPlace}
 use Rattle.disk_feeder.specs.Sources.{plan_of, first_name}
 use Rattle.disk_feeder.proofs.Needed.{told_first}
 use Rattle.disk_feeder.proofs.Streams.{begin_is}
@@ -61,7 +61,7 @@ reads source told told' opened names =
 
 -- the bytes of the first file of each transfer are told
 pub first_known : (opened : ℕ) (source : Source) (told : Told) (files : List (List ℕ)) →
-    AreToldTo opened told (plan_of source) files → (k : ℕ) → k < length source.starts.now →
+    AreToldWithFirsts opened told (plan_of source) files → (k : ℕ) → k < length source.starts.now →
     told.bytes_under (first_name source k)
     ≡ Some (file_at (stream_of (plan_of source) files) (begin_of (stream_of (plan_of source) files) k))
 first_known opened source told files are k there =

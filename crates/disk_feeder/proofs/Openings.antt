@@ -12,13 +12,13 @@ use Rattle.disk_feeder.specs.declared.answers.FeedEnd.TheVariants.{Whole, ReadFa
 use Rattle.disk_feeder.specs.declared.place.First.{First}
 use Rattle.disk_feeder.specs.declared.place.Place.{Place}
 use Rattle.disk_feeder.specs.Ends.{end_of, IsOfHeader}
-use Rattle.disk_feeder.specs.Plan.{Plan, stream_of, IsAmong, AreToldTo, opened_at, begin_at}
+use Rattle.disk_feeder.specs.Plan.{Plan, stream_of, AreToldTo, opened_at, begin_at}
 use Rattle.disk_feeder.specs.Reading.{IsAt, HasRead, IsFront, IsEnd, StopsAtFile, EndsReading}
 use Rattle.disk_feeder.specs.Reached.{WalkGoesOn}
 use Rattle.disk_feeder.proofs.Reaching.{IsWithin, came_to}
 use Rattle.disk_feeder.proofs.Headers.{stop_blocks, stop_number, stop_of_header}
 use Rattle.disk_feeder.proofs.Needed.{told_before}
-use Rattle.disk_feeder.proofs.Streams.{starts_of, begin_most, is_in, first_of, judged_by}
+use Rattle.disk_feeder.proofs.Streams.{starts_of, begin_most, is_in, first_header, first_of, judged_by}
 
 -- an end of a header is the walk's
 ends_by_header : (s : FileStream) (at : Place) (before : List (List ℕ)) (current : List ℕ) (room : ℕ) (end : FeedEnd) →
@@ -47,9 +47,9 @@ module _ (plan : Plan) (told told' : Told) (at : Place) (before : List (List ℕ
   s = stream_of plan files
 
   abbrev still : AreToldTo (opened_at at) told plan files
-  still = told_before (IsAmong (opened_at at) plan.starts (length plan.names)) told told' plan.names files o.names are
+  still = told_before (λ k. k < opened_at at) told told' plan.names files o.names are
 
-  was : IsAt s plan told at before current
+  was : IsAt s told at before current
   was = has.known files still
 
   starts : AreStarts plan.starts (length files)
@@ -73,21 +73,26 @@ module _ (plan : Plan) (told told' : Told) (at : Place) (before : List (List ℕ
   so_far = was.shut o.shut
 
   -- what the header is judged by
-  pub stop_is : (first : First) → slice_get plan.firsts at.transfer ≡ Some (Some first) →
-      length plan.headers ≡ length plan.starts →
+  pub stop_is : AreToldTo (at.file + 1) told' plan files → (first : First) →
+      slice_get plan.firsts at.transfer ≡ Some (Some first) → length plan.headers ≡ length plan.starts →
       header_stop s at.file
       ≡ later_stop at.file first.profile (first.offset + at.since) (header_of (file_at s at.file))
-  stop_is first is headed =
+  stop_is full first is headed =
       let below = o.there in
+      let from = o.from in
+      let upto = o.upto in
+      let most = begin_most plan.starts (length plan.names) at.transfer o.starts o.there in
+      let known = told_before (λ k. k < at.file + 1) told told' plan.names files o.names full in
       judged_by s at.transfer at.file at.since first transfer_is
-      (first_of plan s at.transfer first has.accepted was.headers (omega arith) is)
+      (first_of plan s at.transfer first has.accepted
+      (first_header (at.file + 1) plan told files at.transfer has.headers known (omega arith) (omega arith))
+      (omega arith) is)
       (sym has.since ∙ ap (length {A = ℕ}) so_far)
 
   -- it goes on
   pub went_on : DataGrow → header_stop s at.file ≡ None → left_to_read told' ≡ Some (data_of (file_at s at.file)) →
-      IsAt s plan told' (record at { is_open = true }) before current
+      IsAt s told' (record at { is_open = true }) before current
   went_on grow none left = record {
-    headers = was.headers;
     earlier = was.earlier;
     passed = was.passed;
     judged = λ open_now. none;

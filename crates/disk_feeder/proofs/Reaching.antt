@@ -24,7 +24,7 @@ pub came_to : (plan : Plan) (told : Told) (at : Place) (before : List (List ℕ)
     CameTo (stream_of plan files) at.transfer at.file before current
 came_to plan told at before current w has files are = by_file at.is_open refl
   where
-    was : IsAt (stream_of plan files) plan told at before current
+    was : IsAt (stream_of plan files) told at before current
     was = has.known files are
 
     by_file : (b : Bool) → at.is_open ≡ b → CameTo (stream_of plan files) at.transfer at.file before current

@@ -12,12 +12,12 @@ use Rattle.stream_model.specs.WalkLaws.{AreStarts, IsIn, FilesAreInTransfers, Da
 use Rattle.disk_feeder.specs.declared.answers.FeedEnd.TheVariants.{TooLong}
 use Rattle.disk_feeder.specs.declared.place.Place.{Place}
 use Rattle.disk_feeder.specs.Ends.{end_of}
-use Rattle.disk_feeder.specs.Plan.{Plan, stream_of, IsAmong, AreToldTo, opened_at, begin_at}
+use Rattle.disk_feeder.specs.Plan.{Plan, stream_of, AreToldTo, opened_at, begin_at}
 use Rattle.disk_feeder.specs.Reading.{IsAt, HasRead, IsFront, IsEnd, StopsAtFile}
 use Rattle.disk_feeder.specs.Reached.{WalkGoesOn}
 use Rattle.disk_feeder.proofs.Reaching.{IsWithin, came_to}
 use Rattle.disk_feeder.proofs.Streams.{starts_of, begin_most, is_in}
-use Rattle.disk_feeder.proofs.Needed.{told_before, told_fewer, told_opened, passed_still}
+use Rattle.disk_feeder.proofs.Needed.{told_before, told_fewer, told_opened, passed_still, headers_still}
 use Rattle.disk_feeder.proofs.Fulls.{abandoned_past}
 
 -- what is left of what is told after n bytes
@@ -72,9 +72,9 @@ module _ (plan : Plan) (told told' : Told) (at : Place) (before : List (List ℕ
   s = stream_of plan files
 
   abbrev still : AreToldTo (opened_at at) told plan files
-  still = told_before (IsAmong (opened_at at) plan.starts (length plan.names)) told told' plan.names files o.names are
+  still = told_before (λ k. k < opened_at at) told told' plan.names files o.names are
 
-  pub was : IsAt s plan told at before current
+  pub was : IsAt s told at before current
   was = has.known files still
 
   -- what is left of the file
@@ -121,9 +121,8 @@ module _ (plan : Plan) (told told' : Told) (at : Place) (before : List (List ℕ
 
   -- n bytes more
   pub took : (n : ℕ) (buffer : List ℕ) (since total : ℕ) → GivesNext left n buffer → told' ≡ moved_by n told →
-      IsAt s plan told' (record at { since = since; total = total }) before (current ++ take n buffer)
+      IsAt s told' (record at { since = since; total = total }) before (current ++ take n buffer)
   took n buffer since total gives moved = record {
-    headers = was.headers;
     earlier = was.earlier;
     passed = was.passed;
     judged = was.judged;
@@ -140,14 +139,13 @@ module _ (plan : Plan) (told told' : Told) (at : Place) (before : List (List ℕ
 
   -- none are left
   pub closed : TransfersJoin → (buffer : List ℕ) → GivesNext left 0 buffer →
-      IsAt s plan told' (record at { file = at.file + 1; is_open = false }) before (current ++ take 0 buffer)
+      IsAt s told' (record at { file = at.file + 1; is_open = false }) before (current ++ take 0 buffer)
   closed joins buffer gives =
       let none : left ≡ [] = gives.ends refl in
       let count = all_count joins in
       let empty : length left ≡ 0 = ap (length {A = ℕ}) none in
       let within = o.within in
       record {
-        headers = was.headers;
         earlier = was.earlier;
         passed = λ j less. elim (cases_eq j at.file) [
           | inl same ↦ ap (stop_at s) same ∙ passes s at.file (was.judged o.opened) (omega arith)
@@ -232,6 +230,7 @@ has_closed plan told told' at before current o has joins buffer gives =
     let total = has.total in
     record {
       accepted = has.accepted;
+      headers = headers_still plan told told' o.names has.headers;
       transfers = has.transfers;
       since = omega arith;
       total = omega arith;
@@ -262,6 +261,7 @@ has_took plan told told' at before current o has n buffer room gives moved =
     let total = has.total in
     record {
       accepted = has.accepted;
+      headers = headers_still plan told told' o.names has.headers;
       transfers = has.transfers;
       since = omega arith;
       total = omega arith;

@@ -188,6 +188,8 @@ whole_sealed whole plan told after size headers blocks f all headed at_begin sea
       );
       passed = has.passed;
       last = λ bytes is. past;
+      there = λ other. absurd (other after.total refl);
+      names = tt;
       known = λ files are.
           whole_at whole plan told after f.before size blocks files (told_opened after told plan files are) has all past
           f.stream;
@@ -288,10 +290,13 @@ cut_sealed plan told at block held end headers blocks blocks' f within there hea
       before = f.before;
       current = f.current;
       few = omega arith;
-      sealed = sealed_early plan size f.before f.current headers blocks' end f.next.3 stream (omega arith)
+      sealed = sealed_early plan size f.before f.current headers blocks' end f.next.3.early stream (omega
+          arith)
           (heads ∙ ap (λ (n : ℕ). header_entries (take (n + 1) plan.headers)) (sym transfers));
       passed = f.next.2.passed;
-      last = λ bytes whole. absurd (not_early plan end bytes f.next.3 whole);
+      last = λ bytes whole. absurd (not_early plan end bytes f.next.3.early whole);
+      there = λ other. f.next.3.there;
+      names = f.next.3.names;
       known = λ files are.
           ends_known (stream_of plan files) at f.before f.current size f.fulls held blocks' blocks end
           (f.next.2.ends files are) f.count f.next.1 f.sealed is stream;

@@ -15,7 +15,7 @@ use Rattle.disk_feeder.specs.declared.due.Due.{Due}
 use Rattle.disk_feeder.specs.declared.due.Due.TheVariants.{Full, Last, Stopped}
 use Rattle.disk_feeder.specs.declared.place.Place.{Place}
 use Rattle.disk_feeder.specs.declared.stream.Stream.{Stream}
-use Rattle.disk_feeder.specs.Plan.{Plan, stream_of, AreTold, IsAmong, AreToldTo, opened_at}
+use Rattle.disk_feeder.specs.Plan.{Plan, stream_of, AreTold, AreToldTo, opened_at}
 use Rattle.disk_feeder.specs.Reached.{WalkGoesOn}
 use Rattle.disk_feeder.specs.Reading.{IsEnd, EndsReading, judged_at}
 use Rattle.disk_feeder.specs.Sources.{plan_of}
@@ -98,8 +98,7 @@ by_end s at before current size fulls held (TooLong limit) ends count less few =
 -- all files are told, so those that were opened are
 told_now : (plan : Plan) (told : Told) (at : Place) (files : List (List ℕ)) → AreTold told plan.names files →
     AreToldTo (opened_at at) told plan files
-told_now plan told at files are =
-    all_told (IsAmong (opened_at at) plan.starts (length plan.names)) told plan.names files are
+told_now plan told at files are = all_told (λ k. k < opened_at at) told plan.names files are
 
 by_due : WalkGoesOn → (plan : Plan) (told : Told) (at : Place) (before : List (List ℕ)) (current : List ℕ)
     (size fulls held : ℕ) (due : Option Due) → IsWithin plan at → DueIs plan told at before current size held due →
@@ -118,8 +117,7 @@ by_due goes plan told at before current size fulls held (Some (Stopped end)) w d
     let total = d.0.total in
     let within = w.within in
     by_end (stream_of plan files) at before current size fulls held end
-    (d.2.ends files
-    (all_told (IsAmong (judged_at end at) plan.starts (length plan.names)) told plan.names files are)) count d.1
+    (d.2.ends files (all_told (λ k. k < judged_at end at) told plan.names files are)) count d.1
     (omega arith)
 
 -- where a stream is

@@ -1,5 +1,5 @@
 -- The files of a plan as a walk sees them.
-use Rattle.std.proofs.Common.{◌≡◌, ℕ, ◌+◌, ◌<◌, ◌≤◌, List, [], Option, Some, Result, length, get_or, sym, ap, ◌∙◌, subst, inl, inr, arith}
+use Rattle.std.proofs.Common.{◌≡◌, ℕ, ◌+◌, ◌<◌, ◌≤◌, List, [], Option, Some, Result, Ok, length, get_or, sym, ap, ◌∙◌, subst, inl, inr, arith}
 use Rattle.std.proofs.lemmas.Bool.{cases_lt}
 use Rattle.std.proofs.lemmas.List.{get_or_past}
 use Rattle.std.specs.Prelude.{slice_get, slice_index_or}
@@ -10,8 +10,10 @@ use Rattle.obs_plan.specs.Later.{profile_of}
 use Rattle.obs_plan.specs.declared.profile.Profile.{Profile}
 use Rattle.stream_model.specs.Walk.{FileStream, file_at, begin_of, transfer_of, data_between, observation_at, fields_past, header_stop, later_stop}
 use Rattle.stream_model.specs.WalkLaws.{AreStarts, IsIn}
+use Rattle.psr_base.specs.Told.{Told}
 use Rattle.disk_feeder.specs.declared.place.First.{First}
-use Rattle.disk_feeder.specs.Plan.{Plan, stream_of, begin_at, AreAccepted, HasHeaders}
+use Rattle.disk_feeder.specs.Plan.{Plan, stream_of, begin_at, AreToldTo, AreAccepted, HeadersAreTold}
+use Rattle.disk_feeder.proofs.Needed.{told_within}
 
 -- the next transfer begins within the files, or past them
 pub begin_most : (starts : List ℕ) (count t : ℕ) → AreStarts starts count → t < length starts →
@@ -42,9 +44,23 @@ module _ (plan : Plan) (files : List (List ℕ)) (count : length files ≡ lengt
 some_is : {A : Type 0} (x y : A) (o : Option A) → o ≡ Some x → o ≡ Some y → x ≡ y
 some_is x y o e f = cc
 
--- the first header of a transfer, which was accepted
-pub first_of : (plan : Plan) (s : FileStream) (t : ℕ) (first : First) → AreAccepted plan → HasHeaders plan s →
-    t < length plan.headers → slice_get plan.firsts t ≡ Some (Some first) →
+-- that of its first file, where this is one of the first ones that are told
+pub first_header : (opened : ℕ) (plan : Plan) (told : Told) (files : List (List ℕ)) (t : ℕ) →
+    HeadersAreTold plan told → AreToldTo opened told plan files →
+    begin_at plan.starts (length plan.names) t < length plan.names →
+    begin_at plan.starts (length plan.names) t < opened → (header : HeaderText) →
+    slice_get plan.headers t ≡ Some header →
+    header_of (file_at (stream_of plan files) (begin_of (stream_of plan files) t)) ≡ Ok header
+first_header opened plan told files t headers are below within header at =
+    let k = begin_at plan.starts (length plan.names) t in
+    ap (λ (i : ℕ). header_of (slice_index_or files i [])) (begin_is plan files are.count t)
+    ∙ headers t header at (slice_index_or files k []) (told_within opened told plan files k are below within)
+
+-- it was accepted
+pub first_of : (plan : Plan) (s : FileStream) (t : ℕ) (first : First) → AreAccepted plan →
+    ((header : HeaderText) → slice_get plan.headers t ≡ Some header →
+    header_of (file_at s (begin_of s t)) ≡ Ok header) → t < length plan.headers →
+    slice_get plan.firsts t ≡ Some (Some first) →
     (first.profile ≡ profile_of (observation_at (file_at s (begin_of s t))))
     × (first.offset ≡ (observation_at (file_at s (begin_of s t))).obs_offset)
 unfolding observation_at
@@ -56,7 +72,7 @@ first_of plan s t first accepted headers below is =
     let same : Some a.0 ≡ Some first = some_is (Some a.0) (Some first) (slice_get plan.firsts t) a.1 is in
     let one : a.0 ≡ first = cc in
     let seen : observation_at (file_at s (begin_of s t)) ≡ observation_in (fields_of header.text) =
-    ap (λ (r : Result HeaderText HeaderRefusal). observation_in (fields_past r)) (headers t header at) in (
+    ap (λ (r : Result HeaderText HeaderRefusal). observation_in (fields_past r)) (headers header at) in (
       ap (λ (f : First). f.profile) (sym one) ∙ a.2.profile ∙ ap profile_of (sym seen),
       ap (λ (f : First). f.offset) (sym one) ∙ a.2.offset ∙ ap (λ (o : Observation). o.obs_offset) (sym seen),
     )

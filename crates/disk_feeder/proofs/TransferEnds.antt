@@ -27,7 +27,7 @@ module _ (plan : Plan) (told : Told) (at : Place) (before : List (List ℕ)) (cu
   after = record at { transfer = at.transfer + 1; since = 0 }
 
   at_next : (files : List (List ℕ)) → AreToldTo (opened_at at) told plan files →
-      IsAt (stream_of plan files) plan told after (before ++ current ∷ []) []
+      IsAt (stream_of plan files) told after (before ++ current ∷ []) []
   at_next files are =
       let s = stream_of plan files in
       let was = has.known files are in
@@ -36,7 +36,6 @@ module _ (plan : Plan) (told : Told) (at : Place) (before : List (List ℕ)) (cu
       let all : current ≡ transfer_data s at.transfer =
       was.shut shut ∙ ap (data_between files (begin_of s at.transfer)) next in
       record {
-        headers = was.headers;
         earlier = ap (λ (b : List (List ℕ)). b ++ current ∷ []) was.earlier
             ∙ ap (λ (one : List ℕ). take at.transfer (walk_data s) ++ one ∷ []) all
             ∙ sym (more s at.transfer there);
@@ -53,6 +52,7 @@ module _ (plan : Plan) (told : Told) (at : Place) (before : List (List ℕ)) (cu
       let total = has.total in
       record {
         accepted = has.accepted;
+        headers = has.headers;
         transfers = omega (arith, length_push before current);
         since = refl;
         total = omega (

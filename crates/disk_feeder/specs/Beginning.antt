@@ -46,7 +46,7 @@ FirstsRead told source count told' = (file_of : ℕ → List ℕ) →
     told' ≡ firsts_read (first_name source) file_of count told
 
 -- A fault came before the first header of some transfer was judged; those before it were read, and are headers. Of
--- calm inputs it comes only where that file isn't told.
+-- calm inputs it comes only where that file isn't told, and nothing else was read.
 pub record BreaksFirst (told : Told) (is_calm : Type 0) (source : Source) (told' : Told) :
     Type 0 where
   pub transfer : ℕ
@@ -58,6 +58,7 @@ pub record BreaksFirst (told : Told) (is_calm : Type 0) (source : Source) (told'
       BreaksAt (first_name source transfer) (file_of transfer)
       (firsts_read (first_name source) file_of transfer told) told'
   pub missing : is_calm → ¬ IsSome (told.bytes_under (first_name source transfer))
+  pub unopened : is_calm → FirstsRead told source transfer told'
 
 -- a fault names this file, if it names one
 abbrev pub NamesFile : FeedFault → ℕ → Type 0
@@ -88,9 +89,10 @@ pub record IsFreshStream (s : Stream) : Type 0 where
   pub header_due : s.header_due ≡ false
   pub end : s.end ≡ None
 
--- the first headers were read; the file is open where there is one transfer
+-- the first headers were read; the file is open only where there is one transfer
 pub record IsBegunStream (told : Told) (s : Stream) : Type 0 where
   pub place : s.source.place ≡ start_place s.source.place.is_open
+  pub one : s.source.place.is_open ≡ true → length s.source.starts.now ≡ 1
   pub held : s.held ≡ 0
   pub due : s.due ≡ None
   pub header_due : s.header_due ≡ false

@@ -28,6 +28,12 @@ abbrev pub IsStop : Option WalkStop → FeedEnd → Type 0
 IsStop None end = ⊥
 IsStop (Some stop) end = (bytes limit : ℕ) → end ≡ end_of bytes limit stop
 
+-- an end names this file, if it names one
+abbrev pub NamesPlace : FeedEnd → ℕ → Type 0
+NamesPlace (BadHeader k cause) file = k ≡ file
+NamesPlace (Gap k expected found) file = k ≡ file
+NamesPlace end file = ⊤
+
 -- the end that a header gives
 abbrev pub IsOfHeader : FeedEnd → Type 0
 IsOfHeader (Whole bytes) = ⊥

@@ -16,7 +16,7 @@ use Rattle.disk_feeder.specs.Sources.{plan_of}
 use Rattle.disk_feeder.specs.Filling.{IsSince}
 use Rattle.disk_feeder.specs.Streams.{StreamRead, StreamReadsFirsts}
 use Rattle.disk_feeder.specs.Beginning.{IsFreshStream, IsBegunStream, LastLeft, FirstsRead, BreaksFirst, RefusesSome, IsAcceptedIn}
-use Rattle.disk_feeder.specs.Feeding.{FitsRings, IsFaultless, FaultIsMissing, IsFeeding, IsBeginning}
+use Rattle.disk_feeder.specs.Feeding.{FitsRings, IsFaultless, FaultIsUntold, FaultIsUnopened, IsFeeding, IsBeginning}
 
 -- the stream of a feeder
 abbrev pub stream_at : {I : Type 0} → Feeder I → Stream
@@ -130,7 +130,11 @@ FeederFaultless f = IsFaultless f.stream.due f.stream.end
 
 -- where a fault came, the file at the place isn't told
 abbrev pub FeederMisses : {I : Type 0} → Told → Feeder I → Type 0
-FeederMisses told f = FaultIsMissing told f.stream
+FeederMisses told f = FaultIsUntold told f.stream
+
+-- and it was not opened; those before it were read since its inputs told `before`
+abbrev pub FeederUnopened : {I : Type 0} → Told → Told → Feeder I → Type 0
+FeederUnopened before told f = FaultIsUnopened before told f.stream
 
 -- all first headers were accepted
 abbrev pub AllAccepted : {I : Type 0} → Feeder I → Type 0

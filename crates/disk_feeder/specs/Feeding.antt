@@ -20,13 +20,13 @@ use Rattle.disk_feeder.specs.declared.answers.FeedTurn.{FeedTurn}
 use Rattle.disk_feeder.specs.declared.answers.FeedTurn.TheVariants.{Moved, Ended}
 use Rattle.disk_feeder.specs.declared.place.Place.{Place}
 use Rattle.disk_feeder.specs.declared.stream.Stream.{Stream}
-use Rattle.disk_feeder.specs.Ends.{end_of}
+use Rattle.disk_feeder.specs.Ends.{end_of, NamesPlace}
 use Rattle.disk_feeder.specs.declared.source.Source.{Source}
-use Rattle.disk_feeder.specs.History.{BreaksIf}
-use Rattle.disk_feeder.specs.Plan.{Plan, stream_of, AreTold, AreToldTo, opened_at, AreAccepted}
+use Rattle.disk_feeder.specs.History.{BreaksIf, ReadsBefore}
+use Rattle.disk_feeder.specs.Plan.{Plan, stream_of, AreTold, AreToldTo, AreToldWithFirsts, opened_at, AreAccepted}
 use Rattle.disk_feeder.specs.Reading.{NoStopBefore, StopsAtFile, judged_at}
 use Rattle.disk_feeder.specs.Sources.{plan_of, current_name, IsEarly}
-use Rattle.disk_feeder.specs.Streams.{IsStream}
+use Rattle.disk_feeder.specs.Streams.{IsStream, StreamRead}
 use Rattle.disk_feeder.specs.Filling.{IsSince}
 use Rattle.disk_feeder.specs.Turns.{sealed_headers, sealed_blocks}
 
@@ -110,8 +110,8 @@ StopsWalkAt ReadFault s file = ⊤
 StopsWalkAt end s file = StopsAtFile (walk_stop s) file
 
 -- Once it ended at a place, they are the stream of the data that were read, which lie within the limit; and where the
--- files that judge the end are told, the walk's. No file before that of the place stops the walk; where all data were
--- sealed it is past all files.
+-- files that judge the end are told, the walk's. No file before that of the place stops the walk. Where all data were
+-- sealed it is past all files; else its file is there, and the only one that the end names.
 pub record IsEnded (plan : Plan) (told : Told) (at : Place) (size : ℕ)
     (headers blocks : List Entry) (end : FeedEnd) : Type 0 where
   pub before : List (List ℕ)
@@ -120,6 +120,8 @@ pub record IsEnded (plan : Plan) (told : Told) (at : Place) (size : ℕ)
   pub sealed : SealedAs plan size before current headers blocks end
   pub passed : NoStopBefore plan told at.file
   pub last : (bytes : ℕ) → end ≡ Whole bytes → at.file ≡ length plan.names
+  pub there : ((bytes : ℕ) → end ≢ Whole bytes) → at.file < length plan.names
+  pub names : NamesPlace end at.file
   pub known : (files : List (List ℕ)) → AreToldTo (judged_at end at) told plan files →
       EndIs (stream_of plan files) size blocks end
   pub stops : (files : List (List ℕ)) → AreToldTo (judged_at end at) told plan files →
@@ -155,15 +157,18 @@ IsFeeding s told headers blocks = FeedsTo s told headers blocks s.end
 -- What a fault of the inputs leaves of the walk of files, over what inputs told before anything was read and tell now.
 -- It came at this place, and no file before stops the walk. Where the files that were opened are told, nothing that was
 -- read stops it, and the full blocks of the transfer are those of the data bytes that were read of it, and no other.
--- Where the file at the place is told too, it was not opened, or its header isn't judged by what was read; or its header
--- goes on, and it was read up to the place.
-pub record BreaksReading (plan : Plan) (before after : Told) (at : Place) (size : ℕ)
-    (blocks : List Entry) : Type 0 where
+-- Where the file at the place and the first one of each transfer are told too, it was not opened, or its header isn't
+-- judged by what was read; or its header goes on, and it was read up to the place. Calm inputs could not open it: where
+-- those before it are told, and the first one of each transfer, they were read to their ends, and nothing else was.
+pub record BreaksReading (plan : Plan) (before : Told) (is_calm : Type 0) (after : Told)
+    (at : Place) (size : ℕ) (blocks : List Entry) : Type 0 where
   pub passed : NoStopBefore plan after at.file
   pub cut : (files : List (List ℕ)) → AreToldTo (opened_at at) after plan files →
       IsCutAt (stream_of plan files) at size blocks
-  pub stood : (files : List (List ℕ)) → AreToldTo (at.file + 1) after plan files →
+  pub stood : (files : List (List ℕ)) → AreToldWithFirsts (at.file + 1) after plan files →
       BreaksIf at.is_open plan.names (stream_of plan files) before after at
+  pub shut : is_calm → at.is_open ≡ false
+  pub unopened : is_calm → ReadsBefore plan before after at
 
 -- the plan and the size of a block stay
 pub record KeepsPlan (old new : Stream) : Type 0 where
@@ -177,22 +182,32 @@ Feeds old pass new pass' = (told : Told) →
     IsFeeding new told (sealed_headers pass') (sealed_blocks pass')
 
 -- the file at the place isn't told
-pub record IsMissing (told : Told) (source : Source) : Type 0 where
+pub record IsUntold (told : Told) (source : Source) : Type 0 where
   pub there : source.place.file < length (plan_of source).names
   pub untold : ¬ IsSome (told.bytes_under (current_name source))
 
 -- where a fault of the inputs is due or came, the file at the place is such a one
-abbrev pub FaultIsMissing : Told → Stream → Type 0
-FaultIsMissing told s = (s.due ≡ Some (Stopped ReadFault)) ⊎ (s.end ≡ Some ReadFault) →
-    IsMissing told s.source
+abbrev pub FaultIsUntold : Told → Stream → Type 0
+FaultIsUntold told s = (s.due ≡ Some (Stopped ReadFault)) ⊎ (s.end ≡ Some ReadFault) →
+    IsUntold told s.source
+
+-- the file at the place was not opened, and those before it were read since the inputs told `before`
+pub record IsUnopened (before told : Told) (source : Source) : Type 0 where
+  pub shut : source.place.is_open ≡ false
+  pub read : ReadsBefore (plan_of source) before told source.place
+
+-- so it was where a fault of the inputs is due or came
+abbrev pub FaultIsUnopened : Told → Told → Stream → Type 0
+FaultIsUnopened before told s = (s.due ≡ Some (Stopped ReadFault)) ⊎ (s.end ≡ Some ReadFault) →
+    IsUnopened before told s.source
 
 -- no fault of the inputs came
 abbrev pub IsFaultless : Option Due → Option FeedEnd → Type 0
 IsFaultless due end = (due ≢ Some (Stopped ReadFault)) × (end ≢ Some ReadFault)
 
 -- What reading keeps of the inputs. Files stay as they are told; a fault is due or came only where the count of faults
--- rose, and of calm inputs only at a file that isn't told. In this: what inputs tell, whether they are calm, and how
--- many calls have failed.
+-- rose, and of calm inputs only at a file that isn't told and was not opened. In this: what inputs tell, whether they
+-- are calm, and how many calls have failed.
 pub record KeepsInputs {I : Type 0} (told : I → Told) (is_calm : I → Type 0) (faults : I → ℕ)
     (old new : Stream) (inputs inputs' : I) : Type 0 where
   pub names : (told inputs').bytes_under ≡ (told inputs).bytes_under
@@ -201,17 +216,21 @@ pub record KeepsInputs {I : Type 0} (told : I → Told) (is_calm : I → Type 0)
   pub since : (k : ℕ) → IsSince k (faults inputs) old.due old.end →
       IsSince k (faults inputs') new.due new.end
   pub calm : is_calm inputs → is_calm inputs'
-  pub missing : is_calm inputs → FaultIsMissing (told inputs) old →
-      FaultIsMissing (told inputs') new
+  pub missing : is_calm inputs → FaultIsUntold (told inputs) old →
+      FaultIsUntold (told inputs') new
+  pub unopened : is_calm inputs → (before : Told) → StreamRead before (told inputs) old →
+      FaultIsUnopened before (told inputs) old → FaultIsUnopened before (told inputs') new
 
 -- What a seal leaves, which reads nothing: the plan and the size of a block stay, and no file is opened. Where a fault
--- came before, one has come still, and where it came at a file that isn't told, it still stands there
+-- came before, one has come still; where it came at a file that isn't told, or was not opened, it stands there still
 pub record AfterSeal (old new : Stream) : Type 0 where
   pub plan : plan_of new.source ≡ plan_of old.source
   pub size : length new.block.items ≡ length old.block.items
   pub opened : new.source.place.is_open ≡ true → old.source.place.is_open ≡ true
   pub since : (k faults : ℕ) → IsSince k faults old.due old.end → IsSince k faults new.due new.end
-  pub missing : (told : Told) → FaultIsMissing told old → FaultIsMissing told new
+  pub missing : (told : Told) → FaultIsUntold told old → FaultIsUntold told new
+  pub unopened : (before told : Told) → FaultIsUnopened before told old →
+      FaultIsUnopened before told new
   pub failed : IsFaultless new.due new.end → IsFaultless old.due old.end
 
 -- after a transfer: the header of the next one is due, or all data were sealed

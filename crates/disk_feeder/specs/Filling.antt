@@ -13,7 +13,7 @@ use Rattle.disk_feeder.specs.declared.due.Due.TheVariants.{Full, Last, Stopped}
 use Rattle.disk_feeder.specs.History.{ReadsOn}
 use Rattle.disk_feeder.specs.Plan.{Plan, begin_at}
 use Rattle.disk_feeder.specs.Reading.{HasRead, HasEnded}
-use Rattle.disk_feeder.specs.Sources.{IsEarly}
+use Rattle.disk_feeder.specs.Sources.{ComesEarly}
 
 -- what was read came behind the bytes that a block held; or reading ended, with room for so many more
 abbrev pub FillsTo : Plan → Place → Told → Place → Told → ℕ → List ℕ → List ℕ →
@@ -52,7 +52,7 @@ DueIs plan told at before current size held (Some Last) =
     HasRead plan told at before current × (held < size) × IsOver plan at
 DueIs plan told at before current size held (Some (Stopped end)) =
     IsCountOf at before current × (held < size)
-    × HasEnded plan told at before current (size - held) end × IsEarly plan end
+    × HasEnded plan told at before current (size - held) end × ComesEarly plan at end
 
 -- Blocks were sealed of the data that were read: those of the transfers before, and full ones of this transfer. The
 -- block that is filled holds the rest.

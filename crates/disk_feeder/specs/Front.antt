@@ -1,7 +1,7 @@
 -- What is read of a file's header.
 -- Source: PSRDADA manual (headers at the front of files, HDR_SIZE); that it is read in two pieces is this project's
 -- choice.
-use Rattle.std.specs.Prelude.{◌≡◌, ℕ, ◌+◌, ◌-◌, ⊤, List, ◌++◌, min, length, take, drop, Option, Some, unwrap_or, Result, Ok, Err}
+use Rattle.std.specs.Prelude.{◌≡◌, ℕ, ◌+◌, ◌-◌, ⊤, List, ◌++◌, min, length, take, drop, Option, Some, IsSome, unwrap_or, Result, Ok, Err}
 use Rattle.dada_model.specs.Fields.{HeaderText, HeaderRefusal, header_of, header_size, least_header}
 use Rattle.psr_base.specs.Told.{Told, BreaksOff}
 use Rattle.dada_header.specs.Faults.{IsHeaderRefusal}
@@ -52,3 +52,8 @@ judged_after file = unwrap_or (header_size file) least_header
 -- a fault came before the header of a file was judged: it was not opened, or too few bytes were read of it
 abbrev pub BreaksAt : List ℕ → List ℕ → Told → Told → Type 0
 BreaksAt name file old new = BreaksOff (judged_after file) name old new
+
+-- what inputs told and tell as a name could not be opened: it isn't told, and nothing was read
+pub record FailsUntold (name : List ℕ) (old new : Told) : Type 0 where
+  pub untold : ¬ IsSome (old.bytes_under name)
+  pub stays : new ≡ old

@@ -9,7 +9,7 @@ use Rattle.disk_feeder.specs.declared.due.Due.{Due}
 use Rattle.disk_feeder.specs.declared.due.Due.TheVariants.{Full, Last, Stopped}
 use Rattle.disk_feeder.specs.declared.place.Place.{Place}
 use Rattle.disk_feeder.specs.Front.{front_of, BreaksAt}
-use Rattle.disk_feeder.specs.Plan.{Plan, stream_of, AreToldTo, opened_at}
+use Rattle.disk_feeder.specs.Plan.{Plan, stream_of, AreToldWithFirsts, opened_at}
 
 -- ---- what was read
 
@@ -91,16 +91,22 @@ BreaksIf false names s before told at =
 BreaksIf true names s before told at =
     IsReadUpTo names s before told at.transfer at.file at.since
 
--- where the files that were opened are told, they were read up to the place
+-- where the files that were opened are told, and the first one of each transfer, they were read up to the place
 abbrev pub ReadsUpTo : Plan → Told → Told → Place → Type 0
 ReadsUpTo plan before told at = (files : List (List ℕ)) →
-    AreToldTo (opened_at at) told plan files →
+    AreToldWithFirsts (opened_at at) told plan files →
     StandsIf at.is_open plan.names (stream_of plan files) before told at
 
--- and there a fault came, where the file at the place is told too
+-- no file is open there: where those before it are told, and the first one of each transfer, these were read to the end
+abbrev pub ReadsBefore : Plan → Told → Told → Place → Type 0
+ReadsBefore plan before told at = (files : List (List ℕ)) →
+    AreToldWithFirsts at.file told plan files →
+    IsShut plan.names (stream_of plan files) before told at.transfer at.file at.since
+
+-- a fault came there, where the file at the place is told too
 abbrev pub BreaksOffAt : Plan → Told → Told → Place → Type 0
 BreaksOffAt plan before told at = (files : List (List ℕ)) →
-    AreToldTo (at.file + 1) told plan files →
+    AreToldWithFirsts (at.file + 1) told plan files →
     BreaksIf at.is_open plan.names (stream_of plan files) before told at
 
 -- a call read on, or a fault came; of another end nothing is said here

@@ -6,7 +6,7 @@ use Rattle.ring_blocks.specs.declared.Entry.{Entry}
 use Rattle.disk_feeder.specs.declared.answers.FeedEnd.{FeedEnd}
 use Rattle.disk_feeder.specs.declared.answers.FeedEnd.TheVariants.{ReadFault}
 use Rattle.disk_feeder.specs.declared.feeder.Feeder.{Feeder}
-use Rattle.disk_feeder.specs.Feeder.{FeederFeeds, FeederBegins, FeederRead, has_end, headers_of, plan_at, place_at, block_size}
+use Rattle.disk_feeder.specs.Feeder.{FeederFeeds, FeederBegins, FeederRead, FeederUnopened, has_end, headers_of, plan_at, place_at, block_size}
 use Rattle.disk_feeder.specs.Feeding.{HeadersKeepUp, IsEnding, BreaksReading}
 
 -- until a feeder ended, the data blocks that it stands for are a beginning of the stream of its files, without a Cut
@@ -26,8 +26,10 @@ HeadersAreFirst I = (f : Feeder I) (told : Told) (headers blocks : List Entry) �
     FeederFeeds told f headers blocks → HeadersKeepUp (headers_of f) headers blocks
 
 -- where a fault of the inputs ended it, nothing that was read stops the walk of its files, and its full blocks are
--- those of the data that were read, as they are told
+-- those of the data that were read, as they are told. Where it came to a file that could not be opened after those
+-- before it alone were read, it says so still
 abbrev pub FaultsLeave : Type 0 → Type 0
 FaultsLeave I = (f : Feeder I) (before told : Told) (headers blocks : List Entry) →
     FeederFeeds told f headers blocks → has_end f ≡ Some ReadFault → FeederRead before told f →
-    BreaksReading (plan_at f) before told (place_at f) (block_size f) blocks
+    BreaksReading (plan_at f) before (FeederUnopened before told f) told (place_at f) (block_size f)
+    blocks

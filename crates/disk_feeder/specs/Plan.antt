@@ -4,8 +4,8 @@ use Rattle.std.specs.Prelude.{◌≡◌, ℕ, ◌+◌, ◌<◌, ◌≤◌, ◌�
 use Rattle.dada_model.specs.Fields.{HeaderText, fields_of, header_of}
 use Rattle.dada_model.specs.Observation.{observation_of, observation_in}
 use Rattle.obs_plan.specs.Later.{profile_of}
-use Rattle.psr_base.specs.Told.{Told}
-use Rattle.stream_model.specs.Walk.{FileStream, file_at, begin_of}
+use Rattle.psr_base.specs.Told.{Told, OfFile}
+use Rattle.stream_model.specs.Walk.{FileStream}
 use Rattle.disk_feeder.specs.declared.place.First.{First}
 use Rattle.disk_feeder.specs.declared.place.Place.{Place}
 
@@ -54,9 +54,13 @@ pub record AreToldAt (Needed : ℕ → Type 0) (told : Told) (names files : List
   pub each : (k : ℕ) → k < length names → Needed k →
       told.bytes_under (slice_index_or names k []) ≡ Some (slice_index_or files k [])
 
--- these are the bytes that are told of so many files from the first on, and of the first one of each transfer
+-- these are the bytes that are told of so many files from the first on
 abbrev pub AreToldTo : ℕ → Told → Plan → List (List ℕ) → Type 0
-AreToldTo opened told plan files =
+AreToldTo opened told plan files = AreToldAt (λ k. k < opened) told plan.names files
+
+-- and of the first one of each transfer
+abbrev pub AreToldWithFirsts : ℕ → Told → Plan → List (List ℕ) → Type 0
+AreToldWithFirsts opened told plan files =
     AreToldAt (IsAmong opened plan.starts (length plan.names)) told plan.names files
 
 -- into how many files a walk has come at a place, past their headers
@@ -86,8 +90,10 @@ AreAccepted plan = (transfer : ℕ) (header : HeaderText) →
     slice_get plan.headers transfer ≡ Some header →
     (first : First) × (slice_get plan.firsts transfer ≡ Some (Some first)) × IsFirst header first
 
--- the first headers are those of the files
-abbrev pub HasHeaders : Plan → FileStream → Type 0
-HasHeaders plan s = (transfer : ℕ) (header : HeaderText) →
+-- each first header is that of its file, where that is told
+abbrev pub HeadersAreTold : Plan → Told → Type 0
+HeadersAreTold plan told = (transfer : ℕ) (header : HeaderText) →
     slice_get plan.headers transfer ≡ Some header →
-    header_of (file_at s (begin_of s transfer)) ≡ Ok header
+    OfFile told
+    (slice_index_or plan.names (begin_at plan.starts (length plan.names) transfer) [])
+    (λ file. header_of file ≡ Ok header)

@@ -11,13 +11,12 @@ use Rattle.disk_feeder.specs.declared.answers.FeedEnd.{FeedEnd}
 use Rattle.disk_feeder.specs.declared.answers.FeedEnd.TheVariants.{Whole, ReadFault}
 use Rattle.disk_feeder.specs.declared.place.Place.{Place}
 use Rattle.disk_feeder.specs.Ends.{end_of}
-use Rattle.disk_feeder.specs.Plan.{Plan, stream_of, AreToldTo, opened_at, AreAccepted, HasHeaders}
+use Rattle.disk_feeder.specs.Plan.{Plan, stream_of, AreToldTo, opened_at, AreAccepted, HeadersAreTold}
 
 -- The walk of these files came to this place: `before` are the data of the transfers before, `current` those that were
 -- read of the transfer, and what is left of the open file and the files after it are still to come.
-pub record IsAt (s : FileStream) (plan : Plan) (told : Told) (at : Place)
-    (before : List (List ℕ)) (current : List ℕ) : Type 0 where
-  pub headers : HasHeaders plan s
+pub record IsAt (s : FileStream) (told : Told) (at : Place) (before : List (List ℕ))
+    (current : List ℕ) : Type 0 where
   pub earlier : before ≡ take at.transfer (walk_data s)
   pub passed : (j : ℕ) → j < at.file → stop_at s j ≡ None
   pub judged : at.is_open ≡ true → header_stop s at.file ≡ None
@@ -25,21 +24,23 @@ pub record IsAt (s : FileStream) (plan : Plan) (told : Told) (at : Place)
   pub rest : at.is_open ≡ true → (left : List ℕ) × (left_to_read told ≡ Some left)
       × (data_between s.files (begin_of s at.transfer) (at.file + 1) ≡ current ++ left)
 
--- none of the files before this one stops the walk, each by the files up to it and the first ones of the transfers
+-- none of the files before this one stops the walk, each by the files up to it
 abbrev pub NoStopBefore : Plan → Told → ℕ → Type 0
 NoStopBefore plan told file = (k : ℕ) → k < file → (files : List (List ℕ)) →
     AreToldTo (k + 1) told plan files → stop_at (stream_of plan files) k ≡ None
 
--- a feeder at a place has read these data, where the files that were opened are told
+-- A feeder at a place has read these data, where the files that were opened are told. Each first header is that of its
+-- file.
 pub record HasRead (plan : Plan) (told : Told) (at : Place) (before : List (List ℕ))
     (current : List ℕ) : Type 0 where
   pub accepted : AreAccepted plan
+  pub headers : HeadersAreTold plan told
   pub transfers : length before ≡ at.transfer
   pub since : length current ≡ at.since
   pub total : length (joined_data before) + length current ≡ at.total
   pub passed : NoStopBefore plan told at.file
   pub known : (files : List (List ℕ)) → AreToldTo (opened_at at) told plan files →
-      IsAt (stream_of plan files) plan told at before current
+      IsAt (stream_of plan files) told at before current
 
 -- Where reading ended by the inputs' fault, the data read are a front of those of the files, and their full blocks
 -- begin the walk's stream. Nothing that was read stops the walk.

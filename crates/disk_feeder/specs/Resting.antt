@@ -9,7 +9,7 @@ use Rattle.disk_feeder.specs.declared.feeder.Feeder.{Feeder}
 use Rattle.disk_feeder.specs.declared.feeder.FeederSpace.{FeederSpace}
 use Rattle.disk_feeder.specs.declared.stream.Stream.{Stream}
 use Rattle.disk_feeder.specs.Turns.{sealed_headers, sealed_blocks}
-use Rattle.disk_feeder.specs.Feeder.{HasOpenFile, plan_at, block_size, FeederFits, FeederFeeds, FeederSince, FeederFaultless, FeederMisses, FeederRead}
+use Rattle.disk_feeder.specs.Feeder.{HasOpenFile, plan_at, block_size, FeederFits, FeederFeeds, FeederSince, FeederFaultless, FeederMisses, FeederUnopened, FeederRead}
 
 -- the stream of a space
 abbrev pub stream_in : FeederSpace → Stream
@@ -49,3 +49,7 @@ pub record FeederKept {I : Type 0} (told : I → Told) (is_calm : I → Type 0) 
   pub calm : is_calm old.inputs.now → is_calm new.inputs.now
   pub missing : is_calm old.inputs.now → FeederMisses (told old.inputs.now) old →
       FeederMisses (told new.inputs.now) new
+  pub unopened : is_calm old.inputs.now → (before : Told) →
+      FeederRead before (told old.inputs.now) old →
+      FeederUnopened before (told old.inputs.now) old →
+      FeederUnopened before (told new.inputs.now) new

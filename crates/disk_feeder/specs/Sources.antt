@@ -1,6 +1,7 @@
 -- What a source of data shows, and what its calls answer.
 -- Source: this project's profile.
 use Rattle.std.specs.Prelude.{ℕ, ◌≡◌, ◌<◌, ◌≤◌, ◌+◌, ◌*◌, ◌-◌, false, if◌then◌else◌, List, [], map, slice_index_or, length, string_bytes, ⊤, Some, Ok, ◌≢◌, Option, slice_get, Result, IfOk, IfErr, OnErr}
+use Rattle.psr_base.specs.Told.{Told}
 use Rattle.dada_model.specs.Fields.{HeaderText, header_of}
 use Rattle.disk_feeder.specs.declared.source.Source.{Source}
 use Rattle.disk_feeder.specs.declared.place.Place.{Place}
@@ -11,6 +12,8 @@ use Rattle.disk_feeder.specs.declared.answers.FeedFault.TheVariants as fault
 use Rattle.disk_feeder.specs.declared.answers.FeedEnd.TheVariants.{Whole, ReadFault, BadHeader, TooLong}
 use Rattle.disk_feeder.specs.declared.answers.HeaderCause.TheVariants.{Text}
 use Rattle.dada_header.specs.Faults.{IsHeaderRefusal}
+use Rattle.disk_feeder.specs.Ends.{NamesPlace}
+use Rattle.disk_feeder.specs.Front.{FailsUntold}
 use Rattle.disk_feeder.specs.Plan.{Plan, begin_at, AreAccepted}
 use Rattle.dada_model.specs.Observation.{Observation}
 use Rattle.obs_plan.specs.Later.{profile_of}
@@ -30,6 +33,12 @@ IsEarly plan (Whole bytes) = ⊥
 IsEarly plan (TooLong limit) = limit ≡ plan.max_bytes
 IsEarly plan end = ⊤
 
+-- an early end that came at a place, whose file is there: a file that it names is this one
+pub record ComesEarly (plan : Plan) (at : Place) (end : FeedEnd) : Type 0 where
+  pub early : IsEarly plan end
+  pub there : at.file < length plan.names
+  pub names : NamesPlace end at.file
+
 -- how often files are still to be opened or to be read to their end
 abbrev pub ends_left : ℕ → Place → ℕ
 ends_left count at = 2 * (count - at.file) - (if at.is_open then 1 else 0)
@@ -37,6 +46,11 @@ ends_left count at = 2 * (count - at.file) - (if at.is_open then 1 else 0)
 -- the name of the file at the place
 abbrev pub current_name : Source → List ℕ
 current_name source = slice_index_or (plan_of source).names source.place.file []
+
+-- that file was to be opened and could not be: it isn't told, and what is told stays
+pub record FailsToOpen (source : Source) (old new : Told) : Type 0 where
+  pub shut : source.place.is_open ≡ false
+  pub fails : FailsUntold (current_name source) old new
 
 -- the end says why the file has no header, unless the inputs failed
 abbrev pub RefusesText : List ℕ → ℕ → FeedEnd → Type 0
@@ -71,7 +85,7 @@ pub record Advances (old new : Source) (result : Result ℕ FeedEnd) : Type 0 wh
       < ends_left (length old.names.now) old.place)
   pub stays : ends_left (length old.names.now) new.place
       ≤ ends_left (length old.names.now) old.place
-  pub early : IfErr result (IsEarly (plan_of old))
+  pub early : IfErr result (ComesEarly (plan_of old) old.place)
 
 -- m bytes, which are n, were counted as read
 abbrev pub IsCounted : Place → ℕ → ℕ → Place → Type 0

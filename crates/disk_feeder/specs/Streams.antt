@@ -68,7 +68,8 @@ StreamRead before told s =
 
 -- The first headers of all transfers were read, in order, and nothing else was. What is left of the last of these files
 -- are its data, and reading goes on from there.
-pub record StreamReadsFirsts (told : Told) (old : Stream) (told' : Told) (new : Stream) : Type 0 where
+pub record StreamReadsFirsts (told : Told) (old : Stream) (told' : Told) (new : Stream) :
+    Type 0 where
   pub left : LastLeft told old.source (length old.source.starts.now) told'
   pub read : FirstsRead told old.source (length old.source.starts.now) told'
   pub begins : StreamRead told told' new

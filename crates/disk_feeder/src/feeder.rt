@@ -34,7 +34,7 @@ impl<'a> FeederSpace<'a> {
 
     /// Takes all space, for blocks of so many bytes. Transfer k begins with file `starts[k]`; all files together may
     /// have `max_bytes` data bytes at most.
-    pub fn take(
+    pub fn reserve(
         alloc: Global,
         names: &'a [String],
         starts: &'a [u32],

@@ -1,10 +1,10 @@
 //! The header at the front of a file, read by exact pieces.
-ghost use Rattle.std.specs.Prelude.{◌≡◌, ◌+◌, ◌-◌, ◌≤◌, length, take, Some, Ok, Err, MatchResult, IfOk, IfErr, OnOk, OnErr, IsOk, IsErr, IsSome};
+ghost use Rattle.std.specs.Prelude.{◌≡◌, ◌+◌, ◌-◌, ◌≤◌, length, take, Some, Ok, Err, MatchResult, IfOk, IfErr, OnOk, OnErr, IsOk, IsErr};
 ghost use Rattle.std.specs.Option.{ForSome};
 ghost use Rattle.psr_base.specs.Inputs.{HasReadFrom};
 ghost use Rattle.psr_base.specs.Told.{OfFile, left_to_read, opened, moved_by, filled_by, BreaksWithin};
 ghost use Rattle.dada_model.specs.Fields.{HeaderText, header_of};
-ghost use Rattle.disk_feeder.specs.Front.{HasReadPart, IsFrontRead, IsFailure, StopsHeader, front_of, judged_after, BreaksAt};
+ghost use Rattle.disk_feeder.specs.Front.{HasReadPart, IsFrontRead, IsFailure, StopsHeader, front_of, judged_after, BreaksAt, FailsUntold};
 ghost use Rattle.stream_model.specs.Walk.{data_of};
 
 use dada_header::{Header, HeaderFault};
@@ -90,8 +90,8 @@ fn open_front<I: Inputs>(inputs: &mut I, name: &str, space: &mut [u8]) -> Result
         BreaksAt name.now file (I.told inputs.old) (I.told inputs.new))) }
     ensures inputs { HasReadFrom I.told I.is_calm I.faults (IsErr result) inputs.old inputs.new }
     ensures is_open { OnOk result (I.is_open inputs.new) }
-    ensures serves { I.is_calm inputs.old → IsSome ((I.told inputs.old).bytes_under name.now)
-        → IsOk result }
+    ensures serves { I.is_calm inputs.old
+        → OnErr result (FailsUntold name.now (I.told inputs.old) (I.told inputs.new)) }
 {
     match inputs.open(name) {
         Ok(()) => read_front(inputs, space),
@@ -121,8 +121,8 @@ pub(crate) fn read_header<I: Inputs>(
     ensures inputs { HasReadFrom I.told I.is_calm I.faults (result ≡ Err HeaderStop.Failed)
         inputs.old inputs.new }
     ensures is_open { OnOk result (I.is_open inputs.new) }
-    ensures serves { I.is_calm inputs.old → IsSome ((I.told inputs.old).bytes_under name.now)
-        → IfErr result (λ stop. ¬ IsFailure stop) }
+    ensures serves { I.is_calm inputs.old → IfErr result (λ stop. IsFailure stop
+        → FailsUntold name.now (I.told inputs.old) (I.told inputs.new)) }
 {
     match open_front(inputs, name, space) {
         Ok(n) => match header.read_again(&space[..n]) {

@@ -31,7 +31,8 @@ pub fn headers_are_first<I>()
 }
 
 /// Where a fault of the inputs ended a feeder, nothing that was read stops the walk of its files, and the full blocks
-/// that it sealed are those of the data that were read.
+/// that it sealed are those of the data that were read. Where it came to a file that could not be opened after those
+/// before it alone were read, it says so still.
 pub fn faults_leave<I>()
     ensures { FaultsLeave I }
 {}

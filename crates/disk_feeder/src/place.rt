@@ -3,7 +3,7 @@ ghost use Rattle.std.specs.Prelude.{◌≡◌, ◌≤◌, ◌+◌, ◌^◌, Matc
 ghost use Rattle.dada_model.specs.Fields.{fields_of};
 ghost use Rattle.obs_plan.specs.Later.{later_offset_of};
 ghost use Rattle.stream_model.specs.Walk.{offset_stop};
-ghost use Rattle.disk_feeder.specs.Ends.{IsStop, IsOfHeader};
+ghost use Rattle.disk_feeder.specs.Ends.{IsStop, NamesPlace, IsOfHeader};
 
 use crate::answers::{FeedEnd, HeaderCause};
 use dada_header::Header;
@@ -50,6 +50,7 @@ impl First {
             (later_offset_of self.now.profile (fields_of header.now.text)) in
             MatchResult result (λ _. stop ≡ None) (IsStop stop) }
         ensures kind { IfErr result IsOfHeader }
+        ensures names { IfErr result (λ end. NamesPlace end file) }
     {
         let expected = self.offset + since;
         match self.profile.later_offset(header) {

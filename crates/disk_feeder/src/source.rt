@@ -1,11 +1,11 @@
 //! The data of the files, one transfer after another.
-ghost use Rattle.std.specs.Prelude.{◌≡◌, ◌≢◌, ◌≤◌, ◌<◌, ◌+◌, ◌^◌, ℕ, true, false, length, Some, None, Ok, Err, IfOk, IfErr, OnOk, IsSome, MatchResult, slice_get};
+ghost use Rattle.std.specs.Prelude.{◌≡◌, ◌≢◌, ◌≤◌, ◌<◌, ◌+◌, ◌^◌, ℕ, true, false, length, Some, None, Ok, Err, IfOk, IfErr, OnOk, MatchResult, slice_get};
 ghost use Rattle.psr_base.specs.Inputs.{HasReadFrom};
 ghost use Rattle.psr_base.specs.Told.{OfFile, left_to_read, opened, moved_by};
 ghost use Rattle.dada_model.specs.Fields.{header_of};
 ghost use Rattle.stream_model.specs.Walk.{data_of};
 ghost use Rattle.stream_model.specs.WalkLaws.{AreStarts};
-ghost use Rattle.disk_feeder.specs.Front.{front_of, BreaksAt};
+ghost use Rattle.disk_feeder.specs.Front.{front_of, BreaksAt, FailsUntold};
 ghost use Rattle.disk_feeder.specs.Plan.{IsPlace, begin_at};
 
 use crate::answers::{FeedEnd, FeedFault, HeaderCause};
@@ -55,7 +55,7 @@ pub(crate) struct Source<'a> {
 }
 
 impl<'a> Source<'a> {
-    ghost use Rattle.disk_feeder.specs.Sources.{plan_of, current_name, IsEarly, StaysAt, HasMore, Advances, RefusesText, IsCounted, first_place, first_name, KeepsHeaders, HasHeaderAt, RefusesFirst, IsKept};
+    ghost use Rattle.disk_feeder.specs.Sources.{plan_of, current_name, ComesEarly, FailsToOpen, StaysAt, HasMore, Advances, RefusesText, IsCounted, first_place, first_name, KeepsHeaders, HasHeaderAt, RefusesFirst, IsKept};
     ghost use Rattle.psr_base.specs.Told.{Told};
     ghost use Rattle.disk_feeder.specs.Reading.{OpensTo, ReadsTo, EndsTransfer};
     ghost use Rattle.disk_feeder.specs.History.{ReadsUpTo, ReadsOn};
@@ -130,9 +130,9 @@ impl<'a> Source<'a> {
         ensures is_open { OnOk result (I.is_open inputs.new) }
         ensures inputs { HasReadFrom I.told I.is_calm I.faults (result ≡ Err FeedFault.ReadFault)
             inputs.old inputs.new }
-        ensures serves { I.is_calm inputs.old
-            → IsSome ((I.told inputs.old).bytes_under (first_name self.old transfer))
-            → result ≢ Err FeedFault.ReadFault }
+        ensures serves { I.is_calm inputs.old → result ≡ Err FeedFault.ReadFault
+            → FailsUntold (first_name self.old transfer) (I.told inputs.old)
+            (I.told inputs.new) }
     {
         let file = self.begin(transfer);
         let name = self.names[file].as_str();
@@ -248,15 +248,14 @@ impl<'a> Source<'a> {
             → OfFile (I.told inputs.old) (current_name self.old)
             (λ file. BreaksAt (current_name self.old) file (I.told inputs.old)
             (I.told inputs.new)) }
-        ensures stopped { IfErr result (λ end. IsEarly (plan_of self.old) end
+        ensures stopped { IfErr result (λ end. ComesEarly (plan_of self.old) self.old.place end
             × OfFile (I.told inputs.old) (current_name self.old)
             (λ file. RefusesText file self.old.place.file end)) }
         ensures is_open { OnOk result (I.is_open inputs.new) }
         ensures inputs { HasReadFrom I.told I.is_calm I.faults (result ≡ Err FeedEnd.ReadFault)
             inputs.old inputs.new }
-        ensures serves { I.is_calm inputs.old
-            → IsSome ((I.told inputs.old).bytes_under (current_name self.old))
-            → result ≢ Err FeedEnd.ReadFault }
+        ensures serves { I.is_calm inputs.old → result ≡ Err FeedEnd.ReadFault
+            → FailsUntold (current_name self.old) (I.told inputs.old) (I.told inputs.new) }
     {
         let file = self.place.file;
         let name = self.names[file].as_str();
@@ -294,13 +293,12 @@ impl<'a> Source<'a> {
             (I.told inputs.new) result }
         ensures reads_on { ReadsOn (plan_of self.old) self.old.place (I.told inputs.old)
             self.new.place (I.told inputs.new) result }
-        ensures early { IfErr result (IsEarly (plan_of self.old)) }
+        ensures early { IfErr result (ComesEarly (plan_of self.old) self.old.place) }
         ensures is_open { OnOk result (I.is_open inputs.new) }
         ensures inputs { HasReadFrom I.told I.is_calm I.faults (result ≡ Err FeedEnd.ReadFault)
             inputs.old inputs.new }
-        ensures serves { I.is_calm inputs.old
-            → IsSome ((I.told inputs.old).bytes_under (current_name self.old))
-            → result ≢ Err FeedEnd.ReadFault }
+        ensures serves { I.is_calm inputs.old → result ≡ Err FeedEnd.ReadFault
+            → FailsToOpen self.old (I.told inputs.old) (I.told inputs.new) }
     {
         files_are_in_transfers();
         first_stop_counts();
@@ -435,9 +433,8 @@ impl<'a> Source<'a> {
         ensures is_open { self.new.place.is_open ≡ true → I.is_open inputs.new }
         ensures inputs { HasReadFrom I.told I.is_calm I.faults (result ≡ Err FeedEnd.ReadFault)
             inputs.old inputs.new }
-        ensures serves { I.is_calm inputs.old
-            → IsSome ((I.told inputs.old).bytes_under (current_name self.old))
-            → result ≢ Err FeedEnd.ReadFault }
+        ensures serves { I.is_calm inputs.old → result ≡ Err FeedEnd.ReadFault
+            → FailsToOpen self.old (I.told inputs.old) (I.told inputs.new) }
     {
         if self.place.is_open {
             self.read(inputs, into)

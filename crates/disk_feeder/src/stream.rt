@@ -1,7 +1,7 @@
 //! The blocks of the files' data: one is filled, and kept until it is sealed.
-ghost use Rattle.std.specs.Prelude.{◌≡◌, ◌≢◌, ◌≤◌, ◌<◌, ◌+◌, ◌-◌, true, false, length, take, Some, None, Ok, Err, IfOk, IfErr, OnOk, IsSome, ◌^◌, slice_get};
+ghost use Rattle.std.specs.Prelude.{◌≡◌, ◌≢◌, ◌≤◌, ◌<◌, ◌+◌, ◌-◌, true, false, length, take, Some, None, Ok, Err, IfOk, IfErr, OnOk, ◌^◌, slice_get};
 ghost use Rattle.psr_base.specs.Inputs.{HasReadFrom};
-ghost use Rattle.disk_feeder.specs.Sources.{plan_of, current_name, IsWithin, HasMore, Advances};
+ghost use Rattle.disk_feeder.specs.Sources.{plan_of, FailsToOpen, IsWithin, HasMore, Advances};
 ghost use Rattle.dada_hdu.specs.Passes.{WritesBoth};
 ghost use Rattle.disk_feeder.specs.Turns.{CanSeal, HasHeaderRoom, TurnAnswers, sealed_headers, sealed_blocks};
 ghost use Rattle.disk_feeder.specs.Filling.{FillsBehind, HoldsAll};
@@ -36,9 +36,8 @@ fn read_behind<I: Inputs>(
     ensures is_open { source.new.place.is_open ≡ true → I.is_open inputs.new }
     ensures inputs { HasReadFrom I.told I.is_calm I.faults (result ≡ Err FeedEnd.ReadFault)
         inputs.old inputs.new }
-    ensures serves { I.is_calm inputs.old
-        → IsSome ((I.told inputs.old).bytes_under (current_name source.old))
-        → result ≢ Err FeedEnd.ReadFault }
+    ensures serves { I.is_calm inputs.old → result ≡ Err FeedEnd.ReadFault
+        → FailsToOpen source.old (I.told inputs.old) (I.told inputs.new) }
 {
     source.advance(inputs, &mut block[held..])
 }
@@ -70,7 +69,7 @@ impl<'a> Stream<'a> {
     ghost use Rattle.disk_feeder.specs.Beginning.{IsFreshStream, IsBegunStream, BreaksFirst, RefusesSome, KeepsFiles, AcceptsIn};
     ghost use Rattle.disk_feeder.specs.Streams.{work_left, KeepsStream, Fills, IsIdle, IsFilling, HoldsLast, StreamRead, StreamReadsFirsts};
     ghost use Rattle.psr_base.specs.Told.{Told};
-    ghost use Rattle.disk_feeder.specs.Feeding.{KeepsPlan, Feeds, AfterSeal, IsMissing, GoesOn, IsFeeding, KeepsInputs, StreamStands};
+    ghost use Rattle.disk_feeder.specs.Feeding.{KeepsPlan, Feeds, AfterSeal, IsUntold, IsUnopened, GoesOn, IsFeeding, KeepsInputs, StreamStands};
 
     /// Nothing was read. The space for a block of so many bytes, and for all headers, is taken here.
     pub(crate) fn open(
@@ -186,7 +185,9 @@ impl<'a> Stream<'a> {
             (self.new.due ≡ Some (Due.Stopped FeedEnd.ReadFault)) inputs.old inputs.new }
         ensures missing { I.is_calm inputs.old
             → self.new.due ≡ Some (Due.Stopped FeedEnd.ReadFault)
-            → IsMissing (I.told inputs.old) self.new.source }
+            → IsUntold (I.told inputs.old) self.new.source
+            × ((before : Told) → StreamRead before (I.told inputs.old) self.old
+            → IsUnopened before (I.told inputs.new) self.new.source) }
     {
         streams_grow();
         if self.source.is_transfer_over() {

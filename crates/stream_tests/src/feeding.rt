@@ -327,7 +327,7 @@ fn feed_from<I: Inputs>(alloc: Global, inputs: &mut I, case: Case<'_>) -> Result
     };
     let mut space = vec![in alloc; 0u8; 65537]?;
     let mut fed = Fed::new(alloc);
-    let room = FeederSpace::take(alloc, case.names, case.starts, case.size, case.max_bytes)?;
+    let room = FeederSpace::reserve(alloc, case.names, case.starts, case.size, case.max_bytes)?;
     let mut feeder = feeder_of(inputs, room, case);
     match feeder.begin() {
         Ok(()) => {}

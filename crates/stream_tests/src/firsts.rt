@@ -29,7 +29,7 @@ fn begin_two(alloc: Global, inputs: &mut MemInputs, names: &[String]) -> Option<
     if !are_starts(STARTS, names.len()) {
         return None;
     }
-    let Ok(mut space) = FeederSpace::take(alloc, names, STARTS, 1, 9) else {
+    let Ok(mut space) = FeederSpace::reserve(alloc, names, STARTS, 1, 9) else {
         return None;
     };
     space.rests();

@@ -3,7 +3,7 @@ use Rattle.psr_base.specs.Told.{Told}
 use Rattle.stream_model.specs.WalkLaws.{DataNone}
 use Rattle.disk_feeder.specs.declared.place.Place.{Place}
 use Rattle.disk_feeder.specs.History.{StandsIf}
-use Rattle.disk_feeder.specs.Plan.{Plan, stream_of, AreToldTo, opened_at, begin_at}
+use Rattle.disk_feeder.specs.Plan.{Plan, stream_of, AreToldWithFirsts, opened_at, begin_at}
 use Rattle.disk_feeder.specs.Sources.{plan_of}
 use Rattle.disk_feeder.proofs.Histories.{next_on, stands_shut}
 use Rattle.disk_feeder.proofs.Streams.{begin_is}
@@ -21,7 +21,7 @@ returns-clause-read c = λ told before current has.
 
 -- the next transfer begins where the files of this one ended
 next_shut : (plan : Plan) (before told : Told) (at : Place) (files : List (List ℕ)) →
-    AreToldTo (opened_at at) told plan files → DataNone → at.is_open ≡ false →
+    AreToldWithFirsts (opened_at at) told plan files → DataNone → at.is_open ≡ false →
     at.file ≡ begin_at plan.starts (length plan.names) (at.transfer + 1) →
     StandsIf at.is_open plan.names (stream_of plan files) before told at →
     StandsIf at.is_open plan.names (stream_of plan files) before told

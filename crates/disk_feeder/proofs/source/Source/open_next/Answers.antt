@@ -1,4 +1,4 @@
-use Rattle.std.proofs.Common.{◌≡◌, ℕ, ◌+◌, true, List, [], Option, Some, None, Ok, Err, refl, sym, ap, ◌∙◌, subst, length, arith}
+use Rattle.std.proofs.Common.{◌≡◌, ℕ, ◌+◌, ◌<◌, true, List, [], Option, Some, None, Ok, Err, refl, sym, ap, ◌∙◌, subst, length, arith}
 use Rattle.std.specs.Prelude.{slice_get, slice_index_or}
 use Rattle.dada_model.specs.Fields.{HeaderText, HeaderRefusal, header_of, fields_of, ShortHeader, BadHeaderSize, NotTextAt}
 use Rattle.dada_header.specs.Faults.{IsHeaderRefusal}
@@ -16,14 +16,14 @@ use Rattle.disk_feeder.specs.declared.place.First.{First}
 use Rattle.disk_feeder.specs.declared.place.Place.{Place}
 use Rattle.disk_feeder.specs.declared.source.Source.{Source}
 use Rattle.disk_feeder.specs.Ends.{IsStop, IsOfHeader, fault_of}
-use Rattle.disk_feeder.specs.Plan.{Plan, stream_of, IsAmong, AreToldTo, opened_at, AreAccepted}
+use Rattle.disk_feeder.specs.Plan.{Plan, stream_of, IsAmong, AreToldTo, AreToldWithFirsts, opened_at, AreAccepted}
 use Rattle.disk_feeder.specs.History.{StandsIf, ReadsUpTo, BreaksOffAt}
 use Rattle.disk_feeder.specs.Reached.{WalkGoesOn}
 use Rattle.disk_feeder.specs.Reading.{NoStopBefore, HasRead, HasEnded, EndsReading, judged_at}
 use Rattle.disk_feeder.specs.Sources.{plan_of, RefusesText}
 use Rattle.disk_feeder.proofs.Histories.{opened_on, broken_on, stands_shut, shut_breaks}
 use Rattle.disk_feeder.proofs.Openings.{Opens, stop_is, went_on, stopped_at, front_at}
-use Rattle.disk_feeder.proofs.Needed.{told_before, told_opened, told_within, passed_still}
+use Rattle.disk_feeder.proofs.Needed.{told_before, told_opened, told_within, firsts_opened, firsts_aside, passed_still, headers_still}
 use Rattle.disk_feeder.proofs.Streams.{begin_most}
 use Rattle.disk_feeder.proofs.OfSource.{opens}
 use Rattle.disk_feeder.proofs.source.Source.open_next.Goals as goal
@@ -44,9 +44,8 @@ known_at : (plan : Plan) (told told' : Told) (at : Place) (files : List (List �
 known_at plan told told' at files o are =
     let most = begin_most plan.starts (length plan.names) at.transfer o.starts o.there in
     let upto = o.upto in
-    let Needed : ℕ → Type 0 = IsAmong (at.file + 1) plan.starts (length plan.names) in
-    told_within (at.file + 1) told plan files at.file (told_before Needed told told' plan.names files o.names are)
-    (omega arith) (omega arith)
+    told_within (at.file + 1) told plan files at.file
+    (told_before (λ k. k < at.file + 1) told told' plan.names files o.names are) (omega arith) (omega arith)
 
 -- what a file's text says of the end
 by_text : (plan : Plan) (told told' : Told) (at : Place) (before : List (List ℕ)) (current : List ℕ) →
@@ -59,8 +58,9 @@ by_text plan told told' at before current o has transfers counts join goes room 
   ends = by_end end refuses;
 }
   where
-    refused : (end : FeedEnd) → OfFile told (slice_index_or plan.names at.file []) (λ file. RefusesText file at.file end)
-        → (files : List (List ℕ)) → AreToldTo (at.file + 1) told' plan files →
+    refused : (end : FeedEnd) →
+        OfFile told (slice_index_or plan.names at.file []) (λ file. RefusesText file at.file end) →
+        (files : List (List ℕ)) → AreToldTo (at.file + 1) told' plan files →
         RefusesText (file_at (stream_of plan files) at.file) at.file end
     refused end refuses files are =
         refuses (file_at (stream_of plan files) at.file) (known_at plan told told' at files o are)
@@ -141,6 +141,7 @@ returns-in-Ok-judge-clause-read g c = λ before current has.
     let there = first_is source new first c.in-Ok.ensures.stays.plan c.in-Ok.ensures.stays.place c.first.ensures in
     record {
       accepted = has.accepted;
+      headers = headers_still plan told told' o.names has.headers;
       transfers = has.transfers;
       since = has.since;
       total = has.total;
@@ -153,7 +154,7 @@ returns-in-Ok-judge-clause-read g c = λ before current has.
           let fewer = told_opened at told' plan files are in
           went_on plan told told' at before current o has c.files_are_in_transfers.ensures files fewer
           c.data_grow.ensures
-          (stop_is plan told told' at before current o has c.files_are_in_transfers.ensures files fewer first there
+          (stop_is plan told told' at before current o has c.files_are_in_transfers.ensures files fewer are first there
           source.headed
           ∙ judged_stop at.file first at.since file new.later (c.in-Ok.ensures.header file known)
           ∙ subst Q c.in-Ok.ensures.stays.place c.in-Ok-judge.ensures.judged)
@@ -196,7 +197,7 @@ returns-in-Err-judge-clause-read g c = λ before current has room.
     by_judge plan told told' at before current o has c.files_are_in_transfers.ensures c.first_stop_counts.ensures room
     files fewer c.in-Err-judge.end
     (offset_stop at.file (first.offset + at.since) (later_offset_of first.profile (fields_of new.later.text)))
-    (stop_is plan told told' at before current o has c.files_are_in_transfers.ensures files fewer first there
+    (stop_is plan told told' at before current o has c.files_are_in_transfers.ensures files fewer are first there
     source.headed
     ∙ judged_stop at.file first at.since file new.later (c.in-Ok.ensures.header file known))
     (subst Q c.in-Ok.ensures.stays.place c.in-Err-judge.ensures.judged) c.in-Err-judge.ensures.kind)
@@ -218,7 +219,7 @@ returns-in-Err-clause-read g c = λ before current has room.
 
 -- the files before were
 read_before : (plan : Plan) (told told' before : Told) (at : Place) (files : List (List ℕ)) → Opens plan told told' at →
-    AreToldTo (opened_at at) told' plan files → ReadsUpTo plan before told at →
+    AreToldWithFirsts (opened_at at) told' plan files → ReadsUpTo plan before told at →
     StandsIf at.is_open plan.names (stream_of plan files) before told at
 read_before plan told told' before at files o are reads =
     let Needed : ℕ → Type 0 = IsAmong (opened_at at) plan.starts (length plan.names) in
@@ -239,8 +240,9 @@ returns-in-Ok-judge-clause-reads_on g c = λ before reads.
     let s = stream_of plan files in
     opened_on plan.names s before told told' at.transfer at.file at.since
     (stands_shut at.is_open plan.names s before told at o.shut
-    (read_before plan told told' before at files o (told_opened at told' plan files are) reads))
-    (c.in-Ok.ensures.read (file_at s at.file) (known_at plan told told' at files o are)))
+    (read_before plan told told' before at files o (firsts_opened at told' plan files are) reads))
+    (c.in-Ok.ensures.read (file_at s at.file)
+    (known_at plan told told' at files o (firsts_aside (at.file + 1) told' plan files are))))
 
 -- an end that a header gives is no fault
 no_fault : (end : FeedEnd) → IsOfHeader end → end ≡ ReadFault → ⊥
@@ -266,5 +268,6 @@ returns-in-Err-clause-reads_on g c = λ before reads failed.
     shut_breaks at.is_open plan.names s before told' at o.shut
     (broken_on plan.names s before told told' at.transfer at.file at.since
     (stands_shut at.is_open plan.names s before told at o.shut
-    (read_before plan told told' before at files o (told_opened at told' plan files are) reads))
-    (c.in-Err.ensures.broke (ap Err failed) (file_at s at.file) (known_at plan told told' at files o are))))
+    (read_before plan told told' before at files o (firsts_opened at told' plan files are) reads))
+    (c.in-Err.ensures.broke (ap Err failed) (file_at s at.file)
+    (known_at plan told told' at files o (firsts_aside (at.file + 1) told' plan files are)))))

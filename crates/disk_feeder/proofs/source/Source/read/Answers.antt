@@ -4,12 +4,12 @@ use Rattle.disk_feeder.specs.declared.answers.FeedEnd.{FeedEnd}
 use Rattle.disk_feeder.specs.declared.place.Place.{Place}
 use Rattle.stream_model.specs.Walk.{file_at}
 use Rattle.disk_feeder.specs.History.{file_name, IsReadUpTo, ReadsUpTo}
-use Rattle.disk_feeder.specs.Plan.{Plan, stream_of, IsAmong, AreToldTo, opened_at}
+use Rattle.disk_feeder.specs.Plan.{Plan, stream_of, IsAmong, AreToldTo, AreToldWithFirsts, opened_at}
 use Rattle.disk_feeder.specs.Reading.{HasRead, HasEnded}
 use Rattle.disk_feeder.specs.Sources.{plan_of}
 use Rattle.disk_feeder.proofs.Histories as history
 use Rattle.disk_feeder.proofs.Histories.{closed_on, read_more, stands_open, open_stands, open_breaks}
-use Rattle.disk_feeder.proofs.Needed.{told_before, told_opened, told_to_open, told_within, passed_still}
+use Rattle.disk_feeder.proofs.Needed.{told_before, told_opened, told_to_open, told_within, firsts_opened, firsts_aside, passed_still}
 use Rattle.disk_feeder.proofs.Streams.{begin_most, is_in}
 use Rattle.disk_feeder.proofs.Readings.{Reads, has_closed, has_took, left, left_is, too_long, front_open}
 use Rattle.disk_feeder.proofs.OfSource.{reads}
@@ -100,13 +100,12 @@ known_at : (plan : Plan) (told told' : Told) (at : Place) (files : List (List �
 known_at plan told told' at files o are =
     let count = are.count in
     let there = below plan told told' at files o count in
-    let Needed : ℕ → Type 0 = IsAmong (at.file + 1) plan.starts (length plan.names) in
-    told_within (at.file + 1) told plan files at.file (told_before Needed told told' plan.names files o.names are)
-    (omega arith) (omega arith)
+    told_within (at.file + 1) told plan files at.file
+    (told_before (λ k. k < at.file + 1) told told' plan.names files o.names are) (omega arith) (omega arith)
 
 -- it is read
 reading_now : (plan : Plan) (told told' before : Told) (at : Place) (files : List (List ℕ)) →
-    Reads plan told told' at → AreToldTo (opened_at at) told' plan files → ReadsUpTo plan before told at →
+    Reads plan told told' at → AreToldWithFirsts (opened_at at) told' plan files → ReadsUpTo plan before told at →
     IsReadUpTo plan.names (stream_of plan files) before told at.transfer at.file at.since
 reading_now plan told told' before at files o are reads =
     let Needed : ℕ → Type 0 = IsAmong (opened_at at) plan.starts (length plan.names) in
@@ -124,13 +123,13 @@ returns-then-n-eq0-clause-reads_on g c = λ before reads_so_far.
     let P : Place → Type 0 = λ pl. ReadsUpTo plan before told' pl in
     subst P (sym c.close_file.ensures.place) (λ files are.
     let s = stream_of plan files in
-    let was = reading_now plan told told' before at files o (told_opened at told' plan files are) reads_so_far in
+    let was = reading_now plan told told' before at files o (firsts_opened at told' plan files are) reads_so_far in
     let inside = is_in plan files are.count at.transfer at.file o.there o.from o.upto in
     closed_on plan.names s before told told' at.transfer at.file at.since c.reads_join.ensures c.data_grow.ensures was
     (c.in-Ok.ensures.moved ∙ c.reads_join.ensures.none c.in-Ok.n told c.if-n-eq0.true)
     ((c.in-Ok.ensures.next (drop was.place (file_at s at.file))
     (history.left_is plan.names s before told told' at.transfer at.file at.since was
-    (known_at plan told told' at files o are))).ends c.if-n-eq0.true)
+    (known_at plan told told' at files o (firsts_aside (at.file + 1) told' plan files are)))).ends c.if-n-eq0.true)
     inside.from (below plan told told' at files o are.count))
 
 pub returns-in-Ok-count-clause-reads_on : goal.returns-in-Ok-count-clause-reads_on
@@ -152,7 +151,8 @@ returns-in-Ok-count-clause-reads_on g c = λ before reads_so_far.
     (c.in-Ok.ensures.moved ∙ c.reads_join.ensures.some n told c.if-n-eq0.false)
     (c.in-Ok.ensures.next (drop was.place (file_at s at.file))
     (history.left_is plan.names s before told told' at.transfer at.file at.since was
-    (known_at plan told told' at files o (told_to_open at told' plan files o.opened are)))).within))
+    (known_at plan told told' at files o (told_to_open at told' plan files o.opened
+    (firsts_aside (opened_at at) told' plan files are))))).within))
 
 pub returns-in-Err-count-clause-reads_on : goal.returns-in-Err-count-clause-reads_on
 returns-in-Err-count-clause-reads_on g c = λ before reads_so_far failed.
@@ -170,4 +170,4 @@ returns-in-Err-clause-reads_on g c = λ before reads_so_far failed files are.
     let P : Told → Type 0 = λ t. IsReadUpTo plan.names s before t at.transfer at.file at.since in
     open_breaks at.is_open plan.names s before told' at o.opened
     (subst P (sym c.in-Err.ensures.unchanged)
-    (reading_now plan told told' before at files o (told_opened at told' plan files are) reads_so_far))
+    (reading_now plan told told' before at files o (firsts_opened at told' plan files are) reads_so_far))

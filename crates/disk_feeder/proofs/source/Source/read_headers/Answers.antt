@@ -146,7 +146,8 @@ returns-in-Err-clause-refused g c =
       refuses = λ file known.
           let P : ℕ → Type 0 = λ n. RefusesFirst file n c.in-Err.fault in
           subst P same_number
-          (c.in-Err.ensures.refused.1 file (told_still old now told told' t t file before.kept before.names refl known));
+          (c.in-Err.ensures.refused.1 file
+          (told_still old now told told' t t file before.kept before.names refl known));
       earlier = λ k less file known.
           let none : HeaderText = record { size = 0; text = [] } in
           let header = get_or now.headers.items k none in (
@@ -182,6 +183,8 @@ returns-in-Err-clause-broke g c = λ failed.
           (c.in-Err.ensures.broke failed (file_of t)
           (told_still old now told told' t t (file_of t) before.kept before.names refl (are t (omega arith))));
       missing = λ calm some.
-          c.in-Err.ensures.serves (before.calm calm) (some_still old now told told' t before.kept before.names some)
-          failed;
+          (c.in-Err.ensures.serves (before.calm calm) failed).untold
+          (some_still old now told told' t before.kept before.names some);
+      unopened = λ calm file_of are.
+          (c.in-Err.ensures.serves (before.calm calm) failed).stays ∙ before.read file_of are;
     }

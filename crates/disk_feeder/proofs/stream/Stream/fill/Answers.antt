@@ -4,6 +4,7 @@ use Rattle.disk_feeder.specs.Streams.{KeepsStream, work_left}
 use Rattle.disk_feeder.specs.declared.stream.Stream.{Stream}
 use Rattle.disk_feeder.proofs.Counting.{not_due, not_ended, since_more, fewer_steps}
 use Rattle.disk_feeder.proofs.Missing.{missing_of, fault_due}
+use Rattle.disk_feeder.proofs.Unopened.{unopened_due}
 use Rattle.disk_feeder.proofs.stream.Stream.fill.Goals as goal
 
 keeps : (a b c : Stream) → KeepsStream a b → KeepsStream b c → KeepsStream a c
@@ -54,6 +55,9 @@ loop-self-preserved g c =
             fault_due c.step.new.self (i.told c.step.new.inputs) (c.step.ensures.kept.end ∙ running)
             (λ due. missing_of c.step.new.self.source c.step.new.self.source (i.told c.loop-self.inputs)
             (i.told c.step.new.inputs) refl refl c.step.ensures.inputs.names
-            (c.step.ensures.missing (before.inputs.calm calm) due));
+            (c.step.ensures.missing (before.inputs.calm calm) due).0);
+        unopened = λ calm outset was stood.
+            unopened_due c.step.new.self outset (i.told c.step.new.inputs) (c.step.ensures.kept.end ∙ running)
+            (λ due. (c.step.ensures.missing (before.inputs.calm calm) due).1 outset (before.reads_on outset was));
       };
     }

@@ -15,6 +15,7 @@ use Rattle.disk_feeder.specs.Sources.{plan_of, HasMore}
 use Rattle.disk_feeder.specs.Streams.{StreamRead}
 use Rattle.disk_feeder.proofs.Fates.{goes_on, held_goes_on, at_stop, of_fate, to_fate}
 use Rattle.disk_feeder.proofs.Missing.{missing_of, missing_here}
+use Rattle.disk_feeder.proofs.Unopened.{not_opened}
 use Rattle.disk_feeder.proofs.Fillings.{whole_written, filled_more, filled_stopped}
 use Rattle.disk_feeder.proofs.stream.Stream.step.Goals as goal
 
@@ -129,8 +130,15 @@ returns-then-is_transfer_over-clause-reads_on g c = λ before was.
 pub returns-in-Err-clause-missing : goal.returns-in-Err-clause-missing
 returns-in-Err-clause-missing g c = λ calm due.
     let old = c.args.self.now in
+    let src = c.read_behind.new.source in
     let told = g.I.Inputs.told c.args.inputs.now in
+    let told' = g.I.Inputs.told c.read_behind.new.inputs in
     let more : HasMore old.source = search rules in
     let failed : Err c.in-Err.end ≡ Err ReadFault = cc in
-    missing_of old.source c.read_behind.new.source told told c.read_behind.ensures.on.plan c.in-Err.ensures.on.place
-    refl (missing_here old.source told more (λ some. c.in-Err.ensures.serves calm some failed))
+    let fails = c.in-Err.ensures.serves calm failed in (
+      missing_of old.source src told told c.read_behind.ensures.on.plan c.in-Err.ensures.on.place refl
+          (missing_here old.source told more fails.fails.untold),
+      λ before was.
+          not_opened old.source src before told told' c.read_behind.ensures.on.plan c.in-Err.ensures.on.place fails
+          (read_so_far old before told c.requires.idle.due c.requires.idle.running was),
+    )

@@ -81,6 +81,8 @@ returns-clause-inputs g c =
       since = λ k was. after.since k (g.I.Inputs.faults c.fill-due.new.inputs) (reads.since k was);
       calm = reads.calm;
       missing = λ calm was. after.missing (g.I.Inputs.told c.fill-due.new.inputs) (reads.missing calm was);
+      unopened = λ calm before read was.
+          after.unopened before (g.I.Inputs.told c.fill-due.new.inputs) (reads.unopened calm before read was);
     }
 
 pub returns-then-self-clause-inputs : goal.returns-then-self-clause-inputs
@@ -93,6 +95,7 @@ returns-then-self-clause-inputs g c =
       since = λ k was. after.since k (g.I.Inputs.faults c.args.inputs.now) was;
       calm = λ calm. calm;
       missing = λ calm was. after.missing (g.I.Inputs.told c.args.inputs.now) was;
+      unopened = λ calm before read was. after.unopened before (g.I.Inputs.told c.args.inputs.now) was;
     }
 
 pub returns-clause-reads_on : goal.returns-clause-reads_on
