@@ -16,7 +16,7 @@ use Rattle.disk_feeder.specs.declared.answers.FeedEnd.{FeedEnd}
 use Rattle.disk_feeder.specs.declared.answers.FeedEnd.TheVariants.{Whole}
 use Rattle.disk_feeder.specs.Resting.{feeder_over}
 use Rattle.search_session.specs.declared.lone.LoneEnd.{LoneEnd}
-use Rattle.search_session.specs.Lanes.{HasEngine, engines_of}
+use Rattle.session_readers.specs.Banks.{HasEngine, engines_of}
 use Rattle.search_session.specs.LoneEnds.{LoneAnswers, LoneSessionsEnd}
 use Rattle.search_session.specs.Sessions.{FeedAnswers, data_through}
 use Rattle.beam_set.specs.declared.ended.BeamEnd.{BeamEnd}
@@ -70,7 +70,7 @@ module _ {I : Type 0} (told : I → Told) (is_open is_calm : I → Type 0) (faul
     (law : LoneSessionsEnd told is_calm faults) where
   module _ (start : Beam) (before after : I) (end : BeamEnd) (session : LoneEnd) (feed_is : end.feed ≡ session.feed)
       (answers : LoneAnswers told is_calm faults (session_in start) before after session) (engine : EngineState)
-      (has : HasEngine (engines_of session.lane) 0 engine) (book_is : end.book ≡ engine.book)
+      (has : HasEngine (engines_of session.bank) 0 engine) (book_is : end.book ≡ engine.book)
       (spectra_is : end.spectra ≡ engine.sums.carry.fed) where
     -- the end with another end of its feeder
     abbrev with_feed : FeedEnd → BeamEnd
@@ -85,10 +85,10 @@ module _ {I : Type 0} (told : I → Told) (is_open is_calm : I → Type 0) (faul
     held : (s : Search) (o : Observation) (bytes : ℕ) → end.feed ≡ Whole bytes → SearchesAll s o start →
         HoldsData o s (data_through (session_of after end session.blocks) 0) (Some end)
     held s o bytes whole searches =
-        let went = answers.lane.searched bytes (sym feed_is ∙ whole) 0 searches.engine
+        let went = answers.bank.searched bytes (sym feed_is ∙ whole) 0 searches.engine
         (alone_there (engines_in start) searches.engine searches.engine_is) in
         let f = went.0 in
-        let same = same_engine (engines_of session.lane) 0 engine f has went.1 in
+        let same = same_engine (engines_of session.bank) 0 engine f has went.1 in
         let through = went.2 in
         let searched = (through.stands o searches.stands.part).searched (through.scope ∙ searches.stands.whole) in (
           book_is ∙ ap (λ (e : EngineState). e.book) same

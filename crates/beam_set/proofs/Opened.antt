@@ -3,8 +3,8 @@ use Rattle.std.proofs.Common.{◌≡◌, ℕ, zero, suc, ◌<◌, List, [], ◌�
 use Rattle.psr_base.specs.Told.{Told}
 use Rattle.search_engine.specs.Engine.{EngineState}
 use Rattle.disk_feeder.specs.declared.feeder.FeederSpace.{FeederSpace}
-use Rattle.search_session.specs.Lanes.{HasEngine, engines_of}
-use Rattle.search_session.specs.Lone.{IsLoneReady, LoneBegins, lane_in, lone_lane}
+use Rattle.session_readers.specs.Banks.{HasEngine, engines_of}
+use Rattle.search_session.specs.Lone.{IsLoneReady, LoneBegins, bank_in, lone_bank}
 use Rattle.beam_set.specs.declared.space.BeamSpace.{BeamSpace}
 use Rattle.beam_set.specs.declared.beam.Beam.{Beam}
 use Rattle.beam_set.specs.Beam.{BeamBegins, IsBeamReady, engines_held, session_in, session_space}
@@ -38,7 +38,7 @@ module _ (told : Told) (space : BeamSpace) (feeder : FeederSpace) (ready : IsBea
       }
 
   pub beam_begins : (beam : Beam) → LoneBegins told (session_in beam) →
-      lone_lane (session_in beam) ≡ lane_in (session_space space) → BeamBegins told beam
+      lone_bank (session_in beam) ≡ bank_in (session_space space) → BeamBegins told beam
   beam_begins beam begins same = record {
     session = begins;
     engine = ready.engine;

@@ -11,7 +11,7 @@ use Rattle.disk_feeder.specs.declared.answers.FeedEnd.TheVariants.{Whole}
 use Rattle.disk_feeder.specs.Resting.{feeder_over}
 use Rattle.search_session.specs.declared.ended.SessionEnd.{SessionEnd}
 use Rattle.search_session.specs.declared.lone.LoneEnd.{LoneEnd}
-use Rattle.search_session.specs.Lanes.{HasEngine, engines_of}
+use Rattle.session_readers.specs.Banks.{HasEngine, engines_of}
 use Rattle.search_session.specs.Sessions.{FeedAnswers, data_through}
 use Rattle.search_session.specs.LoneEnds.{IsLoneEnd}
 use Rattle.beam_set.specs.declared.ended.BeamEnd.{BeamEnd}
@@ -59,6 +59,6 @@ pub record IsBeamEnd (beam : Beam) (end : BeamEnd) : Type 0 where
   pub closed : IsLoneEnd (session_in beam) session
   pub feed_is : end.feed ≡ session.feed
   pub engine : EngineState
-  pub has_engine : HasEngine (engines_of session.lane) 0 engine
+  pub has_engine : HasEngine (engines_of session.bank) 0 engine
   pub book_is : end.book ≡ engine.book
   pub spectra_is : end.spectra ≡ engine.sums.carry.fed

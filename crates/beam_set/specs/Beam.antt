@@ -8,8 +8,8 @@ use Rattle.search_engine.specs.Engine.{EngineState, most_fed}
 use Rattle.disk_feeder.specs.declared.feeder.FeederSpace.{FeederSpace}
 use Rattle.search_session.specs.declared.lone.LoneSession.{LoneSession}
 use Rattle.search_session.specs.declared.lone_space.LoneSpace.{LoneSpace}
-use Rattle.search_session.specs.Lone.{HasFileOpen, HasLoneEnded, IsLoneSpace, FeedsAlone, LoneBegins, LoneMoved, LoneOn, lane_in, lone_feeder, lone_lane, transfers_at}
-use Rattle.search_session.specs.Lanes.{engines_of}
+use Rattle.search_session.specs.Lone.{HasFileOpen, HasLoneEnded, IsLoneSpace, FeedsAlone, LoneBegins, LoneMoved, LoneOn, bank_in, lone_feeder, lone_bank, transfers_at}
+use Rattle.session_readers.specs.Banks.{engines_of}
 use Rattle.beam_set.specs.declared.space.BeamSpace.{BeamSpace}
 use Rattle.beam_set.specs.declared.beam.Beam.{Beam}
 
@@ -25,7 +25,7 @@ feeder_in beam = lone_feeder (session_in beam)
 
 -- its engine, alone in a list
 abbrev pub engines_in : Beam → List (Option EngineState)
-engines_in beam = engines_of (lone_lane (session_in beam))
+engines_in beam = engines_of (lone_bank (session_in beam))
 
 -- where its feeder has a file open, so have these inputs
 abbrev pub HasBeamFile : {I : Type 0} → (I → Type 0) → I → Beam → Type 0
@@ -38,13 +38,13 @@ session_space space = space.lone
 
 -- the engine of a space, alone in a list
 abbrev pub engines_held : BeamSpace → List (Option EngineState)
-engines_held space = engines_of (lane_in (session_space space))
+engines_held space = engines_of (bank_in (session_space space))
 
 -- the space of a beam with this engine: rings of this shape, of which the header is sealed
 pub record IsBeamSpace (engine : EngineState) (shape : RingShape) (header : HeaderText)
     (space : BeamSpace) : Type 0 where
   pub engine_is : engines_held space ≡ Some engine ∷ []
-  pub rings : IsLoneSpace (lane_in (session_space space)) shape header (session_space space)
+  pub rings : IsLoneSpace (bank_in (session_space space)) shape header (session_space space)
 
 -- Where its inputs tell this, the space and the feeder are those of one beam: the feeder reads one transfer, of which
 -- it has accepted the first header; the engine was fed nothing, and may be fed all that the rings may carry.

@@ -3,7 +3,7 @@
 use Rattle.std.specs.Prelude.{◌≡◌, ℕ, ◌<◌, ◌≤◌, ⊤, List, length, slice_index_or, Option, Some, None}
 use Rattle.psr_base.specs.Told.{Told}
 use Rattle.search_engine.specs.Engine.{EngineState}
-use Rattle.search_session.specs.Lanes.{HasEngine}
+use Rattle.session_readers.specs.Banks.{HasEngine}
 use Rattle.beam_set.specs.declared.ended.BeamEnd.{BeamEnd}
 use Rattle.beam_set.specs.declared.beam.Beam.{Beam}
 use Rattle.beam_set.specs.Beam.{BeamBegins, BeamMoved, BeamOn, HasBeamEnded, HasBeamFile, engines_in}

@@ -2,7 +2,7 @@
 ghost use Rattle.std.specs.Prelude.{◌≡◌, ◌↔◌, Some, IsTrue};
 ghost use Rattle.psr_base.specs.Told.{Told};
 ghost use Rattle.search_engine.specs.Engine.{EngineState};
-ghost use Rattle.search_session.specs.Lanes.{HasEngine, engines_of};
+ghost use Rattle.session_readers.specs.Banks.{HasEngine, engines_of};
 ghost use Rattle.beam_set.specs.Beam.{BeamOn, BeamMoved, HasBeamEnded, HasBeamFile, engines_in};
 ghost use Rattle.beam_set.specs.Answers.{IsBeamEnd};
 
@@ -11,7 +11,7 @@ use arrayvec::ArrayVec;
 use psr_base::Inputs;
 use search_engine::Engine;
 use search_model::MOST_TRANSFERS;
-use search_session::{Gate, Lane, LoneEnd, LoneSession};
+use search_session::{Bank, Gate, LoneEnd, LoneSession};
 
 /// How many beams a set has at most.
 pub const MOST_BEAMS: usize = 7;
@@ -34,12 +34,12 @@ fn first_of(engines: &mut ArrayVec<Option<Engine>, MOST_TRANSFERS>) -> Engine
     engine
 }
 
-// The first engine of a lane.
-fn engine_of(lane: Lane) -> Engine
-    requires { (e : EngineState) × HasEngine (engines_of lane) 0 e }
-    ensures { (e : EngineState) → HasEngine (engines_of lane) 0 e → result ≡ e }
+// The first engine of a bank.
+fn engine_of(bank: Bank) -> Engine
+    requires { (e : EngineState) × HasEngine (engines_of bank) 0 e }
+    ensures { (e : EngineState) → HasEngine (engines_of bank) 0 e → result ≡ e }
 {
-    let Lane { mut engines } = lane;
+    let Bank { mut engines } = bank;
     first_of(&mut engines)
 }
 
@@ -93,10 +93,10 @@ impl<'a> Beam<'a> {
     {
         let LoneEnd {
             feed,
-            lane,
+            bank,
             blocks: _,
         } = self.lone.close();
-        let engine = engine_of(lane);
+        let engine = engine_of(bank);
         let spectra = engine.spectra();
         BeamEnd {
             feed,

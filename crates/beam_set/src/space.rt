@@ -3,7 +3,7 @@ ghost use Rattle.std.specs.Prelude.{◌≡◌, ◌∷◌, [], Some, IfOk};
 ghost use Rattle.psr_base.specs.Told.{Told};
 ghost use Rattle.ring_words.specs.Shape.{IsRing};
 ghost use Rattle.beam_set.specs.Beam.{IsBeamSpace, IsBeamReady, BeamBegins, engines_held, engines_in, feeder_in};
-ghost use Rattle.search_session.specs.Lanes.{engines_of};
+ghost use Rattle.session_readers.specs.Banks.{engines_of};
 
 use crate::beam::Beam;
 use arrayvec::ArrayVec;
@@ -12,7 +12,7 @@ use disk_feeder::FeederSpace;
 use psr_base::Memory;
 use ring_words::RingShape;
 use search_engine::Engine;
-use search_session::{Lane, LoneSpace};
+use search_session::{Bank, LoneSpace};
 use std::alloc::Global;
 
 /// All memory of a beam but that of its feeder: its rings, of which the first header is sealed, and its engine.
@@ -21,14 +21,14 @@ pub struct BeamSpace {
     lone: LoneSpace,
 }
 
-// The lane that has one engine.
-fn lane_of(alloc: Global, engine: Engine) -> Result<Lane, Memory>
-    ensures { IfOk result (λ lane. engines_of lane ≡ Some engine ∷ []) }
+// The bank that has one engine.
+fn bank_of(alloc: Global, engine: Engine) -> Result<Bank, Memory>
+    ensures { IfOk result (λ bank. engines_of bank ≡ Some engine ∷ []) }
 {
     let mut engines = ArrayVec::new();
     engines.push(Some(engine));
     match Box::new(alloc, engines) {
-        Ok(engines) => Ok(Lane { engines }),
+        Ok(engines) => Ok(Bank { engines }),
         Err(_memory) => Err(Memory),
     }
 }
@@ -36,7 +36,7 @@ fn lane_of(alloc: Global, engine: Engine) -> Result<Lane, Memory>
 impl BeamSpace {
     /// Takes all memory of a beam but that of its feeder: for rings of this shape, which have one reader, and of which
     /// the header is sealed. The engine is the beam's one engine.
-    pub fn take(
+    pub fn reserve(
         alloc: Global,
         engine: Engine,
         shape: RingShape,
@@ -46,8 +46,8 @@ impl BeamSpace {
         requires alone { shape.readers ≡ 1 }
         ensures { IfOk result (IsBeamSpace engine shape header.now) }
     {
-        let lane = lane_of(alloc, engine)?;
-        let lone = LoneSpace::take(alloc, lane, shape, header)?;
+        let bank = bank_of(alloc, engine)?;
+        let lone = LoneSpace::reserve(alloc, bank, shape, header)?;
         Ok(BeamSpace { lone })
     }
 

@@ -15,25 +15,25 @@ use Rattle.ring_ends.specs.Ended.{sealed_at_end, cleared_at_end}
 use Rattle.disk_feeder.specs.Feeder.{plan_at, has_end, FeederFaultless}
 use Rattle.disk_feeder.specs.Turns.{sealed_headers, sealed_blocks}
 use Rattle.dada_recorder.specs.declared.recorder.Recorder.{Recorder}
-use Rattle.search_session.specs.declared.lane.Lane.{Lane}
+use Rattle.session_readers.specs.declared.bank.Bank.{Bank}
 use Rattle.search_session.specs.declared.feed.FeedActor.{FeedActor}
-use Rattle.search_session.specs.declared.shard.ShardActor.{ShardActor}
-use Rattle.search_session.specs.declared.record.RecordActor.{RecordActor}
+use Rattle.session_readers.specs.declared.shard.ShardActor.{ShardActor}
+use Rattle.session_readers.specs.declared.record.RecordActor.{RecordActor}
 use Rattle.search_session.specs.declared.hand.Hand.{Hand}
 use Rattle.search_session.specs.declared.ended.SessionEnd.{SessionEnd}
-use Rattle.search_session.specs.Shards.{shard_number}
+use Rattle.session_readers.specs.Shards.{shard_number}
 use Rattle.search_session.specs.Feeds.{FeedOn}
 use Rattle.search_session.specs.Hands.{HandOn, HandMoved, HandEnded, EachMoved}
 use Rattle.search_session.specs.Gathering.{recorder_of, recorder_in}
-use Rattle.search_session.specs.Stages.{IsUnfed, IsFreshRecorder, HasFeeder, HasShard, HasRecorder, RecorderWorks, IsInHand, AreOfLanes, recorder_count}
-use Rattle.search_session.specs.Lanes.{HasEngine, engines_of}
-use Rattle.search_session.specs.Books.{HasLane, HasBook, AreCounted}
+use Rattle.search_session.specs.Stages.{IsUnfed, IsFreshRecorder, HasFeeder, HasShard, HasRecorder, RecorderWorks, IsInHand, AreOfBanks, recorder_count}
+use Rattle.session_readers.specs.Banks.{HasEngine, engines_of}
+use Rattle.search_session.specs.Books.{HasBank, HasBook, AreCounted}
 use Rattle.search_session.specs.Ends.{HaveEnginesIn, recorder_passes}
 use Rattle.search_session.specs.Recorded.{HasNoRecording, RecordedAnswers}
 use Rattle.search_session.specs.Sessions.{FeedAnswers, IsSearched, ShardAnswers, IsEndOf, IsEndOfRecorder}
 use Rattle.search_session.proofs.Rows.{all_written}
-use Rattle.search_session.proofs.Working.{feeder_stays, shard_stays, lanes_stay, recorder_stays}
-use Rattle.search_session.proofs.Ending.{all_at, on_in, ended_in, of_lane_in, feeder_on, recorder_on, recorder_ended, cleared_at, searched}
+use Rattle.search_session.proofs.Working.{feeder_stays, shard_stays, banks_stay, recorder_stays}
+use Rattle.search_session.proofs.Ending.{all_at, on_in, ended_in, of_bank_in, feeder_on, recorder_on, recorder_ended, cleared_at, searched}
 use Rattle.search_session.proofs.FeedEnds.{SessionLaws, feed_answers, is_ending, keep_up, headers_sealed, all_few}
 use Rattle.search_session.proofs.Recordings.{some_end, recorded_by}
 use Rattle.search_session.proofs.Holding.{held_found}
@@ -71,56 +71,56 @@ module _ {I F : Type 0} (seen : F → FilesSeen) (number : ℕ) (hands : List (H
 module _ {I F : Type 0} (told : I → Told) (is_open is_calm : I → Type 0) (faults : I → ℕ) (files_open : F → Type 0)
     (seen : F → FilesSeen) where
   -- the hands once all actors have ended
-  pub record AllEnded (hdu : Hdu) (start : FeedActor I) (lanes : List (Option Lane)) (recorder : Option (Recorder F))
+  pub record AllEnded (hdu : Hdu) (start : FeedActor I) (banks : List (Option Bank)) (recorder : Option (Recorder F))
       (hands : List (Hand I F)) : Type 0 where
     pub on : All (HandOn told is_open files_open hdu) hands
     pub ended : All HandEnded hands
     pub feeder : HasFeeder told is_calm faults start hands
-    pub shards : (s : ℕ) → s < length lanes → HasShard hands s
-    pub of_lanes : AreOfLanes lanes hands
-    pub recorder_works : RecorderWorks seen recorder (length lanes) hands
+    pub shards : (s : ℕ) → s < length banks → HasShard hands s
+    pub of_banks : AreOfBanks banks hands
+    pub recorder_works : RecorderWorks seen recorder (length banks) hands
 
-  all_ended : (hdu : Hdu) (start : FeedActor I) (lanes : List (Option Lane)) (recorder : Option (Recorder F))
+  all_ended : (hdu : Hdu) (start : FeedActor I) (banks : List (Option Bank)) (recorder : Option (Recorder F))
       (old new : List (Hand I F)) (n : ℕ) →
       EachMoved (HandMoved told is_calm faults seen n) old new → HasFeeder told is_calm faults start old →
-      ((s : ℕ) → s < length lanes → HasShard old s) → AreOfLanes lanes old →
-      RecorderWorks seen recorder (length lanes) old →
-      All (HandOn told is_open files_open hdu) new → All HandEnded new → AllEnded hdu start lanes recorder new
-  all_ended hdu start lanes recorder old new n moved feeder shards of works on ended = record {
+      ((s : ℕ) → s < length banks → HasShard old s) → AreOfBanks banks old →
+      RecorderWorks seen recorder (length banks) old →
+      All (HandOn told is_open files_open hdu) new → All HandEnded new → AllEnded hdu start banks recorder new
+  all_ended hdu start banks recorder old new n moved feeder shards of works on ended = record {
     on = on;
     ended = ended;
     feeder = feeder_stays told is_calm faults seen n old new moved start feeder;
     shards = λ s near. shard_stays told is_calm faults seen n old new moved s (shards s near);
-    of_lanes = lanes_stay told is_calm faults seen n old new moved lanes of;
-    recorder_works = recorder_stays told is_calm faults seen n old new moved recorder (length lanes) works;
+    of_banks = banks_stay told is_calm faults seen n old new moved banks of;
+    recorder_works = recorder_stays told is_calm faults seen n old new moved recorder (length banks) works;
   }
 
   -- the same, where the hands are seen through the slices of their Vec
-  pub hands_ended : (hdu : Hdu) (start : FeedActor I) (lanes : List (Option Lane)) (recorder : Option (Recorder F))
+  pub hands_ended : (hdu : Hdu) (start : FeedActor I) (banks : List (Option Bank)) (recorder : Option (Recorder F))
       (items first two last : List (Hand I F)) (len n : ℕ) → first ≡ items → length first ≡ len →
       last ≡ take len (two ++ drop (length two) items) →
       EachMoved (HandMoved told is_calm faults seen n) first two → HasFeeder told is_calm faults start items →
-      ((s : ℕ) → s < length lanes → HasShard items s) → AreOfLanes lanes items →
-      RecorderWorks seen recorder (length lanes) items →
-      All (HandOn told is_open files_open hdu) two → All HandEnded two → AllEnded hdu start lanes recorder last
-  hands_ended hdu start lanes recorder items first two last len n shown long written moved
+      ((s : ℕ) → s < length banks → HasShard items s) → AreOfBanks banks items →
+      RecorderWorks seen recorder (length banks) items →
+      All (HandOn told is_open files_open hdu) two → All HandEnded two → AllEnded hdu start banks recorder last
+  hands_ended hdu start banks recorder items first two last len n shown long written moved
       feeder shards of works on ended =
-      subst (λ (l : List (Hand I F)). AllEnded hdu start lanes recorder l)
+      subst (λ (l : List (Hand I F)). AllEnded hdu start banks recorder l)
       (sym (written ∙ all_written len items two (moved.count ∙ long)))
-      (all_ended hdu start lanes recorder items two n
+      (all_ended hdu start banks recorder items two n
       (subst (λ (l : List (Hand I F)). EachMoved (HandMoved told is_calm faults seen n) l two)
       shown moved) feeder shards of works on ended)
 
   -- a session that ended
-  module _ (hdu : Hdu) (start : FeedActor I) (lanes : List (Option Lane)) (recorder : Option (Recorder F))
-      (hands : List (Hand I F)) (transfers : ℕ) (unfed : (s : ℕ) → s < length lanes →
-      (lane : Lane) × (slice_get lanes s ≡ Some (Some lane)) × IsUnfed transfers lane)
-      (all : AllEnded hdu start lanes recorder hands) where
-    -- each shard has as many engines as its lane
-    pub have_engines : HaveEnginesIn hands (length lanes) transfers
+  module _ (hdu : Hdu) (start : FeedActor I) (banks : List (Option Bank)) (recorder : Option (Recorder F))
+      (hands : List (Hand I F)) (transfers : ℕ) (unfed : (s : ℕ) → s < length banks →
+      (bank : Bank) × (slice_get banks s ≡ Some (Some bank)) × IsUnfed transfers bank)
+      (all : AllEnded hdu start banks recorder hands) where
+    -- each shard has as many engines as its bank
+    pub have_engines : HaveEnginesIn hands (length banks) transfers
     have_engines = λ x is near.
         let h = unfed (shard_number x) near in
-        (of_lane_in lanes hands x all.of_lanes is h.0 h.1).count ∙ h.2.count
+        (of_bank_in banks hands x all.of_banks is h.0 h.1).count ∙ h.2.count
 
     module _ (laws : SessionLaws I) (end : SessionEnd I F) (feed : all.feeder.feeder.end ≡ Some end.feed)
         (inputs : end.inputs.now ≡ all.feeder.feeder.part.inputs.now)
@@ -131,32 +131,32 @@ module _ {I F : Type 0} (told : I → Told) (is_open is_calm : I → Type 0) (fa
 
       pub feed_is : end.inputs.ghost_name ≡ all.feeder.feeder.part.inputs.ghost_name → has_end start.part ≡ None →
           FeederFaultless start.part → FeedAnswers told is_calm faults start.part end
-      feed_is = feed_answers laws told is_open is_calm faults hdu start all.feeder.feeder all.feeder.turns
+      feed_is = feed_answers laws told is_open faults hdu start all.feeder.feeder all.feeder.turns
           all.feeder.moved feeder_is_on end feed inputs sealed
 
       ending : IsEnding (length (plan_at start.part).starts) (sealed_at_end end.blocks) end.feed
-      ending = is_ending laws told is_open is_calm faults hdu start all.feeder.feeder all.feeder.turns
+      ending = is_ending laws told is_open faults hdu start all.feeder.feeder all.feeder.turns
           all.feeder.moved feeder_is_on end feed inputs sealed
 
       -- ---- shards
 
       module _ (same : length (plan_at start.part).starts ≡ transfers)
-          (counted : AreCounted (length lanes) transfers end.books.items end.spectra.items)
-          (ends : (s : ℕ) → s < length lanes → (x : ShardActor) × IsInHand hands x × (shard_number x ≡ s)
+          (counted : AreCounted (length banks) transfers end.books.items end.spectra.items)
+          (ends : (s : ℕ) → s < length banks → (x : ShardActor) × IsInHand hands x × (shard_number x ≡ s)
           × IsEndOf end s x)
         where
           ends_so : IsEnding transfers (sealed_at_end end.blocks) end.feed
           ends_so = subst (λ (k : ℕ). IsEnding k (sealed_at_end end.blocks) end.feed) same ending
 
-          all_cleared : (s : ℕ) → s < length lanes → cleared_at_end end.blocks s ≡ sealed_at_end end.blocks
+          all_cleared : (s : ℕ) → s < length banks → cleared_at_end end.blocks s ≡ sealed_at_end end.blocks
           all_cleared s near =
               let e = ends s near in
               let h = unfed s near in
-              cleared_at hdu transfers lanes end ends_so s e.0 e.2 e.3
+              cleared_at hdu transfers banks end ends_so s e.0 e.2 e.3
               (on_in told is_open files_open hdu hands all.on e.0 e.1) (ended_in hands e.0 all.ended e.1)
-              (of_lane_in lanes hands e.0 all.of_lanes e.1) h.0 h.1 h.2.count
+              (of_bank_in banks hands e.0 all.of_banks e.1) h.0 h.1 h.2.count
 
-          book_there : (k s : ℕ) → k < transfers → s < length lanes →
+          book_there : (k s : ℕ) → k < transfers → s < length banks →
               (book : BookContents) × HasBook end.books.items k s book
           book_there k s below near =
               let x = ends s near in
@@ -165,58 +165,58 @@ module _ {I F : Type 0} (told : I → Told) (is_open is_calm : I → Type 0) (fa
               let engine = (on_in told is_open files_open hdu hands all.on x.0 x.1).engines k (omega arith) in
               (engine.0.book, x.3.books k engine.0 engine.1)
 
-          all_searched : (bytes : ℕ) → end.feed ≡ Whole bytes → (transfer s : ℕ) (lane : Lane) (e : EngineState)
-              (o : Observation) → HasLane lanes s lane → HasEngine (engines_of lane) transfer e →
+          all_searched : (bytes : ℕ) → end.feed ≡ Whole bytes → (transfer s : ℕ) (bank : Bank) (e : EngineState)
+              (o : Observation) → HasBank banks s bank → HasEngine (engines_of bank) transfer e →
               StandsForData o [] e → IsSearched end transfer s o e
-          all_searched bytes whole transfer s lane e o at has stands =
-              let near = slice_get_within lanes s (Some lane) at in
+          all_searched bytes whole transfer s bank e o at has stands =
+              let near = slice_get_within banks s (Some bank) at in
               let x = ends s near in
               let h = unfed s near in
-              let this : h.0 ≡ lane = inside h.0 lane (sym h.1 ∙ at) in
-              searched hdu transfers lanes end ends_so s x.0 x.2 x.3
+              let this : h.0 ≡ bank = inside h.0 bank (sym h.1 ∙ at) in
+              searched hdu transfers banks end ends_so s x.0 x.2 x.3
               (on_in told is_open files_open hdu hands all.on x.0 x.1) (ended_in hands x.0 all.ended x.1)
-              (of_lane_in lanes hands x.0 all.of_lanes x.1) lane at
-              (ap (λ (l : Lane). length (engines_of l)) (sym this) ∙ h.2.count)
+              (of_bank_in banks hands x.0 all.of_banks x.1) bank at
+              (ap (λ (l : Bank). length (engines_of l)) (sym this) ∙ h.2.count)
               bytes whole transfer e o has stands
             where
-              inside : (a b : Lane) → Some (Some a) ≡ Some (Some b) → a ≡ b
+              inside : (a b : Bank) → Some (Some a) ≡ Some (Some b) → a ≡ b
               inside a b e = cc
 
-          pub shards_are : ShardAnswers transfers lanes end
+          pub shards_are : ShardAnswers transfers banks end
           shards_are = record {
             cleared = all_cleared;
             counted = counted;
             there = book_there;
             searched = all_searched;
             held = λ search o found bytes whole opened found_is.
-                held_found transfers lanes end counted (all_searched bytes whole) search o found opened found_is;
+                held_found transfers banks end counted (all_searched bytes whole) search o found opened found_is;
           }
 
       -- ---- the recorder
 
       pub recorded_are : IfSome recorder (IsFreshRecorder files_open hdu) →
           ((x : RecordActor F) → recorder_in hands ≡ Some x →
-          IsEndOfRecorder end (length lanes) (sealed_headers all.feeder.feeder.pass) x) →
+          IsEndOfRecorder end (length banks) (sealed_headers all.feeder.feeder.pass) x) →
           (recorder_in hands ≡ None → HasNoRecording end) →
-          RecordedAnswers seen start.part recorder (length lanes) end
+          RecordedAnswers seen start.part recorder (length banks) end
       recorded_are fresh ends none = by_cases recorder all.recorder_works fresh
         where
-          by_cases : (r : Option (Recorder F)) → RecorderWorks seen r (length lanes) hands →
-              IfSome r (IsFreshRecorder files_open hdu) → RecordedAnswers seen start.part r (length lanes) end
-          by_cases None works fresh = none (works_none seen (length lanes) hands works)
+          by_cases : (r : Option (Recorder F)) → RecorderWorks seen r (length banks) hands →
+              IfSome r (IsFreshRecorder files_open hdu) → RecordedAnswers seen start.part r (length banks) end
+          by_cases None works fresh = none (works_none seen (length banks) hands works)
           by_cases (Some part) works fresh =
               let has = works.2 in
-              let there = works_some seen (length lanes) hands works.0 has in
+              let there = works_some seen (length banks) hands works.0 has in
               let f = all.feeder.feeder in
               let answer = some_end has.recorder.end (recorder_ended hands has.recorder all.ended there) in
-              recorded_by seen files_open hdu part fresh (length lanes) has.turns works.0 has.recorder works.1 has.moved
+              recorded_by seen files_open hdu part fresh (length banks) has.turns works.0 has.recorder works.1 has.moved
               (recorder_on told is_open files_open hdu hands all.on has.recorder there) laws.recordings start.part end
               (sealed_headers f.pass)
-              (headers_sealed laws told is_open is_calm faults hdu start f all.feeder.turns
+              (headers_sealed laws told is_open faults hdu start f all.feeder.turns
               all.feeder.moved feeder_is_on end feed inputs sealed)
-              (keep_up laws told is_open is_calm faults hdu start f all.feeder.turns all.feeder.moved feeder_is_on end
+              (keep_up laws told is_open faults hdu start f all.feeder.turns all.feeder.moved feeder_is_on end
               feed inputs sealed)
               ending
-              (all_few laws told is_open is_calm faults hdu start f all.feeder.turns all.feeder.moved feeder_is_on end
+              (all_few laws told is_open faults hdu start f all.feeder.turns all.feeder.moved feeder_is_on end
               feed inputs sealed)
-              (length lanes) (ends has.recorder there) answer.0 answer.1
+              (length banks) (ends has.recorder there) answer.0 answer.1

@@ -18,23 +18,23 @@ use Rattle.stream_model.specs.Blocks.{ended_transfers, transfer_bytes, is_over}
 use Rattle.search_engine.specs.Engine.{EngineState, SameShard, StandsForPart, StandsForData, HasSearched}
 use Rattle.disk_feeder.specs.declared.answers.FeedEnd.TheVariants.{Whole}
 use Rattle.disk_feeder.specs.Feeding.{IsEnding}
-use Rattle.search_session.specs.declared.lane.Lane.{Lane}
+use Rattle.session_readers.specs.declared.bank.Bank.{Bank}
 use Rattle.search_session.specs.declared.feed.FeedActor.{FeedActor}
-use Rattle.search_session.specs.declared.shard.ShardActor.{ShardActor}
-use Rattle.search_session.specs.declared.record.RecordActor.{RecordActor}
+use Rattle.session_readers.specs.declared.shard.ShardActor.{ShardActor}
+use Rattle.session_readers.specs.declared.record.RecordActor.{RecordActor}
 use Rattle.search_session.specs.declared.hand.Hand.{Hand}
 use Rattle.search_session.specs.declared.ended.SessionEnd.{SessionEnd}
-use Rattle.search_session.specs.Lanes.{HasEnded, HasEngine, Stands, engines_of}
-use Rattle.search_session.specs.Shards.{StandsAt, EnginesFollow, shard_cleared, shard_number, ShardOn}
+use Rattle.session_readers.specs.Banks.{HasEnded, HasEngine, Stands, engines_of}
+use Rattle.session_readers.specs.Shards.{StandsAt, EnginesFollow, shard_cleared, shard_number, ShardOn}
 use Rattle.search_session.specs.Feeds.{FeedOn}
-use Rattle.search_session.specs.Records.{RecordOn}
+use Rattle.session_readers.specs.Records.{RecordOn}
 use Rattle.search_session.specs.Hands.{HandOn, HandEnded}
 use Rattle.search_session.specs.Gathering.{recorder_of, recorder_in}
-use Rattle.search_session.specs.Stages.{IsOfLane, AreOfLanes, IsInHand}
-use Rattle.search_session.specs.Books.{HasLane, HasBook}
+use Rattle.search_session.specs.Stages.{IsOfBank, AreOfBanks, IsInHand}
+use Rattle.search_session.specs.Books.{HasBank, HasBook}
 use Rattle.search_session.specs.Sessions.{IsSearched, IsEndOf, data_through}
 use Rattle.search_session.proofs.Engines.{nothing}
-use Rattle.search_session.proofs.Turning.{none_ended, not_below_zero}
+use Rattle.search_session.proofs.Unfed.{none_ended, not_below_zero}
 
 -- ---- what holds of all is true of one
 
@@ -57,9 +57,9 @@ module _ {I F : Type 0} where
       (All-weaker HandEnded (λ h. All (λ slot. IfSome slot (λ y. y.ended ≡ true)) h.shards.items) (λ h e. e.shards)
       hands ended) is
 
-  pub of_lane_in : (lanes : List (Option Lane)) (hands : List (Hand I F)) (x : ShardActor) → AreOfLanes lanes hands →
-      IsInHand hands x → IsOfLane lanes x
-  of_lane_in lanes hands x of is = all_slots (IsOfLane lanes) hands x of is
+  pub of_bank_in : (banks : List (Option Bank)) (hands : List (Hand I F)) (x : ShardActor) → AreOfBanks banks hands →
+      IsInHand hands x → IsOfBank banks x
+  of_bank_in banks hands x of is = all_slots (IsOfBank banks) hands x of is
 
   pub feeder_ended : (hands : List (Hand I F)) (h : Hand I F) (f : FeedActor I) → All HandEnded hands →
       slice_get hands 0 ≡ Some h → h.feeder ≡ Some f → IsSome f.end
@@ -115,13 +115,13 @@ book_is o bytes e f same searched = searched.book
     ∙ ap (λ (k : ℕ). book_of e.search.max_candidates (shard_part e.search k (candidates_of o e.search bytes)))
     same.shard)
 
-module _ {I F : Type 0} (hdu : Hdu) (transfers : ℕ) (lanes : List (Option Lane)) (end : SessionEnd I F)
+module _ {I F : Type 0} (hdu : Hdu) (transfers : ℕ) (banks : List (Option Bank)) (end : SessionEnd I F)
     (ending : IsEnding transfers (sealed_at_end end.blocks) end.feed) (s : ℕ) (x : ShardActor)
     (number : shard_number x ≡ s) (is_end : IsEndOf end s x) (on : ShardOn hdu x) (ended : x.ended ≡ true)
-    (of : IsOfLane lanes x) (lane : Lane) (at : HasLane lanes s lane)
-    (count : length (engines_of lane) ≡ transfers) where
-  follow : EnginesFollow [] (shard_cleared x) (engines_of lane) (engines_of x.part)
-  follow = of lane (subst (λ (k : ℕ). slice_get lanes k ≡ Some (Some lane)) (sym number) at)
+    (of : IsOfBank banks x) (bank : Bank) (at : HasBank banks s bank)
+    (count : length (engines_of bank) ≡ transfers) where
+  follow : EnginesFollow [] (shard_cleared x) (engines_of bank) (engines_of x.part)
+  follow = of bank (subst (λ (k : ℕ). slice_get banks k ≡ Some (Some bank)) (sym number) at)
 
   over : is_over transfers (shard_cleared x) ≡ true
   over = ap (λ (k : ℕ). is_over k (shard_cleared x)) (sym (follow.count ∙ count)) ∙ (sym on.over ∙ ended)
@@ -135,10 +135,10 @@ module _ {I F : Type 0} (hdu : Hdu) (transfers : ℕ) (lanes : List (Option Lane
   cleared_at = is_end.cleared ∙ cleared_all
 
   pub searched : (bytes : ℕ) → end.feed ≡ Whole bytes → (transfer : ℕ) (e : EngineState) (o : Observation) →
-      HasEngine (engines_of lane) transfer e → StandsForData o [] e → IsSearched end transfer s o e
+      HasEngine (engines_of bank) transfer e → StandsForData o [] e → IsSearched end transfer s o e
   searched bytes whole transfer e o has stands =
       let f = follow.each transfer e has in
-      let near = slice_get_within (engines_of lane) transfer (Some e) has in
+      let near = slice_get_within (engines_of bank) transfer (Some e) has in
       let all = ending.all bytes whole in
       let below : nat_lt transfer (ended_transfers (sealed_at_end end.blocks)) ≡ true =
       below_true transfer (ended_transfers (sealed_at_end end.blocks)) (omega arith) in

@@ -14,8 +14,8 @@ use Rattle.disk_feeder.specs.declared.feeder.Feeder.{Feeder}
 use Rattle.disk_feeder.specs.declared.place.Place.{Place}
 use Rattle.disk_feeder.specs.History.{file_name}
 use Rattle.disk_feeder.specs.Plan.{Plan, stream_of}
-use Rattle.disk_feeder.specs.Feeder.{plan_at, names_at, headers_of, place_at, block_size, has_end, stream_at, FeederFaultless, FeederMisses, FeederSince, FeederRead}
-use Rattle.disk_feeder.specs.Feeding.{HeadersKeepUp, IsEnding, IsEnded, IsMissing, HasEndedAs, FeedsTo, SealedAs, EndIs, BreaksReading}
+use Rattle.disk_feeder.specs.Feeder.{plan_at, names_at, headers_of, place_at, block_size, has_end, stream_at, FeederFaultless, FeederMisses, FeederUnopened, FeederSince, FeederRead}
+use Rattle.disk_feeder.specs.Feeding.{HeadersKeepUp, IsEnding, IsEnded, IsUntold, HasEndedAs, FeedsTo, SealedAs, EndIs, BreaksReading}
 use Rattle.disk_feeder.specs.Turns.{sealed_headers, sealed_blocks}
 use Rattle.disk_feeder.specs.Laws.{FeedersEnd, HeadersAreFirst, FaultsLeave}
 use Rattle.dada_recorder.specs.RecordingLaws.{RecordingsEnd}
@@ -53,7 +53,27 @@ none_missing f told faultless = λ fault. elim fault [
   | inr end ↦ absurd (faultless.1 end)
 ]
 
-module _ {I F : Type 0} (laws : SessionLaws I) (told : I → Told) (is_open is_calm : I → Type 0) (faults : I → ℕ)
+-- and none at a file that was not opened
+none_unopened : {I : Type 0} (f : Feeder I) (before told : Told) → FeederFaultless f → FeederUnopened before told f
+none_unopened f before told faultless = λ fault. elim fault [
+  | inl due ↦ absurd (faultless.0 due)
+  | inr end ↦ absurd (faultless.1 end)
+]
+
+-- what a fault left where a file was not opened is what calm inputs left
+of_calm : (p : Plan) (before told : Told) (unopened is_calm : Type 0) (at : Place) (size : ℕ) (blocks : List Entry) →
+    (is_calm → unopened) → BreaksReading p before unopened told at size blocks →
+    BreaksReading p before is_calm told at size blocks
+of_calm p before told unopened is_calm at size blocks calm left = record {
+  passed = left.passed;
+  cut = left.cut;
+  stood = left.stood;
+  shut = λ is. left.shut (calm is);
+  unopened = λ is. left.unopened (calm is);
+}
+
+module _ {I F : Type 0} {is_calm : I → Type 0} (laws : SessionLaws I) (told : I → Told)
+    (is_open : I → Type 0) (faults : I → ℕ)
     (hdu : Hdu) (start f : FeedActor I) (n : ℕ) (moved : FeedMoved told is_calm faults n start f)
     (on : FeedOn told is_open hdu f) (end : SessionEnd I F) (feed : f.end ≡ Some end.feed)
     (inputs : end.inputs.now ≡ f.part.inputs.now) (sealed : sealed_at_end end.blocks ≡ sealed_blocks f.pass) where
@@ -72,19 +92,25 @@ module _ {I F : Type 0} (laws : SessionLaws I) (told : I → Told) (is_open is_c
       (sealed_headers f.pass) (sealed_blocks f.pass) e) part_end on.feeding in was.ended
 
   -- what a fault of the inputs left
-  fault_left : end.feed ≡ ReadFault → (before : Told) → FeederRead before (told start.part.inputs.now) start.part →
-      BreaksReading (plan_at start.part) before (told end.inputs.now) at (block_size start.part)
-      (sealed_at_end end.blocks)
-  fault_left failed before read =
+  fault_left : FeederFaultless start.part → end.feed ≡ ReadFault → (before : Told) →
+      FeederRead before (told start.part.inputs.now) start.part →
+      BreaksReading (plan_at start.part) before (is_calm start.part.inputs.now) (told end.inputs.now) at
+      (block_size start.part) (sealed_at_end end.blocks)
+  fault_left faultless failed before read =
       let now = told f.part.inputs.now in
-      subst (λ (p : Plan). BreaksReading p before (told end.inputs.now) at (block_size start.part)
+      let calm = is_calm start.part.inputs.now in
+      subst (λ (p : Plan). BreaksReading p before calm (told end.inputs.now) at (block_size start.part)
       (sealed_at_end end.blocks)) moved.plan
-      (subst (λ (i : I). BreaksReading (plan_at f.part) before (told i) at (block_size start.part)
+      (subst (λ (i : I). BreaksReading (plan_at f.part) before calm (told i) at (block_size start.part)
       (sealed_at_end end.blocks)) (sym inputs)
-      (subst (λ (z : ℕ). BreaksReading (plan_at f.part) before now at z (sealed_at_end end.blocks)) moved.size
-      (subst (λ (l : List Entry). BreaksReading (plan_at f.part) before now at (block_size f.part) l) (sym sealed)
+      (subst (λ (z : ℕ). BreaksReading (plan_at f.part) before calm now at z (sealed_at_end end.blocks)) moved.size
+      (subst (λ (l : List Entry). BreaksReading (plan_at f.part) before calm now at (block_size f.part) l) (sym sealed)
+      (of_calm (plan_at f.part) before now (FeederUnopened before now f.part) calm at (block_size f.part)
+      (sealed_blocks f.pass)
+      (λ was. moved.inputs.unopened was before read
+      (none_unopened start.part before (told start.part.inputs.now) faultless))
       (laws.leave f.part before now (sealed_headers f.pass) (sealed_blocks f.pass) on.feeding
-      (part_end ∙ ap (λ (e : FeedEnd). Some e) failed) (moved.inputs.reads_on before read)))))
+      (part_end ∙ ap (λ (e : FeedEnd). Some e) failed) (moved.inputs.reads_on before read))))))
 
   -- of calm inputs the file at which it came isn't told
   fault_missing : FeederFaultless start.part → is_calm start.part.inputs.now → end.feed ≡ ReadFault →
@@ -92,7 +118,7 @@ module _ {I F : Type 0} (laws : SessionLaws I) (told : I → Told) (is_open is_c
       × ¬ IsSome ((told start.part.inputs.now).bytes_under (file_name (names_at start.part) at.file))
   fault_missing faultless calm failed =
       let now = told f.part.inputs.now in
-      let is : IsMissing now f.part.stream.source =
+      let is : IsUntold now f.part.stream.source =
       moved.inputs.missing calm (none_missing start.part (told start.part.inputs.now) faultless)
       (inr (part_end ∙ ap (λ (e : FeedEnd). Some e) failed)) in
       subst (λ (under : List ℕ → Option (List ℕ)). (at.file < length (names_at start.part))
@@ -153,7 +179,7 @@ module _ {I F : Type 0} (laws : SessionLaws I) (told : I → Told) (is_open is_c
         missing = fault_missing faultless;
         sealed = subst (λ (l : List Entry). IsEnded (plan_at start.part) (told end.inputs.now) at
             (block_size start.part) l (sealed_at_end end.blocks) end.feed) headers_sealed all_sealed;
-        broke = fault_left;
+        broke = fault_left faultless;
         few = all_few;
         parts = λ bytes whole.
             let s = whole_sealed bytes whole in

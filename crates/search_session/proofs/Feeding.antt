@@ -50,6 +50,7 @@ module _ {I : Type 0} (told : I → Told) (is_calm : I → Type 0) (faults : I �
     reads_on = λ before was. was;
     calm = λ was. was;
     missing = λ calm was. was;
+    unopened = λ calm before read was. was;
   }
 
   keeps_more : (f g h : FeedActor I) → InputsKept told is_calm faults f g → InputsKept told is_calm faults g h →
@@ -65,6 +66,8 @@ module _ {I : Type 0} (told : I → Told) (is_calm : I → Type 0) (faults : I �
         reads_on = λ before was. b.reads_on before (a.reads_on before was);
         calm = λ was. b.calm (a.calm was);
         missing = λ calm was. b.missing (a.calm calm) (a.missing calm was);
+        unopened = λ calm before read was.
+            b.unopened (a.calm calm) before (a.reads_on before read) (a.unopened calm before read was);
       }
 
   stands : (n : ℕ) (f : FeedActor I) → f.turns < 2 ^ 64 → (f.end ≡ None → 0 ≡ n) →
@@ -104,6 +107,7 @@ module _ {I : Type 0} (told : I → Told) (is_calm : I → Type 0) (faults : I �
       reads_on = kept.reads_on;
       calm = kept.calm;
       missing = kept.missing;
+      unopened = kept.unopened;
     };
     plan = kept.plan;
     size = kept.size;

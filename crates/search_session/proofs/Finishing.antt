@@ -19,11 +19,11 @@ use Rattle.dada_hdu.specs.declared.hdu.Hdu.{Hdu}
 use Rattle.dada_hdu.specs.declared.ended.HduEnded.{HduEnded}
 use Rattle.dada_hdu.specs.Passes.{header_ring, data_ring, header_end, data_end, number_of, EndedFromBoth}
 use Rattle.dada_hdu.specs.Ended.{GivesBoth, AreBothInOrder, AllReadersOfBoth, RingFinished}
-use Rattle.search_session.specs.declared.shard.ShardActor.{ShardActor}
-use Rattle.search_session.specs.declared.record.RecordActor.{RecordActor}
-use Rattle.search_session.specs.Shards.{shard_cleared, shard_number}
-use Rattle.search_session.specs.Records.{recorded_headers, recorded_blocks}
-use Rattle.search_session.specs.Books.{HasLane, HaveEngines, passes_of, lanes_of}
+use Rattle.session_readers.specs.declared.shard.ShardActor.{ShardActor}
+use Rattle.session_readers.specs.declared.record.RecordActor.{RecordActor}
+use Rattle.session_readers.specs.Shards.{shard_cleared, shard_number}
+use Rattle.session_readers.specs.Records.{recorded_headers, recorded_blocks}
+use Rattle.search_session.specs.Books.{HasBank, HaveEngines, passes_of, banks_of}
 use Rattle.search_session.specs.Ends.{passes_with, recorder_passes, ReadsLast, AreDone}
 use Rattle.search_session.proofs.Rows.{longer, at_end}
 
@@ -34,9 +34,9 @@ gives_pass : (shards : List (Option ShardActor)) (s : ℕ) (x : ShardActor) → 
 gives_pass shards s x at = slice_get-map (option_map (λ (y : ShardActor). y.pass)) shards s
     ∙ ap (option_map (option_map (λ (y : ShardActor). y.pass))) at
 
-pub gives_lane : (shards : List (Option ShardActor)) (s : ℕ) (x : ShardActor) → slice_get shards s ≡ Some (Some x) →
-    HasLane (lanes_of shards) s x.part
-gives_lane shards s x at = slice_get-map (option_map (λ (y : ShardActor). y.part)) shards s
+pub gives_bank : (shards : List (Option ShardActor)) (s : ℕ) (x : ShardActor) → slice_get shards s ≡ Some (Some x) →
+    HasBank (banks_of shards) s x.part
+gives_bank shards s x at = slice_get-map (option_map (λ (y : ShardActor). y.part)) shards s
     ∙ ap (option_map (option_map (λ (y : ShardActor). y.part))) at
 
 -- as many passes as shards
@@ -97,11 +97,11 @@ module _ {F : Type 0} (hdu : Hdu) (transfers : ℕ) (shards : List (Option Shard
   passes_in_order =
       record { count = done.all; each = λ j near. each_pass hdu transfers shards recorder done j near }
 
-  pub lanes_have : HaveEngines transfers (lanes_of shards)
-  lanes_have = λ s near.
+  pub banks_have : HaveEngines transfers (banks_of shards)
+  banks_have = λ s near.
       let long = length-map shards (option_map (λ (y : ShardActor). y.part)) in
       let h = done.each s (omega arith) in
-      (h.0.part, gives_lane shards s h.0 h.1, h.2.count)
+      (h.0.part, gives_bank shards s h.0 h.1, h.2.count)
 
   module _ (writer : WriterPass) (f : Finished)
       (end : RingFinished (data_ring hdu) writer data_end (passes_with shards recorder) f) where

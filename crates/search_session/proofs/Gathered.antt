@@ -4,9 +4,9 @@ use Rattle.std.proofs.lemmas.List.{length-set}
 use Rattle.std.proofs.lemmas.Option.{slice_get_within}
 use mathlib.Core.Logic.{dite}
 use native.Mathlib.Decide.{ℕ_discrete}
-use Rattle.search_session.specs.declared.shard.ShardActor.{ShardActor}
+use Rattle.session_readers.specs.declared.shard.ShardActor.{ShardActor}
 use Rattle.search_session.specs.declared.hand.Hand.{Hand}
-use Rattle.search_session.specs.Shards.{shard_number}
+use Rattle.session_readers.specs.Shards.{shard_number}
 use Rattle.search_session.specs.Gathering.{GivesShard, recorder_of, recorder_in}
 use Rattle.search_session.specs.Stages.{HasShard, IsInHand, LeavesHand, AreGathered}
 use Rattle.search_session.proofs.Rows.{get_set_same, get_set_other, longer, at_end}

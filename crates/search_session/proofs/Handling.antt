@@ -9,12 +9,12 @@ use Rattle.psr_base.specs.Told.{Told}
 use Rattle.psr_base.specs.Made.{FilesSeen}
 use Rattle.dada_hdu.specs.declared.hdu.Hdu.{Hdu}
 use Rattle.search_session.specs.declared.feed.FeedActor.{FeedActor}
-use Rattle.search_session.specs.declared.shard.ShardActor.{ShardActor}
-use Rattle.search_session.specs.declared.record.RecordActor.{RecordActor}
+use Rattle.session_readers.specs.declared.shard.ShardActor.{ShardActor}
+use Rattle.session_readers.specs.declared.record.RecordActor.{RecordActor}
 use Rattle.search_session.specs.declared.hand.Hand.{Hand}
-use Rattle.search_session.specs.Shards.{ShardOn, ShardMoved}
+use Rattle.session_readers.specs.Shards.{ShardOn, ShardMoved}
 use Rattle.search_session.specs.Feeds.{FeedOn, FeedMoved}
-use Rattle.search_session.specs.Records.{RecordOn, RecordMoved}
+use Rattle.session_readers.specs.Records.{RecordOn, RecordMoved}
 use Rattle.search_session.specs.Hands.{SlotMoved, EachMoved, FirstMoved, ShardsOn, ShardsMoved, HandOn, HandMoved}
 use Rattle.search_session.proofs.Moves.{shard_none, shard_more, slot_more, each_more}
 use Rattle.search_session.proofs.Feeding.{feed_none, feed_more}

@@ -15,11 +15,11 @@ use Rattle.search_model.specs.CandidateLaws.{shard_parts}
 use Rattle.search_model.specs.Observed.{filterbank_of, candidates_of}
 use Rattle.candidate_book.specs.Book.{BookContents, book_of}
 use Rattle.search_engine.specs.Engine.{EngineState, StandsForData}
-use Rattle.search_session.specs.declared.lane.Lane.{Lane}
+use Rattle.session_readers.specs.declared.bank.Bank.{Bank}
 use Rattle.search_session.specs.declared.ended.SessionEnd.{SessionEnd}
-use Rattle.search_session.specs.Lanes.{HasEngine, engines_of}
-use Rattle.search_session.specs.Books.{HasLane, HasBook, AreCounted}
-use Rattle.search_session.specs.Sessions.{data_through, IsSearched, AreLanesFor, shard_books, HoldFound}
+use Rattle.session_readers.specs.Banks.{HasEngine, engines_of}
+use Rattle.search_session.specs.Books.{HasBank, HasBook, AreCounted}
+use Rattle.search_session.specs.Sessions.{data_through, IsSearched, AreBanksFor, shard_books, HoldFound}
 use Rattle.search_session.proofs.Ending.{all_at}
 use Rattle.search_session.proofs.Taking.{some_searched}
 
@@ -40,24 +40,24 @@ book_there settings list s d near =
     (range_with_len 0 settings.shards))
     ∙ get_or-map-range_with_len (part_book settings list) 0 settings.shards s s d near (omega arith)
 
-module _ {I F : Type 0} (transfers : ℕ) (lanes : List (Option Lane)) (end : SessionEnd I F)
-    (counted : AreCounted (length lanes) transfers end.books.items end.spectra.items)
-    (searched : (transfer s : ℕ) (lane : Lane) (e : EngineState) (o : Observation) → HasLane lanes s lane →
-    HasEngine (engines_of lane) transfer e → StandsForData o [] e → IsSearched end transfer s o e)
+module _ {I F : Type 0} (transfers : ℕ) (banks : List (Option Bank)) (end : SessionEnd I F)
+    (counted : AreCounted (length banks) transfers end.books.items end.spectra.items)
+    (searched : (transfer s : ℕ) (bank : Bank) (e : EngineState) (o : Observation) → HasBank banks s bank →
+    HasEngine (engines_of bank) transfer e → StandsForData o [] e → IsSearched end transfer s o e)
     (settings : Search)
-    (o : ℕ → Observation) (found : ℕ → List ℕ) (opened : AreLanesFor settings o transfers lanes)
+    (o : ℕ → Observation) (found : ℕ → List ℕ) (opened : AreBanksFor settings o transfers banks)
     (same : (k : ℕ) → k < transfers → data_through end k ≡ found k) where
   abbrev list_at : ℕ → List Candidate
   list_at k = candidates_of (o k) settings (found k)
 
   -- what is known of the engine of a place
-  at_place : (s k : ℕ) → s < length lanes → k < transfers →
+  at_place : (s k : ℕ) → s < length banks → k < transfers →
       HasBook end.books.items k s (book_of settings.max_candidates (shard_part settings s (list_at k)))
   at_place s k near below =
       let h = opened.each s k near below in
-      let lane = h.0 in
+      let bank = h.0 in
       let e = h.2.0 in
-      let is = (searched k s lane e (o k) h.1 h.2.1 h.2.3).book in
+      let is = (searched k s bank e (o k) h.1 h.2.1 h.2.3).book in
       subst (λ (bytes : List ℕ). HasBook end.books.items k s (book_of settings.max_candidates
       (shard_part settings s (candidates_of (o k) settings bytes)))) (same k below)
       (subst (λ (n : ℕ). HasBook end.books.items k s (book_of settings.max_candidates
@@ -71,8 +71,8 @@ module _ {I F : Type 0} (transfers : ℕ) (lanes : List (Option Lane)) (end : Se
   row_is k below row at =
       let long = book_count settings (list_at k) in
       let shards = opened.shards in
-      let count : length row.items ≡ length lanes =
-      all_at (λ (r : ArrayVec (Option BookContents)). length r.items ≡ length lanes) end.books.items k row at
+      let count : length row.items ≡ length banks =
+      all_at (λ (r : ArrayVec (Option BookContents)). length r.items ≡ length banks) end.books.items k row at
       counted.shards_count in
       same_lists row.items (shard_books settings (list_at k)) (omega arith) (λ s d near.
       let h = at_place s k (omega arith) below in
@@ -88,7 +88,7 @@ module _ {I F : Type 0} (transfers : ℕ) (lanes : List (Option Lane)) (end : Se
   items_of row = row.items
 
   many_books : length end.books.items ≡ transfers
-  many_books = counted.books_count ∙ some_searched (length lanes) transfers opened.some
+  many_books = counted.books_count ∙ some_searched (length banks) transfers opened.some
 
   rows_are : map items_of end.books.items ≡ map (λ k. shard_books settings (list_at k)) (range_with_len 0 transfers)
   rows_are =
@@ -109,7 +109,7 @@ module _ {I F : Type 0} (transfers : ℕ) (lanes : List (Option Lane)) (end : Se
   spectra_are =
       let spectra = end.spectra.items in
       let all : ℕ → ℕ = λ k. (filterbank_of (o k) (found k)).spectra in
-      let many = counted.spectra_count ∙ some_searched (length lanes) transfers opened.some in
+      let many = counted.spectra_count ∙ some_searched (length banks) transfers opened.some in
       let ranged = length-map-range_with_len all 0 transfers in
       same_lists spectra (map all (range_with_len 0 transfers)) (omega arith) (λ k d near.
       let below : k < transfers = omega arith in

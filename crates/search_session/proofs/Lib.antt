@@ -1,8 +1,7 @@
 mod Engines
 mod Rows
 mod ManyReads
-mod Passing
-mod Turning
+mod Unfed
 mod Moves
 mod Feeding
 mod Recording

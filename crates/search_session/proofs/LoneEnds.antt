@@ -13,17 +13,17 @@ use Rattle.search_engine.specs.Engine.{EngineState}
 use Rattle.disk_feeder.specs.declared.answers.FeedEnd.TheVariants.{Whole}
 use Rattle.disk_feeder.specs.Feeding.{IsEnding}
 use Rattle.disk_feeder.specs.Resting.{feeder_over}
-use Rattle.search_session.specs.declared.lane.Lane.{Lane}
-use Rattle.search_session.specs.declared.shard.ShardActor.{ShardActor}
+use Rattle.session_readers.specs.declared.bank.Bank.{Bank}
+use Rattle.session_readers.specs.declared.shard.ShardActor.{ShardActor}
 use Rattle.search_session.specs.declared.lone.LoneSession.{LoneSession}
 use Rattle.search_session.specs.declared.lone.LoneEnd.{LoneEnd}
-use Rattle.search_session.specs.Lanes.{HasEngine, Stands, engines_of}
-use Rattle.search_session.specs.Shards.{StandsAt, IsEngineAt, EnginesFollow, shard_cleared, shard_number, ShardOn}
+use Rattle.session_readers.specs.Banks.{HasEngine, Stands, engines_of}
+use Rattle.session_readers.specs.Shards.{StandsAt, IsEngineAt, EnginesFollow, shard_cleared, shard_number, ShardOn}
 use Rattle.search_session.specs.Feeds.{FeedOn}
 use Rattle.search_session.specs.Ends.{IsDone, AreDone}
 use Rattle.search_session.specs.Sessions.{FeedAnswers}
-use Rattle.search_session.specs.Lone.{feed_over, lone_feeder, lone_lane, transfers_at, LoneOn, LoneMoved, LoneBegins, HasLoneEnded}
-use Rattle.search_session.specs.LoneEnds.{IsLoneEnd, session_end, WentThrough, LaneAnswers, LoneAnswers}
+use Rattle.search_session.specs.Lone.{feed_over, lone_feeder, lone_bank, transfers_at, LoneOn, LoneMoved, LoneBegins, HasLoneEnded}
+use Rattle.search_session.specs.LoneEnds.{IsLoneEnd, session_end, WentThrough, BankAnswers, LoneAnswers}
 use Rattle.search_session.proofs.Ending.{none_stands, below_true}
 use Rattle.search_session.proofs.FeedEnds.{SessionLaws, feed_answers, is_ending}
 use Rattle.search_session.proofs.LoneTurns.{feed_on}
@@ -50,7 +50,7 @@ same_engine engines k e f at_e at_f = inside e f (sym at_e ∙ at_f)
     inside : (a b : EngineState) → Some (Some a) ≡ Some (Some b) → a ≡ b
     inside a b e = cc
 
-module _ {I : Type 0} (laws : SessionLaws I) (told : I → Told) (is_calm : I → Type 0) (faults : I → ℕ)
+module _ {I : Type 0} {is_calm : I → Type 0} (laws : SessionLaws I) (told : I → Told) (faults : I → ℕ)
     (start now : LoneSession) (before after : I) (n : ℕ) (end : LoneEnd) (begins : LoneBegins (told before) start)
     (moved : LoneMoved told is_calm faults n before start after now) (on : LoneOn (told after) now)
     (ended : HasLoneEnded now) (is : IsLoneEnd now end) where
@@ -61,17 +61,17 @@ module _ {I : Type 0} (laws : SessionLaws I) (told : I → Told) (is_calm : I �
   stands = feed_on told anywhere is_calm faults after now on (λ opened. tt)
 
   feed_is : FeedAnswers told is_calm faults (feeder_over before (lone_feeder start)) (session_end after end)
-  feed_is = feed_answers laws told anywhere is_calm faults now.hdu (feed_over before start.feed)
+  feed_is = feed_answers laws told anywhere faults now.hdu (feed_over before start.feed)
       (feed_over after now.feed) n moved.feed stands (session_end after end) is.feed refl is.sealed refl
       (sym begins.on.feed.end ∙ begins.running) begins.faultless
 
   ending : IsEnding (transfers_at (lone_feeder start)) (sealed_at_end end.blocks) end.feed
-  ending = is_ending laws told anywhere is_calm faults now.hdu (feed_over before start.feed)
+  ending = is_ending laws told anywhere faults now.hdu (feed_over before start.feed)
       (feed_over after now.feed) n moved.feed stands (session_end after end) is.feed refl is.sealed
 
-  follow : EnginesFollow [] (shard_cleared now.shard) (engines_of (lone_lane start))
+  follow : EnginesFollow [] (shard_cleared now.shard) (engines_of (lone_bank start))
       (engines_of now.shard.part)
-  follow = subst (λ (l : List Entry). EnginesFollow l (shard_cleared now.shard) (engines_of (lone_lane start))
+  follow = subst (λ (l : List Entry). EnginesFollow l (shard_cleared now.shard) (engines_of (lone_bank start))
       (engines_of now.shard.part)) begins.unread moved.shard.engines
 
   over : is_over (transfers_at (lone_feeder start)) (shard_cleared now.shard) ≡ true
@@ -85,12 +85,12 @@ module _ {I : Type 0} (laws : SessionLaws I) (told : I → Told) (is_calm : I �
       ∙ append-nil (shard_cleared now.shard)))
 
   went : (bytes : ℕ) → end.feed ≡ Whole bytes → (transfer : ℕ) (e : EngineState) →
-      HasEngine (engines_of (lone_lane start)) transfer e →
+      HasEngine (engines_of (lone_bank start)) transfer e →
       (f : EngineState) × HasEngine (engines_of now.shard.part) transfer f
       × WentThrough e (transfer_bytes transfer (sealed_at_end end.blocks)) f
   went bytes whole transfer e has =
       let f = follow.each transfer e has in
-      let near = slice_get_within (engines_of (lone_lane start)) transfer (Some e) has in
+      let near = slice_get_within (engines_of (lone_bank start)) transfer (Some e) has in
       let count = follow.count in
       let counted = begins.engines in
       let all = ending.all bytes whole in
@@ -116,18 +116,18 @@ module _ {I : Type 0} (laws : SessionLaws I) (told : I → Told) (is_calm : I �
         },
       )
 
-  lane_is : LaneAnswers (lone_lane start) end
-  lane_is = record {
+  bank_is : BankAnswers (lone_bank start) end
+  bank_is = record {
     cleared = is.cleared ∙ cleared_all;
-    engines = subst (λ (l : Lane). EnginesFollow [] (sealed_at_end end.blocks)
-        (engines_of (lone_lane start)) (engines_of l)) (sym is.lane)
-        (subst (λ (l : List Entry). EnginesFollow [] l (engines_of (lone_lane start))
+    engines = subst (λ (l : Bank). EnginesFollow [] (sealed_at_end end.blocks)
+        (engines_of (lone_bank start)) (engines_of l)) (sym is.bank)
+        (subst (λ (l : List Entry). EnginesFollow [] l (engines_of (lone_bank start))
         (engines_of now.shard.part)) cleared_all follow);
-    searched = subst (λ (l : Lane). (bytes : ℕ) → end.feed ≡ Whole bytes → (transfer : ℕ) (e : EngineState) →
-        HasEngine (engines_of (lone_lane start)) transfer e →
+    searched = subst (λ (l : Bank). (bytes : ℕ) → end.feed ≡ Whole bytes → (transfer : ℕ) (e : EngineState) →
+        HasEngine (engines_of (lone_bank start)) transfer e →
         (f : EngineState) × HasEngine (engines_of l) transfer f
-        × WentThrough e (transfer_bytes transfer (sealed_at_end end.blocks)) f) (sym is.lane) went;
+        × WentThrough e (transfer_bytes transfer (sealed_at_end end.blocks)) f) (sym is.bank) went;
   }
 
   pub lone_answers : LoneAnswers told is_calm faults start before after end
-  lone_answers = record { feed = feed_is; lane = lane_is }
+  lone_answers = record { feed = feed_is; bank = bank_is }

@@ -1,11 +1,11 @@
 -- Turns of a lone session.
-use Rattle.std.proofs.Common.{◌≡◌, ℕ, ◌+◌, ◌-◌, ◌≤◌, refl, sym, ap, ◌∙◌, subst, arith}
+use Rattle.std.proofs.Common.{◌≡◌, ℕ, ◌+◌, ◌-◌, ◌≤◌, refl, ap, ◌∙◌, subst, arith}
 use Rattle.psr_base.specs.Told.{Told}
 use Rattle.dada_hdu.specs.declared.hdu.Hdu.{Hdu}
 use Rattle.dada_hdu.specs.declared.passes.HduReader.{HduReader}
-use Rattle.dada_hdu.specs.Passes.{data_shape, IsFreshReader}
+use Rattle.dada_hdu.specs.Passes.{IsFreshReader}
 use Rattle.search_session.specs.declared.lone.LoneSession.{LoneSession}
-use Rattle.search_session.specs.Shards.{ShardOn, ShardMoved}
+use Rattle.session_readers.specs.Shards.{ShardMoved}
 use Rattle.search_session.specs.Feeds.{FeedOn, FeedMoved}
 use Rattle.search_session.specs.Stages.{IsUnread}
 use Rattle.search_session.specs.Lone.{feed_over, LoneOn, LoneMoved, HasLoneEnded, HasFileOpen}
@@ -32,24 +32,6 @@ module _ {I : Type 0} (told : I → Told) (is_open is_calm : I → Type 0) (faul
     feeding = on.feed.feeding;
     end = on.feed.end;
     count = on.feed.count;
-  }
-
-  -- a session whose parts moved
-  pub lone_on : (lent : I) (old new : LoneSession) (before : Told) → LoneOn before old → new.hdu ≡ old.hdu →
-      FeedOn told is_open new.hdu (feed_over lent new.feed) → ShardOn new.hdu new.shard →
-      ShardMoved 1 old.shard new.shard → LoneOn (told lent) new
-  lone_on lent old new before was rings feed shard moved = record {
-    feed = record {
-      writes = feed.writes;
-      fits = feed.fits;
-      file = λ opened. tt;
-      feeding = feed.feeding;
-      end = feed.end;
-      count = feed.count;
-    };
-    shard = shard;
-    alone = subst (λ (h : Hdu). (data_shape h).readers ≡ 1) (sym rings) was.alone;
-    number = moved.number ∙ was.number;
   }
 
   stands : (n : ℕ) (lent : I) (s : LoneSession) → FeedMoved told is_calm faults n (feed_over lent s.feed)

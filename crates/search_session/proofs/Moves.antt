@@ -3,13 +3,13 @@ use Rattle.std.proofs.Common.{◌≡◌, ℕ, ◌+◌, ◌<◌, ◌^◌, min, Bo
 use Rattle.ring_core.specs.Machine.{greatest}
 use Rattle.dada_hdu.specs.Passes.{tries_of}
 use Rattle.stream_model.specs.Blocks.{is_over}
-use Rattle.search_session.specs.declared.shard.ShardActor.{ShardActor}
-use Rattle.search_session.specs.Reads.{data_view, header_is_next, HasMore, ReadsNext}
-use Rattle.search_session.specs.Shards.{shard_cleared, EnginesFollow, ShardMoved}
+use Rattle.session_readers.specs.declared.shard.ShardActor.{ShardActor}
+use Rattle.session_readers.specs.Reads.{data_view, HasMore}
+use Rattle.session_readers.specs.Shards.{shard_cleared, ShardMoved}
 use Rattle.search_session.specs.Hands.{SlotMoved, EachMoved}
-use Rattle.search_session.proofs.ManyReads.{begins_itself, begins_more, rested_itself, no_reads, one_read, reads_more, read_number, read_tries, read_blocks}
+use Rattle.search_session.proofs.ManyReads.{begins_itself, begins_more, rested_itself, no_reads, reads_more}
 use Rattle.search_session.proofs.Engines.{follow_still, follow_more}
-use Rattle.search_session.specs.Lanes.{engines_of}
+use Rattle.session_readers.specs.Banks.{engines_of}
 
 -- ---- shards
 
@@ -37,28 +37,6 @@ shard_none x small = stands 0 x small (λ running. refl)
 
 pub shard_still : (n : ℕ) (x : ShardActor) → x.turns < 2 ^ 64 → x.ended ≡ true → ShardMoved n x x
 shard_still n x small ended = stands n x small (λ running. absurd (apart (x.ended) ended running))
-  where
-    apart : (b : Bool) → b ≡ true → b ≡ false → ⊥
-    apart b t f = cc
-
--- a turn and its read
-pub shard_turned : (x y : ShardActor) → x.ended ≡ false →
-    x.ended ≡ is_over (length (engines_of x.part)) (shard_cleared x) → ReadsNext x.pass y.pass →
-    EnginesFollow (shard_cleared x) (shard_cleared y) (engines_of x.part) (engines_of y.part) →
-    y.turns ≡ min greatest (x.turns + 1) → ShardMoved 1 x y
-shard_turned x y running over read engines turns = record {
-  number = read_number (header_is_next x.pass) x.pass y.pass read;
-  made = 1;
-  most = omega arith;
-  all = λ on. refl;
-  none = λ ended. absurd (apart (x.ended) ended running);
-  stays = λ ended. absurd (apart (x.ended) ended running);
-  turns = turns;
-  reads = one_read (HasMore (length (engines_of x.part))) x.pass y.pass (sym over ∙ running) read;
-  tries = read_tries (header_is_next x.pass) x.pass y.pass read;
-  grown = read_blocks (header_is_next x.pass) x.pass y.pass read;
-  engines = engines;
-}
   where
     apart : (b : Bool) → b ≡ true → b ≡ false → ⊥
     apart b t f = cc

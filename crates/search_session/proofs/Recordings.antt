@@ -21,9 +21,9 @@ use Rattle.dada_recorder.specs.Recording.{EndIs, FilesAre}
 use Rattle.dada_recorder.specs.Transfers.{IsRunning, StandsAt}
 use Rattle.dada_recorder.specs.Recorder.{plan_of, has_end, has_header, has_open_file, FilesAreOf}
 use Rattle.dada_recorder.specs.RecordingLaws.{Cleared, BeginsComplete, EndsComplete, RecordingsEnd}
-use Rattle.search_session.specs.declared.record.RecordActor.{RecordActor}
+use Rattle.session_readers.specs.declared.record.RecordActor.{RecordActor}
 use Rattle.search_session.specs.declared.ended.SessionEnd.{SessionEnd}
-use Rattle.search_session.specs.Records.{recorded_headers, recorded_blocks, RecordOn, RecordSince, RecordMoved}
+use Rattle.session_readers.specs.Records.{recorded_headers, recorded_blocks, RecordOn, RecordSince, RecordMoved}
 use Rattle.search_session.specs.Stages.{IsFreshRecorder, IsRecorderOf}
 use Rattle.search_session.specs.Recorded.{SealsRecordable, EndsRecording, HasRecorded, RecordedBy, headers_through}
 use Rattle.search_session.specs.Sessions.{IsEndOfRecorder}

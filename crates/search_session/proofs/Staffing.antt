@@ -10,22 +10,22 @@ use Rattle.psr_base.specs.Made.{FilesSeen}
 use Rattle.dada_hdu.specs.declared.hdu.Hdu.{Hdu}
 use Rattle.dada_hdu.specs.declared.passes.HduReader.{HduReader}
 use Rattle.dada_recorder.specs.declared.recorder.Recorder.{Recorder}
-use Rattle.search_session.specs.declared.lane.Lane.{Lane}
+use Rattle.session_readers.specs.declared.bank.Bank.{Bank}
 use Rattle.search_session.specs.declared.feed.FeedActor.{FeedActor}
-use Rattle.search_session.specs.declared.shard.ShardActor.{ShardActor}
-use Rattle.search_session.specs.declared.record.RecordActor.{RecordActor}
+use Rattle.session_readers.specs.declared.shard.ShardActor.{ShardActor}
+use Rattle.session_readers.specs.declared.record.RecordActor.{RecordActor}
 use Rattle.search_session.specs.declared.hand.Hand.{Hand}
-use Rattle.search_session.specs.Shards.{shard_cleared, ShardOn, EnginesFollow}
+use Rattle.session_readers.specs.Shards.{shard_cleared, ShardOn, EnginesFollow}
 use Rattle.search_session.specs.Feeds.{FeedOn}
-use Rattle.search_session.specs.Records.{RecordOn}
+use Rattle.session_readers.specs.Records.{RecordOn}
 use Rattle.search_session.specs.Hands.{HandOn}
-use Rattle.search_session.specs.Stages.{IsUnread, IsFirstReader, recorder_count, IsEmptyHand, IsShardOf, IsRecorderOf, IsOfLane, AreOfLanes, HasShard, HasFeeder, HasRecorder, RecorderWorks, TakesShard, TakesFeeder, TakesRecorder, RecorderPlaced, AreStaffed}
+use Rattle.search_session.specs.Stages.{IsUnread, IsFirstReader, recorder_count, IsEmptyHand, IsShardOf, IsRecorderOf, IsOfBank, AreOfBanks, HasShard, HasFeeder, HasRecorder, RecorderWorks, TakesShard, TakesFeeder, TakesRecorder, RecorderPlaced, AreStaffed}
 use Rattle.search_session.proofs.Engines.{follow_still}
 use Rattle.search_session.proofs.Feeding.{feed_none}
 use Rattle.search_session.proofs.Recording.{record_none}
 use Rattle.search_session.proofs.Rows.{removed, first_left, longer, at_end}
 use Rattle.search_session.proofs.Gathered.{put_at, put_here, count_same}
-use Rattle.search_session.specs.Lanes.{engines_of}
+use Rattle.session_readers.specs.Banks.{engines_of}
 
 all_at : {A : Type 0} (P : A → Type 0) (xs : List A) (k : ℕ) (x : A) → slice_get xs k ≡ Some x → All P xs → P x
 all_at P xs k x at all = subst P (get_or_from_slice_get xs k x x at) (all k x (slice_get_within xs k x at))
@@ -114,12 +114,12 @@ module _ {I F : Type 0} (old new : List (Hand I F)) (place : ℕ) where
             number = has.number;
           }
 
-      pub lanes_kept : after.shards ≡ before.shards → (lanes : List (Option Lane)) → AreOfLanes lanes old →
-          AreOfLanes lanes new
-      lanes_kept same lanes of =
-          all_kept after is (λ h. All (λ slot. IfSome slot (IsOfLane lanes)) h.shards.items) of
-          (subst (λ shards. All (λ slot. IfSome slot (IsOfLane lanes)) shards.items) (sym same)
-          (all_at (λ (h : Hand I F). All (λ slot. IfSome slot (IsOfLane lanes)) h.shards.items) old place before there
+      pub banks_kept : after.shards ≡ before.shards → (banks : List (Option Bank)) → AreOfBanks banks old →
+          AreOfBanks banks new
+      banks_kept same banks of =
+          all_kept after is (λ h. All (λ slot. IfSome slot (IsOfBank banks)) h.shards.items) of
+          (subst (λ shards. All (λ slot. IfSome slot (IsOfBank banks)) shards.items) (sym same)
+          (all_at (λ (h : Hand I F). All (λ slot. IfSome slot (IsOfBank banks)) h.shards.items) old place before there
           of))
 
       recorder_kept : after.recorder ≡ before.recorder → (seen : F → FilesSeen) (start : RecordActor F) →
@@ -152,7 +152,7 @@ none_all : {A : Type 0} (P : A → Type 0) (xs : List A) → xs ≡ [] → All P
 none_all P xs is = λ k d near. let none : length xs ≡ 0 = ap length is in absurd (omega arith)
 
 module _ {I F : Type 0} (told : I → Told) (is_open : I → Type 0) (files_open : F → Type 0) (hdu : Hdu)
-    (lanes : List (Option Lane)) where
+    (banks : List (Option Bank)) where
   empty_on : (h : Hand I F) → IsEmptyHand h → HandOn told is_open files_open hdu h
   empty_on h empty = record {
     feeder = none_if (FeedOn told is_open hdu) h.feeder empty.feeder;
@@ -161,7 +161,7 @@ module _ {I F : Type 0} (told : I → Told) (is_open : I → Type 0) (files_open
   }
 
   pub staffed_none : (hands : List (Hand I F)) → All IsEmptyHand hands →
-      AreStaffed told is_open files_open hdu lanes 0 (length hands) hands
+      AreStaffed told is_open files_open hdu banks 0 (length hands) hands
   staffed_none hands empty = record {
     on = All-weaker IsEmptyHand (HandOn told is_open files_open hdu) empty_on hands empty;
     no_recorder = All-weaker IsEmptyHand (λ h. h.recorder ≡ None) (λ h e. e.recorder) hands empty;
@@ -169,27 +169,27 @@ module _ {I F : Type 0} (told : I → Told) (is_open : I → Type 0) (files_open
         ap length e.shards in omega arith) hands empty;
     count_is = refl;
     placed = λ s near. absurd (omega arith);
-    of_lanes = All-weaker IsEmptyHand (λ h. All (λ slot. IfSome slot (IsOfLane lanes)) h.shards.items)
-        (λ h e. none_all (λ slot. IfSome slot (IsOfLane lanes)) h.shards.items e.shards) hands empty;
+    of_banks = All-weaker IsEmptyHand (λ h. All (λ slot. IfSome slot (IsOfBank banks)) h.shards.items)
+        (λ h e. none_all (λ slot. IfSome slot (IsOfBank banks)) h.shards.items e.shards) hands empty;
   }
 
   -- ---- a shard comes
 
-  some_lane : (x : ShardActor) (n : ℕ) (lane : Lane) → slice_get lanes n ≡ Some (Some lane) → IsShardOf lane n x →
-      IsOfLane lanes x
-  some_lane x n lane at new = λ other there.
-      let same : lane ≡ other = inside lane other (sym at
-      ∙ (ap (λ (k : ℕ). slice_get lanes k) (sym new.number_is) ∙ there)) in
-      subst (λ (l : Lane). EnginesFollow [] (shard_cleared x) (engines_of l) (engines_of x.part))
-      (new.lane_is ∙ same) (follow_still [] (shard_cleared x) (engines_of x.part) new.nothing)
+  some_bank : (x : ShardActor) (n : ℕ) (bank : Bank) → slice_get banks n ≡ Some (Some bank) → IsShardOf bank n x →
+      IsOfBank banks x
+  some_bank x n bank at new = λ other there.
+      let same : bank ≡ other = inside bank other (sym at
+      ∙ (ap (λ (k : ℕ). slice_get banks k) (sym new.number_is) ∙ there)) in
+      subst (λ (l : Bank). EnginesFollow [] (shard_cleared x) (engines_of l) (engines_of x.part))
+      (new.bank_is ∙ same) (follow_still [] (shard_cleared x) (engines_of x.part) new.nothing)
     where
-      inside : (a b : Lane) → Some (Some a) ≡ Some (Some b) → a ≡ b
+      inside : (a b : Bank) → Some (Some a) ≡ Some (Some b) → a ≡ b
       inside a b e = cc
 
-  module _ (old new : List (Hand I F)) (n count : ℕ) (x : ShardActor) (lane : Lane)
-      (staffed : AreStaffed told is_open files_open hdu lanes n count old)
-      (takes : TakesShard old ((n + 1) % length old) x new) (at : slice_get lanes n ≡ Some (Some lane))
-      (fresh : IsShardOf lane n x) (on : ShardOn hdu x) where
+  module _ (old new : List (Hand I F)) (n count : ℕ) (x : ShardActor) (bank : Bank)
+      (staffed : AreStaffed told is_open files_open hdu banks n count old)
+      (takes : TakesShard old ((n + 1) % length old) x new) (at : slice_get banks n ≡ Some (Some bank))
+      (fresh : IsShardOf bank n x) (on : ShardOn hdu x) where
     near : (n + 1) % length old < length old
     near = slice_get_within old ((n + 1) % length old) takes.before takes.there
 
@@ -226,11 +226,11 @@ module _ {I F : Type 0} (told : I → Told) (is_open : I → Type 0) (files_open
         let long = ap length takes.shards ∙ length-append takes.before.shards.items (Some x ∷ []) in
         omega arith
 
-    after_of : All (λ slot. IfSome slot (IsOfLane lanes)) takes.after.shards.items
-    after_of = subst (λ (l : List (Option ShardActor)). All (λ slot. IfSome slot (IsOfLane lanes)) l) (sym takes.shards)
-        (All-push (λ slot. IfSome slot (IsOfLane lanes)) takes.before.shards.items (Some x)
-        (all_at (λ (h : Hand I F). All (λ slot. IfSome slot (IsOfLane lanes)) h.shards.items) old ((n + 1) % length old)
-        takes.before takes.there staffed.of_lanes) (some_lane x n lane at fresh))
+    after_of : All (λ slot. IfSome slot (IsOfBank banks)) takes.after.shards.items
+    after_of = subst (λ (l : List (Option ShardActor)). All (λ slot. IfSome slot (IsOfBank banks)) l) (sym takes.shards)
+        (All-push (λ slot. IfSome slot (IsOfBank banks)) takes.before.shards.items (Some x)
+        (all_at (λ (h : Hand I F). All (λ slot. IfSome slot (IsOfBank banks)) h.shards.items) old ((n + 1) % length old)
+        takes.before takes.there staffed.of_banks) (some_bank x n bank at fresh))
 
     here : HasShard new n
     here = record {
@@ -278,7 +278,7 @@ module _ {I F : Type 0} (told : I → Told) (is_open : I → Type 0) (files_open
             slice_get new ((s + 1) % length new) ≡ Some h
         at_new h there = subst (λ (k : ℕ). slice_get new ((s + 1) % k) ≡ Some h) (sym same_count) there
 
-    pub staffed_more : AreStaffed told is_open files_open hdu lanes (n + 1) count new
+    pub staffed_more : AreStaffed told is_open files_open hdu banks (n + 1) count new
     staffed_more = record {
       on = all_new (HandOn told is_open files_open hdu) staffed.on after_on;
       few = all_new (λ h. length h.shards.items ≤ n + 1) (All-weaker (λ h. length h.shards.items ≤ n)
@@ -288,7 +288,7 @@ module _ {I F : Type 0} (told : I → Told) (is_open : I → Type 0) (files_open
       placed = λ s before. dite (ℕ_discrete s n)
           (λ same. subst (λ (k : ℕ). HasShard new k) (sym same) here)
           (λ other. earlier s (staffed.placed s (omega arith)));
-      of_lanes = all_new (λ h. All (λ slot. IfSome slot (IsOfLane lanes)) h.shards.items) staffed.of_lanes after_of;
+      of_banks = all_new (λ h. All (λ slot. IfSome slot (IsOfBank banks)) h.shards.items) staffed.of_banks after_of;
     }
 
   -- ---- the recorder comes
@@ -299,11 +299,11 @@ module _ {I F : Type 0} (told : I → Told) (is_open : I → Type 0) (files_open
     pub on : All (HandOn told is_open files_open hdu) hands
     pub count_is : length hands ≡ count
     pub placed : (s : ℕ) → s < n → HasShard hands s
-    pub of_lanes : AreOfLanes lanes hands
+    pub of_banks : AreOfBanks banks hands
     pub works : RecorderWorks seen recorder n hands
 
   module _ (seen : F → FilesSeen) (old new : List (Hand I F)) (n count : ℕ)
-      (staffed : AreStaffed told is_open files_open hdu lanes n count old) where
+      (staffed : AreStaffed told is_open files_open hdu banks n count old) where
     with_one : (part : Recorder F) (x : RecordActor F) → RecordOn files_open hdu x → IsRecorderOf part n x →
         TakesRecorder old (8 % length old) x new → AreReady seen (Some part) n count new
     with_one part x on fresh takes =
@@ -323,8 +323,8 @@ module _ {I F : Type 0} (told : I → Told) (is_open : I → Type 0) (files_open
           count_is = same_count ∙ staffed.count_is;
           placed = λ s near. shard_kept old new (8 % length old) takes.before takes.after takes.there takes.hands
               takes.shards s (staffed.placed s near);
-          of_lanes = lanes_kept old new (8 % length old) takes.before takes.after takes.there takes.hands takes.shards
-              lanes staffed.of_lanes;
+          of_banks = banks_kept old new (8 % length old) takes.before takes.after takes.there takes.hands takes.shards
+              banks staffed.of_banks;
           works = (
             x,
             fresh,
@@ -347,7 +347,7 @@ module _ {I F : Type 0} (told : I → Told) (is_open : I → Type 0) (files_open
       on = staffed.on;
       count_is = staffed.count_is;
       placed = staffed.placed;
-      of_lanes = staffed.of_lanes;
+      of_banks = staffed.of_banks;
       works = staffed.no_recorder;
     })
     ready (Some part) placed = with_one part placed.0 placed.1 placed.2 placed.3
@@ -386,8 +386,8 @@ module _ {I F : Type 0} (told : I → Told) (is_open : I → Type 0) (files_open
       moved = feed_none told is_calm faults f on.count;
     }
 
-    pub fed_of : AreOfLanes lanes new
-    fed_of = lanes_kept old new 0 takes.before takes.after takes.there takes.hands takes.shards lanes all.of_lanes
+    pub fed_of : AreOfBanks banks new
+    fed_of = banks_kept old new 0 takes.before takes.after takes.there takes.hands takes.shards banks all.of_banks
 
     pub fed_shards : (s : ℕ) → s < n → HasShard new s
     fed_shards s near =

@@ -5,20 +5,20 @@ use Rattle.std.proofs.lemmas.Option.{slice_get_within, slice_get-get_or, get_or_
 use Rattle.psr_base.specs.Told.{Told}
 use Rattle.psr_base.specs.Made.{FilesSeen}
 use Rattle.dada_recorder.specs.declared.recorder.Recorder.{Recorder}
-use Rattle.search_session.specs.declared.lane.Lane.{Lane}
+use Rattle.session_readers.specs.declared.bank.Bank.{Bank}
 use Rattle.search_session.specs.declared.feed.FeedActor.{FeedActor}
-use Rattle.search_session.specs.declared.shard.ShardActor.{ShardActor}
-use Rattle.search_session.specs.declared.record.RecordActor.{RecordActor}
+use Rattle.session_readers.specs.declared.shard.ShardActor.{ShardActor}
+use Rattle.session_readers.specs.declared.record.RecordActor.{RecordActor}
 use Rattle.search_session.specs.declared.hand.Hand.{Hand}
-use Rattle.search_session.specs.Shards.{shard_cleared, ShardMoved}
+use Rattle.session_readers.specs.Shards.{shard_cleared, ShardMoved}
 use Rattle.search_session.specs.Feeds.{FeedMoved}
-use Rattle.search_session.specs.Records.{RecordMoved}
+use Rattle.session_readers.specs.Records.{RecordMoved}
 use Rattle.search_session.specs.Hands.{SlotMoved, EachMoved, HandMoved}
-use Rattle.search_session.specs.Stages.{HasFeeder, HasShard, HasRecorder, RecorderWorks, IsOfLane, AreOfLanes}
+use Rattle.search_session.specs.Stages.{HasFeeder, HasShard, HasRecorder, RecorderWorks, IsOfBank, AreOfBanks}
 use Rattle.search_session.proofs.Engines.{follow_more}
 use Rattle.search_session.proofs.Feeding.{feed_more}
 use Rattle.search_session.proofs.Recording.{record_more}
-use Rattle.search_session.specs.Lanes.{engines_of}
+use Rattle.session_readers.specs.Banks.{engines_of}
 
 -- ---- slots and places
 
@@ -48,19 +48,19 @@ module _ {A : Type 0} (R : A → A → Type 0) where
 
 -- ---- shards
 
-of_lane_moved : (lanes : List (Option Lane)) (n : ℕ) (x y : ShardActor) → ShardMoved n x y → IsOfLane lanes x →
-    IsOfLane lanes y
-of_lane_moved lanes n x y moved of = λ lane at.
-    follow_more [] (shard_cleared x) (shard_cleared y) (engines_of lane) (engines_of x.part)
+of_bank_moved : (banks : List (Option Bank)) (n : ℕ) (x y : ShardActor) → ShardMoved n x y → IsOfBank banks x →
+    IsOfBank banks y
+of_bank_moved banks n x y moved of = λ bank at.
+    follow_more [] (shard_cleared x) (shard_cleared y) (engines_of bank) (engines_of x.part)
     (engines_of y.part)
-    (of lane (subst (λ (s : ℕ). slice_get lanes s ≡ Some (Some lane)) moved.number at)) moved.engines
+    (of bank (subst (λ (s : ℕ). slice_get banks s ≡ Some (Some bank)) moved.number at)) moved.engines
 
-slot_of_lane : (lanes : List (Option Lane)) (n : ℕ) (a b : Option ShardActor) → SlotMoved (ShardMoved n) a b →
-    IfSome a (IsOfLane lanes) → IfSome b (IsOfLane lanes)
-slot_of_lane lanes n None None moved of = of
-slot_of_lane lanes n None (Some y) moved of = absurd moved
-slot_of_lane lanes n (Some x) None moved of = absurd moved
-slot_of_lane lanes n (Some x) (Some y) moved of = of_lane_moved lanes n x y moved of
+slot_of_bank : (banks : List (Option Bank)) (n : ℕ) (a b : Option ShardActor) → SlotMoved (ShardMoved n) a b →
+    IfSome a (IsOfBank banks) → IfSome b (IsOfBank banks)
+slot_of_bank banks n None None moved of = of
+slot_of_bank banks n None (Some y) moved of = absurd moved
+slot_of_bank banks n (Some x) None moved of = absurd moved
+slot_of_bank banks n (Some x) (Some y) moved of = of_bank_moved banks n x y moved of
 
 module _ {I F : Type 0} (told : I → Told) (is_calm : I → Type 0) (faults : I → ℕ) (seen : F → FilesSeen) (n : ℕ)
     (old new : List (Hand I F)) (moved : EachMoved (HandMoved told is_calm faults seen n) old new) where
@@ -126,9 +126,9 @@ module _ {I F : Type 0} (told : I → Told) (is_calm : I → Type 0) (faults : I
         number = x.2.number ∙ has.number;
       }
 
-  -- and its engines are those of its lane
-  pub lanes_stay : (lanes : List (Option Lane)) → AreOfLanes lanes old → AreOfLanes lanes new
-  lanes_stay lanes of = λ k d near.
+  -- and its engines are those of its bank
+  pub banks_stay : (banks : List (Option Bank)) → AreOfBanks banks old → AreOfBanks banks new
+  banks_stay banks of = λ k d near.
       let count = moved.count in
       let was : k < length old = omega arith in
       let h = slice_index_or old k d in
@@ -137,5 +137,5 @@ module _ {I F : Type 0} (told : I → Told) (is_calm : I → Type 0) (faults : I
       λ j e here.
       let count = m.shards.count in
       let before : j < length h.shards.items = omega arith in
-      slot_of_lane lanes n (slice_index_or h.shards.items j e) (slice_index_or h'.shards.items j e)
+      slot_of_bank banks n (slice_index_or h.shards.items j e) (slice_index_or h'.shards.items j e)
       (m.shards.each j e before) (of k d was j e before)

@@ -5,24 +5,24 @@ use Rattle.arrayvec.specs.ArrayVec.{ArrayVec}
 use Rattle.candidate_book.specs.Book.{BookContents}
 use Rattle.search_engine.specs.Engine.{EngineState}
 use Rattle.dada_hdu.specs.declared.ended.HduEnded.{HduEnded}
-use Rattle.search_session.specs.declared.lane.Lane.{Lane}
-use Rattle.search_session.specs.declared.shard.ShardActor.{ShardActor}
-use Rattle.search_session.specs.Lanes.{HasEngine, engines_of}
+use Rattle.session_readers.specs.declared.bank.Bank.{Bank}
+use Rattle.session_readers.specs.declared.shard.ShardActor.{ShardActor}
+use Rattle.session_readers.specs.Banks.{HasEngine, engines_of}
 
 abbrev pub passes_of : List (Option ShardActor) → List (Option HduEnded)
 passes_of shards = map (option_map (λ x. x.pass)) shards
 
-abbrev pub lanes_of : List (Option ShardActor) → List (Option Lane)
-lanes_of shards = map (option_map (λ x. x.part)) shards
+abbrev pub banks_of : List (Option ShardActor) → List (Option Bank)
+banks_of shards = map (option_map (λ x. x.part)) shards
 
--- the lane of a shard
-abbrev pub HasLane : List (Option Lane) → ℕ → Lane → Type 0
-HasLane lanes s lane = slice_get lanes s ≡ Some (Some lane)
+-- the bank of a shard
+abbrev pub HasBank : List (Option Bank) → ℕ → Bank → Type 0
+HasBank banks s bank = slice_get banks s ≡ Some (Some bank)
 
--- there is a lane of so many engines at each place
-abbrev pub HaveEngines : ℕ → List (Option Lane) → Type 0
-HaveEngines transfers lanes = (s : ℕ) → s < length lanes →
-    (lane : Lane) × HasLane lanes s lane × (length (engines_of lane) ≡ transfers)
+-- there is a bank of so many engines at each place
+abbrev pub HaveEngines : ℕ → List (Option Bank) → Type 0
+HaveEngines transfers banks = (s : ℕ) → s < length banks →
+    (bank : Bank) × HasBank banks s bank × (length (engines_of bank) ≡ transfers)
 
 -- how many transfers so many shards search: none where there is no shard
 abbrev pub transfers_searched : ℕ → ℕ → ℕ
@@ -38,36 +38,36 @@ HasBook books transfer s book = (row : ArrayVec (Option BookContents))
 abbrev pub book_at : Option EngineState → Option BookContents
 book_at slot = option_map (λ (e : EngineState). e.book) slot
 
--- a lane gave the book of its first engine, and keeps the other engines
-abbrev pub GivesFirst : Option Lane → Option BookContents → Option Lane → Type 0
-GivesFirst old book new = (lane : Lane) (slot : Option EngineState)
+-- a bank gave the book of its first engine, and keeps the other engines
+abbrev pub GivesFirst : Option Bank → Option BookContents → Option Bank → Type 0
+GivesFirst old book new = (bank : Bank) (slot : Option EngineState)
     (rest : List (Option EngineState)) →
-    old ≡ Some lane → engines_of lane ≡ slot ∷ rest →
-    (book ≡ book_at slot) × ((lane' : Lane) × (new ≡ Some lane') × (engines_of lane' ≡ rest))
+    old ≡ Some bank → engines_of bank ≡ slot ∷ rest →
+    (book ≡ book_at slot) × ((bank' : Bank) × (new ≡ Some bank') × (engines_of bank' ≡ rest))
 
--- the first n of the lanes did
-pub record FirstsGiven (n : ℕ) (old : List (Option Lane)) (books : List (Option BookContents))
-    (new : List (Option Lane)) : Type 0 where
+-- the first n of the banks did
+pub record FirstsGiven (n : ℕ) (old : List (Option Bank)) (books : List (Option BookContents))
+    (new : List (Option Bank)) : Type 0 where
   pub count : length new ≡ length old
   pub books_count : length books ≡ n
-  pub given : (s : ℕ) (lane : Lane) (slot : Option EngineState)
+  pub given : (s : ℕ) (bank : Bank) (slot : Option EngineState)
       (rest : List (Option EngineState)) → s < n →
-      HasLane old s lane → engines_of lane ≡ slot ∷ rest →
+      HasBank old s bank → engines_of bank ≡ slot ∷ rest →
       (slice_get books s ≡ Some (book_at slot))
-      × ((lane' : Lane) × HasLane new s lane' × (engines_of lane' ≡ rest))
+      × ((bank' : Bank) × HasBank new s bank' × (engines_of bank' ≡ rest))
   pub ahead : (s : ℕ) → n ≤ s → slice_get new s ≡ slice_get old s
 
--- all books of these lanes
-abbrev pub HasBooks : List (Option Lane) → List (ArrayVec (Option BookContents)) → Type 0
-HasBooks lanes books = (transfer s : ℕ) (lane : Lane) (e : EngineState) → HasLane lanes s lane →
-    HasEngine (engines_of lane) transfer e → HasBook books transfer s e.book
+-- all books of these banks
+abbrev pub HasBooks : List (Option Bank) → List (ArrayVec (Option BookContents)) → Type 0
+HasBooks banks books = (transfer s : ℕ) (bank : Bank) (e : EngineState) → HasBank banks s bank →
+    HasEngine (engines_of bank) transfer e → HasBook books transfer s e.book
 
--- the books of all engines of these lanes, as many as lanes in each row
-pub record AreBooks (transfers : ℕ) (lanes : List (Option Lane))
+-- the books of all engines of these banks, as many as banks in each row
+pub record AreBooks (transfers : ℕ) (banks : List (Option Bank))
     (books : List (ArrayVec (Option BookContents))) : Type 0 where
-  pub count : length books ≡ transfers_searched (length lanes) transfers
-  pub shards : All (λ row. length row.items ≡ length lanes) books
-  pub each : HasBooks lanes books
+  pub count : length books ≡ transfers_searched (length banks) transfers
+  pub shards : All (λ row. length row.items ≡ length banks) books
+  pub each : HasBooks banks books
 
 -- the books of so many shards and transfers, and the numbers of spectra
 pub record AreCounted (shards transfers : ℕ) (books : List (ArrayVec (Option BookContents)))
@@ -76,14 +76,14 @@ pub record AreCounted (shards transfers : ℕ) (books : List (ArrayVec (Option B
   pub shards_count : All (λ row. length row.items ≡ shards) books
   pub spectra_count : length spectra ≡ transfers_searched shards transfers
 
--- the books of the first n transfers, and the lanes without their engines
-pub record BooksTaken (n : ℕ) (all : List (Option Lane))
+-- the books of the first n transfers, and the banks without their engines
+pub record BooksTaken (n : ℕ) (all : List (Option Bank))
     (books : List (ArrayVec (Option BookContents)))
-    (left : List (Option Lane)) : Type 0 where
+    (left : List (Option Bank)) : Type 0 where
   pub count : length left ≡ length all
   pub books_count : length books ≡ n
   pub shards : All (λ row. length row.items ≡ length all) books
-  pub taken : (transfer s : ℕ) (lane : Lane) (e : EngineState) → transfer < n → HasLane all s lane →
-      HasEngine (engines_of lane) transfer e → HasBook books transfer s e.book
-  pub rest : (s : ℕ) (lane : Lane) → HasLane all s lane →
-      (lane' : Lane) × HasLane left s lane' × (engines_of lane' ≡ drop n (engines_of lane))
+  pub taken : (transfer s : ℕ) (bank : Bank) (e : EngineState) → transfer < n → HasBank all s bank →
+      HasEngine (engines_of bank) transfer e → HasBook books transfer s e.book
+  pub rest : (s : ℕ) (bank : Bank) → HasBank all s bank →
+      (bank' : Bank) × HasBank left s bank' × (engines_of bank' ≡ drop n (engines_of bank))

@@ -5,14 +5,14 @@ use Rattle.dada_hdu.specs.declared.hdu.Hdu.{Hdu}
 use Rattle.dada_hdu.specs.declared.ended.HduEnded.{HduEnded}
 use Rattle.dada_hdu.specs.Passes.{data_shape, number_of, EndedFromBoth}
 use Rattle.search_session.specs.declared.feed.FeedActor.{FeedActor}
-use Rattle.search_session.specs.declared.shard.ShardActor.{ShardActor}
-use Rattle.search_session.specs.declared.record.RecordActor.{RecordActor}
+use Rattle.session_readers.specs.declared.shard.ShardActor.{ShardActor}
+use Rattle.session_readers.specs.declared.record.RecordActor.{RecordActor}
 use Rattle.search_session.specs.declared.hand.Hand.{Hand}
-use Rattle.search_session.specs.Shards.{ShardOn, shard_number}
+use Rattle.session_readers.specs.Shards.{ShardOn, shard_number}
 use Rattle.search_session.specs.Gathering.{recorder_in}
 use Rattle.search_session.specs.Stages.{HasShard, IsInHand}
 use Rattle.search_session.specs.Books.{passes_of}
-use Rattle.search_session.specs.Lanes.{engines_of}
+use Rattle.session_readers.specs.Banks.{engines_of}
 
 -- the pass of a slot, where there is one
 abbrev pub as_passes : Option HduEnded → List (Option HduEnded)

@@ -8,7 +8,7 @@ use Rattle.dada_hdu.specs.declared.passes.HduWriter.{HduWriter}
 use Rattle.dada_hdu.specs.Passes.{WritesBoth}
 use Rattle.disk_feeder.specs.declared.answers.FeedEnd.{FeedEnd}
 use Rattle.disk_feeder.specs.declared.answers.FeedTurn.{FeedTurn}
-use Rattle.disk_feeder.specs.Feeder.{HasOpenFile, has_end, block_size, plan_at, FeederFits, FeederFeeds, FeederSince, FeederMisses, FeederRead}
+use Rattle.disk_feeder.specs.Feeder.{HasOpenFile, has_end, block_size, plan_at, FeederFits, FeederFeeds, FeederSince, FeederMisses, FeederUnopened, FeederRead}
 use Rattle.disk_feeder.specs.Turns.{TurnAnswers, sealed_headers, sealed_blocks}
 use Rattle.search_session.specs.declared.feed.FeedActor.{FeedActor}
 
@@ -51,6 +51,10 @@ pub record InputsKept {I : Type 0} (told : I → Told) (is_calm : I → Type 0) 
   pub calm : is_calm f.part.inputs.now → is_calm g.part.inputs.now
   pub missing : is_calm f.part.inputs.now → FeederMisses (told f.part.inputs.now) f.part →
       FeederMisses (told g.part.inputs.now) g.part
+  pub unopened : is_calm f.part.inputs.now → (before : Told) →
+      FeederRead before (told f.part.inputs.now) f.part →
+      FeederUnopened before (told f.part.inputs.now) f.part →
+      FeederUnopened before (told g.part.inputs.now) g.part
 
 -- n turns of a feeder, or fewer where it ended: each made one write, and none came once it had ended
 pub record FeedMoved {I : Type 0} (told : I → Told) (is_calm : I → Type 0) (faults : I → ℕ) (n : ℕ)

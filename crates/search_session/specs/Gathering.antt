@@ -1,10 +1,10 @@
 -- Shards and a recorder that leave their hands.
 -- Source: this project's choice.
 use Rattle.std.specs.Prelude.{◌≡◌, ℕ, ◌%◌, ◌==◌, Bool, false, List, length, slice_get, slice_set, Option, Some, None}
-use Rattle.search_session.specs.declared.shard.ShardActor.{ShardActor}
-use Rattle.search_session.specs.declared.record.RecordActor.{RecordActor}
+use Rattle.session_readers.specs.declared.shard.ShardActor.{ShardActor}
+use Rattle.session_readers.specs.declared.record.RecordActor.{RecordActor}
 use Rattle.search_session.specs.declared.hand.Hand.{Hand}
-use Rattle.search_session.specs.Shards.{shard_number}
+use Rattle.session_readers.specs.Shards.{shard_number}
 
 -- whether the shard of a slot has this number
 abbrev pub is_numbered : ℕ → Option ShardActor → Bool

@@ -1,8 +1,4 @@
-pub mod Lanes
-pub mod Reads
-pub mod Shards
 pub mod Feeds
-pub mod Records
 pub mod Hands
 pub mod Gathering
 pub mod Stages

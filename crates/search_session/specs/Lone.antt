@@ -16,15 +16,15 @@ use Rattle.disk_feeder.specs.Feeder.{HasOpenFile, has_end, headers_of, plan_at, 
 use Rattle.disk_feeder.specs.Feeding.{header_entries}
 use Rattle.disk_feeder.specs.Resting.{feeder_over, at_rest}
 use Rattle.disk_feeder.specs.Turns.{sealed_headers, sealed_blocks}
-use Rattle.search_session.specs.declared.lane.Lane.{Lane}
+use Rattle.session_readers.specs.declared.bank.Bank.{Bank}
 use Rattle.search_session.specs.declared.feed.FeedActor.{FeedActor}
 use Rattle.search_session.specs.declared.resting.RestingFeed.{RestingFeed}
 use Rattle.search_session.specs.declared.lone.LoneSession.{LoneSession}
 use Rattle.search_session.specs.declared.lone_space.LoneSpace.{LoneSpace}
-use Rattle.search_session.specs.Shards.{shard_cleared, shard_number, ShardOn, ShardMoved}
+use Rattle.session_readers.specs.Shards.{shard_cleared, shard_number, ShardOn, ShardMoved}
 use Rattle.search_session.specs.Feeds.{FeedOn, FeedMoved}
 use Rattle.search_session.specs.Stages.{IsUnread, IsUnfed}
-use Rattle.search_session.specs.Lanes.{engines_of}
+use Rattle.session_readers.specs.Banks.{engines_of}
 
 -- ---- the parts of a session
 
@@ -38,8 +38,8 @@ abbrev pub lone_feeder : LoneSession → FeederSpace
 lone_feeder s = s.feed.part
 
 -- the engines of its shard
-abbrev pub lone_lane : LoneSession → Lane
-lone_lane s = s.shard.part
+abbrev pub lone_bank : LoneSession → Bank
+lone_bank s = s.shard.part
 
 -- where the feeder has a file open, so have these inputs
 abbrev pub HasFileOpen : {I : Type 0} → (I → Type 0) → I → LoneSession → Type 0
@@ -80,9 +80,9 @@ pub record AreLoneRings (shape : RingShape) (header : HeaderText) (hdu : Hdu) (w
   pub count : length readers ≡ shape.readers
   pub fresh : EachIndex readers (λ i. HasFreshReader hdu readers i)
 
--- The space of a session of this lane: rings of this shape, of which the header is sealed, their one reader, which has
+-- The space of a session of this bank: rings of this shape, of which the header is sealed, their one reader, which has
 -- read nothing, and space for a header.
-pub record IsLoneSpace (lane : Lane) (shape : RingShape) (header : HeaderText) (space : LoneSpace) :
+pub record IsLoneSpace (bank : Bank) (shape : RingShape) (header : HeaderText) (space : LoneSpace) :
     Type 0 where
   pub shape_is : data_shape space.hdu ≡ shape
   pub writes : WritesBoth space.hdu space.writer
@@ -91,11 +91,11 @@ pub record IsLoneSpace (lane : Lane) (shape : RingShape) (header : HeaderText) (
   pub alone : shape.readers ≡ 1
   pub reader : IsUnread space.hdu 0 space.reader
   pub room : 65537 ≤ vec_len space.bytes
-  pub lane_is : space.lane ≡ lane
+  pub bank_is : space.bank ≡ bank
 
--- the lane of a space
-abbrev pub lane_in : LoneSpace → Lane
-lane_in space = space.lane
+-- the bank of a space
+abbrev pub bank_in : LoneSpace → Bank
+bank_in space = space.bank
 
 -- Where its inputs tell this, a resting feeder has accepted all first headers, of which this is the first, and met no
 -- fault. It seals blocks of the rings' size, no more of them than the rings may carry.
@@ -114,15 +114,15 @@ pub record FeedsAlone (told : Told) (shape : RingShape) (header : HeaderText)
 abbrev pub transfers_at : FeederSpace → ℕ
 transfers_at feeder = length (plan_at (at_rest feeder)).starts
 
--- The space and the feeder of one session: the lane has an engine for each transfer, which was fed nothing, and the
+-- The space and the feeder of one session: the bank has an engine for each transfer, which was fed nothing, and the
 -- rings carry no more bytes than an engine may be fed.
 pub record IsLoneReady (told : Told) (space : LoneSpace) (feeder : FeederSpace) : Type 0 where
   pub shape : RingShape
   pub header : HeaderText
-  pub space_is : IsLoneSpace (lane_in space) shape header space
+  pub space_is : IsLoneSpace (bank_in space) shape header space
   pub feeds : FeedsAlone told shape header feeder
   pub transfers : 0 < transfers_at feeder
-  pub engines : IsUnfed (transfers_at feeder) (lane_in space)
+  pub engines : IsUnfed (transfers_at feeder) (bank_in space)
   pub few : shape.max_blocks * shape.size ≤ most_fed
 
 -- a session before its first turn, where its inputs tell this
@@ -131,4 +131,4 @@ pub record LoneBegins (told : Told) (s : LoneSession) : Type 0 where
   pub running : s.feed.end ≡ None
   pub faultless : FeederFaultless (at_rest (lone_feeder s))
   pub unread : shard_cleared s.shard ≡ []
-  pub engines : length (engines_of (lone_lane s)) ≡ transfers_at (lone_feeder s)
+  pub engines : length (engines_of (lone_bank s)) ≡ transfers_at (lone_feeder s)

@@ -10,14 +10,14 @@ use Rattle.search_engine.specs.Engine.{EngineState, SameShard, scope_of}
 use Rattle.disk_feeder.specs.declared.answers.FeedEnd.TheVariants.{Whole}
 use Rattle.disk_feeder.specs.Resting.{feeder_over}
 use Rattle.disk_feeder.specs.Turns.{sealed_blocks}
-use Rattle.search_session.specs.declared.lane.Lane.{Lane}
+use Rattle.session_readers.specs.declared.bank.Bank.{Bank}
 use Rattle.search_session.specs.declared.ended.SessionEnd.{SessionEnd}
 use Rattle.search_session.specs.declared.lone.LoneSession.{LoneSession}
 use Rattle.search_session.specs.declared.lone.LoneEnd.{LoneEnd}
-use Rattle.search_session.specs.Lanes.{HasEngine, Stands, engines_of}
-use Rattle.search_session.specs.Shards.{shard_cleared, EnginesFollow}
+use Rattle.session_readers.specs.Banks.{HasEngine, Stands, engines_of}
+use Rattle.session_readers.specs.Shards.{shard_cleared, EnginesFollow}
 use Rattle.search_session.specs.Sessions.{FeedAnswers}
-use Rattle.search_session.specs.Lone.{lone_feeder, lone_lane, LoneOn, LoneMoved, LoneBegins, HasLoneEnded}
+use Rattle.search_session.specs.Lone.{lone_feeder, lone_bank, LoneOn, LoneMoved, LoneBegins, HasLoneEnded}
 
 -- what was closed is what the session came to
 pub record IsLoneEnd (s : LoneSession) (end : LoneEnd) : Type 0 where
@@ -25,10 +25,10 @@ pub record IsLoneEnd (s : LoneSession) (end : LoneEnd) : Type 0 where
   pub sealed : sealed_at_end end.blocks ≡ sealed_blocks s.feed.pass
   pub cleared : cleared_at_end end.blocks 0 ≡ shard_cleared s.shard
   pub begins : Begins (shard_cleared s.shard) (sealed_at_end end.blocks)
-  pub lane : end.lane ≡ lone_lane s
+  pub bank : end.bank ≡ lone_bank s
 
 -- the end of a lone session, to which these inputs were lent, as that of a session that gives them back; the books stay
--- in the lane
+-- in the bank
 abbrev pub session_end : {I : Type 0} → I → LoneEnd → SessionEnd I ⊤
 session_end lent end = record {
   feed = end.feed;
@@ -48,15 +48,15 @@ pub record WentThrough (e : EngineState) (bytes : List ℕ) (f : EngineState) : 
   pub ended : f.has_ended ≡ true
   pub stands : (o : Observation) → Stands false o [] e → Stands true o bytes f
 
--- What the engines of a lane came to. The shard cleared all blocks that were sealed, and the engines were fed them.
+-- What the engines of a bank came to. The shard cleared all blocks that were sealed, and the engines were fed them.
 -- Where all data were sealed, each engine has searched those of its transfer.
-pub record LaneAnswers (lane : Lane) (end : LoneEnd) : Type 0 where
+pub record BankAnswers (bank : Bank) (end : LoneEnd) : Type 0 where
   pub cleared : cleared_at_end end.blocks 0 ≡ sealed_at_end end.blocks
-  pub engines : EnginesFollow [] (sealed_at_end end.blocks) (engines_of lane)
-      (engines_of end.lane)
+  pub engines : EnginesFollow [] (sealed_at_end end.blocks) (engines_of bank)
+      (engines_of end.bank)
   pub searched : (bytes : ℕ) → end.feed ≡ Whole bytes → (transfer : ℕ) (e : EngineState) →
-      HasEngine (engines_of lane) transfer e →
-      (f : EngineState) × HasEngine (engines_of end.lane) transfer f
+      HasEngine (engines_of bank) transfer e →
+      (f : EngineState) × HasEngine (engines_of end.bank) transfer f
       × WentThrough e (transfer_bytes transfer (sealed_at_end end.blocks)) f
 
 -- What a session came to, which was begun over inputs that were `before`, and ended when they were `after`: its feeder
@@ -65,7 +65,7 @@ pub record LoneAnswers {I : Type 0} (told : I → Told) (is_calm : I → Type 0)
     (start : LoneSession) (before after : I) (end : LoneEnd) : Type 0 where
   pub feed : FeedAnswers told is_calm faults (feeder_over before (lone_feeder start))
       (session_end after end)
-  pub lane : LaneAnswers (lone_lane start) end
+  pub bank : BankAnswers (lone_bank start) end
 
 -- ---- laws
 

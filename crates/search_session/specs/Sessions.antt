@@ -27,15 +27,15 @@ use Rattle.disk_feeder.specs.Filling.{HoldsAll}
 use Rattle.disk_feeder.specs.History.{file_name}
 use Rattle.disk_feeder.specs.Plan.{stream_of, AreTold}
 use Rattle.disk_feeder.specs.Turns.{sealed_blocks}
-use Rattle.search_session.specs.declared.lane.Lane.{Lane}
+use Rattle.session_readers.specs.declared.bank.Bank.{Bank}
 use Rattle.search_session.specs.declared.feed.FeedActor.{FeedActor}
-use Rattle.search_session.specs.declared.shard.ShardActor.{ShardActor}
-use Rattle.search_session.specs.declared.record.RecordActor.{RecordActor}
+use Rattle.session_readers.specs.declared.shard.ShardActor.{ShardActor}
+use Rattle.session_readers.specs.declared.record.RecordActor.{RecordActor}
 use Rattle.search_session.specs.declared.ended.SessionEnd.{SessionEnd}
-use Rattle.search_session.specs.Lanes.{HasEngine, engines_of}
-use Rattle.search_session.specs.Shards.{shard_cleared}
-use Rattle.search_session.specs.Records.{recorded_headers, recorded_blocks}
-use Rattle.search_session.specs.Books.{HasLane, HasBook, AreCounted}
+use Rattle.session_readers.specs.Banks.{HasEngine, engines_of}
+use Rattle.session_readers.specs.Shards.{shard_cleared}
+use Rattle.session_readers.specs.Records.{recorded_headers, recorded_blocks}
+use Rattle.search_session.specs.Books.{HasBank, HasBook, AreCounted}
 use Rattle.search_session.specs.Recorded.{headers_through}
 
 -- the data of a transfer that went through the data ring
@@ -43,8 +43,8 @@ abbrev pub data_through : {I F : Type 0} → SessionEnd I F → ℕ → List ℕ
 data_through end transfer = transfer_bytes transfer (sealed_at_end end.blocks)
 
 -- What the feeder came to at some place: the end of the walk of its files with the walk's stream sealed, or the inputs'
--- fault, which comes only where their count rose, of calm inputs only at a file that isn't told, and leaves the full
--- blocks of what was read. Where all data were sealed, those of each transfer are those of its files.
+-- fault, which comes only where their count rose, of calm inputs only at a file that isn't told and was not opened, and
+-- leaves the full blocks of what was read. Where all data were sealed, those of each transfer are those of its files.
 pub record FeedAnswers {I F : Type 0} (told : I → Told) (is_calm : I → Type 0) (faults : I → ℕ)
     (feeder : Feeder I) (end : SessionEnd I F) : Type 0 where
   pub same_reference : end.inputs.ghost_name ≡ feeder.inputs.ghost_name
@@ -65,8 +65,8 @@ pub record FeedAnswers {I F : Type 0} (told : I → Told) (is_calm : I → Type 
       end.feed
   pub broke : end.feed ≡ ReadFault → (before : Told) →
       FeederRead before (told feeder.inputs.now) feeder →
-      BreaksReading (plan_at feeder) before (told end.inputs.now) place (block_size feeder)
-      (sealed_at_end end.blocks)
+      BreaksReading (plan_at feeder) before (is_calm feeder.inputs.now) (told end.inputs.now) place
+      (block_size feeder) (sealed_at_end end.blocks)
   pub few : length (joined_bytes (sealed_at_end end.blocks)) ≤ (plan_at feeder).max_bytes
   pub parts : (bytes : ℕ) → end.feed ≡ Whole bytes →
       sum_by (λ k. length (data_through end k)) (range_with_len 0 (length (plan_at feeder).starts))
@@ -86,14 +86,14 @@ pub record IsSearched {I F : Type 0} (end : SessionEnd I F) (transfer s : ℕ) (
       slice_get end.spectra.items transfer ≡ Some
       ((filterbank_of o (data_through end transfer)).spectra)
 
--- Engine k of lane s searches shard s of the observation of transfer k, and was fed nothing.
-pub record AreLanesFor (settings : Search) (o : ℕ → Observation) (transfers : ℕ)
-    (lanes : List (Option Lane)) : Type 0 where
-  pub some : 0 < length lanes
-  pub shards : length lanes ≡ settings.shards
-  pub each : (s k : ℕ) → s < length lanes → k < transfers →
-      (lane : Lane) × HasLane lanes s lane
-      × ((e : EngineState) × HasEngine (engines_of lane) k e × IsOpenedEngine e settings s
+-- Engine k of bank s searches shard s of the observation of transfer k, and was fed nothing.
+pub record AreBanksFor (settings : Search) (o : ℕ → Observation) (transfers : ℕ)
+    (banks : List (Option Bank)) : Type 0 where
+  pub some : 0 < length banks
+  pub shards : length banks ≡ settings.shards
+  pub each : (s k : ℕ) → s < length banks → k < transfers →
+      (bank : Bank) × HasBank banks s bank
+      × ((e : EngineState) × HasEngine (engines_of bank) k e × IsOpenedEngine e settings s
       × StandsForData (o k) [] e)
 
 -- the books of the shards, which hold the parts of a candidate list
@@ -110,22 +110,22 @@ pub record HoldFound {I F : Type 0} (settings : Search) (o : ℕ → Observation
   pub counted : end.spectra.items
       ≡ map (λ k. (filterbank_of (o k) (found k)).spectra) (range_with_len 0 transfers)
 
--- What the shards of these lanes came to: each cleared all blocks that were sealed, and has a book for each transfer.
+-- What the shards of these banks came to: each cleared all blocks that were sealed, and has a book for each transfer.
 -- Where all data were sealed, each engine that was fed nothing has searched those of its transfer; and so the books
 -- hold all that is found.
-pub record ShardAnswers {I F : Type 0} (transfers : ℕ) (lanes : List (Option Lane))
+pub record ShardAnswers {I F : Type 0} (transfers : ℕ) (banks : List (Option Bank))
     (end : SessionEnd I F) : Type 0 where
-  pub cleared : (s : ℕ) → s < length lanes → cleared_at_end end.blocks s ≡ sealed_at_end end.blocks
-  pub counted : AreCounted (length lanes) transfers end.books.items end.spectra.items
-  pub there : (k s : ℕ) → k < transfers → s < length lanes →
+  pub cleared : (s : ℕ) → s < length banks → cleared_at_end end.blocks s ≡ sealed_at_end end.blocks
+  pub counted : AreCounted (length banks) transfers end.books.items end.spectra.items
+  pub there : (k s : ℕ) → k < transfers → s < length banks →
       (book : BookContents) × HasBook end.books.items k s book
-  pub searched : (bytes : ℕ) → end.feed ≡ Whole bytes → (transfer s : ℕ) (lane : Lane)
+  pub searched : (bytes : ℕ) → end.feed ≡ Whole bytes → (transfer s : ℕ) (bank : Bank)
       (e : EngineState)
-      (o : Observation) → HasLane lanes s lane → HasEngine (engines_of lane) transfer e →
+      (o : Observation) → HasBank banks s bank → HasEngine (engines_of bank) transfer e →
       StandsForData o [] e →
       IsSearched end transfer s o e
   pub held : (settings : Search) (o : ℕ → Observation) (found : ℕ → List ℕ) (bytes : ℕ) →
-      end.feed ≡ Whole bytes → AreLanesFor settings o transfers lanes →
+      end.feed ≡ Whole bytes → AreBanksFor settings o transfers banks →
       ((k : ℕ) → k < transfers → data_through end k ≡ found k) →
       HoldFound settings o found transfers end
 

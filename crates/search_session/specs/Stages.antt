@@ -12,16 +12,16 @@ use Rattle.disk_feeder.specs.Feeder.{HasOpenFile, has_end, plan_at, FeederFits, 
 use Rattle.disk_feeder.specs.Turns.{sealed_headers, sealed_blocks}
 use Rattle.dada_recorder.specs.declared.recorder.Recorder.{Recorder}
 use Rattle.dada_recorder.specs.Recorder as recorder
-use Rattle.search_session.specs.declared.lane.Lane.{Lane}
+use Rattle.session_readers.specs.declared.bank.Bank.{Bank}
 use Rattle.search_session.specs.declared.feed.FeedActor.{FeedActor}
-use Rattle.search_session.specs.declared.shard.ShardActor.{ShardActor}
-use Rattle.search_session.specs.declared.record.RecordActor.{RecordActor}
+use Rattle.session_readers.specs.declared.shard.ShardActor.{ShardActor}
+use Rattle.session_readers.specs.declared.record.RecordActor.{RecordActor}
 use Rattle.search_session.specs.declared.hand.Hand.{Hand}
 use Rattle.search_session.specs.declared.stage.Stage.{Stage}
-use Rattle.search_session.specs.Lanes.{HasEngine, engines_of}
-use Rattle.search_session.specs.Shards.{headers_cleared, blocks_cleared, shard_cleared, shard_number, EnginesFollow}
+use Rattle.session_readers.specs.Banks.{HasEngine, engines_of}
+use Rattle.session_readers.specs.Shards.{headers_cleared, blocks_cleared, shard_cleared, shard_number, EnginesFollow}
 use Rattle.search_session.specs.Feeds.{FeedMoved}
-use Rattle.search_session.specs.Records.{recorded_headers, recorded_blocks, RecordOn, RecordMoved}
+use Rattle.session_readers.specs.Records.{recorded_headers, recorded_blocks, RecordOn, RecordMoved}
 use Rattle.search_session.specs.Hands.{HandOn}
 use Rattle.search_session.specs.Gathering.{GivesShard}
 
@@ -40,10 +40,10 @@ IsFirstReader hdu number readers =
     (reader : HduReader) × (slice_get readers 0 ≡ Some (Some reader)) × IsUnread hdu number reader
 
 -- an engine for each transfer, which was fed nothing
-pub record IsUnfed (transfers : ℕ) (lane : Lane) : Type 0 where
-  pub count : length (engines_of lane) ≡ transfers
+pub record IsUnfed (transfers : ℕ) (bank : Bank) : Type 0 where
+  pub count : length (engines_of bank) ≡ transfers
   pub each : (k : ℕ) → k < transfers →
-      (e : EngineState) × HasEngine (engines_of lane) k e × (e.fed ≡ 0) × (e.has_ended ≡ false)
+      (e : EngineState) × HasEngine (engines_of bank) k e × (e.fed ≡ 0) × (e.has_ended ≡ false)
 
 -- a recorder of blocks of these rings, which has recorded nothing
 pub record IsFreshRecorder {F : Type 0} (files_open : F → Type 0) (hdu : Hdu) (r : Recorder F) :
@@ -68,8 +68,8 @@ recorder_count None = 0
 recorder_count (Some r) = 1
 
 -- A stage that can be driven: the writer and all readers of its rings, of which none has cleared a block; a feeder that
--- has not ended, and stands for what the writer sealed; for each shard a lane, with an unfed engine for each transfer,
--- and space for a header; a fresh recorder, where there is one; empty hands, one at least. Readers are as many as lanes
+-- has not ended, and stands for what the writer sealed; for each shard a bank, with an unfed engine for each transfer,
+-- and space for a header; a fresh recorder, where there is one; empty hands, one at least. Readers are as many as banks
 -- and recorders, each at the place of its number, and the data ring carries no more bytes than an engine may be fed.
 pub record StageOn {I F : Type 0} (told : I → Told) (is_open : I → Type 0) (files_open : F → Type 0)
     (stage : Stage I F) : Type 0 where
@@ -83,14 +83,14 @@ pub record StageOn {I F : Type 0} (told : I → Told) (is_open : I → Type 0) (
   pub transfers : 0 < transfers_of stage
   pub all_readers : length stage.readers.items ≡ (data_shape stage.hdu).readers
   pub readers_count : length stage.readers.items
-      ≡ length stage.lanes.items + recorder_count stage.recorder
+      ≡ length stage.banks.items + recorder_count stage.recorder
   pub readers : (s : ℕ) → s < length stage.readers.items →
       (reader : HduReader) × (slice_get stage.readers.items s ≡ Some (Some reader))
       × IsUnread stage.hdu s reader
-  pub lanes : (s : ℕ) → s < length stage.lanes.items →
-      (lane : Lane) × (slice_get stage.lanes.items s ≡ Some (Some lane)) × IsUnfed
-      (transfers_of stage) lane
-  pub spaces_count : length stage.spaces.items ≡ length stage.lanes.items
+  pub banks : (s : ℕ) → s < length stage.banks.items →
+      (bank : Bank) × (slice_get stage.banks.items s ≡ Some (Some bank)) × IsUnfed
+      (transfers_of stage) bank
+  pub spaces_count : length stage.spaces.items ≡ length stage.banks.items
   pub spaces : All (λ slot. IsSomeAnd slot (λ space. 65537 ≤ vec_len space)) stage.spaces.items
   pub recorder : IfSome stage.recorder (IsFreshRecorder files_open stage.hdu)
   pub few : (data_shape stage.hdu).max_blocks * (data_shape stage.hdu).size ≤ most_fed
@@ -128,19 +128,19 @@ pub record HasRecorder {I F : Type 0} (seen : F → FilesSeen) (start : RecordAc
   pub works : hand.recorder ≡ Some recorder
   pub moved : RecordMoved seen turns start recorder
 
--- a shard's engines are those of its lane, and were fed what it cleared
-abbrev pub IsOfLane : List (Option Lane) → ShardActor → Type 0
-IsOfLane lanes x = (lane : Lane) → slice_get lanes (shard_number x) ≡ Some (Some lane) →
-    EnginesFollow [] (shard_cleared x) (engines_of lane) (engines_of x.part)
+-- a shard's engines are those of its bank, and were fed what it cleared
+abbrev pub IsOfBank : List (Option Bank) → ShardActor → Type 0
+IsOfBank banks x = (bank : Bank) → slice_get banks (shard_number x) ≡ Some (Some bank) →
+    EnginesFollow [] (shard_cleared x) (engines_of bank) (engines_of x.part)
 
-abbrev pub AreOfLanes : {I F : Type 0} → List (Option Lane) → List (Hand I F) → Type 0
-AreOfLanes lanes hands = All (λ h. All (λ slot. IfSome slot (IsOfLane lanes)) h.shards.items) hands
+abbrev pub AreOfBanks : {I F : Type 0} → List (Option Bank) → List (Hand I F) → Type 0
+AreOfBanks banks hands = All (λ h. All (λ slot. IfSome slot (IsOfBank banks)) h.shards.items) hands
 
 -- ---- staffing
 
--- a shard of this lane, which has read nothing
-pub record IsShardOf (lane : Lane) (number : ℕ) (x : ShardActor) : Type 0 where
-  pub lane_is : x.part ≡ lane
+-- a shard of this bank, which has read nothing
+pub record IsShardOf (bank : Bank) (number : ℕ) (x : ShardActor) : Type 0 where
+  pub bank_is : x.part ≡ bank
   pub number_is : shard_number x ≡ number
   pub nothing : shard_cleared x ≡ []
 
@@ -201,26 +201,26 @@ RecorderPlaced files_open hdu (Some part) number old new =
     (x : RecordActor _) × RecordOn files_open hdu x × IsRecorderOf part number x
     × TakesRecorder old (8 % length old) x new
 
--- the lanes and readers of a stage
-pub record PartsOn (hdu : Hdu) (transfers : ℕ) (lanes : List (Option Lane))
+-- the banks and readers of a stage
+pub record PartsOn (hdu : Hdu) (transfers : ℕ) (banks : List (Option Bank))
     (readers : List (Option HduReader)) :
     Type 0 where
   pub some : 0 < transfers
   pub unread : (s : ℕ) → s < length readers →
       (reader : HduReader) × (slice_get readers s ≡ Some (Some reader)) × IsUnread hdu s reader
-  pub unfed : (s : ℕ) → s < length lanes →
-      (lane : Lane) × (slice_get lanes s ≡ Some (Some lane)) × IsUnfed transfers lane
+  pub unfed : (s : ℕ) → s < length banks →
+      (bank : Bank) × (slice_get banks s ≡ Some (Some bank)) × IsUnfed transfers bank
 
 -- hands that took the first n shards
 pub record AreStaffed {I F : Type 0} (told : I → Told) (is_open : I → Type 0)
-    (files_open : F → Type 0) (hdu : Hdu) (lanes : List (Option Lane)) (n count : ℕ)
+    (files_open : F → Type 0) (hdu : Hdu) (banks : List (Option Bank)) (n count : ℕ)
     (hands : List (Hand I F)) : Type 0 where
   pub on : All (HandOn told is_open files_open hdu) hands
   pub few : All (λ h. length h.shards.items ≤ n) hands
   pub no_recorder : All (λ h. h.recorder ≡ None) hands
   pub count_is : length hands ≡ count
   pub placed : (s : ℕ) → s < n → HasShard hands s
-  pub of_lanes : AreOfLanes lanes hands
+  pub of_banks : AreOfBanks banks hands
 
 -- the feeder before its first turn
 abbrev pub feeder_of : {I F : Type 0} → Stage I F → FeedActor I

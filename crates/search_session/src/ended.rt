@@ -3,8 +3,8 @@ ghost use Rattle.std.specs.Prelude.{◌≡◌, ◌++◌, ◌<◌, ℕ, IsSome, S
 ghost use Rattle.std.specs.Borrow.{MutBor};
 ghost use Rattle.dada_hdu.specs.Passes.{WritesBoth};
 ghost use Rattle.disk_feeder.specs.Turns.{sealed_headers};
-ghost use Rattle.search_session.specs.declared.shard.ShardActor.{ShardActor as Shard};
-ghost use Rattle.search_session.specs.declared.record.RecordActor.{RecordActor as Recording};
+ghost use Rattle.session_readers.specs.declared.shard.ShardActor.{ShardActor as Shard};
+ghost use Rattle.session_readers.specs.declared.record.RecordActor.{RecordActor as Recording};
 ghost use Rattle.search_session.specs.Books.{AreCounted};
 ghost use Rattle.search_session.specs.Ends.{AreDone, as_passes};
 ghost use Rattle.search_session.specs.Recorded.{HasNoRecording};
@@ -12,8 +12,6 @@ ghost use Rattle.search_session.specs.Sessions.{IsEndOfFeeder, IsEndOf, IsEndOfR
 
 use crate::books::{books_of, part_shards, spectra_of};
 use crate::feed::FeedActor;
-use crate::record::RecordActor;
-use crate::shard::ShardActor;
 use arrayvec::ArrayVec;
 use candidate_book::Book;
 use dada_hdu::{Hdu, HduEnded, HduFinished, order_is_enough};
@@ -23,6 +21,7 @@ use psr_base::{Files, Inputs};
 use ring_ends::Finished;
 use ring_words::MOST_READERS;
 use search_model::{MOST_SHARDS, MOST_TRANSFERS};
+use session_readers::{RecordActor, ShardActor};
 
 /// How a session ended: the feeder's end; the books by transfer and then by shard, each `Some`; how many spectra each
 /// transfer has, where there is a shard; the recorder's end, where there is one; what went through the data ring. The
@@ -121,10 +120,10 @@ pub(crate) fn finish<'a, I: Inputs, F: Files>(
         end: recorded,
         files,
     } = part_recorder(recorder);
-    let (passes, lanes) = part_shards(shards);
+    let (passes, banks) = part_shards(shards);
     let HduFinished { header: _, blocks } = hdu.finish(pass, with_pass(passes, last));
-    let spectra = spectra_of(lanes.as_slice());
-    let books = books_of(lanes);
+    let spectra = spectra_of(banks.as_slice());
+    let books = books_of(banks);
     SessionEnd {
         feed,
         books,

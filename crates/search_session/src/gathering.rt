@@ -1,15 +1,14 @@
 //! The actors of a session leave their hands.
 ghost use Rattle.std.specs.Prelude.{◌≡◌, ℕ, ◌<◌, ◌≤◌, Some, length, slice_get};
-ghost use Rattle.search_session.specs.Shards.{shard_number};
+ghost use Rattle.session_readers.specs.Shards.{shard_number};
 ghost use Rattle.search_session.specs.Gathering.{is_numbered, HasNumber, GivesShard, GivesRecorder, recorder_in};
 ghost use Rattle.search_session.specs.Stages.{HasShard, LeavesHand, GivesFeeder, AreGathered};
 
 use crate::feed::FeedActor;
 use crate::hand::Hand;
-use crate::record::RecordActor;
-use crate::shard::ShardActor;
 use arrayvec::ArrayVec;
 use search_model::MOST_SHARDS;
+use session_readers::{RecordActor, ShardActor};
 use std::mem;
 
 // Whether the shard of a slot has this number.

@@ -1,18 +1,17 @@
 //! A hand: actors that take turns one after another, in a thread of their own.
 ghost use Rattle.std.specs.Prelude.{◌≡◌, ◌↔◌, true, None, [], IfSome, IsSome, IsTrue};
 ghost use Rattle.search_session.specs.Feeds.{FeedOn, FeedMoved};
-ghost use Rattle.search_session.specs.Shards.{IsRetired, ShardOn, ShardMoved};
-ghost use Rattle.search_session.specs.Records.{RecordOn, RecordMoved};
+ghost use Rattle.session_readers.specs.Shards.{IsRetired, ShardOn, ShardMoved};
+ghost use Rattle.session_readers.specs.Records.{RecordOn, RecordMoved};
 
 use crate::feed::FeedActor;
 use crate::gate::Gate;
-use crate::record::RecordActor;
-use crate::shard::ShardActor;
 use crate::waiting::Watch;
 use arrayvec::ArrayVec;
 use dada_hdu::Hdu;
 use psr_base::{Files, Inputs};
 use search_model::MOST_SHARDS;
+use session_readers::{RecordActor, ShardActor};
 use std::thread::Threads;
 use std::time::{Clock, Duration};
 use std::{mem, thread};

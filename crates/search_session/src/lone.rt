@@ -1,19 +1,18 @@
 //! A session of one feeder and one shard, which take turns in one thread.
 ghost use Rattle.std.specs.Prelude.{◌≡◌, ◌↔◌, [], ◌∷◌, Some, IsTrue};
 ghost use Rattle.psr_base.specs.Told.{Told};
-ghost use Rattle.search_session.specs.Shards.{ShardOn, ShardMoved};
+ghost use Rattle.session_readers.specs.Shards.{ShardOn, ShardMoved};
 ghost use Rattle.search_session.specs.Lone.{LoneOn, LoneMoved, LoneBegins, HasLoneEnded, HasFileOpen};
 ghost use Rattle.search_session.specs.LoneEnds.{IsLoneEnd, LoneAnswers};
 
 use crate::gate::Gate;
-use crate::lane::Lane;
 use crate::resting::RestingFeed;
-use crate::shard::ShardActor;
 use arrayvec::ArrayVec;
 use dada_hdu::{Hdu, HduEnded, HduFinished, order_is_enough};
 use disk_feeder::FeedEnd;
 use psr_base::Inputs;
 use ring_ends::Finished;
+use session_readers::{Bank, ShardActor};
 use std::sync::Wait;
 // A law: it does nothing when it runs, and the proofs use what it ensures.
 use crate::lone_laws::lone_sessions_end;
@@ -33,7 +32,7 @@ pub struct LoneSession<'a> {
 #[derive(Drop)]
 pub struct LoneEnd {
     pub feed: FeedEnd,
-    pub lane: Lane,
+    pub bank: Bank,
     pub blocks: Finished,
 }
 
@@ -135,7 +134,7 @@ impl<'a> LoneSession<'a> {
         let HduFinished { header: _, blocks } = hdu.finish(pass, one_reader(reader));
         LoneEnd {
             feed,
-            lane: part,
+            bank: part,
             blocks,
         }
     }

@@ -2,9 +2,8 @@
 ghost use Rattle.std.specs.Prelude.{◌≡◌, IfOk};
 ghost use Rattle.psr_base.specs.Told.{Told};
 ghost use Rattle.ring_words.specs.Shape.{IsRing};
-ghost use Rattle.search_session.specs.Lone.{AreLoneRings, IsLoneSpace, IsLoneReady, LoneBegins, lane_in, lone_lane, lone_feeder};
+ghost use Rattle.search_session.specs.Lone.{AreLoneRings, IsLoneSpace, IsLoneReady, LoneBegins, bank_in, lone_bank, lone_feeder};
 
-use crate::lane::Lane;
 use crate::lone::LoneSession;
 use crate::resting::RestingFeed;
 use crate::staff::shard_of;
@@ -14,6 +13,7 @@ use dada_header::Header;
 use disk_feeder::FeederSpace;
 use psr_base::Memory;
 use ring_words::{MOST_READERS, RingShape};
+use session_readers::Bank;
 use std::alloc::Global;
 
 // Opens rings of this shape and seals the first header. No reader has read.
@@ -31,28 +31,28 @@ fn open_rings(
     Ok((hdu, writer, readers))
 }
 
-/// The space of a lone session: the rings, of which the first header is sealed, their one reader, the lane of its
+/// The space of a lone session: the rings, of which the first header is sealed, their one reader, the bank of its
 /// shard, and the bytes that the shard reads headers to. All memory of the session is in it but that of its feeder.
 #[derive(Drop)]
 pub struct LoneSpace {
     hdu: Hdu,
     writer: HduWriter,
     reader: HduReader,
-    lane: Lane,
+    bank: Bank,
     bytes: Vec<u8>,
 }
 
 impl LoneSpace {
     /// Takes all space: for rings of this shape, which have one reader, and of which the header is sealed.
-    pub fn take(
+    pub fn reserve(
         alloc: Global,
-        lane: Lane,
+        bank: Bank,
         shape: RingShape,
         header: &Header,
     ) -> Result<LoneSpace, Memory>
         requires ring { IsRing shape }
         requires alone { shape.readers ≡ 1 }
-        ensures { IfOk result (IsLoneSpace lane shape header.now) }
+        ensures { IfOk result (IsLoneSpace bank shape header.now) }
     {
         let (hdu, writer, mut readers) = open_rings(alloc, shape, header)?;
         let bytes = vec![in alloc; 0u8; HEADER_SPACE as usize]?;
@@ -63,7 +63,7 @@ impl LoneSpace {
             hdu,
             writer,
             reader,
-            lane,
+            bank,
             bytes,
         })
     }
@@ -74,16 +74,16 @@ impl LoneSpace {
         ensures begins { (told : Told) → IsLoneReady told self feeder.entry
             → LoneBegins told result }
         ensures feeder { lone_feeder result ≡ feeder.entry }
-        ensures lane { lone_lane result ≡ lane_in self }
+        ensures bank { lone_bank result ≡ bank_in self }
     {
         let LoneSpace {
             hdu,
             writer,
             reader,
-            lane,
+            bank,
             bytes,
         } = self;
-        let shard = shard_of(&hdu, lane, reader, bytes, 0);
+        let shard = shard_of(&hdu, bank, reader, bytes, 0);
         let feed = RestingFeed {
             part: feeder,
             pass: writer,

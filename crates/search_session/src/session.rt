@@ -4,10 +4,10 @@ ghost use Rattle.disk_feeder.specs.Feeder.{FeederFaultless};
 ghost use Rattle.disk_feeder.specs.Turns.{sealed_headers};
 ghost use Rattle.search_session.specs.declared.hand.Hand.{Hand as Working};
 ghost use Rattle.search_session.specs.declared.feed.FeedActor.{FeedActor as Feeding};
-ghost use Rattle.search_session.specs.declared.shard.ShardActor.{ShardActor as Shard};
-ghost use Rattle.search_session.specs.declared.record.RecordActor.{RecordActor as Recording};
+ghost use Rattle.session_readers.specs.declared.shard.ShardActor.{ShardActor as Shard};
+ghost use Rattle.session_readers.specs.declared.record.RecordActor.{RecordActor as Recording};
 ghost use Rattle.search_session.specs.Hands.{HandOn, HandMoved, HandRetired, HandEnded, EachMoved};
-ghost use Rattle.search_session.specs.Shards.{shard_number};
+ghost use Rattle.session_readers.specs.Shards.{shard_number};
 ghost use Rattle.search_session.specs.Gathering.{recorder_in};
 ghost use Rattle.search_session.specs.Stages.{StageOn, IsInHand, transfers_of};
 ghost use Rattle.search_session.specs.Books.{AreCounted};
@@ -203,9 +203,9 @@ pub fn run_session<
     requires stage { StageOn I.told I.is_open F.is_open stage }
     requires faultless { FeederFaultless stage.feeder }
     ensures feed { FeedAnswers I.told I.is_calm I.faults stage.entry.feeder result }
-    ensures shards { ShardAnswers (transfers_of stage.entry) stage.entry.lanes.items result }
+    ensures shards { ShardAnswers (transfers_of stage.entry) stage.entry.banks.items result }
     ensures recorded { RecordedAnswers F.seen stage.entry.feeder stage.entry.recorder
-        (length stage.entry.lanes.items) result }
+        (length stage.entry.banks.items) result }
 {
     feeders_end::<I>();
     headers_are_first::<I>();
@@ -214,7 +214,7 @@ pub fn run_session<
     bytes_are_joined();
     ends_are_counted();
     streams_have_transfers();
-    let shards = stage.lanes.len();
+    let shards = stage.banks.len();
     let (hdu, mut hands) = staff(stage);
     run_rounds(rt, hands.as_mut_slice(), &hdu, first_round(turns), gate);
     end_session(hdu, hands.as_mut_slice(), shards)

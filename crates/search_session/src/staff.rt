@@ -2,16 +2,13 @@
 ghost use Rattle.std.specs.Prelude.{◌≡◌, ℕ, ◌+◌, ◌*◌, ◌%◌, ◌<◌, ◌≤◌, All, IfSome, IsSomeAnd, length, drop, vec_len};
 ghost use Rattle.dada_hdu.specs.Passes.{data_shape};
 ghost use Rattle.search_engine.specs.Engine.{most_fed};
-ghost use Rattle.search_session.specs.Shards.{ShardOn};
+ghost use Rattle.session_readers.specs.Shards.{ShardOn};
 ghost use Rattle.search_session.specs.Hands.{HandOn};
-ghost use Rattle.search_session.specs.Records.{RecordOn};
-ghost use Rattle.search_session.specs.Stages.{IsUnread, IsUnfed, IsEmptyHand, IsFreshRecorder, IsShardOf, IsRecorderOf, IsFirstReader, TakesShard, TakesFeeder, TakesRecorder, PartsOn, AreStaffed, StageOn, HasFeeder, HasShard, RecorderPlaced, RecorderWorks, AreOfLanes, feeder_of};
+ghost use Rattle.session_readers.specs.Records.{RecordOn};
+ghost use Rattle.search_session.specs.Stages.{IsUnread, IsUnfed, IsEmptyHand, IsFreshRecorder, IsShardOf, IsRecorderOf, IsFirstReader, TakesShard, TakesFeeder, TakesRecorder, PartsOn, AreStaffed, StageOn, HasFeeder, HasShard, RecorderPlaced, RecorderWorks, AreOfBanks, feeder_of};
 
 use crate::feed::FeedActor;
 use crate::hand::Hand;
-use crate::lane::Lane;
-use crate::record::RecordActor;
-use crate::shard::ShardActor;
 use crate::stage::Stage;
 use arrayvec::ArrayVec;
 use dada_hdu::{Hdu, HduEnded, HduReader};
@@ -19,25 +16,26 @@ use dada_recorder::Recorder;
 use psr_base::{Files, Inputs};
 use ring_words::MOST_READERS;
 use search_model::MOST_SHARDS;
+use session_readers::{Bank, RecordActor, ShardActor};
 use std::mem;
 
-// The shard of a lane before its first turn.
+// The shard of a bank before its first turn.
 pub(crate) fn shard_of(
     hdu: &Hdu,
-    lane: Lane,
+    bank: Bank,
     reader: HduReader,
     space: Vec<u8>,
     number: u32,
 ) -> ShardActor
     requires few { (data_shape hdu.now).max_blocks * (data_shape hdu.now).size ≤ most_fed }
     requires reader { IsUnread hdu.now number reader }
-    requires lane { (transfers : _) × (0 < transfers) × IsUnfed transfers lane }
+    requires bank { (transfers : _) × (0 < transfers) × IsUnfed transfers bank }
     requires space { 65537 ≤ vec_len space }
     ensures on { ShardOn hdu.now result }
-    ensures new { IsShardOf lane number result }
+    ensures new { IsShardOf bank number result }
 {
     ShardActor {
-        part: lane,
+        part: bank,
         pass: HduEnded::Here(reader),
         space,
         turns: 0,
@@ -117,23 +115,23 @@ fn place_any_recorder<'a, I, F: Files>(
 fn place_shards<I: Inputs, F: Files>(
     hdu: &Hdu,
     hands: &mut [Hand<'_, I, F>],
-    mut lanes: ArrayVec<Option<Lane>, MOST_SHARDS>,
+    mut banks: ArrayVec<Option<Bank>, MOST_SHARDS>,
     readers: &mut ArrayVec<Option<HduReader>, MOST_READERS>,
     mut spaces: ArrayVec<Option<Vec<u8>>, MOST_SHARDS>,
 )
     requires few { (data_shape hdu.now).max_blocks * (data_shape hdu.now).size ≤ most_fed }
-    requires parts { (transfers : _) × PartsOn hdu.now transfers lanes.items readers.old.items }
-    requires count { length lanes.items ≤ length readers.old.items }
-    requires spaces_count { length spaces.items ≡ length lanes.items }
+    requires parts { (transfers : _) × PartsOn hdu.now transfers banks.items readers.old.items }
+    requires count { length banks.items ≤ length readers.old.items }
+    requires spaces_count { length spaces.items ≡ length banks.items }
     requires spaces { All (λ slot. IsSomeAnd slot (λ space. 65537 ≤ vec_len space)) spaces.items }
     requires some { 0 < length hands.old }
     requires empty { All IsEmptyHand hands.old }
-    ensures staffed { AreStaffed I.told I.is_open F.is_open hdu.now lanes.items
-        (length lanes.items) (length hands.old) hands.new }
-    ensures readers { readers.new.items ≡ drop (length lanes.items) readers.old.items }
+    ensures staffed { AreStaffed I.told I.is_open F.is_open hdu.now banks.items
+        (length banks.items) (length hands.old) hands.new }
+    ensures readers { readers.new.items ≡ drop (length banks.items) readers.old.items }
 {
-    for s in 0..lanes.len() {
-        let Some(lane) = lanes.remove(0) else {
+    for s in 0..banks.len() {
+        let Some(bank) = banks.remove(0) else {
             unreachable!()
         };
         let Some(reader) = readers.remove(0) else {
@@ -142,7 +140,7 @@ fn place_shards<I: Inputs, F: Files>(
         let Some(space) = spaces.remove(0) else {
             unreachable!()
         };
-        place_shard(hands, s + 1, shard_of(hdu, lane, reader, space, s as u32));
+        place_shard(hands, s + 1, shard_of(hdu, bank, reader, space, s as u32));
     }
 }
 
@@ -153,14 +151,14 @@ pub(crate) fn staff<'a, I: Inputs, F: Files>(stage: Stage<'a, I, F>) -> (Hdu, Ve
     ensures on { All (HandOn I.told I.is_open F.is_open result.0) result.1.items }
     ensures some { 0 < length result.1.items }
     ensures feeder { HasFeeder I.told I.is_calm I.faults (feeder_of stage.entry) result.1.items }
-    ensures shards { (s : ℕ) → s < length stage.entry.lanes.items → HasShard result.1.items s }
-    ensures lanes { AreOfLanes stage.entry.lanes.items result.1.items }
+    ensures shards { (s : ℕ) → s < length stage.entry.banks.items → HasShard result.1.items s }
+    ensures banks { AreOfBanks stage.entry.banks.items result.1.items }
     ensures recorder { RecorderWorks F.seen stage.entry.recorder
-        (length stage.entry.lanes.items) result.1.items }
+        (length stage.entry.banks.items) result.1.items }
 {
     let Stage {
         feeder,
-        lanes,
+        banks,
         recorder,
         hdu,
         writer,
@@ -168,8 +166,8 @@ pub(crate) fn staff<'a, I: Inputs, F: Files>(stage: Stage<'a, I, F>) -> (Hdu, Ve
         spaces,
         mut hands,
     } = stage;
-    let number = lanes.len() as u32;
-    place_shards(&hdu, hands.as_mut_slice(), lanes, &mut readers, spaces);
+    let number = banks.len() as u32;
+    place_shards(&hdu, hands.as_mut_slice(), banks, &mut readers, spaces);
     place_any_recorder(&hdu, hands.as_mut_slice(), recorder, readers, number);
     place_feeder(
         hands.as_mut_slice(),

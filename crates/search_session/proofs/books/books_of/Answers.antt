@@ -1,7 +1,7 @@
 use Rattle.std.proofs.Common.{◌≡◌, ◌+◌, ◌<◌, List, ◌++◌, Option, length, take, drop, sym, ◌∙◌, subst, arith}
 use Rattle.arrayvec.specs.ArrayVec.{ArrayVec}
 use Rattle.candidate_book.specs.Book.{BookContents}
-use Rattle.search_session.specs.declared.lane.Lane.{Lane}
+use Rattle.session_readers.specs.declared.bank.Bank.{Bank}
 use Rattle.search_session.specs.Books.{HaveEngines, transfers_searched, FirstsGiven, BooksTaken}
 use Rattle.search_session.proofs.Rows.{all_written}
 use Rattle.search_session.proofs.Taking.{nothing_taken, taken_more, some_searched, all_taken}
@@ -9,44 +9,44 @@ use Rattle.search_session.proofs.books.books_of.Goals as goal
 
 pub loop-transfer-init : goal.loop-transfer-init
 loop-transfer-init c =
-    subst (λ (l : List (ArrayVec (Option BookContents))). BooksTaken 0 c.args.lanes.items l c.args.lanes.items)
-    (sym c.new-books.ensures) (nothing_taken c.args.lanes.items)
+    subst (λ (l : List (ArrayVec (Option BookContents))). BooksTaken 0 c.args.banks.items l c.args.banks.items)
+    (sym c.new-books.ensures) (nothing_taken c.args.banks.items)
 
 pub loop-transfer-preserved : goal.loop-transfer-preserved
 loop-transfer-preserved c =
     let n = c.loop-transfer._transfer in
-    let all = c.args.lanes.items in
-    let left = c.loop-transfer.lanes.items in
-    let new : List (Option Lane) = c.take_firsts.new.lanes in
+    let all = c.args.banks.items in
+    let left = c.loop-transfer.banks.items in
+    let new : List (Option Bank) = c.take_firsts.new.banks in
     let row : ArrayVec (Option BookContents) = c.take_firsts.result in
     let transfers = c.requires.0 in
     let shown : all ≡ c.as_slice.result.now = sym c.as_slice.ensures.value in
     let firsts : FirstsGiven (length left) left row.items new =
-    subst (λ (l : List (Option Lane)). FirstsGiven (length l) l row.items new) c.as_mut_slice.ensures.value
+    subst (λ (l : List (Option Bank)). FirstsGiven (length l) l row.items new) c.as_mut_slice.ensures.value
     c.take_firsts.ensures in
     let searched : c.transfers_of-transfer-end.result ≡ transfers_searched (length all) transfers =
-    subst (λ (l : List (Option Lane)). c.transfers_of-transfer-end.result ≡ transfers_searched (length l) transfers)
+    subst (λ (l : List (Option Bank)). c.transfers_of-transfer-end.result ≡ transfers_searched (length l) transfers)
     (sym shown) (c.transfers_of-transfer-end.ensures.all transfers
-    (subst (λ (l : List (Option Lane)). HaveEngines transfers l) shown c.requires.1)) in
+    (subst (λ (l : List (Option Bank)). HaveEngines transfers l) shown c.requires.1)) in
     let near : 0 < length all → n < transfers = λ some.
     let many = searched ∙ some_searched (length all) transfers some in omega arith in
     subst (λ (l : List (ArrayVec (Option BookContents))). BooksTaken (n + 1) all l
     (take (length left) (new ++ drop (length new) left))) (sym c.push.ensures.items)
     (taken_more all left (take (length left) (new ++ drop (length new) left)) n transfers
     c.loop-transfer.books.items row c.requires.1 near c.loop-transfer.invariant
-    (subst (λ (l : List (Option Lane)). FirstsGiven (length left) left row.items l)
+    (subst (λ (l : List (Option Bank)). FirstsGiven (length left) left row.items l)
     (sym (all_written (length left) left new firsts.count)) firsts))
 
 pub returns : goal.returns
 returns c = λ transfers have.
     let n = c.loop-transfer._transfer in
-    let all = c.args.lanes.items in
+    let all = c.args.banks.items in
     let shown : all ≡ c.as_slice.result.now = sym c.as_slice.ensures.value in
     let searched : c.transfers_of-transfer-end.result ≡ transfers_searched (length all) transfers =
-    subst (λ (l : List (Option Lane)). c.transfers_of-transfer-end.result ≡ transfers_searched (length l) transfers)
+    subst (λ (l : List (Option Bank)). c.transfers_of-transfer-end.result ≡ transfers_searched (length l) transfers)
     (sym shown) (c.transfers_of-transfer-end.ensures.all transfers
-    (subst (λ (l : List (Option Lane)). HaveEngines transfers l) shown have)) in
+    (subst (λ (l : List (Option Bank)). HaveEngines transfers l) shown have)) in
     let most = c.loop-transfer.invariant.books_count in
     let done : n ≡ c.transfers_of-transfer-end.result = omega arith in
-    all_taken all c.loop-transfer.lanes.items n transfers c.loop-transfer.books.items have (done ∙ searched)
+    all_taken all c.loop-transfer.banks.items n transfers c.loop-transfer.books.items have (done ∙ searched)
     c.loop-transfer.invariant

@@ -6,13 +6,13 @@ use Rattle.ring_words.specs.Ring.{Begins}
 use Rattle.dada_hdu.specs.declared.ended.HduEnded.{HduEnded}
 use Rattle.dada_hdu.specs.Passes.{header_ring, data_ring, header_end, data_end}
 use Rattle.dada_hdu.specs.Ended.{AllReadersOfBoth, RingFinished}
-use Rattle.search_session.specs.declared.shard.ShardActor.{ShardActor}
-use Rattle.search_session.specs.declared.record.RecordActor.{RecordActor}
-use Rattle.search_session.specs.declared.lane.Lane.{Lane}
-use Rattle.search_session.specs.Records.{recorded_headers}
-use Rattle.search_session.specs.Books.{HaveEngines, AreBooks, HasBooks, HasLane, transfers_searched, passes_of, lanes_of}
+use Rattle.session_readers.specs.declared.shard.ShardActor.{ShardActor}
+use Rattle.session_readers.specs.declared.record.RecordActor.{RecordActor}
+use Rattle.session_readers.specs.declared.bank.Bank.{Bank}
+use Rattle.session_readers.specs.Records.{recorded_headers}
+use Rattle.search_session.specs.Books.{HaveEngines, AreBooks, HasBooks, HasBank, transfers_searched, passes_of, banks_of}
 use Rattle.search_session.specs.Ends.{as_passes, passes_with}
-use Rattle.search_session.proofs.Finishing.{passes_in_order, lanes_have, cleared_is, cleared_begins, gives_lane, last_cleared, last_begins, last_headers}
+use Rattle.search_session.proofs.Finishing.{passes_in_order, banks_have, cleared_is, cleared_begins, gives_bank, last_cleared, last_begins, last_headers}
 use Rattle.search_session.proofs.ended.finish.Goals as goal
 
 -- what is given to the end of the rings are the passes of the shards, and the recorder's after them
@@ -40,8 +40,8 @@ pub books_of-books-requires : goal.books_of-books-requires
 books_of-books-requires g c =
     let done = c.requires.done in (
       done.0,
-      subst (λ (l : List (Option Lane)). HaveEngines done.0 l) (sym c.part_shards-passes.ensures.lanes)
-          (lanes_have c.args.hdu done.0 c.args.shards.items c.args.recorder done.1),
+      subst (λ (l : List (Option Bank)). HaveEngines done.0 l) (sym c.part_shards-passes.ensures.banks)
+          (banks_have c.args.hdu done.0 c.args.shards.items c.args.recorder done.1),
     )
 
 pub returns-clause-shards : goal.returns-clause-shards
@@ -57,37 +57,37 @@ returns-clause-shards g c = λ s x at.
     (all_passes shards recorder c.part_shards-passes.result.0.items c.with_pass.result.items
     c.part_recorder-last.result.pass c.with_pass.ensures c.part_shards-passes.ensures.passes
     c.part_recorder-last.ensures.pass) c.finish-blocks.ensures.blocks in
-    let lanes = c.part_shards-passes.ensures.lanes in
-    let books : HasBooks (lanes_of shards) c.books_of-books.result.items =
-    subst (λ (l : List (Option Lane)). HasBooks l c.books_of-books.result.items) lanes
-    (c.books_of-books.ensures done.0 (subst (λ (l : List (Option Lane)). HaveEngines done.0 l) (sym lanes)
-    (lanes_have hdu done.0 shards recorder done.1))).each in
+    let banks = c.part_shards-passes.ensures.banks in
+    let books : HasBooks (banks_of shards) c.books_of-books.result.items =
+    subst (λ (l : List (Option Bank)). HasBooks l c.books_of-books.result.items) banks
+    (c.books_of-books.ensures done.0 (subst (λ (l : List (Option Bank)). HaveEngines done.0 l) (sym banks)
+    (banks_have hdu done.0 shards recorder done.1))).each in
     record {
       cleared = cleared_is hdu done.0 shards recorder done.1 writer blocks end s x at;
       begins = cleared_begins hdu done.0 shards recorder done.1 writer blocks end s x at;
-      books = λ k e has. books k s x.part e (gives_lane shards s x at) has;
+      books = λ k e has. books k s x.part e (gives_bank shards s x at) has;
       spectra = λ first k e has. c.spectra_of-spectra.ensures.each k x.part e
-          (subst (λ (l : List (Option Lane)). HasLane l 0 x.part) (sym (c.as_slice.ensures.value ∙ lanes))
-          (gives_lane shards 0 x (subst (λ (j : ℕ). slice_get shards j ≡ Some (Some x)) first at))) has;
+          (subst (λ (l : List (Option Bank)). HasBank l 0 x.part) (sym (c.as_slice.ensures.value ∙ banks))
+          (gives_bank shards 0 x (subst (λ (j : ℕ). slice_get shards j ≡ Some (Some x)) first at))) has;
     }
 
 pub returns-clause-counted : goal.returns-clause-counted
 returns-clause-counted g c = λ transfers done.
     let shards = c.args.shards.items in
-    let long : length (lanes_of shards) ≡ length shards = length-map shards
+    let long : length (banks_of shards) ≡ length shards = length-map shards
     (option_map (λ (y : ShardActor). y.part)) in
-    let have : HaveEngines transfers (lanes_of shards) =
-    lanes_have c.args.hdu transfers shards c.args.recorder done in
-    let books : AreBooks transfers (lanes_of shards) c.books_of-books.result.items =
-    subst (λ (l : List (Option Lane)). AreBooks transfers l c.books_of-books.result.items)
-    c.part_shards-passes.ensures.lanes (c.books_of-books.ensures transfers
-    (subst (λ (l : List (Option Lane)). HaveEngines transfers l) (sym c.part_shards-passes.ensures.lanes) have)) in
-    let shown : c.as_slice.result.now ≡ lanes_of shards =
-    c.as_slice.ensures.value ∙ c.part_shards-passes.ensures.lanes in
-    let spectra : length c.spectra_of-spectra.result.items ≡ transfers_searched (length (lanes_of shards)) transfers =
-    subst (λ (l : List (Option Lane)). length c.spectra_of-spectra.result.items
+    let have : HaveEngines transfers (banks_of shards) =
+    banks_have c.args.hdu transfers shards c.args.recorder done in
+    let books : AreBooks transfers (banks_of shards) c.books_of-books.result.items =
+    subst (λ (l : List (Option Bank)). AreBooks transfers l c.books_of-books.result.items)
+    c.part_shards-passes.ensures.banks (c.books_of-books.ensures transfers
+    (subst (λ (l : List (Option Bank)). HaveEngines transfers l) (sym c.part_shards-passes.ensures.banks) have)) in
+    let shown : c.as_slice.result.now ≡ banks_of shards =
+    c.as_slice.ensures.value ∙ c.part_shards-passes.ensures.banks in
+    let spectra : length c.spectra_of-spectra.result.items ≡ transfers_searched (length (banks_of shards)) transfers =
+    subst (λ (l : List (Option Bank)). length c.spectra_of-spectra.result.items
     ≡ transfers_searched (length l) transfers) shown (c.spectra_of-spectra.ensures.count transfers
-    (subst (λ (l : List (Option Lane)). HaveEngines transfers l) (sym shown) have)) in
+    (subst (λ (l : List (Option Bank)). HaveEngines transfers l) (sym shown) have)) in
     record {
       books_count = books.count ∙ ap (λ (n : ℕ). transfers_searched n transfers) long;
       shards_count = subst (λ (n : ℕ). All (λ row. length row.items ≡ n) c.books_of-books.result.items) long

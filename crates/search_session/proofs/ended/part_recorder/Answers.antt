@@ -1,5 +1,5 @@
 use Rattle.std.proofs.Common.{◌≡◌, Some, refl, sym, ap, ◌∙◌}
-use Rattle.search_session.specs.declared.record.RecordActor.{RecordActor}
+use Rattle.session_readers.specs.declared.record.RecordActor.{RecordActor}
 use Rattle.search_session.proofs.ended.part_recorder.Goals as goal
 
 pub returns-in-Some-clause-some : goal.returns-in-Some-clause-some

@@ -1,5 +1,5 @@
 use Rattle.std.proofs.Common.{◌≡◌, ℕ, ◌+◌, ◌%◌, ◌<◌, ◌≤◌, List, Option, length, sym, subst, arith}
-use Rattle.search_session.specs.declared.shard.ShardActor.{ShardActor}
+use Rattle.session_readers.specs.declared.shard.ShardActor.{ShardActor}
 use Rattle.search_session.specs.Stages.{AreGathered}
 use Rattle.search_session.proofs.Gathered.{count_same, left_in, others_in, others_work, gathered_more}
 use Rattle.search_session.proofs.gathering.gather.Goals as goal

@@ -4,8 +4,8 @@ use Rattle.std.proofs.lemmas.List.Elements.{at_read}
 use Rattle.std.proofs.lemmas.Option.{slice_get_read, slice_get_within, get_or_from_slice_get}
 use mathlib.Core.Logic.{dite}
 use native.Mathlib.Decide.{ℕ_discrete}
-use Rattle.search_session.specs.declared.shard.ShardActor.{ShardActor}
-use Rattle.search_session.specs.Shards.{shard_number}
+use Rattle.session_readers.specs.declared.shard.ShardActor.{ShardActor}
+use Rattle.session_readers.specs.Shards.{shard_number}
 use Rattle.search_session.specs.Gathering.{is_numbered}
 use Rattle.search_session.proofs.gathering.place_of.Goals as goal
 

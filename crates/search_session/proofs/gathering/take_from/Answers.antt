@@ -1,7 +1,7 @@
 use Rattle.std.proofs.Common.{◌≡◌, List, Option, Some, length, slice_index_or, refl, sym, ap, ◌∙◌, subst}
 use Rattle.std.proofs.lemmas.List.{length-set}
 use Rattle.std.proofs.lemmas.Option.{get_or_from_slice_get}
-use Rattle.search_session.specs.declared.shard.ShardActor.{ShardActor}
+use Rattle.session_readers.specs.declared.shard.ShardActor.{ShardActor}
 use Rattle.search_session.specs.Gathering.{GivesShard}
 use Rattle.search_session.proofs.Rows.{all_written}
 use Rattle.search_session.proofs.gathering.take_from.Goals as goal

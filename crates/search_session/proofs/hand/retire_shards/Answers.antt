@@ -1,8 +1,8 @@
 use Rattle.std.proofs.Common.{◌≡◌, ◌<◌, ◌≤◌, true, Option, length, sym, subst, arith}
 use Rattle.std.specs.Prelude.{IfSome}
 use Rattle.std.proofs.lemmas.List.Elements.{All-set}
-use Rattle.search_session.specs.declared.shard.ShardActor.{ShardActor}
-use Rattle.search_session.specs.Shards.{IsRetired, ShardOn, ShardMoved}
+use Rattle.session_readers.specs.declared.shard.ShardActor.{ShardActor}
+use Rattle.session_readers.specs.Shards.{IsRetired, ShardOn, ShardMoved}
 use Rattle.search_session.specs.Hands.{SlotMoved}
 use Rattle.search_session.proofs.Handling.{first_none, first_more, first_all, are_none, are_more, are_all}
 use Rattle.search_session.proofs.hand.retire_shards.Goals as goal

@@ -1,6 +1,6 @@
 use Rattle.std.proofs.Common.{◌≡◌, true}
 use Rattle.std.specs.Prelude.{IfSome}
-use Rattle.search_session.specs.Shards.{IsRetired, ShardMoved}
+use Rattle.session_readers.specs.Shards.{IsRetired, ShardMoved}
 use Rattle.search_session.specs.Hands.{SlotMoved, FirstMoved, ShardsOn}
 use Rattle.search_session.proofs.Handling.{FirstAre}
 use Rattle.search_session.proofs.hand.retire_shards.Given as goal

@@ -1,7 +1,7 @@
 use Rattle.std.proofs.Common.{◌<◌, Option, length, sym, subst, arith}
 use Rattle.std.specs.Prelude.{IfSome}
-use Rattle.search_session.specs.declared.shard.ShardActor.{ShardActor}
-use Rattle.search_session.specs.Shards.{ShardOn}
+use Rattle.session_readers.specs.declared.shard.ShardActor.{ShardActor}
+use Rattle.session_readers.specs.Shards.{ShardOn}
 use Rattle.search_session.proofs.hand.shards_could_move.Goals as goal
 
 pub shard_could_move-requires : goal.shard_could_move-requires

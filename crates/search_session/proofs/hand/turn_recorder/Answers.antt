@@ -1,6 +1,6 @@
 use Rattle.std.proofs.Common.{Some, sym, subst, rules}
 use Rattle.std.specs.Prelude.{IfSome, IsSome}
-use Rattle.search_session.specs.Records.{RecordOn, RecordMoved}
+use Rattle.session_readers.specs.Records.{RecordOn, RecordMoved}
 use Rattle.search_session.specs.Hands.{SlotMoved}
 use Rattle.search_session.proofs.Recording.{record_still}
 use Rattle.search_session.proofs.hand.turn_recorder.Goals as goal

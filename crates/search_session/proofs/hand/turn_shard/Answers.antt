@@ -1,7 +1,7 @@
 use Rattle.std.proofs.Common.{Option, Some, sym, subst}
 use Rattle.std.specs.Prelude.{IfSome}
-use Rattle.search_session.specs.declared.shard.ShardActor.{ShardActor}
-use Rattle.search_session.specs.Shards.{ShardOn, ShardMoved}
+use Rattle.session_readers.specs.declared.shard.ShardActor.{ShardActor}
+use Rattle.session_readers.specs.Shards.{ShardOn, ShardMoved}
 use Rattle.search_session.specs.Hands.{SlotMoved}
 use Rattle.search_session.proofs.Moves.{shard_still}
 use Rattle.search_session.proofs.hand.turn_shard.Goals as goal

@@ -1,4 +1,4 @@
-use Rattle.search_session.specs.Shards.{ShardMoved}
+use Rattle.session_readers.specs.Shards.{ShardMoved}
 use Rattle.search_session.specs.Hands.{SlotMoved, FirstMoved, ShardsOn}
 use Rattle.search_session.proofs.hand.turn_shards.Given as goal
 

@@ -13,4 +13,4 @@ returns g c =
       counted = c.ends_are_counted.ensures;
       transfers = c.streams_have_transfers.ensures;
     } in
-    lone_answers laws g.I.Inputs.told g.I.Inputs.is_calm g.I.Inputs.faults
+    lone_answers laws g.I.Inputs.told g.I.Inputs.faults

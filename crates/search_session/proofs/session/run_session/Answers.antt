@@ -26,7 +26,7 @@ end_session-requires g c =
     let files_open = g.F.Files.is_open in
     let seen = g.F.Files.seen in
     let stage = c.args.stage in
-    let lanes = stage.lanes.items in
+    let banks = stage.banks.items in
     let recorder = stage.recorder in
     let start = feeder_of stage in
     let hdu : Hdu = c.staff-hdu.result.0 in
@@ -36,10 +36,10 @@ end_session-requires g c =
     let staffed = c.staff-hdu.ensures in
     let rounds = c.run_rounds.ensures in
     let slice = c.as_mut_slice.ensures in
-    let all : AllEnded told is_open is_calm faults files_open seen hdu start lanes recorder now =
-    hands_ended told is_open is_calm faults files_open seen hdu start lanes recorder hands.items
+    let all : AllEnded told is_open is_calm faults files_open seen hdu start banks recorder now =
+    hands_ended told is_open is_calm faults files_open seen hdu start banks recorder hands.items
     c.as_mut_slice.result.now two now hands.len rounds.moved.0 slice.value slice.len c.as_mut_slice-2.ensures.value
-    rounds.moved.1 staffed.feeder staffed.shards staffed.lanes staffed.recorder rounds.on rounds.ended in
+    rounds.moved.1 staffed.feeder staffed.shards staffed.banks staffed.recorder rounds.on rounds.ended in
     let value = c.len-shards.ensures.value in
     let works : RecorderWorks seen recorder c.len-shards.result now =
     subst (λ (k : ℕ). RecorderWorks seen recorder k now) (sym value) all.recorder_works in
@@ -59,8 +59,8 @@ end_session-requires g c =
         engines = (
           transfers_of stage,
           subst (λ (k : ℕ). HaveEnginesIn now k (transfers_of stage)) (sym value)
-              (have_engines told is_open is_calm faults files_open seen hdu start lanes recorder now (transfers_of stage)
-              c.requires.stage.lanes all),
+              (have_engines told is_open is_calm faults files_open seen hdu start banks recorder now
+              (transfers_of stage) c.requires.stage.banks all),
         );
       };
     }
@@ -74,7 +74,7 @@ returns g c =
     let files_open = g.F.Files.is_open in
     let seen = g.F.Files.seen in
     let stage = c.args.stage in
-    let lanes = stage.lanes.items in
+    let banks = stage.banks.items in
     let recorder = stage.recorder in
     let start = feeder_of stage in
     let hdu : Hdu = c.staff-hdu.result.0 in
@@ -84,10 +84,10 @@ returns g c =
     let staffed = c.staff-hdu.ensures in
     let rounds = c.run_rounds.ensures in
     let slice = c.as_mut_slice.ensures in
-    let all : AllEnded told is_open is_calm faults files_open seen hdu start lanes recorder now =
-    hands_ended told is_open is_calm faults files_open seen hdu start lanes recorder hands.items
+    let all : AllEnded told is_open is_calm faults files_open seen hdu start banks recorder now =
+    hands_ended told is_open is_calm faults files_open seen hdu start banks recorder hands.items
     c.as_mut_slice.result.now two now hands.len rounds.moved.0 slice.value slice.len c.as_mut_slice-2.ensures.value
-    rounds.moved.1 staffed.feeder staffed.shards staffed.lanes staffed.recorder rounds.on rounds.ended in
+    rounds.moved.1 staffed.feeder staffed.shards staffed.banks staffed.recorder rounds.on rounds.ended in
     let value = c.len-shards.ensures.value in
     let laws : SessionLaws g.row.I.Denot = record {
       end = c.feeders_end.ensures;
@@ -102,18 +102,18 @@ returns g c =
     let e = c.end_session.ensures in
     let f = e.feeder all.feeder.hand all.feeder.feeder all.feeder.there all.feeder.works in
     record {
-      feed = feed_is told is_open is_calm faults files_open seen hdu start lanes recorder now (transfers_of stage)
-          c.requires.stage.lanes all laws end f.feed f.inputs f.sealed f.same_reference c.requires.stage.running
+      feed = feed_is told is_open is_calm faults files_open seen hdu start banks recorder now (transfers_of stage)
+          c.requires.stage.banks all laws end f.feed f.inputs f.sealed f.same_reference c.requires.stage.running
           c.requires.faultless;
-      shards = shards_are told is_open is_calm faults files_open seen hdu start lanes recorder now (transfers_of stage)
-          c.requires.stage.lanes all laws end f.feed f.inputs f.sealed refl
+      shards = shards_are told is_open is_calm faults files_open seen hdu start banks recorder now (transfers_of stage)
+          c.requires.stage.banks all laws end f.feed f.inputs f.sealed refl
           (subst (λ (k : ℕ). AreCounted k (transfers_of stage) end.books.items end.spectra.items) value
           (e.counted (transfers_of stage) (subst (λ (k : ℕ). HaveEnginesIn now k (transfers_of stage)) (sym value)
-          (have_engines told is_open is_calm faults files_open seen hdu start lanes recorder now (transfers_of stage)
-          c.requires.stage.lanes all))))
+          (have_engines told is_open is_calm faults files_open seen hdu start banks recorder now (transfers_of stage)
+          c.requires.stage.banks all))))
           (λ s near. e.shards s (subst (λ (k : ℕ). s < k) (sym value) near));
-      recorded = recorded_are told is_open is_calm faults files_open seen hdu start lanes recorder now
-          (transfers_of stage) c.requires.stage.lanes all laws end f.feed f.inputs f.sealed
+      recorded = recorded_are told is_open is_calm faults files_open seen hdu start banks recorder now
+          (transfers_of stage) c.requires.stage.banks all laws end f.feed f.inputs f.sealed
           (subst (λ (h : Hdu). IfSome recorder (IsFreshRecorder files_open h)) (sym staffed.hdu)
           c.requires.stage.recorder)
           (λ x is. subst (λ (k : ℕ). IsEndOfRecorder end k (sealed_headers all.feeder.feeder.pass) x) value

@@ -1,5 +1,5 @@
 use Rattle.std.proofs.Common.{◌≡◌, ◌<◌, Some, length, refl, ap, ◌∙◌, subst, arith}
-use Rattle.search_session.specs.declared.lane.Lane.{Lane}
+use Rattle.session_readers.specs.declared.bank.Bank.{Bank}
 use Rattle.search_session.specs.Stages.{IsUnread, IsUnfed}
 use Rattle.dada_hdu.specs.declared.passes.HduReader.{HduReader}
 use Rattle.search_session.proofs.Rows.{left_over}
@@ -8,19 +8,19 @@ use Rattle.search_session.proofs.staff.place_shards.Goals as goal
 
 pub loop-s-init : goal.loop-s-init
 loop-s-init g c = record {
-  lanes = refl;
+  banks = refl;
   readers = refl;
   spaces = refl;
-  staffed = staffed_none g.I.Inputs.told g.I.Inputs.is_open g.F.Files.is_open c.args.hdu.now c.args.lanes.items
+  staffed = staffed_none g.I.Inputs.told g.I.Inputs.is_open g.F.Files.is_open c.args.hdu.now c.args.banks.items
       c.args.hands.now c.requires.empty;
 }
 
 pub unreachable-requires : goal.unreachable-requires
 unreachable-requires g c =
     let s = c.loop-s.s in
-    let near : s < length c.args.lanes.items = omega arith in
+    let near : s < length c.args.banks.items = omega arith in
     let h = c.requires.parts.1.unfed s near in
-    none_taken c.args.lanes.items c.loop-s.lanes.items s c.remove.result h.0 h.1 c.loop-s.invariant.lanes
+    none_taken c.args.banks.items c.loop-s.banks.items s c.remove.result h.0 h.1 c.loop-s.invariant.banks
     c.remove.ensures.value c.in_default.is
 
 pub unreachable-requires-in_default-remove : goal.unreachable-requires-in_default-remove
@@ -50,17 +50,17 @@ shard_of-requires-clause-reader g c =
     (taken_is c.args.readers.now.items c.loop-s.readers.items s c.remove-in-loop-s.result
     h.0 c.in-Some-remove.reader h.1 c.loop-s.invariant.readers c.remove-in-loop-s.ensures.value c.in-Some-remove.is) h.2
 
-pub shard_of-requires-clause-lane : goal.shard_of-requires-clause-lane
-shard_of-requires-clause-lane g c =
+pub shard_of-requires-clause-bank : goal.shard_of-requires-clause-bank
+shard_of-requires-clause-bank g c =
     let s = c.loop-s.s in
-    let near : s < length c.args.lanes.items = omega arith in
+    let near : s < length c.args.banks.items = omega arith in
     let transfers = c.requires.parts.0 in
     let h = c.requires.parts.1.unfed s near in (
       transfers,
       c.requires.parts.1.some,
-      subst (λ (lane : Lane). IsUnfed transfers lane)
-          (taken_is c.args.lanes.items c.loop-s.lanes.items s c.remove.result h.0 c.in-Some.lane h.1
-          c.loop-s.invariant.lanes c.remove.ensures.value c.in-Some.is) h.2,
+      subst (λ (bank : Bank). IsUnfed transfers bank)
+          (taken_is c.args.banks.items c.loop-s.banks.items s c.remove.result h.0 c.in-Some.bank h.1
+          c.loop-s.invariant.banks c.remove.ensures.value c.in-Some.is) h.2,
     )
 
 pub shard_of-requires-clause-space : goal.shard_of-requires-clause-space
@@ -77,23 +77,23 @@ loop-s-preserved g c =
     let inv = c.loop-s.invariant in
     let count = c.requires.count in
     let spaces_count = c.requires.spaces_count in
-    let near : s < length c.args.lanes.items = omega arith in
+    let near : s < length c.args.banks.items = omega arith in
     let near_reader : s < length c.args.readers.now.items = omega arith in
     let near_space : s < length c.args.spaces.items = omega arith in
     let h = c.requires.parts.1.unfed s near in
-    let lane : h.0 ≡ c.in-Some.lane =
-    taken_is c.args.lanes.items c.loop-s.lanes.items s c.remove.result h.0 c.in-Some.lane h.1 inv.lanes
+    let bank : h.0 ≡ c.in-Some.bank =
+    taken_is c.args.banks.items c.loop-s.banks.items s c.remove.result h.0 c.in-Some.bank h.1 inv.banks
     c.remove.ensures.value c.in-Some.is in
     record {
-      lanes = left_over c.args.lanes.items c.loop-s.lanes.items c.remove.new.self.items s c.remove.result near inv.lanes
+      banks = left_over c.args.banks.items c.loop-s.banks.items c.remove.new.self.items s c.remove.result near inv.banks
           c.remove.ensures.items;
       readers = left_over c.args.readers.now.items c.loop-s.readers.items c.remove-in-loop-s.new.self.items s
           c.remove-in-loop-s.result near_reader inv.readers c.remove-in-loop-s.ensures.items;
       spaces = left_over c.args.spaces.items c.loop-s.spaces.items c.remove-in-loop-s-2.new.self.items s
           c.remove-in-loop-s-2.result near_space inv.spaces c.remove-in-loop-s-2.ensures.items;
       staffed = staffed_more g.I.Inputs.told g.I.Inputs.is_open g.F.Files.is_open c.args.hdu.now
-          c.args.lanes.items c.loop-s.hands c.place_shard.new.hands s
-          (length c.args.hands.now) c.shard_of.result c.in-Some.lane inv.staffed
-          c.place_shard.ensures (h.1 ∙ ap (λ (l : Lane). Some (Some l)) lane) c.shard_of.ensures.new
+          c.args.banks.items c.loop-s.hands c.place_shard.new.hands s
+          (length c.args.hands.now) c.shard_of.result c.in-Some.bank inv.staffed
+          c.place_shard.ensures (h.1 ∙ ap (λ (l : Bank). Some (Some l)) bank) c.shard_of.ensures.new
           c.shard_of.ensures.on;
     }

@@ -2,7 +2,7 @@ use Rattle.std.proofs.Common.{Bool, List, [], refl, sym, subst, arith}
 use Rattle.ring_blocks.specs.declared.Entry.{Entry}
 use Rattle.dada_recorder.specs.Making.{IsOpenAs}
 use Rattle.dada_recorder.specs.Recorder.{RecorderStands}
-use Rattle.search_session.specs.Shards.{headers_cleared}
+use Rattle.session_readers.specs.Shards.{headers_cleared}
 use Rattle.search_session.proofs.staff.recorder_of.Goals as goal
 
 pub returns-clause-on : goal.returns-clause-on

@@ -3,7 +3,7 @@ use Rattle.std.specs.Prelude.{All}
 use Rattle.search_session.specs.declared.hand.Hand.{Hand}
 use Rattle.search_session.specs.Feeds.{FeedOn}
 use Rattle.search_session.specs.Hands.{HandOn}
-use Rattle.search_session.specs.Stages.{IsEmptyHand, TakesFeeder, HasFeeder, HasShard, AreOfLanes, AreStaffed, RecorderPlaced, RecorderWorks, recorder_count, feeder_of, transfers_of}
+use Rattle.search_session.specs.Stages.{IsEmptyHand, TakesFeeder, HasFeeder, HasShard, AreOfBanks, AreStaffed, RecorderPlaced, RecorderWorks, recorder_count, feeder_of, transfers_of}
 use Rattle.search_session.proofs.Rows.{all_written}
 use Rattle.search_session.proofs.Gathered.{count_same}
 use Rattle.search_session.proofs.Staffing.{AreReady, first_reader, ready, fed_on, fed_some, fed_feeder, fed_of, fed_shards, fed_recorder}
@@ -17,7 +17,7 @@ place_shards-requires g c =
       few = s.few;
       parts = (
         transfers_of c.args.stage,
-        record { some = s.transfers; unread = s.readers; unfed = s.lanes },
+        record { some = s.transfers; unread = s.readers; unfed = s.banks },
       );
       count = omega arith;
       spaces_count = s.spaces_count;
@@ -47,14 +47,14 @@ returns g c =
     let stage = c.args.stage in
     let hdu = stage.hdu in
     let hands = stage.hands in
-    let lanes = stage.lanes.items in
-    let n = length lanes in
+    let banks = stage.banks.items in
+    let n = length banks in
     let f = feeder_of stage in
     let one : List H = c.place_shards.new.hands in
     let two : List H = c.place_any_recorder.new.hands in
     let three : List H = c.place_feeder.new.hands in
     let first = length c.as_mut_slice.result.now in
-    let staffed : AreStaffed told is_open files_open hdu lanes n first one = c.place_shards.ensures.staffed in
+    let staffed : AreStaffed told is_open files_open hdu banks n first one = c.place_shards.ensures.staffed in
     let count_one : length one ≡ hands.len = staffed.count_is ∙ c.as_mut_slice.ensures.len in
     let mid : c.as_mut_slice-2.result.now ≡ one =
     c.as_mut_slice-2.ensures.value ∙ all_written hands.len hands.items one count_one in
@@ -62,8 +62,8 @@ returns g c =
     subst (λ (l : List H). RecorderPlaced files_open hdu stage.recorder n l two) mid
     (subst (λ (k : ℕ). RecorderPlaced files_open hdu stage.recorder k c.as_mut_slice-2.result.now two)
     c.len-number.ensures.value c.place_any_recorder.ensures) in
-    let all : AreReady told is_open files_open hdu lanes seen stage.recorder n first two =
-    ready told is_open files_open hdu lanes seen one two n first staffed stage.recorder placed in
+    let all : AreReady told is_open files_open hdu banks seen stage.recorder n first two =
+    ready told is_open files_open hdu banks seen one two n first staffed stage.recorder placed in
     let count_two : length two ≡ hands.len = all.count_is ∙ c.as_mut_slice.ensures.len in
     let before = take hands.len (one ++ drop (length one) hands.items) in
     let mid_two : c.as_mut_slice-3.result.now ≡ two =
@@ -84,21 +84,21 @@ returns g c =
     record {
       hdu = refl;
       on = subst (λ (l : List H). All (HandOn told is_open files_open hdu) l) (sym written)
-          (fed_on told is_open files_open hdu lanes is_calm faults seen stage.recorder two
+          (fed_on told is_open files_open hdu banks is_calm faults seen stage.recorder two
           three n first f all takes on);
       some = subst (λ (l : List H). 0 < length l) (sym written)
-          (fed_some told is_open files_open hdu lanes is_calm faults seen stage.recorder two three n first f all takes
+          (fed_some told is_open files_open hdu banks is_calm faults seen stage.recorder two three n first f all takes
           on);
       feeder = subst (λ (l : List H). HasFeeder told is_calm faults f l) (sym written)
-          (fed_feeder told is_open files_open hdu lanes is_calm faults seen stage.recorder two three n first f all takes
+          (fed_feeder told is_open files_open hdu banks is_calm faults seen stage.recorder two three n first f all takes
           on);
       shards = λ s near. subst (λ (l : List H). HasShard l s) (sym written)
-          (fed_shards told is_open files_open hdu lanes is_calm faults seen stage.recorder two three n first f all takes
+          (fed_shards told is_open files_open hdu banks is_calm faults seen stage.recorder two three n first f all takes
           on s near);
-      lanes = subst (λ (l : List H). AreOfLanes lanes l) (sym written)
-          (fed_of told is_open files_open hdu lanes is_calm faults seen stage.recorder two
+      banks = subst (λ (l : List H). AreOfBanks banks l) (sym written)
+          (fed_of told is_open files_open hdu banks is_calm faults seen stage.recorder two
           three n first f all takes on);
       recorder = subst (λ (l : List H). RecorderWorks seen stage.recorder n l) (sym written)
-          (fed_recorder told is_open files_open hdu lanes is_calm faults seen stage.recorder two three n first f all
+          (fed_recorder told is_open files_open hdu banks is_calm faults seen stage.recorder two three n first f all
           takes on);
     }

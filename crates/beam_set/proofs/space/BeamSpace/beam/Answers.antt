@@ -9,4 +9,4 @@ session-requires c =
 pub returns-clause-begins : goal.returns-clause-begins
 returns-clause-begins c = λ told ready.
     beam_begins told c.args.self c.args.feeder ready _
-    (c.session.ensures.begins told (lone_ready told c.args.self c.args.feeder ready)) c.session.ensures.lane
+    (c.session.ensures.begins told (lone_ready told c.args.self c.args.feeder ready)) c.session.ensures.bank

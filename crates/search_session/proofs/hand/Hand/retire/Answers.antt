@@ -1,5 +1,5 @@
 use Rattle.std.proofs.Common.{List, Option, length, sym, subst}
-use Rattle.search_session.specs.declared.shard.ShardActor.{ShardActor}
+use Rattle.session_readers.specs.declared.shard.ShardActor.{ShardActor}
 use Rattle.search_session.specs.Hands.{ShardsMoved, ShardsRetired}
 use Rattle.search_session.proofs.Rows.{all_written}
 use Rattle.search_session.proofs.Handling.{feeder_none}

@@ -6,7 +6,7 @@ use Rattle.dada_hdu.specs.Ended.{AllReadersOfBoth, RingFinished}
 use Rattle.search_session.proofs.Finishing.{passes_in_order, cleared_is, cleared_begins}
 use Rattle.search_session.proofs.LoneEnds.{one_done}
 use Rattle.search_session.proofs.lone.LoneSession.close.Goals as goal
-use Rattle.search_session.specs.Lanes.{engines_of}
+use Rattle.session_readers.specs.Banks.{engines_of}
 
 pub finish-blocks-requires-clause-readers : goal.finish-blocks-requires-clause-readers
 finish-blocks-requires-clause-readers c =
@@ -35,5 +35,5 @@ returns c =
       sealed = end.sealed;
       cleared = cleared_is {F = ⊤} s.hdu transfers (Some x ∷ []) None done writer blocks end 0 x refl;
       begins = cleared_begins {F = ⊤} s.hdu transfers (Some x ∷ []) None done writer blocks end 0 x refl;
-      lane = refl;
+      bank = refl;
     }

@@ -1,0 +1,7 @@
+mod Engines
+mod Rows
+mod OneRead
+mod Passing
+mod Turning
+mod Moves
+mod Recording

@@ -1,0 +1,4 @@
+pub mod Banks
+pub mod Reads
+pub mod Shards
+pub mod Records

@@ -1,0 +1,114 @@
+//! The engines of a shard.
+ghost use Rattle.std.specs.Prelude.{◌≡◌, ◌+◌, ◌≤◌, false, Some, [], length, take};
+ghost use Rattle.stream_model.specs.Blocks.{is_end};
+ghost use Rattle.search_engine.specs.Engine.{EngineState, most_fed};
+ghost use Rattle.session_readers.specs.Banks.{CanFeedAt, WasFed, WasFedAt, engines_of};
+
+use arrayvec::ArrayVec;
+use dada_hdu::{BlockTaker, Mark};
+use search_engine::Engine;
+use search_model::MOST_TRANSFERS;
+
+/// The engines of a shard, one for each transfer in order. Each is `Some`. They lie on the heap: a bank is moved as one
+/// pointer.
+#[derive(Drop)]
+pub struct Bank {
+    pub engines: Box<ArrayVec<Option<Engine>, MOST_TRANSFERS>>,
+}
+
+// Feeds the engine of a slot, and ends it after the last bytes.
+fn feed_slot(slot: &mut Option<Engine>, bytes: &[u8], is_last: bool)
+    requires { (e : EngineState) × (slot.old ≡ Some e) × (e.has_ended ≡ false)
+        × (e.fed + length bytes.now ≤ most_fed) }
+    ensures { (e : EngineState) → slot.old ≡ Some e
+        → (f : EngineState) × (slot.new ≡ Some f) × WasFed e bytes.now is_last f }
+{
+    let Some(engine) = slot else { unreachable!() };
+    engine.feed(bytes);
+    if is_last {
+        engine.end();
+    }
+}
+
+// Feeds the engine of a transfer, and ends it after the last bytes.
+fn feed_engine(engines: &mut [Option<Engine>], transfer: usize, bytes: &[u8], is_last: bool)
+    requires { CanFeedAt engines.old transfer bytes.now }
+    ensures { WasFedAt engines.old transfer bytes.now is_last engines.new }
+{
+    feed_slot(&mut engines[transfer], bytes, is_last);
+}
+
+// The same for a list of engines.
+fn feed_in(
+    engines: &mut ArrayVec<Option<Engine>, MOST_TRANSFERS>,
+    transfer: usize,
+    bytes: &[u8],
+    is_last: bool,
+)
+    requires { CanFeedAt engines.old.items transfer bytes.now }
+    ensures { WasFedAt engines.old.items transfer bytes.now is_last engines.new.items }
+{
+    feed_engine(engines.as_mut_slice(), transfer, bytes, is_last);
+}
+
+// Whether a transfer ends with this mark.
+fn ends_transfer(mark: Mark) -> bool
+    ensures { result ≡ is_end mark }
+{
+    match mark {
+        Mark::End => true,
+        Mark::More | Mark::Cut => false,
+    }
+}
+
+impl Bank {
+    // Feeds the engine of a transfer, and ends it after the last bytes.
+    fn feed(&mut self, transfer: usize, bytes: &[u8], is_last: bool)
+        requires { CanFeedAt (engines_of self.old) transfer bytes.now }
+        ensures { WasFedAt (engines_of self.old) transfer bytes.now is_last
+            (engines_of self.new) }
+    {
+        feed_in(&mut self.engines, transfer, bytes, is_last);
+    }
+
+    /// Feeds the engine of a transfer so many bytes in front of a space. It does not end.
+    pub(crate) fn feed_front(&mut self, transfer: usize, space: &[u8], used: usize)
+        requires within { used ≤ length space.now }
+        requires ready { CanFeedAt (engines_of self.old) transfer (take used space.now) }
+        ensures { WasFedAt (engines_of self.old) transfer (take used space.now) false
+            (engines_of self.new) }
+    {
+        self.feed(transfer, &space[..used], false);
+    }
+
+    /// How many engines there are, eight at most.
+    pub fn count(&self) -> usize
+        ensures count { result ≡ length (engines_of self.now) }
+        ensures most { result ≤ 8 }
+    {
+        self.engines.len()
+    }
+
+    /// Ends the engine of a transfer where the block with this mark, which it was fed, is the transfer's last.
+    pub(crate) fn end_after(&mut self, transfer: usize, mark: Mark)
+        requires { CanFeedAt (engines_of self.old) transfer [] }
+        ensures { WasFedAt (engines_of self.old) transfer [] (is_end mark)
+            (engines_of self.new) }
+    {
+        self.feed(transfer, &[], ends_transfer(mark));
+    }
+}
+
+/// The engine of a transfer is fed from a block where it lies. It does not end, so that the block is given back before
+/// folds are searched.
+impl BlockTaker for Bank {
+    ghost use Rattle.session_readers.specs.Banks.{CanFeed, WasFedBlock};
+
+    ghost can_take = { CanFeed };
+
+    ghost took = { WasFedBlock };
+
+    fn take(&mut self, part: usize, bytes: &[u8], _mark: Mark) {
+        self.feed(part, bytes, false);
+    }
+}

@@ -1,0 +1,144 @@
+//! A shard: the engines of a part of the search, and the reader that feeds them.
+ghost use Rattle.std.specs.Prelude.{◌≡◌, false, true, if◌then◌else◌, nat_le, ◌||◌};
+ghost use Rattle.stream_model.specs.Blocks.{is_end, is_cut};
+
+use crate::bank::Bank;
+use crate::reading::{feed_block, has_next, read_header, retire};
+use dada_hdu::{Hdu, HduEnded, Mark};
+// Laws: they do nothing when they run, and the proofs use what they ensure.
+use stream_model::{ends_are_counted, entries_are_of_transfers};
+
+/// The shard of a search: one engine for each transfer, a reader of both rings, and the space that it reads headers to,
+/// and blocks of data where it has room for one. `turns` counts its turns, up to the greatest u64, and `done` the
+/// engines that ended; it has `ended` where no block comes after those that it cleared.
+#[derive(Drop)]
+pub struct ShardActor {
+    pub part: Bank,
+    pub pass: HduEnded,
+    pub space: Vec<u8>,
+    pub turns: u64,
+    pub done: u32,
+    pub ended: bool,
+}
+
+// How many transfers end with this mark.
+fn ended_with(mark: Mark) -> u32
+    ensures { result ≡ (if is_end mark then 1 else 0) }
+{
+    match mark {
+        Mark::End => 1,
+        Mark::More | Mark::Cut => 0,
+    }
+}
+
+// Whether nothing comes after a block with this mark, where so many of the transfers have ended.
+fn ends_stream(mark: Mark, done: usize, transfers: usize) -> bool
+    ensures { result ≡ (nat_le transfers done || is_cut mark) }
+{
+    match mark {
+        Mark::Cut => true,
+        Mark::More | Mark::End => transfers <= done,
+    }
+}
+
+impl ShardActor {
+    ghost use Rattle.session_readers.specs.Reads.{header_is_next};
+    ghost use Rattle.session_readers.specs.Shards.{shard_cleared, IsRetired, KeepsEngines, ShardOn, ShardMoved, ShardStepped};
+
+    /// Takes one turn. Before the data of each transfer it reads a header and clears it; else it clears a block of data
+    /// and feeds it to the engine of its transfer, which it ends after the last block. Where the space has room for a
+    /// block, it is copied there and cleared before the engine is fed; else the engine is fed where the block lies. A
+    /// read that finds nothing lets other threads run.
+    #[tactic(auto, using(crate::proofs::Moves::shard_turned))]
+    pub fn turn(&mut self, hdu: &Hdu)
+        requires on { ShardOn hdu.now self.old }
+        requires running { self.old.ended ≡ false }
+        ensures on { ShardOn hdu.now self.new }
+        ensures moved { ShardMoved 1 self.old self.new }
+        ensures idle { shard_cleared self.new ≡ shard_cleared self.old
+            → KeepsEngines self.old self.new }
+    {
+        self.turns = self.turns.saturating_add(1);
+        if self.pass.cleared_headers() == u64::from(self.done) {
+            self.take_header(hdu);
+        } else {
+            self.take_block(hdu);
+        }
+    }
+
+    // Reads the header of a transfer, and clears it.
+    fn take_header(&mut self, hdu: &Hdu)
+        requires on { ShardOn hdu.now self.old }
+        requires running { self.old.ended ≡ false }
+        requires next { header_is_next self.old.pass ≡ true }
+        ensures on { ShardOn hdu.now self.new }
+        ensures stepped { ShardStepped self.old self.new }
+    {
+        let HduEnded::Here(reader) = &mut self.pass else {
+            unreachable!()
+        };
+        read_header(hdu, reader, self.space.as_mut_slice());
+    }
+
+    // Clears the next block of data, and feeds it to the engine of its transfer. The engine ends, and so searches what
+    // is left and all folds, once the block is cleared: meanwhile other shards can take it, and the writer its buffer.
+    // No clause asks for the clear before that, nor before the engine is fed.
+    fn take_block(&mut self, hdu: &Hdu)
+        requires on { ShardOn hdu.now self.old }
+        requires running { self.old.ended ≡ false }
+        requires next { header_is_next self.old.pass ≡ false }
+        ensures on { ShardOn hdu.now self.new }
+        ensures stepped { ShardStepped self.old self.new }
+    {
+        ends_are_counted();
+        entries_are_of_transfers();
+        let transfers = self.part.count();
+        let transfer = self.done as usize;
+        let HduEnded::Here(reader) = &mut self.pass else {
+            unreachable!()
+        };
+        let space = self.space.as_mut_slice();
+        let Some(taken) = feed_block(hdu, reader, &mut self.part, transfer, space) else {
+            return;
+        };
+        self.part.end_after(transfer, taken.mark);
+        self.done += ended_with(taken.mark);
+        self.ended = ends_stream(taken.mark, self.done as usize, transfers);
+    }
+
+    /// Whether a turn may read a block at this moment: it has not ended, and a next one lies in either ring. It is a
+    /// hint: no clause speaks of the answer.
+    pub fn could_move(&self, hdu: &Hdu) -> bool
+        requires { ShardOn hdu.now self.now }
+    {
+        !self.ended && has_next(hdu, &self.pass)
+    }
+
+    /// The same shard; once it ended, the writer of the rings no longer waits for it.
+    pub fn retired(self, hdu: &Hdu) -> ShardActor
+        requires { ShardOn hdu.now self }
+        ensures on { ShardOn hdu.now result }
+        ensures moved { ShardMoved 0 self result }
+        ensures retired { result.ended ≡ true → IsRetired result.pass }
+    {
+        if !self.ended {
+            return self;
+        }
+        let ShardActor {
+            part,
+            pass,
+            space,
+            turns,
+            done,
+            ended,
+        } = self;
+        ShardActor {
+            part,
+            pass: retire(hdu, pass),
+            space,
+            turns,
+            done,
+            ended,
+        }
+    }
+}
