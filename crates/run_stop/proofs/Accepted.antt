@@ -29,7 +29,7 @@ use Rattle.run_stop.specs.declared.causes.RecordingCause.{RecordingCause}
 use Rattle.run_stop.specs.declared.causes.RecordingCause.TheVariants.{NoUtc, BadUtc, Overfull, TooManyFiles}
 use Rattle.run_stop.specs.declared.stop.Stop.{Stop}
 use Rattle.run_stop.specs.Firsts.{RefusesTextAt}
-use Rattle.run_stop.specs.Runs.{Task, Says, CanSearchFirst, CanRecordFirst, CanBegin, stream_for, stop_of_walk, RefusesFirstHeader, RefusesSearch, RefusesToRecord, RefusesFirsts, RefusesSearches, RefusesRecordings, StopsWalk, IsPlanCause, IsRecordingCause}
+use Rattle.run_stop.specs.Runs.{Task, Says, CanSearchFirst, CanRecordFirst, CanBegin, stream_for, stop_of_walk, RefusesFirstHeader, RefusesSearch, RefusesToRecord, RefusesFirsts, RefusesSearches, RefusesRecordings, IsPlanCause, IsRecordingCause}
 use Rattle.run_stop.specs.Outcomes.{JudgesWords, ReadsInputs, StopsAtFiles}
 use Rattle.run_stop.specs.Ends.{AcceptedGoesOn, AcceptedIsNotRefused}
 use Rattle.run_stop.proofs.Needs.{told_at, of_file}
@@ -94,7 +94,7 @@ first_accepted w file (Fields fault) walked r =
     (subst (λ (h : HeaderText). observation_of (fields_of h.text) ≡ Ok a.observation) same a.is_observation) r.cause
 
 -- nor is the text of a first file, where it is told
-pub text_accepted : (told : Told) (s : SettingsSeen) (files : List (List ℕ)) (file : ℕ) (fault : HeaderFault) →
+text_accepted : (told : Told) (s : SettingsSeen) (files : List (List ℕ)) (file : ℕ) (fault : HeaderFault) →
     AreToldAt (IsFirstFile s.starts (length s.names)) told s.names files → AreWalked (stream_for s files) →
     RefusesTextAt told s.names s.starts file fault → ⊥
 text_accepted told s files file fault are walked r =
@@ -111,6 +111,16 @@ text_accepted told s files file fault are walked r =
     (of_file told s.names files file (λ bytes. IsHeaderRefusal bytes fault)
     (are.each file below (r.transfer, r.there, r.is)) r.refused)
 
+-- so nothing is refused by first files that are told and accepted
+pub firsts_accepted : (task : Task) (words : List (List ℕ)) (told : Told) (s : SettingsSeen) (files : List (List ℕ))
+    (file : ℕ) (cause : HeaderCause) → Says task words s →
+    AreToldAt (IsFirstFile s.starts (length s.names)) told s.names files → AreWalked (stream_for s files) →
+    RefusesFirsts task words told file cause → ⊥
+firsts_accepted task words told s files file (Text fault) says are walked r =
+    text_accepted told s files file fault are walked (r s says)
+firsts_accepted task words told s files file (Fields fault) says are walked r =
+    first_accepted (stream_for s files) file (Fields fault) walked (r.1 s files says are)
+
 pub searches : (search : Search) (w : FileStream) (cause : PlanCause) → CanSearchFirst search w (length w.starts) →
     RefusesSearch search w cause → ⊥
 searches search w cause can r = no_plan_cause _ cause (can r.transfer r.there) r.refused
@@ -118,10 +128,6 @@ searches search w cause can r = no_plan_cause _ cause (can r.transfer r.there) r
 pub records : (task : Task) (s : SettingsSeen) (w : FileStream) (cause : RecordingCause) →
     (s.recording ≡ true → CanRecordFirst s.file_size w (length w.starts)) → RefusesToRecord task s w cause → ⊥
 records task s w cause can r = no_recording_cause _ cause (can r.records r.transfer r.there) r.refused
-
-walks : (task : Task) (s : SettingsSeen) (w : FileStream) → walk_stop w ≡ walk.Whole → (stop : Stop) →
-    StopsWalk task s w stop → ⊥
-walks task s w whole stop r = no_stop w.max_bytes (walk_stop w) stop whole r.stops
 
 module _ (task : Task) (words : List (List ℕ)) (inputs : InputsSeen) (is_calm : Type 0) (blocks : Option Finished)
     (n : ℕ) (judged : JudgesWords task words n) (read : ReadsInputs task words inputs is_calm n)
@@ -132,18 +138,15 @@ module _ (task : Task) (words : List (List ℕ)) (inputs : InputsSeen) (is_calm 
   abbrev w : FileStream
   w = stream_for s files
 
-  refuses_none : (file : ℕ) (cause : HeaderCause) → RefusesFirsts task words inputs.told file cause → ⊥
-  refuses_none file (Text fault) r =
-      text_accepted inputs.told s files file fault (told_at inputs.told s.names files are) begins.accepted (r s says)
-  refuses_none file (Fields fault) r = first_accepted w file (Fields fault) begins.accepted
-      (r.1 s files says (told_at inputs.told s.names files are))
-
   not_three : (at : Option Finished) → blocks ≡ at → n ≢ 3
-  not_three None is e = let r = stopped.first_header e is in refuses_none r.0 r.1 r.2
+  not_three None is e =
+      let r = stopped.first_header e is in
+      firsts_accepted task words inputs.told s files r.0 r.1 says (told_at inputs.told s.names files are)
+      begins.accepted r.2
   not_three (Some b) is e =
       let r = stopped.later_header e (subst IsSome (sym is) refl) in
       let x = r.1.says s files says (told_at inputs.told s.names files are) in
-      walks task s w whole _ x.0.2
+      no_stop w.max_bytes (walk_stop w) _ whole x.0.2
 
   not_four_by : ((cause : PlanCause) × RefusesSearches task words inputs.told cause)
       ⊎ ((cause : RecordingCause) × RefusesRecordings task words inputs.told cause) → ⊥
@@ -160,7 +163,7 @@ module _ (task : Task) (words : List (List ℕ)) (inputs : InputsSeen) (is_calm 
   not_seven e =
       let r = stopped.gap e in
       let x = r.1.says s files says (told_at inputs.told s.names files are) in
-      walks task s w whole _ x.0.3
+      no_stop w.max_bytes (walk_stop w) _ whole x.0.3
 
   pub at_none : ¬ Contains (2 ∷ 3 ∷ 4 ∷ 6 ∷ 7 ∷ 8 ∷ []) n
   at_none (zero, below, is) = judged.refused (sym is) s says
@@ -170,7 +173,8 @@ module _ (task : Task) (words : List (List ℕ)) (inputs : InputsSeen) (is_calm 
   at_none (suc (suc (suc (suc zero))), below, is) = not_seven (sym is)
   at_none (suc (suc (suc (suc (suc zero)))), below, is) =
       let r = stopped.too_long (sym is) in
-      let x = r.1.says s files says (told_at inputs.told s.names files are) in walks task s w whole _ x.0
+      let x = r.1.says s files says (told_at inputs.told s.names files are) in
+      no_stop w.max_bytes (walk_stop w) _ whole x.0
   at_none (suc (suc (suc (suc (suc (suc k))))), below, is) = omega (arith, below)
 
 pub goes_on : (is_calm : Type 0) → AcceptedGoesOn is_calm
@@ -180,6 +184,8 @@ goes_on is_calm task words inputs blocks n judged read stopped s files says are 
 pub is_not_refused : AcceptedIsNotRefused
 is_not_refused = record {
   header = λ w file cause walked. first_accepted w file cause walked;
+  firsts = λ task words told s files file cause says are walked.
+      firsts_accepted task words told s files file cause says are walked;
   search = λ search w cause can. searches search w cause can;
   recording = λ task s w cause can. records task s w cause can;
 }

@@ -13,7 +13,7 @@ use Rattle.disk_feeder.specs.declared.answers.FeedEnd.{FeedEnd}
 use Rattle.disk_feeder.specs.declared.answers.FeedEnd.TheVariants as feed
 use Rattle.disk_feeder.specs.declared.answers.HeaderCause.{HeaderCause}
 use Rattle.disk_feeder.specs.Ends.{end_of}
-use Rattle.disk_feeder.specs.Feeding.{IsWalkEnd, IsBroken}
+use Rattle.disk_feeder.specs.Feeding.{IsWalkEnd}
 use Rattle.disk_feeder.specs.Reading.{StopsAtFile}
 use Rattle.dada_recorder.specs.declared.answers.RecordEnd.{RecordEnd}
 use Rattle.dada_recorder.specs.declared.answers.RecordEnd.TheVariants as recorder
@@ -21,12 +21,12 @@ use Rattle.run_stop.specs.declared.stop.Stop.{Stop}
 use Rattle.run_stop.specs.declared.stop.Stop.TheVariants.{Header, Gap, TooLong}
 use Rattle.run_stop.specs.Texts.{status_of}
 use Rattle.run_stop.specs.Conversions.{stop_of_feed}
-use Rattle.run_stop.specs.Runs.{Task, Says, ForFiles, ForFirsts, ForFilesTo, CanBegin, StopsWalk, StopsThere, StopsAt, PassesTo, SaysOfFiles, stop_of_walk, stream_for}
-use Rattle.run_stop.specs.Outcomes.{StopsAtFiles, SealsStream, RecordsFiles, MadeAll, MadeFront, files_of_stream, files_of_data}
+use Rattle.run_stop.specs.Runs.{Task, Says, ForFiles, ForFirsts, ForFilesTo, CanBegin, IsWalkStop, StopNames, StopTells, StopsThere, StopsAt, PassesTo, SaysOfFiles, stop_of_walk, stream_for}
+use Rattle.run_stop.specs.Outcomes.{StopsAtFiles, BreaksStream, SealsStream, RecordsFiles, MadeAll, MadeFront, files_of_stream, files_of_data}
 use Rattle.run_stop.specs.Laws.{WholeRunsRecordData}
 use Rattle.run_stop.specs.Ends.{IsRunFed, IsRecorded, IsLate, EndsAt}
 use Rattle.run_stop.proofs.Before.{none_stopped}
-use Rattle.run_stop.proofs.Needs.{told_at, told_less}
+use Rattle.run_stop.proofs.Needs.{told_at}
 
 -- what an option has
 one_list : (a b : Finished) → Some a ≡ Some b → a ≡ b
@@ -34,9 +34,6 @@ one_list a b e = cc
 
 one_stop : (a b : Stop) → Some a ≡ Some b → a ≡ b
 one_stop a b e = cc
-
-one_limit : (a b : ℕ) → Some (TooLong a) ≡ Some (TooLong b) → b ≡ a
-one_limit a b e = cc
 
 -- ---- the walk
 
@@ -153,7 +150,7 @@ module _ (task : Task) (words : List (List ℕ)) (told : Told) (blocks : Finishe
     broken = λ b e is. absurd (six is);
   }
 
-  -- those of a walk that the inputs broke off
+  -- those of a walk that the inputs broke off at some place
   sealed_broken : IsRunFed task words told blocks feed.ReadFault →
       SealsStream task words told (Some blocks) 6
   sealed_broken f = record {
@@ -162,14 +159,12 @@ module _ (task : Task) (words : List (List ℕ)) (told : Told) (blocks : Finishe
     begun = λ some. f.begun;
     passed = λ some late. absurd (apart 6 6 late (lit< tt) (lit< tt) refl);
     sealed = λ b e other. absurd (other refl);
-    broken = λ b e is. subst
-        (λ (x : Finished). ForFiles task words told (λ s w.
-        CanBegin task s w × IsBroken w s.size (sealed_at_end x)))
-        (one_list blocks b e)
-        (λ s files says are. (
-          f.begun.1 s files says (told_at told s.names files are),
-          f.walked s files says (told_at told s.names files are),
-        ));
+    broken = λ b e is. subst (λ (x : Finished). BreaksStream task words told x) (one_list blocks b e) (record {
+      at = f.at;
+      there = f.there (λ bytes same. cc);
+      passed = f.passed;
+      front = f.walked;
+    });
   }
 
   -- at a status of a feeder's stop nothing is said of all data
@@ -185,97 +180,97 @@ module _ (task : Task) (words : List (List ℕ)) (told : Told) (blocks : Finishe
 
   -- ---- where the feeder was stopped
 
-  -- the walk stops so at some file, and what was sealed is its stream
-  abbrev StopsSo : Stop → Type 0
-  StopsSo stop = (file : ℕ) × StopsThere file task words told (λ s w.
-      StopsWalk task s w stop × (sealed_at_end blocks ≡ walk_stream s.size w))
+  -- the walk stops so at this file, and what was sealed is its stream
+  abbrev StopsSo : Stop → ℕ → Type 0
+  StopsSo stop file = StopsThere file task words told (λ s w.
+      IsWalkStop w stop × (sealed_at_end blocks ≡ walk_stream s.size w))
 
   stops : (end : FeedEnd) (stop : Stop) (f : IsRunFed task words told blocks end) →
+      ((bytes : ℕ) → end ≢ feed.Whole bytes) →
       ForFilesTo (f.at.file + 1) task words told (λ s w. IsWalkEnd w s.size (sealed_at_end blocks) end) →
       ForFilesTo (f.at.file + 1) task words told (λ s w. StopsAtFile (walk_stop w) f.at.file) →
-      stop_of_feed end ≡ Some stop → StopsSo stop
-  stops end stop f walked at is = (
-    f.at.file,
-    record {
-      headers = f.begun.0;
-      passed = f.passed;
-      stops = at;
-      says = λ s files says are. (
-        record {
-          begins = f.begun.1 s files says (told_less told s.names files (λ k first. inr first) are);
-          stops = walk_stopped (stream_for s files) s.size (sealed_at_end blocks) end (Some stop)
-              (walked s files says are) is;
-        },
-        (walked s files says are).stream,
-      );
-    },
-  )
+      stop_of_feed end ≡ Some stop → StopsSo stop f.at.file
+  stops end stop f early walked at is = record {
+    begun = f.begun;
+    there = f.there early;
+    passed = f.passed;
+    stops = at;
+    says = λ s files says are. (
+      walk_stopped (stream_for s files) s.size (sealed_at_end blocks) end (Some stop) (walked s files says are) is,
+      (walked s files says are).stream,
+    );
+  }
 
   -- what follows of the files there
   there : (P Q : SettingsSeen → FileStream → Type 0) →
       ((s : SettingsSeen) (files : List (List ℕ)) → P s (stream_for s files) → Q s (stream_for s files)) → (file : ℕ) →
       StopsThere file task words told P → StopsThere file task words told Q
   there P Q more file at = record {
-    headers = at.headers;
+    begun = at.begun;
+    there = at.there;
     passed = at.passed;
     stops = at.stops;
     says = λ s files says are. more s files (at.says s files says are);
   }
 
   -- so a stop says of the files
-  stops_at : (stop : Stop) → StopsSo stop → StopsAt task words told stop
-  stops_at stop so = (so.0, there _ _ (λ s files x. x.0) so.0 so.1)
+  stops_at : (stop : Stop) (file : ℕ) → StopNames stop file →
+      ((s : SettingsSeen) → Says task words s → StopTells stop s.max_bytes) → StopsSo stop file →
+      StopsAt task words told stop
+  stops_at stop file names tells so = record {
+    file = file;
+    names = names;
+    tells = tells;
+    stops = there _ _ (λ s files x. x.0) file so;
+  }
 
   -- and of the blocks
   sealed_is : (s : SettingsSeen) (w : FileStream) → sealed_at_end blocks ≡ walk_stream s.size w → (b : Finished) →
       Some blocks ≡ Some b → sealed_at_end b ≡ walk_stream s.size w
   sealed_is s w is b e = subst (λ (x : Finished). sealed_at_end x ≡ walk_stream s.size w) (one_list blocks b e) is
 
-  header_stopped : (k : ℕ) (cause : HeaderCause) → StopsSo (Header k cause) →
+  header_stopped : (k : ℕ) (cause : HeaderCause) (file : ℕ) → StopsSo (Header k cause) file →
       StopsAtFiles task words told (Some blocks) 3
-  header_stopped k cause so = record {
+  header_stopped k cause file so = record {
     first_header = λ e none. absurd cc;
     later_header = λ e some.
-        (so.0, there _ _ (λ s files x. ((k, cause, x.0), sealed_is s (stream_for s files) x.1)) so.0 so.1);
+        (file, there _ _ (λ s files x. ((k, cause, x.0), sealed_is s (stream_for s files) x.1)) file so);
     plan = λ e. absurd (omega (arith, e));
     gap = λ e. absurd (omega (arith, e));
     too_long = λ e. absurd (omega (arith, e));
   }
 
-  gap_stopped : (k expected found : ℕ) → StopsSo (Gap k expected found) →
+  gap_stopped : (k expected found file : ℕ) → StopsSo (Gap k expected found) file →
       StopsAtFiles task words told (Some blocks) 7
-  gap_stopped k expected found so = record {
+  gap_stopped k expected found file so = record {
     first_header = λ e. absurd (omega (arith, e));
     later_header = λ e. absurd (omega (arith, e));
     plan = λ e. absurd (omega (arith, e));
     gap = λ e.
-        (so.0, there _ _ (λ s files x. ((k, expected, found, x.0), sealed_is s (stream_for s files) x.1)) so.0 so.1);
+        (file, there _ _ (λ s files x. ((k, expected, found, x.0), sealed_is s (stream_for s files) x.1)) file so);
     too_long = λ e. absurd (omega (arith, e));
   }
 
-  -- the limit that a walk's stop tells is that of the settings
-  limit_is : (limit max_bytes : ℕ) (stop : WalkStop) →
-      stop_of_walk max_bytes stop ≡ Some (TooLong limit) → limit ≡ max_bytes
-  limit_is limit max_bytes walk.Whole is = absurd cc
-  limit_is limit max_bytes (walk.BadText file refusal) is = absurd cc
-  limit_is limit max_bytes (walk.BadFields file fault) is = absurd cc
-  limit_is limit max_bytes (walk.Gap file expected found) is = absurd cc
-  limit_is limit max_bytes (walk.TooLong file) is = one_limit max_bytes limit is
-
-  long_stopped : (limit : ℕ) → StopsSo (TooLong limit) →
-      StopsAtFiles task words told (Some blocks) 8
-  long_stopped limit so = record {
+  -- the limit is that of the settings
+  long_stopped : (limit file : ℕ) → ((s : SettingsSeen) → Says task words s → limit ≡ s.max_bytes) →
+      StopsSo (TooLong limit) file → StopsAtFiles task words told (Some blocks) 8
+  long_stopped limit file tells so = record {
     first_header = λ e. absurd (omega (arith, e));
     later_header = λ e. absurd (omega (arith, e));
     plan = λ e. absurd (omega (arith, e));
     gap = λ e. absurd (omega (arith, e));
     too_long = λ e. (
-      so.0,
-      there _ _ (λ s files x.
-          let w = stream_for s files in (
-            subst (λ n. StopsWalk task s w (TooLong n)) (limit_is limit s.max_bytes (walk_stop w) x.0.stops) x.0,
-            sealed_is s w x.1,
-          )) so.0 so.1,
+      file,
+      record {
+        begun = so.begun;
+        there = so.there;
+        passed = so.passed;
+        stops = so.stops;
+        says = λ s files says are.
+            let w = stream_for s files in
+            let x = so.says s files says are in
+            (subst (λ n. IsWalkStop w (TooLong n)) (tells s says) x.0, sealed_is s w x.1);
+      },
     );
   }
 
@@ -296,43 +291,44 @@ module _ (task : Task) (words : List (List ℕ)) (told : Told) (blocks : Finishe
         tt,
       )
   ends_stopped (feed.BadHeader file cause) stop f r is =
-      let so = stops (feed.BadHeader file cause) (Header file cause) f f.walked f.stops refl in
+      let so = stops (feed.BadHeader file cause) (Header file cause) f (λ bytes e. cc) f.walked f.stops refl in
       subst (λ (x : Stop). EndsAt task words told (Some blocks) before after (status_of x)
       × SaysOfFiles task words told x) (one_stop _ stop is) (
         record {
-          stopped = header_stopped file cause so;
+          stopped = header_stopped file cause f.at.file so;
           sealed = sealed_at 3 (1, lit< tt, refl) (feed.BadHeader file cause) f
               (λ e. omega (arith, e)) (λ late. absurd (apart 3 3 late (lit< tt) (lit< tt) refl))
               (all_told f.at.file (feed.BadHeader file cause) f.walked);
           recorded = recorded_stopped 3 (λ e. omega (arith, e)) (λ e. omega (arith, e)) r;
         },
-        inr (stops_at (Header file cause) so),
+        inr (stops_at (Header file cause) f.at.file f.names (λ s says. tt) so),
       )
   ends_stopped (feed.Gap file expected found) stop f r is =
-      let so = stops (feed.Gap file expected found) (Gap file expected found) f f.walked f.stops refl in
+      let so = stops (feed.Gap file expected found) (Gap file expected found) f (λ bytes e. cc) f.walked f.stops refl
+      in
       subst (λ (x : Stop). EndsAt task words told (Some blocks) before after (status_of x)
       × SaysOfFiles task words told x) (one_stop _ stop is) (
         record {
-          stopped = gap_stopped file expected found so;
+          stopped = gap_stopped file expected found f.at.file so;
           sealed = sealed_at 7 (3, lit< tt, refl) (feed.Gap file expected found) f
               (λ e. omega (arith, e)) (λ late. absurd (apart 7 7 late (lit< tt) (lit< tt) refl))
               (all_told f.at.file (feed.Gap file expected found) f.walked);
           recorded = recorded_stopped 7 (λ e. omega (arith, e)) (λ e. omega (arith, e)) r;
         },
-        stops_at (Gap file expected found) so,
+        stops_at (Gap file expected found) f.at.file f.names (λ s says. tt) so,
       )
   ends_stopped (feed.TooLong limit) stop f r is =
-      let so = stops (feed.TooLong limit) (TooLong limit) f f.walked f.stops refl in
+      let so = stops (feed.TooLong limit) (TooLong limit) f (λ bytes e. cc) f.walked f.stops refl in
       subst (λ (x : Stop). EndsAt task words told (Some blocks) before after (status_of x)
       × SaysOfFiles task words told x) (one_stop _ stop is) (
         record {
-          stopped = long_stopped limit so;
+          stopped = long_stopped limit f.at.file (f.limit limit refl) so;
           sealed = sealed_at 8 (4, lit< tt, refl) (feed.TooLong limit) f (λ e. omega (arith, e))
               (λ late. absurd (apart 8 8 late (lit< tt) (lit< tt) refl))
               (all_told f.at.file (feed.TooLong limit) f.walked);
           recorded = recorded_stopped 8 (λ e. omega (arith, e)) (λ e. omega (arith, e)) r;
         },
-        stops_at (TooLong limit) so,
+        stops_at (TooLong limit) f.at.file tt (f.limit limit refl) so,
       )
 
   -- ---- where all data were sealed

@@ -1,35 +1,54 @@
 -- What stands against a run is what it ends at, whatever comes after it.
 use Rattle.std.proofs.Common.{◌≡◌, ◌≢◌, ◌⊎◌, ℕ, zero, suc, ◌+◌, ◌-◌, ◌<◌, ◌≤◌, List, [], ◌∷◌, refl, inl, inr, sym, ap, ◌∙◌, subst, Option, Some, None, Contains, lit<, arith}
-use Rattle.std.specs.Prelude.{IsSome, length, slice_index_or}
+use Rattle.std.specs.Prelude.{IsSome, length, drop, slice_index_or}
 use Rattle.std.proofs.lemmas.Bool.{cases_lt}
 use Rattle.psr_base.specs.Count.{Rose}
 use Rattle.psr_base.specs.Told.{Told, InputsSeen, OfFile}
 use Rattle.dada_header.specs.declared.faults.HeaderFault.{HeaderFault}
 use Rattle.dada_header.specs.Faults.{IsHeaderRefusal}
 use Rattle.ring_ends.specs.declared.finished.Finished.{Finished}
-use Rattle.search_words.specs.Settings.{SettingsSeen}
+use Rattle.search_words.specs.Settings.{SettingsSeen, SaidIsInRange}
+use Rattle.search_words.specs.Transfers.{AreTransferStarts}
 use Rattle.stream_model.specs.Walk.{FileStream, walk_stop}
-use Rattle.stream_model.specs.WalkLaws.{AreStarts, AreWalked, FirstStopCounts, NoStopIsWhole}
+use Rattle.stream_model.specs.WalkLaws.{AreStarts, IsAccepted, AreWalked, FirstStopCounts, NoStopIsWhole}
 use Rattle.disk_feeder.specs.declared.answers.HeaderCause.{HeaderCause}
 use Rattle.disk_feeder.specs.declared.answers.HeaderCause.TheVariants.{Text, Fields}
 use Rattle.disk_feeder.specs.History.{file_name}
-use Rattle.disk_feeder.specs.Plan.{AreToldAt, IsAmong, IsFirstFile, IsFirstBefore}
+use Rattle.disk_feeder.specs.Plan.{AreToldAt, IsFirstFile, IsFirstBefore}
 use Rattle.disk_feeder.specs.Reading.{StopsAtFile}
 use Rattle.run_stop.specs.declared.causes.PlanCause.{PlanCause}
 use Rattle.run_stop.specs.declared.causes.RecordingCause.{RecordingCause}
 use Rattle.run_stop.specs.declared.stop.Stop.{Stop}
 use Rattle.run_stop.specs.declared.stop.Stop.TheVariants.{Words, Value, Header, Plan, Recording, Memory, ReadFault, Gap, TooLong, TooMany, SinkFault, FileFault}
 use Rattle.run_stop.specs.Texts.{status_of}
-use Rattle.run_stop.specs.Firsts.{first_at, HasHeader, HaveHeaders, BreaksFirstAt, RefusesFirstText}
-use Rattle.run_stop.specs.Runs.{Task, Says, stream_for, CanBegin, PassesTo, RefusesFirsts, RefusesSearches, RefusesRecordings, StopsWalk}
+use Rattle.run_stop.specs.Firsts.{first_at, HasHeader, EachFirst, HaveHeaders, BreaksFirstAt, RefusesFirstText}
+use Rattle.run_stop.specs.Runs.{Task, Searching, RecordingAlone, Alone, Says, stream_for, CanBegin, PassesTo, RefusesSearches, RefusesRecordings, IsWalkStop}
 use Rattle.run_stop.specs.Outcomes.{JudgesWords, ReadsInputs, StopsAtFiles, SealsStream, StopsSealed, LeavesAtFault, BreaksFirsts, BreaksWalk}
-use Rattle.run_stop.specs.Ends.{EndsSo, RefusesByFirsts, TextsAreAnswered, FirstsAreAnswered, StopsAreAnswered}
+use Rattle.run_stop.specs.Ends.{EndsSo, HasBegun, RefusesByFirsts, TextsAreAnswered, FirstsAreAnswered, StopsAreAnswered}
 use Rattle.run_stop.proofs.Needs.{told_less, of_file}
-use Rattle.run_stop.proofs.Accepted.{has_header, first_accepted, text_accepted, searches, records}
+use Rattle.run_stop.proofs.Accepted.{has_header, first_accepted, firsts_accepted, searches, records}
 use Rattle.run_stop.proofs.Passing.{is_first}
 
 one_stop : (a b : Stop) (o : Option Stop) → o ≡ Some a → o ≡ Some b → a ≡ b
 one_stop a b o x y = cc
+
+-- words say how files are parted into transfers
+transfer_starts : (starts : List ℕ) (count : ℕ) → AreTransferStarts starts count → AreStarts starts count
+transfer_starts starts count are = record {
+  some = are.some;
+  first = are.first;
+  rise = are.rise;
+  within = are.within;
+}
+
+said_starts : SaidIsInRange → (task : Task) (words : List (List ℕ)) (s : SettingsSeen) → Says task words s →
+    AreStarts s.starts (length s.names)
+said_starts law Searching words s says =
+    transfer_starts s.starts (length s.names) (law.search words s says).transfers
+said_starts law RecordingAlone words s says =
+    transfer_starts s.starts (length s.names) (law.recording words s says).transfers
+said_starts law (Alone lone) words s says =
+    transfer_starts s.starts (length s.names) (law.search (drop lone.before words) s says.search.says).transfers
 
 -- transfers begin in order
 rises : (xs : List ℕ) (count : ℕ) → AreStarts xs count → (d i j : ℕ) → i + d ≡ j → j < length xs →
@@ -128,10 +147,15 @@ module _ (task : Task) (words : List (List ℕ)) (inputs : InputsSeen) (is_calm 
         has_header (slice_index_or files file []) h.0 fault h.1
         (subst (λ k. IsHeaderRefusal (slice_index_or files k []) fault) (sym refused.is) refused.cause)
 
+    -- nor are all accepted that are told
+    not_accepted : EachFirst inputs.told s.names s.starts (length s.starts) IsAccepted → ⊥
+    not_accepted accepted = no_header (length s.starts)
+        (λ k below bytes is. let a = accepted k below bytes is in (a.header, a.is_header)) refused.there
+
     no_text_plan : ((cause : PlanCause) × RefusesSearches task words inputs.told cause)
         ⊎ ((cause : RecordingCause) × RefusesRecordings task words inputs.told cause) → ⊥
-    no_text_plan (inl r) = no_header (length s.starts) (r.1.1.0 s says) refused.there
-    no_text_plan (inr r) = no_header (length s.starts) (r.1.0 s says) refused.there
+    no_text_plan (inl r) = not_accepted (r.1.1.0 s says).accepted
+    no_text_plan (inr r) = not_accepted (r.1.0 s says).accepted
 
     -- the first files up to it are told
     no_text_fault : is_calm → BreaksFirsts task words is_calm inputs.told after → ⊥
@@ -150,7 +174,7 @@ module _ (task : Task) (words : List (List ℕ)) (inputs : InputsSeen) (is_calm 
 
     pub text_answered : EndsSo (Header file (Text fault)) n
     text_answered = ends_before 3
-        (λ some. no_header (length s.starts) ((sealed.begun some).0 s says) refused.there) (λ none e. e)
+        (λ some. not_accepted ((sealed.begun some).0 s says).accepted) (λ none e. e)
         (λ e. absurd (no_text_plan (stopped.plan e))) no_text_fault
 
   -- ---- by all first files
@@ -166,11 +190,9 @@ module _ (task : Task) (words : List (List ℕ)) (inputs : InputsSeen) (is_calm 
 
     -- where they are accepted, none is refused
     none_refused : AreWalked w → blocks ≡ None → n ≢ 3
-    none_refused walked none e = let r = stopped.first_header e none in by_cause r.0 r.1 r.2
-      where
-        by_cause : (k : ℕ) (cause : HeaderCause) → RefusesFirsts task words inputs.told k cause → ⊥
-        by_cause k (Text fault) r = text_accepted inputs.told s files k fault are walked (r s says)
-        by_cause k (Fields fault) r = first_accepted w k (Fields fault) walked (r.1 s files says are)
+    none_refused walked none e =
+        let r = stopped.first_header e none in
+        firsts_accepted task words inputs.told s files r.0 r.1 says are walked r.2
 
     -- what refuses a search or a recording accepts them
     are_walked : ((cause : PlanCause) × RefusesSearches task words inputs.told cause)
@@ -239,24 +261,19 @@ module _ (task : Task) (words : List (List ℕ)) (inputs : InputsSeen) (is_calm 
   -- ---- at a stop of the walk
 
   module _ (counts : FirstStopCounts) (no_stop : NoStopIsWhole) (file : ℕ) (stop : Stop)
-      (are : AreToldAt (IsAmong (file + 1) s.starts (length s.names)) inputs.told s.names files)
-      (stops : StopsWalk task s (stream_for s files) stop)
+      (are : AreToldAt (λ k. k < file + 1) inputs.told s.names files)
+      (begun : HasBegun task inputs.told blocks s files) (stops : IsWalkStop (stream_for s files) stop)
       (at : StopsAtFile (walk_stop (stream_for s files)) file) where
-    firsts : AreToldAt (IsFirstFile s.starts (length s.names)) inputs.told s.names files
-    firsts = told_less inputs.told s.names files (λ k first. inr first) are
-
-    begins_within : (k : ℕ) → k < length s.starts → first_at s.names s.starts k < length s.names
-    begins_within k there =
-        subst (λ count. slice_index_or s.starts k count < count) are.count (stops.begins.accepted.starts.within k there)
+    begins_within : CanBegin task s w → (k : ℕ) → k < length s.starts → first_at s.names s.starts k < length s.names
+    begins_within begins k there =
+        subst (λ count. slice_index_or s.starts k count < count) are.count (begins.accepted.starts.within k there)
 
     -- those up to a file that comes no later are told
-    up_to : (end : ℕ) → end ≤ file → AreToldAt (IsAmong (end + 1) s.starts (length s.names)) inputs.told s.names files
+    up_to : (end : ℕ) → end ≤ file → AreToldAt (λ k. k < end + 1) inputs.told s.names files
     up_to end sooner = told_less inputs.told s.names files among are
       where
-        among : (k : ℕ) → IsAmong (end + 1) s.starts (length s.names) k →
-            IsAmong (file + 1) s.starts (length s.names) k
-        among k (inl below) = inl (omega (arith, below, sooner))
-        among k (inr first) = inr first
+        among : (k : ℕ) → k < end + 1 → k < file + 1
+        among k below = omega (arith, below, sooner)
 
     -- the run doesn't come past the file
     not_past : (end : ℕ) → PassesTo end task words inputs.told → file < end → ⊥
@@ -273,18 +290,18 @@ module _ (task : Task) (words : List (List ℕ)) (inputs : InputsSeen) (is_calm 
         by_order (inr sooner) = (there.says s files says (up_to end sooner)).0
 
     -- which is this stop
-    is_stop : (other : Stop) → StopsWalk task s w other → status_of other ≡ status_of stop
-    is_stop other r = ap status_of (one_stop other stop _ r.stops stops.stops)
+    is_stop : (other : Stop) → IsWalkStop w other → status_of other ≡ status_of stop
+    is_stop other r = ap status_of (one_stop other stop _ r stops)
 
     -- what each status says of it
     abbrev AtHeader : SettingsSeen → FileStream → Type 0
-    AtHeader t v = (k : ℕ) × (cause : HeaderCause) × StopsWalk task t v (Header k cause)
+    AtHeader t v = (k : ℕ) × (cause : HeaderCause) × IsWalkStop v (Header k cause)
 
     abbrev AtGap : SettingsSeen → FileStream → Type 0
-    AtGap t v = (k : ℕ) × (expected : ℕ) × (found : ℕ) × StopsWalk task t v (Gap k expected found)
+    AtGap t v = (k : ℕ) × (expected : ℕ) × (found : ℕ) × IsWalkStop v (Gap k expected found)
 
     abbrev AtLimit : SettingsSeen → FileStream → Type 0
-    AtLimit t v = StopsWalk task t v (TooLong t.max_bytes)
+    AtLimit t v = IsWalkStop v (TooLong t.max_bytes)
 
     three : IsSome blocks → n ≡ 3 → n ≡ status_of stop
     three some e =
@@ -304,7 +321,7 @@ module _ (task : Task) (words : List (List ℕ)) (inputs : InputsSeen) (is_calm 
         by_order (inl past) = not_past r.at.file r.passed past
         by_order (inr sooner) =
             let m = r.missing is s says in
-            m.1 (subst IsSome (sym (are.each r.at.file m.0 (inl (omega (arith, sooner))))) refl)
+            m.1 (subst IsSome (sym (are.each r.at.file m.0 (omega (arith, sooner)))) refl)
 
     -- all data are not sealed
     not_late : IsSome blocks → Contains (0 ∷ 9 ∷ 10 ∷ 11 ∷ []) n → ⊥
@@ -314,31 +331,35 @@ module _ (task : Task) (words : List (List ℕ)) (inputs : InputsSeen) (is_calm 
     pub stop_answered : EndsSo stop n
     stop_answered = by_blocks blocks refl
       where
+        before_session : blocks ≡ None → HasBegun task inputs.told blocks s files → EndsSo stop n
+        before_session is (inl some) = let none = subst IsSome is some in absurd cc
+        before_session is (inr (firsts, begins)) = ends_early (status_of stop) is
+            (λ e. absurd (none_refused (begins_within begins) firsts begins.accepted is e))
+            (λ e. absurd (no_plan (begins_within begins) firsts begins (stopped.plan e)))
+            (no_first_fault (begins_within begins) firsts)
+
         by_blocks : (found : Option Finished) → blocks ≡ found → EndsSo stop n
-        by_blocks None is = ends_early (status_of stop) is
-            (λ e. absurd (none_refused begins_within firsts stops.begins.accepted is e))
-            (λ e. absurd (no_plan begins_within firsts stops.begins (stopped.plan e)))
-            (no_first_fault begins_within firsts)
+        by_blocks None is = before_session is begun
         by_blocks (Some b) is =
             let some : IsSome blocks = subst IsSome (sym is) refl in
             after_it (status_of stop) (sealed.some some) (three some) (not_six (λ still left. no_place b still
             (subst (λ (x : Option Finished). LeavesAtFault task words is_calm inputs.told after x) is left))) seven
             eight (not_late some)
 
-pub texts_answered : (is_calm : Type 0) → TextsAreAnswered is_calm
-texts_answered is_calm task words inputs after blocks n judged read stopped sealed leaves calm s files file fault says
-    starts are refused =
+pub texts_answered : SaidIsInRange → (is_calm : Type 0) → TextsAreAnswered is_calm
+texts_answered law is_calm task words inputs after blocks n judged read stopped sealed leaves calm s files file fault
+    says are refused =
     text_answered task words inputs is_calm after blocks n judged read stopped sealed leaves calm s says files file
-    fault starts are refused
+    fault (said_starts law task words s says) are refused
 
-pub firsts_answered : (is_calm : Type 0) → FirstsAreAnswered is_calm
-firsts_answered is_calm task words inputs after blocks n judged read stopped sealed leaves calm s files stop says starts
-    are refused =
+pub firsts_answered : SaidIsInRange → (is_calm : Type 0) → FirstsAreAnswered is_calm
+firsts_answered law is_calm task words inputs after blocks n judged read stopped sealed leaves calm s files stop says are
+    refused =
     first_answered task words inputs is_calm after blocks n judged read stopped sealed leaves calm s says files
-    starts.within are stop refused
+    (said_starts law task words s says).within are stop refused
 
 pub stops_answered : FirstStopCounts → NoStopIsWhole → (is_calm : Type 0) → StopsAreAnswered is_calm
 stops_answered counts no_stop is_calm task words inputs after blocks n judged read stopped sealed leaves calm s files
-    file stop says are stops at =
+    file stop says are begun stops at =
     stop_answered task words inputs is_calm after blocks n judged read stopped sealed leaves calm s says files counts
-    no_stop file stop are stops at
+    no_stop file stop are begun stops at

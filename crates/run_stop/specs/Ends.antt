@@ -1,6 +1,6 @@
 -- How a run of either program ends, before its session or after it, and what its exit status then says.
 -- Source: this project's choice.
-use Rattle.std.specs.Prelude.{◌≡◌, ◌≢◌, ℕ, ◌+◌, ◌≤◌, ◌⊎◌, ⊤, true, false, List, [], ◌∷◌, length, Option, Some, None, Contains}
+use Rattle.std.specs.Prelude.{◌≡◌, ◌≢◌, ℕ, ◌+◌, ◌<◌, ◌≤◌, ◌⊎◌, ⊤, true, false, List, [], ◌∷◌, length, Option, Some, None, IsSome, Contains}
 use Rattle.psr_base.specs.Count.{Rose}
 use Rattle.psr_base.specs.Told.{Told, InputsSeen}
 use Rattle.psr_base.specs.Made.{FilesSeen}
@@ -10,16 +10,17 @@ use Rattle.search_model.specs.declared.search.Search.{Search}
 use Rattle.search_words.specs.Settings.{SettingsSeen}
 use Rattle.stream_model.specs.Walk as walk
 use Rattle.stream_model.specs.Walk.{FileStream, walk_stop}
-use Rattle.stream_model.specs.WalkLaws.{AreStarts, AreWalked}
+use Rattle.stream_model.specs.WalkLaws.{AreWalked}
 use Rattle.disk_feeder.specs.declared.answers.FeedEnd.{FeedEnd}
 use Rattle.disk_feeder.specs.declared.answers.FeedEnd.TheVariants as feeder
 use Rattle.disk_feeder.specs.declared.answers.HeaderCause.{HeaderCause}
 use Rattle.disk_feeder.specs.declared.answers.HeaderCause.TheVariants.{Text, Fields}
 use Rattle.dada_header.specs.declared.faults.HeaderFault.{HeaderFault}
 use Rattle.disk_feeder.specs.declared.place.Place.{Place}
+use Rattle.disk_feeder.specs.Ends.{NamesPlace}
 use Rattle.disk_feeder.specs.Feeding.{EndIs, StopsWalkAt}
 use Rattle.disk_feeder.specs.Filling.{HoldsAll}
-use Rattle.disk_feeder.specs.Plan.{AreTold, AreToldAt, IsFirstFile, IsFirstBefore, IsAmong}
+use Rattle.disk_feeder.specs.Plan.{AreTold, AreToldAt, IsFirstFile, IsFirstBefore}
 use Rattle.disk_feeder.specs.Reading.{StopsAtFile, judged_at}
 use Rattle.dada_recorder.specs.declared.answers.RecordEnd.{RecordEnd}
 use Rattle.dada_recorder.specs.declared.answers.RecordEnd.TheVariants as recorder
@@ -31,7 +32,7 @@ use Rattle.run_stop.specs.Texts.{status_of}
 use Rattle.run_stop.specs.Firsts.{RefusesFirstText, RefusesFirstFields}
 use Rattle.search_words.specs.declared.fault.WordFault.{WordFault}
 use Rattle.run_stop.specs.Conversions.{stop_of_words, stop_of_feed}
-use Rattle.run_stop.specs.Runs.{Task, is_search, Says, ForFiles, ForFirsts, ForFilesTo, JudgesFirsts, PassesTo, stream_for, CanSearchFirst, CanRecordFirst, CanBegin, RefusesFirstHeader, RefusesSearch, RefusesToRecord, RefusesFirsts, RefusesSearches, RefusesRecordings, StopsWalk, SaysOfFiles, IsStopOfWords, Explains}
+use Rattle.run_stop.specs.Runs.{Task, is_search, Says, ForFiles, ForFirsts, ForFilesTo, BeginsByFirsts, PassesTo, stream_for, CanSearchFirst, CanRecordFirst, CanBegin, RefusesFirstHeader, RefusesSearch, RefusesToRecord, RefusesFirsts, RefusesSearches, RefusesRecordings, IsWalkStop, SaysOfFiles, IsStopOfWords, Explains}
 use Rattle.run_stop.specs.Outcomes.{JudgesWords, ReadsInputs, LeavesAtFault, StopsAtFiles, SealsStream, RecordsFiles, MadeAll, MadeFront, files_of_stream}
 
 -- the status of a run that came to a stop, or to none
@@ -135,14 +136,20 @@ EndBeforeSession is_calm = (task : Task) (words : List (List ℕ)) (s : Settings
 
 -- ---- after it
 
--- a session went through: nothing stood against it, and its feeder ended so at some place
+-- A session went through: nothing stood against it, and its feeder ended so at some place. Where it sealed all data
+-- that is past all files; else the file of the place is there, and the only one that the end names.
 pub record IsRunFed
     (task : Task) (words : List (List ℕ)) (told : Told) (blocks : Finished) (feed : FeedEnd)
     : Type 0 where
-  pub begun : JudgesFirsts task words told (λ s w. CanBegin task s w)
+  pub begun : BeginsByFirsts task words told
   pub at : Place
   pub last : (bytes : ℕ) → feed ≡ feeder.Whole bytes → (s : SettingsSeen) → Says task words s →
       at.file ≡ length s.names
+  pub there : ((bytes : ℕ) → feed ≢ feeder.Whole bytes) → (s : SettingsSeen) →
+      Says task words s → at.file < length s.names
+  pub names : NamesPlace feed at.file
+  pub limit : (limit : ℕ) → feed ≡ feeder.TooLong limit → (s : SettingsSeen) →
+      Says task words s → limit ≡ s.max_bytes
   pub passed : PassesTo at.file task words told
   pub walked : ForFilesTo (judged_at feed at) task words told (λ s w.
       EndIs w s.size (sealed_at_end blocks) feed)
@@ -212,10 +219,15 @@ AcceptedGoesOn is_calm = (task : Task) (words : List (List ℕ)) (inputs : Input
     is_calm ⊎ ¬ Rose inputs.faults_before inputs.faults_after →
     ¬ Contains (2 ∷ 3 ∷ 4 ∷ 6 ∷ 7 ∷ 8 ∷ []) status
 
--- a first header that is accepted is not refused, nor is a search or a recording that fits
+-- a first header that is accepted is not refused, as a walk sees it and where all first files are told, nor is a search
+-- or a recording that fits
 pub record AcceptedIsNotRefused : Type 0 where
   pub header : (w : FileStream) (file : ℕ) (cause : HeaderCause) → AreWalked w →
       ¬ RefusesFirstHeader w file cause
+  pub firsts : (task : Task) (words : List (List ℕ)) (told : Told) (s : SettingsSeen)
+      (files : List (List ℕ)) (file : ℕ) (cause : HeaderCause) → Says task words s →
+      AreToldAt (IsFirstFile s.starts (length s.names)) told s.names files →
+      AreWalked (stream_for s files) → ¬ RefusesFirsts task words told file cause
   pub search : (search : Search) (w : FileStream) (cause : PlanCause) →
       CanSearchFirst search w (length w.starts) → ¬ RefusesSearch search w cause
   pub recording : (task : Task) (s : SettingsSeen) (w : FileStream) (cause : RecordingCause) →
@@ -226,14 +238,16 @@ pub record AcceptedIsNotRefused : Type 0 where
 
 -- Q holds of each run of which this is known, over inputs that are calm or count no fault: what its exit status says of
 -- words, inputs, files and data ring, and what a fault of the inputs leaves
-abbrev pub ForRuns : Type 0 → (Task → List (List ℕ) → Told → ℕ → Type 0) → Type 0
+abbrev pub ForRuns
+    : Type 0 → (Task → List (List ℕ) → Told → Option Finished → ℕ → Type 0) → Type 0
 ForRuns is_calm Q = (task : Task) (words : List (List ℕ)) (inputs : InputsSeen) (after : Told)
     (blocks : Option Finished) (status : ℕ) → JudgesWords task words status →
     ReadsInputs task words inputs is_calm status →
     StopsAtFiles task words inputs.told blocks status →
     SealsStream task words inputs.told blocks status →
     (status ≡ 6 → LeavesAtFault task words is_calm inputs.told after blocks) →
-    is_calm ⊎ ¬ Rose inputs.faults_before inputs.faults_after → Q task words inputs.told status
+    is_calm ⊎ ¬ Rose inputs.faults_before inputs.faults_after →
+    Q task words inputs.told blocks status
 
 -- it ends with the status of this stop, or for want of memory
 abbrev pub EndsSo : Stop → ℕ → Type 0
@@ -241,9 +255,8 @@ EndsSo stop status = Contains (status_of stop ∷ 5 ∷ []) status
 
 -- a first file has no header, and those of the transfers before it have: it ends so, by these alone
 abbrev pub TextsAreAnswered : Type 0 → Type 0
-TextsAreAnswered is_calm = ForRuns is_calm (λ task words told status. (s : SettingsSeen)
+TextsAreAnswered is_calm = ForRuns is_calm (λ task words told blocks status. (s : SettingsSeen)
     (files : List (List ℕ)) (file : ℕ) (fault : HeaderFault) → Says task words s →
-    AreStarts s.starts (length s.names) →
     AreToldAt (IsFirstBefore (file + 1) s.starts (length s.names)) told s.names files →
     RefusesFirstText (stream_for s files) file fault → EndsSo (Header file (Text fault)) status)
 
@@ -256,16 +269,21 @@ RefusesByFirsts task s w _ = ⊥
 
 -- a first header says no observation, or a search or a recording is refused: it ends so, by the first files alone
 abbrev pub FirstsAreAnswered : Type 0 → Type 0
-FirstsAreAnswered is_calm = ForRuns is_calm (λ task words told status. (s : SettingsSeen)
+FirstsAreAnswered is_calm = ForRuns is_calm (λ task words told blocks status. (s : SettingsSeen)
     (files : List (List ℕ)) (stop : Stop) → Says task words s →
-    AreStarts s.starts (length s.names) →
     AreToldAt (IsFirstFile s.starts (length s.names)) told s.names files →
     RefusesByFirsts task s (stream_for s files) stop → EndsSo stop status)
 
--- the walk of some files stops at one of them: it ends so, by the files up to that one and the first ones alone
+-- a session began; or nothing stands against a run by its first files, which are told
+abbrev pub HasBegun : Task → Told → Option Finished → SettingsSeen → List (List ℕ) → Type 0
+HasBegun task told blocks s files = IsSome blocks
+    ⊎ (AreToldAt (IsFirstFile s.starts (length s.names)) told s.names files
+    × CanBegin task s (stream_for s files))
+
+-- a run has begun, and the walk of some files stops at one of them: it ends so, by the files up to that one
 abbrev pub StopsAreAnswered : Type 0 → Type 0
-StopsAreAnswered is_calm = ForRuns is_calm (λ task words told status. (s : SettingsSeen)
+StopsAreAnswered is_calm = ForRuns is_calm (λ task words told blocks status. (s : SettingsSeen)
     (files : List (List ℕ)) (file : ℕ) (stop : Stop) → Says task words s →
-    AreToldAt (IsAmong (file + 1) s.starts (length s.names)) told s.names files →
-    StopsWalk task s (stream_for s files) stop →
+    AreToldAt (λ k. k < file + 1) told s.names files → HasBegun task told blocks s files →
+    IsWalkStop (stream_for s files) stop →
     StopsAtFile (walk_stop (stream_for s files)) file → EndsSo stop status)

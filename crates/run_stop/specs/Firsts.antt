@@ -36,10 +36,14 @@ first_at names starts transfer = begin_at starts (length names) transfer
 abbrev pub first_name : List (List ℕ) → List ℕ → ℕ → List ℕ
 first_name names starts transfer = file_name names (first_at names starts transfer)
 
--- the first files of so many transfers have headers, each of them that is told
+-- P holds of the first files of so many transfers, each of them that is told
+abbrev pub EachFirst : Told → List (List ℕ) → List ℕ → ℕ → (List ℕ → Type 0) → Type 0
+EachFirst told names starts count P = (k : ℕ) → k < count →
+    OfFile told (first_name names starts k) P
+
+-- they have headers
 abbrev pub HaveHeaders : Told → List (List ℕ) → List ℕ → ℕ → Type 0
-HaveHeaders told names starts count = (k : ℕ) → k < count →
-    OfFile told (first_name names starts k) HasHeader
+HaveHeaders told names starts count = EachFirst told names starts count HasHeader
 
 -- this file is the first one of some transfer and has no header, and those of the transfers before it have
 pub record RefusesTextAt (told : Told) (names : List (List ℕ)) (starts : List ℕ) (file : ℕ)
@@ -50,9 +54,26 @@ pub record RefusesTextAt (told : Told) (names : List (List ℕ)) (starts : List 
   pub refused : OfFile told (file_name names file) (λ bytes. IsHeaderRefusal bytes fault)
   pub earlier : HaveHeaders told names starts transfer
 
+-- the file has a header, and what that says is refused so
+pub record RefusesFields (file : List ℕ) (fault : ObsFault) : Type 0 where
+  pub header : HeaderText
+  pub has : header_of file ≡ Ok header
+  pub cause : IsRefusedFirst (fields_of header.text) fault
+
+-- All first files have headers. This file is the first one of some transfer and says no observation, and those of the
+-- transfers before it do. Each is said where the file is told.
+pub record RefusesFieldsAt (told : Told) (names : List (List ℕ)) (starts : List ℕ) (file : ℕ)
+    (fault : ObsFault) : Type 0 where
+  pub texts : HaveHeaders told names starts (length starts)
+  pub transfer : ℕ
+  pub there : transfer < length starts
+  pub is : file ≡ first_at names starts transfer
+  pub refused : OfFile told (file_name names file) (λ bytes. RefusesFields bytes fault)
+  pub earlier : EachFirst told names starts transfer IsAccepted
+
 -- A fault came before the header of some transfer's first file was judged. Those of the transfers before it have
 -- headers; where they and the file are told, they were read, and of it not enough to judge its header. Calm inputs fail
--- only where it isn't told.
+-- only where it isn't told; where those before it are, they were read, and nothing else was.
 pub record BreaksFirstAt (names : List (List ℕ)) (starts : List ℕ) (is_calm : Type 0)
     (before after : Told) : Type 0 where
   pub transfer : ℕ
@@ -65,6 +86,11 @@ pub record BreaksFirstAt (names : List (List ℕ)) (starts : List ℕ) (is_calm 
       BreaksAt (first_name names starts transfer) (first_of transfer)
       (firsts_read (first_name names starts) first_of transfer before) after
   pub missing : is_calm → ¬ IsSome (before.bytes_under (first_name names starts transfer))
+  pub unopened : is_calm → (files : List (List ℕ)) →
+      AreToldAt (IsFirstBefore (first_at names starts transfer) starts (length names)) before
+      names files →
+      let first_of : ℕ → List ℕ = λ k. slice_index_or files (first_at names starts k) [] in
+      after ≡ firsts_read (first_name names starts) first_of transfer before
 
 -- ---- over the files as a walk sees them
 

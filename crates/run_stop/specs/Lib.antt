@@ -6,3 +6,4 @@ pub mod Runs
 pub mod Outcomes
 pub mod Laws
 pub mod Ends
+pub mod Faults

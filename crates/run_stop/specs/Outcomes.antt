@@ -17,7 +17,7 @@ use Rattle.dada_recorder.specs.Making.{Outset, BeginsAt, HasMade, BreaksOff}
 use Rattle.disk_feeder.specs.declared.place.Place.{Place}
 use Rattle.disk_feeder.specs.Feeding.{IsBroken, IsCutAt}
 use Rattle.disk_feeder.specs.Filling.{HoldsAll}
-use Rattle.disk_feeder.specs.History.{file_name, BreaksIf}
+use Rattle.disk_feeder.specs.History.{file_name, IsShut, BreaksIf}
 use Rattle.disk_feeder.specs.Plan.{opened_at}
 use Rattle.disk_feeder.specs.declared.answers.HeaderCause.{HeaderCause}
 use Rattle.run_stop.specs.Firsts.{ReadsFirsts, BreaksFirstAt}
@@ -26,7 +26,7 @@ use Rattle.run_stop.specs.declared.causes.RecordingCause.{RecordingCause}
 use Rattle.run_stop.specs.declared.stop.Stop.{Stop}
 use Rattle.run_stop.specs.declared.stop.Stop.TheVariants.{Header, Gap, TooLong}
 use Rattle.run_stop.specs.Texts.{status_of, note_of}
-use Rattle.run_stop.specs.Runs.{Task, Says, ForFiles, ForFirsts, ForFilesTo, first_recording, CanBegin, JudgesFirsts, RefusesFirsts, RefusesSearches, RefusesRecordings, PassesTo, StopsThere, StopsWalk, SaysOfFiles, IsStopOfWords}
+use Rattle.run_stop.specs.Runs.{Task, Says, ForFiles, ForFirsts, ForFilesTo, ForFilesWithFirsts, first_recording, CanBegin, BeginsByFirsts, RefusesFirsts, RefusesSearches, RefusesRecordings, PassesTo, IsWalkStop, StopsThere, SaysOfFiles, IsStopOfWords}
 
 -- ---- the words
 
@@ -58,22 +58,28 @@ abbrev pub BreaksFirsts : Task → List (List ℕ) → Type 0 → Told → Told 
 BreaksFirsts task words is_calm before after = (s : SettingsSeen) → Says task words s →
     BreaksFirstAt s.names s.starts is_calm before after
 
--- What it leaves from the session on: all first headers are accepted, and it came at this place. No file before that of
--- the place stops the walk, by the files up to it. By those that were opened, nothing that was read does, and the full
--- blocks of the transfer are those of the data bytes that were read of it. Where the file at the place is told, it was
--- not opened or its header isn't judged, or it was read up to the place. Calm inputs fail only where it isn't told.
+-- What it leaves from the session on: all first headers are accepted, and it came at this place, whose file is there.
+-- No file before that one stops the walk, each by the files up to it. By those that were opened, nothing that was read
+-- does, and the full blocks of the transfer are those of the data bytes that were read of it. Where the file at the
+-- place is told too, and the first one of each transfer, it was not opened or its header isn't judged, or it was read
+-- up to the place. Calm inputs could not open it, since it isn't told: where those before it are, and the first one of
+-- each transfer, the first headers and then those files were read, and nothing else was.
 pub record BreaksWalk
     (task : Task) (words : List (List ℕ)) (is_calm : Type 0) (before after : Told)
     (blocks : Finished) : Type 0 where
   pub at : Place
-  pub begun : JudgesFirsts task words before (λ s w. CanBegin task s w)
+  pub begun : BeginsByFirsts task words before
+  pub there : (s : SettingsSeen) → Says task words s → at.file < length s.names
   pub passed : PassesTo at.file task words before
   pub cut : ForFilesTo (opened_at at) task words before (λ s w.
       IsCutAt w at s.size (sealed_at_end blocks))
-  pub stood : ForFilesTo (at.file + 1) task words before (λ s w.
+  pub stood : ForFilesWithFirsts (at.file + 1) task words before (λ s w.
       BreaksIf at.is_open s.names w before after at)
   pub missing : is_calm → (s : SettingsSeen) → Says task words s →
       (at.file < length s.names) × ¬ IsSome (before.bytes_under (file_name s.names at.file))
+  pub shut : is_calm → at.is_open ≡ false
+  pub unopened : is_calm → ForFilesWithFirsts at.file task words before (λ s w.
+      IsShut s.names w before after at.transfer at.file at.since)
 
 -- what a fault of the inputs leaves, by whether there were blocks of data
 abbrev pub LeavesAtFault : Task → List (List ℕ) → Type 0 → Told → Told → Option Finished → Type 0
@@ -90,23 +96,33 @@ StopsSealed task words told blocks P = (file : ℕ) × StopsThere file task word
     P s w × ((b : Finished) → blocks ≡ Some b → sealed_at_end b ≡ walk_stream s.size w))
 
 -- 3 only where a header is refused, of the first ones before data are read or where the walk stops at it; 4 only where
--- a search or a recording is; 7 only where the walk stops at a gap, and 8 only where there are too many data. Each is
--- so by the files that are opened up to there, the first one of each transfer among them, whatever comes after these.
+-- a search or a recording is; 7 only where the walk stops at a gap, and 8 only where there are too many data. A stop of
+-- the walk is so by the files up to it, whatever comes after these.
 pub record StopsAtFiles
     (task : Task) (words : List (List ℕ)) (told : Told) (blocks : Option Finished)
     (status : ℕ) : Type 0 where
   pub first_header : status ≡ 3 → blocks ≡ None → (file : ℕ) × (cause : HeaderCause)
       × RefusesFirsts task words told file cause
   pub later_header : status ≡ 3 → IsSome blocks → StopsSealed task words told blocks (λ s w.
-      (file : ℕ) × (cause : HeaderCause) × StopsWalk task s w (Header file cause))
+      (file : ℕ) × (cause : HeaderCause) × IsWalkStop w (Header file cause))
   pub plan : status ≡ 4 → ((cause : PlanCause) × RefusesSearches task words told cause)
       ⊎ ((cause : RecordingCause) × RefusesRecordings task words told cause)
   pub gap : status ≡ 7 → StopsSealed task words told blocks (λ s w.
-      (file : ℕ) × (expected : ℕ) × (found : ℕ) × StopsWalk task s w (Gap file expected found))
+      (file : ℕ) × (expected : ℕ) × (found : ℕ) × IsWalkStop w (Gap file expected found))
   pub too_long : status ≡ 8 → StopsSealed task words told blocks (λ s w.
-      StopsWalk task s w (TooLong s.max_bytes))
+      IsWalkStop w (TooLong s.max_bytes))
 
 -- ---- the data ring
+
+-- A fault of the inputs broke the stream off at some place, whose file is there. No file before that one stops the
+-- walk, and by the files that were opened the blocks are those of a front of the data.
+pub record BreaksStream (task : Task) (words : List (List ℕ)) (told : Told) (blocks : Finished) :
+    Type 0 where
+  pub at : Place
+  pub there : (s : SettingsSeen) → Says task words s → at.file < length s.names
+  pub passed : PassesTo at.file task words told
+  pub front : ForFilesTo (opened_at at) task words told (λ s w.
+      IsBroken w s.size (sealed_at_end blocks))
 
 -- What went through the data ring, which is there from the session on: the stream of the walk, whole or abandoned; at a
 -- fault of the inputs an abandoned stream of what was read. Nothing stands against a run then by its first files, and
@@ -116,13 +132,12 @@ pub record SealsStream
     (status : ℕ) : Type 0 where
   pub none : blocks ≡ None → Contains (2 ∷ 3 ∷ 4 ∷ 5 ∷ 6 ∷ []) status
   pub some : IsSome blocks → Contains (0 ∷ 3 ∷ 6 ∷ 7 ∷ 8 ∷ 9 ∷ 10 ∷ 11 ∷ []) status
-  pub begun : IsSome blocks → JudgesFirsts task words told (λ s w. CanBegin task s w)
+  pub begun : IsSome blocks → BeginsByFirsts task words told
   pub passed : IsSome blocks → Contains (0 ∷ 9 ∷ 10 ∷ 11 ∷ []) status →
       (s : SettingsSeen) → Says task words s → PassesTo (length s.names) task words told
   pub sealed : (b : Finished) → blocks ≡ Some b → status ≢ 6 → ForFiles task words told (λ s w.
       CanBegin task s w × (sealed_at_end b ≡ walk_stream s.size w))
-  pub broken : (b : Finished) → blocks ≡ Some b → status ≡ 6 → ForFiles task words told (λ s w.
-      CanBegin task s w × IsBroken w s.size (sealed_at_end b))
+  pub broken : (b : Finished) → blocks ≡ Some b → status ≡ 6 → BreaksStream task words told b
 
 -- the readers from this number on, so many, cleared all that was sealed
 abbrev pub AllCleared : Finished → ℕ → ℕ → Type 0
@@ -179,6 +194,11 @@ pub record RecordsFiles
   pub count : before.faults ≤ after.faults
 
 -- ---- the notes
+
+-- a stop is answered: by its exit status, and by its line to the notes, of which these took the front at a fault
+pub record AnswersStop (stop : Stop) (before after : SinkSeen) (status : ℕ) : Type 0 where
+  pub answered : status ≡ status_of stop
+  pub line : Noted (note_of stop) before after
 
 -- the notes took the line of a stop with the status, or its front at a fault of theirs; what it says of the words and
 -- of the files is so

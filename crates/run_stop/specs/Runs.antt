@@ -1,10 +1,10 @@
 -- What a run of a program is over: the settings that its words say, and the files that they name, as a walk sees them.
 -- Source: PSRDADA manual (a transfer is what one header describes); what is refused is this project's choice.
-use Rattle.std.specs.Prelude.{◌≡◌, ℕ, ◌+◌, ◌^◌, ◌-◌, ◌<◌, ◌⊎◌, min, Bool, true, false, List, length, map, Option, Some, None}
+use Rattle.std.specs.Prelude.{◌≡◌, ⊤, ℕ, ◌+◌, ◌^◌, ◌-◌, ◌<◌, ◌⊎◌, min, Bool, true, false, List, length, map, Option, Some, None}
 use Rattle.std.specs.List.{range_with_len}
 use Rattle.dada_model.specs.Fields.{header_of}
 use Rattle.dada_model.specs.Observation.{Observation}
-use Rattle.psr_base.specs.Told.{Told}
+use Rattle.psr_base.specs.Told.{Told, OfFile}
 use Rattle.search_model.specs.declared.search.Search.{Search}
 use Rattle.search_model.specs.Plan as plan
 use Rattle.search_model.specs.Plan.{PlanRefusal, plan_refusal}
@@ -13,7 +13,7 @@ use Rattle.search_words.specs.declared.fault.WordFault.TheVariants.{Refused, Out
 use Rattle.search_words.specs.Settings.{SettingsSeen, SaySearch, SayRecord, ExplainsSearch, ExplainsRecord}
 use Rattle.stream_model.specs.Walk as walk
 use Rattle.stream_model.specs.Walk.{FileStream, WalkStop, observation_at, transfer_data, stop_at, walk_stop}
-use Rattle.stream_model.specs.WalkLaws.{AreWalked}
+use Rattle.stream_model.specs.WalkLaws.{IsAccepted, AreWalked}
 use Rattle.stream_model.specs.Recorded as recorded
 use Rattle.stream_model.specs.Recorded.{Recording, RecordRefusal, record_refusal}
 use Rattle.transfer_text.specs.Searched.{ObservedTransfer, candidate_total}
@@ -25,11 +25,13 @@ use Rattle.disk_feeder.specs.Reading.{StopsAtFile}
 use Rattle.disk_feeder.specs.declared.answers.HeaderCause.{HeaderCause}
 use Rattle.disk_feeder.specs.declared.answers.HeaderCause.TheVariants.{Text, Fields}
 use Rattle.run_stop.specs.Lone.{LoneSearch, SayAlone, ExplainsAlone}
-use Rattle.run_stop.specs.Firsts.{first_file, HaveHeaders, RefusesTextAt, RefusesFirstText, RefusesFirstFields}
+use Rattle.run_stop.specs.Firsts.{first_file, first_name, EachFirst, RefusesTextAt, RefusesFieldsAt, RefusesFirstText, RefusesFirstFields}
 use Rattle.run_stop.specs.declared.causes.PlanCause.{PlanCause}
 use Rattle.run_stop.specs.declared.causes.PlanCause.TheVariants.{SumBound, FoldTooLarge, TooManyFolds, TooManyShards}
 use Rattle.run_stop.specs.declared.causes.RecordingCause.{RecordingCause}
 use Rattle.run_stop.specs.declared.causes.RecordingCause.TheVariants.{NoUtc, BadUtc, Overfull, TooManyFiles}
+use Rattle.run_stop.specs.declared.purpose.Purpose.{Purpose}
+use Rattle.run_stop.specs.declared.purpose.Purpose.TheVariants as purpose
 use Rattle.run_stop.specs.declared.stop.Stop.{Stop}
 use Rattle.run_stop.specs.declared.stop.Stop.TheVariants.{Words, Value, Header, Plan, Recording as Unrecorded, Gap, TooLong, TooMany}
 
@@ -46,6 +48,11 @@ abbrev pub is_search : Task → Bool
 is_search Searching = true
 is_search RecordingAlone = false
 is_search (Alone lone) = true
+
+-- what a run for this is asked to do: to search files, or to record them alone
+abbrev pub task_of : Purpose → Task
+task_of purpose.Search = Searching
+task_of purpose.Record = RecordingAlone
 
 -- its words say the settings
 abbrev pub Says : Task → List (List ℕ) → SettingsSeen → Type 0
@@ -78,20 +85,27 @@ ForFilesAt Needed task words told P = (s : SettingsSeen) (files : List (List ℕ
 abbrev pub ForFirsts : Task → List (List ℕ) → Told → (SettingsSeen → FileStream → Type 0) → Type 0
 ForFirsts = ForFilesAt (λ s. IsFirstFile s.starts (length s.names))
 
--- so many files from the first on, and the first file of each transfer
+-- so many files from the first on
 abbrev pub ForFilesTo : ℕ → Task → List (List ℕ) → Told
     → (SettingsSeen → FileStream → Type 0) → Type 0
-ForFilesTo opened = ForFilesAt (λ s. IsAmong opened s.starts (length s.names))
+ForFilesTo opened = ForFilesAt (λ s k. k < opened)
+
+-- these, and the first file of each transfer
+abbrev pub ForFilesWithFirsts : ℕ → Task → List (List ℕ) → Told
+    → (SettingsSeen → FileStream → Type 0) → Type 0
+ForFilesWithFirsts opened = ForFilesAt (λ s. IsAmong opened s.starts (length s.names))
 
 -- the observation of a transfer's first header
 abbrev pub first_observation : FileStream → ℕ → Observation
 first_observation w transfer = observation_at (first_file w transfer)
 
--- a transfer as it is recorded: under its first header, from that header's OBS_OFFSET on
+-- a transfer as it is recorded: under the header of its first file, from that header's OBS_OFFSET on
+abbrev pub recording_of : ℕ → List ℕ → Recording
+recording_of file_size file =
+    recording (header_or_none (header_of file)) (observation_at file).obs_offset file_size
+
 abbrev pub first_recording : FileStream → ℕ → ℕ → Recording
-first_recording w file_size transfer =
-    recording (header_or_none (header_of (first_file w transfer)))
-    (first_observation w transfer).obs_offset file_size
+first_recording w file_size transfer = recording_of file_size (first_file w transfer)
 
 -- the transfers as they are searched: the observation of each, and all of its data
 abbrev pub observed_transfers : FileStream → List ObservedTransfer
@@ -101,15 +115,22 @@ observed_transfers w =
 
 -- ---- what is judged before data are read: all headers, then all searches, then all recordings
 
+-- what the first file of a transfer says can be searched
+abbrev pub CanSearch : Search → List ℕ → Type 0
+CanSearch search file = plan_refusal (observation_at file) search ≡ None
+
+-- and recorded in files of this size, up to so many data bytes
+abbrev pub CanRecord : ℕ → ℕ → List ℕ → Type 0
+CanRecord file_size max_bytes file = record_refusal (recording_of file_size file) max_bytes ≡ None
+
 -- the first transfers, so many, can be searched
 abbrev pub CanSearchFirst : Search → FileStream → ℕ → Type 0
-CanSearchFirst search w count = (k : ℕ) → k < count →
-    plan_refusal (first_observation w k) search ≡ None
+CanSearchFirst search w count = (k : ℕ) → k < count → CanSearch search (first_file w k)
 
 -- and recorded in files of this size
 abbrev pub CanRecordFirst : ℕ → FileStream → ℕ → Type 0
 CanRecordFirst file_size w count = (k : ℕ) → k < count →
-    record_refusal (first_recording w file_size k) w.max_bytes ≡ None
+    CanRecord file_size w.max_bytes (first_file w k)
 
 -- nothing stands against a run before its data are read: the first header of each transfer is accepted
 pub record CanBegin (task : Task) (s : SettingsSeen) (w : FileStream) : Type 0 where
@@ -160,6 +181,40 @@ pub record RefusesToRecord
       (record_refusal (first_recording w s.file_size transfer) w.max_bytes) cause
   pub earlier : CanRecordFirst s.file_size w transfer
 
+-- ---- the same of each first file that is told, by itself
+
+-- P holds of each first file of these settings that is told
+abbrev pub OfEachFirst : Told → SettingsSeen → (List ℕ → Type 0) → Type 0
+OfEachFirst told s P = EachFirst told s.names s.starts (length s.starts) P
+
+-- nothing stands against a run by any first file that is told
+pub record MayBegin (task : Task) (s : SettingsSeen) (told : Told) : Type 0 where
+  pub accepted : OfEachFirst told s IsAccepted
+  pub searched : is_search task ≡ true → OfEachFirst told s (CanSearch s.search)
+  pub recorded : s.recording ≡ true → OfEachFirst told s (CanRecord s.file_size s.max_bytes)
+
+-- the search of some transfer is refused, and those before it fit
+pub record RefusesSearchAt (s : SettingsSeen) (told : Told) (cause : PlanCause) : Type 0 where
+  pub accepted : OfEachFirst told s IsAccepted
+  pub transfer : ℕ
+  pub there : transfer < length s.starts
+  pub refused : OfFile told (first_name s.names s.starts transfer) (λ file.
+      IsPlanCause (plan_refusal (observation_at file) s.search) cause)
+  pub earlier : EachFirst told s.names s.starts transfer (CanSearch s.search)
+
+-- the recording of some transfer is, and all searches fit
+pub record RefusesRecordingAt
+    (task : Task) (s : SettingsSeen) (told : Told) (cause : RecordingCause)
+    : Type 0 where
+  pub accepted : OfEachFirst told s IsAccepted
+  pub searched : is_search task ≡ true → OfEachFirst told s (CanSearch s.search)
+  pub records : s.recording ≡ true
+  pub transfer : ℕ
+  pub there : transfer < length s.starts
+  pub refused : OfFile told (first_name s.names s.starts transfer) (λ file.
+      IsRecordingCause (record_refusal (recording_of s.file_size file) s.max_bytes) cause)
+  pub earlier : EachFirst told s.names s.starts transfer (CanRecord s.file_size s.max_bytes)
+
 -- ---- what stops a run at its files
 
 -- the stop at a stop of the walk, with the limit of the data bytes
@@ -170,11 +225,26 @@ stop_of_walk max_bytes (walk.BadFields file fault) = Some (Header file (Fields f
 stop_of_walk max_bytes (walk.Gap file expected found) = Some (Gap file expected found)
 stop_of_walk max_bytes (walk.TooLong file) = Some (TooLong max_bytes)
 
+-- this is where the walk of files stops
+abbrev pub IsWalkStop : FileStream → Stop → Type 0
+IsWalkStop w stop = stop_of_walk w.max_bytes (walk_stop w) ≡ Some stop
+
 -- a run begins, and this is where the walk of its files stops
 pub record StopsWalk (task : Task) (s : SettingsSeen) (w : FileStream) (stop : Stop) :
     Type 0 where
   pub begins : CanBegin task s w
-  pub stops : stop_of_walk w.max_bytes (walk_stop w) ≡ Some stop
+  pub stops : IsWalkStop w stop
+
+-- a stop of the walk names this file, if it names one
+abbrev pub StopNames : Stop → ℕ → Type 0
+StopNames (Header k cause) file = k ≡ file
+StopNames (Gap k expected found) file = k ≡ file
+StopNames _ file = ⊤
+
+-- and this limit of the data bytes, if it names one
+abbrev pub StopTells : Stop → ℕ → Type 0
+StopTells (TooLong limit) max_bytes = limit ≡ max_bytes
+StopTells _ max_bytes = ⊤
 
 -- all data are read and searched, and P holds of how many candidates they have
 pub record HasCandidates (s : SettingsSeen) (w : FileStream) (P : ℕ → Type 0) : Type 0 where
@@ -198,51 +268,58 @@ abbrev pub HasTooMany : Task → SettingsSeen → FileStream → ℕ → ℕ →
 HasTooMany (Alone lone) s w count limit = FindsAlone lone s w (IsTooMany s count limit)
 HasTooMany _ s w count limit = HasCandidates s w (IsTooMany s count limit)
 
--- all first files have headers, each of them that is told
-abbrev pub AllHaveHeaders : Task → List (List ℕ) → Told → Type 0
-AllHaveHeaders task words told = (s : SettingsSeen) → Says task words s →
-    HaveHeaders told s.names s.starts (length s.starts)
+-- what first headers say is judged: of each first file that is told, by itself; and P holds where all are told
+abbrev pub JudgesFirsts : Task → List (List ℕ) → Told → (SettingsSeen → Type 0)
+    → (SettingsSeen → FileStream → Type 0) → Type 0
+JudgesFirsts task words told Each P = ((s : SettingsSeen) → Says task words s → Each s)
+    × ForFirsts task words told P
 
--- each first file that is told has a header; and where all are told, P holds
-abbrev pub JudgesFirsts
-    : Task → List (List ℕ) → Told → (SettingsSeen → FileStream → Type 0) → Type 0
-JudgesFirsts task words told P = AllHaveHeaders task words told × ForFirsts task words told P
+-- nothing stands against a run by its first files
+abbrev pub BeginsByFirsts : Task → List (List ℕ) → Told → Type 0
+BeginsByFirsts task words told = JudgesFirsts task words told (λ s. MayBegin task s told)
+    (λ s w. CanBegin task s w)
 
--- The first refused header is that of this file. Its text is refused by this file and the first files before it, each by
--- itself; what it says is refused by all first files, since all texts are judged before.
+-- The first refused header is that of this file. Its text is refused by this file and the first files before it; what
+-- it says is refused once all first files have headers, since all texts are judged before.
 abbrev pub RefusesFirsts : Task → List (List ℕ) → Told → ℕ → HeaderCause → Type 0
 RefusesFirsts task words told file (Text fault) = (s : SettingsSeen) → Says task words s →
     RefusesTextAt told s.names s.starts file fault
 RefusesFirsts task words told file (Fields fault) =
-    JudgesFirsts task words told (λ s w. RefusesFirstFields w file fault)
+    JudgesFirsts task words told (λ s. RefusesFieldsAt told s.names s.starts file fault)
+    (λ s w. RefusesFirstFields w file fault)
 
 -- the search of an observation is refused, or its recording
 abbrev pub RefusesSearches : Task → List (List ℕ) → Told → PlanCause → Type 0
-RefusesSearches task words told cause =
-    (is_search task ≡ true) × JudgesFirsts task words told (λ s w. RefusesSearch s.search w cause)
+RefusesSearches task words told cause = (is_search task ≡ true)
+    × JudgesFirsts task words told (λ s. RefusesSearchAt s told cause)
+    (λ s w. RefusesSearch s.search w cause)
 
 abbrev pub RefusesRecordings : Task → List (List ℕ) → Told → RecordingCause → Type 0
 RefusesRecordings task words told cause =
-    JudgesFirsts task words told (λ s w. RefusesToRecord task s w cause)
+    JudgesFirsts task words told (λ s. RefusesRecordingAt task s told cause)
+    (λ s w. RefusesToRecord task s w cause)
 
--- none of the files before this one stops the walk, each by the files up to it and the first ones of the transfers
+-- none of the files before this one stops the walk, each by the files up to it
 abbrev pub PassesTo : ℕ → Task → List (List ℕ) → Told → Type 0
 PassesTo file task words told = (k : ℕ) → k < file → ForFilesTo (k + 1) task words told (λ s w.
     stop_at w k ≡ None)
 
--- All first files have headers, and no file before this one stops the walk. By the files up to this one and the first
--- ones of the transfers, the walk stops at it, and P holds.
+-- Nothing stands against a run by its first files; this file is there, and none before it stops the walk. By the files
+-- up to it, the walk stops at it, and P holds.
 pub record StopsThere (file : ℕ) (task : Task) (words : List (List ℕ)) (told : Told)
     (P : SettingsSeen → FileStream → Type 0) : Type 0 where
-  pub headers : AllHaveHeaders task words told
+  pub begun : BeginsByFirsts task words told
+  pub there : (s : SettingsSeen) → Says task words s → file < length s.names
   pub passed : PassesTo file task words told
   pub stops : ForFilesTo (file + 1) task words told (λ s w. StopsAtFile (walk_stop w) file)
   pub says : ForFilesTo (file + 1) task words told P
 
--- the walk stops so at some file
-abbrev pub StopsAt : Task → List (List ℕ) → Told → Stop → Type 0
-StopsAt task words told stop =
-    (file : ℕ) × StopsThere file task words told (λ s w. StopsWalk task s w stop)
+-- the walk stops so at some file, the only one that the stop names, and at no other limit than that of the settings
+pub record StopsAt (task : Task) (words : List (List ℕ)) (told : Told) (stop : Stop) : Type 0 where
+  pub file : ℕ
+  pub names : StopNames stop file
+  pub tells : (s : SettingsSeen) → Says task words s → StopTells stop s.max_bytes
+  pub stops : StopsThere file task words told (λ s w. IsWalkStop w stop)
 
 -- what a stop says of the files, over those that it needs
 abbrev pub SaysOfFiles : Task → List (List ℕ) → Told → Stop → Type 0

@@ -5,6 +5,7 @@ ghost use Rattle.run_stop.specs.Ends.{EndAtWords, WordsSayOnce, EndBeforeSession
 use psr_base::Inputs;
 // Laws: they do nothing when they run, and the proofs use what they ensure.
 use crate::laws::whole_runs_record_data;
+use search_words::said_is_in_range;
 use stream_model::{first_stop_counts, no_stop_is_whole};
 
 /// What the exit status says where the words say no settings.
@@ -40,20 +41,25 @@ pub fn accepted_goes_on<I: Inputs>()
     ensures { (inputs : I) → AcceptedGoesOn (I.is_calm inputs) }
 {}
 
-/// Where a first file has no header, and those before it have, a run ends at that with status 3, or for want of memory
-/// with 5, whatever is told of other files.
+/// Where a first file has no header, and those before it have, a run ends with status 3, or for want of memory with 5,
+/// whatever is told of other files.
 pub fn texts_are_answered<I: Inputs>()
     ensures { (inputs : I) → TextsAreAnswered (I.is_calm inputs) }
-{}
+{
+    said_is_in_range();
+}
 
-/// Where a first header says no observation, or a search or a recording is refused, a run ends at that with status 3 or
-/// 4, or for want of memory with 5, whatever the other files have.
+/// Where all first files have headers, and one of these says no observation, a run ends with status 3, and where a
+/// search or a recording is refused, with status 4; or for want of memory with 5. Nothing need be told of other files.
 pub fn firsts_are_answered<I: Inputs>()
     ensures { (inputs : I) → FirstsAreAnswered (I.is_calm inputs) }
-{}
+{
+    said_is_in_range();
+}
 
-/// Where the walk of its files stops, a run ends at that with status 3, 7 or 8, or for want of memory with 5, whatever
-/// is told of files that are opened later.
+/// Where the walk of its files stops, a run whose session began, or whose first files are told and accepted, ends with
+/// the status of that stop, which is 3, 7 or 8, or for want of memory with 5. Of the files after that one nothing else
+/// need be told.
 pub fn stops_are_answered<I: Inputs>()
     ensures { (inputs : I) → StopsAreAnswered (I.is_calm inputs) }
 {

@@ -1,5 +1,5 @@
 // How the user is told.
-ghost use Rattle.std.specs.Prelude.{◌≡◌, ℕ, List, None, IfSome};
+ghost use Rattle.std.specs.Prelude.{◌≡◌, ℕ, List, None, Some, IfSome};
 ghost use Rattle.psr_base.specs.Told.{Told};
 ghost use Rattle.psr_base.specs.Written.{Noted};
 ghost use Rattle.run_stop.specs.Runs.{Task};
@@ -24,6 +24,8 @@ pub fn tell<E: Sink>(stop: Option<Stop>, notes: &mut E) -> u8
     ensures status { result ≡ end_status stop }
     ensures silent { stop ≡ None → E.seen notes.new ≡ E.seen notes.old }
     ensures line { IfSome stop (λ s. Noted (note_of s) (E.seen notes.old) (E.seen notes.new)) }
+    ensures memory { result ≡ 5 → stop ≡ Some Stop.Memory }
+    ensures read_fault { result ≡ 6 → stop ≡ Some Stop.ReadFault }
     ensures told { (task : Task) (words : List (List ℕ)) (told : Told)
         → IsSaid task words told stop
         → TellsNotes task words told (E.seen notes.old) (E.seen notes.new) result }
