@@ -5,7 +5,6 @@ use Rattle.std.proofs.lemmas.List.Elements.{Contains-append_left}
 use Rattle.psr_base.specs.Told.{InputsSeen}
 use Rattle.psr_base.specs.Made.{FilesSeen}
 use Rattle.ring_ends.specs.declared.finished.Finished.{Finished}
-use Rattle.ring_ends.specs.Ended.{sealed_at_end}
 use Rattle.search_words.specs.declared.fault.WordFault.{WordFault}
 use Rattle.search_words.specs.declared.fault.WordFault.TheVariants as words_fault
 use Rattle.search_words.specs.Settings.{SettingsSeen}
@@ -13,19 +12,17 @@ use Rattle.stream_model.specs.Walk as walk
 use Rattle.stream_model.specs.Walk.{walk_stop}
 use Rattle.disk_feeder.specs.declared.answers.FeedEnd.{FeedEnd}
 use Rattle.disk_feeder.specs.declared.answers.FeedEnd.TheVariants as feed
-use Rattle.disk_feeder.specs.Feeding.{IsBroken}
 use Rattle.disk_feeder.specs.Filling.{HoldsAll}
 use Rattle.run_stop.specs.declared.stop.Stop.{Stop}
 use Rattle.run_stop.specs.declared.stop.Stop.TheVariants.{Words, Value, Header, Plan, Recording, Memory, ReadFault, Gap, TooLong, TooMany, SinkFault, FileFault}
 use Rattle.run_stop.specs.Texts.{status_of}
 use Rattle.run_stop.specs.Conversions.{stop_of_words, stop_of_feed}
 use Rattle.run_stop.specs.Lone.{LoneSearch, SayAlone, ExplainsAlone}
-use Rattle.run_stop.specs.Runs.{Alone, ForFiles, PassesTo, CanBegin, stream_for}
-use Rattle.run_stop.specs.Outcomes.{JudgesWords, ReadsInputs, StopsAtFiles, SealsStream, AllCleared}
+use Rattle.run_stop.specs.Runs.{Alone, ForFiles, PassesTo, CanBegin}
+use Rattle.run_stop.specs.Outcomes.{JudgesWords, ReadsInputs, StopsAtFiles, BreaksStream, SealsStream, AllCleared}
 use Rattle.run_stop.specs.Ends.{CountsFaults, StopsBefore, IsRecorded, RunsThrough, WordsSayOnce, EndAtWords, EndBeforeSession, EndAtStop, EndAfterWhole}
 use Rattle.lone_run.specs.Outcomes.{SealsAlone, RunsAlone, EndsAlone}
 use Rattle.lone_run.specs.EndLaws.{AloneAtWords, AloneBeforeSession, AloneAtOwnStop, AloneAtFeedStop, AloneAfterWhole, GoesThrough}
-use Rattle.lone_run.proofs.Told.{where_needed}
 
 one_list : (a b : Finished) → Some a ≡ Some b → a ≡ b
 one_list a b e = cc
@@ -305,12 +302,13 @@ module _ (own : ℕ) (lone : LoneSearch) (words : List (List ℕ)) (inputs : Inp
           begun = λ some. through.fed.begun;
           passed = λ some not. absurd (not (1, lit< tt, refl));
           sealed = λ b e other. absurd (other refl);
-          broken = λ b e six t files said are.
-              subst (λ (x : Finished). CanBegin (Alone lone) t (stream_for t files)
-              × IsBroken (stream_for t files) t.size (sealed_at_end x)) (one_list blocks b e) (
-                through.fed.begun.1 t files said (where_needed _ inputs.told t.names files are),
-                through.fed.walked t files said (where_needed _ inputs.told t.names files are),
-              );
+          broken = λ b e six.
+              subst (λ (x : Finished). BreaksStream (Alone lone) words inputs.told x) (one_list blocks b e) (record {
+                at = through.fed.at;
+                there = through.fed.there (λ bytes same. cc);
+                passed = through.fed.passed;
+                front = through.fed.walked;
+              });
           cleared = λ b e. subst (λ x. AllCleared x 0 1) (one_list blocks b e) through.cleared;
         };
       };

@@ -1,5 +1,5 @@
 -- The session of a lone run: before its first turn, and what it left.
-use Rattle.std.proofs.Common.{◌≡◌, ℕ, ◌+◌, ◌/◌, ◌^◌, ◌≤◌, List, [], ◌∷◌, Option, Some, length, sym, ap, ◌∙◌, subst, arith}
+use Rattle.std.proofs.Common.{◌≡◌, ℕ, ◌+◌, ◌/◌, ◌^◌, ◌<◌, ◌≤◌, List, [], ◌∷◌, Option, Some, length, sym, ap, ◌∙◌, subst, arith}
 use Rattle.std.specs.Prelude.{slice_get}
 use Rattle.std.specs.List.{sum_by, range_with_len}
 use Rattle.std.proofs.lemmas.Bool.{true≢false}
@@ -13,31 +13,32 @@ use Rattle.stream_model.specs.Walk.{FileStream, transfer_data}
 use Rattle.search_engine.specs.Scope.{Scope}
 use Rattle.search_engine.specs.Engine.{EngineState, HasFoundIn, scope_of}
 use Rattle.disk_feeder.specs.declared.answers.FeedEnd.{FeedEnd}
-use Rattle.disk_feeder.specs.declared.answers.FeedEnd.TheVariants.{Whole, ReadFault}
+use Rattle.disk_feeder.specs.declared.answers.FeedEnd.TheVariants.{Whole, ReadFault, TooLong}
 use Rattle.disk_feeder.specs.declared.feeder.Feeder.{Feeder}
 use Rattle.disk_feeder.specs.declared.feeder.FeederSpace.{FeederSpace}
 use Rattle.disk_feeder.specs.declared.place.Place.{Place}
 use Rattle.disk_feeder.specs.declared.stream.Stream.{Stream}
+use Rattle.disk_feeder.specs.Ends.{NamesPlace}
 use Rattle.disk_feeder.specs.Feeder.{stream_at, names_at, plan_at, block_size}
 use Rattle.disk_feeder.specs.Feeding.{EndIs, IsEnded, SealedAs, StopsWalkAt}
-use Rattle.disk_feeder.specs.Plan.{Plan, IsAmong}
+use Rattle.disk_feeder.specs.Plan.{Plan}
 use Rattle.disk_feeder.specs.Reading.{judged_at}
 use Rattle.disk_feeder.specs.Resting.{stream_in, feeder_over}
-use Rattle.search_session.specs.declared.lane.Lane.{Lane}
+use Rattle.session_readers.specs.declared.bank.Bank.{Bank}
 use Rattle.search_session.specs.declared.lone_space.LoneSpace.{LoneSpace}
 use Rattle.search_session.specs.declared.lone.LoneEnd.{LoneEnd}
-use Rattle.search_session.specs.Lanes.{HasEngine, engines_of}
+use Rattle.session_readers.specs.Banks.{HasEngine, engines_of}
 use Rattle.search_session.specs.Stages.{IsUnfed}
 use Rattle.search_session.specs.Sessions.{FeedAnswers}
-use Rattle.search_session.specs.Lone.{IsLoneSpace, IsLoneReady, lane_in}
-use Rattle.search_session.specs.LoneEnds.{LaneAnswers, session_end}
+use Rattle.search_session.specs.Lone.{IsLoneSpace, IsLoneReady, bank_in}
+use Rattle.search_session.specs.LoneEnds.{BankAnswers, session_end}
 use Rattle.search_opening.specs.First.{AreFirsts}
 use Rattle.run_stop.specs.Outcomes.{AllCleared}
 use Rattle.run_stop.specs.Runs.{first_observation, stream_for}
-use Rattle.whole_run.specs.Ends.{FaultLeaves}
-use Rattle.whole_run.specs.Wholes.{OfRunTo}
+use Rattle.run_stop.specs.Faults.{FaultLeaves}
+use Rattle.search_opening.specs.Settings.{OfRunTo}
 use Rattle.lone_run.specs.declared.found.LoneFound.{LoneFound}
-use Rattle.lone_run.specs.Scopes.{IsLaneOf}
+use Rattle.lone_run.specs.Scopes.{IsBankOf}
 use Rattle.lone_run.specs.Openings.{IsOpenedAlone, shape_for}
 use Rattle.lone_run.specs.Found.{GoesAlone}
 use Rattle.lone_run.proofs.Told.{Every, where_all, all_told, of_plan, passes_plan}
@@ -70,11 +71,11 @@ rested told is_open s f o scope space opened = record {
     running = opened.feeder.running;
     file = opened.feeder.file;
   };
-  lane = opened.lane;
-  lane_is = opened.lane_is;
+  bank = opened.bank;
+  bank_is = opened.bank_is;
   space_is = opened.space_is;
   total = opened.total;
-  texts = opened.texts;
+  begins = opened.begins;
   firsts = opened.firsts;
   fits = opened.fits;
 }
@@ -90,19 +91,19 @@ opened_over told is_open s f lent rest o scope space inputs stream opened =
 
 -- ---- before the first turn
 
--- the engine of a lane that has it alone
+-- the engine of a bank that has it alone
 has_engine : (e : EngineState) (engines : List (Option EngineState)) → engines ≡ Some e ∷ [] → HasEngine engines 0 e
 has_engine e engines is = ap (λ es. slice_get es 0) is
 
-is_unfed : (s : SettingsSeen) (o : Observation) (scope : Scope) (lane : Lane) (n : ℕ) → n ≡ 1 →
-    IsLaneOf s.search o scope lane → IsUnfed n lane
-is_unfed s o scope lane n one is = record {
+is_unfed : (s : SettingsSeen) (o : Observation) (scope : Scope) (bank : Bank) (n : ℕ) → n ≡ 1 →
+    IsBankOf s.search o scope bank → IsUnfed n bank
+is_unfed s o scope bank n one is = record {
   count = ap length is.alone ∙ sym one;
   each = λ k below.
       let first : k ≡ 0 = omega (arith, below, one) in (
         is.engine,
-        subst (λ j. HasEngine (engines_of lane) j is.engine) (sym first)
-            (has_engine is.engine (engines_of lane) is.alone),
+        subst (λ j. HasEngine (engines_of bank) j is.engine) (sym first)
+            (has_engine is.engine (engines_of bank) is.alone),
         is.opened.nothing_fed,
         is.opened.running,
       );
@@ -115,7 +116,7 @@ lone_ready told is_open s lent feeder o scope space opened =
     let f = feeder_over lent feeder in
     let plan = opened.feeder.plan in
     let transfers : length (plan_at f).starts ≡ 1 = ap length plan.transfers ∙ opened.one.transfer in
-    let same : lane_in space ≡ opened.lane = opened.space_is.lane_is in
+    let same : bank_in space ≡ opened.bank = opened.space_is.bank_is in
     record {
       shape = shape_for s;
       header = opened.header;
@@ -132,7 +133,7 @@ lone_ready told is_open s lent feeder o scope space opened =
       };
       transfers = omega (arith, transfers);
       engines = subst (λ l. IsUnfed (length (plan_at f).starts) l) (sym same)
-          (is_unfed s o scope opened.lane (length (plan_at f).starts) transfers opened.lane_is);
+          (is_unfed s o scope opened.bank (length (plan_at f).starts) transfers opened.bank_is);
       few = opened.total;
     }
   where
@@ -141,14 +142,14 @@ lone_ready told is_open s lent feeder o scope space opened =
 
 -- ---- what it left
 
--- the engine that searched, which was that of the lane
-pub lane_engine : {I : Type 0} (told : I → Told) (is_open : I → Type 0) (s : SettingsSeen) (lent : I)
-    (feeder : FeederSpace) (o : Observation) (scope : Scope) (space : LoneSpace) (start : Lane) (end : LoneEnd) →
-    IsOpenedAlone told is_open s (feeder_over lent feeder) o scope space → start ≡ lane_in space →
-    LaneAnswers start end → (f : EngineState) × HasEngine (engines_of end.lane) 0 f
-lane_engine told is_open s lent feeder o scope space start end opened same answers =
-    let is = opened.lane_is in
-    let engines = ap (λ (l : Lane). engines_of l) (same ∙ opened.space_is.lane_is) ∙ is.alone in
+-- the engine that searched, which was that of the bank
+pub bank_engine : {I : Type 0} (told : I → Told) (is_open : I → Type 0) (s : SettingsSeen) (lent : I)
+    (feeder : FeederSpace) (o : Observation) (scope : Scope) (space : LoneSpace) (start : Bank) (end : LoneEnd) →
+    IsOpenedAlone told is_open s (feeder_over lent feeder) o scope space → start ≡ bank_in space →
+    BankAnswers start end → (f : EngineState) × HasEngine (engines_of end.bank) 0 f
+bank_engine told is_open s lent feeder o scope space start end opened same answers =
+    let is = opened.bank_is in
+    let engines = ap (λ (l : Bank). engines_of l) (same ∙ opened.space_is.bank_is) ∙ is.alone in
     let f = answers.engines.each 0 is.engine (has_engine is.engine (engines_of start) engines) in
     (f.0, f.1)
 
@@ -162,6 +163,14 @@ few_bytes plan told at size headers blocks end bytes limit is whole same most =
     let few = is.few in
     let count = sealed.3 in
     omega (arith, few, count, same, most)
+
+-- a limit that an end tells is that of the plan
+ends_at_limit : (plan : Plan) (told : Told) (at : Place) (size : ℕ) (headers blocks : List Entry) (end : FeedEnd)
+    (limit : ℕ) → IsEnded plan told at size headers blocks end → end ≡ TooLong limit → limit ≡ plan.max_bytes
+ends_at_limit plan told at size headers blocks end limit is long =
+    let By : FeedEnd → Type 0 = λ e. SealedAs plan size is.before is.current headers blocks e in
+    let sealed = subst By long is.sealed in
+    sealed.3
 
 -- the sum over one place
 one_place : (f : ℕ → ℕ) (n m : ℕ) → n ≡ 1 → sum_by f (range_with_len 0 n) ≡ m → f 0 ≡ m
@@ -179,19 +188,19 @@ first_is w o n firsts one =
     inside a b is = cc
 
 pub goes_alone : {I : Type 0} (told : I → Told) (is_open is_calm : I → Type 0) (faults : I → ℕ) (s : SettingsSeen)
-    (lent after : I) (feeder : FeederSpace) (o : Observation) (scope : Scope) (space : LoneSpace) (start : Lane)
+    (lent after : I) (feeder : FeederSpace) (o : Observation) (scope : Scope) (space : LoneSpace) (start : Bank)
     (end : LoneEnd) (found : LoneFound) →
-    IsOpenedAlone told is_open s (feeder_over lent feeder) o scope space → start ≡ lane_in space →
-    FeedAnswers told is_calm faults (feeder_over lent feeder) (session_end after end) → LaneAnswers start end →
+    IsOpenedAlone told is_open s (feeder_over lent feeder) o scope space → start ≡ bank_in space →
+    FeedAnswers told is_calm faults (feeder_over lent feeder) (session_end after end) → BankAnswers start end →
     found.feed ≡ end.feed → found.observation ≡ o → found.blocks ≡ end.blocks →
-    ((e : EngineState) → HasEngine (engines_of end.lane) 0 e → found.engine ≡ e) →
+    ((e : EngineState) → HasEngine (engines_of end.bank) 0 e → found.engine ≡ e) →
     GoesAlone s (told lent) o scope found
-goes_alone told is_open is_calm faults s lent after feeder o scope space start end found opened same fed lane feed
+goes_alone told is_open is_calm faults s lent after feeder o scope space start end found opened same fed bank feed
     observed blocks engine =
     let f = feeder_over lent feeder in
     let plan = opened.feeder.plan in
-    let is = opened.lane_is in
-    let engines = ap (λ (l : Lane). engines_of l) (same ∙ opened.space_is.lane_is) ∙ is.alone in
+    let is = opened.bank_is in
+    let engines = ap (λ (l : Bank). engines_of l) (same ∙ opened.space_is.bank_is) ∙ is.alone in
     let sealed = sealed_at_end end.blocks in
     let transfers : length (plan_at f).starts ≡ 1 = ap length plan.transfers ∙ opened.one.transfer in
     let at = fed.place in
@@ -201,7 +210,7 @@ goes_alone told is_open is_calm faults s lent after feeder o scope space start e
     let Blocks : _ → Type 0 = λ b. AllCleared b 0 1 in
     record {
       begun = λ lone. (
-        opened.texts,
+        opened.begins lone,
         λ files are.
             let firsts = opened.firsts files are in
             record {
@@ -212,26 +221,31 @@ goes_alone told is_open is_calm faults s lent after feeder o scope space start e
       );
       at = at;
       last = λ bytes whole. fed.sealed.last bytes (sym feed ∙ whole) ∙ ap length plan.files;
+      there = λ early. subst (λ names. at.file < length names) plan.files
+          (fed.sealed.there (λ bytes whole. early bytes (feed ∙ whole)));
+      names = subst (λ e. NamesPlace e at.file) (sym feed) fed.sealed.names;
+      limit = λ limit long. ends_at_limit (plan_at f) (told after) at (block_size f) _ _ end.feed limit fed.sealed
+          (sym feed ∙ long) ∙ plan.limit;
       passed = passes_plan f s (told lent) (told after) at.file plan fed.names fed.sealed.passed;
       walked = subst (λ b. OfRunTo (judged_at found.feed at) (told lent) s (λ w.
           EndIs w s.size (sealed_at_end b) found.feed)) (sym blocks)
           (subst (λ e. OfRunTo (judged_at e at) (told lent) s (λ w. EndIs w s.size sealed e)) (sym feed)
           (subst End plan.block
-          (of_plan (IsAmong judged) f s (told lent) (told after) (λ w. EndIs w (block_size f) sealed end.feed) plan
-          fed.names fed.sealed.known)));
+          (of_plan (λ starts count k. k < judged) f s (told lent) (told after)
+          (λ w. EndIs w (block_size f) sealed end.feed) plan fed.names fed.sealed.known)));
       stops = subst (λ e. OfRunTo (judged_at e at) (told lent) s (λ w. StopsWalkAt e w at.file)) (sym feed)
-          (of_plan (IsAmong judged) f s (told lent) (told after) (λ w. StopsWalkAt end.feed w at.file) plan fed.names
-          fed.sealed.stops);
+          (of_plan (λ starts count k. k < judged) f s (told lent) (told after) (λ w. StopsWalkAt end.feed w at.file)
+          plan fed.names fed.sealed.stops);
       observed = observed;
       first = λ files are. first_is (stream_for s files) o 0 (opened.firsts files are) opened.one.transfer
           ∙ sym observed;
       cleared = subst Blocks (sym blocks) (λ k below.
           let first : k ≡ 0 = omega (arith, below) in
-          subst (λ j. cleared_at_end end.blocks (0 + j) ≡ sealed) (sym first) lane.cleared);
+          subst (λ j. cleared_at_end end.blocks (0 + j) ≡ sealed) (sym first) bank.cleared);
       held = λ bytes whole.
           let feed_whole : end.feed ≡ Whole bytes = sym feed ∙ whole in
           let through = transfer_bytes 0 sealed in
-          let went = lane.searched bytes feed_whole 0 is.engine
+          let went = bank.searched bytes feed_whole 0 is.engine
           (has_engine is.engine (engines_of start) engines) in
           let same_engine = engine went.0 went.1 in
           let scope_is = ap scope_of same_engine ∙ went.2.scope ∙ is.scope_is in
@@ -263,6 +277,7 @@ pub fault_leaves : {I : Type 0} (told : I → Told) (is_calm : I → Type 0) (fa
     end.feed ≡ ReadFault → FaultLeaves told (is_calm feeder.inputs.now) feeder after end.blocks
 fault_leaves told is_calm faults feeder after end fed failed = record {
   place = fed.place;
+  there = fed.sealed.there (λ bytes whole. cc);
   broke = fed.broke failed;
   missing = λ calm. fed.missing calm failed;
 }

@@ -1,22 +1,20 @@
 -- Files that are told, by the settings and by the feeder's plan.
-use Rattle.std.proofs.Common.{◌≡◌, ℕ, ◌+◌, List, [], Option, None, Ok, Err, length, sym, ap, ◌∙◌, subst, arith}
+use Rattle.std.proofs.Common.{◌≡◌, ℕ, ◌+◌, ◌<◌, List, [], Option, None, Ok, Err, length, sym, ap, ◌∙◌, subst, arith}
 use Rattle.std.specs.Prelude.{⊤, IsSome, slice_index_or}
 use Rattle.psr_base.specs.Count.{Rose}
 use Rattle.psr_base.specs.Inputs.{HasReadFrom}
 use Rattle.psr_base.specs.Told.{Told, OfFile}
-use Rattle.dada_header.specs.declared.faults.HeaderFault.{HeaderFault}
-use Rattle.dada_header.specs.Faults.{IsHeaderRefusal}
 use Rattle.search_words.specs.Settings.{SettingsSeen}
 use Rattle.stream_model.specs.Walk.{FileStream, stop_at}
+use Rattle.stream_model.specs.WalkLaws.{IsAccepted}
 use Rattle.disk_feeder.specs.declared.feeder.Feeder.{Feeder}
 use Rattle.disk_feeder.specs.Feeder.{HasPlan, plan_at}
 use Rattle.disk_feeder.specs.Filling.{HoldsAll}
-use Rattle.disk_feeder.specs.History.{file_name}
-use Rattle.disk_feeder.specs.Plan.{stream_of, AreTold, AreToldAt, IsFirstFile, IsAmong}
+use Rattle.disk_feeder.specs.Plan.{stream_of, AreTold, AreToldAt, IsFirstFile}
 use Rattle.disk_feeder.specs.Reading.{NoStopBefore}
-use Rattle.run_stop.specs.Firsts.{HasHeader, HaveHeaders, RefusesTextAt, first_name}
-use Rattle.run_stop.specs.Runs.{stream_for}
-use Rattle.whole_run.specs.Wholes.{OfRun, OfRunAt, OfRunFirsts, JudgesRun, PassesRunTo}
+use Rattle.run_stop.specs.Firsts.{first_name}
+use Rattle.run_stop.specs.Runs.{Task, OfEachFirst, CanSearch, CanRecord, CanBegin, stream_for}
+use Rattle.search_opening.specs.Settings.{OfRun, OfRunAt, OfRunFirsts, BeginsRun, PassesRunTo}
 
 -- files are told as long as what is told under the names stands
 still_told : (Needed : ℕ → Type 0) (old new : Told) (names files : List (List ℕ)) →
@@ -37,39 +35,31 @@ pub firsts_before_reading : (s : SettingsSeen) (old new : Told) (P : FileStream 
     new.bytes_under ≡ old.bytes_under → OfRunFirsts new s P → OfRunFirsts old s P
 firsts_before_reading s = before_reading (IsFirstFile s.starts (length s.names)) s
 
-file_before_reading : (old new : Told) (name : List ℕ) (P : List ℕ → Type 0) → new.bytes_under ≡ old.bytes_under →
+pub file_before_reading : (old new : Told) (name : List ℕ) (P : List ℕ → Type 0) → new.bytes_under ≡ old.bytes_under →
     OfFile new name P → OfFile old name P
 file_before_reading old new name P same holds file is =
     holds file (ap (λ (under : List ℕ → Option (List ℕ)). under name) same ∙ is)
 
-headers_before_reading : (old new : Told) (names : List (List ℕ)) (starts : List ℕ) (count : ℕ) →
-    new.bytes_under ≡ old.bytes_under → HaveHeaders new names starts count → HaveHeaders old names starts count
-headers_before_reading old new names starts count same have k below =
-    file_before_reading old new (first_name names starts k) HasHeader same (have k below)
+pub each_before_reading : (old new : Told) (s : SettingsSeen) (P : List ℕ → Type 0) →
+    new.bytes_under ≡ old.bytes_under → OfEachFirst new s P → OfEachFirst old s P
+each_before_reading old new s P same each k below =
+    file_before_reading old new (first_name s.names s.starts k) P same (each k below)
 
-pub refused_before_reading : (old new : Told) (names : List (List ℕ)) (starts : List ℕ) (file : ℕ)
-    (fault : HeaderFault) → new.bytes_under ≡ old.bytes_under → RefusesTextAt new names starts file fault →
-    RefusesTextAt old names starts file fault
-refused_before_reading old new names starts file fault same refuses = record {
-  transfer = refuses.transfer;
-  there = refuses.there;
-  is = refuses.is;
-  refused = file_before_reading old new (file_name names file) (λ bytes. IsHeaderRefusal bytes fault) same
-      refuses.refused;
-  earlier = headers_before_reading old new names starts refuses.transfer same refuses.earlier;
-}
-
-pub judged_before_reading : (s : SettingsSeen) (old new : Told) (P : FileStream → Type 0) →
-    new.bytes_under ≡ old.bytes_under → JudgesRun new s P → JudgesRun old s P
-judged_before_reading s old new P same judged = (
-  headers_before_reading old new s.names s.starts (length s.starts) same judged.0,
-  firsts_before_reading s old new P same judged.1,
+pub begins_before_reading : (task : Task) (s : SettingsSeen) (old new : Told) → new.bytes_under ≡ old.bytes_under →
+    BeginsRun task new s → BeginsRun task old s
+begins_before_reading task s old new same begins = (
+  record {
+    accepted = each_before_reading old new s IsAccepted same begins.0.accepted;
+    searched = λ is. each_before_reading old new s (CanSearch s.search) same (begins.0.searched is);
+    recorded = λ is. each_before_reading old new s (CanRecord s.file_size s.max_bytes) same (begins.0.recorded is);
+  },
+  firsts_before_reading s old new (λ w. CanBegin task s w) same begins.1,
 )
 
 pub passed_before_reading : (file : ℕ) (s : SettingsSeen) (old new : Told) → new.bytes_under ≡ old.bytes_under →
     PassesRunTo file new s → PassesRunTo file old s
 passed_before_reading file s old new same passed k below =
-    before_reading (IsAmong (k + 1) s.starts (length s.names)) s old new (λ w. stop_at w k ≡ None) same (passed k below)
+    before_reading (λ j. j < k + 1) s old new (λ w. stop_at w k ≡ None) same (passed k below)
 
 -- files of which all are told are those that are told where each is needed
 abbrev pub Every : ℕ → Type 0
@@ -149,15 +139,8 @@ of_plan Needed feeder s old new P plan same holds files are =
     (holds files (subst Names (sym plan.files) (subst Starts (sym plan.transfers)
     (still_told (Needed s.starts (length s.names)) old new s.names files same are))))
 
--- and so does what holds of the names and of the files with which transfers begin
-pub of_names : {I : Type 0} (feeder : Feeder I) (s : SettingsSeen) (P : List (List ℕ) → List ℕ → Type 0) →
-    FeedsRun feeder s → P (plan_at feeder).names (plan_at feeder).starts → P s.names s.starts
-of_names feeder s P plan holds =
-    subst (λ names. P names s.starts) plan.files
-    (subst (λ starts. P (plan_at feeder).names starts) plan.transfers holds)
-
 pub passes_plan : {I : Type 0} (feeder : Feeder I) (s : SettingsSeen) (old new : Told) (file : ℕ) →
     FeedsRun feeder s → new.bytes_under ≡ old.bytes_under → NoStopBefore (plan_at feeder) new file →
     PassesRunTo file old s
 passes_plan feeder s old new file plan same passed k below =
-    of_plan (IsAmong (k + 1)) feeder s old new (λ w. stop_at w k ≡ None) plan same (passed k below)
+    of_plan (λ starts count j. j < k + 1) feeder s old new (λ w. stop_at w k ≡ None) plan same (passed k below)

@@ -13,25 +13,25 @@ use Rattle.disk_feeder.specs.declared.answers.HeaderCause.TheVariants.{Text, Fie
 use Rattle.disk_feeder.specs.declared.feeder.Feeder.{Feeder}
 use Rattle.disk_feeder.specs.Feeder.{names_at, block_size, FeederRead}
 use Rattle.disk_feeder.specs.Feeding.{EndIs, StopsWalkAt, IsCutAt}
-use Rattle.disk_feeder.specs.History.{file_name, BreaksIf}
+use Rattle.disk_feeder.specs.History.{file_name, IsShut, BreaksIf}
 use Rattle.disk_feeder.specs.Plan.{AreToldAt, IsFirstFile, IsAmong, opened_at}
 use Rattle.disk_feeder.specs.Reading.{judged_at}
 use Rattle.run_stop.specs.declared.stop.Stop.{Stop}
 use Rattle.run_stop.specs.declared.stop.Stop.TheVariants.{Words, Value, Header, Plan, Recording, Memory, ReadFault, Gap, TooLong, TooMany, SinkFault, FileFault}
 use Rattle.run_stop.specs.Lone.{LoneSearch}
 use Rattle.run_stop.specs.Ends.{WordsSayOnce, SaysBefore, IsRunFed}
-use Rattle.run_stop.specs.Firsts.{HaveHeaders, ReadsFirsts, RefusesTextAt, BreaksFirstAt, RefusesFirstFields}
+use Rattle.run_stop.specs.Firsts.{ReadsFirsts, RefusesTextAt, RefusesFieldsAt, BreaksFirstAt, RefusesFirstFields}
 use Rattle.run_stop.specs.Outcomes.{ReadsNoData, LeavesAtFault}
-use Rattle.run_stop.specs.Runs.{Task, Alone, Says, ForFilesAt, ForFirsts, ForFilesTo, JudgesFirsts, PassesTo, CanBegin, RefusesSearch, RefusesToRecord, first_observation, stream_for}
-use Rattle.whole_run.specs.Ends.{FaultLeaves}
-use Rattle.whole_run.specs.Openings.{SaysEarly}
-use Rattle.whole_run.specs.Wholes.{OfRunAt, OfRunFirsts, OfRunTo, JudgesRun, PassesRunTo, ForWords}
+use Rattle.run_stop.specs.Runs.{Task, Alone, Says, ForFilesAt, ForFirsts, ForFilesTo, ForFilesWithFirsts, JudgesFirsts, PassesTo, MayBegin, CanBegin, RefusesSearch, RefusesSearchAt, RefusesToRecord, RefusesRecordingAt, first_observation, stream_for}
+use Rattle.run_stop.specs.Faults.{FaultLeaves}
+use Rattle.search_opening.specs.Early.{SaysEarly}
+use Rattle.search_opening.specs.Settings.{OfRunAt, OfRunFirsts, OfRunTo, JudgesRun, BeginsRun, PassesRunTo, ForWords}
 use Rattle.lone_run.specs.declared.found.LoneFound.{LoneFound}
 use Rattle.lone_run.specs.declared.stop.LoneStop.{LoneStop}
 use Rattle.lone_run.specs.declared.stop.LoneStop.TheVariants.{Run, Unscoped}
-use Rattle.lone_run.specs.Stops.{RefusesFirst, ScopesFirst, StopsEarly, StopsAlone}
+use Rattle.lone_run.specs.Stops.{RefusesFirst, RefusesFirstAt, ScopesFirst, StopsEarly, StopsAlone}
 use Rattle.lone_run.specs.Found.{GoesAlone, HasFoundAll, IsFoundAlone}
-use Rattle.lone_run.proofs.Told.{Every, FeedsRun, before_reading, firsts_before_reading, judged_before_reading, passed_before_reading, where_all, all_told, of_plan, passes_plan}
+use Rattle.lone_run.proofs.Told.{Every, FeedsRun, before_reading, firsts_before_reading, begins_before_reading, passed_before_reading, where_all, all_told, of_plan, passes_plan}
 
 -- words say one settings: so what holds of the files of a run holds for them
 for_files : WordsSayOnce → (Needed : SettingsSeen → ℕ → Type 0) (task : Task) (words : List (List ℕ))
@@ -50,7 +50,12 @@ for_firsts once = for_files once (λ s. IsFirstFile s.starts (length s.names))
 for_files_to : WordsSayOnce → (opened : ℕ) (task : Task) (words : List (List ℕ)) (s : SettingsSeen) (told : Told)
     (P : SettingsSeen → FileStream → Type 0) → Says task words s → OfRunTo opened told s (P s) →
     ForFilesTo opened task words told P
-for_files_to once opened = for_files once (λ s. IsAmong opened s.starts (length s.names))
+for_files_to once opened = for_files once (λ s k. k < opened)
+
+for_files_with_firsts : WordsSayOnce → (opened : ℕ) (task : Task) (words : List (List ℕ)) (s : SettingsSeen)
+    (told : Told) (P : SettingsSeen → FileStream → Type 0) → Says task words s →
+    OfRunAt (IsAmong opened s.starts (length s.names)) told s (P s) → ForFilesWithFirsts opened task words told P
+for_files_with_firsts once opened = for_files once (λ s. IsAmong opened s.starts (length s.names))
 
 -- and what holds of the settings of a run
 for_settings : WordsSayOnce → (task : Task) (words : List (List ℕ)) (s : SettingsSeen) (P : SettingsSeen → Type 0) →
@@ -58,10 +63,10 @@ for_settings : WordsSayOnce → (task : Task) (words : List (List ℕ)) (s : Set
 for_settings once task words s P says holds t says' = subst P (once task words s t says says') holds
 
 judges_firsts : WordsSayOnce → (task : Task) (words : List (List ℕ)) (s : SettingsSeen) (told : Told)
-    (P : SettingsSeen → FileStream → Type 0) → Says task words s → JudgesRun told s (P s) →
-    JudgesFirsts task words told P
-judges_firsts once task words s told P says judged = (
-  for_settings once task words s (λ t. HaveHeaders told t.names t.starts (length t.starts)) says judged.0,
+    (Each : SettingsSeen → Type 0) (P : SettingsSeen → FileStream → Type 0) → Says task words s →
+    JudgesRun told s (Each s) (P s) → JudgesFirsts task words told Each P
+judges_firsts once task words s told Each P says judged = (
+  for_settings once task words s Each says judged.0,
   for_firsts once task words s told P says judged.1,
 )
 
@@ -78,11 +83,16 @@ says_before once task words s told (Value opt) says early = absurd early
 says_before once task words s told (Header file (Text fault)) says early =
     for_settings once task words s (λ t. RefusesTextAt told t.names t.starts file fault) says early
 says_before once task words s told (Header file (Fields fault)) says early =
-    judges_firsts once task words s told (λ t w. RefusesFirstFields w file fault) says early
-says_before once task words s told (Plan cause) says early =
-    (early.0, judges_firsts once task words s told (λ t w. RefusesSearch t.search w cause) says early.1)
+    judges_firsts once task words s told (λ t. RefusesFieldsAt told t.names t.starts file fault)
+    (λ t w. RefusesFirstFields w file fault) says early
+says_before once task words s told (Plan cause) says early = (
+  early.0,
+  judges_firsts once task words s told (λ t. RefusesSearchAt t told cause) (λ t w. RefusesSearch t.search w cause)
+      says early.1,
+)
 says_before once task words s told (Recording cause) says early =
-    judges_firsts once task words s told (λ t w. RefusesToRecord task t w cause) says early
+    judges_firsts once task words s told (λ t. RefusesRecordingAt task t told cause)
+    (λ t w. RefusesToRecord task t w cause) says early
 says_before once task words s told Memory says early = tt
 says_before once task words s told ReadFault says early = tt
 says_before once task words s told (Gap file expected found) says early = early
@@ -103,7 +113,8 @@ stops_alone once scopes refuses s told (Run stop) early lone words says = (
   λ plan. for_firsts once (Alone lone) words s told (ScopesFirst scopes) says ((early.says lone).1 plan),
 )
 stops_alone once scopes refuses s told (Unscoped refusal) early lone words says =
-    judges_firsts once (Alone lone) words s told (λ t w. RefusesFirst refuses w refusal) says (early.says lone)
+    judges_firsts once (Alone lone) words s told (λ t. RefusesFirstAt refuses t told refusal)
+    (λ t w. RefusesFirst refuses w refusal) says (early.says lone)
 
 pub reads_no_data : WordsSayOnce → (s : SettingsSeen) (old new : Told) →
     OfRunFirsts old s (λ w. ReadsFirsts s.names w old new) →
@@ -123,7 +134,7 @@ pub leaves_session : {I : Type 0} → WordsSayOnce → (told : I → Told) (task
     (is_calm calm : Type 0) (before : Told) (feeder : Feeder I) (after : I) (blocks : Finished) →
     (told feeder.inputs.now).bytes_under ≡ before.bytes_under →
     (told after).bytes_under ≡ (told feeder.inputs.now).bytes_under → FeedsRun feeder s →
-    JudgesRun (told feeder.inputs.now) s (λ w. CanBegin task s w) →
+    BeginsRun task (told feeder.inputs.now) s →
     FeederRead before (told feeder.inputs.now) feeder → FaultLeaves told calm feeder after blocks → (is_calm → calm) →
     ForWords task s (λ words. LeavesAtFault task words is_calm before (told after) (Some blocks))
 leaves_session once told task s is_calm calm before feeder after blocks same still plan begun read leaves calms words
@@ -135,22 +146,26 @@ leaves_session once told task s is_calm calm before feeder after blocks same sti
     let at = leaves.place in
     let broke = leaves.broke before read in
     let Cut : ℕ → Type 0 = λ size. OfRunTo (opened_at at) before s (λ w. IsCutAt w at size sealed) in
-    let Stood : List (List ℕ) → Type 0 = λ ns. OfRunTo (at.file + 1) before s (λ w.
+    let Stood : List (List ℕ) → Type 0 = λ ns. OfRunAt (IsAmong (at.file + 1) s.starts (length s.names)) before s (λ w.
     BreaksIf at.is_open ns w before now at) in
+    let Shut : List (List ℕ) → Type 0 = λ ns. OfRunAt (IsAmong at.file s.starts (length s.names)) before s (λ w.
+    IsShut ns w before now at.transfer at.file at.since) in
     let Missing : List (List ℕ) → Type 0 = λ ns. (at.file < length ns)
     × ¬ IsSome (before.bytes_under (file_name ns at.file)) in
     record {
       at = at;
-      begun = judges_firsts once task words s before (λ t w. CanBegin task t w) says
-          (judged_before_reading s before mid (λ w. CanBegin task s w) same begun);
+      begun = judges_firsts once task words s before (λ t. MayBegin task t before) (λ t w. CanBegin task t w) says
+          (begins_before_reading task s before mid same begun);
+      there = for_settings once task words s (λ t. at.file < length t.names) says
+          (subst (λ ns. at.file < length ns) plan.files leaves.there);
       passed = passes_to once at.file task words s before says
           (passes_plan feeder s before now at.file plan (still ∙ same) broke.passed);
       cut = for_files_to once (opened_at at) task words s before (λ t w. IsCutAt w at t.size sealed) says
           (subst Cut plan.block
-          (of_plan (IsAmong (opened_at at)) feeder s before now (λ w. IsCutAt w at (block_size feeder) sealed) plan
-          (still ∙ same) broke.cut));
-      stood = for_files_to once (at.file + 1) task words s before (λ t w. BreaksIf at.is_open t.names w before now at)
-          says (subst Stood plan.files
+          (of_plan (λ starts count k. k < opened_at at) feeder s before now
+          (λ w. IsCutAt w at (block_size feeder) sealed) plan (still ∙ same) broke.cut));
+      stood = for_files_with_firsts once (at.file + 1) task words s before
+          (λ t w. BreaksIf at.is_open t.names w before now at) says (subst Stood plan.files
           (of_plan (IsAmong (at.file + 1)) feeder s before now (λ w. BreaksIf at.is_open names w before now at) plan
           (still ∙ same) broke.stood));
       missing = λ is t says'.
@@ -159,6 +174,12 @@ leaves_session once told task s is_calm calm before feeder after blocks same sti
           lost.1 in
           for_settings once task words s (λ u. Missing u.names) says (subst Missing plan.files (lost.0, untold)) t
           says';
+      shut = λ is. broke.shut (calms is);
+      unopened = λ is. for_files_with_firsts once at.file task words s before
+          (λ t w. IsShut t.names w before now at.transfer at.file at.since) says (subst Shut plan.files
+          (of_plan (IsAmong at.file) feeder s before now
+          (λ w. IsShut names w before now at.transfer at.file at.since) plan (still ∙ same)
+          (broke.unopened (calms is))));
     }
 
 pub is_fed : WordsSayOnce → (s : SettingsSeen) (old new : Told) (o : Observation) (scope : Scope) (found : LoneFound) →
@@ -167,13 +188,18 @@ pub is_fed : WordsSayOnce → (s : SettingsSeen) (old new : Told) (o : Observati
 is_fed once s old new o scope found same went lone words says =
     let sealed = sealed_at_end found.blocks in
     let judged = judged_at found.feed went.at in
-    let needed = IsAmong judged s.starts (length s.names) in
+    let needed : ℕ → Type 0 = λ k. k < judged in
     record {
-      begun = judges_firsts once (Alone lone) words s old (λ t w. CanBegin (Alone lone) t w) says
-          (judged_before_reading s old new (λ w. CanBegin (Alone lone) s w) same (went.begun lone));
+      begun = judges_firsts once (Alone lone) words s old (λ t. MayBegin (Alone lone) t old)
+          (λ t w. CanBegin (Alone lone) t w) says (begins_before_reading (Alone lone) s old new same (went.begun lone));
       at = went.at;
       last = λ bytes whole. for_settings once (Alone lone) words s (λ t. went.at.file ≡ length t.names) says
           (went.last bytes whole);
+      there = λ early. for_settings once (Alone lone) words s (λ t. went.at.file < length t.names) says
+          (went.there early);
+      names = went.names;
+      limit = λ limit long. for_settings once (Alone lone) words s (λ t. limit ≡ t.max_bytes) says
+          (went.limit limit long);
       passed = passes_to once went.at.file (Alone lone) words s old says
           (passed_before_reading went.at.file s old new same went.passed);
       walked = for_files_to once judged (Alone lone) words s old (λ t w. EndIs w t.size sealed found.feed) says

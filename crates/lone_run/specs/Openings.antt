@@ -1,6 +1,6 @@
 -- A lone run of which all is opened.
 -- Source: this project's choice.
-use Rattle.std.specs.Prelude.{◌≡◌, ◌*◌, ◌^◌, ◌≤◌, List, [], ◌∷◌, length, take, slice_get, Option, Some, None}
+use Rattle.std.specs.Prelude.{◌≡◌, ◌*◌, ◌^◌, ◌≤◌, [], ◌∷◌, length, take, slice_get, Some, None}
 use Rattle.psr_base.specs.Told.{Told}
 use Rattle.dada_model.specs.Fields.{HeaderText}
 use Rattle.dada_model.specs.Observation.{Observation}
@@ -11,18 +11,17 @@ use Rattle.ring_words.specs.declared.shape.RingShape.{RingShape}
 use Rattle.search_engine.specs.Engine.{most_fed}
 use Rattle.search_engine.specs.Scope.{Scope}
 use Rattle.disk_feeder.specs.declared.feeder.Feeder.{Feeder}
-use Rattle.disk_feeder.specs.Feeder.{HasPlan, IsFresh, IsBegun, FeederFeeds, FeederFaultless, HasOpenFile, headers_of, has_end}
+use Rattle.disk_feeder.specs.Feeder.{HasPlan, IsFresh, FeederFeeds, FeederFaultless, HasOpenFile, headers_of, has_end}
 use Rattle.disk_feeder.specs.Feeding.{header_entries}
-use Rattle.search_session.specs.declared.lane.Lane.{Lane}
+use Rattle.session_readers.specs.declared.bank.Bank.{Bank}
 use Rattle.search_session.specs.declared.lone_space.LoneSpace.{LoneSpace}
 use Rattle.search_session.specs.Lone.{IsLoneSpace}
-use Rattle.search_opening.specs.First.{AreFirsts, AreObserved}
+use Rattle.search_opening.specs.First.{AreFirsts}
 use Rattle.search_opening.specs.Rings.{run_shape}
-use Rattle.run_stop.specs.Firsts.{HaveHeaders}
-use Rattle.run_stop.specs.Lone.{IsOfOne}
-use Rattle.run_stop.specs.Runs.{CanSearchFirst}
-use Rattle.whole_run.specs.Wholes.{OfRunFirsts}
-use Rattle.lone_run.specs.Scopes.{IsLaneOf}
+use Rattle.run_stop.specs.Lone.{LoneSearch, IsOfOne}
+use Rattle.run_stop.specs.Runs.{Alone, MayBegin, CanSearchFirst}
+use Rattle.search_opening.specs.Settings.{OfRunFirsts}
+use Rattle.lone_run.specs.Scopes.{IsBankOf}
 
 -- the data ring of a lone run
 abbrev pub shape_for : SettingsSeen → RingShape
@@ -44,16 +43,6 @@ pub record IsFeederReady {I : Type 0} (told : I → Told) (is_open : I → Type 
   pub running : has_end f ≡ None
   pub file : HasOpenFile f → is_open f.inputs.now
 
--- the first header was read, its observation is this, and no data are read
-pub record HasBegun {I : Type 0} (told : I → Told) (is_open : I → Type 0) (s : SettingsSeen)
-    (f : Feeder I) (observations : List (Option Observation)) : Type 0 where
-  pub plan : HasPlan f s.names s.starts s.size s.max_bytes
-  pub begun : IsBegun (told f.inputs.now) f
-  pub file : HasOpenFile f → is_open f.inputs.now
-  pub observed : AreObserved (headers_of f) observations
-  pub texts : HaveHeaders (told f.inputs.now) s.names s.starts (length s.starts)
-  pub firsts : OfRunFirsts (told f.inputs.now) s (λ w. AreFirsts w observations)
-
 -- Nothing stands against a lone run, and all of its memory is taken: its engine searches this scope of the observation
 -- of the first header.
 pub record IsOpenedAlone {I : Type 0} (told : I → Told) (is_open : I → Type 0) (s : SettingsSeen)
@@ -62,11 +51,11 @@ pub record IsOpenedAlone {I : Type 0} (told : I → Told) (is_open : I → Type 
   pub most : s.max_bytes ≤ 2 ^ 48
   pub header : HeaderText
   pub feeder : IsFeederReady told is_open s header f
-  pub lane : Lane
-  pub lane_is : IsLaneOf s.search o scope lane
-  pub space_is : IsLoneSpace lane (shape_for s) header space
+  pub bank : Bank
+  pub bank_is : IsBankOf s.search o scope bank
+  pub space_is : IsLoneSpace bank (shape_for s) header space
   pub total : (shape_for s).max_blocks * s.size ≤ most_fed
-  pub texts : HaveHeaders (told f.inputs.now) s.names s.starts (length s.starts)
+  pub begins : (lone : LoneSearch) → MayBegin (Alone lone) s (told f.inputs.now)
   pub firsts : OfRunFirsts (told f.inputs.now) s (λ w. AreFirsts w (Some o ∷ []))
   pub fits : (w : FileStream) → AreFirsts w (Some o ∷ []) →
       CanSearchFirst s.search w (length w.starts)

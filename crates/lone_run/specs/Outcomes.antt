@@ -7,12 +7,11 @@ use Rattle.ring_ends.specs.declared.finished.Finished.{Finished}
 use Rattle.ring_ends.specs.Ended.{sealed_at_end}
 use Rattle.search_words.specs.Settings.{SettingsSeen}
 use Rattle.stream_model.specs.Walk.{walk_stream}
-use Rattle.disk_feeder.specs.Feeding.{IsBroken}
 use Rattle.run_stop.specs.declared.stop.Stop.{Stop}
 use Rattle.run_stop.specs.Texts.{status_of}
 use Rattle.run_stop.specs.Lone.{LoneSearch, SayAlone}
-use Rattle.run_stop.specs.Runs.{Alone, ForFiles, JudgesFirsts, PassesTo, CanBegin}
-use Rattle.run_stop.specs.Outcomes.{JudgesWords, ReadsInputs, StopsAtFiles, AllCleared}
+use Rattle.run_stop.specs.Runs.{Alone, ForFiles, BeginsByFirsts, PassesTo, CanBegin}
+use Rattle.run_stop.specs.Outcomes.{JudgesWords, ReadsInputs, StopsAtFiles, BreaksStream, AllCleared}
 use Rattle.run_stop.specs.Ends.{IsSaid, short_statuses}
 
 -- What went through the data ring, which is there from the session on, and was cleared by its reader: the stream of the
@@ -23,16 +22,14 @@ pub record SealsAlone (own : ℕ) (lone : LoneSearch) (words : List (List ℕ)) 
     (blocks : Option Finished) (status : ℕ) : Type 0 where
   pub none : blocks ≡ None → Contains (2 ∷ 3 ∷ 4 ∷ 5 ∷ 6 ∷ own ∷ []) status
   pub some : IsSome blocks → Contains (0 ∷ 3 ∷ 6 ∷ 7 ∷ 8 ∷ 9 ∷ 10 ∷ own ∷ []) status
-  pub begun : IsSome blocks → JudgesFirsts (Alone lone) words told (λ s w.
-      CanBegin (Alone lone) s w)
+  pub begun : IsSome blocks → BeginsByFirsts (Alone lone) words told
   pub passed : IsSome blocks → ¬ Contains (3 ∷ 6 ∷ 7 ∷ 8 ∷ []) status → (s : SettingsSeen) →
       SayAlone lone words s → PassesTo (length s.names) (Alone lone) words told
   pub sealed : (b : Finished) → blocks ≡ Some b → status ≢ 6 →
       ForFiles (Alone lone) words told (λ s w.
       CanBegin (Alone lone) s w × (sealed_at_end b ≡ walk_stream s.size w))
   pub broken : (b : Finished) → blocks ≡ Some b → status ≡ 6 →
-      ForFiles (Alone lone) words told (λ s w.
-      CanBegin (Alone lone) s w × IsBroken w s.size (sealed_at_end b))
+      BreaksStream (Alone lone) words told b
   pub cleared : (b : Finished) → blocks ≡ Some b → AllCleared b 0 1
 
 -- what the exit status says of the words, the inputs, the files and the data ring; the inputs may be calm

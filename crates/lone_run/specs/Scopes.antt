@@ -6,8 +6,8 @@ use Rattle.search_model.specs.declared.search.Search.{Search}
 use Rattle.search_model.specs.Search.{in_one_shard}
 use Rattle.search_engine.specs.Scope.{Scope}
 use Rattle.search_engine.specs.Engine.{EngineState, IsOpenedEngine, StandsForPart, scope_of}
-use Rattle.search_session.specs.declared.lane.Lane.{Lane}
-use Rattle.search_session.specs.Lanes.{engines_of}
+use Rattle.session_readers.specs.declared.bank.Bank.{Bank}
+use Rattle.session_readers.specs.Banks.{engines_of}
 use Rattle.lone_run.specs.declared.scoping.ScopeFault.{ScopeFault}
 use Rattle.lone_run.specs.declared.scoping.ScopeFault.TheVariants.{Refused, Memory}
 
@@ -21,10 +21,10 @@ abbrev pub ExplainsScope : {F : Type 0} → (Observation → F → Type 0) → O
 ExplainsScope refuses o (Refused refusal) = refuses o refusal
 ExplainsScope refuses o Memory = ⊤
 
--- the lane has one engine, which searches a scope of an observation, and was fed nothing
-pub record IsLaneOf (s : Search) (o : Observation) (scope : Scope) (lane : Lane) : Type 0 where
+-- the bank has one engine, which searches a scope of an observation, and was fed nothing
+pub record IsBankOf (s : Search) (o : Observation) (scope : Scope) (bank : Bank) : Type 0 where
   pub engine : EngineState
-  pub alone : engines_of lane ≡ Some engine ∷ []
+  pub alone : engines_of bank ≡ Some engine ∷ []
   pub opened : IsOpenedEngine engine (in_one_shard s) 0
   pub scope_is : scope_of engine ≡ scope
   pub stands : StandsForPart o [] engine

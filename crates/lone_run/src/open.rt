@@ -13,13 +13,15 @@ ghost use Rattle.disk_feeder.specs.Feeder.{FeederRead};
 ghost use Rattle.disk_feeder.specs.Filling.{HoldsAll};
 ghost use Rattle.search_session.specs.Lone.{IsLoneSpace};
 ghost use Rattle.search_opening.specs.First.{AreFirsts};
+ghost use Rattle.search_opening.specs.Plans.{PlansFit};
+ghost use Rattle.search_opening.specs.Begun.{HasFirsts};
 ghost use Rattle.run_stop.specs.declared.stop.Stop.{Stop as Stopped};
 ghost use Rattle.run_stop.specs.Lone.{IsOfOne};
 ghost use Rattle.run_stop.specs.Runs.{CanSearchFirst};
-ghost use Rattle.whole_run.specs.Openings.{LeavesEarly};
-ghost use Rattle.lone_run.specs.Scopes.{IsLaneOf};
-ghost use Rattle.lone_run.specs.Stops.{StopsEarly, StopsLane};
-ghost use Rattle.lone_run.specs.Openings.{IsFreshFor, HasBegun, OpensScope, shape_for};
+ghost use Rattle.search_opening.specs.Early.{LeavesEarly};
+ghost use Rattle.lone_run.specs.Scopes.{IsBankOf};
+ghost use Rattle.lone_run.specs.Stops.{StopsEarly, StopsBank};
+ghost use Rattle.lone_run.specs.Openings.{IsFreshFor, OpensScope, shape_for};
 
 use crate::scoping::{ScopeFault, Scoping};
 use crate::stop::LoneStop;
@@ -31,10 +33,12 @@ use psr_base::{Inputs, Memory};
 use run_stop::Stop;
 use search_engine::{Engine, PlanFault, Scope};
 use search_model::{MOST_TRANSFERS, Search};
-use search_opening::{accept_all, begin_feed, check_plans, run_shape};
-use search_session::{Lane, LoneSpace};
+use search_opening::{accept_all, begin_run, check_plans, run_shape};
+use search_session::{Bank, LoneSpace};
 use search_words::Settings;
 use std::alloc::Global;
+// A law: it does nothing when it runs, and the proofs use what it ensures.
+use search_opening::early_stops_stand;
 
 /// A lone run of which all is opened.
 pub(crate) struct OpenedAlone {
@@ -64,43 +68,44 @@ fn open_engine(
     }
 }
 
-// The lane that has it alone.
-fn open_lane(
+// The bank that has it alone.
+fn open_bank(
     alloc: Global,
     observation: &Observation,
     search: &Search,
     scope: Scope,
-) -> Result<Lane, Memory>
+) -> Result<Bank, Memory>
     requires range { SettingsInRange search.now }
     requires fits { plan_refusal observation.now search.now ≡ None }
     requires scope { FitsObservation observation.now search.now scope }
-    ensures { IfOk result (IsLaneOf search.now observation.now scope) }
+    ensures { IfOk result (IsBankOf search.now observation.now scope) }
 {
     let engine = open_engine(alloc, observation, search, scope)?;
     let mut engines = ArrayVec::new();
     engines.push(Some(engine));
     match Box::new(alloc, engines) {
-        Ok(engines) => Ok(Lane { engines }),
+        Ok(engines) => Ok(Bank { engines }),
         Err(_memory) => Err(Memory),
     }
 }
 
-// The lane that searches what the program finds in the observation of a transfer, where the plan of the search fits.
-fn lane_for<S: Scoping>(
+// The bank that searches what the program finds in the observation of a transfer, where the plan of the search fits.
+fn bank_for<S: Scoping>(
     alloc: Global,
     scoping: &S,
     observations: &[Option<Observation>],
     search: &Search,
-) -> Result<Lane, LoneStop<S::Refusal>>
+) -> Result<Bank, LoneStop<S::Refusal>>
     requires range { SettingsInRange search.now }
     requires one { (o : Described) × (observations.now ≡ Some o ∷ []) }
-    ensures opened { IfOk result (λ lane. (o : Described) → observations.now ≡ Some o ∷ []
+    ensures opened { IfOk result (λ bank. (o : Described) → observations.now ≡ Some o ∷ []
         → (scope : Sought) × S.scopes scoping.now o search.now scope
-        × IsLaneOf search.now o scope lane) }
+        × IsBankOf search.now o scope bank) }
+    ensures plan { OnOk result (PlansFit search.now observations.now) }
     ensures fits { OnOk result ((w : FileStream) → AreFirsts w observations.now
         → CanSearchFirst search.now w (length w.starts)) }
     ensures stopped { IfErr result (λ stop. (o : Described) → observations.now ≡ Some o ∷ []
-        → StopsLane (S.scopes scoping.now) (S.refuses scoping.now) search.now o stop) }
+        → StopsBank (S.scopes scoping.now) (S.refuses scoping.now) search.now o stop) }
 {
     let Some(observation) = &observations[0] else {
         unreachable!()
@@ -114,27 +119,27 @@ fn lane_for<S: Scoping>(
         Ok(()) => {}
         Err(stop) => return Err(LoneStop::Run(stop)),
     }
-    match open_lane(alloc, observation, search, scope) {
-        Ok(lane) => Ok(lane),
+    match open_bank(alloc, observation, search, scope) {
+        Ok(bank) => Ok(bank),
         Err(_memory) => Err(LoneStop::Run(Stop::Memory)),
     }
 }
 
-// The space of the session of a lane, under this first header.
+// The space of the session of a bank, under this first header.
 fn take_space(
     alloc: Global,
     settings: &Settings,
-    lane: Lane,
+    bank: Bank,
     header: &Header,
 ) -> Result<LoneSpace, Memory>
     requires { AllInRange (settings_seen settings.now) }
     ensures space { IfOk result
-        (IsLoneSpace lane (shape_for (settings_seen settings.now)) header.now) }
+        (IsLoneSpace bank (shape_for (settings_seen settings.now)) header.now) }
     ensures total { OnOk result ((shape_for (settings_seen settings.now)).max_blocks
         * settings.now.size ≤ most_fed) }
 {
     let shape = run_shape(settings.buffers, settings.size, 1, settings.max_bytes, 1);
-    LoneSpace::take(alloc, lane, shape, header)
+    LoneSpace::reserve(alloc, bank, shape, header)
 }
 
 // The observation of a transfer.
@@ -158,7 +163,7 @@ fn open_begun<'a, I: Inputs, S: Scoping>(
 ) -> Result<OpenedAlone, LoneStop<S::Refusal>>
     requires range { AllInRange (settings_seen settings.now) }
     requires one { IsOfOne (settings_seen settings.now) }
-    requires begun { HasBegun I.told I.is_open (settings_seen settings.now) feeder.old
+    requires begun { HasFirsts I.told I.is_open (settings_seen settings.now) feeder.old
         observations.items }
     ensures same_reference { feeder.new.inputs.ghost_name ≡ feeder.old.inputs.ghost_name }
     ensures inputs { feeder.new.inputs.now ≡ feeder.old.inputs.now }
@@ -170,11 +175,11 @@ fn open_begun<'a, I: Inputs, S: Scoping>(
     ensures reads_on { (before told : Told) → FeederRead before told feeder.old
         → FeederRead before told feeder.new }
 {
-    let lane = match lane_for(alloc, scoping, observations.as_slice(), &settings.search) {
-        Ok(lane) => lane,
+    let bank = match bank_for(alloc, scoping, observations.as_slice(), &settings.search) {
+        Ok(bank) => bank,
         Err(stop) => return Err(stop),
     };
-    match take_space(alloc, settings, lane, feeder.header(0)) {
+    match take_space(alloc, settings, bank, feeder.header(0)) {
         Ok(space) => {
             accept_all(feeder, observations.as_slice());
             Ok(OpenedAlone {
@@ -214,7 +219,8 @@ pub(crate) fn open_alone<'a, I: Inputs, S: Scoping>(
     ensures begins { OnOk result (FeederRead (I.told feeder.old.inputs.now)
         (I.told feeder.new.inputs.now) feeder.new) }
 {
-    match begin_feed(alloc, feeder, settings.starts.as_slice()) {
+    early_stops_stand();
+    match begin_run(alloc, settings, feeder) {
         Ok(observations) => open_begun(alloc, settings, scoping, feeder, observations),
         Err(stop) => Err(LoneStop::Run(stop)),
     }

@@ -7,7 +7,7 @@ ghost use Rattle.run_stop.specs.Lone.{LoneSearch, IsOfOne};
 ghost use Rattle.run_stop.specs.Runs.{Alone};
 ghost use Rattle.run_stop.specs.Ends.{IsRunFed};
 ghost use Rattle.run_stop.specs.Outcomes.{ReadsNoData, LeavesAtFault};
-ghost use Rattle.whole_run.specs.Wholes.{ForWords};
+ghost use Rattle.search_opening.specs.Settings.{ForWords};
 ghost use Rattle.lone_run.specs.Stops.{FailsReading, blocks_of, StopsAlone};
 ghost use Rattle.lone_run.specs.Found.{IsFoundAlone};
 
@@ -60,7 +60,7 @@ fn within<'a, I: Inputs, S: Scoping, R: Wait>(
         (settings_seen settings.now) (I.told inputs.old)) }
 {
     words_say_once();
-    let space = match FeederSpace::take(
+    let space = match FeederSpace::reserve(
         alloc,
         settings.names.as_slice(),
         settings.starts.as_slice(),

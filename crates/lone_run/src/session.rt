@@ -8,8 +8,8 @@ ghost use Rattle.disk_feeder.specs.declared.answers.FeedEnd.TheVariants.{ReadFau
 ghost use Rattle.disk_feeder.specs.Feeder.{names_at};
 ghost use Rattle.disk_feeder.specs.Filling.{HoldsAll};
 ghost use Rattle.disk_feeder.specs.Resting.{feeder_over};
-ghost use Rattle.search_session.specs.Lanes.{HasEngine, engines_of};
-ghost use Rattle.whole_run.specs.Ends.{FaultLeaves};
+ghost use Rattle.session_readers.specs.Banks.{HasEngine, engines_of};
+ghost use Rattle.run_stop.specs.Faults.{FaultLeaves};
 ghost use Rattle.lone_run.specs.Openings.{IsOpenedAlone};
 ghost use Rattle.lone_run.specs.Found.{GoesAlone};
 
@@ -20,7 +20,7 @@ use disk_feeder::FeederSpace;
 use psr_base::Inputs;
 use search_engine::Engine;
 use search_model::MOST_TRANSFERS;
-use search_session::{Lane, NoGate, run_alone};
+use search_session::{Bank, NoGate, run_alone};
 use std::sync::Wait;
 
 // The first engine of a list.
@@ -34,12 +34,12 @@ fn first_of(engines: &mut ArrayVec<Option<Engine>, MOST_TRANSFERS>) -> Engine
     engine
 }
 
-// The engine of a lane that has one.
-fn engine_of(lane: Lane) -> Engine
-    requires { (e : EngineState) × HasEngine (engines_of lane) 0 e }
-    ensures { (e : EngineState) → HasEngine (engines_of lane) 0 e → result ≡ e }
+// The engine of a bank that has one.
+fn engine_of(bank: Bank) -> Engine
+    requires { (e : EngineState) × HasEngine (engines_of bank) 0 e }
+    ensures { (e : EngineState) → HasEngine (engines_of bank) 0 e → result ≡ e }
 {
-    let Lane { mut engines } = lane;
+    let Bank { mut engines } = bank;
     first_of(&mut engines)
 }
 
@@ -69,7 +69,7 @@ pub(crate) fn go_on<'a, I: Inputs, R: Wait>(
     LoneFound {
         feed: end.feed,
         observation,
-        engine: engine_of(end.lane),
+        engine: engine_of(end.bank),
         blocks: end.blocks,
     }
 }

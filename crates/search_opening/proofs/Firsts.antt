@@ -3,7 +3,7 @@ use Rattle.std.proofs.Common.{◌≡◌, ◌≢◌, ℕ, zero, suc, ◌+◌, ◌
 use Rattle.std.specs.Prelude.{IsSome, slice_index_or, string_bytes}
 use Rattle.std.proofs.lemmas.Bool.{cases_lt}
 use Rattle.std.proofs.lemmas.List.{length-map}
-use Rattle.std.proofs.lemmas.Option.{slice_get_within, slice_get-get_or}
+use Rattle.std.proofs.lemmas.Option.{same_Some, slice_get_within, slice_get-get_or}
 use Rattle.psr_base.specs.Told.{Told, OfFile}
 use Rattle.dada_model.specs.Fields.{HeaderText, header_of, fields_of}
 use Rattle.dada_model.specs.Observation.{Observation, observation_of, observation_in}
@@ -26,9 +26,9 @@ use Rattle.disk_feeder.specs.Sources as sources
 use Rattle.disk_feeder.specs.Sources.{plan_of}
 use Rattle.run_stop.specs.declared.stop.Stop.TheVariants.{Memory, ReadFault}
 use Rattle.run_stop.specs.Conversions.{stop_of_begin, stop_of_fields}
-use Rattle.run_stop.specs.Firsts.{first_file, first_at, first_name, HasHeader, HaveHeaders, ReadsFirsts, RefusesTextAt, BreaksFirstAt, RefusesFirstFields}
+use Rattle.run_stop.specs.Firsts.{first_file, first_at, first_name, HasHeader, HaveHeaders, ReadsFirsts, RefusesTextAt, RefusesFields, RefusesFieldsAt, BreaksFirstAt, RefusesFirstFields}
 use Rattle.run_stop.specs.Ends.{ComesBefore}
-use Rattle.search_opening.specs.First.{OfFirsts, StopsFirsts, AreFirsts, AreHeadersOf, AreObserved}
+use Rattle.search_opening.specs.First.{OfFirsts, StopsFirsts, AreFirsts, AreFirstsAt, AreHeadersOf, AreObserved}
 use Rattle.search_opening.proofs.Observed.{as_many, some_at, accepted_at}
 
 -- ---- files that are told
@@ -46,12 +46,16 @@ still_told told told' old new files bytes names starts are =
           ap (λ under. under (slice_index_or old.names k [])) bytes ∙ are.each k within needed;
     }))
 
--- and they have headers still
-pub still_headed : (told told' : Told) (old new : Plan) → told'.bytes_under ≡ told.bytes_under →
-    new.names ≡ old.names → new.starts ≡ old.starts →
-    HaveHeaders told' new.names new.starts (length new.starts) →
-    HaveHeaders told old.names old.starts (length old.starts)
-still_headed told told' old new bytes names starts have k below file is =
+-- the headers are those of the first files that are told
+abbrev pub HeadersAt : Told → List (List ℕ) → List ℕ → List HeaderText → Type 0
+HeadersAt told names starts headers = (k : ℕ) → k < length starts → OfFile told (first_name names starts k) (λ file.
+    (header : HeaderText) × (slice_get headers k ≡ Some header) × (header_of file ≡ Ok header))
+
+-- and they are still
+pub still_headed : (told told' : Told) (old new : Plan) (headers : List HeaderText) →
+    told'.bytes_under ≡ told.bytes_under → new.names ≡ old.names → new.starts ≡ old.starts →
+    HeadersAt told' new.names new.starts headers → HeadersAt told old.names old.starts headers
+still_headed told told' old new headers bytes names starts have k below file is =
     have k (subst (λ ss. k < length ss) (sym starts) below) file
     (ap (λ under. under (first_name new.names new.starts k)) bytes
     ∙ ap (λ ns. told.bytes_under (first_name ns new.starts k)) names
@@ -84,6 +88,14 @@ begins_rise starts count are k (suc transfer) most there = elim (cases_lt k (suc
       let equal = ap (begin_at starts count) same in
       omega (arith, equal)
 ]
+
+-- each begins with a file before that of one after it
+begins_below : (starts : List ℕ) (count : ℕ) → AreStarts starts count → (k transfer : ℕ) → k < transfer →
+    transfer < length starts → begin_at starts count k < begin_at starts count transfer
+begins_below starts count are k transfer below there =
+    let next = are.rise k (omega (arith, below, there)) in
+    let rise = begins_rise starts count are (k + 1) transfer (omega (arith, below)) there in
+    omega (arith, next, rise)
 
 -- a header for each transfer
 header_there : (headers : List HeaderText) (k : ℕ) → k < length headers →
@@ -135,10 +147,13 @@ module _ (told : Told) (source : Source)
 
   pub texts_are : length (plan_of source).headers ≡ length (plan_of source).starts →
       HeadersRead told source (length source.starts.now) source →
-      HaveHeaders told (plan_of source).names (plan_of source).starts (length (plan_of source).starts)
-  texts_are headed read = have_headers (length source.starts.now) (λ k there file is.
+      HeadersAt told (plan_of source).names (plan_of source).starts (plan_of source).headers
+  texts_are headed read k there = subst
+      (λ name. OfFile told name (λ file. (header : HeaderText) × (slice_get (plan_of source).headers k ≡ Some header)
+      × (header_of file ≡ Ok header))) (named k)
+      (λ file is.
       let at = header_there (plan_of source).headers k (omega (arith, there, headed)) in
-      (at.0, read k there file is at.0 at.1))
+      (at.0, at.1, read k there file is at.0 at.1))
 
   -- the first headers were read, in the words of the files
   pub firsts_are : (told' : Told) → FirstsRead told source (length source.starts.now) told' →
@@ -199,6 +214,18 @@ module _ (told : Told) (source : Source)
         told_at (IsFirstBefore (first_at (plan_of source).names source.starts.now b.transfer + 1) source.starts.now
         (length (plan_of source).names)) files are k there (omega (arith, rise), (k, there, refl))));
     missing = subst (λ name. is_calm → ¬ IsSome (told.bytes_under name)) (named b.transfer) b.missing;
+    unopened = λ calm files are.
+        let file_of : ℕ → List ℕ = λ k.
+        slice_index_or files (first_at (plan_of source).names source.starts.now k) [] in
+        b.unopened calm file_of (λ k below.
+        let there : k < length source.starts.now = omega (arith, below, b.there) in
+        told_at (IsFirstBefore (first_at (plan_of source).names source.starts.now b.transfer) source.starts.now
+        (length (plan_of source).names)) files are k there (
+          begins_below source.starts.now (length (plan_of source).names) starts k b.transfer below b.there,
+          (k, there, refl),
+        ))
+        ∙ ap (λ (n : ℕ). firsts_read (λ k. file_name (plan_of source).names (begin_at source.starts.now n k)) file_of
+        b.transfer told) many;
   }
 
 -- ---- what the headers say
@@ -213,16 +240,67 @@ said_by rows file header o has accepted =
 
 -- what a header says is refused, or there is no memory
 pub stops_fields : (told : Told) (plan : Plan) (file : ℕ) (cause : ObsFault) →
-    HaveHeaders told plan.names plan.starts (length plan.starts) →
+    (cause ≢ obs.Memory → RefusesFieldsAt told plan.names plan.starts file cause) →
     (cause ≢ obs.Memory → OfFirsts told plan (λ w. RefusesFirstFields w file cause)) →
     StopsFirsts told plan (stop_of_fields file cause)
-stops_fields told plan file (obs.Missing key) texts refuses = (texts, refuses (λ is. cc))
-stops_fields told plan file (obs.BadNumber key) texts refuses = (texts, refuses (λ is. cc))
-stops_fields told plan file (obs.OutOfProfile key) texts refuses = (texts, refuses (λ is. cc))
-stops_fields told plan file (obs.OutOfRange key) texts refuses = (texts, refuses (λ is. cc))
-stops_fields told plan file (obs.TooNarrow bw nchan) texts refuses = (texts, refuses (λ is. cc))
-stops_fields told plan file (obs.Differs key) texts refuses = (texts, refuses (λ is. cc))
-stops_fields told plan file obs.Memory texts refuses = tt
+stops_fields told plan file (obs.Missing key) each refuses = (each (λ is. cc), refuses (λ is. cc))
+stops_fields told plan file (obs.BadNumber key) each refuses = (each (λ is. cc), refuses (λ is. cc))
+stops_fields told plan file (obs.OutOfProfile key) each refuses = (each (λ is. cc), refuses (λ is. cc))
+stops_fields told plan file (obs.OutOfRange key) each refuses = (each (λ is. cc), refuses (λ is. cc))
+stops_fields told plan file (obs.TooNarrow bw nchan) each refuses = (each (λ is. cc), refuses (λ is. cc))
+stops_fields told plan file (obs.Differs key) each refuses = (each (λ is. cc), refuses (λ is. cc))
+stops_fields told plan file obs.Memory each refuses = tt
+
+-- the observations of the first files that are told
+pub are_firsts_at : AcceptedByRows → (told : Told) (names : List (List ℕ)) (starts : List ℕ)
+    (headers : List HeaderText) (observations : List (Option Observation)) → length headers ≡ length starts →
+    HeadersAt told names starts headers → AreObserved headers observations →
+    AreFirstsAt told names starts headers observations
+are_firsts_at rows told names starts headers observations headed have observed k below file is =
+    let all = as_many headers observations observed in
+    let at = have k below file is in
+    let o = some_at headers observations observed k (omega (arith, below, all, headed)) in
+    let accepted = accepted_at headers observations observed k o.0 at.0 o.1 at.1 in
+    record {
+      header = at.0;
+      observation = o.0;
+      there = at.1;
+      said = slice_get-get_or observations k None (omega (arith, below, all, headed))
+          ∙ ap (λ (x : Option Observation). Some x) o.1;
+      is_header = at.2;
+      is_observation = accepted;
+      is = sym (said_by rows file at.0 o.0 at.2 accepted);
+    }
+
+-- why what the header of a transfer says is refused, where its first file is told
+pub refuses_fields_at : (told : Told) (names : List (List ℕ)) (starts : List ℕ) (headers : List HeaderText) →
+    HeadersAt told names starts headers → (transfer file : ℕ) (cause : ObsFault) (header : HeaderText) →
+    transfer < length starts → file ≡ first_at names starts transfer → slice_get headers transfer ≡ Some header →
+    ExplainsObservation (fields_of header.text) cause → cause ≢ obs.Memory →
+    ((k : ℕ) (other : HeaderText) → k < transfer → slice_get headers k ≡ Some other →
+    (o : Observation) × (observation_of (fields_of other.text) ≡ Ok o)) →
+    RefusesFieldsAt told names starts file cause
+refuses_fields_at told names starts headers have transfer file cause header there is at why other earlier = elim why [
+  | inl want ↦ absurd (other want)
+  | inr refused ↦ record {
+    texts = λ k below bytes under. let here = have k below bytes under in (here.0, here.2);
+    transfer = transfer;
+    there = there;
+    is = is;
+    refused = subst (λ n. OfFile told (file_name names n) (λ bytes. RefusesFields bytes cause)) (sym is)
+        (λ bytes under.
+        let here = have transfer there bytes under in
+        record {
+          header = header;
+          has = here.2 ∙ ap (λ (h : HeaderText). Ok h) (same_Some here.0 header (sym here.1 ∙ at));
+          cause = refused;
+        });
+    earlier = λ k below bytes under.
+        let here = have k (omega (arith, below, there)) bytes under in
+        let o = earlier k here.0 below here.1 in
+        record { header = here.0; observation = o.0; is_header = here.2; is_observation = o.1 };
+  }
+]
 
 module _ (w : FileStream) (headers : List HeaderText) (many_headers : length headers ≡ length w.starts)
     (have : (k : ℕ) (header : HeaderText) → slice_get headers k ≡ Some header →

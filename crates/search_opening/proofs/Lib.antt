@@ -1,8 +1,11 @@
 pub mod Observed
 pub mod Firsts
 pub mod Built
-pub mod Lanes
+pub mod Banks
 pub mod Starting
 pub mod Staging
 pub mod Stopping
 mod Opened
+mod Opening
+mod Told
+mod Results

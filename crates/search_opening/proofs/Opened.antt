@@ -1,49 +1,49 @@
--- Lanes that were opened beside each other, each in its slot.
+-- Banks that were opened beside each other, each in its slot.
 use Rattle.std.proofs.Common.{◌≡◌, ℕ, ◌<◌, ◌++◌, All, None, Some, List, length, get_or, take, drop, refl, sym, ap, subst, ◌∙◌}
 use Rattle.std.specs.Prelude.{Option, IfSome, IsSome}
 use Rattle.std.proofs.Math.Seq.{take-append_seam}
 use Rattle.std.proofs.lemmas.Option.{slice_get-get_or}
 use Rattle.dada_model.specs.Observation.{Observation}
 use Rattle.search_model.specs.declared.search.Search.{Search}
-use Rattle.search_session.specs.declared.lane.Lane.{Lane}
-use Rattle.search_session.specs.Lanes.{engines_of}
-use Rattle.search_opening.specs.Engines.{AreEnginesFor, AreLanesTo}
+use Rattle.session_readers.specs.declared.bank.Bank.{Bank}
+use Rattle.session_readers.specs.Banks.{engines_of}
+use Rattle.search_opening.specs.Engines.{AreEnginesFor, AreBanksTo}
 
 module _ (s : Search) (observations : List (Option Observation)) where
-  -- the engines of a lane are those of a shard
-  abbrev pub IsLaneFor : ℕ → Lane → Type 0
-  IsLaneFor shard lane = AreEnginesFor s shard observations (engines_of lane)
+  -- the engines of a bank are those of a shard
+  abbrev pub IsBankFor : ℕ → Bank → Type 0
+  IsBankFor shard bank = AreEnginesFor s shard observations (engines_of bank)
 
-  found : (shard : ℕ) (slot : Option Lane) → IsSome slot → IfSome slot (IsLaneFor shard) →
-      (lane : Lane) × (slot ≡ Some lane) × IsLaneFor shard lane
+  found : (shard : ℕ) (slot : Option Bank) → IsSome slot → IfSome slot (IsBankFor shard) →
+      (bank : Bank) × (slot ≡ Some bank) × IsBankFor shard bank
   found shard None some is = absurd cc
-  found shard (Some lane) some is = (lane, refl, is)
+  found shard (Some bank) some is = (bank, refl, is)
 
-  -- where each slot has a lane, there are the lanes of all shards
-  all_there : (lanes : List (Option Lane)) → length lanes ≡ s.shards →
-      ((shard : ℕ) → shard < length lanes → IfSome (get_or lanes shard None) (IsLaneFor shard)) → All IsSome lanes →
-      AreLanesTo s observations s.shards lanes
-  all_there lanes count filled some = record {
+  -- where each slot has a bank, there are the banks of all shards
+  all_there : (banks : List (Option Bank)) → length banks ≡ s.shards →
+      ((shard : ℕ) → shard < length banks → IfSome (get_or banks shard None) (IsBankFor shard)) → All IsSome banks →
+      AreBanksTo s observations s.shards banks
+  all_there banks count filled some = record {
     count = count;
     each = λ shard within.
         let here = subst (λ n. shard < n) (sym count) within in
-        let slot = found shard (get_or lanes shard None) (some shard None here) (filled shard here) in
-        (slot.0, slice_get-get_or lanes shard None here ∙ ap (λ (x : Option Lane). Some x) slot.1, slot.2);
+        let slot = found shard (get_or banks shard None) (some shard None here) (filled shard here) in
+        (slot.0, slice_get-get_or banks shard None here ∙ ap (λ (x : Option Bank). Some x) slot.1, slot.2);
   }
 
   -- the slots are written back
-  written_back : (empty lanes : List (Option Lane)) → length lanes ≡ length empty →
-      take (length empty) (lanes ++ drop (length lanes) empty) ≡ lanes
-  written_back empty lanes count =
-      ap (λ n. take n (lanes ++ drop (length lanes) empty)) (sym count)
-      ∙ take-append_seam lanes (drop (length lanes) empty)
+  written_back : (empty banks : List (Option Bank)) → length banks ≡ length empty →
+      take (length empty) (banks ++ drop (length banks) empty) ≡ banks
+  written_back empty banks count =
+      ap (λ n. take n (banks ++ drop (length banks) empty)) (sym count)
+      ∙ take-append_seam banks (drop (length banks) empty)
 
-  pub opened : (empty lanes : List (Option Lane)) → length empty ≡ s.shards → length lanes ≡ length empty →
-      ((shard : ℕ) → shard < length empty → IfSome (get_or lanes shard None) (IsLaneFor shard)) →
-      All IsSome (take (length empty) (lanes ++ drop (length lanes) empty)) →
-      AreLanesTo s observations s.shards (take (length empty) (lanes ++ drop (length lanes) empty))
-  opened empty lanes all count filled some =
-      let same = written_back empty lanes count in
-      let there = all_there lanes (count ∙ all) (λ shard within. filled shard (subst (λ n. shard < n) count within))
-      (subst (λ (xs : List (Option Lane)). All IsSome xs) same some) in
-      subst (λ (xs : List (Option Lane)). AreLanesTo s observations s.shards xs) (sym same) there
+  pub opened : (empty banks : List (Option Bank)) → length empty ≡ s.shards → length banks ≡ length empty →
+      ((shard : ℕ) → shard < length empty → IfSome (get_or banks shard None) (IsBankFor shard)) →
+      All IsSome (take (length empty) (banks ++ drop (length banks) empty)) →
+      AreBanksTo s observations s.shards (take (length empty) (banks ++ drop (length banks) empty))
+  opened empty banks all count filled some =
+      let same = written_back empty banks count in
+      let there = all_there banks (count ∙ all) (λ shard within. filled shard (subst (λ n. shard < n) count within))
+      (subst (λ (xs : List (Option Bank)). All IsSome xs) same some) in
+      subst (λ (xs : List (Option Bank)). AreBanksTo s observations s.shards xs) (sym same) there

@@ -5,9 +5,9 @@ use Rattle.dada_model.specs.Observation.{Observation}
 use Rattle.search_model.specs.Search.{SettingsInRange}
 use Rattle.search_model.specs.declared.search.Search.{Search}
 use Rattle.search_engine.specs.Engine.{EngineState, IsOpenedEngine, StandsForData}
-use Rattle.search_session.specs.declared.lane.Lane.{Lane}
-use Rattle.search_session.specs.Lanes.{HasEngine, engines_of}
-use Rattle.search_session.specs.Books.{HasLane}
+use Rattle.session_readers.specs.declared.bank.Bank.{Bank}
+use Rattle.session_readers.specs.Banks.{HasEngine, engines_of}
+use Rattle.search_session.specs.Books.{HasBank}
 use Rattle.search_opening.specs.Plans.{PlansFit}
 
 -- there are few transfers, each with its observation, and the search of each fits and is in range
@@ -30,15 +30,15 @@ pub record AreEnginesFor
   pub each : (k : ℕ) (o : Observation) → slice_get observations k ≡ Some (Some o) →
       (e : EngineState) × HasEngine engines k e × IsEngineFor s shard o e
 
--- the lanes of the first shards have these engines
-pub record AreLanesTo
+-- the banks of the first shards have these engines
+pub record AreBanksTo
     (s : Search) (observations : List (Option Observation)) (shards : ℕ)
-    (lanes : List (Option Lane)) : Type 0 where
-  pub count : length lanes ≡ shards
+    (banks : List (Option Bank)) : Type 0 where
+  pub count : length banks ≡ shards
   pub each : (shard : ℕ) → shard < shards →
-      (lane : Lane) × HasLane lanes shard lane
-      × AreEnginesFor s shard observations (engines_of lane)
+      (bank : Bank) × HasBank banks shard bank
+      × AreEnginesFor s shard observations (engines_of bank)
 
 -- those of all shards
-abbrev pub AreOpenedLanes : Search → List (Option Observation) → List (Option Lane) → Type 0
-AreOpenedLanes s observations lanes = AreLanesTo s observations s.shards lanes
+abbrev pub AreOpenedBanks : Search → List (Option Observation) → List (Option Bank) → Type 0
+AreOpenedBanks s observations banks = AreBanksTo s observations s.shards banks

@@ -11,8 +11,8 @@ use Rattle.disk_feeder.specs.Feeding.{header_entries}
 use Rattle.run_stop.specs.declared.stop.Stop.{Stop}
 use Rattle.run_stop.specs.declared.stop.Stop.TheVariants.{Memory, ReadFault}
 use Rattle.run_stop.specs.Ends.{ComesBefore}
-use Rattle.run_stop.specs.Firsts.{HaveHeaders, ReadsFirsts, BreaksFirstAt}
-use Rattle.search_opening.specs.First.{OfFirsts, AreFirsts, AreHeadersOf, AreObserved, StopsFirsts}
+use Rattle.run_stop.specs.Firsts.{ReadsFirsts, BreaksFirstAt}
+use Rattle.search_opening.specs.First.{OfFirsts, AreFirsts, AreFirstsAt, AreHeadersOf, AreObserved, StopsFirsts}
 
 -- P holds of the feeder's files as a walk sees them, where the first one of each transfer is told
 abbrev pub OfFeeder : {I : Type 0} → Told → Feeder I → (FileStream → Type 0) → Type 0
@@ -39,8 +39,8 @@ pub record HasReadFirsts {I : Type 0} (told : I → Told) (is_open : I → Type 
   pub observed : AreObserved (headers_of new) observations
   pub headers : OfFeeder (told new.inputs.now) new (λ w. AreHeadersOf w (headers_of new))
   pub firsts : OfFeeder (told new.inputs.now) new (λ w. AreFirsts w observations)
-  pub texts : HaveHeaders (told new.inputs.now) (plan_at new).names (plan_at new).starts
-      (length (plan_at new).starts)
+  pub each : AreFirstsAt (told new.inputs.now) (plan_at new).names (plan_at new).starts
+      (headers_of new) observations
   pub read : HasReadOnly told old new
   pub begins : FeederRead (told old.inputs.now) (told new.inputs.now) new
 

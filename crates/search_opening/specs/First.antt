@@ -1,7 +1,7 @@
 -- The first headers of all transfers, in order: their observations, or the first header that is refused.
 -- Source: PSRDADA manual (a transfer is what one header describes); what is refused is this project's choice.
 use Rattle.std.specs.Prelude.{◌≡◌, ◌<◌, ℕ, ⊤, List, length, map, Option, Some, Ok, slice_get}
-use Rattle.psr_base.specs.Told.{Told}
+use Rattle.psr_base.specs.Told.{Told, OfFile}
 use Rattle.dada_model.specs.Fields.{HeaderText, fields_of, header_of}
 use Rattle.dada_model.specs.Observation.{Observation, observation_of}
 use Rattle.obs_plan.specs.Faults.{ExplainsObservation}
@@ -11,7 +11,7 @@ use Rattle.disk_feeder.specs.declared.answers.HeaderCause.TheVariants.{Text, Fie
 use Rattle.disk_feeder.specs.Plan.{Plan, stream_of, AreToldAt, IsFirstFile}
 use Rattle.run_stop.specs.declared.stop.Stop.{Stop}
 use Rattle.run_stop.specs.declared.stop.Stop.TheVariants.{Header, Memory, ReadFault}
-use Rattle.run_stop.specs.Firsts.{first_file, HaveHeaders, RefusesTextAt, RefusesFirstFields}
+use Rattle.run_stop.specs.Firsts.{first_file, first_name, RefusesTextAt, RefusesFieldsAt, RefusesFirstFields}
 use Rattle.search_opening.specs.declared.first.RefusedHeader.{RefusedHeader}
 
 -- ---- the files
@@ -34,13 +34,31 @@ abbrev pub AreHeadersOf : FileStream → List HeaderText → Type 0
 AreHeadersOf w headers = (k : ℕ) (header : HeaderText) → slice_get headers k ≡ Some header →
     header_of (first_file w k) ≡ Ok header
 
--- What a stop says of the first files: the header of one of them is the first that is refused, its text by those up to
--- it, each by itself, and what it says by all of them
+-- the file has the header at this place, and that says the observation there
+pub record IsFirstOf
+    (headers : List HeaderText) (observations : List (Option Observation)) (k : ℕ) (file : List ℕ)
+    : Type 0 where
+  pub header : HeaderText
+  pub observation : Observation
+  pub there : slice_get headers k ≡ Some header
+  pub said : slice_get observations k ≡ Some (Some observation)
+  pub is_header : header_of file ≡ Ok header
+  pub is_observation : observation_of (fields_of header.text) ≡ Ok observation
+  pub is : observation ≡ observation_at file
+
+-- so it is with the first file of each transfer, of those that are told
+abbrev pub AreFirstsAt : Told → List (List ℕ) → List ℕ → List HeaderText →
+    List (Option Observation) → Type 0
+AreFirstsAt told names starts headers observations = (k : ℕ) → k < length starts →
+    OfFile told (first_name names starts k) (IsFirstOf headers observations k)
+
+-- What a stop says of the first files: the header of one of them is the first that is refused, by its text or by what
+-- it says
 abbrev pub StopsFirsts : Told → Plan → Stop → Type 0
 StopsFirsts told plan (Header file (Text fault)) =
     RefusesTextAt told plan.names plan.starts file fault
 StopsFirsts told plan (Header file (Fields fault)) =
-    HaveHeaders told plan.names plan.starts (length plan.starts)
+    RefusesFieldsAt told plan.names plan.starts file fault
     × OfFirsts told plan (λ w. RefusesFirstFields w file fault)
 StopsFirsts told plan Memory = ⊤
 StopsFirsts told plan ReadFault = ⊤

@@ -6,3 +6,9 @@ pub mod Offsets
 pub mod Engines
 pub mod Rings
 pub mod Space
+pub mod Settings
+pub mod Early
+pub mod Begun
+pub mod Judged
+pub mod Spaces
+pub mod Ready

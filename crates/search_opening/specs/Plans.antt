@@ -6,11 +6,10 @@ use Rattle.search_model.specs.declared.search.Search.{Search}
 use Rattle.search_model.specs.Plan.{plan_refusal}
 use Rattle.search_engine.specs.Plan.{IsRefusedFirst}
 use Rattle.search_engine.specs.declared.fault.PlanFault.{PlanFault}
-use Rattle.stream_model.specs.Walk.{FileStream}
 use Rattle.run_stop.specs.declared.causes.PlanCause.{PlanCause}
 use Rattle.run_stop.specs.declared.stop.Stop.{Stop}
 use Rattle.run_stop.specs.declared.stop.Stop.TheVariants.{Plan}
-use Rattle.run_stop.specs.Runs.{RefusesSearch}
+use Rattle.run_stop.specs.Runs.{IsPlanCause}
 
 -- the search of each observation fits
 abbrev pub PlansFit : Search → List (Option Observation) → Type 0
@@ -32,6 +31,18 @@ pub record RefusesPlan (s : Search) (observations : List (Option Observation)) (
 abbrev pub IsOfPlan : Stop → Type 0
 IsOfPlan stop = (cause : PlanCause) × (stop ≡ Plan cause)
 
--- and that of which transfer of a walk, with its cause
-abbrev pub StopsSearch : Search → FileStream → Stop → Type 0
-StopsSearch s w stop = (cause : PlanCause) × (stop ≡ Plan cause) × RefusesSearch s w cause
+-- the search of the observation of some transfer is refused by this cause, and those before it fit
+pub record RefusesObservation
+    (s : Search) (observations : List (Option Observation)) (cause : PlanCause)
+    : Type 0 where
+  pub transfer : ℕ
+  pub observation : Observation
+  pub there : slice_get observations transfer ≡ Some (Some observation)
+  pub refused : IsPlanCause (plan_refusal observation s) cause
+  pub earlier : (k : ℕ) (o : Observation) → k < transfer →
+      slice_get observations k ≡ Some (Some o) → plan_refusal o s ≡ None
+
+-- and that of which observation, with its cause
+abbrev pub StopsSearch : Search → List (Option Observation) → Stop → Type 0
+StopsSearch s observations stop =
+    (cause : PlanCause) × (stop ≡ Plan cause) × RefusesObservation s observations cause

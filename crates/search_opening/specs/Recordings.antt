@@ -1,17 +1,16 @@
 -- The recordings of all transfers, in order: they fit, or the first that does not.
 -- Source: this project's choice.
-use Rattle.std.specs.Prelude.{◌≡◌, ◌<◌, ℕ, List, length, Option, Some, None, slice_get}
+use Rattle.std.specs.Prelude.{◌≡◌, ◌<◌, ℕ, List, Option, Some, None, slice_get}
 use Rattle.dada_model.specs.Fields.{HeaderText}
 use Rattle.dada_model.specs.ChangeLaws.{IsReadBack}
 use Rattle.dada_model.specs.Observation.{Observation}
 use Rattle.stream_model.specs.Recorded.{record_refusal}
 use Rattle.dada_recorder.specs.Changes.{recording, RefusesRecording}
 use Rattle.dada_recorder.specs.declared.answers.RecordFault.{RecordFault}
-use Rattle.stream_model.specs.Walk.{FileStream}
 use Rattle.run_stop.specs.declared.causes.RecordingCause.{RecordingCause}
 use Rattle.run_stop.specs.declared.stop.Stop.{Stop}
 use Rattle.run_stop.specs.declared.stop.Stop.TheVariants.{Recording}
-use Rattle.run_stop.specs.Runs.{first_recording, CanRecordFirst, IsRecordingCause}
+use Rattle.run_stop.specs.Runs.{IsRecordingCause}
 
 -- under the header, from the observation's OBS_OFFSET on, so many data bytes can be recorded in files of this size
 abbrev pub RecordingFits : ℕ → ℕ → HeaderText → Observation → Type 0
@@ -48,16 +47,21 @@ pub record RefusesTransfer
 abbrev pub IsOfRecording : Stop → Type 0
 IsOfRecording stop = (cause : RecordingCause) × (stop ≡ Recording cause)
 
--- the recording of some transfer of a walk is, and those before it fit
-pub record RefusesFirstRecording (file_size : ℕ) (w : FileStream) (cause : RecordingCause) :
-    Type 0 where
+-- the recording of some transfer is refused by this cause, and those before it fit
+pub record RefusesRecordingOf
+    (file_size max_bytes : ℕ) (headers : List HeaderText)
+    (observations : List (Option Observation)) (cause : RecordingCause) : Type 0 where
   pub transfer : ℕ
-  pub there : transfer < length w.starts
+  pub header : HeaderText
+  pub observation : Observation
+  pub there : slice_get headers transfer ≡ Some header
+  pub said : slice_get observations transfer ≡ Some (Some observation)
   pub refused : IsRecordingCause
-      (record_refusal (first_recording w file_size transfer) w.max_bytes) cause
-  pub earlier : CanRecordFirst file_size w transfer
+      (record_refusal (recording header observation.obs_offset file_size) max_bytes) cause
+  pub earlier : RecordingsFit file_size max_bytes headers observations transfer
 
 -- and so the stop says, with its cause
-abbrev pub StopsRecording : ℕ → FileStream → Stop → Type 0
-StopsRecording file_size w stop =
-    (cause : RecordingCause) × (stop ≡ Recording cause) × RefusesFirstRecording file_size w cause
+abbrev pub StopsRecording : ℕ → ℕ → List HeaderText → List (Option Observation) → Stop → Type 0
+StopsRecording file_size max_bytes headers observations stop =
+    (cause : RecordingCause) × (stop ≡ Recording cause)
+    × RefusesRecordingOf file_size max_bytes headers observations cause

@@ -3,15 +3,15 @@ ghost use Rattle.std.specs.Prelude.{◌≡◌, ◌≤◌, ◌<◌, ◌↔◌, No
 ghost use Rattle.dada_model.specs.Observation.{Observation as Described};
 ghost use Rattle.search_model.specs.Search.{SettingsInRange};
 ghost use Rattle.search_model.specs.Plan.{plan_refusal};
-ghost use Rattle.search_opening.specs.Engines.{CanBeSearched, IsEngineFor, AreEnginesFor, AreOpenedLanes};
-ghost use Rattle.search_session.specs.Lanes.{engines_of};
+ghost use Rattle.search_opening.specs.Engines.{CanBeSearched, IsEngineFor, AreEnginesFor, AreOpenedBanks};
+ghost use Rattle.session_readers.specs.Banks.{engines_of};
 
 use arrayvec::ArrayVec;
 use obs_plan::Observation;
 use psr_base::Memory;
 use search_engine::{Engine, PlanFault};
 use search_model::{MOST_SHARDS, MOST_TRANSFERS, Search};
-use search_session::Lane;
+use search_session::Bank;
 use std::alloc::Global;
 use std::thread::{Threads, for_each_mut};
 
@@ -60,104 +60,104 @@ fn open_engines(
     Ok(engines)
 }
 
-// The lane of a shard, which has an engine for each transfer, in order, or none where there was no memory.
-fn open_lane(
+// The bank of a shard, which has an engine for each transfer, in order, or none where there was no memory.
+fn open_bank(
     alloc: Global,
     observations: &[Option<Observation>],
     search: &Search,
     shard: u32,
-) -> Option<Lane>
+) -> Option<Bank>
     requires searched { CanBeSearched search.now observations.now }
     requires shard { shard < search.now.shards }
-    ensures { IfSome result (λ lane.
-        AreEnginesFor search.now shard observations.now (engines_of lane)) }
+    ensures { IfSome result (λ bank.
+        AreEnginesFor search.now shard observations.now (engines_of bank)) }
 {
     let Ok(engines) = open_engines(alloc, observations, search, shard) else {
         return None;
     };
     match Box::new(alloc, engines) {
-        Ok(engines) => Some(Lane { engines }),
+        Ok(engines) => Some(Bank { engines }),
         Err(_memory) => None,
     }
 }
 
 // So many slots.
-fn no_lanes(shards: u32) -> ArrayVec<Option<Lane>, MOST_SHARDS>
+fn no_banks(shards: u32) -> ArrayVec<Option<Bank>, MOST_SHARDS>
     requires { shards ≤ 7 }
     ensures { length result.items ≡ shards }
 {
-    let mut lanes = ArrayVec::new();
+    let mut banks = ArrayVec::new();
     for _shard in 0..shards {
-        lanes.push(None);
+        banks.push(None);
     }
-    lanes
+    banks
 }
 
-// Whether each slot has a lane.
-fn are_opened(lanes: &[Option<Lane>]) -> bool
-    ensures { IsTrue result ↔ All IsSome lanes.now }
+// Whether each slot has a bank.
+fn are_opened(banks: &[Option<Bank>]) -> bool
+    ensures { IsTrue result ↔ All IsSome banks.now }
 {
-    for place in 0..lanes.len() {
-        if lanes[place].is_none() {
+    for place in 0..banks.len() {
+        if banks[place].is_none() {
             return false;
         }
     }
     true
 }
 
-// Opens the lane of each shard in its slot, where there is memory. So many threads at most do so beside each other.
-fn fill_lanes<R: Threads + Sync>(
+// Opens the bank of each shard in its slot, where there is memory. So many threads at most do so beside each other.
+fn fill_banks<R: Threads + Sync>(
     rt: &R,
     alloc: Global,
     observations: &[Option<Observation>],
     search: &Search,
     threads: u32,
-    lanes: &mut [Option<Lane>],
+    banks: &mut [Option<Bank>],
 )
     requires searched { CanBeSearched search.now observations.now }
     requires threads { 1 ≤ threads }
-    requires count { length lanes.old ≡ search.now.shards }
-    ensures count { length lanes.new ≡ length lanes.old }
-    ensures lanes { (shard : ℕ) → shard < length lanes.old
-        → IfSome (slice_index_or lanes.new shard None) (λ lane.
-        AreEnginesFor search.now shard observations.now (engines_of lane)) }
+    requires count { length banks.old ≡ search.now.shards }
+    ensures count { length banks.new ≡ length banks.old }
+    ensures banks { (shard : ℕ) → shard < length banks.old
+        → IfSome (slice_index_or banks.new shard None) (λ bank.
+        AreEnginesFor search.now shard observations.now (engines_of bank)) }
 {
     for_each_mut(
         rt,
-        lanes,
+        banks,
         threads as usize,
-        &|shard: usize, lane: &mut Option<Lane>|
+        &|shard: usize, bank: &mut Option<Bank>|
             requires { CanBeSearched search.now observations.now × (shard < search.now.shards) }
-            ensures { IfSome lane.new (λ l.
+            ensures { IfSome bank.new (λ l.
                 AreEnginesFor search.entry.now shard observations.entry.now (engines_of l)) }
-        { *lane = open_lane(alloc, observations, search, shard as u32) },
+        { *bank = open_bank(alloc, observations, search, shard as u32) },
     );
 }
 
-/// Takes the memory for a search whose plans fit: a lane for each shard, which has an engine for each transfer, in
+/// Takes the memory for a search whose plans fit: a bank for each shard, which has an engine for each transfer, in
 /// order. So many threads at most open them beside each other.
-pub fn open_lanes<R: Threads + Sync>(
+pub fn open_banks<R: Threads + Sync>(
     rt: &R,
     alloc: Global,
     observations: &[Option<Observation>],
     search: &Search,
     threads: u32,
-) -> Result<ArrayVec<Option<Lane>, MOST_SHARDS>, Memory>
+) -> Result<ArrayVec<Option<Bank>, MOST_SHARDS>, Memory>
     requires searched { CanBeSearched search.now observations.now }
     requires threads { 1 ≤ threads }
-    ensures { IfOk result (λ lanes. AreOpenedLanes search.now observations.now lanes.items) }
+    ensures { IfOk result (λ banks. AreOpenedBanks search.now observations.now banks.items) }
 {
-    let mut lanes = no_lanes(search.shards);
-    fill_lanes(
+    let mut banks = no_banks(search.shards);
+    fill_banks(
         rt,
         alloc,
         observations,
         search,
         threads,
-        lanes.as_mut_slice(),
+        banks.as_mut_slice(),
     );
-    if are_opened(lanes.as_slice()) {
-        Ok(lanes)
+    if are_opened(banks.as_slice()) {
+        Ok(banks)
     } else {
         Err(Memory)
     }

@@ -3,19 +3,28 @@
 #![tactic(auto)]
 
 mod accept;
+mod begin;
 mod engines;
 mod first;
+mod judge;
+mod laws;
 mod offsets;
+mod open;
 mod plans;
 mod recordings;
 mod rings;
 mod space;
+mod spaces;
 
 pub use accept::accept_all;
-pub use engines::open_lanes;
+pub use begin::begin_run;
+pub use engines::open_banks;
 pub use first::begin_feed;
+pub use laws::early_stops_stand;
 pub use offsets::first_offsets;
+pub use open::{OpenedRun, open_run};
 pub use plans::check_plans;
 pub use recordings::fit_all;
 pub use rings::run_shape;
 pub use space::StageSpace;
+pub use spaces::Spaces;

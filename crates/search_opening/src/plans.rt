@@ -46,8 +46,7 @@ pub fn check_plans(observations: &[Option<Observation>], search: &Search) -> Res
     ensures searched { OnOk result ((w : FileStream) → AreFirsts w observations.now
         → CanSearchFirst search.now w (length w.starts)) }
     ensures kind { IfErr result IsOfPlan }
-    ensures refused { IfErr result (λ stop. (w : FileStream) → AreFirsts w observations.now
-        → StopsSearch search.now w stop) }
+    ensures refused { IfErr result (StopsSearch search.now observations.now) }
 {
     match judge_plans(observations, search) {
         Ok(()) => Ok(()),

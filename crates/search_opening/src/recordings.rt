@@ -89,9 +89,8 @@ pub fn fit_all<'a, I: Inputs>(
         → AreHeadersOf w (headers_of feeder.now) → w.max_bytes ≡ max_bytes
         → CanRecordFirst file_size w (length w.starts)) }
     ensures kind { IfErr result IsOfRecording }
-    ensures refused { IfErr result (λ stop. (w : FileStream) → AreFirsts w observations.now
-        → AreHeadersOf w (headers_of feeder.now) → w.max_bytes ≡ max_bytes
-        → StopsRecording file_size w stop) }
+    ensures refused { IfErr result (StopsRecording file_size max_bytes (headers_of feeder.now)
+        observations.now) }
 {
     match judge_recordings(feeder, observations, space, file_size, max_bytes) {
         Ok(()) => Ok(()),

@@ -12,7 +12,7 @@ use disk_feeder::Feeder;
 use psr_base::{Files, Inputs, Memory};
 use ring_words::{MOST_READERS, RingShape};
 use search_model::MOST_SHARDS;
-use search_session::{Hand, Lane, Stage};
+use search_session::{Bank, Hand, Stage};
 use std::alloc::Global;
 
 // How many bytes the space of a shard has: room for a header, and where the rings have other readers for a block of
@@ -63,43 +63,43 @@ fn open_hands<'a, I: Inputs, F: Files>(
     Ok(hands)
 }
 
-/// The space of a stage: the rings, of which the first header is sealed, the lanes, a space for each, and the hands.
+/// The space of a stage: the rings, of which the first header is sealed, the banks, a space for each, and the hands.
 /// All memory of a session is in it but that of its feeder and of its recorder.
 #[derive(Drop)]
 pub struct StageSpace<'a, I, F> {
     hdu: Hdu,
     writer: HduWriter,
     readers: ArrayVec<Option<HduReader>, MOST_READERS>,
-    lanes: ArrayVec<Option<Lane>, MOST_SHARDS>,
+    banks: ArrayVec<Option<Bank>, MOST_SHARDS>,
     spaces: ArrayVec<Option<Vec<u8>>, MOST_SHARDS>,
     hands: Vec<Hand<'a, I, F>>,
 }
 
 impl<'a, I: Inputs, F: Files> StageSpace<'a, I, F> {
-    ghost use Rattle.search_opening.specs.Space.{IsSpaceOf, lanes_in, hands_in, AreStaged};
+    ghost use Rattle.search_opening.specs.Space.{IsSpaceOf, banks_in, hands_in, AreStaged};
 
-    /// Takes all space: for rings of this shape, of which the header is sealed, for these lanes, which may be none, and
+    /// Takes all space: for rings of this shape, of which the header is sealed, for these banks, which may be none, and
     /// for so many hands.
-    pub fn take(
+    pub fn reserve(
         alloc: Global,
-        lanes: ArrayVec<Option<Lane>, MOST_SHARDS>,
+        banks: ArrayVec<Option<Bank>, MOST_SHARDS>,
         shape: RingShape,
         header: &Header,
         hands: u32,
     ) -> Result<StageSpace<'a, I, F>, Memory>
         requires ring { IsRing shape }
         requires hands { 1 ≤ hands }
-        ensures space { IfOk result (λ space. IsSpaceOf lanes shape header.now space) }
+        ensures space { IfOk result (λ space. IsSpaceOf banks shape header.now space) }
         ensures hands { IfOk result (λ space. hands_in space ≡ hands) }
     {
         let (hdu, writer, readers) = open_rings(alloc, shape, header)?;
-        let spaces = open_spaces(alloc, lanes.len(), space_size(shape))?;
+        let spaces = open_spaces(alloc, banks.len(), space_size(shape))?;
         let hands = open_hands(alloc, hands)?;
         Ok(StageSpace {
             hdu,
             writer,
             readers,
-            lanes,
+            banks,
             spaces,
             hands,
         })
@@ -111,19 +111,19 @@ impl<'a, I: Inputs, F: Files> StageSpace<'a, I, F> {
         ensures on { StageOn I.told I.is_open F.is_open result }
         ensures feeder { result.feeder ≡ feeder.entry }
         ensures recorder { result.recorder ≡ recorder.entry }
-        ensures lanes { result.lanes ≡ lanes_in self.entry }
+        ensures banks { result.banks ≡ banks_in self.entry }
     {
         let StageSpace {
             hdu,
             writer,
             readers,
-            lanes,
+            banks,
             spaces,
             hands,
         } = self;
         Stage {
             feeder,
-            lanes,
+            banks,
             recorder,
             hdu,
             writer,

@@ -1,7 +1,5 @@
 mod Wording
 mod Staging
-mod Opening
-mod Results
 mod Lists
 mod Told
 mod Recorded

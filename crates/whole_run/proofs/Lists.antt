@@ -1,10 +1,9 @@
 -- Lists over ranges.
 use Rattle.std.proofs.Common.{◌≡◌, ℕ, zero, suc, ◌+◌, ◌<◌, ◌≤◌, All, List, [], ◌∷◌, Some, length, map, refl, sym, ap, ◌∙◌, subst, arith}
-use Rattle.std.specs.Prelude.{slice_get, Option, IfSome, IsSome, is_some}
-use Rattle.std.specs.Option.{option_map}
+use Rattle.std.specs.Prelude.{slice_get, Option, IfSome}
 use Rattle.std.proofs.lemmas.List.{length-map}
 use Rattle.std.proofs.lemmas.List.FromFn.{length-map-range_with_len, get_or-map-range_with_len}
-use Rattle.std.proofs.lemmas.Option.{slice_get_within, slice_get-map, get_or_from_slice_get}
+use Rattle.std.proofs.lemmas.Option.{slice_get_within, get_or_from_slice_get}
 use Rattle.std.specs.List.{sum_by, range_with_len}
 use Rattle.std.proofs.lemmas.List.Sums.{sum_by-cons}
 
@@ -19,14 +18,6 @@ if_some_at P xs k x there all =
     let At : Option _ → Type 0 = λ at. IfSome at P in
     subst At (get_or_from_slice_get xs k (Some x) (Some x) there)
     (all k (Some x) (slice_get_within xs k (Some x) there))
-
-pub all_there : {X : Type 0} (xs : List X) (ys : List (Option X)) → ys ≡ map Some xs → All IsSome ys
-all_there xs ys are k d below =
-    let count = ap length are ∙ length-map xs Some in
-    let there = some_at xs k (omega (arith, below, count)) in
-    let at : slice_get ys k ≡ Some (Some there.0) =
-    ap (λ os. slice_get os k) are ∙ slice_get-map Some xs k ∙ ap (option_map Some) there.1 in
-    ap is_some (get_or_from_slice_get ys k (Some there.0) d at)
 
 pub same_over : {X : Type 0} (f g : ℕ → X) (a n : ℕ) → ((j : ℕ) → a ≤ j → j < a + n → f j ≡ g j) →
     map f (range_with_len a n) ≡ map g (range_with_len a n)

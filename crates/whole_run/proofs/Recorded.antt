@@ -23,7 +23,8 @@ use Rattle.search_opening.specs.declared.space.StageSpace.{StageSpace}
 use Rattle.search_opening.specs.First.{AreFirsts, AreHeadersOf, AreObserved}
 use Rattle.run_stop.specs.Laws.{RecordsFirsts}
 use Rattle.run_stop.specs.Runs.{Task, first_observation}
-use Rattle.whole_run.specs.Openings.{IsReady, plan_for}
+use Rattle.search_opening.specs.Ready.{IsReady}
+use Rattle.search_opening.specs.Spaces.{plan_for}
 use Rattle.whole_run.proofs.Lists.{some_at}
 
 -- ---- observations

@@ -15,10 +15,10 @@ use Rattle.stream_model.specs.Walk.{FileStream, transfer_data}
 use Rattle.transfer_text.specs.Searched.{ObservedTransfer, spectra_of, candidate_total}
 use Rattle.transfer_text.specs.Found.{part_books, HoldTransfers}
 use Rattle.transfer_text.specs.Laws.{TotalsAreCounted}
-use Rattle.search_session.specs.declared.lane.Lane.{Lane}
+use Rattle.session_readers.specs.declared.bank.Bank.{Bank}
 use Rattle.search_session.specs.declared.ended.SessionEnd.{SessionEnd}
-use Rattle.search_session.specs.Sessions.{AreLanesFor, HoldFound, data_through}
-use Rattle.search_opening.specs.Engines.{AreOpenedLanes}
+use Rattle.search_session.specs.Sessions.{AreBanksFor, HoldFound, data_through}
+use Rattle.search_opening.specs.Engines.{AreOpenedBanks}
 use Rattle.search_opening.specs.First.{AreFirsts}
 use Rattle.search_opening.specs.Plans.{PlansFit}
 use Rattle.run_stop.specs.Runs.{first_observation, observed_transfers}
@@ -49,19 +49,19 @@ abbrev pub transfers_through : {I F : Type 0} → SessionEnd I F → List Observ
 transfers_through end said other n =
     map (λ k. record { observation = said_at said other k; bytes = data_through end k }) (range_with_len 0 n)
 
--- ---- lanes
+-- ---- banks
 
-pub lanes_for : (s : SettingsSeen) (observations : List (Option Observation)) (lanes : List (Option Lane))
-    (said : List Observation) (other : Observation) → AreOpenedLanes s.search observations lanes →
+pub banks_for : (s : SettingsSeen) (observations : List (Option Observation)) (banks : List (Option Bank))
+    (said : List Observation) (other : Observation) → AreOpenedBanks s.search observations banks →
     observations ≡ map Some said → 0 < s.search.shards →
-    AreLanesFor s.search (said_at said other) (length said) lanes
-lanes_for s observations lanes said other opened here some = record {
+    AreBanksFor s.search (said_at said other) (length said) banks
+banks_for s observations banks said other opened here some = record {
   some = omega (arith, some, opened.count);
   shards = opened.count;
   each = λ shard k below within.
-      let lane = opened.each shard (omega (arith, below, opened.count)) in
-      let engine = lane.2.each k (said_at said other k) (place_of_said observations said other k here within) in
-      (lane.0, lane.1, (engine.0, engine.1, engine.2.opened, engine.2.stands));
+      let bank = opened.each shard (omega (arith, below, opened.count)) in
+      let engine = bank.2.each k (said_at said other k) (place_of_said observations said other k here within) in
+      (bank.0, bank.1, (engine.0, engine.1, engine.2.opened, engine.2.stands));
 }
 
 -- ---- books

@@ -12,25 +12,27 @@ use Rattle.dada_recorder.specs.declared.recorder.Recorder.{Recorder}
 use Rattle.dada_recorder.specs.declared.space.RecorderSpace.{RecorderSpace}
 use Rattle.dada_recorder.specs.Blocks.{RecordPlan}
 use Rattle.dada_recorder.specs.Recorder.{IsSpaceFor, IsFreshFor}
-use Rattle.search_session.specs.declared.lane.Lane.{Lane}
-use Rattle.search_session.specs.Books.{HasLane}
+use Rattle.session_readers.specs.declared.bank.Bank.{Bank}
+use Rattle.search_session.specs.Books.{HasBank}
 use Rattle.search_session.specs.Stages.{IsUnfed, IsFreshRecorder, recorder_count}
-use Rattle.search_session.specs.Lanes.{engines_of}
+use Rattle.session_readers.specs.Banks.{engines_of}
 use Rattle.search_opening.specs.declared.space.StageSpace.{StageSpace}
 use Rattle.search_opening.specs.Engines.{AreEnginesFor}
 use Rattle.search_opening.specs.First.{AreObserved}
 use Rattle.search_opening.specs.Space.{AreStaged}
 use Rattle.run_stop.specs.Runs.{Task, Searching, RecordingAlone, Alone}
-use Rattle.whole_run.specs.declared.spaces.Spaces.{Spaces}
-use Rattle.whole_run.specs.Openings.{IsReady, IsOpened, RecordsReady, SearchesReady, AreLanesOf, HasRecorderSpace, recorders, plan_for, shape_for}
+use Rattle.search_opening.specs.declared.spaces.Spaces.{Spaces}
+use Rattle.search_opening.specs.Ready.{IsReady, IsOpened}
+use Rattle.whole_run.specs.Sessions.{RecordsReady, SearchesReady}
+use Rattle.search_opening.specs.Spaces.{AreBanksOf, HasRecorderSpace, recorders, plan_for, shape_for}
 use Rattle.whole_run.proofs.Recorded.{as_many, observation_at_place}
 
--- ---- lanes
+-- ---- banks
 
-unfed_lane : (s : SettingsSeen) (shard : ℕ) (headers : List _) (observations : List (Option Observation)) (lane : Lane)
-    (n : ℕ) → AreObserved headers observations → AreEnginesFor s.search shard observations (engines_of lane) →
-    length observations ≡ n → IsUnfed n lane
-unfed_lane s shard headers observations lane n observed engines count = record {
+unfed_bank : (s : SettingsSeen) (shard : ℕ) (headers : List _) (observations : List (Option Observation)) (bank : Bank)
+    (n : ℕ) → AreObserved headers observations → AreEnginesFor s.search shard observations (engines_of bank) →
+    length observations ≡ n → IsUnfed n bank
+unfed_bank s shard headers observations bank n observed engines count = record {
   count = engines.count ∙ count;
   each = λ k below.
       let is = observation_at_place headers observations k observed (omega (arith, below, count)) in
@@ -38,16 +40,16 @@ unfed_lane s shard headers observations lane n observed engines count = record {
       (engine.0, engine.1, engine.2.opened.nothing_fed, engine.2.opened.running);
 }
 
-unfed_lanes : (task : Task) (s : SettingsSeen) (headers : List _) (observations : List (Option Observation))
-    (lanes : List (Option Lane)) (n : ℕ) → AreObserved headers observations → length observations ≡ n →
-    AreLanesOf task s observations lanes → (shard : ℕ) → shard < length lanes →
-    (lane : Lane) × HasLane lanes shard lane × IsUnfed n lane
-unfed_lanes Searching s headers observations lanes n observed count are shard below =
-    let lane = are.each shard (omega (arith, below, are.count)) in
-    (lane.0, lane.1, unfed_lane s shard headers observations lane.0 n observed lane.2 count)
-unfed_lanes RecordingAlone s headers observations lanes n observed count are shard below =
+unfed_banks : (task : Task) (s : SettingsSeen) (headers : List _) (observations : List (Option Observation))
+    (banks : List (Option Bank)) (n : ℕ) → AreObserved headers observations → length observations ≡ n →
+    AreBanksOf task s observations banks → (shard : ℕ) → shard < length banks →
+    (bank : Bank) × HasBank banks shard bank × IsUnfed n bank
+unfed_banks Searching s headers observations banks n observed count are shard below =
+    let bank = are.each shard (omega (arith, below, are.count)) in
+    (bank.0, bank.1, unfed_bank s shard headers observations bank.0 n observed bank.2 count)
+unfed_banks RecordingAlone s headers observations banks n observed count are shard below =
     let none = ap length are in absurd (omega (arith, none, below))
-unfed_lanes (Alone lone) s headers observations lanes n observed count are shard below = absurd are
+unfed_banks (Alone lone) s headers observations banks n observed count are shard below = absurd are
 
 -- ---- the stage
 
@@ -61,17 +63,17 @@ is_staged told is_open files_open task s offsets feeder observations stage recor
     let many = as_many (headers_of feeder) observations ready.observed in
     let starts = ap length ready.plan.transfers in
     let headers = ready.plan.headers in
-    let lanes = ready.stage_is.lanes in
+    let banks = ready.stage_is.banks in
     record {
-      lanes = lanes;
-      shape = shape_for s (length lanes.items);
+      banks = banks;
+      shape = shape_for s (length banks.items);
       header = ready.header;
       space_is = ready.stage_is.space;
       feeds = ready.feeds;
       transfers = omega (arith, starts, ready.some);
-      engines = unfed_lanes task s (headers_of feeder) observations lanes.items (length (plan_at feeder).starts)
-          ready.observed (omega (arith, many, headers, starts)) ready.stage_is.lanes_are;
-      readers = ap (λ n. length lanes.items + n) (sym count);
+      engines = unfed_banks task s (headers_of feeder) observations banks.items (length (plan_at feeder).starts)
+          ready.observed (omega (arith, many, headers, starts)) ready.stage_is.banks_are;
+      readers = ap (λ n. length banks.items + n) (sym count);
       recorder_is = fresh _ (ap (λ shape. shape.size) ready.stage_is.space.rings.shape_is);
       few = ready.stage_is.total;
     }

@@ -16,12 +16,13 @@ use Rattle.ring_ends.specs.declared.finished.Finished.{Finished}
 use Rattle.ring_ends.specs.Ended.{sealed_at_end, cleared_at_end}
 use Rattle.stream_model.specs.Walk.{FileStream, transfer_data}
 use Rattle.disk_feeder.specs.declared.answers.FeedEnd.{FeedEnd}
-use Rattle.disk_feeder.specs.declared.answers.FeedEnd.TheVariants.{Whole, ReadFault}
+use Rattle.disk_feeder.specs.declared.answers.FeedEnd.TheVariants.{Whole, ReadFault, TooLong}
 use Rattle.disk_feeder.specs.declared.feeder.Feeder.{Feeder}
 use Rattle.disk_feeder.specs.declared.place.Place.{Place}
+use Rattle.disk_feeder.specs.Ends.{NamesPlace}
 use Rattle.disk_feeder.specs.Feeder.{FeederRead, headers_of, names_at, plan_at, block_size}
 use Rattle.disk_feeder.specs.Feeding.{EndIs, StopsWalkAt, IsEnded, SealedAs, BreaksReading}
-use Rattle.disk_feeder.specs.Plan.{Plan, IsFirstFile, IsAmong}
+use Rattle.disk_feeder.specs.Plan.{Plan, IsFirstFile}
 use Rattle.disk_feeder.specs.Reading.{judged_at}
 use Rattle.dada_recorder.specs.declared.answers.RecordEnd.{RecordEnd}
 use Rattle.dada_recorder.specs.declared.answers.RecordEnd.TheVariants.{FileFault}
@@ -29,26 +30,30 @@ use Rattle.dada_recorder.specs.declared.recorder.Recorder.{Recorder}
 use Rattle.dada_recorder.specs.Blocks.{RecordPlan, files_of_blocks}
 use Rattle.dada_recorder.specs.Making.{HasMade, BreaksOff}
 use Rattle.dada_recorder.specs.Recorder.{plan_of}
-use Rattle.search_session.specs.declared.lane.Lane.{Lane}
+use Rattle.session_readers.specs.declared.bank.Bank.{Bank}
 use Rattle.search_session.specs.declared.ended.SessionEnd.{SessionEnd}
 use Rattle.search_session.specs.Recorded.{RecordedBy, HasNoRecording, SealsRecordable, files_through, headers_through}
-use Rattle.search_session.specs.Sessions.{FeedAnswers, ShardAnswers, AreLanesFor, HoldFound, data_through}
+use Rattle.search_session.specs.Sessions.{FeedAnswers, ShardAnswers, AreBanksFor, HoldFound, data_through}
 use Rattle.transfer_text.specs.Found.{HoldTransfers}
 use Rattle.transfer_text.specs.Laws.{TotalsAreCounted}
-use Rattle.search_opening.specs.Engines.{AreOpenedLanes}
+use Rattle.search_opening.specs.Engines.{AreOpenedBanks}
 use Rattle.search_opening.specs.declared.space.StageSpace.{StageSpace}
-use Rattle.search_opening.specs.Space.{lanes_in}
+use Rattle.search_opening.specs.Space.{banks_in}
 use Rattle.run_stop.specs.Laws.{RunsRecordBlocks}
 use Rattle.run_stop.specs.Outcomes.{AllCleared, files_of_stream}
-use Rattle.run_stop.specs.Runs.{Task, Searching, RecordingAlone, Alone, is_search, CanBegin, stream_for}
+use Rattle.run_stop.specs.Runs.{Task, Searching, RecordingAlone, Alone, is_search, stream_for}
 use Rattle.whole_run.specs.declared.found.Found.{Found}
-use Rattle.whole_run.specs.Wholes.{OfRunFirsts, OfRunTo, JudgesRun, ClearsAll, HoldsFound, shards_of}
-use Rattle.whole_run.specs.Openings.{IsReady, RecordsReady, SearchesReady, AreLanesOf, plan_for}
-use Rattle.whole_run.specs.Ends.{IsFoundOf, RecordsRun, FaultLeaves, GoesThrough}
+use Rattle.search_opening.specs.Settings.{OfRunFirsts, OfRunTo, BeginsRun}
+use Rattle.whole_run.specs.Wholes.{ClearsAll, HoldsFound, shards_of}
+use Rattle.search_opening.specs.Ready.{IsReady}
+use Rattle.whole_run.specs.Sessions.{RecordsReady, SearchesReady}
+use Rattle.search_opening.specs.Spaces.{AreBanksOf, plan_for}
+use Rattle.whole_run.specs.Ends.{IsFoundOf, RecordsRun, GoesThrough}
+use Rattle.run_stop.specs.Faults.{FaultLeaves}
 use Rattle.whole_run.proofs.Told.{needed_told, all_told, of_plan, passes_run, FeedsRun}
 use Rattle.whole_run.proofs.Recorded.{as_many, is_recordable, records_firsts, made_all, made_front}
 use Rattle.whole_run.proofs.Lists.{some_at}
-use Rattle.whole_run.proofs.Searched.{said_at, transfers_through, lanes_for, hold_transfers, transfers_are_counted, known_transfers}
+use Rattle.whole_run.proofs.Searched.{said_at, transfers_through, banks_for, hold_transfers, transfers_are_counted, known_transfers}
 
 -- ---- the walk
 
@@ -62,7 +67,7 @@ goes_walked told is_calm faults feeder end s plan fed =
     let By : ℕ → Type 0 = λ size. OfRunTo judged (told feeder.inputs.now) s
     (λ w. EndIs w size (sealed_at_end end.blocks) end.feed) in
     subst By plan.block
-    (of_plan (IsAmong judged) feeder s (told feeder.inputs.now) (told end.inputs.now)
+    (of_plan (λ starts count k. k < judged) feeder s (told feeder.inputs.now) (told end.inputs.now)
     (λ w. EndIs w (block_size feeder) (sealed_at_end end.blocks) end.feed) plan fed.names fed.sealed.known)
 
 goes_stopped : {I F : Type 0} (told : I → Told) (is_calm : I → Type 0) (faults : I → ℕ) (feeder : Feeder I)
@@ -70,8 +75,25 @@ goes_stopped : {I F : Type 0} (told : I → Told) (is_calm : I → Type 0) (faul
     (fed : FeedAnswers told is_calm faults feeder end) →
     OfRunTo (judged_at end.feed fed.place) (told feeder.inputs.now) s (λ w. StopsWalkAt end.feed w fed.place.file)
 goes_stopped told is_calm faults feeder end s plan fed =
-    of_plan (IsAmong (judged_at end.feed fed.place)) feeder s (told feeder.inputs.now) (told end.inputs.now)
-    (λ w. StopsWalkAt end.feed w fed.place.file) plan fed.names fed.sealed.stops
+    of_plan (λ starts count k. k < judged_at end.feed fed.place) feeder s (told feeder.inputs.now)
+    (told end.inputs.now) (λ w. StopsWalkAt end.feed w fed.place.file) plan fed.names fed.sealed.stops
+
+-- an early end came at a file of the run
+goes_there : {I F : Type 0} (told : I → Told) (is_calm : I → Type 0) (faults : I → ℕ) (feeder : Feeder I)
+    (end : SessionEnd I F) (observations : ArrayVec (Option Observation)) (found : Found) (s : SettingsSeen) →
+    FeedsRun feeder s → (fed : FeedAnswers told is_calm faults feeder end) → IsFoundOf observations end found →
+    ((bytes : ℕ) → found.feed ≢ Whole bytes) → fed.place.file < length s.names
+goes_there told is_calm faults feeder end observations found s plan fed is early =
+    subst (λ names. fed.place.file < length names) plan.files
+    (fed.sealed.there (λ bytes whole. early bytes (is.feed ∙ whole)))
+
+-- a limit that an end tells is that of the plan
+ends_at_limit : (plan : Plan) (told : Told) (at : Place) (size : ℕ) (headers blocks : List Entry) (end : FeedEnd)
+    (limit : ℕ) → IsEnded plan told at size headers blocks end → end ≡ TooLong limit → limit ≡ plan.max_bytes
+ends_at_limit plan told at size headers blocks end limit is long =
+    let By : FeedEnd → Type 0 = λ e. SealedAs plan size is.before is.current headers blocks e in
+    let sealed = subst By long is.sealed in
+    sealed.3
 
 -- what a fault of the inputs left
 pub fault_leaves : {I F : Type 0} (told : I → Told) (is_calm : I → Type 0) (faults : I → ℕ) (feeder : Feeder I)
@@ -81,28 +103,30 @@ pub fault_leaves : {I F : Type 0} (told : I → Told) (is_calm : I → Type 0) (
 fault_leaves told is_calm faults feeder end observations found after fed is same failed =
     let size = block_size feeder in
     let Left : _ → Finished → Type 0 = λ i b. (before : Told) → FeederRead before (told feeder.inputs.now) feeder →
-    BreaksReading (plan_at feeder) before (told i) fed.place size (sealed_at_end b) in
+    BreaksReading (plan_at feeder) before (is_calm feeder.inputs.now) (told i) fed.place size (sealed_at_end b) in
+    let fault : end.feed ≡ ReadFault = sym is.feed ∙ failed in
     record {
       place = fed.place;
+      there = fed.sealed.there (λ bytes whole. cc);
       broke = subst (λ i. Left i found.blocks) (sym same)
-          (subst (λ b. Left end.inputs.now b) (sym is.blocks) (fed.broke (sym is.feed ∙ failed)));
-      missing = λ calm. fed.missing calm (sym is.feed ∙ failed);
+          (subst (λ b. Left end.inputs.now b) (sym is.blocks) (fed.broke fault));
+      missing = λ calm. fed.missing calm fault;
     }
 
 -- ---- what was cleared
 
-lanes_count : (task : Task) (s : SettingsSeen) (observations : List (Option Observation)) (lanes : List (Option Lane)) →
-    AreLanesOf task s observations lanes → length lanes ≡ shards_of task s
-lanes_count Searching s observations lanes are = are.count
-lanes_count RecordingAlone s observations lanes are = ap length are
-lanes_count (Alone lone) s observations lanes are = absurd are
+banks_count : (task : Task) (s : SettingsSeen) (observations : List (Option Observation)) (banks : List (Option Bank)) →
+    AreBanksOf task s observations banks → length banks ≡ shards_of task s
+banks_count Searching s observations banks are = are.count
+banks_count RecordingAlone s observations banks are = ap length are
+banks_count (Alone lone) s observations banks are = absurd are
 
--- with lanes of this crate, what searches is a search
-searching : (task : Task) (s : SettingsSeen) (observations : List (Option Observation)) (lanes : List (Option Lane)) →
-    AreLanesOf task s observations lanes → is_search task ≡ true → task ≡ Searching
-searching Searching s observations lanes are is = refl
-searching RecordingAlone s observations lanes are is = absurd cc
-searching (Alone lone) s observations lanes are is = absurd are
+-- with banks of this crate, what searches is a search
+searching : (task : Task) (s : SettingsSeen) (observations : List (Option Observation)) (banks : List (Option Bank)) →
+    AreBanksOf task s observations banks → is_search task ≡ true → task ≡ Searching
+searching Searching s observations banks are is = refl
+searching RecordingAlone s observations banks are is = absurd cc
+searching (Alone lone) s observations banks are is = absurd are
 
 -- ---- the files
 
@@ -178,37 +202,37 @@ records_run law told is_open files_open seen task s offsets feeder observations 
 -- ---- all of it
 
 clears_shards : {I F : Type 0} (task : Task) (s : SettingsSeen) (observations : List (Option Observation))
-    (lanes : List (Option Lane)) (end : SessionEnd I F) → AreLanesOf task s observations lanes →
-    ((k : ℕ) → k < length lanes → cleared_at_end end.blocks k ≡ sealed_at_end end.blocks) → task ≡ Searching →
+    (banks : List (Option Bank)) (end : SessionEnd I F) → AreBanksOf task s observations banks →
+    ((k : ℕ) → k < length banks → cleared_at_end end.blocks k ≡ sealed_at_end end.blocks) → task ≡ Searching →
     AllCleared end.blocks 0 s.search.shards
-clears_shards task s observations lanes end are cleared searching k below =
-    let count = lanes_count task s observations lanes are ∙ ap (λ t. shards_of t s) searching in
+clears_shards task s observations banks end are cleared searching k below =
+    let count = banks_count task s observations banks are ∙ ap (λ t. shards_of t s) searching in
     let at : 0 + k ≡ k = omega arith in
     ap (cleared_at_end end.blocks) at ∙ cleared k (omega (arith, below, count))
 
 clears_recorder : {I F : Type 0} (task : Task) (s : SettingsSeen) (observations : List (Option Observation))
-    (lanes : List (Option Lane)) (end : SessionEnd I F) → AreLanesOf task s observations lanes →
-    cleared_at_end end.blocks (length lanes) ≡ sealed_at_end end.blocks → AllCleared end.blocks (shards_of task s) 1
-clears_recorder task s observations lanes end are cleared k below =
-    let count = lanes_count task s observations lanes are in
-    let at : shards_of task s + k ≡ length lanes = omega (arith, below, count) in
+    (banks : List (Option Bank)) (end : SessionEnd I F) → AreBanksOf task s observations banks →
+    cleared_at_end end.blocks (length banks) ≡ sealed_at_end end.blocks → AllCleared end.blocks (shards_of task s) 1
+clears_recorder task s observations banks end are cleared k below =
+    let count = banks_count task s observations banks are in
+    let at : shards_of task s + k ≡ length banks = omega (arith, below, count) in
     ap (cleared_at_end end.blocks) at ∙ cleared
 
 -- what a session without a recorder, or with one, came to
 pub clears_found : {I F : Type 0} (task : Task) (s : SettingsSeen) (observations : List (Option Observation))
-    (lanes : List (Option Lane)) (end : SessionEnd I F) (found : Found) → AreLanesOf task s observations lanes →
-    ((k : ℕ) → k < length lanes → cleared_at_end end.blocks k ≡ sealed_at_end end.blocks) →
+    (banks : List (Option Bank)) (end : SessionEnd I F) (found : Found) → AreBanksOf task s observations banks →
+    ((k : ℕ) → k < length banks → cleared_at_end end.blocks k ≡ sealed_at_end end.blocks) →
     (s.recording ≡ true → found.recorded ≢ Some FileFault →
-    cleared_at_end end.blocks (length lanes) ≡ sealed_at_end end.blocks) → found.blocks ≡ end.blocks →
+    cleared_at_end end.blocks (length banks) ≡ sealed_at_end end.blocks) → found.blocks ≡ end.blocks →
     ClearsAll task s found
-clears_found task s observations lanes end found are shards recorder blocks =
+clears_found task s observations banks end found are shards recorder blocks =
     let Blocks : Finished → Type 0 = λ b. AllCleared b 0 s.search.shards in
     let Last : Finished → Type 0 = λ b. AllCleared b (shards_of task s) 1 in
     record {
       shards = λ searching. subst Blocks (sym blocks)
-          (clears_shards task s observations lanes end are shards searching);
+          (clears_shards task s observations banks end are shards searching);
       recorder = λ records fine. subst Last (sym blocks)
-          (clears_recorder task s observations lanes end are (recorder records fine));
+          (clears_recorder task s observations banks end are (recorder records fine));
     }
 
 few_bytes : (plan : Plan) (told : Told) (at : Place) (size : ℕ) (headers blocks : List Entry) (end : FeedEnd)
@@ -223,13 +247,13 @@ few_bytes plan told at size headers blocks end bytes limit is whole same most =
 
 pub holds_found : {I F : Type 0} → TotalsAreCounted → (told : I → Told) (is_open is_calm : I → Type 0)
     (faults : I → ℕ) (task : Task) (s : SettingsSeen) (offsets : List ℕ) (feeder : Feeder I)
-    (observations : ArrayVec (Option Observation)) (stage : StageSpace I F) (lanes : List (Option Lane))
+    (observations : ArrayVec (Option Observation)) (stage : StageSpace I F) (banks : List (Option Bank))
     (end : SessionEnd I F) (found : Found) →
     (ready : IsReady told is_open task s offsets feeder observations.items stage) →
-    lanes ≡ ready.stage_is.lanes.items → FeedAnswers told is_calm faults feeder end →
-    ShardAnswers (length (plan_at feeder).starts) lanes end → IsFoundOf observations end found →
+    banks ≡ ready.stage_is.banks.items → FeedAnswers told is_calm faults feeder end →
+    ShardAnswers (length (plan_at feeder).starts) banks end → IsFoundOf observations end found →
     task ≡ Searching → (bytes : ℕ) → found.feed ≡ Whole bytes → HoldsFound s (told feeder.inputs.now) found
-holds_found law told is_open is_calm faults task s offsets feeder observations stage lanes end found ready same fed
+holds_found law told is_open is_calm faults task s offsets feeder observations stage banks end found ready same fed
     shards is searching bytes whole =
     let said = ready.observed.said in
     let here = ready.observed.here in
@@ -240,14 +264,14 @@ holds_found law told is_open is_calm faults task s offsets feeder observations s
     let headers = ready.plan.headers in
     let some : 0 < length said = omega (arith, many, count, starts, headers, ready.some) in
     let other = (some_at said 0 some).0 in
-    let opened : AreOpenedLanes s.search observations.items lanes =
-    subst (λ ls. AreOpenedLanes s.search observations.items ls) (sym same)
-    (subst (λ t. AreLanesOf t s observations.items ready.stage_is.lanes.items) searching ready.stage_is.lanes_are) in
+    let opened : AreOpenedBanks s.search observations.items banks =
+    subst (λ ls. AreOpenedBanks s.search observations.items ls) (sym same)
+    (subst (λ t. AreBanksOf t s observations.items ready.stage_is.banks.items) searching ready.stage_is.banks_are) in
     let n : length (plan_at feeder).starts ≡ length said = omega (arith, many, count, starts, headers) in
     let held = subst (λ m. HoldFound s.search (said_at said other) (data_through end) m end) n
     (shards.held s.search (said_at said other) (data_through end) bytes feed_whole
-    (subst (λ m. AreLanesFor s.search (said_at said other) m lanes) (sym n)
-    (lanes_for s observations.items lanes said other opened here ready.range.parts.least_shards)) (λ k below. refl)) in
+    (subst (λ m. AreBanksFor s.search (said_at said other) m banks) (sym n)
+    (banks_for s observations.items banks said other opened here ready.range.parts.least_shards)) (λ k below. refl)) in
     let total : sum_by (λ k. length (data_through end k)) (range_with_len 0 (length said)) ≤ 2 ^ 48 =
     subst (λ m. sum_by (λ k. length (data_through end k)) (range_with_len 0 m) ≤ 2 ^ 48) n
     (subst (λ m. m ≤ 2 ^ 48) (sym (fed.parts bytes feed_whole))
@@ -280,16 +304,16 @@ holds_found law told is_open is_calm faults task s offsets feeder observations s
 begins : {I F : Type 0} (told : I → Told) (is_open : I → Type 0) (task : Task) (s : SettingsSeen) (offsets : List ℕ)
     (feeder : Feeder I) (observations : List (Option Observation)) (stage : StageSpace I F) →
     IsReady told is_open task s offsets feeder observations stage →
-    JudgesRun (told feeder.inputs.now) s (λ w. CanBegin task s w)
+    BeginsRun task (told feeder.inputs.now) s
 begins told is_open task s offsets feeder observations stage ready = (
-  ready.texts,
+  ready.begins,
   λ files are.
       let w = stream_for s files in
       let firsts = ready.firsts files are in
       record {
         accepted = firsts.walked;
         searched = λ is. ready.fit.searched
-            (searching task s observations ready.stage_is.lanes.items ready.stage_is.lanes_are is) w firsts;
+            (searching task s observations ready.stage_is.banks.items ready.stage_is.banks_are is) w firsts;
         recorded = λ is. ready.fit.recorded is w firsts (ready.headers files are) refl;
       },
 )
@@ -304,29 +328,29 @@ of_found s told observations at end found P is holds =
     let Holds : Finished → FeedEnd → Type 0 = λ b f. OfRunTo (judged_at f at) told s (P (sealed_at_end b) f) in
     subst (λ b. Holds b found.feed) (sym is.blocks) (subst (λ f. Holds end.blocks f) (sym is.feed) holds)
 
-lanes_of_stage : {I F : Type 0} (told : I → Told) (is_open : I → Type 0) (task : Task) (s : SettingsSeen)
+banks_of_stage : {I F : Type 0} (told : I → Told) (is_open : I → Type 0) (task : Task) (s : SettingsSeen)
     (offsets : List ℕ) (feeder : Feeder I) (observations : List (Option Observation)) (stage : StageSpace I F)
-    (lanes : List (Option Lane)) → (ready : IsReady told is_open task s offsets feeder observations stage) →
-    lanes ≡ (lanes_in stage).items → lanes ≡ ready.stage_is.lanes.items
-lanes_of_stage told is_open task s offsets feeder observations stage lanes ready same =
-    same ∙ ap (λ ls. ls.items) ready.stage_is.space.lanes_are
+    (banks : List (Option Bank)) → (ready : IsReady told is_open task s offsets feeder observations stage) →
+    banks ≡ (banks_in stage).items → banks ≡ ready.stage_is.banks.items
+banks_of_stage told is_open task s offsets feeder observations stage banks ready same =
+    same ∙ ap (λ ls. ls.items) ready.stage_is.space.banks_are
 
 pub goes_with : {I F : Type 0} → RunsRecordBlocks → TotalsAreCounted → (told : I → Told)
     (is_open is_calm : I → Type 0) (faults : I → ℕ) (files_open : F → Type 0) (seen : F → FilesSeen) (task : Task)
     (s : SettingsSeen) (offsets : List ℕ) (feeder : Feeder I) (observations : ArrayVec (Option Observation))
-    (stage : StageSpace I F) (r : Recorder F) (lanes : List (Option Lane)) (end : SessionEnd I F) (found : Found)
+    (stage : StageSpace I F) (r : Recorder F) (banks : List (Option Bank)) (end : SessionEnd I F) (found : Found)
     (after : FilesSeen) → RecordsReady told is_open files_open task s offsets feeder observations.items stage r →
-    lanes ≡ (lanes_in stage).items → FeedAnswers told is_calm faults feeder end →
-    ShardAnswers (length (plan_at feeder).starts) lanes end → (by : RecordedBy seen feeder r (length lanes) end) →
+    banks ≡ (banks_in stage).items → FeedAnswers told is_calm faults feeder end →
+    ShardAnswers (length (plan_at feeder).starts) banks end → (by : RecordedBy seen feeder r (length banks) end) →
     IsFoundOf observations end found → after ≡ seen by.files.now →
     GoesThrough task s (told feeder.inputs.now) (seen r.files.now) after found
-goes_with blocks totals told is_open is_calm faults files_open seen task s offsets feeder observations stage r lanes end
+goes_with blocks totals told is_open is_calm faults files_open seen task s offsets feeder observations stage r banks end
     found after ready same fed shards by is made =
     let ready' = ready.ready in
     let plan = ready.fresh.plan_is in
-    let of_stage = lanes_of_stage told is_open task s offsets feeder observations.items stage lanes ready' same in
-    let are : AreLanesOf task s observations.items lanes =
-    subst (λ ls. AreLanesOf task s observations.items ls) (sym of_stage) ready'.stage_is.lanes_are in
+    let of_stage = banks_of_stage told is_open task s offsets feeder observations.items stage banks ready' same in
+    let are : AreBanksOf task s observations.items banks =
+    subst (λ ls. AreBanksOf task s observations.items ls) (sym of_stage) ready'.stage_is.banks_are in
     let recordable : SealsRecordable (plan_of r) (plan_at feeder) =
     subst (λ (p : RecordPlan). SealsRecordable p (plan_at feeder)) (sym plan)
     (is_recordable told is_open task s offsets feeder observations.items stage ready' ready.records) in
@@ -334,6 +358,10 @@ goes_with blocks totals told is_open is_calm faults files_open seen task s offse
       begun = begins told is_open task s offsets feeder observations.items stage ready';
       at = fed.place;
       last = λ bytes whole. fed.sealed.last bytes (sym is.feed ∙ whole) ∙ ap length ready'.plan.files;
+      there = goes_there told is_calm faults feeder end observations found s ready'.plan fed is;
+      names = subst (λ f. NamesPlace f fed.place.file) (sym is.feed) fed.sealed.names;
+      limit = λ limit long. ends_at_limit (plan_at feeder) (told end.inputs.now) fed.place (block_size feeder) _ _
+          end.feed limit fed.sealed (sym is.feed ∙ long) ∙ ready'.plan.limit;
       passed = passes_run feeder s (told feeder.inputs.now) (told end.inputs.now) fed.place.file ready'.plan fed.names
           fed.sealed.passed;
       walked = of_found s (told feeder.inputs.now) observations fed.place end found (λ b f w. EndIs w s.size b f) is
@@ -342,33 +370,37 @@ goes_with blocks totals told is_open is_calm faults files_open seen task s offse
           (λ b f w. StopsWalkAt f w fed.place.file) is
           (goes_stopped told is_calm faults feeder end s ready'.plan fed);
       recorded = records_run blocks told is_open files_open seen task s offsets feeder observations.items stage r
-          (length lanes) end found after ready by made is.recorded is.blocks;
-      cleared = clears_found task s observations.items lanes end found are shards.cleared
+          (length banks) end found after ready by made is.recorded is.blocks;
+      cleared = clears_found task s observations.items banks end found are shards.cleared
           (λ records fine. by.cleared recordable (λ failed. fine (is.recorded ∙ by.is ∙ ap (λ a. Some a) failed)))
           is.blocks;
-      held = holds_found totals told is_open is_calm faults task s offsets feeder observations stage lanes end found
+      held = holds_found totals told is_open is_calm faults task s offsets feeder observations stage banks end found
           ready' of_stage fed shards is;
     }
 
 pub goes_without : {I F : Type 0} → TotalsAreCounted → (told : I → Told) (is_open is_calm : I → Type 0)
     (faults : I → ℕ) (task : Task) (s : SettingsSeen) (offsets : List ℕ) (feeder : Feeder I)
-    (observations : ArrayVec (Option Observation)) (stage : StageSpace I F) (lanes : List (Option Lane))
+    (observations : ArrayVec (Option Observation)) (stage : StageSpace I F) (banks : List (Option Bank))
     (end : SessionEnd I F) (found : Found) (before after : FilesSeen) →
-    SearchesReady told is_open task s offsets feeder observations.items stage → lanes ≡ (lanes_in stage).items →
-    FeedAnswers told is_calm faults feeder end → ShardAnswers (length (plan_at feeder).starts) lanes end →
+    SearchesReady told is_open task s offsets feeder observations.items stage → banks ≡ (banks_in stage).items →
+    FeedAnswers told is_calm faults feeder end → ShardAnswers (length (plan_at feeder).starts) banks end →
     HasNoRecording end → IsFoundOf observations end found → after ≡ before →
     GoesThrough task s (told feeder.inputs.now) before after found
-goes_without totals told is_open is_calm faults task s offsets feeder observations stage lanes end found before after
+goes_without totals told is_open is_calm faults task s offsets feeder observations stage banks end found before after
     ready same fed shards none is made =
     let ready' = ready.ready in
-    let of_stage = lanes_of_stage told is_open task s offsets feeder observations.items stage lanes ready' same in
-    let are : AreLanesOf task s observations.items lanes =
-    subst (λ ls. AreLanesOf task s observations.items ls) (sym of_stage) ready'.stage_is.lanes_are in
+    let of_stage = banks_of_stage told is_open task s offsets feeder observations.items stage banks ready' same in
+    let are : AreBanksOf task s observations.items banks =
+    subst (λ ls. AreBanksOf task s observations.items ls) (sym of_stage) ready'.stage_is.banks_are in
     let no_answer : found.recorded ≡ None = is.recorded ∙ none.recorded in
     record {
       begun = begins told is_open task s offsets feeder observations.items stage ready';
       at = fed.place;
       last = λ bytes whole. fed.sealed.last bytes (sym is.feed ∙ whole) ∙ ap length ready'.plan.files;
+      there = goes_there told is_calm faults feeder end observations found s ready'.plan fed is;
+      names = subst (λ f. NamesPlace f fed.place.file) (sym is.feed) fed.sealed.names;
+      limit = λ limit long. ends_at_limit (plan_at feeder) (told end.inputs.now) fed.place (block_size feeder) _ _
+          end.feed limit fed.sealed (sym is.feed ∙ long) ∙ ready'.plan.limit;
       passed = passes_run feeder s (told feeder.inputs.now) (told end.inputs.now) fed.place.file ready'.plan fed.names
           fed.sealed.passed;
       walked = of_found s (told feeder.inputs.now) observations fed.place end found (λ b f w. EndIs w s.size b f) is
@@ -384,9 +416,9 @@ goes_without totals told is_open is_calm faults task s offsets feeder observatio
         quiet = λ fine. ap (λ (v : FilesSeen). v.faults) made;
         count = subst (λ (v : FilesSeen). before.faults ≤ v.faults) (sym made) (omega arith);
       };
-      cleared = clears_found task s observations.items lanes end found are shards.cleared
+      cleared = clears_found task s observations.items banks end found are shards.cleared
           (λ records fine. absurd (true≢false (sym records ∙ ready.records_not))) is.blocks;
-      held = holds_found totals told is_open is_calm faults task s offsets feeder observations stage lanes end found
+      held = holds_found totals told is_open is_calm faults task s offsets feeder observations stage banks end found
           ready' of_stage fed shards is;
     }
   where

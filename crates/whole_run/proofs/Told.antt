@@ -1,25 +1,18 @@
 -- Files that are told, by the settings and by the feeder's plan.
-use Rattle.std.proofs.Common.{◌≡◌, ℕ, ◌+◌, List, [], Option, None, length, sym, ap, ◌∙◌, subst}
+use Rattle.std.proofs.Common.{◌≡◌, ℕ, ◌+◌, ◌<◌, List, [], Option, None, length, sym, ap, ◌∙◌, subst}
 use Rattle.std.specs.Prelude.{⊤, slice_index_or}
 use Rattle.std.specs.Option.{ForSome}
 use Rattle.psr_base.specs.Told.{Told, OfFile}
-use Rattle.dada_header.specs.Faults.{IsHeaderRefusal}
 use Rattle.search_words.specs.Settings.{SettingsSeen}
 use Rattle.stream_model.specs.Walk.{FileStream, stop_at}
-use Rattle.disk_feeder.specs.declared.answers.HeaderCause.TheVariants.{Text, Fields}
+use Rattle.stream_model.specs.WalkLaws.{IsAccepted}
 use Rattle.disk_feeder.specs.declared.feeder.Feeder.{Feeder}
 use Rattle.disk_feeder.specs.Feeder.{HasPlan, plan_at}
-use Rattle.disk_feeder.specs.History.{file_name}
-use Rattle.disk_feeder.specs.Plan.{stream_of, AreTold, AreToldAt, IsFirstFile, IsAmong}
+use Rattle.disk_feeder.specs.Plan.{stream_of, AreTold, AreToldAt, IsFirstFile}
 use Rattle.disk_feeder.specs.Reading.{NoStopBefore}
-use Rattle.run_stop.specs.declared.stop.Stop.{Stop}
-use Rattle.run_stop.specs.declared.stop.Stop.TheVariants.{Words, Value, Header, Plan, Recording, Memory, ReadFault, Gap, TooLong, TooMany, SinkFault, FileFault}
-use Rattle.run_stop.specs.Firsts.{first_name, HasHeader, HaveHeaders, RefusesFirstFields}
-use Rattle.run_stop.specs.Runs.{Task, RefusesSearch, RefusesToRecord, stream_for}
-use Rattle.whole_run.specs.Openings.{SaysEarly, StopsEarly}
-use Rattle.whole_run.specs.Wholes.{OfRunAt, JudgesRun, PassesRunTo}
-
--- ---- under the same names
+use Rattle.run_stop.specs.Firsts.{first_name}
+use Rattle.run_stop.specs.Runs.{Task, OfEachFirst, CanSearch, CanRecord, CanBegin, stream_for}
+use Rattle.search_opening.specs.Settings.{OfRunAt, BeginsRun, PassesRunTo}
 
 -- files are told as long as what is told under the names stands
 pub still_told : (Needed : ℕ → Type 0) (old new : Told) (names files : List (List ℕ)) →
@@ -49,12 +42,9 @@ pub of_file : (old new : Told) (name : List ℕ) (P : List ℕ → Type 0) → n
 of_file old new name P same holds =
     subst (λ (under : List ℕ → Option (List ℕ)). ForSome (under name) P) same holds
 
-pub headers_stand : (old new : Told) (names : List (List ℕ)) (starts : List ℕ) (count : ℕ) →
-    new.bytes_under ≡ old.bytes_under → HaveHeaders new names starts count → HaveHeaders old names starts count
-headers_stand old new names starts count same have k below =
-    of_file old new (first_name names starts k) HasHeader same (have k below)
-
--- ---- those of a feeder
+each_stands : (old new : Told) (s : SettingsSeen) (P : List ℕ → Type 0) → new.bytes_under ≡ old.bytes_under →
+    OfEachFirst new s P → OfEachFirst old s P
+each_stands old new s P same each k below = of_file old new (first_name s.names s.starts k) P same (each k below)
 
 -- the feeder of a run reads the files of its settings
 abbrev pub FeedsRun : {I : Type 0} → Feeder I → SettingsSeen → Type 0
@@ -92,52 +82,15 @@ before_reading Needed s old new P same holds files are =
 pub passes_run : {I : Type 0} (feeder : Feeder I) (s : SettingsSeen) (old new : Told) (file : ℕ) → FeedsRun feeder s →
     new.bytes_under ≡ old.bytes_under → NoStopBefore (plan_at feeder) new file → PassesRunTo file old s
 passes_run feeder s old new file plan same passed k below =
-    of_plan (IsAmong (k + 1)) feeder s old new (λ w. stop_at w k ≡ None) plan same (passed k below)
+    of_plan (λ starts count j. j < k + 1) feeder s old new (λ w. stop_at w k ≡ None) plan same (passed k below)
 
--- what is said of the feeder's names and starts is said of those of the settings
-pub of_names : {I : Type 0} (feeder : Feeder I) (s : SettingsSeen) (P : List (List ℕ) → List ℕ → Type 0) →
-    FeedsRun feeder s → P (plan_at feeder).names (plan_at feeder).starts → P s.names s.starts
-of_names feeder s P plan holds =
-    subst (λ names. P names s.starts) plan.files
-    (subst (λ starts. P (plan_at feeder).names starts) plan.transfers holds)
-
--- ---- what a stop says
-
-pub judged_before_reading : (s : SettingsSeen) (old new : Told) (P : FileStream → Type 0) →
-    new.bytes_under ≡ old.bytes_under → JudgesRun new s P → JudgesRun old s P
-judged_before_reading s old new P same judges = (
-  headers_stand old new s.names s.starts (length s.starts) same judges.0,
-  before_reading (IsFirstFile s.starts (length s.names)) s old new P same judges.1,
+pub begins_before_reading : (task : Task) (s : SettingsSeen) (old new : Told) → new.bytes_under ≡ old.bytes_under →
+    BeginsRun task new s → BeginsRun task old s
+begins_before_reading task s old new same begins = (
+  record {
+    accepted = each_stands old new s IsAccepted same begins.0.accepted;
+    searched = λ is. each_stands old new s (CanSearch s.search) same (begins.0.searched is);
+    recorded = λ is. each_stands old new s (CanRecord s.file_size s.max_bytes) same (begins.0.recorded is);
+  },
+  before_reading (IsFirstFile s.starts (length s.names)) s old new (λ w. CanBegin task s w) same begins.1,
 )
-
-says_before_reading : (task : Task) (s : SettingsSeen) (old new : Told) (stop : Stop) →
-    new.bytes_under ≡ old.bytes_under → SaysEarly task s new stop → SaysEarly task s old stop
-says_before_reading task s old new Words same says = absurd says
-says_before_reading task s old new (Value opt) same says = absurd says
-says_before_reading task s old new (Header file (Text fault)) same says = record {
-  transfer = says.transfer;
-  there = says.there;
-  is = says.is;
-  refused = of_file old new (file_name s.names file) (λ bytes. IsHeaderRefusal bytes fault) same says.refused;
-  earlier = headers_stand old new s.names s.starts says.transfer same says.earlier;
-}
-says_before_reading task s old new (Header file (Fields fault)) same says =
-    judged_before_reading s old new (λ w. RefusesFirstFields w file fault) same says
-says_before_reading task s old new (Plan cause) same says =
-    (says.0, judged_before_reading s old new (λ w. RefusesSearch s.search w cause) same says.1)
-says_before_reading task s old new (Recording cause) same says =
-    judged_before_reading s old new (λ w. RefusesToRecord task s w cause) same says
-says_before_reading task s old new Memory same says = tt
-says_before_reading task s old new ReadFault same says = tt
-says_before_reading task s old new (Gap file expected found) same says = absurd says
-says_before_reading task s old new (TooLong limit) same says = absurd says
-says_before_reading task s old new (TooMany count limit) same says = absurd says
-says_before_reading task s old new SinkFault same says = absurd says
-says_before_reading task s old new FileFault same says = absurd says
-
-pub stops_before_reading : (task : Task) (s : SettingsSeen) (old new : Told) (stop : Stop) →
-    new.bytes_under ≡ old.bytes_under → StopsEarly task s new stop → StopsEarly task s old stop
-stops_before_reading task s old new stop same stops = record {
-  kind = stops.kind;
-  says = says_before_reading task s old new stop same stops.says;
-}

@@ -11,20 +11,22 @@ use Rattle.disk_feeder.specs.declared.feeder.Feeder.{Feeder}
 use Rattle.disk_feeder.specs.Feeder.{names_at, block_size, FeederRead}
 use Rattle.disk_feeder.specs.Feeding.{EndIs, StopsWalkAt, IsCutAt}
 use Rattle.disk_feeder.specs.Filling.{HoldsAll}
-use Rattle.disk_feeder.specs.History.{file_name, BreaksIf}
+use Rattle.disk_feeder.specs.History.{file_name, IsShut, BreaksIf}
 use Rattle.disk_feeder.specs.Plan.{AreToldAt, IsFirstFile, IsAmong, opened_at}
 use Rattle.disk_feeder.specs.Reading.{judged_at}
 use Rattle.run_stop.specs.declared.stop.Stop.{Stop}
 use Rattle.run_stop.specs.declared.stop.Stop.TheVariants.{Words, Value, Header, Plan, Recording, Memory, ReadFault, Gap, TooLong, TooMany, SinkFault, FileFault}
 use Rattle.run_stop.specs.Ends.{WordsSayOnce, SaysBefore, IsRunFed, IsRecorded}
-use Rattle.run_stop.specs.Firsts.{HaveHeaders, ReadsFirsts, RefusesTextAt, BreaksFirstAt, RefusesFirstFields}
+use Rattle.run_stop.specs.Firsts.{ReadsFirsts, RefusesTextAt, RefusesFieldsAt, BreaksFirstAt, RefusesFirstFields}
 use Rattle.run_stop.specs.Outcomes.{MadeAll, MadeFront, files_of_stream}
-use Rattle.run_stop.specs.Runs.{Task, Says, ForFilesAt, JudgesFirsts, PassesTo, CanBegin, RefusesSearch, RefusesToRecord, stream_for}
+use Rattle.run_stop.specs.Runs.{Task, Says, ForFilesAt, JudgesFirsts, PassesTo, MayBegin, CanBegin, RefusesSearch, RefusesSearchAt, RefusesToRecord, RefusesRecordingAt, stream_for}
 use Rattle.whole_run.specs.declared.found.Found.{Found}
-use Rattle.whole_run.specs.Wholes.{OfRunAt, OfRunTo, JudgesRun, PassesRunTo, ForWords, HoldsFound, IsStopped, LeavesInputs, LeavesRun, IsDriven}
-use Rattle.whole_run.specs.Openings.{SaysEarly, StopsEarly, LeavesEarly}
-use Rattle.whole_run.specs.Ends.{RecordsRun, FaultLeaves, GoesThrough}
-use Rattle.whole_run.proofs.Told.{still_told, needed_told, all_told, before_reading, judged_before_reading, of_plan, passes_run, FeedsRun}
+use Rattle.search_opening.specs.Settings.{OfRunAt, OfRunTo, JudgesRun, BeginsRun, PassesRunTo, ForWords}
+use Rattle.whole_run.specs.Wholes.{HoldsFound, IsStopped, LeavesInputs, LeavesRun, IsDriven}
+use Rattle.search_opening.specs.Early.{SaysEarly, StopsEarly, LeavesEarly}
+use Rattle.whole_run.specs.Ends.{RecordsRun, GoesThrough}
+use Rattle.run_stop.specs.Faults.{FaultLeaves}
+use Rattle.whole_run.proofs.Told.{still_told, needed_told, all_told, before_reading, begins_before_reading, of_plan, passes_run, FeedsRun}
 
 -- words say one settings: so what holds of the files of a run holds for them
 pub for_files : WordsSayOnce → (Needed : SettingsSeen → ℕ → Type 0) (task : Task) (words : List (List ℕ))
@@ -40,20 +42,23 @@ for_settings : WordsSayOnce → (task : Task) (words : List (List ℕ)) (s : Set
     Says task words s → P s → (t : SettingsSeen) → Says task words t → P t
 for_settings once task words s P says holds t says' = subst P (once task words s t says says') holds
 
--- the first file of each transfer; and so many files besides them
+-- the first file of each transfer; so many files from the first on; and both
 abbrev pub firsts : SettingsSeen → ℕ → Type 0
 firsts s = IsFirstFile s.starts (length s.names)
 
 abbrev pub up_to : ℕ → SettingsSeen → ℕ → Type 0
-up_to opened s = IsAmong opened s.starts (length s.names)
+up_to opened s = λ k. k < opened
+
+abbrev pub with_firsts : ℕ → SettingsSeen → ℕ → Type 0
+with_firsts opened s = IsAmong opened s.starts (length s.names)
 
 -- ---- before the session
 
 judges_firsts : WordsSayOnce → (task : Task) (words : List (List ℕ)) (s : SettingsSeen) (told : Told)
-    (P : SettingsSeen → FileStream → Type 0) → Says task words s → JudgesRun told s (P s) →
-    JudgesFirsts task words told P
-judges_firsts once task words s told P says judges = (
-  for_settings once task words s (λ t. HaveHeaders told t.names t.starts (length t.starts)) says judges.0,
+    (Each : SettingsSeen → Type 0) (P : SettingsSeen → FileStream → Type 0) → Says task words s →
+    JudgesRun told s (Each s) (P s) → JudgesFirsts task words told Each P
+judges_firsts once task words s told Each P says judges = (
+  for_settings once task words s Each says judges.0,
   for_files once firsts task words s told P says judges.1,
 )
 
@@ -64,11 +69,16 @@ says_before once task words s told (Value opt) says early = absurd early
 says_before once task words s told (Header file (Text fault)) says early =
     for_settings once task words s (λ t. RefusesTextAt told t.names t.starts file fault) says early
 says_before once task words s told (Header file (Fields fault)) says early =
-    judges_firsts once task words s told (λ t w. RefusesFirstFields w file fault) says early
-says_before once task words s told (Plan cause) says early =
-    (early.0, judges_firsts once task words s told (λ t w. RefusesSearch t.search w cause) says early.1)
+    judges_firsts once task words s told (λ t. RefusesFieldsAt told t.names t.starts file fault)
+    (λ t w. RefusesFirstFields w file fault) says early
+says_before once task words s told (Plan cause) says early = (
+  early.0,
+  judges_firsts once task words s told (λ t. RefusesSearchAt t told cause) (λ t w. RefusesSearch t.search w cause)
+      says early.1,
+)
 says_before once task words s told (Recording cause) says early =
-    judges_firsts once task words s told (λ t w. RefusesToRecord task t w cause) says early
+    judges_firsts once task words s told (λ t. RefusesRecordingAt task t told cause)
+    (λ t w. RefusesToRecord task t w cause) says early
 says_before once task words s told Memory says early = tt
 says_before once task words s told ReadFault says early = tt
 says_before once task words s told (Gap file expected found) says early = absurd early
@@ -119,7 +129,7 @@ passes_to once task words s told file says passed k below =
 pub leaves_session : {I : Type 0} → WordsSayOnce → (told : I → Told) (task : Task) (s : SettingsSeen)
     (is_calm calm : Type 0) (before : Told) (feeder : Feeder I) (after : I) (found : Found) → (is_calm → calm) →
     (told feeder.inputs.now).bytes_under ≡ before.bytes_under → (told after).bytes_under ≡ before.bytes_under →
-    FeedsRun feeder s → JudgesRun (told feeder.inputs.now) s (λ w. CanBegin task s w) →
+    FeedsRun feeder s → BeginsRun task (told feeder.inputs.now) s →
     FeederRead before (told feeder.inputs.now) feeder → FaultLeaves told calm feeder after found.blocks →
     LeavesRun task s is_calm before (told after) (Some found.blocks)
 leaves_session once told task s is_calm calm before feeder after found stays same same' plan begun read leaves words
@@ -131,26 +141,36 @@ leaves_session once told task s is_calm calm before feeder after found stays sam
     let broke = leaves.broke before read in
     let Cut : ℕ → Type 0 = λ size. OfRunTo (opened_at at) before s (λ w. IsCutAt w at size blocks) in
     let Stood : List (List ℕ) → Type 0 = λ ns.
-    OfRunTo (at.file + 1) before s (λ w. BreaksIf at.is_open ns w before (told after) at) in
+    OfRunAt (with_firsts (at.file + 1) s) before s (λ w. BreaksIf at.is_open ns w before (told after) at) in
+    let Shut : List (List ℕ) → Type 0 = λ ns. OfRunAt (with_firsts at.file s) before s
+    (λ w. IsShut ns w before (told after) at.transfer at.file at.since) in
     let Lacks : List (List ℕ) → Told → Type 0 = λ ns t.
     (at.file < length ns) × ¬ IsSome (t.bytes_under (file_name ns at.file)) in
     let Missing : SettingsSeen → Type 0 = λ t. Lacks t.names before in
     record {
       at = at;
-      begun = judges_firsts once task words s before (λ t w. CanBegin task t w) says
-          (judged_before_reading s before mid (λ w. CanBegin task s w) same begun);
+      begun = judges_firsts once task words s before (λ t. MayBegin task t before) (λ t w. CanBegin task t w) says
+          (begins_before_reading task s before mid same begun);
+      there = for_settings once task words s (λ t. at.file < length t.names) says
+          (subst (λ ns. at.file < length ns) plan.files leaves.there);
       passed = passes_to once task words s before at.file says (passes_run feeder s before (told after) at.file plan
           same' broke.passed);
       cut = for_files once (up_to (opened_at at)) task words s before (λ t w. IsCutAt w at t.size blocks) says
-          (subst Cut plan.block (of_plan (IsAmong (opened_at at)) feeder s before (told after)
+          (subst Cut plan.block (of_plan (λ starts count k. k < opened_at at) feeder s before (told after)
           (λ w. IsCutAt w at (block_size feeder) blocks) plan same' broke.cut));
-      stood = for_files once (up_to (at.file + 1)) task words s before
+      stood = for_files once (with_firsts (at.file + 1)) task words s before
           (λ t w. BreaksIf at.is_open t.names w before (told after) at) says
           (subst Stood plan.files (of_plan (IsAmong (at.file + 1)) feeder s before (told after)
           (λ w. BreaksIf at.is_open names w before (told after) at) plan same' broke.stood));
       missing = λ is. for_settings once task words s Missing says
           (subst (λ ns. Lacks ns before) plan.files
           (lacks_before names at.file before mid same (leaves.missing (stays is))));
+      shut = λ is. broke.shut (stays is);
+      unopened = λ is. for_files once (with_firsts at.file) task words s before
+          (λ t w. IsShut t.names w before (told after) at.transfer at.file at.since) says
+          (subst Shut plan.files (of_plan (IsAmong at.file) feeder s before (told after)
+          (λ w. IsShut names w before (told after) at.transfer at.file at.since) plan same'
+          (broke.unopened (stays is))));
     }
   where
     lacks_before : (names : List (List ℕ)) (file : ℕ) (old new : Told) → new.bytes_under ≡ old.bytes_under →
@@ -167,11 +187,16 @@ is_fed : WordsSayOnce → (task : Task) (s : SettingsSeen) (old new : Told) (bef
 is_fed once task s old new before after found same through words says =
     let judged = judged_at found.feed through.at in
     record {
-      begun = judges_firsts once task words s old (λ t w. CanBegin task t w) says
-          (judged_before_reading s old new (λ w. CanBegin task s w) same through.begun);
+      begun = judges_firsts once task words s old (λ t. MayBegin task t old) (λ t w. CanBegin task t w) says
+          (begins_before_reading task s old new same through.begun);
       at = through.at;
       last = λ bytes whole. for_settings once task words s (λ t. through.at.file ≡ length t.names) says
           (through.last bytes whole);
+      there = λ early. for_settings once task words s (λ t. through.at.file < length t.names) says
+          (through.there early);
+      names = through.names;
+      limit = λ limit long. for_settings once task words s (λ t. limit ≡ t.max_bytes) says
+          (through.limit limit long);
       passed = passes_to once task words s old through.at.file says (λ k below.
           before_reading (up_to (k + 1) s) s old new (λ w. stop_at w k ≡ None) same (through.passed k below));
       walked = for_files once (up_to judged) task words s old

@@ -1,27 +1,25 @@
 -- What a session of a run left, over its files.
 -- Source: this project's choice.
-use Rattle.std.specs.Prelude.{◌≡◌, ◌≢◌, ℕ, ◌<◌, ◌≤◌, true, false, length, Option, Some, IsSome}
+use Rattle.std.specs.Prelude.{◌≡◌, ◌≢◌, ℕ, ◌<◌, true, length, Option, Some, ◌≤◌, false}
 use Rattle.arrayvec.specs.ArrayVec.{ArrayVec}
 use Rattle.dada_model.specs.Observation.{Observation}
-use Rattle.psr_base.specs.Count.{Rose}
 use Rattle.psr_base.specs.Told.{Told}
 use Rattle.psr_base.specs.Made.{FilesSeen}
+use Rattle.psr_base.specs.Count.{Rose}
 use Rattle.search_words.specs.Settings.{SettingsSeen}
-use Rattle.ring_ends.specs.declared.finished.Finished.{Finished}
 use Rattle.ring_ends.specs.Ended.{sealed_at_end}
-use Rattle.disk_feeder.specs.declared.answers.FeedEnd.TheVariants.{Whole}
-use Rattle.disk_feeder.specs.declared.feeder.Feeder.{Feeder}
+use Rattle.disk_feeder.specs.declared.answers.FeedEnd.TheVariants.{Whole, TooLong}
 use Rattle.disk_feeder.specs.declared.place.Place.{Place}
-use Rattle.disk_feeder.specs.Feeder.{plan_at, names_at, block_size, FeederRead}
-use Rattle.disk_feeder.specs.Feeding.{EndIs, StopsWalkAt, BreaksReading}
-use Rattle.disk_feeder.specs.History.{file_name}
+use Rattle.disk_feeder.specs.Ends.{NamesPlace}
+use Rattle.disk_feeder.specs.Feeding.{EndIs, StopsWalkAt}
 use Rattle.disk_feeder.specs.Reading.{judged_at}
 use Rattle.dada_recorder.specs.declared.answers.RecordEnd.TheVariants.{FileFault}
 use Rattle.search_session.specs.declared.ended.SessionEnd.{SessionEnd}
+use Rattle.run_stop.specs.Runs.{Task, Searching}
 use Rattle.run_stop.specs.Outcomes.{MadeAll, MadeFront, files_of_stream}
-use Rattle.run_stop.specs.Runs.{Task, Searching, CanBegin}
+use Rattle.search_opening.specs.Settings.{OfRunFirsts, OfRunTo, BeginsRun, PassesRunTo}
 use Rattle.whole_run.specs.declared.found.Found.{Found}
-use Rattle.whole_run.specs.Wholes.{OfRunFirsts, OfRunTo, JudgesRun, PassesRunTo, ClearsAll, HoldsFound}
+use Rattle.whole_run.specs.Wholes.{ClearsAll, HoldsFound}
 
 -- what was found is what the session answered, for these observations
 pub record IsFoundOf {I F : Type 0} (observations : ArrayVec (Option Observation))
@@ -46,23 +44,16 @@ pub record RecordsRun (s : SettingsSeen) (told : Told) (before after : FilesSeen
   pub quiet : found.recorded ≢ Some FileFault → after.faults ≡ before.faults
   pub count : before.faults ≤ after.faults
 
--- Where a fault of the inputs ended a session, its blocks are those of what was read since the inputs told `before`, up
--- to its end at some place, where the inputs are `after`. Calm inputs fail only where the file there isn't told.
-pub record FaultLeaves {I : Type 0} (told : I → Told) (is_calm : Type 0) (feeder : Feeder I)
-    (after : I) (blocks : Finished) : Type 0 where
-  pub place : Place
-  pub broke : (before : Told) → FeederRead before (told feeder.inputs.now) feeder →
-      BreaksReading (plan_at feeder) before (told after) place (block_size feeder)
-      (sealed_at_end blocks)
-  pub missing : is_calm → (place.file < length (names_at feeder))
-      × ¬ IsSome ((told feeder.inputs.now).bytes_under (file_name (names_at feeder) place.file))
-
--- a session went through, whose feeder ended at the end of the walk or at a fault of its inputs
+-- A session went through, whose feeder ended at the end of the walk or at a fault of its inputs. Where it sealed all
+-- data that is past all files; else the file of the place is there, and the only one that the end names.
 pub record GoesThrough (task : Task) (s : SettingsSeen) (told : Told) (before after : FilesSeen)
     (found : Found) : Type 0 where
-  pub begun : JudgesRun told s (λ w. CanBegin task s w)
+  pub begun : BeginsRun task told s
   pub at : Place
   pub last : (bytes : ℕ) → found.feed ≡ Whole bytes → at.file ≡ length s.names
+  pub there : ((bytes : ℕ) → found.feed ≢ Whole bytes) → at.file < length s.names
+  pub names : NamesPlace found.feed at.file
+  pub limit : (limit : ℕ) → found.feed ≡ TooLong limit → limit ≡ s.max_bytes
   pub passed : PassesRunTo at.file told s
   pub walked : OfRunTo (judged_at found.feed at) told s (λ w.
       EndIs w s.size (sealed_at_end found.blocks) found.feed)

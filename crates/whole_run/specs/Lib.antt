@@ -1,3 +1,3 @@
 pub mod Wholes
-pub mod Openings
+pub mod Sessions
 pub mod Ends

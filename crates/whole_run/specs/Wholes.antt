@@ -1,70 +1,28 @@
 -- What a run of either program leaves, from its settings to the end of its session, or where it stops before.
 -- Source: this project's choice.
-use Rattle.std.specs.Prelude.{◌≡◌, ◌≢◌, ℕ, ◌+◌, ◌^◌, ◌<◌, true, List, length, map, Option, Some, None, Result, Ok, Err}
+use Rattle.std.specs.Prelude.{◌≡◌, ◌≢◌, ℕ, ◌^◌, ◌<◌, true, List, map, Option, Some, None, Result, Ok, Err}
 use Rattle.psr_base.specs.Told.{Told}
 use Rattle.psr_base.specs.Made.{FilesSeen}
+use Rattle.search_words.specs.Settings.{SettingsSeen}
 use Rattle.ring_ends.specs.declared.finished.Finished.{Finished}
-use Rattle.search_words.specs.Settings.{SettingsSeen, AllInRange}
-use Rattle.stream_model.specs.Walk.{FileStream, stop_at}
 use Rattle.disk_feeder.specs.declared.answers.FeedEnd.TheVariants as feed
 use Rattle.disk_feeder.specs.declared.answers.FeedEnd.TheVariants.{Whole}
-use Rattle.disk_feeder.specs.Plan.{AreTold, AreToldAt, IsFirstFile, IsAmong}
 use Rattle.dada_recorder.specs.declared.answers.RecordEnd.TheVariants.{FileFault}
 use Rattle.transfer_text.specs.Searched.{ObservedTransfer, candidate_total}
 use Rattle.transfer_text.specs.Found.{HoldTransfers}
 use Rattle.run_stop.specs.declared.stop.Stop.{Stop}
 use Rattle.run_stop.specs.declared.stop.Stop.TheVariants.{Memory, ReadFault}
 use Rattle.run_stop.specs.Ends.{StopsBefore, IsRunFed, IsRecorded}
-use Rattle.run_stop.specs.Runs.{Task, Searching, RecordingAlone, Alone, Says, stream_for, observed_transfers}
-use Rattle.run_stop.specs.Firsts.{HaveHeaders}
+use Rattle.run_stop.specs.Runs.{Task, Searching, RecordingAlone, Alone, observed_transfers}
 use Rattle.run_stop.specs.Outcomes.{ReadsNoData, LeavesAtFault, AllCleared}
+use Rattle.search_opening.specs.Settings.{ForWords, OfRun}
 use Rattle.whole_run.specs.declared.found.Found.{Found}
-use Rattle.whole_run.specs.declared.purpose.Purpose.{Purpose}
-use Rattle.whole_run.specs.declared.purpose.Purpose.TheVariants.{Search, Record}
-
--- what a run for this is asked to do: to search files, or to record them alone
-abbrev pub task_of : Purpose → Task
-task_of Search = Searching
-task_of Record = RecordingAlone
 
 -- how many shards it has
 abbrev pub shards_of : Task → SettingsSeen → ℕ
 shards_of Searching s = s.search.shards
 shards_of RecordingAlone s = 0
 shards_of (Alone lone) s = 1
-
--- settings that a run can be driven by: every value lies in its range, and files that are recorded alone are recorded
-pub record CanBeDriven (task : Task) (s : SettingsSeen) : Type 0 where
-  pub range : AllInRange s
-  pub records : task ≡ RecordingAlone → s.recording ≡ true
-
--- P holds of all words that say the settings
-abbrev pub ForWords : Task → SettingsSeen → (List (List ℕ) → Type 0) → Type 0
-ForWords task s P = (words : List (List ℕ)) → Says task words s → P words
-
--- P holds of the files that the settings name, as a walk sees them, where the bytes of all are told
-abbrev pub OfRun : Told → SettingsSeen → (FileStream → Type 0) → Type 0
-OfRun told s P = (files : List (List ℕ)) → AreTold told s.names files → P (stream_for s files)
-
--- where those are told that the settings need
-abbrev pub OfRunAt : (ℕ → Type 0) → Told → SettingsSeen → (FileStream → Type 0) → Type 0
-OfRunAt Needed told s P = (files : List (List ℕ)) → AreToldAt Needed told s.names files →
-    P (stream_for s files)
-
--- the first file of each transfer; and so many files besides them
-abbrev pub OfRunFirsts : Told → SettingsSeen → (FileStream → Type 0) → Type 0
-OfRunFirsts told s = OfRunAt (IsFirstFile s.starts (length s.names)) told s
-
-abbrev pub OfRunTo : ℕ → Told → SettingsSeen → (FileStream → Type 0) → Type 0
-OfRunTo opened told s = OfRunAt (IsAmong opened s.starts (length s.names)) told s
-
--- P holds by all first files, and these have headers
-abbrev pub JudgesRun : Told → SettingsSeen → (FileStream → Type 0) → Type 0
-JudgesRun told s P = HaveHeaders told s.names s.starts (length s.starts) × OfRunFirsts told s P
-
--- none of the files before this one stops the walk, each by the files up to it
-abbrev pub PassesRunTo : ℕ → Told → SettingsSeen → Type 0
-PassesRunTo file told s = (k : ℕ) → k < file → OfRunTo (k + 1) told s (λ w. stop_at w k ≡ None)
 
 -- a run was given up before its session, for all words that say its settings
 abbrev pub IsStopped : Task → SettingsSeen → Told → Stop → Type 0

@@ -3,17 +3,18 @@ ghost use Rattle.std.specs.Prelude.{◌≡◌, true, IfOk, IfErr, OnErr};
 ghost use Rattle.psr_base.specs.Inputs.{HasReadFrom};
 ghost use Rattle.search_words.specs.Settings.{settings_seen};
 ghost use Rattle.disk_feeder.specs.Filling.{HoldsAll};
-ghost use Rattle.whole_run.specs.Wholes.{task_of, CanBeDriven, FailsReading, IsStopped, LeavesInputs, IsDriven};
+ghost use Rattle.run_stop.specs.Runs.{task_of};
+ghost use Rattle.search_opening.specs.Settings.{CanBeDriven};
+ghost use Rattle.whole_run.specs.Wholes.{FailsReading, IsStopped, LeavesInputs, IsDriven};
 
 use crate::found::Found;
 use crate::lent::{Lent, give_back};
-use crate::open::open_run;
-use crate::purpose::Purpose;
 use crate::session::go_on;
 use arrayvec::ArrayVec;
 use disk_feeder::{Feeder, FeederSpace};
 use psr_base::{Files, Inputs};
-use run_stop::Stop;
+use run_stop::{Purpose, Stop};
+use search_opening::open_run;
 use search_session::Gate;
 use search_words::Settings;
 use std::alloc::Global;
@@ -53,7 +54,7 @@ fn within<'a, I: Inputs + Send, F: Files + Send, G: Gate + Sync, R: Threads + Wa
         (I.told inputs.old) (F.seen files.old) (F.seen result.files.now)) }
 {
     words_say_once();
-    let space = match FeederSpace::take(
+    let space = match FeederSpace::reserve(
         alloc,
         settings.names.as_slice(),
         settings.starts.as_slice(),

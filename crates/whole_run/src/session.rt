@@ -7,19 +7,19 @@ ghost use Rattle.disk_feeder.specs.declared.answers.FeedEnd.TheVariants.{ReadFau
 ghost use Rattle.disk_feeder.specs.Feeder.{names_at};
 ghost use Rattle.disk_feeder.specs.Filling.{HoldsAll};
 ghost use Rattle.run_stop.specs.Runs.{Task};
-ghost use Rattle.whole_run.specs.Openings.{IsOpened, RecordsReady, SearchesReady};
-ghost use Rattle.whole_run.specs.Ends.{IsFoundOf, FaultLeaves, GoesThrough};
+ghost use Rattle.search_opening.specs.Ready.{IsOpened};
+ghost use Rattle.whole_run.specs.Sessions.{RecordsReady, SearchesReady};
+ghost use Rattle.whole_run.specs.Ends.{IsFoundOf, GoesThrough};
+ghost use Rattle.run_stop.specs.Faults.{FaultLeaves};
 
 use crate::found::Found;
 use crate::lent::Lent;
-use crate::open::Opened;
-use crate::spaces::Spaces;
 use arrayvec::ArrayVec;
 use dada_recorder::Recorder;
 use disk_feeder::Feeder;
 use obs_plan::Observation;
 use psr_base::{Files, Inputs};
-use search_opening::StageSpace;
+use search_opening::{OpenedRun, Spaces, StageSpace};
 use search_session::{Gate, SessionEnd, run_session};
 use std::sync::Wait;
 use std::thread::Threads;
@@ -189,7 +189,7 @@ pub(crate) fn go_on<
 >(
     rt: &R,
     turns: u32,
-    opened: Opened<'a, I, F>,
+    opened: OpenedRun<'a, I, F>,
     feeder: Feeder<'a, I>,
     files: &'a mut F,
     gate: &G,
@@ -212,7 +212,7 @@ pub(crate) fn go_on<
         → GoesThrough task s (I.told feeder.entry.inputs.now) (F.seen files.old)
         (F.seen result.files.now) result.done }
 {
-    let Opened {
+    let OpenedRun {
         observations,
         spaces,
     } = opened;

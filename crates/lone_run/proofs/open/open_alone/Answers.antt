@@ -2,26 +2,25 @@ use Rattle.std.proofs.Common.{◌≡◌, Result, Ok, Err, OnOk, refl, sym, subst
 use Rattle.search_words.specs.Settings.{settings_seen}
 use Rattle.disk_feeder.specs.Feeder.{FeederRead}
 use Rattle.run_stop.specs.declared.stop.Stop.{Stop}
-use Rattle.whole_run.specs.Openings.{LeavesEarly}
+use Rattle.search_opening.specs.Early.{LeavesEarly}
 use Rattle.lone_run.specs.declared.stop.LoneStop.{LoneStop}
 use Rattle.lone_run.specs.declared.stop.LoneStop.TheVariants.{Run}
-use Rattle.lone_run.proofs.Opening.{begin_stops, stops_before_reading, leaves_early, leaves_opening}
+use Rattle.lone_run.proofs.Opening.{begin_stops, stops_before_reading, leaves_opening}
 use Rattle.lone_run.proofs.Results.{map_err}
 use Rattle.lone_run.proofs.open.open_alone.Goals as goal
 
 pub returns-in-Ok-clause-stopped : goal.returns-in-Ok-clause-stopped
 returns-in-Ok-clause-stopped g c =
     map_err _ _ c.open_begun.result
-    (λ stop. stops_before_reading _ _ (settings_seen c.args.settings.now) (g.I.Inputs.told c.args.feeder.now.inputs.now)
-    (g.I.Inputs.told c.begin_feed.new.feeder.inputs.now) stop c.begin_feed.ensures.inputs.names)
-    c.open_begun.ensures.stopped
+    (λ stop. stops_before_reading c.early_stops_stand.ensures _ _ (settings_seen c.args.settings.now)
+    (g.I.Inputs.told c.args.feeder.now.inputs.now) (g.I.Inputs.told c.begin_run.new.feeder.inputs.now) stop
+    c.begin_run.ensures.inputs.names) c.open_begun.ensures.stopped
 
 pub returns-in-Err-clause-stopped : goal.returns-in-Err-clause-stopped
 returns-in-Err-clause-stopped g c =
-    let stops = c.in-Err.ensures.stopped in
     begin_stops (g.S.Scoping.scopes c.args.scoping.now) (g.S.Scoping.refuses c.args.scoping.now)
-    (settings_seen c.args.settings.now) c.args.feeder.now (g.I.Inputs.told c.args.feeder.now.inputs.now) c.in-Err.stop
-    c.requires.fresh.plan stops.kind stops.stopped
+    (settings_seen c.args.settings.now) (g.I.Inputs.told c.args.feeder.now.inputs.now) c.in-Err.stop
+    c.in-Err.ensures.stopped
 
 -- ---- what was read
 
@@ -37,13 +36,13 @@ returns-in-Ok-clause-begins g c =
     let Reads : _ → Type 0 = λ i. FeederRead old (told i) new in
     on_ok c.open_begun.result (FeederRead old (told new.inputs.now) new)
     (subst Reads (sym c.open_begun.ensures.inputs)
-    (c.open_begun.ensures.reads_on old (told c.begin_feed.new.feeder.inputs.now) c.in-Ok.ensures.read.begins))
+    (c.open_begun.ensures.reads_on old (told c.begin_run.new.feeder.inputs.now) c.in-Ok.ensures.begun.reads))
 
 pub returns-in-Ok-clause-leaves : goal.returns-in-Ok-clause-leaves
 returns-in-Ok-clause-leaves g c = λ stop is.
     leaves_opening g.I.Inputs.told (g.I.Inputs.is_calm c.args.feeder.now.inputs.now)
-    (settings_seen c.args.settings.now) c.args.feeder.now c.begin_feed.new.feeder c.open_begun.new.feeder
-    c.open_begun.result stop c.requires.fresh.plan c.in-Ok.ensures.read.read c.open_begun.ensures.inputs
+    (settings_seen c.args.settings.now) c.args.feeder.now.inputs.now c.begin_run.new.feeder.inputs.now
+    c.open_begun.new.feeder.inputs.now c.open_begun.result stop c.in-Ok.ensures.begun.only c.open_begun.ensures.inputs
     c.open_begun.ensures.readable is
 
 -- the stop of an answer
@@ -55,8 +54,8 @@ returns-in-Err-clause-leaves g c = λ stop is.
     let told = g.I.Inputs.told in
     let s = settings_seen c.args.settings.now in
     let old = c.args.feeder.now in
-    let new = c.begin_feed.new.feeder in
+    let new = c.begin_run.new.feeder in
     let Leaves : Stop → Type 0 = λ x. LeavesEarly s (g.I.Inputs.is_calm old.inputs.now) (told old.inputs.now)
     (told new.inputs.now) x in
     subst Leaves (one_stop _ _ _ refl is)
-    (leaves_early told g.I.Inputs.is_calm s old new c.in-Err.stop c.requires.fresh.plan c.in-Err.ensures.stopped)
+    c.in-Err.ensures.leaves

@@ -2,7 +2,7 @@ use Rattle.std.proofs.Common.{rules, ◌≡◌, sym, ◌∙◌, subst}
 use Rattle.search_words.specs.Settings.{settings_seen}
 use Rattle.run_stop.specs.Outcomes.{ReadsNoData, LeavesAtFault}
 use Rattle.run_stop.specs.Runs.{Alone}
-use Rattle.whole_run.specs.Wholes.{ForWords}
+use Rattle.search_opening.specs.Settings.{ForWords}
 use Rattle.lone_run.specs.Stops.{FailsReading, blocks_of}
 use Rattle.lone_run.proofs.run.drive_alone.Goals as goal
 

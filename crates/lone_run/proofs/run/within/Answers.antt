@@ -8,7 +8,7 @@ use Rattle.run_stop.specs.declared.stop.Stop.{Stop as Stopped}
 use Rattle.run_stop.specs.declared.stop.Stop.TheVariants as Stop
 use Rattle.run_stop.specs.Outcomes.{ReadsNoData, LeavesAtFault}
 use Rattle.run_stop.specs.Runs.{Alone}
-use Rattle.whole_run.specs.Wholes.{ForWords}
+use Rattle.search_opening.specs.Settings.{ForWords}
 use Rattle.lone_run.specs.declared.stop.LoneStop.{LoneStop}
 use Rattle.lone_run.specs.declared.stop.LoneStop.TheVariants.{Run, Unscoped}
 use Rattle.lone_run.specs.Stops.{StopsEarly, FailsReading}

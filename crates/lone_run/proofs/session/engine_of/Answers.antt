@@ -1,5 +1,5 @@
 use Rattle.std.proofs.Common.{sym, subst}
-use Rattle.search_session.specs.Lanes.{HasEngine}
+use Rattle.session_readers.specs.Banks.{HasEngine}
 use Rattle.lone_run.proofs.session.engine_of.Goals as goal
 
 pub first_of-requires : goal.first_of-requires

@@ -3,7 +3,7 @@ use Rattle.disk_feeder.specs.declared.feeder.FeederSpace.{FeederSpace}
 use Rattle.disk_feeder.specs.Resting.{feeder_over}
 use Rattle.search_session.specs.Sessions.{FeedAnswers}
 use Rattle.search_session.specs.LoneEnds.{session_end}
-use Rattle.lone_run.proofs.Through.{lone_ready, lane_engine, goes_alone, fault_leaves}
+use Rattle.lone_run.proofs.Through.{lone_ready, bank_engine, goes_alone, fault_leaves}
 use Rattle.lone_run.proofs.session.go_on.Goals as goal
 
 pub session-session-requires : goal.session-session-requires
@@ -27,8 +27,8 @@ run_alone-end-requires-clause-begins g c =
 pub engine_of-requires : goal.engine_of-requires
 engine_of-requires g c =
     let at = c.requires.opened in
-    lane_engine g.I.Inputs.told g.I.Inputs.is_open at.0 c.args.inputs.now c.args.feeder c.args.opened.observation at.1
-    c.args.opened.space _ c.run_alone-end.result at.2 c.session-session.ensures.lane c.run_alone-end.ensures.lane
+    bank_engine g.I.Inputs.told g.I.Inputs.is_open at.0 c.args.inputs.now c.args.feeder c.args.opened.observation at.1
+    c.args.opened.space _ c.run_alone-end.result at.2 c.session-session.ensures.bank c.run_alone-end.ensures.bank
 
 pub returns-clause-serves : goal.returns-clause-serves
 returns-clause-serves g c = λ calm holds.
@@ -52,5 +52,5 @@ returns-clause-went g c = λ s scope opened.
     let fed = subst Fed c.session-session.ensures.feeder c.run_alone-end.ensures.feed in
     goes_alone g.I.Inputs.told g.I.Inputs.is_open g.I.Inputs.is_calm g.I.Inputs.faults s c.args.inputs.now
     c.run_alone-end.new.inputs c.args.feeder c.args.opened.observation scope c.args.opened.space _
-    c.run_alone-end.result _ opened c.session-session.ensures.lane fed c.run_alone-end.ensures.lane refl refl refl
+    c.run_alone-end.result _ opened c.session-session.ensures.bank fed c.run_alone-end.ensures.bank refl refl refl
     c.engine_of.ensures

@@ -49,7 +49,8 @@ loop-k-preserved g c =
         | inr above ↦
             let same : j ≡ c.loop-k.k = omega (arith, within, above) in
             subst (λ i. IsAcceptedAt c.accept.new.self i header) (sym same)
-            (now.accepts.first header (subst (λ i. slice_get (headers_of c.accept.new.self) i ≡ Some header) same there))
+            (now.accepts.first header
+            (subst (λ i. slice_get (headers_of c.accept.new.self) i ≡ Some header) same there))
       ];
       reads_on = λ outset told was. kept.reads_on outset told (before.reads_on outset told was);
       reading = λ open_now. before.reading (kept.reading open_now);

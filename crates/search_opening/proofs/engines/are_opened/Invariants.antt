@@ -3,4 +3,4 @@ use Rattle.std.specs.Prelude.{IsSome}
 use Rattle.search_opening.proofs.engines.are_opened.Given as goal
 
 abbrev pub invariant-loop-place : goal.invariant-loop-place
-invariant-loop-place l = AllWithin IsSome l.lanes 0 l.place
+invariant-loop-place l = AllWithin IsSome l.banks 0 l.place

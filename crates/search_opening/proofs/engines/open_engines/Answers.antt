@@ -1,6 +1,6 @@
 use Rattle.std.proofs.Common.{◌≡◌, length, Some, subst, arith}
 use Rattle.search_opening.proofs.Built.{AreBuilt, none_built, one_built}
-use Rattle.search_opening.proofs.Lanes.{HasEngineFor, engine_there, engines_for}
+use Rattle.search_opening.proofs.Banks.{HasEngineFor, engine_there, engines_for}
 use Rattle.search_opening.proofs.engines.open_engines.Goals as goal
 
 pub loop-k-init : goal.loop-k-init

@@ -1,5 +1,5 @@
 use Rattle.search_opening.proofs.Built.{AreBuilt}
-use Rattle.search_opening.proofs.Lanes.{HasEngineFor}
+use Rattle.search_opening.proofs.Banks.{HasEngineFor}
 use Rattle.search_opening.proofs.engines.open_engines.Given as goal
 
 -- the engines of the transfers before

@@ -7,7 +7,7 @@ use Rattle.disk_feeder.specs.Feeder.{plan_at}
 use Rattle.disk_feeder.specs.Plan.{Plan, stream_of}
 use Rattle.run_stop.specs.Ends.{ComesBefore}
 use Rattle.search_opening.specs.First.{AreHeadersOf, StopsFirsts}
-use Rattle.search_opening.proofs.Firsts.{still_told, still_headed, same_stream, headers_are, texts_are, firsts_are, breaks_first, fault_of_begin, fields_no_fault, stops_text, no_want, stops_fields, refuses_fields, are_firsts, begin_comes, fields_come}
+use Rattle.search_opening.proofs.Firsts.{still_told, still_headed, same_stream, headers_are, texts_are, firsts_are, breaks_first, fault_of_begin, fields_no_fault, stops_text, no_want, stops_fields, refuses_fields, refuses_fields_at, are_firsts, are_firsts_at, begin_comes, fields_come}
 use Rattle.search_opening.proofs.first.begin_feed.Goals as goal
 
 -- as many names as files, where transfers begin
@@ -39,7 +39,9 @@ returns-in-Ok-observe_all-clause-read g c =
           are_firsts (stream_of new files) new.headers headed (headers files are) c.accepted_by_rows.ensures
           (subst (AreStarts new.starts) (sym are.count) starts) c.in-Ok-observe_all.observations.items
           c.in-Ok-observe_all.ensures.observed;
-      texts = texts_are told_now source_now starts headed begins.begun.headers;
+      each = are_firsts_at c.accepted_by_rows.ensures told_now new.names new.starts new.headers
+          c.in-Ok-observe_all.observations.items headed
+          (texts_are told_now source_now starts headed begins.begun.headers) c.in-Ok-observe_all.ensures.observed;
       read = firsts_are told source
           (subst (λ s. AreStarts s (length old.names)) (sym c.requires.plan) c.requires.begin) told_now
           begins.reads.read;
@@ -63,14 +65,18 @@ returns-in-Err-observe_all-clause-stopped g c =
     let headed_now = kept.headers ∙ c.requires.headed ∙ ap length (sym same) in
     let starts = starts_are new c.args.starts.now old.names same kept.names c.requires.begin in
     let headers = headers_are told_now source_now starts headed_now c.in-Ok.ensures.begun.headers in
-    let texts = still_headed told told_now old new bytes kept.names kept.starts
+    let texts = still_headed told told_now old new new.headers bytes kept.names kept.starts
     (texts_are told_now source_now starts headed_now c.in-Ok.ensures.begun.headers) in
     let within = slice_get_within new.headers refused.transfer r.header r.there in
     let there : refused.transfer < length old.starts = omega (arith, within, headed) in
     record {
       kind = subst ComesBefore (sym c.of_observation.ensures) (fields_come _ refused.cause);
       stopped = subst (StopsFirsts told old) (sym c.of_observation.ensures)
-          (stops_fields told old _ refused.cause texts (λ other files are.
+          (stops_fields told old _ refused.cause (λ other.
+          refuses_fields_at told old.names old.starts new.headers texts refused.transfer _ refused.cause r.header there
+          (ap (λ s. slice_index_or s refused.transfer 0) (sym c.requires.plan)
+          ∙ get_or_default old.starts refused.transfer 0 (length old.names) there)
+          r.there r.cause other r.earlier) (λ other files are.
           let are_now = still_told told told_now old new files bytes kept.names kept.starts are in
           let have = subst (λ w. AreHeadersOf w new.headers) (same_stream new old files kept.starts kept.limit)
           (headers files are_now) in

@@ -1,6 +1,6 @@
 use Rattle.std.proofs.Common.{length, sym, subst, arith}
 use Rattle.disk_feeder.specs.Feeder.{headers_of}
-use Rattle.search_opening.specs.Recordings.{RecordingsFit, RefusesTransfer}
+use Rattle.search_opening.specs.Recordings.{RecordingsFit}
 use Rattle.search_opening.proofs.Observed.{as_many}
 use Rattle.search_opening.proofs.Stopping.{can_record, stops_recording}
 use Rattle.search_opening.proofs.recordings.fit_all.Goals as goal
@@ -15,10 +15,6 @@ returns-in-Ok-clause-recorded g c = λ w firsts are most.
     (subst (RecordingsFit c.args.file_size c.args.max_bytes headers observations) firsts.count c.in-Ok.ensures.fit))
 
 pub returns-in-Err-clause-refused : goal.returns-in-Err-clause-refused
-returns-in-Err-clause-refused g c = λ w firsts are most.
-    let headers = headers_of c.args.feeder.now in
-    let observations = c.args.observations.now in
-    stops_recording w observations headers firsts are (as_many headers observations c.requires.observed)
-    c.args.file_size c.in-Err.fault c.of_recording.result c.of_recording.ensures
-    (subst (λ m. RefusesTransfer c.args.file_size m headers observations c.in-Err.fault) (sym most)
-    c.in-Err.ensures.refused)
+returns-in-Err-clause-refused g c =
+    stops_recording c.args.file_size c.args.max_bytes (headers_of c.args.feeder.now) c.args.observations.now
+    c.in-Err.fault c.of_recording.result c.of_recording.ensures c.in-Err.ensures.refused

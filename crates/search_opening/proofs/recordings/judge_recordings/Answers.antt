@@ -47,7 +47,8 @@ loop-k-preserved g c =
         | inr above ↦
             let same : j ≡ c.loop-k.k = omega (arith, within, above) in
             subst IsReadBack (same_Some c.header-header.result.now other
-            (sym c.header-header.ensures ∙ subst (λ i. slice_get (headers_of c.args.feeder.now) i ≡ Some other) same at))
+            (sym c.header-header.ensures
+            ∙ subst (λ i. slice_get (headers_of c.args.feeder.now) i ≡ Some other) same at))
             c.fits_one.ensures.read_back
       ];
     }

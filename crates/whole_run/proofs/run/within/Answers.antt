@@ -2,8 +2,9 @@ use Rattle.std.proofs.Common.{ℕ, List, Err, sym, ◌∙◌, ap, subst, map}
 use Rattle.std.specs.Prelude.{string_bytes}
 use Rattle.search_words.specs.Settings.{settings_seen}
 use Rattle.disk_feeder.specs.Feeder.{HasPlan, names_at, FeederRead}
-use Rattle.whole_run.specs.Openings.{StopsEarly, LeavesEarly}
-use Rattle.whole_run.specs.Wholes.{task_of, LeavesInputs}
+use Rattle.search_opening.specs.Early.{StopsEarly, LeavesEarly}
+use Rattle.run_stop.specs.Runs.{task_of}
+use Rattle.whole_run.specs.Wholes.{LeavesInputs}
 use Rattle.whole_run.proofs.Wording.{is_driven, hold_still, ok_is_no_err, memory_leaves, stops_before, leaves_session, leaves_before}
 use Rattle.whole_run.proofs.run.within.Goals as goal
 

@@ -39,15 +39,15 @@ returns-clause-went g c = λ task s offsets ready.
     let end = c.run_session-end.result in
     let stage = c.stage-stage.result in
     let seen = g.F.Files.seen in
-    let lanes = stage.lanes.items in
+    let banks = stage.banks.items in
     let Fed : Feeder _ → Type 0 = λ feeder.
     FeedAnswers g.I.Inputs.told g.I.Inputs.is_calm g.I.Inputs.faults feeder end in
-    let Shards : Feeder _ → Type 0 = λ feeder. ShardAnswers (length (plan_at feeder).starts) lanes end in
-    let Recorded : Option (Recorder _) → Type 0 = λ r. RecordedAnswers seen stage.feeder r (length lanes) end in
+    let Shards : Feeder _ → Type 0 = λ feeder. ShardAnswers (length (plan_at feeder).starts) banks end in
+    let Recorded : Option (Recorder _) → Type 0 = λ r. RecordedAnswers seen stage.feeder r (length banks) end in
     goes_without c.totals_are_counted.ensures g.I.Inputs.told g.I.Inputs.is_open g.I.Inputs.is_calm g.I.Inputs.faults
-    task s offsets c.args.feeder c.args.observations c.args.stage lanes end c.found_without.result.done
+    task s offsets c.args.feeder c.args.observations c.args.stage banks end c.found_without.result.done
     (seen c.args.files.now) (seen c.found_without.result.files.now) ready
-    (ap (λ ls. ls.items) c.stage-stage.ensures.lanes)
+    (ap (λ ls. ls.items) c.stage-stage.ensures.banks)
     (subst Fed c.stage-stage.ensures.feeder c.run_session-end.ensures.feed)
     (subst Shards c.stage-stage.ensures.feeder c.run_session-end.ensures.shards)
     (subst Recorded c.stage-stage.ensures.recorder c.run_session-end.ensures.recorded) c.found_without.ensures.found

@@ -5,8 +5,8 @@ use Rattle.search_engine.specs.Engine.{most_fed}
 use Rattle.disk_feeder.specs.Feeder.{headers_of, plan_at, block_size, FeederFeeds}
 use Rattle.disk_feeder.specs.Turns.{sealed_blocks}
 use Rattle.disk_feeder.specs.Feeding.{header_entries}
-use Rattle.search_session.specs.declared.lane.Lane.{Lane}
-use Rattle.search_session.specs.Books.{HasLane}
+use Rattle.session_readers.specs.declared.bank.Bank.{Bank}
+use Rattle.search_session.specs.Books.{HasBank}
 use Rattle.search_session.specs.Stages.{IsUnfed, recorder_count}
 use Rattle.search_opening.proofs.Staging.{first_entry, is_unread}
 use Rattle.search_opening.proofs.space.StageSpace.stage.Goals as goal
@@ -35,14 +35,14 @@ returns-clause-on g c =
       transfers = c.requires.transfers;
       all_readers = is.rings.count ∙ ap (λ (s : RingShape). s.readers) (sym shape);
       readers_count = is.rings.count ∙ c.requires.readers
-          ∙ ap (λ lanes. length lanes.items + recorder_count c.args.recorder) (sym is.lanes_are);
+          ∙ ap (λ banks. length banks.items + recorder_count c.args.recorder) (sym is.banks_are);
       readers = λ s within.
           let found = is.rings.fresh s within in
           (found.0, found.1, is_unread c.args.self.hdu s found.0 found.2);
-      lanes = subst (λ lanes. (s : ℕ) → s < length lanes.items →
-          (lane : Lane) × HasLane lanes.items s lane × IsUnfed (length (plan_at feeder).starts) lane)
-          (sym is.lanes_are) c.requires.engines;
-      spaces_count = is.spaces_count ∙ ap (λ lanes. length lanes.items) (sym is.lanes_are);
+      banks = subst (λ banks. (s : ℕ) → s < length banks.items →
+          (bank : Bank) × HasBank banks.items s bank × IsUnfed (length (plan_at feeder).starts) bank)
+          (sym is.banks_are) c.requires.engines;
+      spaces_count = is.spaces_count ∙ ap (λ banks. length banks.items) (sym is.banks_are);
       spaces = is.spaces;
       recorder = c.requires.recorder_is;
       few = subst (λ (s : RingShape). s.max_blocks * s.size ≤ most_fed) (sym shape) c.requires.few;

@@ -5,27 +5,32 @@ ghost use Rattle.psr_base.specs.Inputs.{HasReadFrom};
 ghost use Rattle.search_words.specs.Settings.{settings_seen};
 ghost use Rattle.disk_feeder.specs.Feeder.{HasPlan, IsFresh, FeederRead};
 ghost use Rattle.disk_feeder.specs.Filling.{HoldsAll};
-ghost use Rattle.whole_run.specs.Wholes.{task_of, CanBeDriven};
-ghost use Rattle.whole_run.specs.Openings.{StopsEarly, LeavesEarly, HasFirsts, IsOpened};
+ghost use Rattle.run_stop.specs.Runs.{task_of};
+ghost use Rattle.search_opening.specs.Settings.{CanBeDriven};
+ghost use Rattle.search_opening.specs.Early.{StopsEarly, LeavesEarly};
+ghost use Rattle.search_opening.specs.Begun.{HasFirsts};
+ghost use Rattle.search_opening.specs.Ready.{IsOpened};
 
+use crate::accept::accept_all;
+use crate::begin::begin_run;
 use crate::judge::judge;
-use crate::purpose::Purpose;
+use crate::offsets::first_offsets;
 use crate::spaces::Spaces;
 use arrayvec::ArrayVec;
 use disk_feeder::Feeder;
 use obs_plan::Observation;
 use psr_base::{Files, Inputs};
-use run_stop::Stop;
+use run_stop::{Purpose, Stop};
 use search_model::MOST_TRANSFERS;
-use search_opening::{accept_all, begin_feed, first_offsets};
 use search_words::Settings;
 use std::alloc::Global;
 use std::thread::Threads;
 
-/// A run of which all is opened.
-pub(crate) struct Opened<'a, I, F> {
-    pub(crate) observations: ArrayVec<Option<Observation>, MOST_TRANSFERS>,
-    pub(crate) spaces: Spaces<'a, I, F>,
+/// A run of which all is opened: the observation of each transfer, in order, and all space of its session and of its
+/// recorder. Each slot is `Some`.
+pub struct OpenedRun<'a, I, F> {
+    pub observations: ArrayVec<Option<Observation>, MOST_TRANSFERS>,
+    pub spaces: Spaces<'a, I, F>,
 }
 
 // Judges what the first headers say, and takes all memory.
@@ -37,7 +42,7 @@ fn open_begun<'a, I: Inputs, F: Files, R: Threads + Sync>(
     feeder: &mut Feeder<'a, I>,
     observations: ArrayVec<Option<Observation>, MOST_TRANSFERS>,
     offsets: &'a mut ArrayVec<u64, MOST_TRANSFERS>,
-) -> Result<Opened<'a, I, F>, Stop>
+) -> Result<OpenedRun<'a, I, F>, Stop>
     requires drivable { CanBeDriven (task_of purpose) (settings_seen settings.now) }
     requires firsts { HasFirsts I.told I.is_open (settings_seen settings.now) feeder.old
         observations.items }
@@ -56,7 +61,7 @@ fn open_begun<'a, I: Inputs, F: Files, R: Threads + Sync>(
         Err(stop) => return Err(stop),
     }
     *offsets = first_offsets(observations.as_slice());
-    match Spaces::take(
+    match Spaces::reserve(
         rt,
         alloc,
         purpose,
@@ -67,7 +72,7 @@ fn open_begun<'a, I: Inputs, F: Files, R: Threads + Sync>(
     ) {
         Ok(spaces) => {
             accept_all(feeder, observations.as_slice());
-            Ok(Opened {
+            Ok(OpenedRun {
                 observations,
                 spaces,
             })
@@ -76,16 +81,16 @@ fn open_begun<'a, I: Inputs, F: Files, R: Threads + Sync>(
     }
 }
 
-/// Reads the first headers, judges what they say, and takes all memory. `offsets` will hold where the data of each
+/// Reads the first headers, judges what they say, and takes all memory. `offsets` is space for where the data of each
 /// transfer begin.
-pub(crate) fn open_run<'a, I: Inputs, F: Files, R: Threads + Sync>(
+pub fn open_run<'a, I: Inputs, F: Files, R: Threads + Sync>(
     rt: &R,
     alloc: Global,
     purpose: Purpose,
     settings: &Settings,
     feeder: &mut Feeder<'a, I>,
     offsets: &'a mut ArrayVec<u64, MOST_TRANSFERS>,
-) -> Result<Opened<'a, I, F>, Stop>
+) -> Result<OpenedRun<'a, I, F>, Stop>
     requires drivable { CanBeDriven (task_of purpose) (settings_seen settings.now) }
     requires plan { HasPlan feeder.old (settings_seen settings.now).names
         settings.now.starts.items settings.now.size settings.now.max_bytes }
@@ -106,7 +111,7 @@ pub(crate) fn open_run<'a, I: Inputs, F: Files, R: Threads + Sync>(
     ensures begins { OnOk result (FeederRead (I.told feeder.old.inputs.now)
         (I.told feeder.new.inputs.now) feeder.new) }
 {
-    match begin_feed(alloc, feeder, settings.starts.as_slice()) {
+    match begin_run(alloc, settings, feeder) {
         Ok(observations) => {
             open_begun(rt, alloc, purpose, settings, feeder, observations, offsets)
         }

@@ -6,42 +6,43 @@ ghost use Rattle.search_words.specs.Settings.{AllInRange, settings_seen};
 ghost use Rattle.dada_recorder.specs.Blocks.{PlanInRange};
 ghost use Rattle.search_opening.specs.Plans.{PlansFit};
 ghost use Rattle.search_opening.specs.Space.{hands_in};
-ghost use Rattle.run_stop.specs.Runs.{Task};
-ghost use Rattle.whole_run.specs.Wholes.{task_of};
-ghost use Rattle.whole_run.specs.Openings.{AreLanesOf, IsStageSpace, HasRecorderSpace, recorders, plan_for};
+ghost use Rattle.run_stop.specs.Runs.{Task, task_of};
+ghost use Rattle.search_opening.specs.Spaces.{AreBanksOf, IsStageSpace, HasRecorderSpace, recorders, plan_for};
 
-use crate::purpose::Purpose;
+use crate::engines::open_banks;
+use crate::rings::run_shape;
+use crate::space::StageSpace;
 use arrayvec::ArrayVec;
 use dada_header::Header;
 use dada_recorder::RecorderSpace;
 use obs_plan::Observation;
 use psr_base::{Files, Inputs, Memory};
+use run_stop::Purpose;
 use search_model::MOST_SHARDS;
-use search_opening::{StageSpace, open_lanes, run_shape};
-use search_session::Lane;
+use search_session::Bank;
 use search_words::Settings;
 use std::alloc::Global;
 use std::thread::Threads;
 
-// A lane for each shard of a search, or none where files are recorded alone. At most as many threads as the session has
+// A bank for each shard of a search, or none where files are recorded alone. At most as many threads as the session has
 // hands open them beside each other.
-fn take_lanes<R: Threads + Sync>(
+fn take_banks<R: Threads + Sync>(
     rt: &R,
     alloc: Global,
     purpose: Purpose,
     settings: &Settings,
     observations: &[Option<Observation>],
-) -> Result<ArrayVec<Option<Lane>, MOST_SHARDS>, Memory>
+) -> Result<ArrayVec<Option<Bank>, MOST_SHARDS>, Memory>
     requires few { length observations.now ≤ 8 }
     requires there { All IsSome observations.now }
     requires fit { purpose ≡ Purpose.Search → PlansFit settings.now.search observations.now }
     requires range { SettingsInRange settings.now.search }
     requires hands { 1 ≤ settings.now.hands }
-    ensures { IfOk result (λ lanes. AreLanesOf (task_of purpose) (settings_seen settings.now)
-        observations.now lanes.items) }
+    ensures { IfOk result (λ banks. AreBanksOf (task_of purpose) (settings_seen settings.now)
+        observations.now banks.items) }
 {
     match purpose {
-        Purpose::Search => open_lanes(rt, alloc, observations, &settings.search, settings.hands),
+        Purpose::Search => open_banks(rt, alloc, observations, &settings.search, settings.hands),
         Purpose::Record => Ok(ArrayVec::new()),
     }
 }
@@ -62,7 +63,7 @@ fn take_recorder<'a>(
     if !settings.recording {
         return Ok(None);
     }
-    match RecorderSpace::take(
+    match RecorderSpace::reserve(
         alloc,
         offsets,
         settings.size,
@@ -81,42 +82,42 @@ fn recorder_count(settings: &Settings) -> u32
     if settings.recording { 1 } else { 0 }
 }
 
-// The rings, the lanes and the hands of a run.
+// The rings, the banks and the hands of a run.
 fn take_stage<'a, I: Inputs, F: Files>(
     alloc: Global,
     settings: &Settings,
-    lanes: ArrayVec<Option<Lane>, MOST_SHARDS>,
+    banks: ArrayVec<Option<Bank>, MOST_SHARDS>,
     header: &Header,
 ) -> Result<StageSpace<'a, I, F>, Memory>
     requires range { AllInRange (settings_seen settings.now) }
-    requires few { length lanes.items ≤ 7 }
-    requires some { 1 ≤ length lanes.items + recorders (settings_seen settings.now) }
+    requires few { length banks.items ≤ 7 }
+    requires some { 1 ≤ length banks.items + recorders (settings_seen settings.now) }
     ensures space { (task : Task) (observations : List (Option Observed))
-        → AreLanesOf task (settings_seen settings.now) observations lanes.items
+        → AreBanksOf task (settings_seen settings.now) observations banks.items
         → IfOk result (IsStageSpace task (settings_seen settings.now) observations header.now) }
     ensures hands { IfOk result (λ stage. hands_in stage ≡ settings.now.hands) }
 {
     let shape = run_shape(
         settings.buffers,
         settings.size,
-        lanes.len() as u32 + recorder_count(settings),
+        banks.len() as u32 + recorder_count(settings),
         settings.max_bytes,
         settings.starts.len() as u32,
     );
-    StageSpace::take(alloc, lanes, shape, header, settings.hands)
+    StageSpace::reserve(alloc, banks, shape, header, settings.hands)
 }
 
 /// All space of a run: of its session, and of its recorder, where it has one.
-pub(crate) struct Spaces<'a, I, F> {
-    pub(crate) stage: StageSpace<'a, I, F>,
-    pub(crate) recorder: Option<RecorderSpace<'a>>,
+pub struct Spaces<'a, I, F> {
+    pub stage: StageSpace<'a, I, F>,
+    pub recorder: Option<RecorderSpace<'a>>,
 }
 
 impl<'a, I: Inputs, F: Files> Spaces<'a, I, F> {
-    ghost use Rattle.whole_run.specs.Openings.{AreSpaces};
+    ghost use Rattle.search_opening.specs.Spaces.{AreSpaces};
 
     /// Takes all space of a run under this first header. Transfer k begins at `offsets[k]`.
-    pub(crate) fn take<R: Threads + Sync>(
+    pub(crate) fn reserve<R: Threads + Sync>(
         rt: &R,
         alloc: Global,
         purpose: Purpose,
@@ -135,8 +136,8 @@ impl<'a, I: Inputs, F: Files> Spaces<'a, I, F> {
         ensures { IfOk result (AreSpaces (task_of purpose) (settings_seen settings.now)
             observations.now header.now offsets.now) }
     {
-        let lanes = take_lanes(rt, alloc, purpose, settings, observations)?;
-        let stage = take_stage(alloc, settings, lanes, header)?;
+        let banks = take_banks(rt, alloc, purpose, settings, observations)?;
+        let stage = take_stage(alloc, settings, banks, header)?;
         let recorder = take_recorder(alloc, settings, offsets)?;
         Ok(Spaces { stage, recorder })
     }

@@ -1,12 +1,11 @@
 use Rattle.std.proofs.Common.{◌≡◌, true, ap}
 use Rattle.disk_feeder.specs.Feeder.{headers_of}
 use Rattle.search_words.specs.Settings.{settings_seen}
-use Rattle.run_stop.specs.Runs.{is_search}
-use Rattle.whole_run.specs.declared.purpose.Purpose.TheVariants.{Search}
-use Rattle.whole_run.specs.Openings.{IsRefused}
-use Rattle.whole_run.specs.Wholes.{task_of}
-use Rattle.whole_run.proofs.Opening.{both_err, if_err, is_searching, search_refused, recording_refused}
-use Rattle.whole_run.proofs.judge.judge.Goals as goal
+use Rattle.run_stop.specs.Runs.{is_search, task_of}
+use Rattle.run_stop.specs.declared.purpose.Purpose.TheVariants.{Search}
+use Rattle.search_opening.specs.Judged.{IsRefused}
+use Rattle.search_opening.proofs.Opening.{both_err, if_err, is_searching, search_refused, recording_refused}
+use Rattle.search_opening.proofs.judge.judge.Goals as goal
 
 pub returns-in-Ok-clause-refused : goal.returns-in-Ok-clause-refused
 returns-in-Ok-clause-refused g c =
@@ -15,7 +14,7 @@ returns-in-Ok-clause-refused g c =
     if_err _ (IsRefused (task_of c.args.purpose) s headers c.args.observations.now) (s.recording ≡ true)
     c.judge_recording.result
     (λ stop. recording_refused (task_of c.args.purpose) s headers c.args.observations.now stop
-    (λ is. c.in-Ok.ensures.searched (is_searching c.args.purpose is)))
+    (λ is. c.in-Ok.ensures.fit (is_searching c.args.purpose is)))
     (both_err _ _ c.judge_recording.result c.judge_recording.ensures.kind c.judge_recording.ensures.refused)
     c.judge_recording.ensures.records
 

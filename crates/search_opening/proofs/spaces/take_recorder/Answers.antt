@@ -1,7 +1,7 @@
 use Rattle.std.proofs.Common.{Bool, Some, refl, sym, subst}
 use Rattle.search_words.specs.Settings.{settings_seen}
-use Rattle.whole_run.specs.Openings.{HasRecorderSpace, plan_for}
-use Rattle.whole_run.proofs.spaces.take_recorder.Goals as goal
+use Rattle.search_opening.specs.Spaces.{HasRecorderSpace, plan_for}
+use Rattle.search_opening.proofs.spaces.take_recorder.Goals as goal
 
 pub returns-in-Ok : goal.returns-in-Ok
 returns-in-Ok c =

@@ -1,5 +1,5 @@
 use Rattle.std.proofs.Common.{rules, ◌≡◌, [], ◌∷◌, Some}
-use Rattle.lone_run.proofs.open.open_lane.Goals as goal
+use Rattle.lone_run.proofs.open.open_bank.Goals as goal
 
 pub returns-in-Ok : goal.returns-in-Ok
 returns-in-Ok c =

@@ -8,17 +8,16 @@ ghost use Rattle.search_opening.specs.First.{AreFirsts, AreHeadersOf, AreObserve
 ghost use Rattle.search_opening.specs.Plans.{PlansFit, IsOfPlan, StopsSearch};
 ghost use Rattle.search_opening.specs.Recordings.{RecordingsFit, AreReadBack, IsOfRecording, StopsRecording};
 ghost use Rattle.run_stop.specs.declared.stop.Stop.TheVariants.{Memory};
-ghost use Rattle.run_stop.specs.Runs.{CanSearchFirst, CanRecordFirst};
-ghost use Rattle.whole_run.specs.Wholes.{task_of};
-ghost use Rattle.whole_run.specs.Openings.{AreFit, IsRefused};
+ghost use Rattle.run_stop.specs.Runs.{CanSearchFirst, CanRecordFirst, task_of};
+ghost use Rattle.search_opening.specs.Judged.{AreFit, IsRefused};
 
-use crate::purpose::Purpose;
+use crate::plans::check_plans;
+use crate::recordings::fit_all;
 use dada_header::Header;
 use disk_feeder::Feeder;
 use obs_plan::Observation;
 use psr_base::Inputs;
-use run_stop::Stop;
-use search_opening::{check_plans, fit_all};
+use run_stop::{Purpose, Stop};
 use search_words::Settings;
 use std::alloc::Global;
 
@@ -36,8 +35,7 @@ fn judge_search(
         → CanSearchFirst settings.now.search w (length w.starts)) }
     ensures kind { IfErr result IsOfPlan }
     ensures searches { OnErr result (purpose ≡ Purpose.Search) }
-    ensures refused { IfErr result (λ stop. (w : FileStream) → AreFirsts w observations.now
-        → StopsSearch settings.now.search w stop) }
+    ensures refused { IfErr result (StopsSearch settings.now.search observations.now) }
 {
     match purpose {
         Purpose::Search => check_plans(observations, &settings.search),
@@ -66,10 +64,9 @@ fn judge_recording<'a, I: Inputs>(
         → CanRecordFirst settings.now.file_size w (length w.starts)) }
     ensures kind { IfErr result (λ stop. (stop ≡ Memory) ⊎ IsOfRecording stop) }
     ensures records { OnErr result (settings.now.recording ≡ true) }
-    ensures refused { IfErr result (λ stop. (stop ≡ Memory) ⊎ ((w : FileStream)
-        → AreFirsts w observations.now → AreHeadersOf w (headers_of feeder.now)
-        → w.max_bytes ≡ settings.now.max_bytes
-        → StopsRecording settings.now.file_size w stop)) }
+    ensures refused { IfErr result (λ stop. (stop ≡ Memory)
+        ⊎ StopsRecording settings.now.file_size settings.now.max_bytes (headers_of feeder.now)
+        observations.now stop) }
 {
     if !settings.recording {
         return Ok(());

@@ -1,0 +1,164 @@
+-- Files that are told, by the settings and by the feeder's plan.
+use Rattle.std.proofs.Common.{◌≡◌, ℕ, List, [], Option, length, sym, ap, ◌∙◌, subst}
+use Rattle.std.specs.Prelude.{slice_index_or}
+use Rattle.std.specs.Option.{ForSome}
+use Rattle.psr_base.specs.Told.{Told, OfFile}
+use Rattle.search_words.specs.Settings.{SettingsSeen}
+use Rattle.dada_header.specs.Faults.{IsHeaderRefusal}
+use Rattle.stream_model.specs.Walk.{FileStream, observation_at}
+use Rattle.stream_model.specs.WalkLaws.{IsAccepted}
+use Rattle.stream_model.specs.Recorded.{record_refusal}
+use Rattle.search_model.specs.Plan.{plan_refusal}
+use Rattle.obs_plan.specs.declared.fault.ObsFault.{ObsFault}
+use Rattle.run_stop.specs.declared.causes.PlanCause.{PlanCause}
+use Rattle.run_stop.specs.declared.causes.RecordingCause.{RecordingCause}
+use Rattle.disk_feeder.specs.declared.answers.HeaderCause.TheVariants.{Text, Fields}
+use Rattle.disk_feeder.specs.declared.feeder.Feeder.{Feeder}
+use Rattle.disk_feeder.specs.Feeder.{HasPlan, plan_at}
+use Rattle.disk_feeder.specs.History.{file_name}
+use Rattle.disk_feeder.specs.Plan.{stream_of, AreToldAt, IsFirstFile}
+use Rattle.run_stop.specs.declared.stop.Stop.{Stop}
+use Rattle.run_stop.specs.declared.stop.Stop.TheVariants.{Words, Value, Header, Plan, Recording, Memory, ReadFault, Gap, TooLong, TooMany, SinkFault, FileFault}
+use Rattle.run_stop.specs.Firsts.{first_name, EachFirst, HasHeader, RefusesFields, RefusesFieldsAt, RefusesFirstFields}
+use Rattle.run_stop.specs.Runs.{Task, CanSearch, CanRecord, recording_of, IsPlanCause, IsRecordingCause, RefusesSearch, RefusesSearchAt, RefusesToRecord, RefusesRecordingAt, stream_for}
+use Rattle.search_opening.specs.Early.{SaysEarly, StopsEarly}
+use Rattle.search_opening.specs.Settings.{OfRunAt, JudgesRun}
+
+-- files are told as long as what is told under the names stands
+pub still_told : (Needed : ℕ → Type 0) (old new : Told) (names files : List (List ℕ)) →
+    new.bytes_under ≡ old.bytes_under → AreToldAt Needed old names files → AreToldAt Needed new names files
+still_told Needed old new names files same are = record {
+  count = are.count;
+  each = λ k below needed.
+      ap (λ (under : List ℕ → Option (List ℕ)). under (slice_index_or names k [])) same ∙ are.each k below needed;
+}
+
+-- what holds of a file that is told
+pub of_file : (old new : Told) (name : List ℕ) (P : List ℕ → Type 0) → new.bytes_under ≡ old.bytes_under →
+    OfFile new name P → OfFile old name P
+of_file old new name P same holds =
+    subst (λ (under : List ℕ → Option (List ℕ)). ForSome (under name) P) same holds
+
+-- the feeder of a run reads the files of its settings
+abbrev pub FeedsRun : {I : Type 0} → Feeder I → SettingsSeen → Type 0
+FeedsRun feeder s = HasPlan feeder s.names s.starts s.size s.max_bytes
+
+pub same_stream : {I : Type 0} (feeder : Feeder I) (s : SettingsSeen) (files : List (List ℕ)) → FeedsRun feeder s →
+    stream_of (plan_at feeder) files ≡ stream_for s files
+same_stream feeder s files plan =
+    ap (λ (starts : List ℕ). record { files = files; starts = starts; max_bytes = (plan_at feeder).max_bytes })
+    plan.transfers
+    ∙ ap (λ (limit : ℕ). record { files = files; starts = s.starts; max_bytes = limit }) plan.limit
+
+-- What holds of the feeder's files holds of those of the settings. Which are needed is said by the starts of the
+-- transfers and the count of the files.
+pub of_plan : {I : Type 0} (Needed : List ℕ → ℕ → ℕ → Type 0) (feeder : Feeder I) (s : SettingsSeen) (old new : Told)
+    (P : FileStream → Type 0) → FeedsRun feeder s → new.bytes_under ≡ old.bytes_under →
+    ((files : List (List ℕ)) →
+    AreToldAt (Needed (plan_at feeder).starts (length (plan_at feeder).names)) new (plan_at feeder).names files →
+    P (stream_of (plan_at feeder) files)) →
+    OfRunAt (Needed s.starts (length s.names)) old s P
+of_plan Needed feeder s old new P plan same holds files are =
+    let Names : List (List ℕ) → Type 0 = λ names. AreToldAt (Needed s.starts (length names)) new names files in
+    let Starts : List ℕ → Type 0 = λ starts.
+    AreToldAt (Needed starts (length (plan_at feeder).names)) new (plan_at feeder).names files in
+    subst P (same_stream feeder s files plan)
+    (holds files (subst Starts (sym plan.transfers) (subst Names (sym plan.files)
+    (still_told (Needed s.starts (length s.names)) old new s.names files same are))))
+
+pub before_reading : (Needed : ℕ → Type 0) (s : SettingsSeen) (old new : Told) (P : FileStream → Type 0) →
+    new.bytes_under ≡ old.bytes_under → OfRunAt Needed new s P → OfRunAt Needed old s P
+before_reading Needed s old new P same holds files are =
+    holds files (still_told Needed old new s.names files same are)
+
+-- what is said of the feeder's names and starts is said of those of the settings
+pub of_names : {I : Type 0} (feeder : Feeder I) (s : SettingsSeen) (P : List (List ℕ) → List ℕ → Type 0) →
+    FeedsRun feeder s → P (plan_at feeder).names (plan_at feeder).starts → P s.names s.starts
+of_names feeder s P plan holds =
+    subst (λ names. P names s.starts) plan.files
+    (subst (λ starts. P (plan_at feeder).names starts) plan.transfers holds)
+
+-- what is said of the first files that are told, each by itself
+pub each_stands : (old new : Told) (names : List (List ℕ)) (starts : List ℕ) (count : ℕ) (P : List ℕ → Type 0) →
+    new.bytes_under ≡ old.bytes_under → EachFirst new names starts count P → EachFirst old names starts count P
+each_stands old new names starts count P same each k below =
+    of_file old new (first_name names starts k) P same (each k below)
+
+pub judged_before_reading : (s : SettingsSeen) (old new : Told) (Each : Told → Type 0) (P : FileStream → Type 0) →
+    new.bytes_under ≡ old.bytes_under → (Each new → Each old) → JudgesRun new s (Each new) P →
+    JudgesRun old s (Each old) P
+judged_before_reading s old new Each P same stands judges =
+    (stands judges.0, before_reading (IsFirstFile s.starts (length s.names)) s old new P same judges.1)
+
+fields_stand : (names : List (List ℕ)) (starts : List ℕ) (file : ℕ) (fault : ObsFault) (old new : Told) →
+    new.bytes_under ≡ old.bytes_under → RefusesFieldsAt new names starts file fault →
+    RefusesFieldsAt old names starts file fault
+fields_stand names starts file fault old new same r = record {
+  texts = each_stands old new names starts (length starts) HasHeader same r.texts;
+  transfer = r.transfer;
+  there = r.there;
+  is = r.is;
+  refused = of_file old new (file_name names file) (λ bytes. RefusesFields bytes fault) same r.refused;
+  earlier = each_stands old new names starts r.transfer IsAccepted same r.earlier;
+}
+
+search_stands : (s : SettingsSeen) (cause : PlanCause) (old new : Told) → new.bytes_under ≡ old.bytes_under →
+    RefusesSearchAt s new cause → RefusesSearchAt s old cause
+search_stands s cause old new same r = record {
+  accepted = each_stands old new s.names s.starts (length s.starts) IsAccepted same r.accepted;
+  transfer = r.transfer;
+  there = r.there;
+  refused = of_file old new (first_name s.names s.starts r.transfer)
+      (λ file. IsPlanCause (plan_refusal (observation_at file) s.search) cause) same r.refused;
+  earlier = each_stands old new s.names s.starts r.transfer (CanSearch s.search) same r.earlier;
+}
+
+recording_stands : (task : Task) (s : SettingsSeen) (cause : RecordingCause) (old new : Told) →
+    new.bytes_under ≡ old.bytes_under → RefusesRecordingAt task s new cause → RefusesRecordingAt task s old cause
+recording_stands task s cause old new same r = record {
+  accepted = each_stands old new s.names s.starts (length s.starts) IsAccepted same r.accepted;
+  searched = λ is. each_stands old new s.names s.starts (length s.starts) (CanSearch s.search) same (r.searched is);
+  records = r.records;
+  transfer = r.transfer;
+  there = r.there;
+  refused = of_file old new (first_name s.names s.starts r.transfer)
+      (λ file. IsRecordingCause (record_refusal (recording_of s.file_size file) s.max_bytes) cause) same r.refused;
+  earlier = each_stands old new s.names s.starts r.transfer (CanRecord s.file_size s.max_bytes) same r.earlier;
+}
+
+pub says_before_reading : (task : Task) (s : SettingsSeen) (old new : Told) (stop : Stop) →
+    new.bytes_under ≡ old.bytes_under → SaysEarly task s new stop → SaysEarly task s old stop
+says_before_reading task s old new Words same says = absurd says
+says_before_reading task s old new (Value opt) same says = absurd says
+says_before_reading task s old new (Header file (Text fault)) same says = record {
+  transfer = says.transfer;
+  there = says.there;
+  is = says.is;
+  refused = of_file old new (file_name s.names file) (λ bytes. IsHeaderRefusal bytes fault) same says.refused;
+  earlier = each_stands old new s.names s.starts says.transfer HasHeader same says.earlier;
+}
+says_before_reading task s old new (Header file (Fields fault)) same says =
+    judged_before_reading s old new (λ told. RefusesFieldsAt told s.names s.starts file fault)
+    (λ w. RefusesFirstFields w file fault) same (fields_stand s.names s.starts file fault old new same) says
+says_before_reading task s old new (Plan cause) same says = (
+  says.0,
+  judged_before_reading s old new (λ told. RefusesSearchAt s told cause) (λ w. RefusesSearch s.search w cause) same
+      (search_stands s cause old new same) says.1,
+)
+says_before_reading task s old new (Recording cause) same says =
+    judged_before_reading s old new (λ told. RefusesRecordingAt task s told cause)
+    (λ w. RefusesToRecord task s w cause) same (recording_stands task s cause old new same) says
+says_before_reading task s old new Memory same says = tt
+says_before_reading task s old new ReadFault same says = tt
+says_before_reading task s old new (Gap file expected found) same says = absurd says
+says_before_reading task s old new (TooLong limit) same says = absurd says
+says_before_reading task s old new (TooMany count limit) same says = absurd says
+says_before_reading task s old new SinkFault same says = absurd says
+says_before_reading task s old new FileFault same says = absurd says
+
+pub stops_before_reading : (task : Task) (s : SettingsSeen) (old new : Told) (stop : Stop) →
+    new.bytes_under ≡ old.bytes_under → StopsEarly task s new stop → StopsEarly task s old stop
+stops_before_reading task s old new stop same stops = record {
+  kind = stops.kind;
+  says = says_before_reading task s old new stop same stops.says;
+}
