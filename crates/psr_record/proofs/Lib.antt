@@ -1,3 +1,2 @@
 mod Endings
 mod Accepted
-pub mod Faults

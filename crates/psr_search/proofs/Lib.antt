@@ -3,4 +3,3 @@ pub mod Causes
 pub mod Endings
 pub mod SampleText
 pub mod RecordedText
-pub mod Faults

@@ -121,10 +121,10 @@ unfolding transfers search edges edge signed_edge path entry dm dispersion_span
 one_candidate most = refl
 
 files_are : files_of_data (stream 1000) 4 ≡ made_files
-unfolding stream files observation_at data_between data_of header_of header_size header_bytes fields_of value_of words_of
-    without_comment is_white number_value number_of observation_in digits changed is_overwritten overwritten blanked
-    line_end has_key with_value blanked_line word_start word_end value_start value_end file_header file_name file_data
-    file_count recorded_file recorded_files recorded_of_transfers
+unfolding stream files observation_at data_between data_of header_of header_size header_bytes fields_of value_of
+    words_of without_comment is_white number_value number_of observation_in digits changed is_overwritten overwritten
+    blanked line_end has_key with_value blanked_line word_start word_end value_start value_end file_header file_name
+    file_data file_count recorded_file recorded_files recorded_of_transfers
 files_are = refl
 
 -- ---- nothing stands against it

@@ -37,8 +37,8 @@ pub fn sample_is_found<I: Inputs>()
     ensures { (inputs : I) → SampleIsFound (I.is_calm inputs) }
 {}
 
-/// The sample of two observations is found and recorded: a search of them that records ends with status 0, its five lines
-/// and its three files, or there is no memory, where nothing counts a fault.
+/// The sample of two observations is found and recorded: a search of them that records ends with status 0, its five
+/// lines and its three files, or there is no memory, where nothing counts a fault.
 pub fn both_samples_are_recorded<I: Inputs>()
     ensures { (inputs : I) → BothAreRecorded (I.is_calm inputs) }
 {

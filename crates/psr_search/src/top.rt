@@ -8,14 +8,14 @@ ghost use Rattle.psr_search.specs.Ends.{Ends};
 use crate::writing::write_end;
 use psr_base::{Files, Inputs, Sink};
 use ring_ends::Finished;
-use run_stop::{Ran, Stop, tell};
+use run_stop::{Purpose, Ran, Stop, tell};
 use search_session::Gate;
 use search_words::Settings;
 use std::alloc::Global;
 use std::sync::Wait;
 use std::thread::Threads;
 use std::time::Clock;
-use whole_run::{Purpose, drive};
+use whole_run::drive;
 // Laws: they do nothing when they run, and the proofs use what they ensure.
 use run_stop::{end_after_whole, end_at_stop, end_at_words, end_before_session, words_say_once};
 

@@ -8,7 +8,6 @@ use Rattle.run_stop.specs.declared.stop.Stop.{Stop}
 use Rattle.run_stop.specs.declared.stop.Stop.TheVariants.{ReadFault}
 use Rattle.run_stop.specs.Conversions.{stop_of_feed}
 use Rattle.psr_record.specs.Ends.{stop_of_session}
-use Rattle.psr_record.proofs.Faults.{one_stop}
 use Rattle.psr_record.proofs.Endings.{records, at_short, after_session}
 use Rattle.psr_record.proofs.top.record_files.Goals as goal
 
@@ -69,6 +68,9 @@ returns-in-Ok-drive-clause-broken g c = λ failed.
     let found = c.in-Ok-drive.found in
     c.in-Ok-drive.ensures.leaves.broken
     (fed_fault found.feed found.recorded c.stop_of-stop.result c.stop_of-stop.ensures failed) _ c.in-Ok.ensures.says
+
+one_stop : (a b : Stop) → Some a ≡ Some b → a ≡ b
+one_stop a b e = cc
 
 pub returns-clause-broken : goal.returns-clause-broken
 returns-clause-broken g c = λ failed.

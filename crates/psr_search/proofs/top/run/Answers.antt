@@ -1,6 +1,4 @@
-use Rattle.std.proofs.Common.{sym, ◌∙◌}
 use Rattle.psr_search.proofs.Endings.{outcome}
-use Rattle.psr_search.proofs.Faults.{six_is}
 use Rattle.psr_search.proofs.top.run.Goals as goal
 
 pub returns-clause-outcome : goal.returns-clause-outcome
@@ -9,5 +7,4 @@ returns-clause-outcome g c =
     (c.tell-status.ensures.told _ _ _ c.search-stop.ensures.ends.said)
 
 pub returns-clause-broken : goal.returns-clause-broken
-returns-clause-broken g c = λ failed.
-    c.search-stop.ensures.broken (six_is c.search-stop.result.stop (sym c.tell-status.ensures.status ∙ failed))
+returns-clause-broken g c = λ failed. c.search-stop.ensures.broken (c.tell-status.ensures.read_fault failed)

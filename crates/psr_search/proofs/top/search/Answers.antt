@@ -11,7 +11,6 @@ use Rattle.run_stop.specs.declared.stop.Stop.TheVariants.{ReadFault}
 use Rattle.run_stop.specs.Conversions.{stop_of_feed}
 use Rattle.psr_search.specs.Ends.{EndsSearch, EndsFed}
 use Rattle.psr_search.proofs.Endings.{at_once, after_session}
-use Rattle.psr_search.proofs.Faults.{one_stop}
 use Rattle.psr_search.proofs.top.search.Goals as goal
 
 pub drive-requires-clause-drivable : goal.drive-requires-clause-drivable
@@ -85,6 +84,9 @@ returns-in-Ok-drive-clause-broken g c = λ failed.
     (λ bytes is. let h = r.driven.held refl bytes is in
     (h.transfers, c.write_end-stop.ensures.ended h.transfers h.held)) failed)
     _ c.in-Ok.ensures.says
+
+one_stop : (a b : Stop) → Some a ≡ Some b → a ≡ b
+one_stop a b e = cc
 
 pub returns-clause-broken : goal.returns-clause-broken
 returns-clause-broken g c = λ failed.
