@@ -62,7 +62,7 @@ fn feeder_of<'a, I: Inputs>(
     ensures begun { IfOk result (λ f. IsBegun (I.told inputs.new) (at_rest f)) }
     ensures file { IfOk result (λ f. HasOpenFile (at_rest f) → I.is_open inputs.new) }
 {
-    let mut feeder = FeederSpace::take(alloc, names, starts, 1, MOST_BYTES)?;
+    let mut feeder = FeederSpace::reserve(alloc, names, starts, 1, MOST_BYTES)?;
     feeder.rests();
     match feeder.begin(inputs) {
         Ok(()) => Ok(feeder),
@@ -88,7 +88,7 @@ fn beam_of<'a>(alloc: Global, mut feeder: FeederSpace<'a>) -> Result<Beam<'a>, F
     let Ok(engine) = Engine::open(alloc, &observation, &SEARCH, 0) else {
         return Err("no engine".into());
     };
-    let space = BeamSpace::take(alloc, engine, SHAPE, feeder.header(0))?;
+    let space = BeamSpace::reserve(alloc, engine, SHAPE, feeder.header(0))?;
     feeder.accept(0, &observation);
     Ok(space.beam(feeder))
 }

@@ -94,8 +94,8 @@ module _ {I : Type 0} (told : I → Told) (is_calm : I → Type 0) (faults : I �
       let feed = answers.feed in
       let Under : (List ℕ → Option (List ℕ)) → List ℕ → Type 0 = λ under f. under name ≡ Some f in
       let now = subst (λ under. Under under file) (sym feed.names) at in
-      one_broken plan s name file is.plan.files (is.plan.transfers ∙ one) is.plan.limit start (told after) now feed.place
-      _ _ (feed.broke failed start reads)
+      one_broken plan s name file is.plan.files (is.plan.transfers ∙ one) is.plan.limit start (told after) now
+      (is_calm before) feed.place _ _ (feed.broke failed start reads)
 
   pub slot_breaks : (start : Told) (slot : Option FeederSpace) (beam : Option Beam) (end : Option BeamEnd) →
       s.starts ≡ 0 ∷ [] → IsSlotJoined (told before) s o name slot beam →

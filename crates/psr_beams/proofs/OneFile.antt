@@ -99,9 +99,9 @@ one_left s name file before after at size blocks cut true reading =
 
 pub one_broken : (plan : Plan) (s : SettingsSeen) (name file : List ℕ) → plan.names ≡ name ∷ [] →
     plan.starts ≡ 0 ∷ [] → plan.max_bytes ≡ s.max_bytes → (before after : Told) → after.bytes_under name ≡ Some file →
-    (at : Place) (size : ℕ) (blocks : _) → BreaksReading plan before after at size blocks →
+    (is_calm : Type 0) (at : Place) (size : ℕ) (blocks : _) → BreaksReading plan before is_calm after at size blocks →
     IsReadOn s.max_bytes name file before after
-one_broken plan s name file names starts limit before after is at size blocks b =
+one_broken plan s name file names starts limit before after is is_calm at size blocks b =
     let same = stream_is plan s file starts limit in
     one_left s name file before after at size blocks
     (subst (λ (w : FileStream). IsCutAt w at size blocks) same (b.cut (file ∷ []) (one_needed plan.names name file after names is))) at.is_open

@@ -238,8 +238,8 @@ module _ {I : Type 0} (told : I → Told) (is_calm : I → Type 0) (faults : I �
         (for_settings words (told_at told before) once s says (λ t files. IsStopOfBeams t files stop) is)
 
     no_memory : EndsAt Memory
-    no_memory = quietly Memory (4, lit< tt, refl) (λ e. omega (arith, e)) (λ e. omega (arith, e)) (λ e. omega (arith, e))
-        (λ e. omega (arith, e)) (λ e. omega (arith, e)) tt (λ files are. tt)
+    no_memory = quietly Memory (4, lit< tt, refl) (λ e. omega (arith, e)) (λ e. omega (arith, e))
+        (λ e. omega (arith, e)) (λ e. omega (arith, e)) (λ e. omega (arith, e)) tt (λ files are. tt)
 
     zero_refused : (stop : Stop) → RefusesZero headers stop → EndsAt stop
     zero_refused stop r = subst EndsAt (sym r.is) (quietly (Header 0 (Fields r.fault)) (2, lit< tt, refl)
@@ -276,19 +276,20 @@ module _ {I : Type 0} (told : I → Told) (is_calm : I → Type 0) (faults : I �
     one_refused stop (o, first, r) = elim (later_kind r.beam o r.header stop r.refused) [
       | inl fields ↦
           let at = Header r.beam (Fields fields.0) in
-          subst EndsAt (sym fields.1) (quietly at (2, lit< tt, refl) (λ e. omega (arith, e)) (λ e. omega (arith, e)) (λ e. omega (arith, e))
-          (λ e. omega (arith, e)) (λ e. omega (arith, e)) tt
+          subst EndsAt (sym fields.1) (quietly at (2, lit< tt, refl) (λ e. omega (arith, e))
+          (λ e. omega (arith, e)) (λ e. omega (arith, e)) (λ e. omega (arith, e)) (λ e. omega (arith, e)) tt
           (λ files are. inr (subst (λ x. RefusesLater files x) fields.1
           (later_refused stop (o, first, r) files are))))
       | inr gap ↦
           let at = Gap r.beam o.obs_offset gap.0 in
-          subst EndsAt (sym gap.1) (quietly at (6, lit< tt, refl) (λ e. omega (arith, e)) (λ e. omega (arith, e)) (λ e. omega (arith, e))
-          (λ e. omega (arith, e)) (λ e. omega (arith, e)) tt
+          subst EndsAt (sym gap.1) (quietly at (6, lit< tt, refl) (λ e. omega (arith, e))
+          (λ e. omega (arith, e)) (λ e. omega (arith, e)) (λ e. omega (arith, e)) (λ e. omega (arith, e)) tt
           (λ files are. subst (λ x. RefusesLater files x) gap.1 (later_refused stop (o, first, r) files are)))
     ]
 
     plan_refused : (stop : Stop) → RefusesTheirPlan s.search headers n stop → EndsAt stop
-    plan_refused stop r = subst EndsAt (sym r.is) (quietly (Plan r.cause) (3, lit< tt, refl) (λ e. omega (arith, e)) (λ e. omega (arith, e))
+    plan_refused stop r = subst EndsAt (sym r.is) (quietly (Plan r.cause) (3, lit< tt, refl)
+        (λ e. omega (arith, e)) (λ e. omega (arith, e))
         (λ e. omega (arith, e)) (λ e. omega (arith, e)) (λ e. omega (arith, e)) tt
         (λ files are.
         let a = are_accepted headers read.are files are rows r.observation some r.accepted in record {

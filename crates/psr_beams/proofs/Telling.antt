@@ -1,5 +1,5 @@
 -- How a search of beams ends at its words, and what the notes took.
-use Rattle.std.proofs.Common.{◌≡◌, ◌≢◌, ℕ, List, refl, sym, ap, subst, Some, None, lit<, arith}
+use Rattle.std.proofs.Common.{◌≡◌, ◌≢◌, ℕ, List, refl, sym, subst, Some, None, lit<, arith}
 use Rattle.std.specs.Prelude.{Option, IfSome}
 use Rattle.psr_base.specs.Told.{Told, nothing_told, InputsSeen}
 use Rattle.psr_base.specs.Made.{FilesSeen}
@@ -41,63 +41,23 @@ module _ {I : Type 0} (told : I → Told) (is_calm : I → Type 0) (faults : I �
     ends_by fault.Refused why =
         let e = law searching_beams words no_inputs no_files fault.Refused Words why refl refl in
         ends_at words _ _ out out Words (1, lit< tt, refl) (λ x. omega (arith, x)) (λ x. omega (arith, x)) refl
-        e.run.judged (reads_quietly told is_calm faults words (λ k. ⊥) lent lent none_read 2 (λ x. omega (arith, x)) (λ x. omega (arith, x))
-        (λ k x. x)) e.said.0 (λ s files says are. tt)
+        e.run.judged (reads_quietly told is_calm faults words (λ k. ⊥) lent lent none_read 2 (λ x. omega (arith, x))
+        (λ x. omega (arith, x)) (λ k x. x)) e.said.0 (λ s files says are. tt)
     ends_by (fault.OutOfRange opt) why =
         let e = law searching_beams words no_inputs no_files (fault.OutOfRange opt) (Value opt) why
         refl refl in
         ends_at words _ _ out out (Value opt) (1, lit< tt, refl) (λ x. omega (arith, x)) (λ x. omega (arith, x)) refl
-        e.run.judged (reads_quietly told is_calm faults words (λ k. ⊥) lent lent none_read 2 (λ x. omega (arith, x)) (λ x. omega (arith, x))
-        (λ k x. x)) e.said.0 (λ s files says are. tt)
+        e.run.judged (reads_quietly told is_calm faults words (λ k. ⊥) lent lent none_read 2 (λ x. omega (arith, x))
+        (λ x. omega (arith, x)) (λ k x. x)) e.said.0 (λ s files says are. tt)
     ends_by fault.Memory why =
         let e = law searching_beams words no_inputs no_files fault.Memory Memory why refl refl in
         ends_at words _ _ out out Memory (4, lit< tt, refl) (λ x. omega (arith, x)) (λ x. omega (arith, x)) refl
-        e.run.judged (reads_quietly told is_calm faults words (λ k. ⊥) lent lent none_read 5 (λ x. omega (arith, x)) (λ x. omega (arith, x))
-        (λ k x. x)) tt (λ s files says are. tt)
+        e.run.judged (reads_quietly told is_calm faults words (λ k. ⊥) lent lent none_read 5 (λ x. omega (arith, x))
+        (λ x. omega (arith, x)) (λ k x. x)) tt (λ s files says are. tt)
 
     pub at_words : (f : WordFault) (stop : Stop) → Explains searching_beams words f → stop ≡ stop_of_words f →
         EndsAt stop
     at_words f stop why is = subst EndsAt (sym is) (ends_by f why)
-
--- ---- statuses
-
-five_is : (stop : Stop) → status_of stop ≡ 5 → stop ≡ Memory
-five_is Words e = absurd (omega (arith, e))
-five_is (Value opt) e = absurd (omega (arith, e))
-five_is (Header beam cause) e = absurd (omega (arith, e))
-five_is (Plan cause) e = absurd (omega (arith, e))
-five_is (Recording cause) e = absurd (omega (arith, e))
-five_is Memory e = refl
-five_is ReadFault e = absurd (omega (arith, e))
-five_is (Gap beam expected found) e = absurd (omega (arith, e))
-five_is (TooLong limit) e = absurd (omega (arith, e))
-five_is (TooMany count limit) e = absurd (omega (arith, e))
-five_is SinkFault e = absurd (omega (arith, e))
-five_is FileFault e = absurd (omega (arith, e))
-
--- 5 is want of memory alone
-pub memory_is : (stop : Option Stop) → end_status stop ≡ 5 → stop ≡ Some Memory
-memory_is None e = absurd (omega (arith, e))
-memory_is (Some stop) e = let as_option : Stop → Option Stop = λ x. Some x in ap as_option (five_is stop e)
-
--- 6 is a failure of inputs alone
-six_is : (stop : Stop) → status_of stop ≡ 6 → stop ≡ ReadFault
-six_is Words e = absurd (omega (arith, e))
-six_is (Value opt) e = absurd (omega (arith, e))
-six_is (Header beam cause) e = absurd (omega (arith, e))
-six_is (Plan cause) e = absurd (omega (arith, e))
-six_is (Recording cause) e = absurd (omega (arith, e))
-six_is Memory e = absurd (omega (arith, e))
-six_is ReadFault e = refl
-six_is (Gap beam expected found) e = absurd (omega (arith, e))
-six_is (TooLong limit) e = absurd (omega (arith, e))
-six_is (TooMany count limit) e = absurd (omega (arith, e))
-six_is SinkFault e = absurd (omega (arith, e))
-six_is FileFault e = absurd (omega (arith, e))
-
-pub fault_is : (stop : Option Stop) → end_status stop ≡ 6 → stop ≡ Some ReadFault
-fault_is None e = absurd (omega (arith, e))
-fault_is (Some stop) e = let as_option : Stop → Option Stop = λ x. Some x in ap as_option (six_is stop e)
 
 -- words that say settings are not refused
 module _ (words : List (List ℕ)) where

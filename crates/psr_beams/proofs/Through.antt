@@ -480,8 +480,8 @@ module _ {I : Type 0} (told : I → Told) (is_calm : I → Type 0) (faults : I �
           λ files are. no_header files are (Header beam cause) r (λ e is fault. header_not e is fault) (λ m e. cc) in
           ends_at words _ _ out out' (Header beam cause) (2, lit< tt, refl) (λ e. omega (arith, e))
           (λ e. omega (arith, e)) same (judged_said words s 3 says (λ e. omega (arith, e)))
-          (reads_untold told is_calm faults words failed before after all 3 (λ e. omega (arith, e)) (λ e. omega (arith, e))
-          (λ e. omega (arith, e))
+          (reads_untold told is_calm faults words failed before after all 3 (λ e. omega (arith, e))
+          (λ e. omega (arith, e)) (λ e. omega (arith, e))
           (λ e. omega (arith, e)) (λ e. omega (arith, e)) (λ e. omega (arith, e)) (λ e. omega (arith, e))
           (λ e. omega (arith, e)) (for_none none))
           tt (for_files (Header beam cause) (λ files are. absurd (none files are)))
@@ -497,8 +497,8 @@ module _ {I : Type 0} (told : I → Told) (is_calm : I → Type 0) (faults : I �
           λ files are. no_header files are (Gap beam expected found) r (λ e is fault. gap_not e is fault) (λ m e. cc) in
           ends_at words _ _ out out' (Gap beam expected found) (6, lit< tt, refl) (λ e. omega (arith, e))
           (λ e. omega (arith, e)) same (judged_said words s 7 says (λ e. omega (arith, e)))
-          (reads_untold told is_calm faults words failed before after all 7 (λ e. omega (arith, e)) (λ e. omega (arith, e))
-          (λ e. omega (arith, e))
+          (reads_untold told is_calm faults words failed before after all 7 (λ e. omega (arith, e))
+          (λ e. omega (arith, e)) (λ e. omega (arith, e))
           (λ e. omega (arith, e)) (λ e. omega (arith, e)) (λ e. omega (arith, e)) (λ e. omega (arith, e))
           (λ e. omega (arith, e)) (for_none none))
           tt (for_files (Gap beam expected found) (λ files are. absurd (none files are)))
@@ -541,8 +541,8 @@ module _ {I : Type 0} (told : I → Told) (is_calm : I → Type 0) (faults : I �
           subst (λ x. EndsAt (Some x)) (sym r.is)
           (ends_at words _ _ out out' (TooMany count limit) (8, lit< tt, refl) (λ e. omega (arith, e))
           (λ e. omega (arith, e)) same (judged_said words s 9 says (λ e. omega (arith, e)))
-          (reads_quietly told is_calm faults words failed before after all 9 (λ e. omega (arith, e)) (λ e. omega (arith, e))
-          (all_quiet none))
+          (reads_quietly told is_calm faults words failed before after all 9 (λ e. omega (arith, e))
+          (λ e. omega (arith, e)) (all_quiet none))
           tt (for_files (TooMany count limit) (λ files are. too_many files are many none r)))
 
     -- the text, or its front

@@ -43,7 +43,7 @@ fn begin_beam<'a, I: Inputs>(
     ensures stopped { IfErr result (FailsHeader I.told I.is_calm I.faults
         (beam_name (settings_seen settings.now) beam) beam inputs.old inputs.new) }
 {
-    let mut space = match FeederSpace::take(
+    let mut space = match FeederSpace::reserve(
         alloc,
         &settings.names[beam..beam + 1],
         settings.starts.as_slice(),

@@ -52,7 +52,7 @@ fn take_space(
         (IsSpaceOf (settings_seen settings.now) o (slot_header slot.now)) }
 {
     let shape = run_shape(settings.buffers, settings.size, 1, settings.max_bytes, 1);
-    BeamSpace::take(alloc, engine, shape, header_of(slot))
+    BeamSpace::reserve(alloc, engine, shape, header_of(slot))
 }
 
 // The spaces of all beams.

@@ -1,9 +1,9 @@
 //! `psr_beams`: searches several beams of one observation beside each other, and marks the pulses that too many have.
 #![tactic(auto)]
 
-use psr_base::{NoWords, RealInputs, RealSink, TakenStreams, command_words};
+use psr_base::{RealInputs, RealSink, TakenStreams};
 use psr_beams::run_beams;
-use run_stop::{Stop, tell};
+use run_stop::words_or_status;
 use search_session::NoGate;
 use std::env;
 use std::process::ExitCode;
@@ -11,10 +11,9 @@ use std::process::ExitCode;
 fn main(rt: HostRuntime) -> ExitCode {
     let _streams = TakenStreams::take(&rt);
     let mut notes = RealSink::notes(&rt);
-    let words = match command_words(env::args(&rt), rt.alloc()) {
+    let words = match words_or_status(env::args(&rt), rt.alloc(), &mut notes) {
         Ok(words) => words,
-        Err(NoWords::Refused) => return ExitCode::from(tell(Some(Stop::Words), &mut notes)),
-        Err(NoWords::Memory) => return ExitCode::from(tell(Some(Stop::Memory), &mut notes)),
+        Err(status) => return ExitCode::from(status),
     };
     let mut inputs = [
         RealInputs::new(&rt),

@@ -1,18 +1,16 @@
 -- From what stands against a search to its status: at no other status it could stand there.
 use Rattle.std.proofs.Common.{◌≡◌, ◌<◌, ◌⊎◌, ℕ, zero, suc, List, [], ◌∷◌, Bool, true, false, inl, inr, sym, ◌∙◌, ap, subst, refl, Some, None, Contains, arith}
-use Rattle.std.specs.Prelude.{Option, IsSome, slice_index_or, nat_le, ◌&&◌, ◌||◌, ◌==◌}
+use Rattle.std.specs.Prelude.{Option, IsSome, nat_le, ◌&&◌, ◌||◌, ◌==◌}
 use Rattle.psr_base.specs.Count.{Rose}
 use Rattle.psr_base.specs.Told.{Told}
 use Rattle.ring_ends.specs.declared.finished.Finished.{Finished}
 use Rattle.search_words.specs.Settings.{SettingsSeen}
 use Rattle.stream_model.specs.Walk as walk
-use Rattle.stream_model.specs.Walk.{FileStream, WalkStop, begin_of, walk_stop}
+use Rattle.stream_model.specs.Walk.{FileStream, WalkStop, walk_stop}
 use Rattle.stream_model.specs.WalkLaws.{AreWalked}
-use Rattle.disk_feeder.specs.History.{file_name}
 use Rattle.disk_feeder.specs.Plan.{AreTold, AreToldAt}
 use Rattle.disk_feeder.specs.Filling.{HoldsAll}
 use Rattle.disk_feeder.specs.declared.answers.HeaderCause.{HeaderCause}
-use Rattle.disk_feeder.specs.declared.answers.HeaderCause.TheVariants.{Text, Fields}
 use Rattle.channel_mask.specs.MaskLaws.{MasksAreNotRefused}
 use Rattle.channel_mask.specs.Masks.{mask_of}
 use Rattle.channel_mask.specs.declared.fault.MaskFault.TheVariants as fault
@@ -22,7 +20,6 @@ use Rattle.run_stop.specs.declared.stop.Stop.{Stop}
 use Rattle.run_stop.specs.declared.stop.Stop.TheVariants.{Header, Gap, TooLong}
 use Rattle.run_stop.specs.Texts.{status_of}
 use Rattle.run_stop.specs.Lone.{SayAlone}
-use Rattle.run_stop.specs.Firsts.{first_file}
 use Rattle.run_stop.specs.Runs.{Alone, first_observation, stream_for, stop_of_walk, CanBegin, RefusesFirstHeader, RefusesSearch, RefusesFirsts, RefusesSearches, RefusesRecordings, StopsWalk}
 use Rattle.run_stop.specs.Ends.{AcceptedIsNotRefused}
 use Rattle.psr_mask.specs.Masking.{AcceptsFirst, RefusesFiles, fault_of, mask_search, mask_word}
@@ -118,25 +115,8 @@ module _ (words : List (List ℕ)) (is_calm : Type 0) (seen : SearchSeen)
   -- first headers that are accepted are not refused
   not_firsts : AreWalked w → (file : ℕ) (cause : HeaderCause) →
       RefusesFirsts (Alone (mask_search words)) words seen.inputs.told file cause → ⊥
-  not_firsts walked file (Fields fault) r = not_refused.header w file (Fields fault) walked (r.1 s files says needed)
-  not_firsts walked file (Text fault) r =
-      let t = r s says in
-      let there = t.there in
-      let at : file ≡ begin_of w t.transfer = t.is ∙ ap (slice_index_or s.starts t.transfer) (sym are.count) in
-      let bytes = first_file w t.transfer in
-      let told : seen.inputs.told.bytes_under (file_name s.names file) ≡ Some bytes =
-      subst (λ k. seen.inputs.told.bytes_under (file_name s.names k) ≡ Some bytes) (sym at)
-      (are.each (begin_of w t.transfer)
-      (subst (λ n. begin_of w t.transfer < n) are.count (walked.starts.within t.transfer there))) in
-      not_refused.header w file (Text fault) walked (record {
-        transfer = t.transfer;
-        there = there;
-        is = at;
-        cause = t.refused bytes told;
-        earlier = λ k less.
-            let a = walked.accepted k (omega (arith, less, there)) in
-            (a.header, a.is_header);
-      })
+  not_firsts walked file cause r =
+      not_refused.firsts (Alone (mask_search words)) words seen.inputs.told s files file cause says needed walked r
 
   -- ---- what each status says
 
@@ -153,8 +133,9 @@ module _ (words : List (List ℕ)) (is_calm : Type 0) (seen : SearchSeen)
   at_header None is e = inl (outcome.answered.run.stopped.first_header e is)
   at_header (Some b) is e =
       let some : IsSome seen.ran.blocks = subst IsSome (sym is) refl in
-      let r = ((outcome.answered.run.stopped.later_header e some).1.says s files says needed).0 in
-      inr (some, r.0, r.1, r.2)
+      let r = (outcome.answered.run.stopped.later_header e some).1 in
+      let x = (r.says s files says needed).0 in
+      inr (some, x.0, x.1, record { begins = r.begun.1 s files says needed; stops = x.2 })
 
   -- the plan was refused: a search alone makes no recording
   at_plan : n ≡ 4 → (cause : PlanCause) × RefusesSearch s.search w cause
@@ -171,10 +152,15 @@ module _ (words : List (List ℕ)) (is_calm : Type 0) (seen : SearchSeen)
   -- the walk stopped at a gap, or at the limit
   at_gap : n ≡ 7 → (file : ℕ) × (expected : ℕ) × (found : ℕ)
       × StopsWalk (Alone (mask_search words)) s w (Gap file expected found)
-  at_gap e = ((outcome.answered.run.stopped.gap e).1.says s files says needed).0
+  at_gap e =
+      let r = (outcome.answered.run.stopped.gap e).1 in
+      let x = (r.says s files says needed).0 in
+      (x.0, x.1, x.2, record { begins = r.begun.1 s files says needed; stops = x.3 })
 
   at_limit : n ≡ 8 → StopsWalk (Alone (mask_search words)) s w (TooLong s.max_bytes)
-  at_limit e = ((outcome.answered.run.stopped.too_long e).1.says s files says needed).0
+  at_limit e =
+      let r = (outcome.answered.run.stopped.too_long e).1 in
+      record { begins = r.begun.1 s files says needed; stops = (r.says s files says needed).0 }
 
   -- the mask was refused
   at_mask : n ≡ 12 → (refusal : MaskRefusal) × RefusesFiles words w refusal

@@ -267,8 +267,8 @@ module _ (words : List (List ℕ)) (inputs : InputsSeen) (is_calm : Type 0) wher
       late : (n : ℕ) → Contains late_statuses n →
           RunsAlone mask_status (mask_search words) words inputs is_calm (Some found.blocks) n
           × ForMask words inputs.told (λ s w. CanBegin (Alone (mask_search words)) s w × (walk_stop w ≡ walk.Whole))
-      late n known = law mask_status (mask_search words) words s0 inputs found.blocks found.feed n (lit< tt) through whole
-          known
+      late n known = law mask_status (mask_search words) words s0 inputs found.blocks found.feed n (lit< tt) through
+          whole known
 
       -- how many candidates there are
       counts : (n : ℕ) → Contains late_statuses n → (P : SettingsSeen → ℕ → Type 0) → P s0 (length list) →
@@ -344,11 +344,13 @@ module _ (words : List (List ℕ)) (inputs : InputsSeen) (is_calm : Type 0) wher
                   same;
               run = (late 9 is_crowded).0;
               mask = judges 9 (λ e. omega (arith, e));
-              too_many = λ e. counts 9 is_crowded (λ s t. s.search.max_candidates < t) (omega (arith, total, most, many));
+              too_many = λ e.
+                  counts 9 is_crowded (λ s t. s.search.max_candidates < t) (omega (arith, total, most, many));
             };
             said = (
               tt,
-              counts 9 is_crowded (λ s t. (t ≡ n) × (limit ≡ s.search.max_candidates) × (limit < n)) (total, most, many),
+              counts 9 is_crowded (λ s t. (t ≡ n) × (limit ≡ s.search.max_candidates) × (limit < n))
+                  (total, most, many),
             );
           }
 

@@ -16,7 +16,7 @@ use Rattle.channel_mask.specs.declared.fault.MaskFault.{MaskFault}
 use Rattle.channel_mask.specs.declared.fault.MaskFault.TheVariants as fault
 use Rattle.run_stop.specs.Lone.{LoneSearch}
 use Rattle.run_stop.specs.Runs.{Alone, ForFiles, ForFirsts, JudgesFirsts, first_observation}
-use Rattle.lone_run.specs.Stops.{RefusesFirst}
+use Rattle.lone_run.specs.Stops.{RefusesFirst, RefusesFirstAt}
 use Rattle.psr_mask.specs.declared.refusal.MaskRefusal.{MaskRefusal}
 use Rattle.psr_mask.specs.declared.refusal.MaskRefusal.TheVariants.{BadMask, OutOfRange, AllMasked}
 
@@ -91,4 +91,6 @@ AcceptsMaskWord words told =
 
 abbrev pub RefusesMaskWord : List (List ℕ) → Told → MaskRefusal → Type 0
 RefusesMaskWord words told refusal =
-    JudgesFirsts (Alone (mask_search words)) words told (λ s w. RefusesFiles words w refusal)
+    JudgesFirsts (Alone (mask_search words)) words told
+    (λ s. RefusesFirstAt (RefusesMask (mask_word words)) s told refusal)
+    (λ s w. RefusesFiles words w refusal)

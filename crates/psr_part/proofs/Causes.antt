@@ -1,6 +1,6 @@
 -- From what stands against the search of a part to its status: at no other status it could stand there.
 use Rattle.std.proofs.Common.{◌≡◌, ◌<◌, ◌≤◌, ◌⊎◌, ℕ, zero, suc, List, [], ◌∷◌, Bool, inl, inr, true, false, sym, ◌∙◌, ap, subst, refl, Some, None, Contains, lit<, arith}
-use Rattle.std.specs.Prelude.{Option, IsSome, length, slice_index_or, if◌then◌else◌}
+use Rattle.std.specs.Prelude.{Option, IsSome, length, if◌then◌else◌}
 use Rattle.std.specs.Str.{bytes_eq}
 use Rattle.psr_base.specs.Count.{Rose}
 use Rattle.psr_base.specs.Told.{Told}
@@ -8,13 +8,11 @@ use Rattle.search_model.specs.Parts.{check_line}
 use Rattle.ring_ends.specs.declared.finished.Finished.{Finished}
 use Rattle.search_words.specs.Settings.{SettingsSeen}
 use Rattle.stream_model.specs.Walk as walk
-use Rattle.stream_model.specs.Walk.{FileStream, WalkStop, begin_of, walk_stop}
+use Rattle.stream_model.specs.Walk.{FileStream, WalkStop, walk_stop}
 use Rattle.stream_model.specs.WalkLaws.{AreWalked}
-use Rattle.disk_feeder.specs.History.{file_name}
 use Rattle.disk_feeder.specs.Plan.{AreTold, AreToldAt}
 use Rattle.disk_feeder.specs.Filling.{HoldsAll}
 use Rattle.disk_feeder.specs.declared.answers.HeaderCause.{HeaderCause}
-use Rattle.disk_feeder.specs.declared.answers.HeaderCause.TheVariants.{Text, Fields}
 use Rattle.warm_restart.specs.declared.checkpoint.Checkpoint.{Checkpoint}
 use Rattle.warm_restart.specs.Checkpoint.{IsCheckpointText, IsNoCheckpointText}
 use Rattle.warm_restart.specs.Laws.{TextsSayOne}
@@ -25,7 +23,6 @@ use Rattle.run_stop.specs.declared.stop.Stop.{Stop}
 use Rattle.run_stop.specs.declared.stop.Stop.TheVariants.{Header, Gap, TooLong}
 use Rattle.run_stop.specs.Texts.{status_of}
 use Rattle.run_stop.specs.Lone.{SayAlone}
-use Rattle.run_stop.specs.Firsts.{first_file}
 use Rattle.run_stop.specs.Runs.{stream_for, stop_of_walk, CanBegin, RefusesFirstHeader, RefusesSearch, RefusesFirsts, RefusesSearches, RefusesRecordings, StopsWalk, FindsAlone}
 use Rattle.run_stop.specs.Outcomes.{ReadsInputs}
 use Rattle.run_stop.specs.Ends.{AcceptedGoesOn, AcceptedIsNotRefused}
@@ -199,7 +196,9 @@ module _ (words : List (List ℕ)) (is_calm : Type 0) (seen : PartSeen) (o : IsO
         ⊎ ((file : ℕ) × (cause : HeaderCause) × StopsWalk (searching words o.from) s w (Header file cause))
     at_header None is e = inl (o.run.stopped.first_header e is)
     at_header (Some b) is e =
-        let r = o.run.stopped.later_header e (subst IsSome (sym is) refl) in inr (r.1.says s files says needed).0
+        let r = (o.run.stopped.later_header e (subst IsSome (sym is) refl)).1 in
+        let x = (r.says s files says needed).0 in
+        inr (x.0, x.1, record { begins = r.begun.1 s files says needed; stops = x.2 })
 
     -- the search was refused
     at_plan : n ≡ 4 → (cause : PlanCause) × RefusesSearch s.search w cause
@@ -216,10 +215,15 @@ module _ (words : List (List ℕ)) (is_calm : Type 0) (seen : PartSeen) (o : IsO
     -- the walk stopped at a gap, or at the limit
     at_gap : n ≡ 7 → (file : ℕ) × (expected : ℕ) × (found : ℕ)
         × StopsWalk (searching words o.from) s w (Gap file expected found)
-    at_gap e = ((o.run.stopped.gap e).1.says s files says needed).0
+    at_gap e =
+        let r = (o.run.stopped.gap e).1 in
+        let x = (r.says s files says needed).0 in
+        (x.0, x.1, x.2, record { begins = r.begun.1 s files says needed; stops = x.3 })
 
     at_limit : n ≡ 8 → StopsWalk (searching words o.from) s w (TooLong s.max_bytes)
-    at_limit e = ((o.run.stopped.too_long e).1.says s files says needed).0
+    at_limit e =
+        let r = (o.run.stopped.too_long e).1 in
+        record { begins = r.begun.1 s files says needed; stops = (r.says s files says needed).0 }
 
     -- ---- what is accepted
 
@@ -259,25 +263,8 @@ module _ (words : List (List ℕ)) (is_calm : Type 0) (seen : PartSeen) (o : IsO
       -- first headers that are accepted are not refused
       not_firsts : AreWalked w → (file : ℕ) (cause : HeaderCause) →
           RefusesFirsts (searching words o.from) words seen.inputs.told file cause → ⊥
-      not_firsts walked file (Fields fault) r = not_refused.header w file (Fields fault) walked (r.1 s files says needed)
-      not_firsts walked file (Text fault) r =
-          let t = r s says in
-          let there = t.there in
-          let at : file ≡ begin_of w t.transfer = t.is ∙ ap (slice_index_or s.starts t.transfer) (sym are.count) in
-          let bytes = first_file w t.transfer in
-          let told : seen.inputs.told.bytes_under (file_name s.names file) ≡ Some bytes =
-          subst (λ k. seen.inputs.told.bytes_under (file_name s.names k) ≡ Some bytes) (sym at)
-          (are.each (begin_of w t.transfer)
-          (subst (λ n. begin_of w t.transfer < n) are.count (walked.starts.within t.transfer there))) in
-          not_refused.header w file (Text fault) walked (record {
-            transfer = t.transfer;
-            there = there;
-            is = at;
-            cause = t.refused bytes told;
-            earlier = λ k less.
-                let a = walked.accepted k (omega (arith, less, there)) in
-                (a.header, a.is_header);
-          })
+      not_firsts walked file cause r =
+          not_refused.firsts (searching words o.from) words seen.inputs.told s files file cause says needed walked r
 
       -- Where a search stops before its data are read, each status that comes later has a run that begins.
       module _ (begins_not : CanBegin (searching words from) s w → ⊥) (wanted : ℕ)

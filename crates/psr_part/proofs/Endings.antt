@@ -400,7 +400,8 @@ module _ (words : List (List ℕ)) (inputs : InputsSeen) (is_calm : Type 0) wher
 
 -- ---- want of memory is none of the ends of a session
 
-pub never_memory : (end : FeedEnd) (stop : Option PartStop) (o : Observation) (s : Search) (from : Checkpoint) (until : ℕ) (before after : SinkSeen) →
+pub never_memory : (end : FeedEnd) (stop : Option PartStop) (o : Observation) (s : Search) (from : Checkpoint)
+    (until : ℕ) (before after : SinkSeen) →
     IfSome (stop_of_feed end) (λ fed. (stop ≡ Some (Run fed)) × (after ≡ before)) →
     ((count : ℕ) → end ≡ feed.Whole count → (bytes : List ℕ)
     × EndsFed (stop_of_feed end) o s from until bytes before after stop) → stop ≡ Some (Run Memory) → ⊥

@@ -1,5 +1,5 @@
 -- What is said of files that are told, once CHECK was read.
-use Rattle.std.proofs.Common.{◌≡◌, ℕ, ◌+◌, List, [], ◌∷◌, length, Bool, true, false, Option, Some, None, refl, sym, ap, ◌∙◌, subst, arith, lit<}
+use Rattle.std.proofs.Common.{◌≡◌, ℕ, ◌+◌, ◌<◌, List, [], ◌∷◌, length, Bool, true, false, Option, Some, None, refl, sym, ap, ◌∙◌, subst, arith, lit<}
 use Rattle.std.specs.Prelude.{IsSome, slice_index_or, if◌then◌else◌}
 use Rattle.std.specs.Str.{bytes_eq}
 use Rattle.psr_base.specs.Count.{Rose}
@@ -14,7 +14,7 @@ use Rattle.disk_feeder.specs.declared.answers.FeedEnd.{FeedEnd}
 use Rattle.disk_feeder.specs.Feeding.{EndIs, StopsWalkAt}
 use Rattle.disk_feeder.specs.Filling.{HoldsAll}
 use Rattle.disk_feeder.specs.History.{file_name}
-use Rattle.disk_feeder.specs.Plan.{AreTold, AreToldAt, IsFirstFile, IsAmong}
+use Rattle.disk_feeder.specs.Plan.{AreTold, AreToldAt, IsFirstFile}
 use Rattle.disk_feeder.specs.Reading.{judged_at}
 use Rattle.disk_feeder.specs.declared.answers.HeaderCause.TheVariants.{Text, Fields}
 use Rattle.warm_restart.specs.declared.checkpoint.Checkpoint.{Checkpoint}
@@ -22,11 +22,11 @@ use Rattle.warm_restart.specs.Named.{new_word}
 use Rattle.run_stop.specs.declared.stop.Stop.{Stop}
 use Rattle.run_stop.specs.declared.stop.Stop.TheVariants.{Words, Value, Header, Plan, Recording, Memory, ReadFault, Gap, TooLong, TooMany, SinkFault, FileFault}
 use Rattle.run_stop.specs.Lone.{SayAlone}
-use Rattle.run_stop.specs.Firsts.{first_name, RefusesFirstFields}
-use Rattle.run_stop.specs.Runs.{Task, ForFilesAt, ForFirsts, ForFilesTo, JudgesFirsts, CanBegin, RefusesSearch, RefusesToRecord}
+use Rattle.run_stop.specs.Firsts.{first_name, EachFirst, RefusesFieldsAt, RefusesFirstFields}
+use Rattle.run_stop.specs.Runs.{Task, ForFilesAt, ForFirsts, ForFilesTo, JudgesFirsts, BeginsByFirsts, MayBegin, CanBegin, RefusesSearch, RefusesSearchAt, RefusesToRecord, RefusesRecordingAt}
 use Rattle.run_stop.specs.Outcomes.{LeavesAtFault}
 use Rattle.run_stop.specs.Ends.{CountsFaults, StopsBefore, SaysBefore, IsRunFed}
-use Rattle.whole_run.specs.Wholes.{OfRun, OfRunAt, OfRunFirsts}
+use Rattle.search_opening.specs.Settings.{OfRun, OfRunAt, OfRunFirsts}
 use Rattle.psr_part.specs.Part.{check_word, check_names, check_text_of, part_search}
 
 -- the words say the same settings whatever the checkpoint is
@@ -81,18 +81,27 @@ module _ (task : Task) (words : List (List ℕ)) (old new : Told) (same : new.by
 
   for_files_to : (opened : ℕ) (P : SettingsSeen → FileStream → Type 0) → ForFilesTo opened task words new P →
       ForFilesTo opened task words old P
-  for_files_to opened = for_files_at (λ s. IsAmong opened s.starts (length s.names))
+  for_files_to opened = for_files_at (λ s k. k < opened)
 
   of_file : (name : List ℕ) {P : List ℕ → Type 0} → OfFile new name P → OfFile old name P
   of_file name says bytes is =
       says bytes (ap (λ (under : List ℕ → Option (List ℕ)). under name) same ∙ is)
 
-  judges_firsts : (P : SettingsSeen → FileStream → Type 0) → JudgesFirsts task words new P →
-      JudgesFirsts task words old P
-  judges_firsts P says = (
-    λ s said k less. of_file (first_name s.names s.starts k) (says.0 s said k less),
-    for_firsts P says.1,
-  )
+  each_first : (names : List (List ℕ)) (starts : List ℕ) (count : ℕ) {P : List ℕ → Type 0} →
+      EachFirst new names starts count P → EachFirst old names starts count P
+  each_first names starts count each k less = of_file (first_name names starts k) (each k less)
+
+  judges_firsts : (Each : SettingsSeen → Told → Type 0) (P : SettingsSeen → FileStream → Type 0) →
+      ((s : SettingsSeen) → Each s new → Each s old) → JudgesFirsts task words new (λ s. Each s new) P →
+      JudgesFirsts task words old (λ s. Each s old) P
+  judges_firsts Each P stands says = (λ s said. stands s (says.0 s said), for_firsts P says.1)
+
+  begins : BeginsByFirsts task words new → BeginsByFirsts task words old
+  begins = judges_firsts (λ s told. MayBegin task s told) (λ s w. CanBegin task s w) (λ s r. record {
+    accepted = each_first s.names s.starts (length s.starts) r.accepted;
+    searched = λ is. each_first s.names s.starts (length s.starts) (r.searched is);
+    recorded = λ is. each_first s.names s.starts (length s.starts) (r.recorded is);
+  })
 
   says_before : (stop : Stop) → SaysBefore task words new stop → SaysBefore task words old stop
   says_before (Header file (Text fault)) says = λ s said. let r = says s said in record {
@@ -102,9 +111,37 @@ module _ (task : Task) (words : List (List ℕ)) (old new : Told) (same : new.by
     refused = of_file (file_name s.names file) r.refused;
     earlier = λ k less. of_file (first_name s.names s.starts k) (r.earlier k less);
   }
-  says_before (Header file (Fields fault)) says = judges_firsts (λ s w. RefusesFirstFields w file fault) says
-  says_before (Plan cause) says = (says.0, judges_firsts (λ s w. RefusesSearch s.search w cause) says.1)
-  says_before (Recording cause) says = judges_firsts (λ s w. RefusesToRecord task s w cause) says
+  says_before (Header file (Fields fault)) says =
+      judges_firsts (λ s told. RefusesFieldsAt told s.names s.starts file fault) (λ s w. RefusesFirstFields w file fault)
+      (λ s r. record {
+        texts = each_first s.names s.starts (length s.starts) r.texts;
+        transfer = r.transfer;
+        there = r.there;
+        is = r.is;
+        refused = of_file (file_name s.names file) r.refused;
+        earlier = each_first s.names s.starts r.transfer r.earlier;
+      }) says
+  says_before (Plan cause) says = (
+    says.0,
+    judges_firsts (λ s told. RefusesSearchAt s told cause) (λ s w. RefusesSearch s.search w cause) (λ s r. record {
+      accepted = each_first s.names s.starts (length s.starts) r.accepted;
+      transfer = r.transfer;
+      there = r.there;
+      refused = of_file (first_name s.names s.starts r.transfer) r.refused;
+      earlier = each_first s.names s.starts r.transfer r.earlier;
+    }) says.1,
+  )
+  says_before (Recording cause) says =
+      judges_firsts (λ s told. RefusesRecordingAt task s told cause) (λ s w. RefusesToRecord task s w cause)
+      (λ s r. record {
+        accepted = each_first s.names s.starts (length s.starts) r.accepted;
+        searched = λ is. each_first s.names s.starts (length s.starts) (r.searched is);
+        records = r.records;
+        transfer = r.transfer;
+        there = r.there;
+        refused = of_file (first_name s.names s.starts r.transfer) r.refused;
+        earlier = each_first s.names s.starts r.transfer r.earlier;
+      }) says
   says_before Memory says = tt
   says_before ReadFault says = tt
   says_before Words says = absurd says
@@ -121,9 +158,12 @@ module _ (task : Task) (words : List (List ℕ)) (old new : Told) (same : new.by
   pub is_run_fed : (blocks : Finished) (feed : FeedEnd) → IsRunFed task words new blocks feed →
       IsRunFed task words old blocks feed
   is_run_fed blocks feed is = record {
-    begun = judges_firsts (λ s w. CanBegin task s w) is.begun;
+    begun = begins is.begun;
     at = is.at;
     last = is.last;
+    there = is.there;
+    names = is.names;
+    limit = is.limit;
     passed = λ k less. for_files_to (k + 1) (λ s w. stop_at w k ≡ None) (is.passed k less);
     walked = for_files_to (judged_at feed is.at) (λ s w. EndIs w s.size (sealed_at_end blocks) feed) is.walked;
     stops = for_files_to (judged_at feed is.at) (λ s w. StopsWalkAt feed w is.at.file) is.stops;
@@ -139,14 +179,18 @@ where_calm task words first next before after None calm is = λ s said. let b = 
   earlier = b.earlier;
   broke = b.broke;
   missing = λ c. b.missing (calm c);
+  unopened = λ c. b.unopened (calm c);
 }
 where_calm task words first next before after (Some blocks) calm is = record {
   at = is.at;
   begun = is.begun;
+  there = is.there;
   passed = is.passed;
   cut = is.cut;
   stood = is.stood;
   missing = λ c. is.missing (calm c);
+  shut = λ c. is.shut (calm c);
+  unopened = λ c. is.unopened (calm c);
 }
 
 hold_still : (old new : Told) (names : List (List ℕ)) → new.bytes_under ≡ old.bytes_under → HoldsAll old names →

@@ -29,7 +29,7 @@ use Rattle.run_stop.specs.Lone.{SayAlone}
 use Rattle.run_stop.specs.Runs.{first_observation}
 use Rattle.run_stop.specs.Ends.{StopsBefore, WordsSayOnce, IsRunFed}
 use Rattle.run_stop.specs.Outcomes.{AllCleared}
-use Rattle.whole_run.specs.Wholes.{OfRun, OfRunFirsts}
+use Rattle.search_opening.specs.Settings.{OfRun, OfRunFirsts}
 use Rattle.lone_run.specs.declared.found.LoneFound.{LoneFound}
 use Rattle.lone_run.specs.declared.stop.LoneStop.{LoneStop}
 use Rattle.lone_run.specs.declared.stop.LoneStop.TheVariants as lone

@@ -23,8 +23,8 @@ pub record HasEnded (is_calm : Type 0) (words : List (List ℕ)) (seen : PartSee
   pub told : AreTold seen.inputs.told s.names files
 
 -- What they wrote: the first its lines, and the CHECK line of where it stopped and of its count, which is at most
--- `limit`. Where CHECK of the second is this very line, the second wrote what is left: the lines, and then this, are the
--- text of the whole search.
+-- `limit`. Where CHECK of the second is this very line, the second wrote what is left: the lines, and then this, are
+-- the text of the whole search.
 pub record WriteWhole (first second : PartSeen) (until limit : ℕ) (text : List ℕ)
     (second_words : List (List ℕ)) : Type 0 where
   pub lines : List ℕ

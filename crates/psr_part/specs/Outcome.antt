@@ -134,8 +134,8 @@ abbrev pub ReadsNoData : List (List ℕ) → Told → Told → Type 0
 ReadsNoData words before after = (after ≡ before) ⊎ AfterCheck words before (λ from told.
     runs.ReadsNoData (searching words from) words told after)
 
--- A fault came before CHECK was judged: it names a file, and fewer bytes were read of it than judge it. Calm inputs fail
--- there only where that file isn't told.
+-- A fault came before CHECK was judged: it names a file, and fewer bytes were read of it than judge it. Calm inputs
+-- fail there only where that file isn't told.
 pub record BreaksAtCheck (words : List (List ℕ)) (is_calm : Type 0) (before after : Told) :
     Type 0 where
   pub other : check_word words ≢ new_word

@@ -1,19 +1,18 @@
 //! `psr_part`: searches a part of an observation, from a checkpoint on.
 #![tactic(auto)]
 
-use psr_base::{NoWords, RealInputs, RealSink, TakenStreams, command_words};
+use psr_base::{RealInputs, RealSink, TakenStreams};
 use psr_part::run_part;
-use run_stop::{Stop, tell};
+use run_stop::words_or_status;
 use std::env;
 use std::process::ExitCode;
 
 fn main(rt: HostRuntime) -> ExitCode {
     let _streams = TakenStreams::take(&rt);
     let mut notes = RealSink::notes(&rt);
-    let words = match command_words(env::args(&rt), rt.alloc()) {
+    let words = match words_or_status(env::args(&rt), rt.alloc(), &mut notes) {
         Ok(words) => words,
-        Err(NoWords::Refused) => return ExitCode::from(tell(Some(Stop::Words), &mut notes)),
-        Err(NoWords::Memory) => return ExitCode::from(tell(Some(Stop::Memory), &mut notes)),
+        Err(status) => return ExitCode::from(status),
     };
     let mut inputs = RealInputs::new(&rt);
     let mut out = RealSink::out(&rt);

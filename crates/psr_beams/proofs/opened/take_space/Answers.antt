@@ -6,5 +6,5 @@ use Rattle.psr_beams.proofs.opened.take_space.Goals as goal
 pub returns : goal.returns
 returns c = λ o engine.
     space_taken (settings_seen c.args.settings.now) o (slot_header c.args.slot.now) c.args.engine
-    c.run_shape-shape.result c.header_of.result.now c.take.result c.run_shape-shape.ensures.shape
-    c.run_shape-shape.ensures.total c.header_of.ensures engine c.take.ensures
+    c.run_shape-shape.result c.header_of.result.now c.reserve.result c.run_shape-shape.ensures.shape
+    c.run_shape-shape.ensures.total c.header_of.ensures engine c.reserve.ensures

@@ -1,5 +1,5 @@
 use Rattle.std.proofs.Common.{sym, ◌∙◌}
-use Rattle.psr_beams.proofs.Telling.{outcome, fault_is, memory_is}
+use Rattle.psr_beams.proofs.Telling.{outcome}
 use Rattle.psr_beams.proofs.top.run_beams.Goals as goal
 
 pub returns-clause-outcome : goal.returns-clause-outcome
@@ -8,12 +8,10 @@ returns-clause-outcome g c =
     c.tell.ensures.silent c.tell.ensures.line
 
 pub returns-clause-early : goal.returns-clause-early
-returns-clause-early g c = λ five.
-    c.search-stop.ensures.early (memory_is c.search-stop.result (sym c.tell.ensures.status ∙ five))
+returns-clause-early g c = λ five. c.search-stop.ensures.early (c.tell.ensures.memory five)
 
 pub returns-clause-order : goal.returns-clause-order
-returns-clause-order g c = λ six.
-    c.search-stop.ensures.order (fault_is c.search-stop.result (sym c.tell.ensures.status ∙ six))
+returns-clause-order g c = λ six. c.search-stop.ensures.order (c.tell.ensures.read_fault six)
 
 pub returns-clause-refused : goal.returns-clause-refused
 returns-clause-refused g c = λ two. c.search-stop.ensures.refused (sym c.tell.ensures.status ∙ two)
