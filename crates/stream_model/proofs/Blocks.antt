@@ -1,19 +1,16 @@
 -- Full blocks, and the streams that they make.
-use Rattle.std.proofs.Common.{◌≡◌, ℕ, zero, suc, ◌+◌, ◌-◌, ◌*◌, ◌/◌, ◌<◌, ◌≤◌, min, List, [], ◌∷◌, ◌++◌, length, take, drop, refl, sym, ap, ◌∙◌, subst, append_assoc, arith, length-append, length-take, length-drop, All}
+use Rattle.std.proofs.Common.{◌≡◌, ℕ, zero, suc, ◌+◌, ◌-◌, ◌*◌, ◌/◌, ◌<◌, ◌≤◌, min, List, [], ◌∷◌, ◌++◌, length, take, drop, refl, sym, ap, ◌∙◌, subst, append_assoc, arith, length-append, length-drop}
 use Rattle.std.specs.List.{flat_map}
-use Rattle.std.proofs.Math.Nat.{div-mul-le_self, lt-div-mul-add, le-div_iff_mul-le, suc-mul, add-mul}
+use Rattle.std.proofs.Math.Nat.{div-mul-le_self, le-div_iff_mul-le, suc-mul, add-mul}
 use Rattle.std.proofs.Math.Seq.{take-add}
 use Rattle.std.proofs.lemmas.Grind.{flat_map-append}
 use Rattle.std.proofs.lemmas.List.{append-nil, take-append-drop, take-append-le, drop-append-le}
-use Rattle.std.proofs.lemmas.List.Elements.{All-append, All-nil, All-cons}
 use mathlib.Core.List.{IsPrefix}
 use mathlib.Core.Logic.{dite}
 use native.Mathlib.Decide.{ℕ_discrete}
 use Rattle.ring_blocks.specs.declared.Entry.{Entry}
-use Rattle.ring_blocks.specs.declared.Mark.{Mark}
-use Rattle.ring_blocks.specs.declared.Mark.TheVariants.{More, End, Cut}
-use Rattle.stream_model.specs.Blocks.{full_entry, last_entry, cut_entry, full_entries, transfer_entries, whole_stream, joined_data, blocks_before_stop, abandoned_stream, joined_bytes, HasLength, FitsBlock}
-use Rattle.stream_model.specs.BlockLaws.{BytesAreJoined, BlocksFit, StreamsAreShort, StreamsGrow, StreamsBegin}
+use Rattle.stream_model.specs.Blocks.{full_entry, last_entry, cut_entry, full_entries, transfer_entries, whole_stream, joined_data, blocks_before_stop, abandoned_stream, joined_bytes}
+use Rattle.stream_model.specs.BlockLaws.{BytesAreJoined, StreamsAreShort, StreamsGrow, StreamsBegin}
 use Rattle.stream_model.proofs.Entries.{prefix_trans, prefix_append}
 
 -- ---- bytes
@@ -79,83 +76,13 @@ bytes_joined = record {
   abandoned = joined_abandoned;
 }
 
--- ---- how long blocks are
-
-block_before_end : (n size : ℕ) (bytes : List ℕ) → suc n * size ≤ length bytes →
-    length (take size (drop (n * size) bytes)) ≡ size
-block_before_end n size bytes within = let e = suc-mul n size in
-    omega (arith, length-take size (drop (n * size) bytes), length-drop (n * size) bytes)
-
-abbrev pub IsFull : ℕ → Entry → Type 0
-IsFull size e = (e.mark ≡ More) × (length e.bytes ≡ size)
-
-full_sized : (size : ℕ) (bytes : List ℕ) (n : ℕ) → n * size ≤ length bytes →
-    All (IsFull size) (full_entries size bytes n)
-unfolding full_entries
-full_sized size bytes zero within = All-nil (IsFull size)
-full_sized size bytes (suc n) within = let e = suc-mul n size in
-    let next : Entry = full_entry (take size (drop (n * size) bytes)) in
-    All-append (IsFull size) (full_entries size bytes n) (next ∷ []) (full_sized size bytes n (omega arith))
-    (All-cons (IsFull size) next [] (refl, block_before_end n size bytes within) (All-nil (IsFull size)))
-
-full_fit : (size : ℕ) (bytes : List ℕ) (n : ℕ) → n * size ≤ length bytes →
-    All (FitsBlock size) (full_entries size bytes n)
-unfolding full_entries
-full_fit size bytes zero within = All-nil _
-full_fit size bytes (suc n) within = let e = suc-mul n size in
-    All-append (FitsBlock size) (full_entries size bytes n) (full_entry (take size (drop (n * size) bytes)) ∷ [])
-    (full_fit size bytes n (omega arith))
-    (All-cons (FitsBlock size) _ [] (block_before_end n size bytes within) (All-nil (FitsBlock size)))
-
-transfer_fit : (size : ℕ) (bytes : List ℕ) → 0 < size → All (FitsBlock size) (transfer_entries size bytes)
-unfolding transfer_entries
-transfer_fit size bytes some = let n = length bytes / size in
-    All-append (FitsBlock size) (full_entries size bytes n) (last_entry (drop (n * size) bytes) ∷ [])
-    (full_fit size bytes n (div-mul-le_self (length bytes) size))
-    (All-cons (FitsBlock size) _ []
-    (let rest = lt-div-mul-add {a = length bytes} some in omega (arith, length-drop (n * size) bytes))
-    (All-nil (FitsBlock size)))
-
-whole_fit : (size : ℕ) (transfers : List (List ℕ)) → 0 < size → All (FitsBlock size) (whole_stream size transfers)
-unfolding whole_stream
-whole_fit size [] some = All-nil (FitsBlock size)
-whole_fit size (bytes ∷ later) some = All-append (FitsBlock size) (transfer_entries size bytes)
-    (whole_stream size later) (transfer_fit size bytes some) (whole_fit size later some)
-
-before_stop_within : (size max_bytes : ℕ) (before : List (List ℕ)) (read : List ℕ) →
-    blocks_before_stop size max_bytes before read * size ≤ length read
-before_stop_within size max_bytes before read =
-    let m = min (length read) (max_bytes - length (joined_data before)) in
-    let within = div-mul-le_self m size in omega arith
+-- ---- how many blocks there are
 
 before_stop_left : (size max_bytes : ℕ) (before : List (List ℕ)) (read : List ℕ) →
     blocks_before_stop size max_bytes before read * size ≤ max_bytes - length (joined_data before)
 before_stop_left size max_bytes before read =
     let m = min (length read) (max_bytes - length (joined_data before)) in
     let within = div-mul-le_self m size in omega arith
-
-abandoned_fit : (size max_bytes : ℕ) (before : List (List ℕ)) (read : List ℕ) → 0 < size →
-    All (FitsBlock size) (abandoned_stream size max_bytes before read)
-unfolding abandoned_stream
-abandoned_fit size max_bytes before read some = let n = blocks_before_stop size max_bytes before read in
-    All-append (FitsBlock size) (whole_stream size before) (full_entries size read n ++ cut_entry ∷ [])
-    (whole_fit size before some)
-    (All-append (FitsBlock size) (full_entries size read n) (cut_entry ∷ [])
-    (full_fit size read n (before_stop_within size max_bytes before read))
-    (All-cons (FitsBlock size) cut_entry [] refl (All-nil (FitsBlock size))))
-
-fit_at_most : (size : ℕ) (e : Entry) → FitsBlock size e → length e.bytes ≤ size
-fit_at_most size e fits = by_mark e.mark (length e.bytes) fits
-  where
-    by_mark : (mark : Mark) (used : ℕ) → HasLength size mark used → used ≤ size
-    by_mark More used fits = omega arith
-    by_mark End used fits = omega arith
-    by_mark Cut used fits = omega arith
-
-pub fit : BlocksFit
-fit = record { full = full_sized; whole = whole_fit; abandoned = abandoned_fit; at_most = fit_at_most }
-
--- ---- how many blocks there are
 
 length_full : (size : ℕ) (bytes : List ℕ) (n : ℕ) → length (full_entries size bytes n) ≡ n
 unfolding full_entries

@@ -1,9 +1,8 @@
 -- The bytes of recorded files: their headers, and their data joined.
-use Rattle.std.proofs.Common.{◌≡◌, ℕ, zero, suc, ◌+◌, ◌-◌, ◌*◌, ◌/◌, ◌<◌, ◌≤◌, Bool, true, false, ltb, List, ◌++◌, length, take, drop, replicate, refl, sym, ap, ◌∙◌, arith, Some, None, Ok}
+use Rattle.std.proofs.Common.{◌≡◌, ℕ, ◌+◌, ◌-◌, ◌*◌, ◌/◌, ◌<◌, ◌≤◌, Bool, true, false, ltb, List, ◌++◌, length, take, replicate, refl, sym, ap, ◌∙◌, arith, Some, None, Ok}
 use Rattle.std.specs.Prelude.{if◌then◌else◌}
-use Rattle.std.specs.List.{flat_map, range_with_len}
 use Rattle.std.proofs.lemmas.Bool.{ltb-false}
-use Rattle.std.proofs.lemmas.List.{length-append, length-replicate, take_all, drop_at, take-append-le, drop-drop}
+use Rattle.std.proofs.lemmas.List.{length-append, length-replicate, drop_at, take-append-le}
 use Rattle.std.proofs.Math.Nat.{div-lt_iff_lt-mul, div-mul-le_self, lt-div-mul-add, mul-le-mul_right}
 use Rattle.std.proofs.Math.Seq.{take-add}
 use Rattle.dada_model.specs.Fields.{HeaderText, header_of, header_bytes}
@@ -15,23 +14,6 @@ use Rattle.stream_model.proofs.Rooms.{recordable}
 
 -- ---- data
 
--- the data of n files from file a on
-pieces_from : (z : ℕ) (bytes : List ℕ) (a n : ℕ) →
-    flat_map (file_data z bytes) (range_with_len a n) ≡ take (n * z) (drop (a * z) bytes)
-unfolding file_data
-pieces_from z bytes a zero =
-    let none : 0 ≡ 0 * z = omega arith in
-    ap (λ (m : ℕ). take m (drop (a * z) bytes)) none
-pieces_from z bytes a (suc n) =
-    let rest = drop (a * z) bytes in
-    let place : a * z + z ≡ (a + 1) * z = omega arith in
-    let next : drop ((a + 1) * z) bytes ≡ drop z rest =
-    ap (λ (m : ℕ). drop m bytes) (sym place) ∙ sym (drop-drop z (a * z) bytes) in
-    let count : z + n * z ≡ suc n * z = omega arith in
-    ap (λ (t : List ℕ). take z rest ++ t) (pieces_from z bytes (a + 1) n ∙ ap (take (n * z)) next)
-    ∙ sym (take-add z (n * z) rest)
-    ∙ ap (λ (m : ℕ). take m rest) count
-
 -- the files have all data
 pub enough : (z : ℕ) (bytes : List ℕ) → 0 < z → length bytes ≤ file_count z bytes * z
 unfolding file_count
@@ -39,14 +21,6 @@ enough z bytes some =
     let below : length bytes - 1 < (length bytes - 1) / z * z + z = lt-div-mul-add some in
     let whole : ((length bytes - 1) / z + 1) * z ≡ (length bytes - 1) / z * z + z = omega arith in
     omega (arith, below, whole)
-
-pub pieces_join : (z : ℕ) (bytes : List ℕ) → 0 < z →
-    flat_map (file_data z bytes) (range_with_len 0 (file_count z bytes)) ≡ bytes
-pieces_join z bytes some =
-    let first : 0 * z ≡ 0 = omega arith in
-    pieces_from z bytes 0 (file_count z bytes)
-    ∙ ap (λ (m : ℕ). take (file_count z bytes * z) (drop m bytes)) first
-    ∙ take_all (file_count z bytes * z) bytes (enough z bytes some)
 
 -- the data up to a file, and those of the file
 pub piece_more : (z : ℕ) (bytes : List ℕ) (m : ℕ) → take (m * z) bytes ++ file_data z bytes m ≡ take ((m + 1) * z) bytes

@@ -1,10 +1,9 @@
 -- Laws of block streams; the functions of this crate carry them.
 -- Source: PSRDADA manual (transfers, end of data); the marks and blocks are this project's choice.
-use Rattle.std.specs.Prelude.{◌≡◌, ℕ, true, false, ◌||◌, ◌+◌, ◌-◌, ◌*◌, ◌/◌, ◌<◌, ◌≤◌, All, List, [], ◌∷◌, ◌++◌, length, take, slice_get, Some}
+use Rattle.std.specs.Prelude.{◌≡◌, ℕ, true, false, ◌||◌, ◌+◌, ◌-◌, ◌*◌, ◌/◌, ◌<◌, ◌≤◌, List, [], ◌∷◌, ◌++◌, length, take, slice_get, Some}
 use mathlib.Core.List.{IsPrefix}
 use Rattle.ring_blocks.specs.declared.Entry.{Entry}
-use Rattle.ring_blocks.specs.declared.Mark.TheVariants.{More}
-use Rattle.stream_model.specs.Blocks.{full_entries, transfer_entries, whole_stream, joined_data, blocks_before_stop, abandoned_stream, joined_bytes, ended_transfers, has_cut, is_over, transfer_bytes, FitsBlock}
+use Rattle.stream_model.specs.Blocks.{full_entries, transfer_entries, whole_stream, joined_data, blocks_before_stop, abandoned_stream, joined_bytes, ended_transfers, has_cut, is_over, transfer_bytes}
 
 -- ---- bytes
 
@@ -19,16 +18,6 @@ pub record BytesAreJoined : Type 0 where
   pub abandoned : (size max_bytes : ℕ) (before : List (List ℕ)) (read : List ℕ) →
       joined_bytes (abandoned_stream size max_bytes before read)
       ≡ joined_data before ++ take (blocks_before_stop size max_bytes before read * size) read
-
--- Each entry of a stream is as long as its mark asks, and so no longer than a block
-pub record BlocksFit : Type 0 where
-  pub full : (size : ℕ) (bytes : List ℕ) (n : ℕ) → n * size ≤ length bytes →
-      All (λ e. (e.mark ≡ More) × (length e.bytes ≡ size)) (full_entries size bytes n)
-  pub whole : (size : ℕ) (transfers : List (List ℕ)) → 0 < size →
-      All (FitsBlock size) (whole_stream size transfers)
-  pub abandoned : (size max_bytes : ℕ) (before : List (List ℕ)) (read : List ℕ) → 0 < size →
-      All (FitsBlock size) (abandoned_stream size max_bytes before read)
-  pub at_most : (size : ℕ) (e : Entry) → FitsBlock size e → length e.bytes ≤ size
 
 -- Data within a limit take at most as many blocks as the limit has, and one more for each transfer
 pub record StreamsAreShort : Type 0 where

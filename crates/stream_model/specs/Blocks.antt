@@ -1,6 +1,6 @@
 -- Block streams: the data of one or more transfers as entries, each of them a mark with bytes. A transfer is what one
 -- header describes, and it ends with a block that is not full (PSRDADA manual: transfers, end of data).
-use Rattle.std.specs.Prelude.{◌≡◌, ℕ, zero, suc, Bool, true, false, ◌||◌, nat_le, ◌+◌, ◌-◌, ◌*◌, ◌/◌, ◌<◌, min, List, [], ◌∷◌, ◌++◌, length, take, drop, if◌then◌else◌}
+use Rattle.std.specs.Prelude.{ℕ, zero, suc, Bool, true, false, ◌||◌, nat_le, ◌+◌, ◌-◌, ◌*◌, ◌/◌, min, List, [], ◌∷◌, ◌++◌, length, take, drop, if◌then◌else◌}
 use Rattle.std.specs.List.{flat_map, list_any}
 use Rattle.ring_blocks.specs.declared.Entry.{Entry}
 use Rattle.ring_blocks.specs.declared.Mark.{Mark}
@@ -88,12 +88,3 @@ transfer_bytes zero (entry ∷ entries) =
     entry.bytes ++ (if is_end entry.mark then [] else transfer_bytes zero entries)
 transfer_bytes (suc k) (entry ∷ entries) =
     transfer_bytes (if is_end entry.mark then k else suc k) entries
-
--- a block that is marked More is full, one that is marked End is shorter, and one that is marked Cut is empty
-abbrev pub HasLength : ℕ → Mark → ℕ → Type 0
-HasLength size More used = used ≡ size
-HasLength size End used = used < size
-HasLength size Cut used = used ≡ 0
-
-abbrev pub FitsBlock : ℕ → Entry → Type 0
-FitsBlock size entry = HasLength size entry.mark (length entry.bytes)

@@ -1,7 +1,7 @@
 -- Laws of recorded files; the functions of this crate carry them.
 -- Source: PSRDADA manual (OBS_OFFSET, FILE_NUMBER, FILE_SIZE); the laws are this project's choice.
 use Rattle.std.specs.Prelude.{◌≡◌, ◌≢◌, ℕ, ◌+◌, ◌^◌, ◌<◌, ◌≤◌, List, [], ◌∷◌, length, map, Option, Some, None, Ok, All, codes}
-use Rattle.std.specs.List.{flat_map, range_with_len}
+use Rattle.std.specs.List.{flat_map}
 use Rattle.std.specs.Option.{option_map}
 use Rattle.dada_model.specs.Fields.{fields_of, value_of}
 use Rattle.dada_model.specs.Change.{IsWord, line_end, changed}
@@ -11,7 +11,7 @@ use Rattle.psr_base.specs.Fixed.{padded}
 use Rattle.psr_base.specs.Made.{NamedBytes}
 use Rattle.stream_model.specs.Walk.{FileStream, Whole, walk_stop, walk_data}
 use Rattle.stream_model.specs.Blocks.{joined_data}
-use Rattle.stream_model.specs.Recorded.{Recording, file_offset, with_offset, with_number, with_size, file_header, file_data, file_count, recorded_files, record_refusal}
+use Rattle.stream_model.specs.Recorded.{Recording, file_offset, with_offset, with_number, with_size, file_header, file_count, recorded_files, record_refusal}
 
 -- ---- changes of texts
 
@@ -74,13 +74,6 @@ HeadersKeepObservation = (r : Recording) (i : ℕ) (o : Observation) → HasNumb
     observation_of (fields_of r.header.text) ≡ Ok o → file_offset r i ≤ 10 ^ 15 →
     observation_of (fields_of (file_header r i).text)
     ≡ Ok (record o { obs_offset = file_offset r i })
-
--- ---- data
-
--- the data of the files joined are those of the transfer
-abbrev pub FileDataJoin : Type 0
-FileDataJoin = (file_size : ℕ) (bytes : List ℕ) → 0 < file_size →
-    flat_map (file_data file_size bytes) (range_with_len 0 (file_count file_size bytes)) ≡ bytes
 
 -- ---- transfers
 

@@ -1,15 +1,10 @@
 // Laws of block streams, which the contracts of functions that do nothing carry. A caller whose proof needs a law calls
 // its function.
-ghost use Rattle.stream_model.specs.BlockLaws.{BytesAreJoined, BlocksFit, StreamsAreShort, StreamsGrow, StreamsBegin, EndsAreCounted, StreamsStopOnce, EntriesAreOfTransfers, StreamsHaveTransfers};
+ghost use Rattle.stream_model.specs.BlockLaws.{BytesAreJoined, StreamsAreShort, StreamsGrow, StreamsBegin, EndsAreCounted, StreamsStopOnce, EntriesAreOfTransfers, StreamsHaveTransfers};
 
 /// The joined bytes of a whole stream are its data.
 pub fn bytes_are_joined()
     ensures { BytesAreJoined }
-{}
-
-/// Each entry of a stream is as long as its mark asks.
-pub fn blocks_fit()
-    ensures { BlocksFit }
 {}
 
 /// Data within a limit take at most as many blocks as the limit has, and one more for each transfer.

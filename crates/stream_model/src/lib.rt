@@ -9,12 +9,12 @@ mod recorded_laws;
 mod walk_laws;
 
 pub use block_laws::{
-    blocks_fit, bytes_are_joined, ends_are_counted, entries_are_of_transfers, streams_are_short,
-    streams_begin, streams_grow, streams_have_transfers, streams_stop_once,
+    bytes_are_joined, ends_are_counted, entries_are_of_transfers, streams_are_short, streams_begin,
+    streams_grow, streams_have_transfers, streams_stop_once,
 };
 pub use recorded_laws::{
-    changes_stay_alike, each_header_has_room, file_data_join, headers_keep_observation,
-    headers_keep_values, recorded_files_give_the_data, recorded_transfers_give_the_data,
+    changes_stay_alike, each_header_has_room, headers_keep_observation, headers_keep_values,
+    recorded_files_give_the_data, recorded_transfers_give_the_data,
 };
 pub use walk_laws::{
     accepted_is_later, data_grow, data_join, data_none, files_are_in_transfers,

@@ -1,6 +1,6 @@
 // Laws of recorded files, which the contracts of functions that do nothing carry. A caller whose proof needs a law
 // calls its function.
-ghost use Rattle.stream_model.specs.RecordedLaws.{ChangesStayAlike, EachHeaderHasRoom, HeadersKeepValues, HeadersKeepObservation, FileDataJoin, RecordedFilesGiveTheData, RecordedTransfersGiveTheData};
+ghost use Rattle.stream_model.specs.RecordedLaws.{ChangesStayAlike, EachHeaderHasRoom, HeadersKeepValues, HeadersKeepObservation, RecordedFilesGiveTheData, RecordedTransfersGiveTheData};
 
 // Laws: they do nothing when they run, and the proofs use what they ensure.
 use crate::walk_laws::{accepted_is_later, headers_continue, no_stop_is_whole, whole_exactly};
@@ -46,11 +46,6 @@ pub fn headers_keep_observation()
     numbers_are_spelled();
     accepted_by_rows();
 }
-
-/// The data of the recorded files joined are those of the transfer.
-pub fn file_data_join()
-    ensures { FileDataJoin }
-{}
 
 /// Fed in order, the recorded files of whole transfers are a whole stream with the data of each.
 pub fn recorded_transfers_give_the_data()
