@@ -3,7 +3,6 @@ pub mod Bands
 pub mod Bytes
 pub mod Clap
 pub mod DataBytes
-pub mod Digits
 pub mod Filing
 pub mod NoiseSteps
 pub mod Outcomes

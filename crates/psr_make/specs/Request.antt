@@ -1,39 +1,17 @@
 -- What the words ask for.
 -- Source: this project's choice.
-use Rattle.std.specs.Prelude.{◌≡◌, ℕ, ◌==◌, Bool, ◌&&◌, ◌||◌, not, nat_le, nat_lt, List, length, find, Option, Some, None, is_some, unwrap_or, if◌then◌else◌, codes}
-use Rattle.std.specs.Option.{option_map_or}
-use Rattle.std.specs.Str.{all_ascii_digits}
-use Rattle.std.specs.Str.Parse.{digits_value}
+use Rattle.std.specs.Prelude.{◌≡◌, ℕ, not, List, find, Option, Some, None, is_some, unwrap_or, codes}
 use Rattle.clap.specs.Walk.{Row as Found, Text, first_of}
+use Rattle.option_rows.specs.Rows.{value_of_word}
 use Rattle.psr_make.specs.declared.opt.Opt.{Opt}
 use Rattle.psr_make.specs.declared.opt.Opt.TheVariants.{Number, Nchan, Spectra, Delay, Period, Height, Nbit, Npol}
-use Rattle.psr_make.specs.declared.opt.Limits.{Limits}
-use Rattle.psr_make.specs.declared.opt.Limits.TheVariants.{Between, Either}
 use Rattle.psr_make.specs.declared.spec.MakeSpec.{MakeSpec}
 use Rattle.psr_make.specs.Table.{option_name, option_row, all_options}
 use Rattle.psr_make.specs.Command.{TakesWords, matches_on}
 
--- 1 to 19 decimal digits
-abbrev pub is_whole_text : Text → Bool
-is_whole_text text = nat_lt 0 (length text) && (nat_le (length text) 19 && all_ascii_digits text)
-
-abbrev pub limits_allow : Limits → ℕ → Bool
-limits_allow (Between least most) n = nat_le least n && nat_le n most
-limits_allow (Either a b) n = (n == a) || (n == b)
-
--- a number that the limits allow
-abbrev pub if_allowed : Limits → ℕ → Option ℕ
-if_allowed limits n = if limits_allow limits n then Some n else None
-
--- the value of a text, where it is one
-abbrev pub value_in : Limits → Text → Option ℕ
-value_in limits text = if is_whole_text text then if_allowed limits (digits_value 10 text) else None
-
 -- the value of an option: that of the word that was given for it, or the one that stands without a word
 abbrev pub option_value : List Found → Opt → Option ℕ
-option_value found opt =
-    option_map_or (value_in (option_row opt).limits) (first_of (option_name opt) found)
-    (Some (option_row opt).default)
+option_value found opt = value_of_word (option_row opt) (first_of (option_name opt) found)
 
 -- the same as a number
 abbrev pub option_number : List Found → Opt → ℕ

@@ -2,53 +2,23 @@
 ghost use Rattle.std.specs.Prelude.{◌≡◌, map, string_bytes, option_map, None, IfOk, IfErr};
 ghost use Rattle.clap.specs.Words.{found_of, rows_of, first_of};
 ghost use Rattle.psr_make.specs.Made.{SpecInRange};
-ghost use Rattle.psr_make.specs.Request.{limits_allow, if_allowed, value_in as value_in_of, option_value, option_number, first_out_of_range as first_out_of_range_of, spec_of as spec_of_found, Asks};
+ghost use Rattle.psr_make.specs.Request.{option_value, option_number, first_out_of_range as first_out_of_range_of, spec_of as spec_of_found, Asks};
 ghost use Rattle.psr_make.specs.Stop.{ExplainsStop, IsReadingStop};
 
 use crate::command::matches_of;
-use crate::opt::{Limits, OPTIONS, Opt};
+use crate::opt::{OPTIONS, Opt};
 use crate::spec::MakeSpec;
 use crate::stop::Stop;
 use clap::ArgMatches;
-use dada_model::whole_number;
 use std::alloc::Global;
+// Laws: they do nothing when they run, and the proofs use what they ensure.
+use option_rows::{none_fails, values_are_allowed};
 
 /// An observation, and the name of its file.
 #[derive(Clone, Copy)]
 pub(crate) struct Request<'a> {
     pub(crate) spec: MakeSpec,
     pub(crate) name: &'a str,
-}
-
-// Whether the limits allow a number.
-fn allows(limits: Limits, number: u64) -> bool
-    ensures { result ≡ limits_allow limits number }
-{
-    match limits {
-        Limits::Between(least, most) => least <= number && number <= most,
-        Limits::Either(a, b) => number == a || number == b,
-    }
-}
-
-// A number that the limits allow.
-fn allowed(limits: Limits, number: u64) -> Option<u64>
-    ensures { result ≡ if_allowed limits number }
-{
-    if allows(limits, number) {
-        Some(number)
-    } else {
-        None
-    }
-}
-
-// The value of a text, where it is one.
-fn value_in(limits: Limits, text: &str) -> Option<u64>
-    ensures { result ≡ value_in_of limits text.now }
-{
-    match whole_number(text, 19) {
-        Some(number) => allowed(limits, number),
-        None => None,
-    }
 }
 
 // The first text that was found under a name.
@@ -63,11 +33,7 @@ fn text<'a>(matches: &ArgMatches<'a>, name: &str) -> Option<&'a str>
 fn value(matches: &ArgMatches<'_>, opt: Opt) -> Option<u64>
     ensures { result ≡ option_value (rows_of (found_of matches.now)) opt }
 {
-    let row = opt.row();
-    match text(matches, opt.name()) {
-        Some(text) => value_in(row.limits, text),
-        None => Some(row.default),
-    }
+    opt.row().value_of(text(matches, opt.name()))
 }
 
 // The same as a number, which is 0 where the value is out of its range.
@@ -93,6 +59,8 @@ fn spec_of(matches: &ArgMatches<'_>) -> MakeSpec
     ensures values { result ≡ spec_of_found (rows_of (found_of matches.now)) }
     ensures in_range { SpecInRange result }
 {
+    none_fails::<Opt>();
+    values_are_allowed();
     MakeSpec {
         number: number(matches, Opt::Number),
         channels: number(matches, Opt::Nchan) as u32,

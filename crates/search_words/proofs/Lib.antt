@@ -1,6 +1,5 @@
 pub mod Parted
 pub mod Faults
-pub mod Digits
 pub mod Starts
 pub mod Ranges
 pub mod Rules

@@ -1,14 +1,9 @@
 -- Where transfers begin among the names.
-use Rattle.std.proofs.Common.{◌≡◌, ℕ, ◌+◌, ◌<◌, suc, zero, Bool, true, false, ◌&&◌, not, List, [], ◌∷◌, length, get_or, cond, refl, ap, arith, add-one}
+use Rattle.std.proofs.Common.{◌≡◌, ℕ, ◌+◌, ◌<◌, suc, zero, Bool, true, false, not, List, [], ◌∷◌, length, get_or, cond, refl, ap, arith, add-one}
 use Rattle.std.specs.List.{list_all}
-use Rattle.std.proofs.lemmas.Bool.{ltb-true}
+use Rattle.std.proofs.lemmas.Bool.{and_parts, ltb-true}
 use Rattle.search_words.specs.Transfers.{AreTransferStarts, is_plus, file_names, transfers_in, with_first, starts_after, starts_in, has_names}
 use Rattle.search_words.proofs.Parted.{starts_begin}
-
-pub both_true : (a b : Bool) → (a && b) ≡ true → (a ≡ true) × (b ≡ true)
-both_true true true e = (refl, refl)
-both_true true false e = (cc)
-both_true false b e = (cc)
 
 pub starts_counted : (n : ℕ) (transfers : List (List (List ℕ))) → length (starts_after n transfers) ≡ length transfers
 starts_counted n [] = refl
@@ -47,7 +42,7 @@ rises : (n i d : ℕ) (transfers : List (List (List ℕ))) → list_all has_name
 rises n i d [] all within = absurd (omega arith)
 rises n i d (names ∷ []) all within = absurd (omega arith)
 rises n i d (names ∷ next ∷ more) all within =
-    let both = both_true (has_names names) (list_all has_names (next ∷ more)) all in
+    let both = and_parts (has_names names) (list_all has_names (next ∷ more)) all in
     let some : 0 < length names = ltb-true 0 (length names) both.0 in
     elim i as (λ k. suc k < suc (suc (length more)) →
     get_or (starts_after n (names ∷ next ∷ more)) k d < get_or (starts_after n (names ∷ next ∷ more)) (suc k) d) [
@@ -59,7 +54,7 @@ below : (n i d : ℕ) (transfers : List (List (List ℕ))) → list_all has_name
     i < length transfers → get_or (starts_after n transfers) i d < n + name_count transfers
 below n i d [] all within = absurd (omega arith)
 below n i d (names ∷ more) all within =
-    let both = both_true (has_names names) (list_all has_names more) all in
+    let both = and_parts (has_names names) (list_all has_names more) all in
     let some : 0 < length names = ltb-true 0 (length names) both.0 in
     elim i as (λ k. k < suc (length more) →
     get_or (starts_after n (names ∷ more)) k d < n + name_count (names ∷ more)) [

@@ -11,6 +11,7 @@ use Rattle.search_model.specs.Search.{SettingsInRange}
 use Rattle.search_words.specs.declared.opt.Opt.TheVariants.{MaxDelay, MinDelay, Snr, Mean, Sd, Widths, FoldMin, FoldMax, FoldRows, FoldStep, Buffers, Size, Chunk, Shards, Hands, Turns, FileSize, MaxBytes, MaxCandidates}
 use Rattle.search_words.specs.declared.table.Program.{Program}
 use Rattle.search_words.specs.declared.table.Program.TheVariants.{PsrSearch, PsrRecord}
+use Rattle.search_words.specs.declared.settings.RunSettings.{RunSettings}
 use Rattle.search_words.specs.declared.settings.Settings.{Settings}
 use Rattle.search_words.specs.declared.fault.WordFault.{WordFault}
 use Rattle.search_words.specs.declared.fault.WordFault.TheVariants.{Refused, OutOfRange, Memory}
@@ -18,9 +19,9 @@ use Rattle.search_words.specs.Command.{TakesWords, matches_on}
 use Rattle.search_words.specs.Values.{option_number, files_of, first_out_of_range}
 use Rattle.search_words.specs.Transfers.{AreTransferStarts, file_names, starts_in}
 
--- the settings, with the names as texts
-pub record SettingsSeen : Type 0 where
-  pub search : Search
+-- the settings, with the names as texts; what they have for a search is an S
+pub record SettingsOf (S : Type 0) : Type 0 where
+  pub search : S
   pub buffers : ℕ
   pub size : ℕ
   pub hands : ℕ
@@ -32,9 +33,31 @@ pub record SettingsSeen : Type 0 where
   -- how many names stand before each transfer
   pub starts : List ℕ
 
--- every setting lies in its range
-pub record AllInRange (s : SettingsSeen) : Type 0 where
-  pub search : SettingsInRange s.search
+-- those of a search
+abbrev pub SettingsSeen : Type 0
+SettingsSeen = SettingsOf Search
+
+-- and those of a run that searches nothing
+abbrev pub RunSeen : Type 0
+RunSeen = SettingsOf (Unit {0})
+
+-- the settings of a run, with this for a search
+abbrev pub with_search : {S T : Type 0} → S → SettingsOf T → SettingsOf S
+with_search search s = record {
+  search = search;
+  buffers = s.buffers;
+  size = s.size;
+  hands = s.hands;
+  turns = s.turns;
+  recording = s.recording;
+  file_size = s.file_size;
+  max_bytes = s.max_bytes;
+  names = s.names;
+  starts = s.starts;
+}
+
+-- every setting of a run lies in its range
+pub record RunInRange (s : RunSeen) : Type 0 where
   pub least_buffers : 2 ≤ s.buffers
   pub most_buffers : s.buffers ≤ 64
   pub least_size : 1 ≤ s.size
@@ -50,10 +73,15 @@ pub record AllInRange (s : SettingsSeen) : Type 0 where
   pub most_transfers : length s.starts ≤ 8
   pub transfers : AreTransferStarts s.starts (length s.names)
 
--- what settings are seen as
-abbrev pub settings_seen : Settings → SettingsSeen
-settings_seen s = record {
-  search = s.search;
+-- and so does every setting of a search
+pub record AllInRange (s : SettingsSeen) : Type 0 where
+  pub search : SettingsInRange s.search
+  pub run : RunInRange (with_search tt s)
+
+-- what the settings of a run are seen as
+abbrev pub run_seen : RunSettings → RunSeen
+run_seen s = record {
+  search = tt;
   buffers = s.buffers;
   size = s.size;
   hands = s.hands;
@@ -65,22 +93,30 @@ settings_seen s = record {
   starts = s.starts.items;
 }
 
-abbrev pub search_of : Program → List Found → Search
-search_of program found = record {
-  min_delay = option_number program found MinDelay;
-  max_delay = option_number program found MaxDelay;
-  widest = option_number program found Widths;
-  fold_min = option_number program found FoldMin;
-  fold_max = option_number program found FoldMax;
-  fold_rows = option_number program found FoldRows;
-  fold_step = option_number program found FoldStep;
-  chunk = option_number program found Chunk;
-  shards = option_number program found Shards;
-  max_candidates = option_number program found MaxCandidates;
-  mean = option_number program found Mean;
-  sd = option_number program found Sd;
-  snr = option_number program found Snr;
+-- and those of a search
+abbrev pub settings_seen : Settings → SettingsSeen
+settings_seen s = with_search s.search (run_seen s.run)
+
+-- the words of psr_search say a search, and those of psr_record none
+abbrev pub search_of : List Found → Search
+search_of found = record {
+  min_delay = option_number PsrSearch found MinDelay;
+  max_delay = option_number PsrSearch found MaxDelay;
+  widest = option_number PsrSearch found Widths;
+  fold_min = option_number PsrSearch found FoldMin;
+  fold_max = option_number PsrSearch found FoldMax;
+  fold_rows = option_number PsrSearch found FoldRows;
+  fold_step = option_number PsrSearch found FoldStep;
+  chunk = option_number PsrSearch found Chunk;
+  shards = option_number PsrSearch found Shards;
+  max_candidates = option_number PsrSearch found MaxCandidates;
+  mean = option_number PsrSearch found Mean;
+  sd = option_number PsrSearch found Sd;
+  snr = option_number PsrSearch found Snr;
 }
+
+abbrev pub no_search : List Found → Unit {0}
+no_search found = tt
 
 -- psr_search records where the flag was given, and psr_record always
 abbrev pub is_recording : Program → List Found → Bool
@@ -88,9 +124,10 @@ is_recording PsrSearch found =
     option_map_or (λ text. bytes_eq text (codes "true")) (first_of (codes "record") found) false
 is_recording PsrRecord found = true
 
-abbrev pub settings_of : Program → List Found → SettingsSeen
-settings_of program found = record {
-  search = search_of program found;
+-- what was found, with this for a search
+abbrev pub settings_of : {S : Type 0} → (List Found → S) → Program → List Found → SettingsOf S
+settings_of search program found = record {
+  search = search found;
   buffers = option_number program found Buffers;
   size = option_number program found Size;
   hands = option_number program found Hands;
@@ -103,12 +140,12 @@ settings_of program found = record {
 }
 
 -- the words of the program say the settings: clap takes them, each value is in its range, and these are the values
-pub record SaySettings
-    (program : Program) (words : List Text) (settings : SettingsSeen)
+pub record SaySettings {S : Type 0} (search : List Found → S)
+    (program : Program) (words : List Text) (settings : SettingsOf S)
     : Type 0 where
   pub taken : TakesWords program words
   pub in_range : first_out_of_range program (matches_on program words) ≡ None
-  pub values : settings ≡ settings_of program (matches_on program words)
+  pub values : settings ≡ settings_of search program (matches_on program words)
 
 -- the fault of a kind of clap's errors
 abbrev pub fault_of_kind : ErrorKind → WordFault
@@ -124,10 +161,10 @@ ExplainsWords program words Memory = Unit {0}
 
 -- the settings that the words of psr_search say, and those of psr_record; and what a fault says of them
 abbrev pub SaySearch : List Text → SettingsSeen → Type 0
-SaySearch = SaySettings PsrSearch
+SaySearch = SaySettings search_of PsrSearch
 
-abbrev pub SayRecord : List Text → SettingsSeen → Type 0
-SayRecord = SaySettings PsrRecord
+abbrev pub SayRecord : List Text → RunSeen → Type 0
+SayRecord = SaySettings no_search PsrRecord
 
 abbrev pub ExplainsSearch : List Text → WordFault → Type 0
 ExplainsSearch = ExplainsWords PsrSearch
@@ -138,4 +175,4 @@ ExplainsRecord = ExplainsWords PsrRecord
 -- every value of settings that words say lies in its range
 pub record SaidIsInRange : Type 0 where
   pub search : (words : List Text) (s : SettingsSeen) → SaySearch words s → AllInRange s
-  pub recording : (words : List Text) (s : SettingsSeen) → SayRecord words s → AllInRange s
+  pub recording : (words : List Text) (s : RunSeen) → SayRecord words s → RunInRange s

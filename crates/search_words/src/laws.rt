@@ -2,7 +2,14 @@
 // calls the function.
 ghost use Rattle.search_words.specs.Settings.{SaidIsInRange};
 
+use crate::opt::Opt;
+// Laws: they do nothing when they run, and the proofs use what they ensure.
+use option_rows::{none_fails, values_are_allowed};
+
 /// Every value of settings that words say lies in its range.
 pub fn said_is_in_range()
     ensures { SaidIsInRange }
-{}
+{
+    none_fails::<Opt>();
+    values_are_allowed();
+}

@@ -15,4 +15,4 @@ mod values;
 pub use fault::WordFault;
 pub use laws::said_is_in_range;
 pub use opt::Opt;
-pub use settings::Settings;
+pub use settings::{RunSettings, Settings};

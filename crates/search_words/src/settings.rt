@@ -2,15 +2,13 @@
 ghost use Rattle.std.specs.Prelude.{◌≢◌, map, string_bytes, Err, IfOk, IfErr};
 
 use crate::fault::WordFault;
-use crate::reading::read;
-use crate::table::Program;
+use crate::reading::{read_record, read_search};
 use search_model::Search;
 use std::alloc::Global;
 
-/// The settings of a program: a search, and how its data are read, shared out and recorded.
+/// The settings of a run, whatever it is for: how its data are read, shared out and recorded.
 #[derive(Debug, Drop)]
-pub struct Settings {
-    pub search: Search,
+pub struct RunSettings {
     /// How many buffers the data ring has.
     pub buffers: u32,
     /// The size of each, in bytes.
@@ -31,10 +29,17 @@ pub struct Settings {
     pub starts: Vec<u32>,
 }
 
+/// The settings of a search, and of the run that searches.
+#[derive(Debug, Drop)]
+pub struct Settings {
+    pub search: Search,
+    pub run: RunSettings,
+}
+
 impl Settings {
     ghost use Rattle.search_words.specs.Command.{IsSimpleLine};
-    ghost use Rattle.search_words.specs.Settings.{AllInRange, settings_seen, ExplainsSearch, ExplainsRecord, SaySearch, SayRecord};
-    ghost use Rattle.search_words.specs.declared.table.Program.TheVariants.{PsrSearch, PsrRecord};
+    ghost use Rattle.search_words.specs.Settings.{AllInRange, settings_seen, ExplainsSearch, SaySearch};
+    ghost use Rattle.search_words.specs.declared.table.Program.TheVariants.{PsrSearch};
 
     /// The settings that the words of `psr_search` say. The first word is the program's name.
     pub fn of(alloc: Global, words: &[String]) -> Result<Settings, WordFault>
@@ -44,17 +49,23 @@ impl Settings {
         ensures simple { IsSimpleLine PsrSearch (map string_bytes words.now)
             → result ≢ Err WordFault.Refused }
     {
-        read(alloc, Program::PsrSearch, words)
+        read_search(alloc, words)
     }
+}
 
-    /// The settings that the words of `psr_record` say. Its search has the defaults, with mean 0 and deviation 1.
-    pub fn of_record(alloc: Global, words: &[String]) -> Result<Settings, WordFault>
-        ensures says { IfOk result (λ s. SayRecord (map string_bytes words.now) (settings_seen s)) }
-        ensures in_range { IfOk result (λ s. AllInRange (settings_seen s)) }
+impl RunSettings {
+    ghost use Rattle.search_words.specs.Command.{IsSimpleLine};
+    ghost use Rattle.search_words.specs.Settings.{RunInRange, run_seen, ExplainsRecord, SayRecord};
+    ghost use Rattle.search_words.specs.declared.table.Program.TheVariants.{PsrRecord};
+
+    /// The settings that the words of `psr_record` say, which searches nothing. The first word is the program's name.
+    pub fn of_record(alloc: Global, words: &[String]) -> Result<RunSettings, WordFault>
+        ensures says { IfOk result (λ s. SayRecord (map string_bytes words.now) (run_seen s)) }
+        ensures in_range { IfOk result (λ s. RunInRange (run_seen s)) }
         ensures fault { IfErr result (ExplainsRecord (map string_bytes words.now)) }
         ensures simple { IsSimpleLine PsrRecord (map string_bytes words.now)
             → result ≢ Err WordFault.Refused }
     {
-        read(alloc, Program::PsrRecord, words)
+        read_record(alloc, words)
     }
 }

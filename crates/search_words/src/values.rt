@@ -1,72 +1,15 @@
 // The values of the options.
-ghost use Rattle.std.specs.Prelude.{◌≡◌, ◌≤◌, ◌<◌, ◌^◌, pos, option_map, option_and_then, Some, None};
+ghost use Rattle.std.specs.Prelude.{◌≡◌, ◌<◌, ◌^◌, option_map};
 ghost use Rattle.clap.specs.Words.{found_of, rows_of, first_of};
 ghost use Rattle.clap.specs.Walk.{texts, all_of};
+ghost use Rattle.option_rows.specs.Rows.{greatest_of};
 ghost use Rattle.search_words.specs.Table.{option_name, option_row};
-ghost use Rattle.search_words.specs.Values.{number_read, limits_allow, value_in_row, given_word, option_value, option_number, is_in_range as is_in_range_of, first_out_of_range as first_out_of_range_of, greatest_of, if_allowed, FitsReader};
+ghost use Rattle.search_words.specs.Values.{given_word, option_value, option_number, is_in_range as is_in_range_of, first_out_of_range as first_out_of_range_of};
 
 use crate::opt::Opt;
-use crate::table::{Limits, OPTIONS, Program, Reader, Row};
+use crate::table::{OPTIONS, Program};
 use crate::transfers::files_fit;
 use clap::ArgMatches;
-use dada_model::whole_number;
-use psr_base::Fixed;
-
-// Whether the limits allow a number.
-fn allows(limits: Limits, number: u64) -> bool
-    ensures { result ≡ limits_allow limits number }
-{
-    match limits {
-        Limits::Between(least, most) => least <= number && number <= most,
-        Limits::BoxWidth => matches!(number, 1 | 2 | 4 | 8 | 16 | 32),
-    }
-}
-
-// A number that the limits allow.
-fn allowed(limits: Limits, number: u64) -> Option<u64>
-    ensures { result ≡ if_allowed limits (pos number) }
-{
-    if allows(limits, number) {
-        Some(number)
-    } else {
-        None
-    }
-}
-
-// The value of a text of digits alone, where the limits allow it.
-fn whole_value(limits: Limits, text: &str) -> Option<u64>
-    ensures { result ≡ value_in_row (record { reader = Reader.Whole; limits = limits; default = 0 })
-        text.now }
-{
-    match whole_number(text, 19) {
-        Some(number) => allowed(limits, number),
-        None => None,
-    }
-}
-
-// The value of a text with decimals, where the limits allow it.
-fn decimal_value(limits: Limits, decimals: u32, text: &str) -> Option<u64>
-    requires decimals { decimals ≤ 9 }
-    requires bound { greatest_of limits ≤ 10 ^ 18 }
-    ensures { result ≡ option_and_then (if_allowed limits) (number_read (Reader.Decimals decimals)
-        text.now) }
-{
-    match Fixed::read(text.as_bytes(), decimals) {
-        Ok(number) if number >= 0 => allowed(limits, number as u64),
-        _ => None,
-    }
-}
-
-// The value of a text in a row, where it has one.
-fn value_in(row: Row, text: &str) -> Option<u64>
-    requires { FitsReader row }
-    ensures { result ≡ value_in_row row text.now }
-{
-    match row.reader {
-        Reader::Whole => whole_value(row.limits, text),
-        Reader::Decimals(decimals) => decimal_value(row.limits, decimals, text),
-    }
-}
 
 /// The first text that was found under a name.
 pub(crate) fn text<'a>(matches: &ArgMatches<'a>, name: &str) -> Option<&'a str>
@@ -92,11 +35,7 @@ fn given<'a>(program: Program, matches: &ArgMatches<'a>, opt: Opt) -> Option<&'a
 fn value(program: Program, matches: &ArgMatches<'_>, opt: Opt) -> Option<u64>
     ensures { result ≡ option_value program (rows_of (found_of matches.now)) opt }
 {
-    let row = opt.row();
-    match given(program, matches, opt) {
-        Some(text) => value_in(row, text),
-        None => Some(row.default),
-    }
+    opt.row().value_of(given(program, matches, opt))
 }
 
 /// The same as a number, which is 0 where the value is out of its row.

@@ -18,4 +18,4 @@ returns-clause-in_range c =
       nbit = c.number-7.result;
       npol = c.number-8.result;
     } ≡ spec_of found = search rules in
-    subst SpecInRange (sym is) (spec_in_range found c.requires)
+    subst SpecInRange (sym is) (spec_in_range c.none_fails.ensures c.values_are_allowed.ensures found c.requires)

@@ -1,6 +1,6 @@
 use Rattle.std.proofs.Common.{◌∙◌}
-use Rattle.search_words.proofs.Digits.{whole_read, none_read}
-use Rattle.search_words.proofs.values.whole_value.Goals as goal
+use Rattle.option_rows.proofs.Digits.{whole_read, none_read}
+use Rattle.option_rows.proofs.row.whole_value.Goals as goal
 
 pub returns-in-Some : goal.returns-in-Some
 returns-in-Some c =

@@ -5,12 +5,12 @@ use Rattle.std.specs.Char.{IsAsciiDigit, is_ascii_digit}
 use Rattle.std.specs.Str.{all_ascii_digits}
 use Rattle.std.specs.Str.Parse.{digits_value}
 use Rattle.std.proofs.lemmas.List.Elements.{All-head, All-tail, All-cons}
-use Rattle.std.proofs.lemmas.Bool.{lt-ltb, le-leb, ltb-true, leb-true}
+use Rattle.std.proofs.lemmas.Bool.{and_parts, lt-ltb, le-leb, ltb-true, leb-true}
 use Rattle.std.proofs.lemmas.Bool.Decides.{nat_tests}
 use Rattle.dada_model.specs.Number.{IsWholeNumber}
-use Rattle.search_words.specs.declared.table.Limits.{Limits}
-use Rattle.search_words.specs.declared.table.Reader.TheVariants.{Whole}
-use Rattle.search_words.specs.Values.{is_whole_text, number_read, if_allowed}
+use Rattle.option_rows.specs.declared.row.Limits.{Limits}
+use Rattle.option_rows.specs.declared.row.Reader.TheVariants.{Whole}
+use Rattle.option_rows.specs.Rows.{is_whole_text, number_read, if_allowed}
 
 digit_passes : (byte : ℕ) → IsAsciiDigit byte → is_ascii_digit byte ≡ true
 digit_passes byte h = grind (arith, nat_tests)
@@ -23,32 +23,24 @@ all_digits [] h = refl
 all_digits (x ∷ xs) h =
     rw (digit_passes x (All-head IsAsciiDigit x xs h)) (all_digits xs (All-tail IsAsciiDigit x xs h))
 
-both : (a b : Bool) → (a && b) ≡ true → (a ≡ true) × (b ≡ true)
-both true true e = (refl, refl)
-both true false e = (cc)
-both false b e = (cc)
-
 digits_from : (text : List ℕ) → all_ascii_digits text ≡ true → All IsAsciiDigit text
 digits_from [] e = λ k d h. absurd (omega arith)
 digits_from (x ∷ xs) e =
-    let parts = both (is_ascii_digit x) (all_ascii_digits xs) e in
+    let parts = and_parts (is_ascii_digit x) (all_ascii_digits xs) e in
     All-cons IsAsciiDigit x xs (digit_from x parts.0) (digits_from xs parts.1)
 
-pub whole_passes : (text : List ℕ) → IsWholeNumber 19 text → is_whole_text text ≡ true
+whole_passes : (text : List ℕ) → IsWholeNumber 19 text → is_whole_text text ≡ true
 whole_passes text h = rw (lt-ltb 0 (length text) h.0, le-leb (length text) 19 h.1, all_digits text h.2) refl
 
-pub whole_from : (text : List ℕ) → is_whole_text text ≡ true → IsWholeNumber 19 text
+whole_from : (text : List ℕ) → is_whole_text text ≡ true → IsWholeNumber 19 text
 whole_from text e =
-    let first = both (nat_lt 0 (length text)) (nat_le (length text) 19 && all_ascii_digits text) e in
-    let rest = both (nat_le (length text) 19) (all_ascii_digits text) first.1 in
+    let first = and_parts (nat_lt 0 (length text)) (nat_le (length text) 19 && all_ascii_digits text) e in
+    let rest = and_parts (nat_le (length text) 19) (all_ascii_digits text) first.1 in
     (ltb-true 0 (length text) first.0, leb-true (length text) 19 rest.0, digits_from text rest.1)
 
 by_test : {P : Type 0} (b : Bool) → (b ≡ true → P) → ¬ P → b ≡ false
 by_test true holds never = absurd (never (holds refl))
 by_test false holds never = refl
-
-none_whole : (text : List ℕ) → ¬ IsWholeNumber 19 text → is_whole_text text ≡ false
-none_whole text never = by_test (is_whole_text text) (whole_from text) never
 
 -- the value of a text of digits, and that there is none of another
 pub whole_read : (limits : Limits) (text : List ℕ) (n : ℕ) → IsWholeNumber 19 text → n ≡ digits_value 10 text →
@@ -57,4 +49,4 @@ whole_read limits text n h e = rw (whole_passes text h) (ap (λ m. if_allowed li
 
 pub none_read : (limits : Limits) (text : List ℕ) → ¬ IsWholeNumber 19 text →
     None ≡ option_and_then (if_allowed limits) (number_read Whole text)
-none_read limits text never = rw (none_whole text never) refl
+none_read limits text never = rw (by_test (is_whole_text text) (whole_from text) never) refl
