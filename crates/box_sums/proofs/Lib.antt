@@ -5,3 +5,4 @@ pub mod Parts
 pub mod Values
 pub mod Zeros
 pub mod Worked
+pub mod Filling

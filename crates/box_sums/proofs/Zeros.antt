@@ -62,13 +62,13 @@ opened first last chunk widest bound reach tails line kept = record {
   kept = kept;
 }
 
-pub zeros_sound : (first last chunk widest bound reach : ℕ)
-    → first ≤ last → last ≤ most_delay → 1 ≤ chunk → chunk ≤ longest_chunk → IsWidth widest → bound * widest < 2 ^ 32
+pub zeros_sound : (first last chunk widest bound reach memory : ℕ)
+    → (last - first + 1) * (reach + chunk) ≤ memory → first ≤ last → last ≤ most_delay → 1 ≤ chunk → chunk ≤ longest_chunk → IsWidth widest → bound * widest < 2 ^ 32
     → widest ≤ reach + 1 → reach ≤ 32 → (widest ≤ 1 → reach ≡ 0)
     → TablesAreSound (opened first last chunk widest bound reach (replicate ((last - first + 1) * reach) 0)
-    (replicate (reach + chunk) 0) (replicate ((last - first + 1) * (reach + chunk)) 0))
-    (replicate (5 * (reach + chunk)) 0) (replicate 6 0)
-zeros_sound first last chunk widest bound reach order few some most width fits enough near alone =
+    (replicate (reach + chunk) 0) [])
+    (replicate (5 * (reach + chunk)) 0) (replicate 6 0) memory
+zeros_sound first last chunk widest bound reach memory room order few some most width fits enough near alone =
     let stride : ℕ = reach + chunk in
     let rows : ℕ = last - first + 1 in
     record {
@@ -86,11 +86,11 @@ zeros_sound first last chunk widest bound reach order few some most width fits e
       short = omega arith;
       tails_room = length-replicate {A = ℕ} (rows * reach) 0;
       line_room = length-replicate {A = ℕ} stride 0;
-      kept_room = length-replicate {A = ℕ} (rows * stride) 0;
+      kept_room = room;
       boxes_room = length-replicate {A = ℕ} (5 * stride) 0;
       greatest_room = length-replicate {A = ℕ} 6 0;
       small_tails = zeros_are_small bound (rows * reach);
       small_line = zeros_are_small bound stride;
-      small_kept = zeros_are_small bound (rows * stride);
+      small_kept = zeros_are_small bound 0;
       bounds = λ m narrow. zero_bounds 6 stride (reach + 0) m;
     }

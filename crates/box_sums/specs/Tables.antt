@@ -1,6 +1,6 @@
 -- What always holds of boxes and of their tables.
 -- Source: this project's choice.
-use Rattle.std.specs.Prelude.{ℕ, ◌+◌, ◌-◌, ◌*◌, ◌^◌, ◌≡◌, ◌<◌, ◌≤◌, List, length, slice_index}
+use Rattle.std.specs.Prelude.{ℕ, ◌+◌, ◌-◌, ◌*◌, ◌^◌, ◌≡◌, ◌<◌, ◌≤◌, ◌++◌, List, length, slice_index}
 use Rattle.dada_model.specs.Bounds.{most_delay}
 use Rattle.search_model.specs.Search.{longest_chunk}
 use Rattle.fdmt_rows.specs.Rows.{sum_from}
@@ -10,6 +10,12 @@ use Rattle.box_sums.specs.Tails.{RowTails}
 -- no value is above the bound
 abbrev pub AreUpTo : ℕ → List ℕ → Type 0
 AreUpTo bound xs = (k : ℕ) → slice_index xs k ≤ bound
+
+-- zeros were put behind a list
+pub record IsFilledUp (old new : List ℕ) : Type 0 where
+  pub rest : List ℕ
+  pub is : new ≡ old ++ rest
+  pub zeros : AreUpTo 0 rest
 
 -- row m of the boxes has the sums of 2^(m+1) neighbours of the first `total` values of a line, for each m below
 -- `levels`
@@ -23,8 +29,8 @@ AreBounds bounds levels line total = (m i : ℕ) → 1 ≤ m → m ≤ levels �
     → sum_from line i (2 ^ m) ≤ slice_index bounds m
 
 -- what stands behind is as large as it has to be, and no box of the row that was fed last is
--- above the greatest of its width
-pub record TablesAreSound (b : RowTails) (boxes greatest : List ℕ) : Type 0 where
+-- above the greatest of its width; there is memory for the lines of all rows that may be kept
+pub record TablesAreSound (b : RowTails) (boxes greatest : List ℕ) (memory : ℕ) : Type 0 where
   pub order : b.first ≤ b.last
   pub few_rows : b.last ≤ most_delay
   pub some : 1 ≤ b.chunk
@@ -39,7 +45,7 @@ pub record TablesAreSound (b : RowTails) (boxes greatest : List ℕ) : Type 0 wh
   pub short : b.fed ≤ b.chunk
   pub tails_room : length b.tails ≡ (b.last - b.first + 1) * b.reach
   pub line_room : length b.line ≡ b.reach + b.chunk
-  pub kept_room : length b.kept ≡ (b.last - b.first + 1) * (b.reach + b.chunk)
+  pub kept_room : (b.last - b.first + 1) * (b.reach + b.chunk) ≤ memory
   pub boxes_room : length boxes ≡ 5 * (b.reach + b.chunk)
   pub greatest_room : length greatest ≡ 6
   pub small_tails : AreUpTo b.bound b.tails

@@ -1,5 +1,5 @@
 // Rows that are fed, and boxes over them.
-ghost use Rattle.std.specs.Prelude.{◌≡◌, ℕ, ◌+◌, ◌-◌, ◌*◌, ◌^◌, ◌<◌, ◌≤◌, ◌≢◌, ◌++◌, List, [], length, sum, take, drop, replicate, IfOk};
+ghost use Rattle.std.specs.Prelude.{◌≡◌, ℕ, ◌+◌, ◌-◌, ◌*◌, ◌^◌, ◌<◌, ◌≤◌, ◌≢◌, ◌++◌, List, [], length, sum, take, drop, replicate, vec_capacity, IfOk};
 ghost use Rattle.std.specs.List.{All};
 ghost use Rattle.dada_model.specs.Bounds.{most_delay};
 ghost use Rattle.search_model.specs.Search.{longest_chunk};
@@ -7,7 +7,7 @@ ghost use Rattle.box_sums.specs.Tails.{RowTails, StandsForRow, IsNewest, IsKept,
 ghost use Rattle.box_sums.specs.Rows.{IsWidth, SumsAddValues, sum_ending};
 ghost use Rattle.box_sums.specs.Tables.{TablesAreSound};
 
-use crate::keep::{join, write_row};
+use crate::keep::{fill_up, join, write_row};
 use crate::sums::fill_boxes;
 use psr_base::Memory;
 use std::alloc::Global;
@@ -21,7 +21,7 @@ const LANES: usize = 16;
 
 /// Rows that are fed in pieces, with the sums of the values that end at each place of the last feed. `feed_row` and
 /// `sum` serve all rows. A search that looks at few of them calls `feed_unkept` and `bound_of_newest`, and only for
-/// these `keep_newest` and then `kept_sum`.
+/// these `keep_newest` and then `kept_sum`. Memory for kept rows is used only up to the last row that was kept.
 ///
 /// `boxes` is where the sums of the row that was fed last are added up, and `greatest` has the greatest of each width.
 #[derive(Drop)]
@@ -70,7 +70,7 @@ impl Model for Boxes {
       fed = b.fed;
       line = b.line.items;
       kept = b.kept.items;
-    }) b.boxes.items b.greatest.items };
+    }) b.boxes.items b.greatest.items (vec_capacity b.kept) };
 }
 
 impl Boxes {
@@ -107,7 +107,7 @@ impl Boxes {
             newest: first,
             fed: 0,
             line: zeros(alloc, stride)?,
-            kept: zeros(alloc, rows * stride)?,
+            kept: Vec::with_capacity(alloc, rows * stride)?,
             boxes: zeros(alloc, (LEVELS - 1) * stride)?,
             greatest: zeros(alloc, LEVELS)?,
         })
@@ -187,13 +187,10 @@ impl Boxes {
             → IsKept self.old e n xs → IsKept self.new e n xs }
     {
         let at = (self.newest - self.first) as usize;
+        let stride = self.reach + self.chunk as usize;
+        fill_up(&mut self.kept, (at + 1) * stride);
         let line = front_of(self.line.as_slice(), 0, self.reach + self.fed as usize);
-        write_row(
-            self.kept.as_mut_slice(),
-            self.reach + self.chunk as usize,
-            at,
-            line,
-        );
+        write_row(self.kept.as_mut_slice(), stride, at, line);
     }
 
     /// The sum of the `w` values of row `d` that end at value `k`, counted from 0, of the feed after which it was kept
@@ -209,6 +206,9 @@ impl Boxes {
         let at = (d - self.first) as usize;
         let stride = self.reach + self.chunk as usize;
         let place = at * stride + (self.reach + 1 - w as usize) + k as usize;
+        if self.kept.len() < place + w as usize {
+            return 0;
+        }
         add_all(front_of(self.kept.as_slice(), place, w as usize))
     }
 

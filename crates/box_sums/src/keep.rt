@@ -1,7 +1,7 @@
 // What is kept of rows: the values that later boxes need, and whole lines.
-ghost use Rattle.std.specs.Prelude.{◌≡◌, ℕ, ◌+◌, ◌*◌, ◌≤◌, ◌≢◌, ◌++◌, length, take};
+ghost use Rattle.std.specs.Prelude.{◌≡◌, ℕ, ◌+◌, ◌*◌, ◌≤◌, ◌≢◌, ◌++◌, length, take, vec_capacity};
 ghost use Rattle.box_sums.specs.Tails.{row_at};
-ghost use Rattle.box_sums.specs.Tables.{AreUpTo};
+ghost use Rattle.box_sums.specs.Tables.{AreUpTo, IsFilledUp};
 
 use fdmt_rows::copy_row;
 
@@ -14,6 +14,18 @@ pub fn join(line: &mut [u32], tail: &[u32], feed: &[u32])
 {
     copy_row(&mut line[..tail.len()], tail);
     copy_row(&mut line[tail.len()..tail.len() + feed.len()], feed);
+}
+
+/// Puts zeros behind a table until it has `size` values, where it has fewer. It has memory for them.
+pub fn fill_up(table: &mut Vec<u32>, size: usize)
+    requires { size ≤ vec_capacity table.old }
+    ensures long { size ≤ length table.new.items }
+    ensures filled { IsFilledUp table.old.items table.new.items }
+    ensures capacity { vec_capacity table.new ≡ vec_capacity table.old }
+{
+    for _long in table.len()..size {
+        table.push_reserved(0);
+    }
 }
 
 /// Writes values to the front of row `at` of a table.

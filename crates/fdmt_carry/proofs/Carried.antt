@@ -25,7 +25,7 @@ opened_stands nothing empty t pass limit max_sample sizes st f is zeros stream =
   before = omega arith;
   kept = subst (λ (st : Stores). AreKept t pass f 0 st)
       (same_stores {a = st.narrow} {b = st.wide} refl refl (sym zeros.kept_narrow) (sym zeros.kept_wide))
-      (nothing t.rows.rows pass.schedule.narrow (table_sums t f) st.narrow st.wide sizes.kept sizes.kept
+      (nothing t.rows.rows pass.schedule.narrow (table_sums t f) st.narrow st.wide sizes.kept_narrow sizes.kept_wide
       (empty t.plan t.rows f is.plan is.rows));
   nodes = λ has. absurd (false≢true has);
 }
@@ -88,17 +88,6 @@ settled_stands c next new f is keeps stands = record {
     channels = stands.stream.channels;
     small = λ channel t within early. stands.stream.small channel t;
   }) stands.kept;
-  nodes = λ has. absurd (false≢true has);
-}
-
--- without tables
-pub bare_stands : (c : Carrying) (f : Filterbank) → StandsForSamples c f →
-    StandsForSamples (record c { has_tables = false }) f
-bare_stands c f stands = record {
-  stream = stands.stream;
-  small = stands.small;
-  before = stands.before;
-  kept = stands.kept;
   nodes = λ has. absurd (false≢true has);
 }
 

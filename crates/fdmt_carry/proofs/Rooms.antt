@@ -1,15 +1,18 @@
 -- Lists that are long enough for schedules.
-use Rattle.std.proofs.Common.{◌≡◌, ℕ, List, Option, None, Some, length, ap, ◌∙◌, arith, refl}
+use Rattle.std.proofs.Common.{◌≡◌, ℕ, ◌≤◌, Bool, List, Option, None, Some, length, ap, ◌∙◌, arith, refl}
 use Rattle.std.specs.Option.{IfSome}
 use Rattle.std.proofs.lemmas.List.{length-replicate}
 use Rattle.row_model.specs.declared.Rows.{Rows}
 use Rattle.row_schedule.specs.declared.stores.Sizes.{Sizes}
 use Rattle.row_schedule.specs.Schedules.{Scheduled}
+use Rattle.row_schedule.specs.Layout.{kept_room, narrow_kept_room}
 use Rattle.row_schedule.specs.Moving.{SlotsStay}
 use Rattle.row_schedule.specs.Filling.{HaveTableRoom, WroteKept, WroteWide}
 use Rattle.row_schedule.specs.Running.{AreAsLong, HaveRoom, Stores, stores}
 use Rattle.row_schedule.specs.Sizes.{AreEnough, AreEnoughForTables, AreZeros}
 use Rattle.fdmt_carry.specs.declared.passing.Passing.{Passing}
+use Rattle.fdmt_carry.specs.Passing.{IsPassOf}
+use Rattle.fdmt_carry.specs.Tables.{Tables}
 
 pub same_stores : {a a' b b' c c' d d' : List ℕ} → a ≡ a' → b ≡ b' → c ≡ c' → d ≡ d' →
     stores a b c d ≡ stores a' b' c' d'
@@ -29,29 +32,28 @@ pub have_room : (s : Scheduled) (sizes : Sizes) (st : Stores) → AreZeros sizes
 have_room s sizes st zeros enough =
     let a = ap length zeros.narrow ∙ length-replicate sizes.narrow 0 in
     let b = ap length zeros.wide ∙ length-replicate sizes.wide 0 in
-    let d = ap length zeros.kept_narrow ∙ length-replicate sizes.kept 0 in
-    let e = ap length zeros.kept_wide ∙ length-replicate sizes.kept 0 in
+    let d = ap length zeros.kept_narrow ∙ length-replicate sizes.kept_narrow 0 in
+    let e = ap length zeros.kept_wide ∙ length-replicate sizes.kept_wide 0 in
     let narrows = enough.narrow in
     let wides = enough.wide in
-    let keeps = enough.kept in
+    let keeps = enough.kept_narrow in
+    let keeps' = enough.kept_wide in
     record {
       narrow_room = omega (arith, a, narrows);
       wide_room = omega (arith, b, wides);
       kept_narrow_room = omega (arith, d, keeps);
-      kept_wide_room = omega (arith, e, keeps);
+      kept_wide_room = omega (arith, e, keeps');
     }
 
 pub have_table_room : (rows : Rows) (room : ℕ) (sizes : Sizes) (st : Stores) → AreZeros sizes st →
     AreEnoughForTables rows room sizes → HaveTableRoom rows room st
 have_table_room rows room sizes st zeros enough =
     let b = ap length zeros.wide ∙ length-replicate sizes.wide 0 in
-    let d = ap length zeros.kept_narrow ∙ length-replicate sizes.kept 0 in
-    let e = ap length zeros.kept_wide ∙ length-replicate sizes.kept 0 in
+    let e = ap length zeros.kept_wide ∙ length-replicate sizes.kept_wide 0 in
     let wides = enough.wide in
     let keeps = enough.kept in
     record {
       wide_room = omega (arith, b, wides);
-      kept_narrow_room = omega (arith, d, keeps);
       kept_wide_room = omega (arith, e, keeps);
     }
 
@@ -60,12 +62,27 @@ pub table_room_stays : (rows : Rows) (room : ℕ) (old new : Stores) → AreAsLo
     HaveTableRoom rows room old → HaveTableRoom rows room new
 table_room_stays rows room old new long has =
     let b = long.wide in
+    let e = long.kept_wide in
+    let wides = has.wide_room in
+    let keeps = has.kept_wide_room in
+    record {
+      wide_room = omega (arith, b, wides);
+      kept_wide_room = omega (arith, e, keeps);
+    }
+
+-- and for the schedules
+pub pass_room_stays : (s : Scheduled) (old new : Stores) → AreAsLong old new → HaveRoom s old → HaveRoom s new
+pass_room_stays s old new long has =
+    let a = long.narrow in
+    let b = long.wide in
     let d = long.kept_narrow in
     let e = long.kept_wide in
+    let narrows = has.narrow_room in
     let wides = has.wide_room in
     let keeps = has.kept_narrow_room in
     let keeps' = has.kept_wide_room in
     record {
+      narrow_room = omega (arith, a, narrows);
       wide_room = omega (arith, b, wides);
       kept_narrow_room = omega (arith, d, keeps);
       kept_wide_room = omega (arith, e, keeps');
@@ -121,3 +138,25 @@ long_yet old mid new first second = record {
   kept_narrow = second.kept_narrow ∙ first.kept_narrow;
   kept_wide = second.kept_wide ∙ first.kept_wide;
 }
+
+-- the rows of all nodes were made, and then kept
+pub made_long : (old widened made : Stores) → SlotsStay old widened → WroteWide widened made → AreAsLong old made
+made_long old widened made stays wrote =
+    long_yet old widened made (slots_long old widened stays) (wide_long widened made wrote)
+
+pub filled_long : (old widened made kept : Stores) → SlotsStay old widened → WroteWide widened made →
+    WroteKept made kept → AreAsLong old kept
+filled_long old widened made kept stays wrote wrote' =
+    long_yet old made kept (made_long old widened made stays wrote) (kept_long made kept wrote')
+
+-- what a pass keeps has room
+pub pass_keeps : (t : Tables) (pass : Passing) (m : ℕ) (st : Stores) (widths : List Bool) →
+    widths ≡ pass.schedule.narrow → IsPassOf t m pass → HaveRoom pass.schedule st →
+    (narrow_kept_room t.rows.rows widths ≤ length st.kept_narrow) × (kept_room t.rows.rows ≤ length st.kept_wide)
+pass_keeps t pass m st widths is pass_is has =
+    let sizes = pass_is.runs.follows.kept_are in
+    let narrow = sizes.narrow in
+    let wide = sizes.wide in
+    let room = has.kept_narrow_room in
+    let room' = has.kept_wide_room in
+    rw is (omega (arith, narrow, room), omega (arith, wide, room'))

@@ -68,7 +68,8 @@ fn spare_sizes(spare: &Option<Passing>) -> Sizes
         None => Sizes {
             narrow: 0,
             wide: 0,
-            kept: 0,
+            kept_narrow: 0,
+            kept_wide: 0,
         },
     }
 }

@@ -140,6 +140,7 @@ impl Tables {
     pub fn fill(&self, pass: &Passing, stores: &mut Stores, samples: Samples<'_>, spectra: usize)
         requires pass { (m : ℕ) × IsPassOf self.now m pass.now }
         requires room { HaveTableRoom self.now.rows.rows self.now.most stores.old }
+        requires pass_room { HaveRoom pass.now.schedule stores.old }
         requires samples { channels_of self.now.plan.edges * self.now.chunk
             ≤ length (values_of samples) + (self.now.chunk - spectra) }
         requires short { spectra ≤ self.now.most }
@@ -197,9 +198,10 @@ impl Tables {
 
     /// Writes what is kept for one pass as it is kept for another, which then goes on by it.
     pub fn keep_for(&self, pass: &Passing, next: &Passing, stores: &mut Stores)
-        requires narrow_room { next.now.schedule.kept_size ≤ length stores.old.kept_narrow }
-        requires wide_room { next.now.schedule.kept_size ≤ length stores.old.kept_wide }
+        requires pass { (m : ℕ) × IsPassOf self.now m pass.now }
         requires next { (m : ℕ) × IsPassOf self.now m next.now }
+        requires room { HaveRoom pass.now.schedule stores.old }
+        requires next_room { HaveRoom next.now.schedule stores.old }
         ensures stays { SlotsStay stores.old stores.new }
         ensures keeps { KeepsFor self.now pass.now next.now stores.old stores.new }
     {

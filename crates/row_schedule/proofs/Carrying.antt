@@ -14,14 +14,14 @@ use Rattle.row_schedule.specs.Samples.{AreNext}
 use Rattle.row_schedule.specs.Orders.{holds, is_made}
 use Rattle.row_schedule.specs.Schedules.{Scheduled}
 use Rattle.row_schedule.specs.Steps.{AreApart, makes_narrow, upper_narrow, lower_narrow, step_at}
-use Rattle.row_schedule.specs.Layout.{hold_of, slot_narrow, tail_of}
+use Rattle.row_schedule.specs.Layout.{hold_of, slot_narrow, tail_of, wide_hold}
 use Rattle.row_schedule.specs.Follows.{Follows, IsStep, BeginsAt}
 use Rattle.row_schedule.specs.Running.{Stores, Kept, KeepsRow, SlotHas, Running, kept_of, list_of, stores}
 use Rattle.row_schedule.specs.Making.{StepMade, next_value}
 use Rattle.row_schedule.specs.Moving.{AreWidened, AreNarrowed}
 use Rattle.row_schedule.specs.Laws.{BeginEmpty}
 use Rattle.row_schedule.proofs.Holding.{MakesIn, holds_here, holds_made, holds_none, holds_other, made_here, made_none, made_other, row_at, slot_at}
-use Rattle.row_schedule.proofs.Keeping.{held_apart}
+use Rattle.row_schedule.proofs.Keeping.{kept_apart}
 use Rattle.row_schedule.proofs.Values.{value_later, value_now, summed_value, sampled_value}
 
 -- no order was carried out
@@ -63,7 +63,7 @@ pub zeros : (rows : Rows) (narrow : List Bool) (y : Sums) (a b : List ℕ) (n m 
     Kept rows narrow y 0 (stores a b (replicate n 0) (replicate m 0))
 unfolding value_of
 zeros rows narrow y a b n m empty r lt i small =
-    by_width (is_narrow narrow r) (hold_of rows (is_narrow narrow r) r + i)
+    by_width (is_narrow narrow r) (hold_of rows narrow (is_narrow narrow r) r + i)
     ∙ ap (λ v. v % 2 ^ 32) (sym (empty r (0 + i) (tail_of rows r) (omega arith)))
   where
     by_width : (narrow : Bool) (k : ℕ) →
@@ -142,17 +142,18 @@ module _ (rows : Rows) (s : Scheduled) (x : ℕ → ℕ → ℕ) (y : Sums) (u s
   row_stays v r lt other keeps i small =
       let number = o.number in
       let w : Bool = is_narrow s.narrow r in
-      let k : ℕ = hold_of rows w r + i in
+      let k : ℕ = hold_of rows s.narrow w r + i in
       elim (same_or_not w width) [
         | inr off ↦ ap (λ xs. slice_index xs k) (kept_stays w off) ∙ keeps i small
         | inl on ↦
             let is = is_step in
             let tail = is.tail in
-            let hold : step.hold ≡ hold_of rows w (row_at s.orders j) =
-            is.hold ∙ ap (λ b. hold_of rows b (row_at s.orders j)) (sym (on ∙ is.width)) in
+            let hold : step.hold ≡ hold_of rows s.narrow w (row_at s.orders j) =
+            is.hold ∙ ap (λ b. hold_of rows s.narrow b (row_at s.orders j)) (sym (on ∙ is.width)) in
             let ready = o.follows.order j number in
             let apart : AreApart k 1 step.hold step.tail = elim
-            (held_apart s.channels rows o.follows.rows_are r (row_at s.orders j) lt ready.row (λ e. other (sym e))) [
+            (kept_apart s.channels rows o.follows.rows_are s.narrow w r (row_at s.orders j) lt ready.row refl
+            (sym (on ∙ is.width)) (λ e. other (sym e))) [
               | inl one ↦ inl (omega arith)
               | inr two ↦ inr (omega arith)
             ] in
@@ -230,7 +231,7 @@ module _ (rows : Rows) (s : Scheduled) (x : ℕ → ℕ → ℕ) (y : Sums) (u s
             ∙ ap (λ p. slice_index (list_of width new) (p + i)) (sym out)
             ∙ o.made.own.front i (omega arith)
             ∙ ap (λ p. slice_index (kept_of width old) (p + i)) is.hold
-            ∙ ap (λ v. slice_index (kept_of v old) (hold_of rows (is_narrow s.narrow r) r + i)) is.width
+            ∙ ap (λ v. slice_index (kept_of v old) (hold_of rows s.narrow (is_narrow s.narrow r) r + i)) is.width
             ∙ keeps
         | inr behind ↦
             let q : ℕ = i - tail_of rows r in
@@ -251,7 +252,7 @@ module _ (rows : Rows) (s : Scheduled) (x : ℕ → ℕ → ℕ) (y : Sums) (u s
       let ready = o.follows.order j o.number in
       let r : ℕ = row_at s.orders j in
       let on : slot_narrow s.slots (slot_at s.orders j) ≡ width = ready.width ∙ sym is.width in
-      ap (λ v. slice_index (kept_of v new) (hold_of rows (is_narrow s.narrow r) r + i)) (sym is.width)
+      ap (λ v. slice_index (kept_of v new) (hold_of rows s.narrow (is_narrow s.narrow r) r + i)) (sym is.width)
       ∙ ap (λ p. slice_index (kept_of width new) (p + i)) (sym is.hold)
       ∙ o.made.own.keeps i (omega arith)
       ∙ ap (λ p. slice_index (list_of width new) (p + (spectra + i))) out
@@ -309,35 +310,36 @@ pub widened : (rows : Rows) (narrow none : List Bool) (y : Sums) (u : ℕ) (a b 
     ((r : ℕ) → is_narrow none r ≡ false) → AreWidened rows narrow (row_count rows) kept_narrow old new →
     Kept rows narrow y u (stores a b kept_narrow old) → Kept rows none y u (stores a b kept_narrow new)
 widened rows narrow none y u a b kept_narrow old new off moved kept r lt i small =
-    ap (λ v. slice_index (kept_of v (stores a b kept_narrow new)) (hold_of rows v r + i)) (off r)
+    ap (λ v. slice_index (kept_of v (stores a b kept_narrow new)) (hold_of rows none v r + i)) (off r)
     ∙ by_width (is_narrow narrow r) refl
     ∙ kept r lt i small
   where
-    by_width : (v : Bool) → is_narrow narrow r ≡ v → slice_index new (hold_of rows false r + i)
-        ≡ slice_index (kept_of v (stores a b kept_narrow old)) (hold_of rows v r + i)
+    by_width : (v : Bool) → is_narrow narrow r ≡ v → slice_index new (wide_hold rows r + i)
+        ≡ slice_index (kept_of v (stores a b kept_narrow old)) (hold_of rows narrow v r + i)
     by_width true on = moved.moved r i lt small on
-    by_width false no_narrow = moved.stays r i lt small (inr no_narrow)
+    by_width false no_narrow = moved.stays r i lt small no_narrow
 
 -- and in 16 bits
 pub narrowed : (rows : Rows) (narrow none : List Bool) (y : Sums) (u : ℕ) (a b kept_wide old new : List ℕ) →
     ((r : ℕ) → is_narrow none r ≡ false) → Fit narrow y u →
-    AreNarrowed rows narrow (row_count rows) kept_wide old new →
+    AreNarrowed rows narrow (row_count rows) kept_wide new →
     Kept rows none y u (stores a b old kept_wide) → Kept rows narrow y u (stores a b new kept_wide)
 unfolding value_of
 narrowed rows narrow none y u a b kept_wide old new off fits moved kept r lt i small =
     by_width (is_narrow narrow r) refl
   where
-    was : slice_index kept_wide (hold_of rows false r + i) ≡ value_of y rows.tails.items u r i
+    was : slice_index kept_wide (wide_hold rows r + i) ≡ value_of y rows.tails.items u r i
     was =
-        sym (ap (λ v. slice_index (kept_of v (stores a b old kept_wide)) (hold_of rows v r + i)) (off r))
+        sym (ap (λ v. slice_index (kept_of v (stores a b old kept_wide)) (hold_of rows none v r + i)) (off r))
         ∙ kept r lt i small
 
     by_width : (v : Bool) → is_narrow narrow r ≡ v →
-        slice_index (kept_of v (stores a b new kept_wide)) (hold_of rows v r + i) ≡ value_of y rows.tails.items u r i
+        slice_index (kept_of v (stores a b new kept_wide)) (hold_of rows narrow v r + i)
+        ≡ value_of y rows.tails.items u r i
     by_width false _ = was
     by_width true on =
         let fit = fits r (u + i) (tail_of rows r) on (omega arith) in
         let whole : y r (u + i) (tail_of rows r) % 2 ^ 32 ≡ y r (u + i) (tail_of rows r) = mod-eq_of_lt (omega arith) in
         let low : y r (u + i) (tail_of rows r) % 2 ^ 16 ≡ y r (u + i) (tail_of rows r) = mod-eq_of_lt fit in
-        moved.moved r i lt small on
+        moved r i lt small on
         ∙ ap (λ z. z % 2 ^ 16) (was ∙ whole) ∙ low ∙ sym whole

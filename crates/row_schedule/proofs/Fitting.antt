@@ -1,5 +1,5 @@
 -- The steps of orders read and write within the lists.
-use Rattle.std.proofs.Common.{◌≡◌, ◌≢◌, ℕ, suc, ◌+◌, ◌*◌, ◌≤◌, ◌<◌, true, false, Bool, List, [], ◌∷◌, ◌++◌, Some, length, slice_get, slice_index, slice_index_or, arith, sym, ap, subst, ◌∙◌, inl, inr}
+use Rattle.std.proofs.Common.{◌≡◌, ◌≢◌, ℕ, suc, ◌+◌, ◌*◌, ◌≤◌, ◌<◌, true, false, Bool, List, [], ◌∷◌, ◌++◌, Some, length, slice_get, slice_index, slice_index_or, refl, arith, sym, ap, subst, ◌∙◌, inl, inr}
 use Rattle.std.proofs.lemmas.Bool.{cases_lt}
 use Rattle.std.proofs.lemmas.List.{get_or_append_left, length_push}
 use Rattle.std.proofs.lemmas.Option.{slice_get-get_or}
@@ -17,11 +17,11 @@ use Rattle.row_schedule.specs.declared.step.Step.{Step}
 use Rattle.row_schedule.specs.Orders.{AreInOrder, MakeAll, StandsBeside, order_at, holds}
 use Rattle.row_schedule.specs.Marks.{AreMadeOnce, slot_of}
 use Rattle.row_schedule.specs.Schedules.{Scheduled}
-use Rattle.row_schedule.specs.Steps.{AreApart, IsSafe, PartFits, StepFits, copies, lower_narrow, makes_narrow, size_of, step_at, upper_narrow}
-use Rattle.row_schedule.specs.Layout.{AreLaid, AreSizes, AreWithin, hold_of, kept_room, slot_narrow, tail_of}
-use Rattle.row_schedule.specs.Follows.{AddsRows, AreSteps, BeginsAt, Follows, IsStep, StandApart}
+use Rattle.row_schedule.specs.Steps.{AreApart, IsSafe, PartFits, StepFits, copies, kept_size_of, lower_narrow, makes_narrow, size_of, step_at, upper_narrow}
+use Rattle.row_schedule.specs.Layout.{AreLaid, AreSizes, AreWithin, hold_of, slot_narrow, tail_of}
+use Rattle.row_schedule.specs.Follows.{AddsRows, AreKeptSizes, AreSteps, BeginsAt, Follows, IsStep, StandApart}
 use Rattle.row_schedule.proofs.Holding.{MakesIn, holds_made, held_found, slot_at, row_at}
-use Rattle.row_schedule.proofs.Keeping.{held_within}
+use Rattle.row_schedule.proofs.Keeping.{held_within, narrow_within}
 
 pub once_of : (rows : Rows) (narrow slots : List Bool) (orders : List Order) → AreInOrder rows narrow slots orders →
     AreMadeOnce orders
@@ -90,18 +90,25 @@ own_fits rows s sizes j step lt order laid are is =
 
 -- and what is kept of its row
 kept_fits : (channels : ℕ) (rows : Rows) → AreRows channels rows → (s : Scheduled) (j : ℕ) (step : Step) →
-    j < length s.orders → AreInOrder rows s.narrow s.slots s.orders → s.kept_size ≡ kept_room rows →
-    IsStep rows s.narrow s.orders s.places s.chunk j step → step.hold + step.tail ≤ s.kept_size
+    j < length s.orders → AreInOrder rows s.narrow s.slots s.orders → AreKeptSizes rows s →
+    IsStep rows s.narrow s.orders s.places s.chunk j step → step.hold + step.tail ≤ kept_size_of s (makes_narrow step.kind)
 kept_fits channels rows are s j step lt order kept is =
     let hold = is.hold in
     let tail = is.tail in
-    let within = held_within channels rows are (row_at s.orders j) (order j lt).row in
-    let least = by_width (is_narrow s.narrow (row_at s.orders j)) in
+    let within = by_width (is_narrow s.narrow (row_at s.orders j)) refl in
+    let size = ap (kept_size_of s) is.width in
     omega arith
   where
-    by_width : (b : Bool) → hold_of rows b (row_at s.orders j) ≤ 24 + slice_index rows.held.items (row_at s.orders j)
-    by_width true = omega arith
-    by_width false = omega arith
+    by_width : (w : Bool) → is_narrow s.narrow (row_at s.orders j) ≡ w →
+        hold_of rows s.narrow w (row_at s.orders j) + tail_of rows (row_at s.orders j) ≤ kept_size_of s w
+    by_width true on =
+        let within = narrow_within rows s.narrow (row_at s.orders j) (order j lt).row on in
+        let size = kept.narrow in
+        omega arith
+    by_width false off =
+        let within = held_within channels rows are (row_at s.orders j) (order j lt).row in
+        let size = kept.wide in
+        omega arith
 
 -- a row that is added is within its list, and apart from what the step makes
 part_fits : (rows : Rows) (s : Scheduled) (sizes : List ℕ) (j : ℕ) (step : Step) (r late place : ℕ) (width : Bool) →
@@ -147,7 +154,7 @@ channel_fits c channels chunk lt =
     omega arith
 
 pub step_fits : (rows : Rows) (s : Scheduled) → AreRows s.channels rows → (sizes : List ℕ) (j : ℕ) (step : Step) →
-    j < length s.orders → AreInOrder rows s.narrow s.slots s.orders → s.kept_size ≡ kept_room rows →
+    j < length s.orders → AreInOrder rows s.narrow s.slots s.orders → AreKeptSizes rows s →
     AreLaid s.slots sizes (length s.slots) s.places s.narrow_size s.wide_size →
     AreSizes rows s.orders (length s.slots) s.most sizes → IsStep rows s.narrow s.orders s.places s.chunk j step →
     StepFits s step
@@ -188,7 +195,7 @@ pub copy_step_is : (rows : Rows) (narrow : List Bool) (orders : List Order) (pla
     (kind : Kind) (tail hold lower c : ℕ) → o ≡ order_at orders j →
     slice_get rows.sources.items o.row ≡ Some (Channel c) → copies kind ≡ true →
     makes_narrow kind ≡ is_narrow narrow o.row → tail ≡ tail_of rows o.row →
-    hold ≡ hold_of rows (is_narrow narrow o.row) o.row → IsStep rows narrow orders places chunk j (record {
+    hold ≡ hold_of rows narrow (is_narrow narrow o.row) o.row → IsStep rows narrow orders places chunk j (record {
       kind = kind;
       tail = tail;
       out = slice_index places o.slot;
@@ -199,7 +206,7 @@ pub copy_step_is : (rows : Rows) (narrow : List Bool) (orders : List Order) (pla
 copy_step_is rows narrow orders places chunk j o kind tail hold lower c is source copy width tail_is hold_is = record {
   out = ap (λ (o : Order). slice_index places o.slot) is;
   tail = tail_is ∙ ap (λ (o : Order). tail_of rows o.row) is;
-  hold = hold_is ∙ ap (λ (o : Order). hold_of rows (is_narrow narrow o.row) o.row) is;
+  hold = hold_is ∙ ap (λ (o : Order). hold_of rows narrow (is_narrow narrow o.row) o.row) is;
   width = width ∙ ap (λ (o : Order). is_narrow narrow o.row) is;
   channel = λ d e.
       let both = sym source ∙ ap (λ (o : Order). slice_get rows.sources.items o.row) is ∙ e in
@@ -217,7 +224,7 @@ pub sum_step_is : (rows : Rows) (narrow slots : List Bool) (orders : List Order)
     slice_get rows.sources.items (row_at orders j) ≡ Some (Sum m) → copies kind ≡ false →
     makes_narrow kind ≡ is_narrow narrow o.row → upper_narrow kind ≡ is_narrow narrow m.upper →
     lower_narrow kind ≡ is_narrow narrow m.lower → tail ≡ tail_of rows o.row →
-    hold ≡ hold_of rows (is_narrow narrow o.row) o.row →
+    hold ≡ hold_of rows narrow (is_narrow narrow o.row) o.row →
     upper + m.late ≡ slice_index places up.slot + tail_of rows m.upper →
     lower ≡ slice_index places low.slot + tail_of rows m.lower → IsStep rows narrow orders places chunk j (record {
       kind = kind;
@@ -231,7 +238,7 @@ sum_step_is rows narrow slots orders places chunk j o kind tail hold upper lower
     upper_width lower_width tail_is hold_is upper_is lower_is = record {
       out = ap (λ (o : Order). slice_index places o.slot) is;
       tail = tail_is ∙ ap (λ (o : Order). tail_of rows o.row) is;
-      hold = hold_is ∙ ap (λ (o : Order). hold_of rows (is_narrow narrow o.row) o.row) is;
+      hold = hold_is ∙ ap (λ (o : Order). hold_of rows narrow (is_narrow narrow o.row) o.row) is;
       width = width ∙ ap (λ (o : Order). is_narrow narrow o.row) is;
       channel = λ d e. absurd (let both = sym source ∙ e in cc);
       sum = λ m' e.
@@ -276,7 +283,7 @@ steps_more rows narrow orders places chunk j steps steps' step are long items is
 
 -- what was laid is safe, and follows the orders
 pub is_safe : (rows : Rows) (s : Scheduled) → AreRows s.channels rows → (sizes : List ℕ) →
-    AreInOrder rows s.narrow s.slots s.orders → s.kept_size ≡ kept_room rows →
+    AreInOrder rows s.narrow s.slots s.orders → AreKeptSizes rows s →
     AreLaid s.slots sizes (length s.slots) s.places s.narrow_size s.wide_size →
     AreSizes rows s.orders (length s.slots) s.most sizes → length s.steps ≡ length s.orders →
     AreSteps rows s.narrow s.orders s.places s.chunk s.steps → s.most ≤ s.chunk → IsSafe s
@@ -289,7 +296,7 @@ is_safe rows s rows_are sizes order kept laid are entries steps within = record 
 }
 
 pub follows : (rows : Rows) (s : Scheduled) → AreRows s.channels rows → (sizes : List ℕ) →
-    AreInOrder rows s.narrow s.slots s.orders → MakeAll rows s.orders → s.kept_size ≡ kept_room rows →
+    AreInOrder rows s.narrow s.slots s.orders → MakeAll rows s.orders → AreKeptSizes rows s →
     AreLaid s.slots sizes (length s.slots) s.places s.narrow_size s.wide_size →
     AreSizes rows s.orders (length s.slots) s.most sizes → length s.steps ≡ length s.orders →
     AreSteps rows s.narrow s.orders s.places s.chunk s.steps → Follows rows s
@@ -300,5 +307,5 @@ follows rows s rows_are sizes order all kept laid are entries steps = record {
   entries = entries;
   steps_are = steps;
   apart = stand_apart rows s sizes laid are (within_of rows s.narrow s.slots s.orders order);
-  kept_is = kept;
+  kept_are = kept;
 }

@@ -1,5 +1,5 @@
 -- Rows that are made each at a place of its own.
-use Rattle.std.proofs.Common.{◌≡◌, ◌≢◌, ℕ, suc, ◌+◌, ◌-◌, ◌*◌, ◌%◌, ◌^◌, ◌≤◌, ◌<◌, false, List, Some, slice_get, slice_index, arith, sym, ap, subst, ◌∙◌, refl, inl, inr}
+use Rattle.std.proofs.Common.{◌≡◌, ◌≢◌, ℕ, suc, ◌+◌, ◌-◌, ◌*◌, ◌%◌, ◌^◌, ◌≤◌, ◌<◌, List, Some, slice_get, slice_index, arith, sym, ap, subst, ◌∙◌, refl, inl, inr}
 use Rattle.std.proofs.Math.Nat.{mul-le-mul_right, suc-mul}
 use Rattle.std.proofs.lemmas.Bool.{cases_lt, cases_eq}
 use Rattle.fdmt_rows.specs.Rows.{wrapping_sum}
@@ -9,7 +9,7 @@ use Rattle.row_model.specs.declared.Source.TheVariants.{Channel, Sum}
 use Rattle.row_model.specs.Sums.{Sums, AddUp, value_of}
 use Rattle.row_model.specs.Tails.{AreRows, row_count}
 use Rattle.row_schedule.specs.Steps.{AreApart}
-use Rattle.row_schedule.specs.Layout.{hold_of, tail_of}
+use Rattle.row_schedule.specs.Layout.{tail_of, wide_hold}
 use Rattle.row_schedule.specs.Making.{Puts}
 use Rattle.row_schedule.specs.Filling.{AddsSources, AreGiven, AreKeptOn, GoesOnBy, KeepsOn, KeepsWide, StandsAtPlace, own_place}
 use Rattle.row_schedule.proofs.Keeping.{held_apart}
@@ -68,7 +68,7 @@ pub sum_stands : (rows : Rows) (x : ℕ → ℕ → ℕ) (y : Sums) (u room spec
     StandsAtPlace room y u spectra new r
 sum_stands rows x y u room spectra r m kept old new adds is le keeps upper lower added i lt =
     let late : ℕ = m.late in
-    let at : ℕ = hold_of rows false m.upper in
+    let at : ℕ = wide_hold rows m.upper in
     let same : 0 + late ≡ late = omega arith in
     let below = lower i lt in
     let sum : y m.upper (u + i) late + y m.lower (u + i) 0 ≡ y r (u + i) 0 =
@@ -124,12 +124,12 @@ none_kept_on rows room spectra wide xs = record {
 
 pub one_kept_on : (channels : ℕ) (rows : Rows) → AreRows channels rows → (room spectra r : ℕ)
     (wide first mid new : List ℕ) → r < row_count rows →
-    GoesOnBy (hold_of rows false r) (tail_of rows r) (own_place room r) spectra wide mid new →
+    GoesOnBy (wide_hold rows r) (tail_of rows r) (own_place room r) spectra wide mid new →
     AreKeptOn rows room spectra r wide first mid → AreKeptOn rows room spectra (r + 1) wide first new
 one_kept_on channels rows are room spectra r wide first mid new in_r goes so_far =
     let other : (q i : ℕ) → q < row_count rows → q ≢ r → i < tail_of rows q →
-    slice_index new (hold_of rows false q + i) ≡ slice_index mid (hold_of rows false q + i) = λ q i in_q not_r lt.
-    goes.stays (hold_of rows false q + i) (elim (held_apart channels rows are q r in_q in_r not_r) [
+    slice_index new (wide_hold rows q + i) ≡ slice_index mid (wide_hold rows q + i) = λ q i in_q not_r lt.
+    goes.stays (wide_hold rows q + i) (elim (held_apart channels rows are q r in_q in_r not_r) [
       | inl before ↦ inl (omega arith)
       | inr after ↦ inr (omega arith)
     ]) in
@@ -140,8 +140,8 @@ one_kept_on channels rows are room spectra r wide first mid new in_r goes so_far
         | inr last ↦
             let e : r ≡ q = omega arith in
             let here : i + spectra < tail_of rows r = subst (λ q. i + spectra < tail_of rows q) (sym e) small in
-            subst (λ q. slice_index new (hold_of rows false q + i)
-            ≡ slice_index first (hold_of rows false q + (spectra + i))) e
+            subst (λ q. slice_index new (wide_hold rows q + i)
+            ≡ slice_index first (wide_hold rows q + (spectra + i))) e
             (goes.left i here ∙ so_far.stays r (spectra + i) in_r (omega arith) (omega arith))
       ];
       new_ones = λ q i lt within past. elim (cases_lt q r) [
@@ -151,7 +151,7 @@ one_kept_on channels rows are room spectra r wide first mid new in_r goes so_far
             let e : r ≡ q = omega arith in
             let here : i < tail_of rows r = subst (λ q. i < tail_of rows q) (sym e) within in
             let after : tail_of rows r ≤ i + spectra = subst (λ q. tail_of rows q ≤ i + spectra) (sym e) past in
-            subst (λ q. slice_index new (hold_of rows false q + i)
+            subst (λ q. slice_index new (wide_hold rows q + i)
             ≡ slice_index wide (own_place room q + (i + spectra - tail_of rows q))) e
             (goes.new_ones i here after)
       ];

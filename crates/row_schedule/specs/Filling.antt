@@ -1,7 +1,7 @@
 -- Rows that are made each at a place of its own, and all stand there. What is kept of a row does not
 -- stand in front of it.
 -- Source: this project's choice.
-use Rattle.std.specs.Prelude.{◌≡◌, ◌≢◌, ℕ, ◌+◌, ◌-◌, ◌*◌, ◌%◌, ◌^◌, ◌≤◌, ◌<◌, false, List, Some, length, slice_get, slice_index}
+use Rattle.std.specs.Prelude.{◌≡◌, ◌≢◌, ℕ, ◌+◌, ◌-◌, ◌*◌, ◌%◌, ◌^◌, ◌≤◌, ◌<◌, List, Some, length, slice_get, slice_index}
 use Rattle.fdmt_rows.specs.Rows.{wrapping_sum}
 use Rattle.row_model.specs.declared.Merge.{Merge}
 use Rattle.row_model.specs.declared.Rows.{Rows}
@@ -11,7 +11,7 @@ use Rattle.row_model.specs.Tails.{AreRows, row_count}
 use Rattle.row_schedule.specs.declared.lead.TheConstants.{LEAD}
 use Rattle.row_schedule.specs.Samples.{AreNext}
 use Rattle.row_schedule.specs.Steps.{AreApart}
-use Rattle.row_schedule.specs.Layout.{hold_of, kept_room, tail_of}
+use Rattle.row_schedule.specs.Layout.{kept_room, tail_of, wide_hold}
 use Rattle.row_schedule.specs.Running.{Stores}
 
 -- the place of row r, where each row has one of so many values
@@ -22,10 +22,9 @@ own_place room r = LEAD + r * room
 abbrev pub table_size : Rows → ℕ → ℕ
 table_size rows room = own_place room (row_count rows)
 
--- there is room for all rows at their places, and for what is kept of them
+-- there is room for all rows at their places, and for what is kept of them in 32 bits
 pub record HaveTableRoom (rows : Rows) (room : ℕ) (st : Stores) : Type 0 where
   pub wide_room : table_size rows room ≤ length st.wide
-  pub kept_narrow_room : kept_room rows ≤ length st.kept_narrow
   pub kept_wide_room : kept_room rows ≤ length st.kept_wide
 
 -- row r stands at its place, with the values that end at so many spectra from spectrum u on
@@ -36,7 +35,7 @@ StandsAtPlace room y u spectra wide r = (i : ℕ) → i < spectra →
 -- a list has what is kept in 32 bits of row r before the sums that end at spectrum u
 abbrev pub KeepsWide : Rows → Sums → ℕ → List ℕ → ℕ → Type 0
 KeepsWide rows y u kept r = (i : ℕ) → i < tail_of rows r →
-    slice_index kept (hold_of rows false r + i) ≡ value_of y rows.tails.items u r i
+    slice_index kept (wide_hold rows r + i) ≡ value_of y rows.tails.items u r i
 
 -- a row is not made of itself
 pub record IsOfOthers (rows : Rows) (r : ℕ) : Type 0 where
@@ -78,7 +77,7 @@ pub record AddsLate (late held upper lower at count : ℕ) (kept old new : List 
 -- those of the rows that row r is made of were, each row at its place
 abbrev pub AddsSources : Rows → Merge → ℕ → ℕ → ℕ → List ℕ → List ℕ → List ℕ → Type 0
 AddsSources rows m r room spectra kept old new = AddsLate m.late
-    (hold_of rows false m.upper + (tail_of rows m.upper - m.late)) (own_place room m.upper)
+    (wide_hold rows m.upper + (tail_of rows m.upper - m.late)) (own_place room m.upper)
     (own_place room m.lower) (own_place room r) spectra kept old new
 
 -- `size` values of a list go on by so many others: these come last, and as many were left out in
@@ -93,13 +92,13 @@ pub record GoesOnBy (at size from count : ℕ) (others old new : List ℕ) : Typ
 -- what is kept of the first r rows goes on by the values that stand at their places
 pub record AreKeptOn (rows : Rows) (room spectra r : ℕ) (wide old new : List ℕ) : Type 0 where
   pub left : (q i : ℕ) → q < r → i + spectra < tail_of rows q →
-      slice_index new (hold_of rows false q + i)
-      ≡ slice_index old (hold_of rows false q + (spectra + i))
+      slice_index new (wide_hold rows q + i)
+      ≡ slice_index old (wide_hold rows q + (spectra + i))
   pub new_ones : (q i : ℕ) → q < r → i < tail_of rows q → tail_of rows q ≤ i + spectra →
-      slice_index new (hold_of rows false q + i)
+      slice_index new (wide_hold rows q + i)
       ≡ slice_index wide (own_place room q + (i + spectra - tail_of rows q))
   pub stays : (q i : ℕ) → q < row_count rows → r ≤ q → i < tail_of rows q →
-      slice_index new (hold_of rows false q + i) ≡ slice_index old (hold_of rows false q + i)
+      slice_index new (wide_hold rows q + i) ≡ slice_index old (wide_hold rows q + i)
 
 -- so it is kept of all rows for the next spectra
 abbrev pub KeepsOn : Rows → ℕ → ℕ → List ℕ → List ℕ → List ℕ → Type 0

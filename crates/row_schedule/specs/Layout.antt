@@ -1,7 +1,8 @@
 -- Where slots stand, and where what is kept of rows does.
 -- Source: this project's choice.
-use Rattle.std.specs.Prelude.{◌≡◌, ◌≢◌, ℕ, ◌+◌, ◌^◌, ◌≤◌, ◌<◌, false, Bool, List, length, slice_index, slice_index_or, if◌then◌else◌}
+use Rattle.std.specs.Prelude.{◌≡◌, ◌≢◌, ℕ, ◌+◌, ◌^◌, ◌≤◌, ◌<◌, false, Bool, List, zero, suc, length, slice_index, slice_index_or, if◌then◌else◌}
 use Rattle.row_model.specs.declared.Rows.{Rows}
+use Rattle.row_model.specs.Sums.{is_narrow}
 use Rattle.row_model.specs.Tails.{row_count}
 use Rattle.row_schedule.specs.declared.builder.Order.{Order}
 use Rattle.row_schedule.specs.declared.lead.TheConstants.{LEAD, NARROW_LEAD}
@@ -17,16 +18,36 @@ slot_narrow slots slot = slice_index_or slots slot false
 abbrev pub tail_of : Rows → ℕ → ℕ
 tail_of rows r = slice_index rows.tails.items r
 
--- where they begin, behind those that are not used in front of all
-abbrev pub lead_of : Bool → ℕ
-lead_of narrow = if narrow then NARROW_LEAD else LEAD
+-- where they begin in 32 bits, behind those that are not used in front of all: all rows have room
+abbrev pub wide_hold : Rows → ℕ → ℕ
+wide_hold rows r = LEAD + slice_index rows.held.items r
 
-abbrev pub hold_of : Rows → Bool → ℕ → ℕ
-hold_of rows narrow r = lead_of narrow + slice_index rows.held.items r
+-- how many values are kept in 16 bits of the rows before row r
+unfoldable pub narrow_before : Rows → List Bool → ℕ → ℕ
+narrow_before rows narrow zero = 0
+narrow_before rows narrow (suc r) =
+    narrow_before rows narrow r + (if is_narrow narrow r then tail_of rows r else 0)
 
--- how much room there is for what is kept of all rows, in either width
+-- where they begin in 16 bits: the rows of these alone have room
+abbrev pub narrow_hold : Rows → List Bool → ℕ → ℕ
+narrow_hold rows narrow r = NARROW_LEAD + narrow_before rows narrow r
+
+-- where they begin in the list of a width
+abbrev pub hold_of : Rows → List Bool → Bool → ℕ → ℕ
+hold_of rows narrow width r = if width then narrow_hold rows narrow r else wide_hold rows r
+
+-- how much room there is for what is kept of all rows in 32 bits
 abbrev pub kept_room : Rows → ℕ
-kept_room rows = NARROW_LEAD + slice_index rows.held.items (row_count rows)
+kept_room rows = wide_hold rows (row_count rows)
+
+-- and in 16 bits
+abbrev pub narrow_kept_room : Rows → List Bool → ℕ
+narrow_kept_room rows narrow = narrow_hold rows narrow (row_count rows)
+
+-- a list says where they begin in 16 bits of each row, and then where those of the last end
+pub record AreNarrowHolds (rows : Rows) (narrow : List Bool) (held : List ℕ) : Type 0 where
+  pub entries : length held ≡ row_count rows + 1
+  pub each : (r : ℕ) → r ≤ row_count rows → slice_index held r ≡ narrow_hold rows narrow r
 
 -- orders speak of rows that there are, and of the first slots
 abbrev pub AreWithin : Rows → List Order → ℕ → Type 0

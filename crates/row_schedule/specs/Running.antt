@@ -28,8 +28,8 @@ stores narrow wide kept_narrow kept_wide = record {
 pub record HaveRoom (s : Scheduled) (st : Stores) : Type 0 where
   pub narrow_room : s.narrow_size ≤ length st.narrow
   pub wide_room : s.wide_size ≤ length st.wide
-  pub kept_narrow_room : s.kept_size ≤ length st.kept_narrow
-  pub kept_wide_room : s.kept_size ≤ length st.kept_wide
+  pub kept_narrow_room : s.kept_narrow_size ≤ length st.kept_narrow
+  pub kept_wide_room : s.kept_wide_size ≤ length st.kept_wide
 
 -- each list is as long as it was
 pub record AreAsLong (old new : Stores) : Type 0 where
@@ -48,7 +48,7 @@ kept_of narrow st = if narrow then st.kept_narrow else st.kept_wide
 -- value i of what is kept of row r
 abbrev pub kept_value : Rows → List Bool → Stores → ℕ → ℕ → ℕ
 kept_value rows narrow st r i =
-    slice_index (kept_of (is_narrow narrow r) st) (hold_of rows (is_narrow narrow r) r + i)
+    slice_index (kept_of (is_narrow narrow r) st) (hold_of rows narrow (is_narrow narrow r) r + i)
 
 -- value i of a slot
 abbrev pub slot_value : Scheduled → Stores → ℕ → ℕ → ℕ

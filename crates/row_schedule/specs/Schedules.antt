@@ -21,8 +21,8 @@ IsInOrder rows b = AreInOrder rows b.narrow b.slots b.orders
 
 -- Rows are made of up to `most` spectra at a time, over so many channels, of which the samples are
 -- `chunk` places apart. `places` says where each slot begins in the list of its width. The lists have
--- so many values or more, and what is kept of the rows has `kept_size` or more. `steps` says for each
--- order which values are read and written.
+-- so many values or more, also those of what is kept of the rows. `steps` says for each order which
+-- values are read and written.
 pub record Scheduled : Type 0 where
   pub channels : ℕ
   pub chunk : ℕ
@@ -34,12 +34,13 @@ pub record Scheduled : Type 0 where
   pub steps : List Step
   pub narrow_size : ℕ
   pub wide_size : ℕ
-  pub kept_size : ℕ
+  pub kept_narrow_size : ℕ
+  pub kept_wide_size : ℕ
 
 abbrev pub scheduled : ℕ → ℕ → ℕ → List Bool → List Bool → List Order → List ℕ → List Step →
-    ℕ → ℕ → ℕ → Scheduled
-scheduled channels chunk most narrow slots orders places steps narrow_size wide_size kept_size =
-    record {
+    ℕ → ℕ → ℕ → ℕ → Scheduled
+scheduled channels chunk most narrow slots orders places steps narrow_size wide_size kept_narrow_size
+    kept_wide_size = record {
       channels = channels;
       chunk = chunk;
       most = most;
@@ -50,7 +51,8 @@ scheduled channels chunk most narrow slots orders places steps narrow_size wide_
       steps = steps;
       narrow_size = narrow_size;
       wide_size = wide_size;
-      kept_size = kept_size;
+      kept_narrow_size = kept_narrow_size;
+      kept_wide_size = kept_wide_size;
     }
 
 -- a schedule of these orders, for up to `most` spectra at a time of so many channels, the samples of

@@ -12,16 +12,17 @@ use Rattle.row_schedule.specs.Filling.{table_size}
 pub record AreEnough (s : Scheduled) (sizes : Sizes) : Type 0 where
   pub narrow : s.narrow_size ≤ sizes.narrow
   pub wide : s.wide_size ≤ sizes.wide
-  pub kept : s.kept_size ≤ sizes.kept
+  pub kept_narrow : s.kept_narrow_size ≤ sizes.kept_narrow
+  pub kept_wide : s.kept_wide_size ≤ sizes.kept_wide
 
 -- or as rows need that are made each at a place of its own
 pub record AreEnoughForTables (rows : Rows) (room : ℕ) (sizes : Sizes) : Type 0 where
   pub wide : table_size rows room ≤ sizes.wide
-  pub kept : kept_room rows ≤ sizes.kept
+  pub kept : kept_room rows ≤ sizes.kept_wide
 
 -- lists of as many zeros
 pub record AreZeros (sizes : Sizes) (st : Stores) : Type 0 where
   pub narrow : st.narrow ≡ replicate sizes.narrow 0
   pub wide : st.wide ≡ replicate sizes.wide 0
-  pub kept_narrow : st.kept_narrow ≡ replicate sizes.kept 0
-  pub kept_wide : st.kept_wide ≡ replicate sizes.kept 0
+  pub kept_narrow : st.kept_narrow ≡ replicate sizes.kept_narrow 0
+  pub kept_wide : st.kept_wide ≡ replicate sizes.kept_wide 0

@@ -65,6 +65,10 @@ AreApart a n b m = (a + n ≤ b) ⊎ (b + m ≤ a)
 abbrev pub size_of : Scheduled → Bool → ℕ
 size_of s narrow = if narrow then s.narrow_size else s.wide_size
 
+-- and that of what is kept
+abbrev pub kept_size_of : Scheduled → Bool → ℕ
+kept_size_of s narrow = if narrow then s.kept_narrow_size else s.kept_wide_size
+
 -- values of rows of a width that are added from a place on are there, apart from those that the
 -- step makes
 pub record PartFits (s : Scheduled) (step : Step) (narrow : Bool) (place : ℕ) : Type 0 where
@@ -75,7 +79,7 @@ pub record PartFits (s : Scheduled) (step : Step) (narrow : Bool) (place : ℕ) 
 -- a step reads and writes within the lists
 pub record StepFits (s : Scheduled) (step : Step) : Type 0 where
   pub own : step.out + (step.tail + s.most) ≤ size_of s (makes_narrow step.kind)
-  pub kept : step.hold + step.tail ≤ s.kept_size
+  pub kept : step.hold + step.tail ≤ kept_size_of s (makes_narrow step.kind)
   pub samples : copies step.kind ≡ true → step.upper + s.chunk ≤ s.channels * s.chunk
   pub upper : copies step.kind ≡ false → PartFits s step (upper_narrow step.kind) step.upper
   pub lower : copies step.kind ≡ false → PartFits s step (lower_narrow step.kind) step.lower

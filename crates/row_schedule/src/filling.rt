@@ -11,7 +11,7 @@ ghost use Rattle.row_schedule.specs.Filling.{AddsLate, AddsSources, AreGiven, Ar
 
 use crate::lead::LEAD;
 use crate::making::{add_parts, beside, copy_part, copy_samples};
-use crate::reading::{hold, source, tail};
+use crate::reading::{source, tail, wide_hold};
 use crate::samples::Samples;
 use fdmt_rows::add_rows;
 use row_model::{Merge, Rows, Source};
@@ -95,7 +95,7 @@ fn fill_sum(
 {
     let upper = merge.upper as usize;
     let late = merge.late as usize;
-    let held = hold(rows, false, upper) + (tail(rows, upper) as usize - late);
+    let held = wide_hold(rows, upper) + (tail(rows, upper) as usize - late);
     add_late(
         wide,
         own_place(room, row),
@@ -170,7 +170,7 @@ fn keep_row(rows: &Rows, row: usize, room: usize, spectra: usize, wide: &[u32], 
     let size = tail(rows, row) as usize;
     go_on(
         kept,
-        hold(rows, false, row),
+        wide_hold(rows, row),
         size,
         wide,
         own_place(room, row),

@@ -3,6 +3,8 @@
 //! A row is made in a slot: what is kept of it comes first, and behind it its values of the next spectra. A slot can be
 //! used again for other rows. An order says that a row is to be made in a slot: `Builder` takes it only where it can be
 //! carried out after those before it, and `Schedule` carries all of them out.
+//!
+//! Where all rows are to stand at once, each is made at a place of its own (`Stores::fill_row`), without what is kept.
 #![tactic(auto)]
 
 mod builder;

@@ -32,7 +32,8 @@ pub struct Schedule {
     pub(crate) steps: Vec<Step>,
     pub(crate) narrow_size: usize,
     pub(crate) wide_size: usize,
-    pub(crate) kept_size: usize,
+    pub(crate) kept_narrow_size: usize,
+    pub(crate) kept_wide_size: usize,
 }
 
 impl Model for Schedule {
@@ -42,10 +43,12 @@ impl Model for Schedule {
     ghost Value = { Scheduled };
 
     ghost view = { λ s. scheduled s.channels s.chunk s.most s.narrow.items s.slots.items s.orders.items
-        s.places.items s.steps.items s.narrow_size s.wide_size s.kept_size };
+        s.places.items s.steps.items s.narrow_size s.wide_size s.kept_narrow_size
+        s.kept_wide_size };
 
     ghost invariant = { λ s. IsSafe (scheduled s.channels s.chunk s.most s.narrow.items s.slots.items
-        s.orders.items s.places.items s.steps.items s.narrow_size s.wide_size s.kept_size) };
+        s.orders.items s.places.items s.steps.items s.narrow_size s.wide_size s.kept_narrow_size
+        s.kept_wide_size) };
 }
 
 impl Schedule {
@@ -53,12 +56,14 @@ impl Schedule {
     pub fn sizes(&self) -> Sizes
         ensures narrow { result.narrow ≡ self.now.narrow_size }
         ensures wide { result.wide ≡ self.now.wide_size }
-        ensures kept { result.kept ≡ self.now.kept_size }
+        ensures kept_narrow { result.kept_narrow ≡ self.now.kept_narrow_size }
+        ensures kept_wide { result.kept_wide ≡ self.now.kept_wide_size }
     {
         Sizes {
             narrow: self.narrow_size,
             wide: self.wide_size,
-            kept: self.kept_size,
+            kept_narrow: self.kept_narrow_size,
+            kept_wide: self.kept_wide_size,
         }
     }
 

@@ -3,7 +3,7 @@ ghost use Rattle.std.specs.Prelude.{◌≡◌, ◌≢◌, ℕ, ◌+◌, ◌^◌,
 ghost use Rattle.row_model.specs.Sums.{Sums, Fit, is_narrow};
 ghost use Rattle.row_model.specs.Tails.{AreRows, row_count};
 ghost use Rattle.row_schedule.specs.Samples.{values_of};
-ghost use Rattle.row_schedule.specs.Layout.{kept_room};
+ghost use Rattle.row_schedule.specs.Layout.{kept_room, narrow_kept_room};
 ghost use Rattle.row_schedule.specs.Running.{Kept};
 ghost use Rattle.row_schedule.specs.Moving.{SlotsStay};
 ghost use Rattle.row_schedule.specs.Filling.{AreGiven, HasSources, HaveSamples, HaveTableRoom, IsOfOthers, KeepsOn, StandsAtPlace, WroteKept, WroteWide, own_place};
@@ -26,8 +26,10 @@ pub struct Sizes {
     pub narrow: usize,
     /// The slots of rows of 32 bits.
     pub wide: usize,
-    /// What is kept of rows: so many values of 16 bits, and as many of 32 bits.
-    pub kept: usize,
+    /// What is kept of rows in 16 bits.
+    pub kept_narrow: usize,
+    /// What is kept of rows in 32 bits.
+    pub kept_wide: usize,
 }
 
 impl Sizes {
@@ -40,7 +42,8 @@ impl Sizes {
         Sizes {
             narrow: 0,
             wide: own_place(room, rows.sources.len()),
-            kept: kept_room(rows),
+            kept_narrow: 0,
+            kept_wide: kept_room(rows),
         }
     }
 
@@ -54,7 +57,8 @@ impl Sizes {
         Sizes {
             narrow: self.narrow.max(other.narrow),
             wide: self.wide.max(other.wide),
-            kept: self.kept.max(other.kept),
+            kept_narrow: self.kept_narrow.max(other.kept_narrow),
+            kept_wide: self.kept_wide.max(other.kept_wide),
         }
     }
 }
@@ -89,8 +93,8 @@ impl Stores {
         Ok(Stores {
             narrow: narrow_zeros(alloc, sizes.narrow)?,
             wide: zeros(alloc, sizes.wide)?,
-            kept_narrow: narrow_zeros(alloc, sizes.kept)?,
-            kept_wide: zeros(alloc, sizes.kept)?,
+            kept_narrow: narrow_zeros(alloc, sizes.kept_narrow)?,
+            kept_wide: zeros(alloc, sizes.kept_wide)?,
         })
     }
 
@@ -104,7 +108,7 @@ impl Stores {
     /// Writes what is kept of the rows that have 16 bits as values of 32 bits.
     pub fn widen_kept(&mut self, rows: &Rows, narrow: &[bool])
         requires rows { (c : ℕ) × AreRows c rows.now }
-        requires narrow_room { kept_room rows.now ≤ length self.old.kept_narrow }
+        requires narrow_room { narrow_kept_room rows.now narrow.now ≤ length self.old.kept_narrow }
         requires wide_room { kept_room rows.now ≤ length self.old.kept_wide }
         ensures stays { SlotsStay self.old self.new }
         ensures narrow_stays { self.new.kept_narrow ≡ self.old.kept_narrow }
@@ -124,7 +128,7 @@ impl Stores {
     /// the values of these rows fit into 16 bits.
     pub fn narrow_kept(&mut self, rows: &Rows, narrow: &[bool])
         requires rows { (c : ℕ) × AreRows c rows.now }
-        requires narrow_room { kept_room rows.now ≤ length self.old.kept_narrow }
+        requires narrow_room { narrow_kept_room rows.now narrow.now ≤ length self.old.kept_narrow }
         requires wide_room { kept_room rows.now ≤ length self.old.kept_wide }
         ensures stays { SlotsStay self.old self.new }
         ensures wide_stays { self.new.kept_wide ≡ self.old.kept_wide }

@@ -1,18 +1,19 @@
 // How a schedule is laid for orders that were taken.
 ghost use Rattle.std.specs.Prelude.{◌≡◌, ℕ, ◌+◌, ◌*◌, ◌^◌, ◌<◌, ◌≤◌, ◌↔◌, true, false, IsTrue, IsSome, IfOk, IfSome, Ok, Some, None, length, slice_get, slice_index};
 ghost use Rattle.row_model.specs.declared.Source.TheVariants.{Sum};
+ghost use Rattle.row_model.specs.Sums.{is_narrow};
 ghost use Rattle.row_model.specs.Tails.{AreRows, row_count};
 ghost use Rattle.row_schedule.specs.Orders.{MakeAll, order_at};
 ghost use Rattle.row_schedule.specs.Marks.{slot_of};
 ghost use Rattle.row_schedule.specs.Schedules.{IsInOrder, HasParts};
-ghost use Rattle.row_schedule.specs.Layout.{IsLaid, tail_of};
+ghost use Rattle.row_schedule.specs.Layout.{AreNarrowHolds, IsLaid, hold_of, tail_of};
 ghost use Rattle.row_schedule.specs.Follows.{Follows, IsStep, AreSteps};
 ghost use Rattle.row_schedule.specs.Steps.{makes_narrow, copies, upper_narrow, lower_narrow};
 
 use super::{Builder, Order};
 use crate::layout::{Layout, slot_sizes};
 use crate::marks::slot_found;
-use crate::reading::{hold, kept_room, source, tail};
+use crate::reading::{kept_room, narrow_holds, source, tail, wide_hold};
 use crate::schedule::Schedule;
 use crate::step::{Kind, Step};
 use psr_base::Memory;
@@ -84,12 +85,34 @@ impl Builder {
         places[slot as usize] + tail(rows, row) as usize
     }
 
+    // Where the values begin that are kept of row `row` in its width; `held` says so of rows of 16 bits.
+    fn hold(&self, rows: &Rows, held: &[usize], row: u32) -> usize
+        requires rows { (c : ℕ) × AreRows c rows.now }
+        requires held { AreNarrowHolds rows.now self.now.narrow held.now }
+        requires row { row < row_count rows.now }
+        ensures { result
+            ≡ hold_of rows.now self.now.narrow (is_narrow self.now.narrow row) row }
+    {
+        if self.is_narrow(row) {
+            return held[row as usize];
+        }
+        wide_hold(rows, row as usize)
+    }
+
     // The step that carries out order `j`, which makes a row of two others.
-    fn sum_step(&self, rows: &Rows, places: &[usize], j: usize, merge: Merge) -> Step
+    fn sum_step(
+        &self,
+        rows: &Rows,
+        places: &[usize],
+        held: &[usize],
+        j: usize,
+        merge: Merge,
+    ) -> Step
         requires rows { (c : ℕ) × AreRows c rows.now }
         requires order { IsInOrder rows.now self.now }
         requires places { length places.now ≡ length self.now.slots }
         requires near { (s : ℕ) → slice_index places.now s ≤ 2 ^ 50 }
+        requires held { AreNarrowHolds rows.now self.now.narrow held.now }
         requires number { j < length self.now.orders }
         requires source { slice_get rows.now.sources.items (order_at self.now.orders j).row
             ≡ Some (Sum merge) }
@@ -105,18 +128,19 @@ impl Builder {
             kind: sum_kind(narrow, upper_narrow, lower_narrow),
             tail: tail(rows, row),
             out: places[order.slot as usize],
-            hold: hold(rows, narrow, row),
+            hold: self.hold(rows, held, order.row),
             upper: self.begins_at(rows, places, merge.upper as usize) - merge.late as usize,
             lower: self.begins_at(rows, places, merge.lower as usize),
         }
     }
 
     // The step that carries out order `j`.
-    fn step(&self, rows: &Rows, places: &[usize], chunk: usize, j: usize) -> Step
+    fn step(&self, rows: &Rows, places: &[usize], held: &[usize], chunk: usize, j: usize) -> Step
         requires rows { (c : ℕ) × AreRows c rows.now }
         requires order { IsInOrder rows.now self.now }
         requires places { length places.now ≡ length self.now.slots }
         requires near { (s : ℕ) → slice_index places.now s ≤ 2 ^ 50 }
+        requires held { AreNarrowHolds rows.now self.now.narrow held.now }
         requires short { chunk ≤ 65536 }
         requires number { j < length self.now.orders }
         ensures { IsStep rows.now self.now.narrow self.now.orders places.now chunk j result }
@@ -130,12 +154,12 @@ impl Builder {
                     kind: copy_kind(narrow),
                     tail: tail(rows, row),
                     out: places[order.slot as usize],
-                    hold: hold(rows, narrow, row),
+                    hold: self.hold(rows, held, order.row),
                     upper: channel as usize * chunk,
                     lower: 0,
                 }
             }
-            Source::Sum(merge) => self.sum_step(rows, places, j, merge),
+            Source::Sum(merge) => self.sum_step(rows, places, held, j, merge),
         }
     }
 
@@ -145,12 +169,14 @@ impl Builder {
         alloc: Global,
         rows: &Rows,
         places: &[usize],
+        held: &[usize],
         chunk: usize,
     ) -> Result<Vec<Step>, Memory>
         requires rows { (c : ℕ) × AreRows c rows.now }
         requires order { IsInOrder rows.now self.now }
         requires places { length places.now ≡ length self.now.slots }
         requires near { (s : ℕ) → slice_index places.now s ≤ 2 ^ 50 }
+        requires held { AreNarrowHolds rows.now self.now.narrow held.now }
         requires short { chunk ≤ 65536 }
         ensures entries { IfOk result (λ steps. length steps.items ≡ length self.now.orders) }
         ensures steps { IfOk result (λ steps. AreSteps rows.now self.now.narrow self.now.orders
@@ -158,7 +184,7 @@ impl Builder {
     {
         let mut steps = Vec::with_capacity(alloc, self.orders.len())?;
         for j in 0..self.orders.len() {
-            steps.push(self.step(rows, places, chunk, j))?;
+            steps.push(self.step(rows, places, held, chunk, j))?;
         }
         Ok(steps)
     }
@@ -200,8 +226,10 @@ impl Builder {
         let apart = chunk as usize;
         let room = most as usize;
         let layout = self.lay(alloc, rows, room)?;
-        let steps = self.steps(alloc, rows, &layout.places, apart)?;
-        let kept_size = kept_room(rows);
+        let held = narrow_holds(alloc, rows, &self.narrow)?;
+        let steps = self.steps(alloc, rows, &layout.places, &held, apart)?;
+        let kept_narrow_size = held[rows.sources.len()];
+        let kept_wide_size = kept_room(rows);
         let Layout {
             places,
             narrow_size,
@@ -225,7 +253,8 @@ impl Builder {
             steps,
             narrow_size,
             wide_size,
-            kept_size,
+            kept_narrow_size,
+            kept_wide_size,
         }))
     }
 }

@@ -1,5 +1,5 @@
 use Rattle.std.proofs.Common.{◌≡◌, Some, length, slice_get, ap, refl, ◌∙◌, arith}
-use Rattle.row_model.specs.declared.Source.TheVariants.{Channel, Sum}
+use Rattle.row_model.specs.declared.Source.TheVariants.{Sum}
 use Rattle.row_schedule.specs.Samples.{values_of}
 use Rattle.row_schedule.proofs.OwnPlaces.{channel_fits, others_stand, samples_stand, sum_stands}
 use Rattle.row_schedule.proofs.filling.fill_row.Goals as goal

@@ -9,7 +9,7 @@ overflow_add-held c =
     let upper = c.requires.merge.upper in
     let few = held_few rows.0 c.args.rows.now rows.1 c.args.merge.upper (omega arith) in
     let count = rows.1.few in
-    let hold = c.hold.ensures in
+    let hold = c.wide_hold.ensures in
     let tail = c.tail.ensures.short in
     omega arith
 
@@ -18,7 +18,7 @@ add_late-requires-clause-kept c =
     let rows = c.requires.rows in
     let within = held_within rows.0 c.args.rows.now rows.1 c.args.merge.upper c.requires.merge.upper in
     let enough = c.requires.merge.enough in
-    let hold = c.hold.ensures in
+    let hold = c.wide_hold.ensures in
     let tail = c.tail.ensures.value in
     let room = c.requires.kept in
     omega arith

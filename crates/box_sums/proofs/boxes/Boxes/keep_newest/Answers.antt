@@ -4,15 +4,17 @@ use Rattle.box_sums.specs.Tails.{RowTails, IsNewest, IsKept, row_at}
 use Rattle.box_sums.specs.Rows.{Keeps}
 use Rattle.box_sums.specs.Tables.{AreUpTo}
 use Rattle.box_sums.proofs.Feeding.{copied_keeps, same_row}
+use Rattle.box_sums.proofs.Filling.{filled_keeps, filled_small}
 use Rattle.box_sums.proofs.Parts.{part_small}
 use Rattle.box_sums.proofs.boxes.Boxes.keep_newest.Goals as goal
 
 pub invariant_of-self : goal.invariant_of-self
 invariant_of-self c =
     let f = c.self.inside in
-    let kept_is : take f.kept.len (c.write_row.new.table ++ drop
-    (length c.write_row.new.table) f.kept.items) ≡ c.write_row.new.table =
-    take_at c.write_row.new.table _ f.kept.len (c.write_row.auto.table ∙ c.as_mut_slice.ensures.len) in
+    let g = c.fill_up.new.table in
+    let kept_is : take g.len (c.write_row.new.table ++ drop
+    (length c.write_row.new.table) g.items) ≡ c.write_row.new.table =
+    take_at c.write_row.new.table _ g.len (c.write_row.auto.table ∙ c.as_mut_slice.ensures.len) in
     let line : AreUpTo f.bound c.front_of-line.result.now =
     subst (AreUpTo f.bound) (sym (c.front_of-line.ensures.values ∙ ap (λ ys. take (f.reach + f.fed) (drop 0 ys))
     c.as_slice.ensures.value)) (part_small f.bound 0 (f.reach + f.fed) f.line.items c.self.invariant.small_line) in
@@ -31,14 +33,15 @@ invariant_of-self c =
       short = c.self.invariant.short;
       tails_room = c.self.invariant.tails_room;
       line_room = c.self.invariant.line_room;
-      kept_room = ap length kept_is ∙ c.write_row.auto.table ∙ ap length c.as_mut_slice.ensures.value
-          ∙ c.self.invariant.kept_room;
+      kept_room = let same = c.fill_up.ensures.capacity in
+          let room = c.self.invariant.kept_room in omega (arith, same, room);
       boxes_room = c.self.invariant.boxes_room;
       greatest_room = c.self.invariant.greatest_room;
       small_tails = c.self.invariant.small_tails;
       small_line = c.self.invariant.small_line;
       small_kept = subst (AreUpTo f.bound) (sym kept_is) (c.write_row.ensures.small f.bound
-          (subst (AreUpTo f.bound) (sym c.as_mut_slice.ensures.value) c.self.invariant.small_kept) line);
+          (subst (AreUpTo f.bound) (sym c.as_mut_slice.ensures.value)
+          (filled_small f.bound f.kept.items g.items c.fill_up.ensures.filled c.self.invariant.small_kept)) line);
       bounds = c.self.invariant.bounds;
     }
 
@@ -46,9 +49,10 @@ pub returns-clause-own : goal.returns-clause-own
 returns-clause-own c = λ d n xs newest.
     let f = c.self.inside in
     let stride : ℕ = f.reach + f.chunk in
-    let kept_is : take f.kept.len (c.write_row.new.table ++ drop
-    (length c.write_row.new.table) f.kept.items) ≡ c.write_row.new.table =
-    take_at c.write_row.new.table _ f.kept.len (c.write_row.auto.table ∙ c.as_mut_slice.ensures.len) in
+    let g = c.fill_up.new.table in
+    let kept_is : take g.len (c.write_row.new.table ++ drop
+    (length c.write_row.new.table) g.items) ≡ c.write_row.new.table =
+    take_at c.write_row.new.table _ g.len (c.write_row.auto.table ∙ c.as_mut_slice.ensures.len) in
     let row = subst (λ (b : RowTails). IsNewest b d n xs) (sym c.self.view_is) newest in
     let count : f.fed ≡ n = row.count in
     let short = c.self.invariant.short in
@@ -61,8 +65,8 @@ returns-clause-own c = λ d n xs newest.
     (c.front_of-line.ensures.long ∙ ap (λ m. f.reach + m) count) c.write_row.ensures.own in
     record {
       short = omega (arith, count, short);
-      line = subst (λ (e : ℕ). Keeps (row_at (take f.kept.len (c.write_row.new.table ++ drop
-          (length c.write_row.new.table) f.kept.items)) stride (e - f.first)) f.reach n xs) row.row
+      line = subst (λ (e : ℕ). Keeps (row_at (take g.len (c.write_row.new.table ++ drop
+          (length c.write_row.new.table) g.items)) stride (e - f.first)) f.reach n xs) row.row
           (subst (λ (ys : List ℕ). Keeps (row_at ys stride (f.newest - f.first)) f.reach n xs) (sym kept_is) own);
     }
 
@@ -76,12 +80,15 @@ returns-clause-others c = λ e n xs has other kept.
     let mine = c.self.invariant.above in
     let apart : e - f.first ≢ f.newest - f.first = λ same. other (omega (arith, above, mine, same, first, newest)) in
     let row = subst (λ (b : RowTails). IsKept b e n xs) (sym c.self.view_is) kept in
+    let g = c.fill_up.new.table in
+    let short = row.short in
     record {
       short = row.short;
       line = subst (λ (ys : List ℕ). Keeps ys f.reach n xs)
-          (same_row f.kept.items c.as_mut_slice.result.now c.write_row.new.table _ stride (e - f.first)
+          (same_row g.items c.as_mut_slice.result.now c.write_row.new.table _ stride (e - f.first)
           c.as_mut_slice.ensures.value
-          (take_at c.write_row.new.table _ f.kept.len (c.write_row.auto.table ∙ c.as_mut_slice.ensures.len))
+          (take_at c.write_row.new.table _ g.len (c.write_row.auto.table ∙ c.as_mut_slice.ensures.len))
           (c.write_row.ensures.others (e - f.first) apart))
-          row.line;
+          (filled_keeps f.kept.items g.items stride (e - f.first) f.reach n xs c.fill_up.ensures.filled
+          (omega (arith, short)) row.line);
     }

@@ -1,6 +1,7 @@
 use Rattle.std.proofs.Common.{ℕ, ◌≡◌, ◌+◌, ◌-◌, ◌*◌, ◌^◌, ◌<◌, List, sum, take, drop, ◌∙◌, sym, ap, subst, arith}
 use Rattle.box_sums.specs.Tails.{RowTails, IsKept}
 use Rattle.box_sums.proofs.Feeding.{sum_fits, box_read}
+use Rattle.box_sums.proofs.Filling.{kept_there}
 use Rattle.box_sums.proofs.Parts.{drop_small}
 use Rattle.box_sums.proofs.boxes.Boxes.kept_sum.Goals as goal
 
@@ -32,3 +33,15 @@ returns c = λ n xs kept below.
     ∙ ap (λ ys. sum ys) values
     ∙ box_read f.kept.items xs stride at f.reach n c.args.k c.args.w row.line below
     (omega (arith, widest, enough)) (omega (arith, short))
+
+pub returns-then-len-place : goal.returns-then-len-place
+returns-then-len-place c = λ n xs kept below.
+    let f = c.self.inside in
+    let at : ℕ = c.args.d - f.first in
+    let stride : ℕ = f.reach + f.chunk in
+    let widest : f.widest ≡ c.args.self.now.widest = ap (λ (b : RowTails). b.widest) c.self.view_is in
+    let row = subst (λ (b : RowTails). IsKept b c.args.d n xs) (sym c.self.view_is) kept in
+    let enough = c.self.invariant.enough in
+    let there = kept_there f.kept.items stride at f.reach n xs row.line in
+    let past = c.if-len-place.true in
+    absurd (omega (arith, widest, enough, there))

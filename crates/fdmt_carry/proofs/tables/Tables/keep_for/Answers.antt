@@ -1,8 +1,42 @@
-use Rattle.std.proofs.Common.{Bool, List, subst}
+use Rattle.std.proofs.Common.{◌≤◌, Bool, List, length, subst, sym}
+use Rattle.row_schedule.specs.Layout.{kept_room, narrow_kept_room}
 use Rattle.fdmt_carry.specs.Tables.{Tables, tables}
 use Rattle.fdmt_carry.specs.Making.{KeepsFor}
+use Rattle.fdmt_carry.proofs.Rooms.{pass_keeps, pass_room_stays, slots_long}
 use Rattle.fdmt_carry.proofs.Running.{Narrows, Widens, kept_for}
 use Rattle.fdmt_carry.proofs.tables.Tables.keep_for.Goals as goal
+
+pub widen_kept-requires-clause-narrow_room : goal.widen_kept-requires-clause-narrow_room
+widen_kept-requires-clause-narrow_room c =
+    let old = c.args.stores.now in
+    let widths = c.narrow.result.now in
+    subst (λ (x : Tables). narrow_kept_room x.rows.rows widths ≤ length old.kept_narrow) (sym c.self.view_is)
+    (pass_keeps c.args.self.now c.args.pass.now c.requires.pass.0 old widths c.narrow.ensures c.requires.pass.1
+    c.requires.room).0
+
+pub widen_kept-requires-clause-wide_room : goal.widen_kept-requires-clause-wide_room
+widen_kept-requires-clause-wide_room c =
+    let old = c.args.stores.now in
+    subst (λ (x : Tables). kept_room x.rows.rows ≤ length old.kept_wide) (sym c.self.view_is)
+    (pass_keeps c.args.self.now c.args.pass.now c.requires.pass.0 old c.narrow.result.now c.narrow.ensures
+    c.requires.pass.1 c.requires.room).1
+
+pub narrow_kept-requires-clause-narrow_room : goal.narrow_kept-requires-clause-narrow_room
+narrow_kept-requires-clause-narrow_room c =
+    let widened = c.widen_kept.new.self in
+    let widths = c.narrow-2.result.now in
+    subst (λ (x : Tables). narrow_kept_room x.rows.rows widths ≤ length widened.kept_narrow) (sym c.self.view_is)
+    (pass_keeps c.args.self.now c.args.next.now c.requires.next.0 widened widths c.narrow-2.ensures c.requires.next.1
+    (pass_room_stays c.args.next.now.schedule c.args.stores.now widened
+    (slots_long c.args.stores.now widened c.widen_kept.ensures.stays) c.requires.next_room)).0
+
+pub narrow_kept-requires-clause-wide_room : goal.narrow_kept-requires-clause-wide_room
+narrow_kept-requires-clause-wide_room c =
+    let widened = c.widen_kept.new.self in
+    subst (λ (x : Tables). kept_room x.rows.rows ≤ length widened.kept_wide) (sym c.self.view_is)
+    (pass_keeps c.args.self.now c.args.next.now c.requires.next.0 widened c.narrow-2.result.now c.narrow-2.ensures
+    c.requires.next.1 (pass_room_stays c.args.next.now.schedule c.args.stores.now widened
+    (slots_long c.args.stores.now widened c.widen_kept.ensures.stays) c.requires.next_room)).1
 
 pub returns-clause-keeps : goal.returns-clause-keeps
 returns-clause-keeps c =

@@ -1,6 +1,5 @@
 use Rattle.std.proofs.Common.{Some, slice_get, sym, ap, ◌∙◌}
 use Rattle.row_schedule.specs.declared.builder.Order.{Order}
-use Rattle.row_schedule.specs.Layout.{hold_of}
 use Rattle.row_schedule.proofs.Fitting.{copy_step_is}
 use Rattle.row_schedule.proofs.builder.Builder.step.Goals as goal
 
@@ -11,7 +10,7 @@ returns-in-Channel c =
     copy_step_is rows b.narrow b.orders c.args.places.now c.args.chunk c.args.j c.order-order.result _ _ _ _
     c.in-Channel.channel c.order-order.ensures (c.source.ensures ∙ ap Some c.in-Channel.is)
     c.copy_kind.ensures.copies (c.copy_kind.ensures.width ∙ c.is_narrow-narrow.ensures) c.tail.ensures.value
-    (c.hold.ensures ∙ ap (λ v. hold_of rows v c.order-order.result.row) c.is_narrow-narrow.ensures)
+    c.hold.ensures
 
 pub sum_step-requires-clause-source : goal.sum_step-requires-clause-source
 sum_step-requires-clause-source c =

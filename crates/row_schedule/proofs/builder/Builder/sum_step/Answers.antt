@@ -1,7 +1,6 @@
 use Rattle.std.proofs.Common.{sym, ap, ◌∙◌, arith}
 use Rattle.row_model.specs.Sums.{is_narrow}
 use Rattle.row_schedule.specs.declared.builder.Order.{Order}
-use Rattle.row_schedule.specs.Layout.{hold_of}
 use Rattle.row_schedule.proofs.Fitting.{stands_of, sum_step_is}
 use Rattle.row_schedule.proofs.builder.Builder.sum_step.Goals as goal
 
@@ -85,5 +84,5 @@ returns c = λ chunk.
     (c.sum_kind.ensures.upper ∙ c.is_narrow-upper_narrow.ensures)
     (c.sum_kind.ensures.lower ∙ c.is_narrow-lower_narrow.ensures)
     c.tail.ensures.value
-    (c.hold.ensures ∙ ap (λ v. hold_of rows v c.order-order.result.row) c.is_narrow-narrow.ensures)
+    c.hold.ensures
     (omega arith) low_at
