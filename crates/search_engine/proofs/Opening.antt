@@ -15,7 +15,7 @@ use Rattle.shard_search.specs.Pulses.{pulses_of_ends}
 use Rattle.shard_search.specs.Sought.{Sought}
 use Rattle.shard_search.specs.Sums.{ShardState, sums_of}
 use Rattle.search_engine.proofs.Slices.{none_in}
-use Rattle.search_engine.specs.Engine.{EngineState, Searches, HoldsData, HasTaken, HasTakenChunks, StandsForPart, EngineIsSound, IsOpenedSums, IsOpenedUnpacker, KnowsSizes, chunk_of}
+use Rattle.search_engine.specs.Engine.{EngineState, Searches, HoldsData, HasTakenChunks, StandsForPart, EngineIsSound, IsOpenedSums, IsOpenedUnpacker, KnowsSizes, chunk_of}
 use Rattle.search_engine.specs.Scope.{limit_in_bytes, spectrum_size}
 
 -- the parts of an engine
@@ -68,14 +68,6 @@ module _ (o : Observation) (s : Search) (k : ℕ) (masked : List Bool) (x : Soug
     search = p.path_sums.search_is;
   }
 
-  -- no spectrum is held
-  opened_part : u.whole < u.chunk
-  opened_part =
-      let some = p.range.parts.least_chunk in
-      let chunk_is = p.chunk_is in
-      let P : Unpacking → Type 0 = λ u. u.whole < u.chunk in
-      subst P (sym p.unpacker) (omega arith)
-
   opened_holds : HoldsData o [] (opened_state s k masked u sums book)
   opened_holds = record {
     searches = opened_searches;
@@ -89,12 +81,9 @@ module _ (o : Observation) (s : Search) (k : ℕ) (masked : List Bool) (x : Soug
         p.path_sums.stands f (record { channels = omega arith; small = begins.small });
   }
 
-  opened_taken : HasTaken o [] (opened_state s k masked u sums book)
-  opened_taken = record { holds = opened_holds; part = opened_part }
-
   opened_chunks : HasTakenChunks o [] (opened_state s k masked u sums book)
   opened_chunks = record {
-    taken = opened_taken;
+    holds = opened_holds;
     chunks = ap (λ n. n % chunk_of s) p.path_sums.nothing_fed ∙ zero-mod (chunk_of s);
     book = λ f begins. p.empty ∙ ap (λ n. book_of s.max_candidates (pulses_of_ends (sums_of f (edges o)) s
         sums.pulses.sought (shard_start s k) (shard_start s (k + 1)) 0 n)) (sym p.path_sums.nothing_fed);
@@ -112,7 +101,7 @@ module _ (o : Observation) (s : Search) (k : ℕ) (masked : List Bool) (x : Soug
   opened_sound = record {
     observation = o;
     bytes = [];
-    taken = opened_taken;
+    holds = opened_holds;
     room = λ _. let empty = ap (λ (b : BookContents). b.count) p.empty in omega arith;
   }
 

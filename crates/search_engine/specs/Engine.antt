@@ -18,6 +18,7 @@ use Rattle.shard_search.specs.Counts.{most_pulses_at_end, most_tables}
 use Rattle.shard_search.specs.Pulses.{pulses_of_ends}
 use Rattle.shard_search.specs.Sought.{Sought, cells_in, sought_of}
 use Rattle.shard_search.specs.Sums.{ShardState, StandsForStream, sums_of}
+use Rattle.search_engine.specs.declared.chunk.TheConstants.{MOST_CHUNK}
 use Rattle.search_engine.specs.Scope.{Scope, bytes_in, candidates_in, kept_samples, limit_in_bytes, searched, whole_scope}
 
 -- The search of one shard: which channels are masked, how many bytes it was fed, and whether it ended; what stands
@@ -54,7 +55,7 @@ most_fed = 2 ^ 48 + 2 ^ 28
 
 -- how many spectra are searched at a time
 abbrev pub chunk_of : Search → ℕ
-chunk_of s = min s.chunk 608
+chunk_of s = min s.chunk MOST_CHUNK
 
 -- a stream of an observation's samples that begins with the first u spectra of the samples g
 pub record BeginsWith (o : Observation) (g : Filterbank) (u : ℕ) (f : Filterbank) : Type 0 where
@@ -91,14 +92,9 @@ pub record HoldsData (o : Observation) (bytes : List ℕ) (e : EngineState) : Ty
   pub sums : (f : Filterbank) → BeginsWith o (kept_samples o e.masked bytes) e.sums.carry.fed f
       → StandsForStream e.sums f
 
--- and all full chunks of them were searched
-pub record HasTaken (o : Observation) (bytes : List ℕ) (e : EngineState) : Type 0 where
-  pub holds : HoldsData o bytes e
-  pub part : e.unpacker.whole < e.unpacker.chunk
-
--- so that whole chunks of them were searched, and its book has the pulses that end at these spectra
+-- and whole chunks of them were searched, so that its book has the pulses that end at these spectra
 pub record HasTakenChunks (o : Observation) (bytes : List ℕ) (e : EngineState) : Type 0 where
-  pub taken : HasTaken o bytes e
+  pub holds : HoldsData o bytes e
   pub chunks : e.sums.carry.fed % chunk_of e.search ≡ 0
   pub book : (f : Filterbank) → BeginsWith o (kept_samples o e.masked bytes) e.sums.carry.fed f
       → e.book ≡ book_of e.search.max_candidates
@@ -116,11 +112,15 @@ pub record StandsForData (o : Observation) (bytes : List ℕ) (e : EngineState) 
   pub part : StandsForPart o bytes e
   pub whole : scope_of e ≡ whole_scope o.channels
 
+-- all full chunks of what it took were searched: fewer spectra are held than a chunk has
+abbrev pub HoldsNoChunk : EngineState → Type 0
+HoldsNoChunk e = e.unpacker.whole < e.unpacker.chunk
+
 -- what always holds: there are bytes that it took; and as long as it has not ended, its book has room for more
 pub record EngineIsSound (e : EngineState) : Type 0 where
   pub observation : Observation
   pub bytes : List ℕ
-  pub taken : HasTaken observation bytes e
+  pub holds : HoldsData observation bytes e
   pub room : e.has_ended ≡ false → e.book.count ≤ most_pulses_at_end * e.sums.carry.fed
 
 -- opened for a shard of a search, and fed nothing

@@ -6,11 +6,12 @@ ghost use Rattle.search_model.specs.Plan.{plan_refusal};
 ghost use Rattle.search_engine.specs.Plan.{Explains};
 ghost use Rattle.row_schedule.specs.Samples.{values_of};
 ghost use Rattle.spectra_rows.specs.Unpacking.{StandsForBytes};
-ghost use Rattle.search_engine.specs.Engine.{EngineState, EngineIsSound, IsOpenedSums, StandsForData, StandsForPart, HasTakenChunks, KnowsSizes, HasSearched, HasFoundPart, IsOpenedEngine, IsOpenedUnpacker, SameShard, most_fed, scope_of, spectra_fed};
+ghost use Rattle.search_engine.specs.Engine.{EngineState, EngineIsSound, IsOpenedSums, StandsForData, StandsForPart, HasTakenChunks, HoldsNoChunk, KnowsSizes, HasSearched, HasFoundPart, IsOpenedEngine, IsOpenedUnpacker, SameShard, most_fed, scope_of, spectra_fed};
 ghost use Rattle.search_engine.specs.Scope.{FitsObservation, marks_of, count_before as count_before_of, limit_in_bytes as limit_in_bytes_of, spectrum_size as spectrum_size_of};
 ghost use Rattle.search_model.specs.Observed.{filterbank_of};
 ghost use Rattle.shard_search.specs.Sought.{CanBeSought, cells_in};
 
+use crate::chunk::MOST_CHUNK;
 use crate::fault::PlanFault;
 use crate::hiding::Masked;
 use crate::plan::check_plan;
@@ -29,10 +30,6 @@ use std::marker::Model;
 use dada_model::edges_fall;
 use search_model::samples_of_bytes;
 use shard_search::shards_are_listed;
-
-/// The most spectra that are searched at a time. Rows of so many values of 16 bits are an odd number of lines of the
-/// cache apart.
-const MOST_CHUNK: u32 = 608;
 
 /// The search of one shard of an observation: data bytes are fed in pieces that are cut anywhere, and the candidates of
 /// the shard's delays are kept in a book. All memory is taken by `open`.
@@ -146,8 +143,27 @@ impl Engine {
         })
     }
 
-    /// Takes the next data bytes.
+    /// Takes the next data bytes, and searches each chunk that they fill.
     pub fn feed(&mut self, bytes: &[u8])
+        requires running { self.old.has_ended ≡ false }
+        requires few { self.old.fed + length bytes.now ≤ most_fed }
+        ensures same { SameShard self.new self.old }
+        ensures scope { scope_of self.new ≡ scope_of self.old }
+        ensures running { self.new.has_ended ≡ false }
+        ensures fed { self.new.fed ≡ self.old.fed + length bytes.now }
+        ensures part { (o : Described) (before : List ℕ) → StandsForPart o before self.old
+            → StandsForPart o (before ++ bytes.now) self.new }
+        ensures stands { (o : Described) (before : List ℕ) → StandsForData o before self.old
+            → StandsForData o (before ++ bytes.now) self.new }
+        ensures searched { HoldsNoChunk self.new }
+    {
+        self.unpack(bytes);
+        self.search_full();
+    }
+
+    /// Takes the next data bytes as `feed` does, but leaves a chunk that is full where they end. It is searched by
+    /// `search_full`, before the next bytes are taken, or by `end`.
+    pub fn unpack(&mut self, bytes: &[u8])
         requires running { self.old.has_ended ≡ false }
         requires few { self.old.fed + length bytes.now ≤ most_fed }
         ensures same { SameShard self.new self.old }
@@ -166,7 +182,35 @@ impl Engine {
         self.fed += (bytes.len() - to) as u64;
     }
 
-    // Takes bytes that are searched.
+    /// How many bytes more make the chunk that is held full: `unpack` searches nothing where it takes no more. It is a
+    /// hint: no clause speaks of the answer.
+    pub fn room(&self) -> u64 {
+        let spectra = u64::from(self.chunk - self.unpacker.spectra());
+        let part = self.fed % self.spectrum;
+        spectra.saturating_mul(self.spectrum).saturating_sub(part)
+    }
+
+    /// Searches the chunk that is held where it is full.
+    pub fn search_full(&mut self)
+        requires { self.old.has_ended ≡ false }
+        ensures same { SameShard self.new self.old }
+        ensures scope { scope_of self.new ≡ scope_of self.old }
+        ensures running { self.new.has_ended ≡ false }
+        ensures fed { self.new.fed ≡ self.old.fed }
+        ensures taken { (o : Described) (bytes : List ℕ) → HasTakenChunks o bytes self.old
+            → HasTakenChunks o bytes self.new }
+        ensures part { (o : Described) (bytes : List ℕ) → StandsForPart o bytes self.old
+            → StandsForPart o bytes self.new }
+        ensures stands { (o : Described) (bytes : List ℕ) → StandsForData o bytes self.old
+            → StandsForData o bytes self.new }
+        ensures searched { HoldsNoChunk self.new }
+    {
+        if self.unpacker.spectra() == self.chunk {
+            self.search_chunk();
+        }
+    }
+
+    // Takes bytes that are searched. A chunk that is full where they end is left.
     fn take_pieces(&mut self, bytes: &[u8])
         requires running { self.old.has_ended ≡ false }
         requires few { self.old.fed + length bytes.now ≤ most_fed }
@@ -179,6 +223,7 @@ impl Engine {
     {
         let mut done = 0;
         while done < bytes.len() {
+            self.search_full();
             done += self.take_piece(&bytes[done..]);
         }
     }
@@ -195,16 +240,8 @@ impl Engine {
         ensures searched { (o : Described) (bytes : List ℕ) → StandsForData o bytes self.old
             → HasSearched o bytes self.new }
     {
-        edges_fall();
-        samples_of_bytes();
-        shards_are_listed();
-        let spectra = self.unpacker.spectra();
-        self.masked.hide(&mut self.unpacker);
-        self.sums
-            .take(samples(&self.unpacker), spectra, &mut self.book);
-        self.unpacker.taken();
-        self.sums.end(&mut self.book);
-        self.has_ended = true;
+        self.search_full();
+        self.end_part();
     }
 
     /// How many bytes were fed.
@@ -268,32 +305,70 @@ impl Engine {
         self.sums.carry()
     }
 
-    // Takes bytes until a chunk is full, which is searched then, or all are taken, and answers how many it took.
+    // Takes bytes up to the end of the chunk, of which some are missing, and answers how many it took.
     fn take_piece(&mut self, bytes: &[u8]) -> usize
-        requires running { self.old.has_ended ≡ false }
+        requires room { HoldsNoChunk self.old }
         requires some { 0 < length bytes.now }
         requires few { self.old.fed + length bytes.now ≤ most_fed }
         ensures some { 0 < result }
         ensures most { result ≤ length bytes.now }
         ensures same { SameShard self.new self.old }
         ensures scope { scope_of self.new ≡ scope_of self.old }
-        ensures running { self.new.has_ended ≡ false }
+        ensures ended { self.new.has_ended ≡ self.old.has_ended }
         ensures fed { self.new.fed ≡ self.old.fed + result }
         ensures taken { (o : Described) (before : List ℕ) → HasTakenChunks o before self.old
             → HasTakenChunks o (before ++ take result bytes.now) self.new }
     {
+        samples_of_bytes();
+        let count = self.unpacker.push(bytes);
+        self.fed += count as u64;
+        count
+    }
+
+    // Searches the chunk that is held, which is full.
+    fn search_chunk(&mut self)
+        requires running { self.old.has_ended ≡ false }
+        requires full { self.old.unpacker.whole ≡ self.old.unpacker.chunk }
+        ensures same { SameShard self.new self.old }
+        ensures scope { scope_of self.new ≡ scope_of self.old }
+        ensures running { self.new.has_ended ≡ false }
+        ensures fed { self.new.fed ≡ self.old.fed }
+        ensures taken { (o : Described) (bytes : List ℕ) → HasTakenChunks o bytes self.old
+            → HasTakenChunks o bytes self.new }
+        ensures searched { HoldsNoChunk self.new }
+    {
         edges_fall();
         samples_of_bytes();
         shards_are_listed();
-        let count = self.unpacker.push(bytes);
-        self.fed += count as u64;
-        if self.unpacker.spectra() == self.chunk {
-            self.masked.hide(&mut self.unpacker);
-            let rows = samples(&self.unpacker);
-            self.sums.pass(rows, self.chunk, &mut self.book);
-            self.unpacker.taken();
-        }
-        count
+        self.masked.hide(&mut self.unpacker);
+        let rows = samples(&self.unpacker);
+        self.sums.pass(rows, self.chunk, &mut self.book);
+        self.unpacker.taken();
+    }
+
+    // Ends the data where less than a chunk is held.
+    fn end_part(&mut self)
+        requires running { self.old.has_ended ≡ false }
+        requires part { HoldsNoChunk self.old }
+        ensures same { SameShard self.new self.old }
+        ensures scope { scope_of self.new ≡ scope_of self.old }
+        ensures ended { self.new.has_ended ≡ true }
+        ensures fed { self.new.fed ≡ self.old.fed }
+        ensures found { (o : Described) (bytes : List ℕ) → StandsForPart o bytes self.old
+            → HasFoundPart o bytes self.new }
+        ensures searched { (o : Described) (bytes : List ℕ) → StandsForData o bytes self.old
+            → HasSearched o bytes self.new }
+    {
+        edges_fall();
+        samples_of_bytes();
+        shards_are_listed();
+        let spectra = self.unpacker.spectra();
+        self.masked.hide(&mut self.unpacker);
+        self.sums
+            .take(samples(&self.unpacker), spectra, &mut self.book);
+        self.unpacker.taken();
+        self.sums.end(&mut self.book);
+        self.has_ended = true;
     }
 }
 

@@ -1,6 +1,7 @@
 //! The search of one shard: data bytes, fed in pieces, to a book of candidates.
 #![tactic(auto)]
 
+mod chunk;
 mod engine;
 mod fault;
 mod hiding;

@@ -9,9 +9,9 @@ use search_model::MOST_SHARDS;
 use session_readers::Bank;
 
 /// The parts of a session before its first turn. Bank s has the engines of shard s, and reader s reads for it, to space
-/// s; a space has room for 65537 bytes at least. Where it has room for a block, each is copied there before it is
-/// searched, and given back. The reader after those of the banks is the recorder's, where there is one. The hands are
-/// empty. Each slot is `Some`.
+/// s; a space has room for 65537 bytes at least. Where it has room for a block, each that ends past the engine's chunk
+/// is copied there, and given back before it is searched. The reader after those of the banks is the recorder's, where
+/// there is one. The hands are empty. Each slot is `Some`.
 #[derive(Drop)]
 pub struct Stage<'a, I, F> {
     pub feeder: Feeder<'a, I>,

@@ -16,7 +16,8 @@ pub struct Bank {
     pub engines: Box<ArrayVec<Option<Engine>, MOST_TRANSFERS>>,
 }
 
-// Feeds the engine of a slot, and ends it after the last bytes.
+// Feeds the engine of a slot, and ends it after the last bytes. A chunk that was full before is searched first; one
+// that is full where these bytes end is left.
 fn feed_slot(slot: &mut Option<Engine>, bytes: &[u8], is_last: bool)
     requires { (e : EngineState) × (slot.old ≡ Some e) × (e.has_ended ≡ false)
         × (e.fed + length bytes.now ≤ most_fed) }
@@ -24,7 +25,8 @@ fn feed_slot(slot: &mut Option<Engine>, bytes: &[u8], is_last: bool)
         → (f : EngineState) × (slot.new ≡ Some f) × WasFed e bytes.now is_last f }
 {
     let Some(engine) = slot else { unreachable!() };
-    engine.feed(bytes);
+    engine.search_full();
+    engine.unpack(bytes);
     if is_last {
         engine.end();
     }
@@ -62,7 +64,8 @@ fn ends_transfer(mark: Mark) -> bool
 }
 
 impl Bank {
-    // Feeds the engine of a transfer, and ends it after the last bytes.
+    // Feeds the engine of a transfer, and ends it after the last bytes. A chunk that was full before is searched first;
+    // one that is full where these bytes end is left.
     fn feed(&mut self, transfer: usize, bytes: &[u8], is_last: bool)
         requires { CanFeedAt (engines_of self.old) transfer bytes.now }
         ensures { WasFedAt (engines_of self.old) transfer bytes.now is_last
@@ -89,7 +92,17 @@ impl Bank {
         self.engines.len()
     }
 
-    /// Ends the engine of a transfer where the block with this mark, which it was fed, is the transfer's last.
+    /// How many bytes the engine of a transfer takes before the chunk that it holds is full. It is a hint: no clause
+    /// speaks of the answer.
+    pub(crate) fn room(&self, transfer: usize) -> u64 {
+        match self.engines.get(transfer) {
+            Some(Some(engine)) => engine.room(),
+            Some(None) | None => 0,
+        }
+    }
+
+    /// What comes after a block that the engine of a transfer was fed: a chunk that is full is searched, and the engine
+    /// ends where the block, which has this mark, is the transfer's last.
     pub(crate) fn end_after(&mut self, transfer: usize, mark: Mark)
         requires { CanFeedAt (engines_of self.old) transfer [] }
         ensures { WasFedAt (engines_of self.old) transfer [] (is_end mark)
@@ -99,8 +112,8 @@ impl Bank {
     }
 }
 
-/// The engine of a transfer is fed from a block where it lies. It does not end, so that the block is given back before
-/// folds are searched.
+/// The engine of a transfer is fed from a block where it lies. It does not end, and leaves a chunk that is full where
+/// the block ends: the block is given back before that chunk and folds are searched.
 impl BlockTaker for Bank {
     ghost use Rattle.session_readers.specs.Banks.{CanFeed, WasFedBlock};
 

@@ -28,9 +28,10 @@ pub(crate) fn read_header(hdu: &Hdu, reader: &mut HduReader, space: &mut [u8])
     }
 }
 
-// Clears the next block of data, and feeds it to the engine of a transfer, which does not end. Where the space has room
-// for a block, other readers find it busy no longer than it is copied there; else they do while the engine makes its
-// pass. Where no block can be had (none is there, or another reader holds it) it lets other threads run.
+// Clears the next block of data, and feeds it to the engine of a transfer, which does not end, and leaves a chunk that
+// is full where the block ends. Other readers find the block busy no longer than it is unpacked, where it ends within
+// the engine's chunk, or else than it is copied to the space, where that has room for it; else they do while the engine
+// makes its passes. Where no block can be had (none is there, or another reader holds it) it lets other threads run.
 pub(crate) fn feed_block(
     hdu: &Hdu,
     reader: &mut HduReader,
@@ -47,10 +48,11 @@ pub(crate) fn feed_block(
         reader.old reader.new bank.old transfer taken bank.new) }
     ensures room { length space.new ≡ length space.old }
 {
-    if hdu.shape().size as usize <= space.len() {
-        copy_block(hdu, reader, bank, transfer, space)
-    } else {
+    let size = hdu.shape().size;
+    if size as usize > space.len() || u64::from(size) <= bank.room(transfer) {
         lend_block(hdu, reader, bank, transfer)
+    } else {
+        copy_block(hdu, reader, bank, transfer, space)
     }
 }
 

@@ -9,8 +9,9 @@ use dada_hdu::{Hdu, HduEnded, Mark};
 use stream_model::{ends_are_counted, entries_are_of_transfers};
 
 /// The shard of a search: one engine for each transfer, a reader of both rings, and the space that it reads headers to,
-/// and blocks of data where it has room for one. `turns` counts its turns, up to the greatest u64, and `done` the
-/// engines that ended; it has `ended` where no block comes after those that it cleared.
+/// and those blocks of data that end past the engine's chunk, where it has room for one. `turns` counts its turns, up
+/// to the greatest u64, and `done` the engines that ended; it has `ended` where no block comes after those that it
+/// cleared.
 #[derive(Drop)]
 pub struct ShardActor {
     pub part: Bank,
@@ -46,9 +47,10 @@ impl ShardActor {
     ghost use Rattle.session_readers.specs.Shards.{shard_cleared, IsRetired, KeepsEngines, ShardOn, ShardMoved, ShardStepped};
 
     /// Takes one turn. Before the data of each transfer it reads a header and clears it; else it clears a block of data
-    /// and feeds it to the engine of its transfer, which it ends after the last block. Where the space has room for a
-    /// block, it is copied there and cleared before the engine is fed; else the engine is fed where the block lies. A
-    /// read that finds nothing lets other threads run.
+    /// and feeds it to the engine of its transfer, which it ends after the last block. Where a block ends within the
+    /// chunk that the engine holds, it is unpacked where it lies, and a full chunk is searched once the block is
+    /// cleared. Where it ends past it, it is copied to the space, where that has room for one, and cleared before the
+    /// engine is fed; else the engine is fed where the block lies. A read that finds nothing lets other threads run.
     #[tactic(auto, using(crate::proofs::Moves::shard_turned))]
     pub fn turn(&mut self, hdu: &Hdu)
         requires on { ShardOn hdu.now self.old }
@@ -80,9 +82,9 @@ impl ShardActor {
         read_header(hdu, reader, self.space.as_mut_slice());
     }
 
-    // Clears the next block of data, and feeds it to the engine of its transfer. The engine ends, and so searches what
-    // is left and all folds, once the block is cleared: meanwhile other shards can take it, and the writer its buffer.
-    // No clause asks for the clear before that, nor before the engine is fed.
+    // Clears the next block of data, and feeds it to the engine of its transfer. The engine searches a chunk that is
+    // full, and ends, and so searches what is left and all folds, once the block is cleared: meanwhile other shards can
+    // take it, and the writer its buffer. No clause asks for the clear before that.
     fn take_block(&mut self, hdu: &Hdu)
         requires on { ShardOn hdu.now self.old }
         requires running { self.old.ended ≡ false }

@@ -19,6 +19,7 @@ next_bytes d n start xs =
 pub loop-done-preserved : goal.loop-done-preserved
 loop-done-preserved c =
     let before = c.loop-done.invariant in
+    let s = c.search_full.ensures in
     let t = c.take_piece-done.ensures in
     let d = c.loop-done.done in
     let n = c.take_piece-done.result in
@@ -29,15 +30,20 @@ loop-done-preserved c =
     let within = before.within in
     let fed = t.fed in
     let all = before.fed in
+    let still = s.fed in
     record {
       within = omega (arith, most, long, rest, within);
-      same = record { search = t.same.search ∙ before.same.search; shard = t.same.shard ∙ before.same.shard };
-      scope = t.scope ∙ before.scope;
-      running = t.running;
-      fed = omega (arith, fed, all);
+      same = record {
+        search = t.same.search ∙ s.same.search ∙ before.same.search;
+        shard = t.same.shard ∙ s.same.shard ∙ before.same.shard;
+      };
+      scope = t.scope ∙ s.scope ∙ before.scope;
+      running = t.ended ∙ s.running;
+      fed = omega (arith, fed, still, all);
       taken = λ o start stands.
           let P : List ℕ → Type 0 = λ ys. HasTakenChunks o ys c.take_piece-done.new.self in
-          subst P (next_bytes d n start xs) (t.taken o (start ++ take d xs) (before.taken o start stands));
+          subst P (next_bytes d n start xs) (t.taken o (start ++ take d xs)
+          (s.taken o (start ++ take d xs) (before.taken o start stands)));
     }
 
 pub returns-clause-taken : goal.returns-clause-taken

@@ -5,7 +5,7 @@ use Rattle.search_engine.specs.Scope.{Scope, bytes_in, limit_in_bytes, marks_of}
 use Rattle.search_engine.proofs.Feeding.{more_taken, size_is}
 use Rattle.search_engine.proofs.Slices.{bytes_are, pieces_are}
 use Rattle.shard_search.specs.Sought.{Sought}
-use Rattle.search_engine.proofs.engine.Engine.feed.Goals as goal
+use Rattle.search_engine.proofs.engine.Engine.unpack.Goals as goal
 
 pub returns-clause-part : goal.returns-clause-part
 returns-clause-part c = λ o before stands.
@@ -33,7 +33,7 @@ returns-clause-part c = λ o before stands.
     let now = ap (λ (e : EngineState). e.fed) c.self-2.view_is in
     let four = more_taken o (xs ++ take (to - from) (drop from bytes)) _ (length bytes - to) three
     (omega (arith, few, fed, most, less, long, then, now)) in
-    let size = size_is o _ old.chunks.taken.holds.searches in
+    let size = size_is o _ old.chunks.holds.searches in
     let same : j.sums.pulses.sought ≡ sought = ap (λ (e : EngineState). e.sums.pulses.sought) c.self-2.view_is
     ∙ ap (λ (s : Scope). s.sought) c.take_pieces.ensures.scope in
     let is = pieces_are o sought i.skipped to from i.fed i.stop before bytes

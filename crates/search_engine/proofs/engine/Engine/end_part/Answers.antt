@@ -10,7 +10,7 @@ use Rattle.row_schedule.specs.Samples.{values_of}
 use Rattle.search_model.specs.Samples.{Filterbank}
 use Rattle.spectra_rows.specs.Unpacking.{Unpacking}
 use Rattle.shard_search.specs.Counts.{most_tables}
-use Rattle.search_engine.specs.Engine.{BeginsWith, EngineState, HasFoundIn, HoldsData, StandsForPart, chunk_of, scope_of}
+use Rattle.search_engine.specs.Engine.{BeginsWith, EngineState, HasFoundIn, HoldsData, HoldsNoChunk, StandsForPart, chunk_of, scope_of}
 use Rattle.search_engine.specs.Scope.{Scope, bytes_in, kept_by, kept_samples, marks_of, spectrum_size}
 use Rattle.fold_search.specs.Judging.{Adds}
 use Rattle.shard_search.specs.Sought.{Sought, cells_in, sought_of}
@@ -21,26 +21,26 @@ use Rattle.search_engine.proofs.Silenced.{IsHidden, hidden_alike, hidden_given, 
 use Rattle.search_engine.proofs.Whole.{found_in, has_searched, scope_at}
 use Rattle.search_engine.proofs.WholeChunks.{last_are}
 use Rattle.search_engine.proofs.Searched.{book_more, book_of_all, pulses_so_far}
-use Rattle.search_engine.proofs.Sizes.{none_left, same_size, sizes_kept, spectra_are}
-use Rattle.search_engine.proofs.engine.Engine.end.Goals as goal
+use Rattle.search_engine.proofs.Sizes.{same_size, sizes_kept, spectra_are}
+use Rattle.search_engine.proofs.engine.Engine.end_part.Goals as goal
 
 pub hide-requires-clause-count : goal.hide-requires-clause-count
-hide-requires-clause-count c = marks_fit c.self.invariant.0.observation _ c.self.invariant.0.taken.holds.searches
+hide-requires-clause-count c = marks_fit c.self.invariant.0.observation _ c.self.invariant.0.holds.searches
 
 pub hide-requires-clause-few : goal.hide-requires-clause-few
-hide-requires-clause-few c = few_channels c.self.invariant.0.observation _ c.self.invariant.0.taken.holds.searches
+hide-requires-clause-few c = few_channels c.self.invariant.0.observation _ c.self.invariant.0.holds.searches
 
 pub take-requires-clause-rows : goal.take-requires-clause-rows
 take-requires-clause-rows c =
     let w = c.self.invariant.0 in
-    rows_long c.edges_fall.ensures w.observation _ _ w.taken.holds.searches
+    rows_long c.edges_fall.ensures w.observation _ _ w.holds.searches
     (c.samples.ensures.long ∙ ap (λ (x : Unpacking). x.channels * x.chunk) c.hide.ensures.same)
 
 pub take-requires-clause-few : goal.take-requires-clause-few
 take-requires-clause-few c =
     let w = c.self.invariant.0 in
     let whole = c.spectra-spectra.ensures.whole in
-    let few = few_spectra w.observation _ _ c.spectra-spectra.result w.taken.holds (omega (arith, whole)) in
+    let few = few_spectra w.observation _ _ c.spectra-spectra.result w.holds (omega (arith, whole)) in
     omega (arith, few)
 
 pub take-requires-clause-stream : goal.take-requires-clause-stream
@@ -48,35 +48,33 @@ take-requires-clause-stream c =
     let w = c.self.invariant.0 in
     let whole = c.spectra-spectra.ensures.whole in
     goes_on c.samples_of_bytes.ensures w.observation _ (values_of c.samples.result) _ c.spectra-spectra.result
-    w.taken.holds (omega (arith, whole)) (λ k t. hidden_rows _ c.self.inside.unpacker c.hide.new.unpacker
+    w.holds (omega (arith, whole)) (λ k t. hidden_rows _ c.self.inside.unpacker c.hide.new.unpacker
     (values_of c.samples.result) _ _ k t c.hide.ensures.same c.samples.ensures.rows
-    (c.hide.ensures.kept _ _ w.taken.holds.held))
+    (c.hide.ensures.kept _ _ w.holds.held))
 
 pub take-requires-clause-room : goal.take-requires-clause-room
 take-requires-clause-room c =
     let w = c.self.invariant.0 in
     let whole = c.spectra-spectra.ensures.whole in
-    let few = few_spectra w.observation _ _ c.spectra-spectra.result w.taken.holds (omega (arith, whole)) in
-    let room = w.room (ap (λ (e : EngineState). e.has_ended) c.self.view_is ∙ c.requires) in
+    let few = few_spectra w.observation _ _ c.spectra-spectra.result w.holds (omega (arith, whole)) in
+    let room = w.room (ap (λ (e : EngineState). e.has_ended) c.self.view_is ∙ c.requires.running) in
     omega (arith, few, room)
 
 pub end-requires : goal.end-requires
 end-requires c =
     let w = c.self.invariant.0 in
     let whole = c.spectra-spectra.ensures.whole in
-    let few = few_spectra w.observation _ _ c.spectra-spectra.result w.taken.holds (omega (arith, whole)) in
-    let room = w.room (ap (λ (e : EngineState). e.has_ended) c.self.view_is ∙ c.requires) in
+    let few = few_spectra w.observation _ _ c.spectra-spectra.result w.holds (omega (arith, whole)) in
+    let room = w.room (ap (λ (e : EngineState). e.has_ended) c.self.view_is ∙ c.requires.running) in
     let count = c.take.ensures.taken.count in
     omega (arith, few, room, count)
 
 pub invariant_of-self : goal.invariant_of-self
 invariant_of-self c =
     let w = c.self.invariant.0 in
-    let holds = w.taken.holds in
+    let holds = w.holds in
     let i = c.self.inside in
     let whole = c.spectra-spectra.ensures.whole in
-    let chunk = holds.searches.chunk in
-    let least = holds.searches.range.parts.least_chunk in
     let hidden : IsHidden (kept_by (marks_of i.masked)) i.unpacker c.hide.new.unpacker c.taken.new.self = record {
       rows = c.hide.ensures.same;
       none = c.taken.ensures.part;
@@ -102,11 +100,7 @@ invariant_of-self c =
       record {
         observation = w.observation;
         bytes = w.bytes;
-        taken = record {
-          holds = subst P (sym c.end.ensures.same) searched;
-          part = none_left c.hide.new.unpacker c.taken.new.self c.taken.ensures.part
-              (let same = ap (λ (x : Unpacking). x.chunk) c.hide.ensures.same in omega (arith, same, chunk, least));
-        };
+        holds = subst P (sym c.end.ensures.same) searched;
         room = λ running. absurd (let other : true ≡ false = running in cc);
       },
       sizes_kept _ _ _ _ i.unpacker c.taken.new.self i.sums.pulses.sought c.end.new.self.pulses.sought
@@ -120,8 +114,10 @@ returns-clause-found c = λ o bytes stands.
     let P : EngineState → Type 0 = λ e. StandsForPart o bytes e in
     let part = subst P (sym c.self.view_is) stands in
     let old = part.chunks in
-    let holds = old.taken.holds in
+    let holds = old.holds in
     let s = holds.searches in
+    let H : EngineState → Type 0 = λ e. HoldsNoChunk e in
+    let short = subst H (sym c.self.view_is) c.requires.part in
     let masked : List Bool = marks_of i.masked in
     let sought : Sought = i.sums.pulses.sought in
     let xs : List ℕ = bytes_in o sought bytes in
@@ -190,7 +186,7 @@ returns-clause-found c = λ o bytes stands.
       tables = ap (λ (t : ShardState). t.carry.has_tables) same ∙ c.take.ensures.tables;
       last = ap (λ (t : ShardState). t.carry.last) same ∙ c.take.ensures.last
           ∙ last_are u r (chunk_of i.search) g.spectra most_tables i.sums.carry.tables.most s.most all old.chunks
-          (subst (λ n. r < n) s.chunk (let part = old.taken.part in omega (arith, part, whole)));
+          (subst (λ n. r < n) s.chunk (omega (arith, short, whole)));
       all = ap (λ n. i.fed / n) (same_size _ _ (hidden_alike _ _ _ _ hidden) ∙ size_is o _ s)
           ∙ ap (λ n. n / spectrum_size o) (sym part.count) ∙ sym (spectra_are o bytes);
       alike = λ f begins long.
