@@ -1,6 +1,7 @@
 -- How a program that searches alone ends: what any run comes to, over inputs whose calm may be another.
 use Rattle.std.proofs.Common.{◌≡◌, ◌≢◌, ◌⊎◌, ℕ, zero, suc, ◌<◌, List, [], ◌∷◌, length, refl, ap, sym, subst, inl, inr, Some, None, Contains, lit<, arith}
 use Rattle.std.specs.Prelude.{Option}
+use Rattle.std.proofs.lemmas.Bool.{cases_eq}
 use Rattle.std.proofs.lemmas.List.Elements.{Contains-append_left}
 use Rattle.psr_base.specs.Told.{InputsSeen}
 use Rattle.psr_base.specs.Made.{FilesSeen}
@@ -14,13 +15,13 @@ use Rattle.disk_feeder.specs.declared.answers.FeedEnd.{FeedEnd}
 use Rattle.disk_feeder.specs.declared.answers.FeedEnd.TheVariants as feed
 use Rattle.disk_feeder.specs.Filling.{HoldsAll}
 use Rattle.run_stop.specs.declared.stop.Stop.{Stop}
-use Rattle.run_stop.specs.declared.stop.Stop.TheVariants.{Words, Value, Header, Plan, Recording, Memory, ReadFault, Gap, TooLong, TooMany, SinkFault, FileFault}
+use Rattle.run_stop.specs.declared.stop.Stop.TheVariants.{Header, ReadFault, Gap, TooLong}
 use Rattle.run_stop.specs.Texts.{status_of}
 use Rattle.run_stop.specs.Conversions.{stop_of_words, stop_of_feed}
 use Rattle.run_stop.specs.Lone.{LoneSearch, SayAlone, ExplainsAlone}
 use Rattle.run_stop.specs.Runs.{Alone, ForFiles, PassesTo, CanBegin}
 use Rattle.run_stop.specs.Outcomes.{JudgesWords, ReadsInputs, StopsAtFiles, BreaksStream, SealsStream, AllCleared}
-use Rattle.run_stop.specs.Ends.{CountsFaults, StopsBefore, IsRecorded, RunsThrough, WordsSayOnce, EndAtWords, EndBeforeSession, EndAtStop, EndAfterWhole}
+use Rattle.run_stop.specs.Ends.{CountsFaults, StopsBefore, IsRecorded, RunsThrough, StatusesSayStops, WordsSayOnce, EndAtWords, EndBeforeSession, EndAtStop, EndAfterWhole}
 use Rattle.lone_run.specs.Outcomes.{SealsAlone, RunsAlone, EndsAlone}
 use Rattle.lone_run.specs.EndLaws.{AloneAtWords, AloneBeforeSession, AloneAtOwnStop, AloneAtFeedStop, AloneAfterWhole, GoesThrough}
 
@@ -42,31 +43,6 @@ no_files : FilesSeen
 no_files = record { made = None; left = None; faults = 0 }
 
 -- ---- statuses
-
--- 6, or another
-six_or_not : (n : ℕ) → (n ≡ 6) ⊎ (n ≢ 6)
-six_or_not (suc (suc (suc (suc (suc (suc zero)))))) = inl refl
-six_or_not zero = inr (λ e. omega (arith, e))
-six_or_not (suc zero) = inr (λ e. omega (arith, e))
-six_or_not (suc (suc zero)) = inr (λ e. omega (arith, e))
-six_or_not (suc (suc (suc zero))) = inr (λ e. omega (arith, e))
-six_or_not (suc (suc (suc (suc zero)))) = inr (λ e. omega (arith, e))
-six_or_not (suc (suc (suc (suc (suc zero))))) = inr (λ e. omega (arith, e))
-six_or_not (suc (suc (suc (suc (suc (suc (suc n))))))) = inr (λ e. omega (arith, e))
-
-six_is : (stop : Stop) → status_of stop ≡ 6 → stop ≡ ReadFault
-six_is Words e = absurd (omega (arith, e))
-six_is (Value opt) e = absurd (omega (arith, e))
-six_is (Header file cause) e = absurd (omega (arith, e))
-six_is (Plan cause) e = absurd (omega (arith, e))
-six_is (Recording cause) e = absurd (omega (arith, e))
-six_is Memory e = absurd (omega (arith, e))
-six_is ReadFault e = refl
-six_is (Gap file expected found) e = absurd (omega (arith, e))
-six_is (TooLong limit) e = absurd (omega (arith, e))
-six_is (TooMany count limit) e = absurd (omega (arith, e))
-six_is SinkFault e = absurd (omega (arith, e))
-six_is FileFault e = absurd (omega (arith, e))
 
 -- a status with a data ring, of a run that makes no files
 with_ring : (own n : ℕ) → n ≢ 11 → Contains (0 ∷ 3 ∷ 6 ∷ 7 ∷ 8 ∷ 9 ∷ 10 ∷ 11 ∷ []) n →
@@ -235,12 +211,13 @@ module _ (own : ℕ) (lone : LoneSearch) (words : List (List ℕ)) (inputs : Inp
 
     before_session : (calm is_calm : Type 0) → EndBeforeSession calm → (stop : Stop) →
         StopsBefore (Alone lone) words inputs.told stop → CountsFaults inputs is_calm s.names (stop ≡ ReadFault) →
-        (status_of stop ≡ 6) ⊎ (status_of stop ≢ 6) → EndsAlone own lone words inputs is_calm None stop
-    before_session calm is_calm law stop b read (inl six) =
-        let is : stop ≡ ReadFault = six_is stop six in
+        StatusesSayStops → (status_of stop ≡ 6) ⊎ (status_of stop ≢ 6) →
+        EndsAlone own lone words inputs is_calm None stop
+    before_session calm is_calm law stop b read stops (inl six) =
+        let is : stop ≡ ReadFault = stops.read_fault stop six in
         subst (λ (x : Stop). EndsAlone own lone words inputs is_calm None x) (sym is)
         (fault_before is_calm (subst (λ (x : Stop). CountsFaults inputs is_calm s.names (x ≡ ReadFault)) is read))
-    before_session calm is_calm law stop b read (inr other) = other_before calm is_calm law stop b other read
+    before_session calm is_calm law stop b read stops (inr other) = other_before calm is_calm law stop b other read
 
     -- its own stop
     at_own_stop : (is_calm : Type 0) → 11 < own → CountsFaults inputs is_calm s.names ⊥ →
@@ -427,9 +404,10 @@ pub words_law : (calm is_calm : Type 0) → EndAtWords calm → AloneAtWords is_
 words_law calm is_calm law own lone words inputs fault stop why is still =
     at_words own lone words inputs calm is_calm law fault stop why is still
 
-pub before_law : WordsSayOnce → (calm is_calm : Type 0) → EndBeforeSession calm → AloneBeforeSession is_calm
-before_law once calm is_calm law own lone words s inputs stop says b read =
-    before_session own lone words inputs once s says calm is_calm law stop b read (six_or_not (status_of stop))
+pub before_law : WordsSayOnce → StatusesSayStops → (calm is_calm : Type 0) → EndBeforeSession calm →
+    AloneBeforeSession is_calm
+before_law once stops calm is_calm law own lone words s inputs stop says b read =
+    before_session own lone words inputs once s says calm is_calm law stop b read stops (cases_eq (status_of stop) 6)
 
 pub own_law : (is_calm : Type 0) → WordsSayOnce → AloneAtOwnStop is_calm
 own_law is_calm once own lone words s inputs far says read =

@@ -8,37 +8,38 @@ use Rattle.psr_base.specs.Told.{Told}
 use Rattle.dada_model.specs.Fields.{HeaderText}
 use Rattle.dada_model.specs.Observation.{Observation}
 use Rattle.search_model.specs.declared.search.Search.{Search}
-use Rattle.search_words.specs.Settings.{SettingsSeen, AllInRange}
+use Rattle.search_words.specs.Settings.{SettingsSeen, AllInRange, with_search}
 use Rattle.stream_model.specs.Walk.{FileStream, observation_at}
 use Rattle.stream_model.specs.WalkLaws.{IsAccepted}
 use Rattle.search_model.specs.Plan.{plan_refusal}
 use Rattle.search_engine.specs.Engine.{most_fed}
 use Rattle.search_engine.specs.Scope.{Scope}
 use Rattle.disk_feeder.specs.declared.feeder.Feeder.{Feeder}
-use Rattle.disk_feeder.specs.Feeder.{headers_of}
+use Rattle.disk_feeder.specs.Feeder.{HasPlan, headers_of}
 use Rattle.session_readers.specs.declared.bank.Bank.{Bank}
 use Rattle.search_session.specs.declared.lone_space.LoneSpace.{LoneSpace}
 use Rattle.search_session.specs.Lone.{IsLoneSpace}
 use Rattle.search_opening.specs.Feeders.{HasAcceptedFirsts}
-use Rattle.search_opening.specs.First.{AreFirsts, AreFirstsAt, AreObserved}
+use Rattle.search_opening.specs.First.{AreFirsts, AreFirstsAt, AreObserved, ComesFirst}
 use Rattle.search_opening.specs.Plans.{IsOfPlan, RefusesObservation, StopsSearch}
 use Rattle.run_stop.specs.declared.causes.PlanCause.{PlanCause}
 use Rattle.run_stop.specs.declared.stop.Stop.{Stop}
 use Rattle.run_stop.specs.declared.stop.Stop.TheVariants.{Plan, Memory, ReadFault}
 use Rattle.run_stop.specs.Firsts.{first_name, ReadsFirsts}
 use Rattle.run_stop.specs.Lone.{LoneSearch, IsOfOne}
-use Rattle.run_stop.specs.Runs.{Task, RecordingAlone, Alone, OfEachFirst, MayBegin, CanSearchFirst, IsPlanCause, RefusesSearch, RefusesSearchAt, first_observation, stream_for}
+use Rattle.run_stop.specs.Runs.{Alone, OfEachFirst, MayBegin, CanSearchFirst, IsPlanCause, RefusesSearch, RefusesSearchAt, first_observation, stream_for}
 use Rattle.run_stop.specs.Ends.{ComesBefore}
 use Rattle.search_opening.specs.Begun.{HasFirsts}
 use Rattle.search_opening.specs.Early as early
 use Rattle.search_opening.specs.Early.{SaysEarly, LeavesEarly, EarlyStopsStand}
+use Rattle.search_opening.specs.Ended.{FirstsStayTold}
 use Rattle.search_opening.specs.Settings.{OfRunFirsts}
 use Rattle.lone_run.specs.declared.stop.LoneStop.{LoneStop}
 use Rattle.lone_run.specs.declared.stop.LoneStop.TheVariants.{Run, Unscoped}
 use Rattle.lone_run.specs.Scopes.{IsScoped, IsBankOf}
-use Rattle.lone_run.specs.Stops.{RefusesFirst, ScopesFirst, SaysAlone, StopsEarly, StopsBank}
+use Rattle.lone_run.specs.Stops.{SaysAlone, StopsEarly, StopsBank}
 use Rattle.lone_run.specs.Openings.{IsFeederReady, IsOpenedAlone, shape_for}
-use Rattle.lone_run.proofs.Told.{FeedsRun, firsts_before_reading, file_before_reading, each_before_reading}
+use Rattle.lone_run.proofs.Told.{file_before_reading}
 
 -- ---- the one observation
 
@@ -54,13 +55,6 @@ only_observed headers observations are one =
     sym (length-map are.said Ok) ∙ sym (ap length are.accepted) ∙ length-map headers _ ∙ one in
     let only = one_of are.said count in
     (only.0, are.here ∙ ap (map (λ (x : Observation). Some x)) only.1)
-
-pub same_one : (a b : Observation) (xs ys : List (Option Observation)) → xs ≡ ys → xs ≡ Some a ∷ [] →
-    ys ≡ Some b ∷ [] → a ≡ b
-same_one a b xs ys same one other = inside (sym one ∙ same ∙ other)
-  where
-    inside : Some a ∷ [] ≡ Some b ∷ [] → a ≡ b
-    inside is = cc
 
 pub first_is : (w : FileStream) (o : Observation) → AreFirsts w (Some o ∷ []) → o ≡ first_observation w 0
 first_is w o firsts =
@@ -103,7 +97,7 @@ module _ (s : SettingsSeen) (told : Told) (headers : List HeaderText) (o : Obser
       let first = each k below file is in
       subst P (one_place o first.observation k (omega (arith, below, one)) first.said ∙ first.is) holds
 
-  search_at : (cause : PlanCause) → RefusesObservation s.search (Some o ∷ []) cause → RefusesSearchAt s told cause
+  search_at : (cause : PlanCause) → RefusesObservation s.search (Some o ∷ []) cause → RefusesSearchAt s.search s told cause
   search_at cause r =
       let within = slice_get_within (Some o ∷ []) r.transfer (Some r.observation) r.there in
       let first : r.transfer ≡ 0 = omega (arith, within) in
@@ -122,7 +116,7 @@ module _ (s : SettingsSeen) (told : Told) (headers : List HeaderText) (o : Obser
       MayBegin (Alone lone) s told
   begins_at unrecorded fits lone = record {
     accepted = each_accepted;
-    searched = λ task. each_of_one (λ p. plan_refusal p s.search ≡ None) fits;
+    searched = each_of_one (λ p. plan_refusal p s.search ≡ None) fits;
     recorded = λ on. absurd (true≢false (sym on ∙ unrecorded));
   }
 
@@ -168,14 +162,14 @@ memory_stops scopes refuses s told = record {
 
 -- the one observation is that of the first file
 only_firsts : {I : Type 0} (told : I → Told) (is_open : I → Type 0) (s : SettingsSeen) (f : Feeder I)
-    (observations : List (Option Observation)) (o : Observation) → HasFirsts told is_open s f observations →
+    (observations : List (Option Observation)) (o : Observation) → HasFirsts told is_open (with_search tt s) f observations →
     observations ≡ Some o ∷ [] → OfRunFirsts (told f.inputs.now) s (λ w. AreFirsts w (Some o ∷ []))
 only_firsts told is_open s f observations o begun one =
     subst (λ os. OfRunFirsts (told f.inputs.now) s (λ w. AreFirsts w os)) one begun.firsts
 
 -- and of the file by itself
 each_first : {I : Type 0} (told : I → Told) (is_open : I → Type 0) (s : SettingsSeen) (f : Feeder I)
-    (observations : List (Option Observation)) (o : Observation) → HasFirsts told is_open s f observations →
+    (observations : List (Option Observation)) (o : Observation) → HasFirsts told is_open (with_search tt s) f observations →
     observations ≡ Some o ∷ [] → AreFirstsAt (told f.inputs.now) s.names s.starts (headers_of f) (Some o ∷ [])
 each_first told is_open s f observations o begun one =
     subst (λ os. AreFirstsAt (told f.inputs.now) s.names s.starts (headers_of f) os) one begun.each
@@ -183,7 +177,7 @@ each_first told is_open s f observations o begun one =
 pub bank_stops : {I F : Type 0} (told : I → Told) (is_open : I → Type 0)
     (scopes : Observation → Search → Scope → Type 0) (refuses : Observation → F → Type 0) (s : SettingsSeen)
     (f : Feeder I) (observations : List (Option Observation)) (o : Observation) (stop : LoneStop F) →
-    length s.starts ≡ 1 → HasFirsts told is_open s f observations → observations ≡ Some o ∷ [] →
+    length s.starts ≡ 1 → HasFirsts told is_open (with_search tt s) f observations → observations ≡ Some o ∷ [] →
     StopsBank scopes refuses s.search o stop → StopsEarly scopes refuses s (told f.inputs.now) stop
 bank_stops told is_open scopes refuses s f observations o (Run stop) single begun one (inl want) =
     subst (λ (x : Stop). StopsEarly scopes refuses s (told f.inputs.now) (Run x)) (sym want)
@@ -224,47 +218,41 @@ bank_readable scopes refuses s o (Run stop) (inr (plan, scoped, stops)) is = let
 bank_readable scopes refuses s o (Unscoped refusal) refused is = cc
 
 -- a first header is refused, or could not be read: so it is whatever a run is for, and of no plan then
-no_plan_early : (s : SettingsSeen) (told : Told) (stop : Stop) → SaysEarly RecordingAlone s told stop →
-    IsOfPlan stop → ⊥
-no_plan_early s told stop says is =
-    let searches = (subst (λ x. SaysEarly RecordingAlone s told x) is.1 says).0 in
-    true≢false (sym searches)
-
 pub begin_stops : {F : Type 0} (scopes : Observation → Search → Scope → Type 0) (refuses : Observation → F → Type 0)
-    (s : SettingsSeen) (told : Told) (stop : Stop) → ((task : Task) → early.StopsEarly task s told stop) →
+    (s : SettingsSeen) (told : Told) (stop : Stop) → ComesFirst stop →
+    ComesBefore stop → ((lone : LoneSearch) → early.StopsEarly (Alone lone) s told stop) →
     StopsEarly scopes refuses s told (Run stop)
-begin_stops scopes refuses s told stop stops = record {
-  kind = (stops RecordingAlone).kind;
-  says = λ lone. (
-    (stops (Alone lone)).says,
-    λ is. absurd (no_plan_early s told stop (stops RecordingAlone).says is),
-  );
+begin_stops scopes refuses s told stop first kind stops = record {
+  kind = kind;
+  says = λ lone. ((stops lone).says, λ is. absurd (subst ComesFirst is.1 first));
 }
 
 -- what a stop says of the files stands as long as what is told under the names does
-alone_before_reading : {F : Type 0} → EarlyStopsStand → (scopes : Observation → Search → Scope → Type 0)
-    (refuses : Observation → F → Type 0) (lone : LoneSearch) (s : SettingsSeen) (old new : Told) (stop : LoneStop F) →
-    new.bytes_under ≡ old.bytes_under → SaysAlone scopes refuses lone s new stop →
-    SaysAlone scopes refuses lone s old stop
-alone_before_reading stand scopes refuses lone s old new (Run stop) same says = (
+alone_before_reading : {F : Type 0} → EarlyStopsStand → FirstsStayTold →
+    (scopes : Observation → Search → Scope → Type 0) (refuses : Observation → F → Type 0) (lone : LoneSearch)
+    (s : SettingsSeen) (old new : Told) (stop : LoneStop F) → new.bytes_under ≡ old.bytes_under →
+    SaysAlone scopes refuses lone s new stop → SaysAlone scopes refuses lone s old stop
+alone_before_reading stand stay scopes refuses lone s old new (Run stop) same says = (
   stand (Alone lone) s old new stop same says.0,
-  λ plan. firsts_before_reading s old new (ScopesFirst scopes s) same (says.1 plan),
+  λ plan files are. says.1 plan files (stay s.names s.starts old new files same are),
 )
-alone_before_reading stand scopes refuses lone s old new (Unscoped refusal) same says = (
+alone_before_reading stand stay scopes refuses lone s old new (Unscoped refusal) same says = (
   record {
-    accepted = each_before_reading old new s IsAccepted same says.0.accepted;
+    accepted = λ k below. file_before_reading old new (first_name s.names s.starts k) IsAccepted same
+        (says.0.accepted k below);
     refused = file_before_reading old new (first_name s.names s.starts 0)
         (λ file. refuses (observation_at file) refusal) same says.0.refused;
   },
-  firsts_before_reading s old new (λ w. RefusesFirst refuses w refusal) same says.1,
+  λ files are. says.1 files (stay s.names s.starts old new files same are),
 )
 
-pub stops_before_reading : {F : Type 0} → EarlyStopsStand → (scopes : Observation → Search → Scope → Type 0)
-    (refuses : Observation → F → Type 0) (s : SettingsSeen) (old new : Told) (stop : LoneStop F) →
-    new.bytes_under ≡ old.bytes_under → StopsEarly scopes refuses s new stop → StopsEarly scopes refuses s old stop
-stops_before_reading stand scopes refuses s old new stop same stops = record {
+pub stops_before_reading : {F : Type 0} → EarlyStopsStand → FirstsStayTold →
+    (scopes : Observation → Search → Scope → Type 0) (refuses : Observation → F → Type 0) (s : SettingsSeen)
+    (old new : Told) (stop : LoneStop F) → new.bytes_under ≡ old.bytes_under →
+    StopsEarly scopes refuses s new stop → StopsEarly scopes refuses s old stop
+stops_before_reading stand stay scopes refuses s old new stop same stops = record {
   kind = stops.kind;
-  says = λ lone. alone_before_reading stand scopes refuses lone s old new stop same (stops.says lone);
+  says = λ lone. alone_before_reading stand stay scopes refuses lone s old new stop same (stops.says lone);
 }
 
 -- ---- what was read
@@ -273,7 +261,7 @@ stops_before_reading stand scopes refuses s old new stop same stops = record {
 pub leaves_opening : {I T F : Type 0} (told : I → Told) (is_calm : Type 0) (s : SettingsSeen) (old mid new : I)
     (r : Result T (LoneStop F)) (stop : Stop) →
     OfRunFirsts (told old) s (λ w. ReadsFirsts s.names w (told old) (told mid)) → new ≡ mid →
-    r ≢ Err (Run ReadFault) → r ≡ Err (Run stop) → LeavesEarly s is_calm (told old) (told new) stop
+    r ≢ Err (Run ReadFault) → r ≡ Err (Run stop) → LeavesEarly (with_search tt s) is_calm (told old) (told new) stop
 leaves_opening told is_calm s old mid new r stop only same readable is =
     let Reads : _ → Type 0 = λ i. OfRunFirsts (told old) s (λ w. ReadsFirsts s.names w (told old) (told i)) in
     record {
@@ -284,7 +272,7 @@ leaves_opening told is_calm s old mid new r stop only same readable is =
 -- ---- what is opened
 
 plan_stays : {I : Type 0} (told : I → Told) (s : SettingsSeen) (old new : Feeder I) → HasAcceptedFirsts told old new →
-    FeedsRun old s → FeedsRun new s
+    HasPlan old s.names s.starts s.size s.max_bytes → HasPlan new s.names s.starts s.size s.max_bytes
 plan_stays told s old new is plan = record {
   files = is.kept.plan.names ∙ plan.files;
   transfers = is.kept.plan.starts ∙ plan.transfers;
@@ -295,7 +283,7 @@ plan_stays told s old new is plan = record {
 
 feeder_ready : {I : Type 0} (told : I → Told) (is_open : I → Type 0) (s : SettingsSeen) (header : HeaderText)
     (old new : Feeder I) (observations : List (Option Observation)) → HasAcceptedFirsts told old new →
-    HasFirsts told is_open s old observations → slice_get (headers_of old) 0 ≡ Some header →
+    HasFirsts told is_open (with_search tt s) old observations → slice_get (headers_of old) 0 ≡ Some header →
     IsFeederReady told is_open s header new
 feeder_ready told is_open s header old new observations is begun first =
     let Open : _ → Type 0 = is_open in
@@ -310,7 +298,7 @@ feeder_ready told is_open s header old new observations is begun first =
 
 pub is_opened : {I : Type 0} (told : I → Told) (is_open : I → Type 0) (s : SettingsSeen) (old new : Feeder I)
     (observations : List (Option Observation)) (o : Observation) (scope : Scope) (bank : Bank) (header : HeaderText)
-    (space : LoneSpace) → HasAcceptedFirsts told old new → HasFirsts told is_open s old observations →
+    (space : LoneSpace) → HasAcceptedFirsts told old new → HasFirsts told is_open (with_search tt s) old observations →
     observations ≡ Some o ∷ [] → AllInRange s → IsOfOne s → slice_get (headers_of old) 0 ≡ Some header →
     IsBankOf s.search o scope bank → IsLoneSpace bank (shape_for s) header space →
     (shape_for s).max_blocks * s.size ≤ most_fed →
@@ -321,7 +309,7 @@ is_opened told is_open s old new observations o scope bank header space is begun
     total plan fits =
     record {
       one = one;
-      most = omega (arith, range.most_bytes);
+      most = omega (arith, range.run.most_bytes);
       header = header;
       feeder = feeder_ready told is_open s header old new observations is begun first;
       bank = bank;

@@ -1,29 +1,24 @@
 -- The session of a lone run: before its first turn, and what it left.
-use Rattle.std.proofs.Common.{◌≡◌, ℕ, ◌+◌, ◌/◌, ◌^◌, ◌<◌, ◌≤◌, List, [], ◌∷◌, Option, Some, length, sym, ap, ◌∙◌, subst, arith}
+use Rattle.std.proofs.Common.{◌≡◌, ℕ, ◌+◌, ◌/◌, ◌≤◌, List, [], ◌∷◌, Option, Some, length, sym, ap, ◌∙◌, subst, arith}
 use Rattle.std.specs.Prelude.{slice_get}
 use Rattle.std.specs.List.{sum_by, range_with_len}
 use Rattle.std.proofs.lemmas.Bool.{true≢false}
+use Rattle.psr_base.specs.Inputs.{HasReadFrom}
 use Rattle.psr_base.specs.Told.{Told}
 use Rattle.dada_model.specs.Observation.{Observation}
 use Rattle.search_words.specs.Settings.{SettingsSeen}
-use Rattle.ring_blocks.specs.declared.Entry.{Entry}
 use Rattle.ring_ends.specs.Ended.{sealed_at_end, cleared_at_end}
 use Rattle.stream_model.specs.Blocks.{transfer_bytes}
-use Rattle.stream_model.specs.Walk.{FileStream, transfer_data}
+use Rattle.stream_model.specs.Walk.{FileStream}
 use Rattle.search_engine.specs.Scope.{Scope}
 use Rattle.search_engine.specs.Engine.{EngineState, HasFoundIn, scope_of}
-use Rattle.disk_feeder.specs.declared.answers.FeedEnd.{FeedEnd}
-use Rattle.disk_feeder.specs.declared.answers.FeedEnd.TheVariants.{Whole, ReadFault, TooLong}
+use Rattle.disk_feeder.specs.declared.answers.FeedEnd.TheVariants.{Whole}
 use Rattle.disk_feeder.specs.declared.feeder.Feeder.{Feeder}
 use Rattle.disk_feeder.specs.declared.feeder.FeederSpace.{FeederSpace}
-use Rattle.disk_feeder.specs.declared.place.Place.{Place}
 use Rattle.disk_feeder.specs.declared.stream.Stream.{Stream}
-use Rattle.disk_feeder.specs.Ends.{NamesPlace}
-use Rattle.disk_feeder.specs.Feeder.{stream_at, names_at, plan_at, block_size}
-use Rattle.disk_feeder.specs.Feeding.{EndIs, IsEnded, SealedAs, StopsWalkAt}
-use Rattle.disk_feeder.specs.Plan.{Plan}
-use Rattle.disk_feeder.specs.Reading.{judged_at}
+use Rattle.disk_feeder.specs.Feeder.{FeederRead, stream_at, plan_at, block_size}
 use Rattle.disk_feeder.specs.Resting.{stream_in, feeder_over}
+use Rattle.disk_feeder.specs.Streams.{StreamRead}
 use Rattle.session_readers.specs.declared.bank.Bank.{Bank}
 use Rattle.search_session.specs.declared.lone_space.LoneSpace.{LoneSpace}
 use Rattle.search_session.specs.declared.lone.LoneEnd.{LoneEnd}
@@ -34,14 +29,14 @@ use Rattle.search_session.specs.Lone.{IsLoneSpace, IsLoneReady, bank_in}
 use Rattle.search_session.specs.LoneEnds.{BankAnswers, session_end}
 use Rattle.search_opening.specs.First.{AreFirsts}
 use Rattle.run_stop.specs.Outcomes.{AllCleared}
-use Rattle.run_stop.specs.Runs.{first_observation, stream_for}
-use Rattle.run_stop.specs.Faults.{FaultLeaves}
-use Rattle.search_opening.specs.Settings.{OfRunTo}
+use Rattle.run_stop.specs.Lone.{LoneSearch}
+use Rattle.run_stop.specs.Runs.{Searching, Alone, first_observation, stream_for}
+use Rattle.search_opening.specs.Ended.{FirstsStayTold, HasReadSince, HasFed}
+use Rattle.search_opening.specs.Settings.{BeginsRun}
 use Rattle.lone_run.specs.declared.found.LoneFound.{LoneFound}
 use Rattle.lone_run.specs.Scopes.{IsBankOf}
 use Rattle.lone_run.specs.Openings.{IsOpenedAlone, shape_for}
 use Rattle.lone_run.specs.Found.{GoesAlone}
-use Rattle.lone_run.proofs.Told.{Every, where_all, all_told, of_plan, passes_plan}
 
 -- ---- a feeder that is taken apart
 
@@ -153,25 +148,6 @@ bank_engine told is_open s lent feeder o scope space start end opened same answe
     let f = answers.engines.each 0 is.engine (has_engine is.engine (engines_of start) engines) in
     (f.0, f.1)
 
--- the data that an end tells of
-few_bytes : (plan : Plan) (told : Told) (at : Place) (size : ℕ) (headers blocks : List Entry) (end : FeedEnd)
-    (bytes limit : ℕ) → IsEnded plan told at size headers blocks end → end ≡ Whole bytes → plan.max_bytes ≡ limit →
-    limit ≤ 2 ^ 48 → bytes ≤ 2 ^ 48
-few_bytes plan told at size headers blocks end bytes limit is whole same most =
-    let By : FeedEnd → Type 0 = λ e. SealedAs plan size is.before is.current headers blocks e in
-    let sealed = subst By whole is.sealed in
-    let few = is.few in
-    let count = sealed.3 in
-    omega (arith, few, count, same, most)
-
--- a limit that an end tells is that of the plan
-ends_at_limit : (plan : Plan) (told : Told) (at : Place) (size : ℕ) (headers blocks : List Entry) (end : FeedEnd)
-    (limit : ℕ) → IsEnded plan told at size headers blocks end → end ≡ TooLong limit → limit ≡ plan.max_bytes
-ends_at_limit plan told at size headers blocks end limit is long =
-    let By : FeedEnd → Type 0 = λ e. SealedAs plan size is.before is.current headers blocks e in
-    let sealed = subst By long is.sealed in
-    sealed.3
-
 -- the sum over one place
 one_place : (f : ℕ → ℕ) (n m : ℕ) → n ≡ 1 → sum_by f (range_with_len 0 n) ≡ m → f 0 ≡ m
 one_place f n m one sum =
@@ -187,57 +163,29 @@ first_is w o n firsts one =
     inside : (a b : Observation) → slice_get (Some a ∷ []) 0 ≡ Some (Some b) → a ≡ b
     inside a b is = cc
 
-pub goes_alone : {I : Type 0} (told : I → Told) (is_open is_calm : I → Type 0) (faults : I → ℕ) (s : SettingsSeen)
-    (lent after : I) (feeder : FeederSpace) (o : Observation) (scope : Scope) (space : LoneSpace) (start : Bank)
-    (end : LoneEnd) (found : LoneFound) →
+pub goes_alone : {I : Type 0} → FirstsStayTold → (told : I → Told) (is_open is_calm : I → Type 0) (faults : I → ℕ)
+    (s : SettingsSeen) (before lent after : I) (feeder : FeederSpace) (o : Observation) (scope : Scope)
+    (space : LoneSpace) (start : Bank) (end : LoneEnd) (found : LoneFound) →
     IsOpenedAlone told is_open s (feeder_over lent feeder) o scope space → start ≡ bank_in space →
     FeedAnswers told is_calm faults (feeder_over lent feeder) (session_end after end) → BankAnswers start end →
+    HasReadSince told is_calm before (feeder_over lent feeder) →
+    HasFed told is_calm Searching s before (feeder_over lent feeder) after end.blocks end.feed →
     found.feed ≡ end.feed → found.observation ≡ o → found.blocks ≡ end.blocks →
     ((e : EngineState) → HasEngine (engines_of end.bank) 0 e → found.engine ≡ e) →
-    GoesAlone s (told lent) o scope found
-goes_alone told is_open is_calm faults s lent after feeder o scope space start end found opened same fed bank feed
-    observed blocks engine =
+    GoesAlone s (told before) o scope found
+goes_alone stay told is_open is_calm faults s before lent after feeder o scope space start end found opened same fed
+    bank read has feed observed blocks engine =
     let f = feeder_over lent feeder in
-    let plan = opened.feeder.plan in
     let is = opened.bank_is in
     let engines = ap (λ (l : Bank). engines_of l) (same ∙ opened.space_is.bank_is) ∙ is.alone in
     let sealed = sealed_at_end end.blocks in
-    let transfers : length (plan_at f).starts ≡ 1 = ap length plan.transfers ∙ opened.one.transfer in
-    let at = fed.place in
-    let judged = judged_at end.feed at in
-    let End : ℕ → Type 0 = λ size. OfRunTo judged (told lent) s (λ w. EndIs w size sealed end.feed) in
-    let Through : List ℕ → FileStream → Type 0 = λ bytes w. bytes ≡ transfer_data w 0 in
+    let transfers : length (plan_at f).starts ≡ 1 =
+    ap length opened.feeder.plan.transfers ∙ opened.one.transfer in
     let Blocks : _ → Type 0 = λ b. AllCleared b 0 1 in
     record {
-      begun = λ lone. (
-        opened.begins lone,
-        λ files are.
-            let firsts = opened.firsts files are in
-            record {
-              accepted = firsts.walked;
-              searched = λ task. opened.fits (stream_for s files) firsts;
-              recorded = λ on. absurd (true≢false (sym on ∙ opened.one.unrecorded));
-            },
-      );
-      at = at;
-      last = λ bytes whole. fed.sealed.last bytes (sym feed ∙ whole) ∙ ap length plan.files;
-      there = λ early. subst (λ names. at.file < length names) plan.files
-          (fed.sealed.there (λ bytes whole. early bytes (feed ∙ whole)));
-      names = subst (λ e. NamesPlace e at.file) (sym feed) fed.sealed.names;
-      limit = λ limit long. ends_at_limit (plan_at f) (told after) at (block_size f) _ _ end.feed limit fed.sealed
-          (sym feed ∙ long) ∙ plan.limit;
-      passed = passes_plan f s (told lent) (told after) at.file plan fed.names fed.sealed.passed;
-      walked = subst (λ b. OfRunTo (judged_at found.feed at) (told lent) s (λ w.
-          EndIs w s.size (sealed_at_end b) found.feed)) (sym blocks)
-          (subst (λ e. OfRunTo (judged_at e at) (told lent) s (λ w. EndIs w s.size sealed e)) (sym feed)
-          (subst End plan.block
-          (of_plan (λ starts count k. k < judged) f s (told lent) (told after)
-          (λ w. EndIs w (block_size f) sealed end.feed) plan fed.names fed.sealed.known)));
-      stops = subst (λ e. OfRunTo (judged_at e at) (told lent) s (λ w. StopsWalkAt e w at.file)) (sym feed)
-          (of_plan (λ starts count k. k < judged) f s (told lent) (told after) (λ w. StopsWalkAt end.feed w at.file)
-          plan fed.names fed.sealed.stops);
       observed = observed;
-      first = λ files are. first_is (stream_for s files) o 0 (opened.firsts files are) opened.one.transfer
+      first = λ files are. first_is (stream_for s files) o 0
+          (opened.firsts files (stay s.names s.starts (told before) (told lent) files read.names are)) opened.one.transfer
           ∙ sym observed;
       cleared = subst Blocks (sym blocks) (λ k below.
           let first : k ≡ 0 = omega (arith, below) in
@@ -251,11 +199,11 @@ goes_alone told is_open is_calm faults s lent after feeder o scope space start e
           let scope_is = ap scope_of same_engine ∙ went.2.scope ∙ is.scope_is in
           let count = one_place (λ k. length (transfer_bytes k sealed)) (length (plan_at f).starts) bytes transfers
           (fed.parts bytes feed_whole) in
-          let few = few_bytes (plan_at f) (told after) at (block_size f) _ _ end.feed bytes s.max_bytes fed.sealed
-          feed_whole plan.limit opened.most in
+          let few = has.few bytes feed_whole in
+          let most = opened.most in
           record {
             bytes = through;
-            few = omega (arith, count, few);
+            few = omega (arith, count, few, most);
             scope_is = scope_is;
             search_is = ap (λ (e : EngineState). e.search) same_engine ∙ went.2.same.search ∙ is.opened.search_is;
             shard_is = ap (λ (e : EngineState). e.shard) same_engine ∙ went.2.same.shard ∙ is.opened.shard_is;
@@ -264,20 +212,47 @@ goes_alone told is_open is_calm faults s lent after feeder o scope space start e
                 (subst (λ c. HasFoundIn o c through found.engine) scope_is
                 (subst (λ e. HasFoundIn o (scope_of e) through e) (sym same_engine)
                 (went.2.stands o is.stands).found));
-            known = where_all (told lent) s (Through through)
-                (of_plan (λ starts count. Every) f s (told lent) (told after) (Through through) plan fed.names
-                (λ files are. fed.walked bytes feed_whole files (all_told (told after) (names_at f) files are) 0
-                (omega (arith, transfers))));
+            known = λ files are. has.through bytes feed_whole files are 0 (omega (arith, opened.one.transfer));
           };
     }
 
--- what a fault of the inputs left
-pub fault_leaves : {I : Type 0} (told : I → Told) (is_calm : I → Type 0) (faults : I → ℕ) (feeder : Feeder I)
-    (after : I) (end : LoneEnd) → FeedAnswers told is_calm faults feeder (session_end after end) →
-    end.feed ≡ ReadFault → FaultLeaves told (is_calm feeder.inputs.now) feeder after end.blocks
-fault_leaves told is_calm faults feeder after end fed failed = record {
-  place = fed.place;
-  there = fed.sealed.there (λ bytes whole. cc);
-  broke = fed.broke failed;
-  missing = λ calm. fed.missing calm failed;
-}
+-- nothing stands against it
+pub begins_alone : {I : Type 0} (told : I → Told) (is_open : I → Type 0) (s : SettingsSeen) (f : Feeder I)
+    (o : Observation) (scope : Scope) (space : LoneSpace) → IsOpenedAlone told is_open s f o scope space →
+    (lone : LoneSearch) → BeginsRun (Alone lone) (told f.inputs.now) s
+begins_alone told is_open s f o scope space opened lone = (
+  opened.begins lone,
+  λ files are.
+      let firsts = opened.firsts files are in
+      record {
+        accepted = firsts.walked;
+        searched = opened.fits (stream_for s files) firsts;
+        recorded = λ on. absurd (true≢false (sym on ∙ opened.one.unrecorded));
+      },
+)
+
+-- what is known where its feeder was taken apart
+pub record IsParted {I : Type 0} (told : I → Told) (is_open is_calm : I → Type 0) (s : SettingsSeen) (before lent : I)
+    (rest : FeederSpace) (o : Observation) (scope : Scope) (space : LoneSpace) : Type 0 where
+  pub opened : IsOpenedAlone told is_open s (feeder_over lent rest) o scope space
+  pub read : HasReadSince told is_calm before (feeder_over lent rest)
+
+pub is_parted : {I : Type 0} (told : I → Told) (is_open is_calm : I → Type 0) (faults : I → ℕ) (failed : Type 0)
+    (s : SettingsSeen) (before start lent : I) (f : Feeder I) (rest : FeederSpace) (o : Observation) (scope : Scope)
+    (space : LoneSpace) → start ≡ before → HasReadFrom told is_calm faults failed start f.inputs.now →
+    FeederRead (told start) (told f.inputs.now) f → lent ≡ f.inputs.now → stream_in rest ≡ stream_at f →
+    IsOpenedAlone told is_open s f o scope space → IsParted told is_open is_calm s before lent rest o scope space
+is_parted {I} told is_open is_calm faults failed s before start lent f rest o scope space begins from reads inputs
+    stream opened =
+    let Since : I → Type 0 = λ i. HasReadSince told is_calm i (feeder_over lent rest) in
+    let Names : I → Type 0 = λ i. (told i).bytes_under ≡ (told start).bytes_under in
+    let Calm : I → Type 0 = is_calm in
+    let Read : I → Stream → Type 0 = λ i x. StreamRead (told start) (told i) x in
+    record {
+      opened = opened_over told is_open s f lent rest o scope space inputs stream opened;
+      read = subst Since begins (record {
+        names = subst Names (sym inputs) from.names;
+        calm = λ calm. subst Calm (sym inputs) (from.calm calm);
+        reads = subst (λ x. Read lent x) (sym stream) (subst (λ i. Read i (stream_at f)) (sym inputs) reads);
+      });
+    }

@@ -5,7 +5,7 @@ use Rattle.psr_base.specs.Told.{Told}
 use Rattle.dada_model.specs.Fields.{HeaderText}
 use Rattle.dada_model.specs.Observation.{Observation}
 use Rattle.search_model.specs.declared.search.Search.{Search}
-use Rattle.search_words.specs.Settings.{SettingsSeen}
+use Rattle.search_words.specs.Settings.{SettingsOf, SettingsSeen}
 use Rattle.stream_model.specs.Walk.{FileStream}
 use Rattle.ring_words.specs.declared.shape.RingShape.{RingShape}
 use Rattle.search_engine.specs.Engine.{most_fed}
@@ -24,7 +24,7 @@ use Rattle.search_opening.specs.Settings.{OfRunFirsts}
 use Rattle.lone_run.specs.Scopes.{IsBankOf}
 
 -- the data ring of a lone run
-abbrev pub shape_for : SettingsSeen → RingShape
+abbrev pub shape_for : {S : Type 0} → SettingsOf S → RingShape
 shape_for s = run_shape s.buffers s.size 1 s.max_bytes 1
 
 -- nothing was read of the files of the settings

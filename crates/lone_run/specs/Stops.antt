@@ -1,11 +1,10 @@
 -- Why a program that searches alone stops before its session, and what that says of the files.
 -- Source: this project's choice.
-use Rattle.std.specs.Prelude.{◌≡◌, ℕ, ◌⊎◌, ⊤, List, [], ◌∷◌, Option, Some, None, Result, Ok, Err}
+use Rattle.std.specs.Prelude.{◌≡◌, ℕ, ◌⊎◌, ⊤, List, [], ◌∷◌, Some, Result, Ok, Err}
 use Rattle.dada_model.specs.Observation.{Observation}
 use Rattle.psr_base.specs.Told.{Told, OfFile}
 use Rattle.search_model.specs.declared.search.Search.{Search}
 use Rattle.search_engine.specs.Scope.{Scope}
-use Rattle.ring_ends.specs.declared.finished.Finished.{Finished}
 use Rattle.search_words.specs.Settings.{SettingsSeen}
 use Rattle.stream_model.specs.Walk.{FileStream, observation_at}
 use Rattle.stream_model.specs.WalkLaws.{IsAccepted, AreWalked}
@@ -28,11 +27,6 @@ abbrev pub FailsReading : {F : Type 0} → Result LoneFound (LoneStop F) → Typ
 FailsReading (Ok found) = found.feed ≡ feed.ReadFault
 FailsReading (Err (Run stop)) = stop ≡ ReadFault
 FailsReading (Err (Unscoped refusal)) = ⊥
-
--- what went through the data ring, where there was one
-abbrev pub blocks_of : {F : Type 0} → Result LoneFound (LoneStop F) → Option Finished
-blocks_of (Ok found) = Some found.blocks
-blocks_of (Err stop) = None
 
 -- the header of the transfer is accepted, and the program refuses its observation
 abbrev pub RefusesFirst : {F : Type 0} → (Observation → F → Type 0) → FileStream → F → Type 0

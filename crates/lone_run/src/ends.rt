@@ -8,7 +8,10 @@ ghost use Rattle.lone_run.specs.EndLaws.{AloneAtWords, AloneBeforeSession, Alone
 
 use psr_base::Inputs;
 // Laws: they do nothing when they run, and the proofs use what they ensure.
-use run_stop::{end_after_whole, end_at_stop, end_at_words, end_before_session, words_say_once};
+use run_stop::{
+    end_after_whole, end_at_stop, end_at_words, end_before_session, statuses_say_stops,
+    words_say_once,
+};
 
 /// What the exit status says where the words say no settings of the program's searches.
 pub fn alone_at_words<I: Inputs>()
@@ -26,6 +29,7 @@ pub fn alone_before_session<I: Inputs>()
         → AloneBeforeSession (I.is_calm inputs × HoldsAll told more) }
 {
     words_say_once();
+    statuses_say_stops();
     end_before_session::<I>();
 }
 

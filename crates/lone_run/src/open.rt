@@ -4,7 +4,7 @@ ghost use Rattle.dada_model.specs.Observation.{Observation as Described};
 ghost use Rattle.psr_base.specs.Inputs.{HasReadFrom};
 ghost use Rattle.search_model.specs.Search.{SettingsInRange, in_one_shard as in_one_shard_of};
 ghost use Rattle.search_model.specs.Plan.{plan_refusal};
-ghost use Rattle.search_words.specs.Settings.{AllInRange, settings_seen};
+ghost use Rattle.search_words.specs.Settings.{AllInRange, RunInRange, run_seen, settings_seen};
 ghost use Rattle.stream_model.specs.Walk.{FileStream};
 ghost use Rattle.search_engine.specs.Scope.{Scope as Sought, FitsObservation};
 ghost use Rattle.search_engine.specs.Engine.{most_fed, IsOpenedEngine, StandsForPart, scope_of};
@@ -35,10 +35,10 @@ use search_engine::{Engine, PlanFault, Scope};
 use search_model::{MOST_TRANSFERS, Search};
 use search_opening::{accept_all, begin_run, check_plans, run_shape};
 use search_session::{Bank, LoneSpace};
-use search_words::Settings;
+use search_words::{RunSettings, Settings};
 use std::alloc::Global;
-// A law: it does nothing when it runs, and the proofs use what it ensures.
-use search_opening::early_stops_stand;
+// Laws: they do nothing when they run, and the proofs use what they ensure.
+use search_opening::{early_stops_stand, firsts_stay_told};
 
 /// A lone run of which all is opened.
 pub(crate) struct OpenedAlone {
@@ -128,17 +128,16 @@ fn bank_for<S: Scoping>(
 // The space of the session of a bank, under this first header.
 fn take_space(
     alloc: Global,
-    settings: &Settings,
+    run: &RunSettings,
     bank: Bank,
     header: &Header,
 ) -> Result<LoneSpace, Memory>
-    requires { AllInRange (settings_seen settings.now) }
-    ensures space { IfOk result
-        (IsLoneSpace bank (shape_for (settings_seen settings.now)) header.now) }
-    ensures total { OnOk result ((shape_for (settings_seen settings.now)).max_blocks
-        * settings.now.size ≤ most_fed) }
+    requires { RunInRange (run_seen run.now) }
+    ensures space { IfOk result (IsLoneSpace bank (shape_for (run_seen run.now)) header.now) }
+    ensures total { OnOk result ((shape_for (run_seen run.now)).max_blocks * run.now.size
+        ≤ most_fed) }
 {
-    let shape = run_shape(settings.buffers, settings.size, 1, settings.max_bytes, 1);
+    let shape = run_shape(run.buffers, run.size, 1, run.max_bytes, 1);
     LoneSpace::reserve(alloc, bank, shape, header)
 }
 
@@ -163,7 +162,7 @@ fn open_begun<'a, I: Inputs, S: Scoping>(
 ) -> Result<OpenedAlone, LoneStop<S::Refusal>>
     requires range { AllInRange (settings_seen settings.now) }
     requires one { IsOfOne (settings_seen settings.now) }
-    requires begun { HasFirsts I.told I.is_open (settings_seen settings.now) feeder.old
+    requires begun { HasFirsts I.told I.is_open (run_seen settings.now.run) feeder.old
         observations.items }
     ensures same_reference { feeder.new.inputs.ghost_name ≡ feeder.old.inputs.ghost_name }
     ensures inputs { feeder.new.inputs.now ≡ feeder.old.inputs.now }
@@ -179,7 +178,7 @@ fn open_begun<'a, I: Inputs, S: Scoping>(
         Ok(bank) => bank,
         Err(stop) => return Err(stop),
     };
-    match take_space(alloc, settings, bank, feeder.header(0)) {
+    match take_space(alloc, &settings.run, bank, feeder.header(0)) {
         Ok(space) => {
             accept_all(feeder, observations.as_slice());
             Ok(OpenedAlone {
@@ -214,13 +213,14 @@ pub(crate) fn open_alone<'a, I: Inputs, S: Scoping>(
     ensures stopped { IfErr result (StopsEarly (S.scopes scoping.now) (S.refuses scoping.now)
         (settings_seen settings.now) (I.told feeder.old.inputs.now)) }
     ensures leaves { (stop : Stopped) → result ≡ Err (LoneStop.Run stop)
-        → LeavesEarly (settings_seen settings.now) (I.is_calm feeder.old.inputs.now)
+        → LeavesEarly (run_seen settings.now.run) (I.is_calm feeder.old.inputs.now)
         (I.told feeder.old.inputs.now) (I.told feeder.new.inputs.now) stop }
     ensures begins { OnOk result (FeederRead (I.told feeder.old.inputs.now)
         (I.told feeder.new.inputs.now) feeder.new) }
 {
     early_stops_stand();
-    match begin_run(alloc, settings, feeder) {
+    firsts_stay_told();
+    match begin_run(alloc, &settings.run, feeder) {
         Ok(observations) => open_begun(alloc, settings, scoping, feeder, observations),
         Err(stop) => Err(LoneStop::Run(stop)),
     }

@@ -6,9 +6,9 @@ ghost use Rattle.disk_feeder.specs.Filling.{HoldsAll};
 ghost use Rattle.run_stop.specs.Lone.{LoneSearch, IsOfOne};
 ghost use Rattle.run_stop.specs.Runs.{Alone};
 ghost use Rattle.run_stop.specs.Ends.{IsRunFed};
-ghost use Rattle.run_stop.specs.Outcomes.{ReadsNoData, LeavesAtFault};
+ghost use Rattle.run_stop.specs.Outcomes.{blocks_of, ReadsNoData, LeavesAtFault};
 ghost use Rattle.search_opening.specs.Settings.{ForWords};
-ghost use Rattle.lone_run.specs.Stops.{FailsReading, blocks_of, StopsAlone};
+ghost use Rattle.lone_run.specs.Stops.{FailsReading, StopsAlone};
 ghost use Rattle.lone_run.specs.Found.{IsFoundAlone};
 
 use crate::found::LoneFound;
@@ -23,8 +23,9 @@ use run_stop::Stop;
 use search_words::Settings;
 use std::alloc::Global;
 use std::sync::Wait;
-// A law: it does nothing when it runs, and the proofs use what it ensures.
+// Laws: they do nothing when they run, and the proofs use what they ensure.
 use run_stop::words_say_once;
+use search_opening::early_stops_are_said;
 
 // The same with all that is borrowed in one lifetime.
 fn within<'a, I: Inputs, S: Scoping, R: Wait>(
@@ -52,7 +53,8 @@ fn within<'a, I: Inputs, S: Scoping, R: Wait>(
     ensures broken { FailsReading result.done → (lone : LoneSearch)
         → ForWords (Alone lone) (settings_seen settings.now) (λ words.
         LeavesAtFault (Alone lone) words (I.is_calm inputs.old) (I.told inputs.old)
-        (I.told result.inputs.now) (blocks_of result.done)) }
+        (I.told result.inputs.now)
+        (blocks_of (λ (found : LoneFound). found.blocks) result.done)) }
     ensures fed { IfOk result.done (λ found. (lone : LoneSearch)
         → ForWords (Alone lone) (settings_seen settings.now) (λ words.
         IsRunFed (Alone lone) words (I.told inputs.old) found.blocks found.feed)) }
@@ -60,12 +62,13 @@ fn within<'a, I: Inputs, S: Scoping, R: Wait>(
         (settings_seen settings.now) (I.told inputs.old)) }
 {
     words_say_once();
+    early_stops_are_said::<I>();
     let space = match FeederSpace::reserve(
         alloc,
-        settings.names.as_slice(),
-        settings.starts.as_slice(),
-        settings.size,
-        settings.max_bytes,
+        settings.run.names.as_slice(),
+        settings.run.starts.as_slice(),
+        settings.run.size,
+        settings.run.max_bytes,
     ) {
         Ok(space) => space,
         Err(_memory) => {
@@ -120,7 +123,7 @@ pub fn drive_alone<I: Inputs, S: Scoping, R: Wait>(
     ensures broken { FailsReading result → (lone : LoneSearch)
         → ForWords (Alone lone) (settings_seen settings.now) (λ words.
         LeavesAtFault (Alone lone) words (I.is_calm inputs.old) (I.told inputs.old)
-        (I.told inputs.new) (blocks_of result)) }
+        (I.told inputs.new) (blocks_of (λ (found : LoneFound). found.blocks) result)) }
     ensures fed { IfOk result (λ found. (lone : LoneSearch)
         → ForWords (Alone lone) (settings_seen settings.now) (λ words.
         IsRunFed (Alone lone) words (I.told inputs.old) found.blocks found.feed)) }

@@ -1,15 +1,13 @@
 // The session of a lone run.
-ghost use Rattle.std.specs.Prelude.{◌≡◌, ◌≢◌};
+ghost use Rattle.std.specs.Prelude.{◌≡◌};
 ghost use Rattle.psr_base.specs.Inputs.{HasReadFrom};
 ghost use Rattle.search_words.specs.Settings.{SettingsSeen};
 ghost use Rattle.search_engine.specs.Scope.{Scope};
 ghost use Rattle.search_engine.specs.Engine.{EngineState};
 ghost use Rattle.disk_feeder.specs.declared.answers.FeedEnd.TheVariants.{ReadFault};
-ghost use Rattle.disk_feeder.specs.Feeder.{names_at};
-ghost use Rattle.disk_feeder.specs.Filling.{HoldsAll};
 ghost use Rattle.disk_feeder.specs.Resting.{feeder_over};
 ghost use Rattle.session_readers.specs.Banks.{HasEngine, engines_of};
-ghost use Rattle.run_stop.specs.Faults.{FaultLeaves};
+ghost use Rattle.search_opening.specs.Ended.{HasReadSince, HasFedFiles};
 ghost use Rattle.lone_run.specs.Openings.{IsOpenedAlone};
 ghost use Rattle.lone_run.specs.Found.{GoesAlone};
 
@@ -22,6 +20,8 @@ use search_engine::Engine;
 use search_model::MOST_TRANSFERS;
 use search_session::{Bank, NoGate, run_alone};
 use std::sync::Wait;
+// Laws: they do nothing when they run, and the proofs use what they ensure.
+use search_opening::{firsts_stay_told, sessions_feed_files};
 
 // The first engine of a list.
 fn first_of(engines: &mut ArrayVec<Option<Engine>, MOST_TRANSFERS>) -> Engine
@@ -54,15 +54,15 @@ pub(crate) fn go_on<'a, I: Inputs, R: Wait>(
         (feeder_over inputs.old feeder) opened.observation scope opened.space }
     ensures inputs { HasReadFrom I.told I.is_calm I.faults (result.feed ≡ ReadFault) inputs.old
         inputs.new }
-    ensures broke { result.feed ≡ ReadFault → FaultLeaves I.told (I.is_calm inputs.old)
-        (feeder_over inputs.old feeder.entry) inputs.new result.blocks }
-    ensures serves { I.is_calm inputs.old
-        → HoldsAll (I.told inputs.old) (names_at (feeder_over inputs.old feeder.entry))
-        → result.feed ≢ ReadFault }
-    ensures went { (s : SettingsSeen) (scope : Scope) → IsOpenedAlone I.told I.is_open s
-        (feeder_over inputs.old feeder.entry) opened.observation scope opened.space
-        → GoesAlone s (I.told inputs.old) opened.observation scope result }
+    ensures fed { HasFedFiles I.told I.is_calm (feeder_over inputs.old feeder.entry) inputs.new
+        result.blocks result.feed }
+    ensures went { (s : SettingsSeen) (scope : Scope) (before : I) → IsOpenedAlone I.told I.is_open
+        s (feeder_over inputs.old feeder.entry) opened.observation scope opened.space
+        → HasReadSince I.told I.is_calm before (feeder_over inputs.old feeder.entry)
+        → GoesAlone s (I.told before) opened.observation scope result }
 {
+    sessions_feed_files::<I, ()>();
+    firsts_stay_told();
     let OpenedAlone { observation, space } = opened;
     let session = space.session(feeder);
     let end = run_alone(rt, session, inputs, &NoGate, 0);

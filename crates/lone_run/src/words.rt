@@ -18,10 +18,10 @@ fn is_of_one(settings: &Settings) -> bool
     ensures one { result ≡ true → IsOfOne (settings_seen settings.now) }
     ensures other { result ≡ false → IsOfOther (settings_seen settings.now) }
 {
-    if settings.recording {
+    if settings.run.recording {
         return false;
     }
-    settings.starts.len() == 1
+    settings.run.starts.len() == 1
 }
 
 /// The settings of the search that the words say after the first so many, of which the next stands where a program's

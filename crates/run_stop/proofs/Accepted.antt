@@ -14,7 +14,7 @@ use Rattle.obs_plan.specs.Faults.{IsRefusedFirst}
 use Rattle.ring_ends.specs.declared.finished.Finished.{Finished}
 use Rattle.search_model.specs.Plan.{PlanRefusal}
 use Rattle.search_model.specs.declared.search.Search.{Search}
-use Rattle.search_words.specs.Settings.{SettingsSeen}
+use Rattle.search_words.specs.Settings.{SettingsOf}
 use Rattle.stream_model.specs.Walk as walk
 use Rattle.stream_model.specs.Walk.{FileStream, WalkStop, begin_of, walk_stop}
 use Rattle.stream_model.specs.WalkLaws.{AreWalked}
@@ -29,7 +29,7 @@ use Rattle.run_stop.specs.declared.causes.RecordingCause.{RecordingCause}
 use Rattle.run_stop.specs.declared.causes.RecordingCause.TheVariants.{NoUtc, BadUtc, Overfull, TooManyFiles}
 use Rattle.run_stop.specs.declared.stop.Stop.{Stop}
 use Rattle.run_stop.specs.Firsts.{RefusesTextAt}
-use Rattle.run_stop.specs.Runs.{Task, Says, CanSearchFirst, CanRecordFirst, CanBegin, stream_for, stop_of_walk, RefusesFirstHeader, RefusesSearch, RefusesToRecord, RefusesFirsts, RefusesSearches, RefusesRecordings, IsPlanCause, IsRecordingCause}
+use Rattle.run_stop.specs.Runs.{Task, Searching, RecordingAlone, Alone, SearchFor, SettingsFor, is_search, IfSearch, Says, CanSearchFirst, CanRecordFirst, CanBegin, stream_for, stop_of_walk, RefusesFirstHeader, RefusesSearch, RefusesToRecord, RefusesFirsts, RefusesSearches, RefusesRecordings, IsPlanCause, IsRecordingCause}
 use Rattle.run_stop.specs.Outcomes.{JudgesWords, ReadsInputs, StopsAtFiles}
 use Rattle.run_stop.specs.Ends.{AcceptedGoesOn, AcceptedIsNotRefused}
 use Rattle.run_stop.proofs.Needs.{told_at, of_file}
@@ -94,7 +94,7 @@ first_accepted w file (Fields fault) walked r =
     (subst (λ (h : HeaderText). observation_of (fields_of h.text) ≡ Ok a.observation) same a.is_observation) r.cause
 
 -- nor is the text of a first file, where it is told
-text_accepted : (told : Told) (s : SettingsSeen) (files : List (List ℕ)) (file : ℕ) (fault : HeaderFault) →
+text_accepted : {S : Type 0} (told : Told) (s : SettingsOf S) (files : List (List ℕ)) (file : ℕ) (fault : HeaderFault) →
     AreToldAt (IsFirstFile s.starts (length s.names)) told s.names files → AreWalked (stream_for s files) →
     RefusesTextAt told s.names s.starts file fault → ⊥
 text_accepted told s files file fault are walked r =
@@ -112,7 +112,7 @@ text_accepted told s files file fault are walked r =
     (are.each file below (r.transfer, r.there, r.is)) r.refused)
 
 -- so nothing is refused by first files that are told and accepted
-pub firsts_accepted : (task : Task) (words : List (List ℕ)) (told : Told) (s : SettingsSeen) (files : List (List ℕ))
+pub firsts_accepted : (task : Task) (words : List (List ℕ)) (told : Told) (s : SettingsFor task) (files : List (List ℕ))
     (file : ℕ) (cause : HeaderCause) → Says task words s →
     AreToldAt (IsFirstFile s.starts (length s.names)) told s.names files → AreWalked (stream_for s files) →
     RefusesFirsts task words told file cause → ⊥
@@ -121,17 +121,32 @@ firsts_accepted task words told s files file (Text fault) says are walked r =
 firsts_accepted task words told s files file (Fields fault) says are walked r =
     first_accepted (stream_for s files) file (Fields fault) walked (r.1 s files says are)
 
+-- what follows of the search of a task that has one
+pub of_search : {P : Search → Type 0} {Q : Type 0} (task : Task) (search : SearchFor task) → is_search task ≡ true →
+    ((found : Search) → P found → Q) → IfSearch task search P → Q
+of_search Searching search is follows here = follows search here
+of_search RecordingAlone search is follows here = absurd cc
+of_search (Alone lone) search is follows here = follows search here
+
 pub searches : (search : Search) (w : FileStream) (cause : PlanCause) → CanSearchFirst search w (length w.starts) →
     RefusesSearch search w cause → ⊥
 searches search w cause can r = no_plan_cause _ cause (can r.transfer r.there) r.refused
 
-pub records : (task : Task) (s : SettingsSeen) (w : FileStream) (cause : RecordingCause) →
+-- nor is that of a task which has one
+pub can_search : (task : Task) (search : SearchFor task) → is_search task ≡ true → (w : FileStream) (cause : PlanCause) →
+    IfSearch task search (λ found. CanSearchFirst found w (length w.starts)) →
+    IfSearch task search (λ found. RefusesSearch found w cause) → ⊥
+can_search Searching search is w cause can r = searches search w cause can r
+can_search RecordingAlone search is w cause can r = absurd cc
+can_search (Alone lone) search is w cause can r = searches search w cause can r
+
+pub records : (task : Task) (s : SettingsFor task) (w : FileStream) (cause : RecordingCause) →
     (s.recording ≡ true → CanRecordFirst s.file_size w (length w.starts)) → RefusesToRecord task s w cause → ⊥
 records task s w cause can r = no_recording_cause _ cause (can r.records r.transfer r.there) r.refused
 
 module _ (task : Task) (words : List (List ℕ)) (inputs : InputsSeen) (is_calm : Type 0) (blocks : Option Finished)
     (n : ℕ) (judged : JudgesWords task words n) (read : ReadsInputs task words inputs is_calm n)
-    (stopped : StopsAtFiles task words inputs.told blocks n) (s : SettingsSeen) (files : List (List ℕ))
+    (stopped : StopsAtFiles task words inputs.told blocks n) (s : SettingsFor task) (files : List (List ℕ))
     (says : Says task words s) (are : AreTold inputs.told s.names files)
     (begins : CanBegin task s (stream_for s files)) (whole : walk_stop (stream_for s files) ≡ walk.Whole)
     (calm : is_calm ⊎ (¬ Rose inputs.faults_before inputs.faults_after)) where
@@ -150,7 +165,7 @@ module _ (task : Task) (words : List (List ℕ)) (inputs : InputsSeen) (is_calm 
 
   not_four_by : ((cause : PlanCause) × RefusesSearches task words inputs.told cause)
       ⊎ ((cause : RecordingCause) × RefusesRecordings task words inputs.told cause) → ⊥
-  not_four_by (inl r) = searches s.search w r.0 (begins.searched r.1.0)
+  not_four_by (inl r) = can_search task s.search r.1.0 w r.0 begins.searched
       (r.1.1.1 s files says (told_at inputs.told s.names files are))
   not_four_by (inr r) = records task s w r.0 begins.recorded
       (r.1.1 s files says (told_at inputs.told s.names files are))

@@ -6,7 +6,6 @@ use Rattle.psr_base.specs.Made.{NamedBytes, FilesSeen}
 use Rattle.ring_blocks.specs.declared.Entry.{Entry}
 use Rattle.ring_ends.specs.declared.finished.Finished.{Finished}
 use Rattle.ring_ends.specs.Ended.{sealed_at_end}
-use Rattle.search_words.specs.Settings.{SettingsSeen}
 use Rattle.stream_model.specs.Walk as walk
 use Rattle.stream_model.specs.Walk.{FileStream, WalkStop, walk_stop, walk_stream}
 use Rattle.disk_feeder.specs.declared.answers.FeedEnd.{FeedEnd}
@@ -21,7 +20,7 @@ use Rattle.run_stop.specs.declared.stop.Stop.{Stop}
 use Rattle.run_stop.specs.declared.stop.Stop.TheVariants.{Header, Gap, TooLong}
 use Rattle.run_stop.specs.Texts.{status_of}
 use Rattle.run_stop.specs.Conversions.{stop_of_feed}
-use Rattle.run_stop.specs.Runs.{Task, Says, ForFiles, ForFirsts, ForFilesTo, CanBegin, IsWalkStop, StopNames, StopTells, StopsThere, StopsAt, PassesTo, SaysOfFiles, stop_of_walk, stream_for}
+use Rattle.run_stop.specs.Runs.{Task, SettingsFor, Says, ForFiles, ForFirsts, ForFilesTo, CanBegin, IsWalkStop, StopNames, StopTells, StopsThere, StopsAt, PassesTo, SaysOfFiles, stop_of_walk, stream_for}
 use Rattle.run_stop.specs.Outcomes.{StopsAtFiles, BreaksStream, SealsStream, RecordsFiles, MadeAll, MadeFront, files_of_stream, files_of_data}
 use Rattle.run_stop.specs.Laws.{WholeRunsRecordData}
 use Rattle.run_stop.specs.Ends.{IsRunFed, IsRecorded, IsLate, EndsAt}
@@ -84,7 +83,7 @@ module _ (task : Task) (words : List (List ℕ)) (told : Told) (blocks : Finishe
 
   -- a run that records did so where a call failed
   records : IsRecorded task words told blocks answer before after → answer ≡ Some recorder.FileFault →
-      (s : SettingsSeen) → Says task words s → (on : Bool) → s.recording ≡ on → s.recording ≡ true
+      (s : SettingsFor task) → Says task words s → (on : Bool) → s.recording ≡ on → s.recording ≡ true
   records r failed s says true is = is
   records r failed s says false is = absurd ((r.unrecorded s says is).1 failed)
 
@@ -132,7 +131,7 @@ module _ (task : Task) (words : List (List ℕ)) (told : Told) (blocks : Finishe
   -- the blocks of a walk that went to its stop
   sealed_at : (n : ℕ) → Contains (0 ∷ 3 ∷ 6 ∷ 7 ∷ 8 ∷ 9 ∷ 10 ∷ 11 ∷ []) n → (end : FeedEnd) →
       IsRunFed task words told blocks end → n ≢ 6 →
-      (Contains (0 ∷ 9 ∷ 10 ∷ 11 ∷ []) n → (s : SettingsSeen) → Says task words s →
+      (Contains (0 ∷ 9 ∷ 10 ∷ 11 ∷ []) n → (s : SettingsFor task) → Says task words s →
       PassesTo (length s.names) task words told) →
       ForFiles task words told (λ s w. IsWalkEnd w s.size (sealed_at_end blocks) end) →
       SealsStream task words told (Some blocks) n
@@ -202,8 +201,8 @@ module _ (task : Task) (words : List (List ℕ)) (told : Told) (blocks : Finishe
   }
 
   -- what follows of the files there
-  there : (P Q : SettingsSeen → FileStream → Type 0) →
-      ((s : SettingsSeen) (files : List (List ℕ)) → P s (stream_for s files) → Q s (stream_for s files)) → (file : ℕ) →
+  there : (P Q : SettingsFor task → FileStream → Type 0) →
+      ((s : SettingsFor task) (files : List (List ℕ)) → P s (stream_for s files) → Q s (stream_for s files)) → (file : ℕ) →
       StopsThere file task words told P → StopsThere file task words told Q
   there P Q more file at = record {
     begun = at.begun;
@@ -215,7 +214,7 @@ module _ (task : Task) (words : List (List ℕ)) (told : Told) (blocks : Finishe
 
   -- so a stop says of the files
   stops_at : (stop : Stop) (file : ℕ) → StopNames stop file →
-      ((s : SettingsSeen) → Says task words s → StopTells stop s.max_bytes) → StopsSo stop file →
+      ((s : SettingsFor task) → Says task words s → StopTells stop s.max_bytes) → StopsSo stop file →
       StopsAt task words told stop
   stops_at stop file names tells so = record {
     file = file;
@@ -225,7 +224,7 @@ module _ (task : Task) (words : List (List ℕ)) (told : Told) (blocks : Finishe
   }
 
   -- and of the blocks
-  sealed_is : (s : SettingsSeen) (w : FileStream) → sealed_at_end blocks ≡ walk_stream s.size w → (b : Finished) →
+  sealed_is : (s : SettingsFor task) (w : FileStream) → sealed_at_end blocks ≡ walk_stream s.size w → (b : Finished) →
       Some blocks ≡ Some b → sealed_at_end b ≡ walk_stream s.size w
   sealed_is s w is b e = subst (λ (x : Finished). sealed_at_end x ≡ walk_stream s.size w) (one_list blocks b e) is
 
@@ -252,7 +251,7 @@ module _ (task : Task) (words : List (List ℕ)) (told : Told) (blocks : Finishe
   }
 
   -- the limit is that of the settings
-  long_stopped : (limit file : ℕ) → ((s : SettingsSeen) → Says task words s → limit ≡ s.max_bytes) →
+  long_stopped : (limit file : ℕ) → ((s : SettingsFor task) → Says task words s → limit ≡ s.max_bytes) →
       StopsSo (TooLong limit) file → StopsAtFiles task words told (Some blocks) 8
   long_stopped limit file tells so = record {
     first_header = λ e. absurd (omega (arith, e));

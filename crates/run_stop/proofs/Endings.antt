@@ -16,7 +16,7 @@ use Rattle.run_stop.specs.declared.stop.Stop.TheVariants.{Words, Value, Header, 
 use Rattle.run_stop.specs.Texts.{status_of}
 use Rattle.run_stop.specs.Conversions.{stop_of_words, stop_of_feed}
 use Rattle.run_stop.specs.Lone.{LoneSearch, SayAlone, IsOfOther, ExplainsAlone}
-use Rattle.run_stop.specs.Runs.{Task, Searching, RecordingAlone, Alone, Says, Explains, IsStopOfWords}
+use Rattle.run_stop.specs.Runs.{Task, Searching, RecordingAlone, Alone, SettingsFor, Says, Explains, IsStopOfWords}
 use Rattle.run_stop.specs.Outcomes.{JudgesWords, ReadsInputs}
 use Rattle.run_stop.specs.Laws.{WholeRunsRecordData}
 use Rattle.run_stop.specs.Ends.{EndsAt, EndsRun, EndsShort, short_statuses, CountsFaults, ComesBefore, EndAtWords, EndBeforeSession, EndAtStop, EndAfterWhole}
@@ -55,8 +55,22 @@ early (TooMany count limit) kind = absurd kind
 early SinkFault kind = absurd kind
 early FileFault kind = absurd kind
 
--- 6 is that of the inputs' fault
-six_is : (stop : Stop) → status_of stop ≡ 6 → stop ≡ ReadFault
+-- 5 is that of want of memory, and 6 that of the inputs' fault
+pub five_is : (stop : Stop) → status_of stop ≡ 5 → stop ≡ Memory
+five_is Words e = absurd (omega (arith, e))
+five_is (Value opt) e = absurd (omega (arith, e))
+five_is (Header file cause) e = absurd (omega (arith, e))
+five_is (Plan cause) e = absurd (omega (arith, e))
+five_is (Recording cause) e = absurd (omega (arith, e))
+five_is Memory e = refl
+five_is ReadFault e = absurd (omega (arith, e))
+five_is (Gap file expected found) e = absurd (omega (arith, e))
+five_is (TooLong limit) e = absurd (omega (arith, e))
+five_is (TooMany count limit) e = absurd (omega (arith, e))
+five_is SinkFault e = absurd (omega (arith, e))
+five_is FileFault e = absurd (omega (arith, e))
+
+pub six_is : (stop : Stop) → status_of stop ≡ 6 → stop ≡ ReadFault
 six_is Words e = absurd (omega (arith, e))
 six_is (Value opt) e = absurd (omega (arith, e))
 six_is (Header file cause) e = absurd (omega (arith, e))
@@ -142,7 +156,7 @@ module _ (is_calm : Type 0) (task : Task) (words : List (List ℕ)) where
   -- ---- at the words
 
   -- what the words don't say
-  judges : ((s : SettingsSeen) → ¬ Says task words s) → JudgesWords task words 2
+  judges : ((s : SettingsFor task) → ¬ Says task words s) → JudgesWords task words 2
   judges unsaid = record { refused = λ e. unsaid; said = λ e f. absurd (e refl) }
 
   -- no file was opened
@@ -157,7 +171,7 @@ module _ (is_calm : Type 0) (task : Task) (words : List (List ℕ)) where
 
   -- ---- where the words say settings
 
-  module _ (inputs : InputsSeen) (s : SettingsSeen) (says : Says task words s) where
+  module _ (inputs : InputsSeen) (s : SettingsFor task) (says : Says task words s) where
     were_said : (n : ℕ) → n ≢ 2 → JudgesWords task words n
     were_said n two = record { refused = λ e. absurd (two e); said = λ e f. (s, says) }
 
@@ -169,7 +183,7 @@ module _ (is_calm : Type 0) (task : Task) (words : List (List ℕ)) where
       quiet = λ e. read.quiet (λ f. e (fault f));
       count = read.count;
       serves = λ calm t says' holds e. read.serves calm
-          (subst (λ (u : SettingsSeen). HoldsAll inputs.told u.names) (say_once task words t s says' says) holds)
+          (subst (λ (u : SettingsFor task). HoldsAll inputs.told u.names) (say_once task words t s says' says) holds)
           (six e);
     }
 
@@ -199,7 +213,7 @@ at_words is_calm task words inputs seen fault stop why is still =
     subst (λ (x : Stop). EndsShort task words inputs is_calm None seen seen x) (sym is) (by_fault fault why)
   where
     unsaid : (t : Task) (f : WordFault) → Explains t words f → status_of (stop_of_words f) ≡ 2 →
-        (s : SettingsSeen) → ¬ Says t words s
+        (s : SettingsFor t) → ¬ Says t words s
     unsaid Searching Refused out two s says = out says.taken
     unsaid RecordingAlone Refused out two s says = out says.taken
     unsaid (Alone lone) Refused out two s says = unsaid_alone lone words out s says

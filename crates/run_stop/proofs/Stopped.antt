@@ -7,7 +7,7 @@ use Rattle.psr_base.specs.Told.{Told, InputsSeen, OfFile}
 use Rattle.dada_header.specs.declared.faults.HeaderFault.{HeaderFault}
 use Rattle.dada_header.specs.Faults.{IsHeaderRefusal}
 use Rattle.ring_ends.specs.declared.finished.Finished.{Finished}
-use Rattle.search_words.specs.Settings.{SettingsSeen, SaidIsInRange}
+use Rattle.search_words.specs.Settings.{SaidIsInRange}
 use Rattle.search_words.specs.Transfers.{AreTransferStarts}
 use Rattle.stream_model.specs.Walk.{FileStream, walk_stop}
 use Rattle.stream_model.specs.WalkLaws.{AreStarts, IsAccepted, AreWalked, FirstStopCounts, NoStopIsWhole}
@@ -22,11 +22,11 @@ use Rattle.run_stop.specs.declared.stop.Stop.{Stop}
 use Rattle.run_stop.specs.declared.stop.Stop.TheVariants.{Words, Value, Header, Plan, Recording, Memory, ReadFault, Gap, TooLong, TooMany, SinkFault, FileFault}
 use Rattle.run_stop.specs.Texts.{status_of}
 use Rattle.run_stop.specs.Firsts.{first_at, HasHeader, EachFirst, HaveHeaders, BreaksFirstAt, RefusesFirstText}
-use Rattle.run_stop.specs.Runs.{Task, Searching, RecordingAlone, Alone, Says, stream_for, CanBegin, PassesTo, RefusesSearches, RefusesRecordings, IsWalkStop}
+use Rattle.run_stop.specs.Runs.{Task, Searching, RecordingAlone, Alone, SettingsFor, Says, stream_for, CanBegin, PassesTo, RefusesSearches, RefusesRecordings, IsWalkStop}
 use Rattle.run_stop.specs.Outcomes.{JudgesWords, ReadsInputs, StopsAtFiles, SealsStream, StopsSealed, LeavesAtFault, BreaksFirsts, BreaksWalk}
 use Rattle.run_stop.specs.Ends.{EndsSo, HasBegun, RefusesByFirsts, TextsAreAnswered, FirstsAreAnswered, StopsAreAnswered}
 use Rattle.run_stop.proofs.Needs.{told_less, of_file}
-use Rattle.run_stop.proofs.Accepted.{has_header, first_accepted, firsts_accepted, searches, records}
+use Rattle.run_stop.proofs.Accepted.{has_header, first_accepted, firsts_accepted, of_search, can_search, records}
 use Rattle.run_stop.proofs.Passing.{is_first}
 
 one_stop : (a b : Stop) (o : Option Stop) → o ≡ Some a → o ≡ Some b → a ≡ b
@@ -41,14 +41,14 @@ transfer_starts starts count are = record {
   within = are.within;
 }
 
-said_starts : SaidIsInRange → (task : Task) (words : List (List ℕ)) (s : SettingsSeen) → Says task words s →
+said_starts : SaidIsInRange → (task : Task) (words : List (List ℕ)) (s : SettingsFor task) → Says task words s →
     AreStarts s.starts (length s.names)
 said_starts law Searching words s says =
-    transfer_starts s.starts (length s.names) (law.search words s says).transfers
+    transfer_starts s.starts (length s.names) (law.search words s says).run.transfers
 said_starts law RecordingAlone words s says =
     transfer_starts s.starts (length s.names) (law.recording words s says).transfers
 said_starts law (Alone lone) words s says =
-    transfer_starts s.starts (length s.names) (law.search (drop lone.before words) s says.search.says).transfers
+    transfer_starts s.starts (length s.names) (law.search (drop lone.before words) s says.search.says).run.transfers
 
 -- transfers begin in order
 rises : (xs : List ℕ) (count : ℕ) → AreStarts xs count → (d i j : ℕ) → i + d ≡ j → j < length xs →
@@ -67,7 +67,7 @@ module _ (task : Task) (words : List (List ℕ)) (inputs : InputsSeen) (is_calm 
     (read : ReadsInputs task words inputs is_calm n) (stopped : StopsAtFiles task words inputs.told blocks n)
     (sealed : SealsStream task words inputs.told blocks n)
     (leaves : n ≡ 6 → LeavesAtFault task words is_calm inputs.told after blocks)
-    (calm : is_calm ⊎ (¬ Rose inputs.faults_before inputs.faults_after)) (s : SettingsSeen)
+    (calm : is_calm ⊎ (¬ Rose inputs.faults_before inputs.faults_after)) (s : SettingsFor task)
     (says : Says task words s) (files : List (List ℕ)) where
   abbrev w : FileStream
   w = stream_for s files
@@ -154,7 +154,8 @@ module _ (task : Task) (words : List (List ℕ)) (inputs : InputsSeen) (is_calm 
 
     no_text_plan : ((cause : PlanCause) × RefusesSearches task words inputs.told cause)
         ⊎ ((cause : RecordingCause) × RefusesRecordings task words inputs.told cause) → ⊥
-    no_text_plan (inl r) = not_accepted (r.1.1.0 s says).accepted
+    no_text_plan (inl r) =
+        of_search task s.search r.1.0 (λ search refused. not_accepted refused.accepted) (r.1.1.0 s says)
     no_text_plan (inr r) = not_accepted (r.1.0 s says).accepted
 
     -- the first files up to it are told
@@ -197,19 +198,19 @@ module _ (task : Task) (words : List (List ℕ)) (inputs : InputsSeen) (is_calm 
     -- what refuses a search or a recording accepts them
     are_walked : ((cause : PlanCause) × RefusesSearches task words inputs.told cause)
         ⊎ ((cause : RecordingCause) × RefusesRecordings task words inputs.told cause) → AreWalked w
-    are_walked (inl r) = (r.1.1.1 s files says are).accepted
+    are_walked (inl r) = of_search task s.search r.1.0 (λ search refused. refused.accepted) (r.1.1.1 s files says are)
     are_walked (inr r) = (r.1.1 s files says are).accepted
 
     -- where a run can begin, no search and no recording is refused
     no_plan : CanBegin task s w → ((cause : PlanCause) × RefusesSearches task words inputs.told cause)
         ⊎ ((cause : RecordingCause) × RefusesRecordings task words inputs.told cause) → ⊥
-    no_plan begins (inl r) = searches s.search w r.0 (begins.searched r.1.0) (r.1.1.1 s files says are)
+    no_plan begins (inl r) = can_search task s.search r.1.0 w r.0 begins.searched (r.1.1.1 s files says are)
     no_plan begins (inr r) = records task s w r.0 begins.recorded (r.1.1 s files says are)
 
     -- it can't where one of them is refused
     cannot_begin : (stop : Stop) → RefusesByFirsts task s w stop → CanBegin task s w → ⊥
     cannot_begin (Header file (Fields fault)) r begins = first_accepted w file (Fields fault) begins.accepted r
-    cannot_begin (Plan cause) r begins = searches s.search w cause (begins.searched r.0) r.1
+    cannot_begin (Plan cause) r begins = can_search task s.search r.0 w cause begins.searched r.1
     cannot_begin (Recording cause) r begins = records task s w cause begins.recorded r
     cannot_begin (Header file (Text fault)) r begins = r
     cannot_begin Words r begins = r
@@ -224,7 +225,8 @@ module _ (task : Task) (words : List (List ℕ)) (inputs : InputsSeen) (is_calm 
 
     at_three : (stop : Stop) → RefusesByFirsts task s w stop → blocks ≡ None → n ≡ 3 → n ≡ status_of stop
     at_three (Header file (Fields fault)) r none e = e
-    at_three (Plan cause) r none e = absurd (none_refused r.1.accepted none e)
+    at_three (Plan cause) r none e =
+        absurd (none_refused (of_search task s.search r.0 (λ search refused. refused.accepted) r.1) none e)
     at_three (Recording cause) r none e = absurd (none_refused r.accepted none e)
     at_three (Header file (Text fault)) r none e = absurd r
     at_three Words r none e = absurd r
@@ -282,7 +284,7 @@ module _ (task : Task) (words : List (List ℕ)) (inputs : InputsSeen) (is_calm 
         let none = passed file past s files says (up_to file (omega arith)) in cc
 
     -- where it stops, the walk of these files does
-    stops_there : (P : SettingsSeen → FileStream → Type 0) → StopsSealed task words inputs.told blocks P → P s w
+    stops_there : (P : SettingsFor task → FileStream → Type 0) → StopsSealed task words inputs.told blocks P → P s w
     stops_there P (end, there) = by_order (cases_lt file end)
       where
         by_order : (file < end) ⊎ (end ≤ file) → P s w
@@ -294,13 +296,13 @@ module _ (task : Task) (words : List (List ℕ)) (inputs : InputsSeen) (is_calm 
     is_stop other r = ap status_of (one_stop other stop _ r stops)
 
     -- what each status says of it
-    abbrev AtHeader : SettingsSeen → FileStream → Type 0
+    abbrev AtHeader : SettingsFor task → FileStream → Type 0
     AtHeader t v = (k : ℕ) × (cause : HeaderCause) × IsWalkStop v (Header k cause)
 
-    abbrev AtGap : SettingsSeen → FileStream → Type 0
+    abbrev AtGap : SettingsFor task → FileStream → Type 0
     AtGap t v = (k : ℕ) × (expected : ℕ) × (found : ℕ) × IsWalkStop v (Gap k expected found)
 
-    abbrev AtLimit : SettingsSeen → FileStream → Type 0
+    abbrev AtLimit : SettingsFor task → FileStream → Type 0
     AtLimit t v = IsWalkStop v (TooLong t.max_bytes)
 
     three : IsSome blocks → n ≡ 3 → n ≡ status_of stop
@@ -353,8 +355,8 @@ texts_answered law is_calm task words inputs after blocks n judged read stopped 
     fault (said_starts law task words s says) are refused
 
 pub firsts_answered : SaidIsInRange → (is_calm : Type 0) → FirstsAreAnswered is_calm
-firsts_answered law is_calm task words inputs after blocks n judged read stopped sealed leaves calm s files stop says are
-    refused =
+firsts_answered law is_calm task words inputs after blocks n judged read stopped sealed leaves calm s files stop says
+    are refused =
     first_answered task words inputs is_calm after blocks n judged read stopped sealed leaves calm s says files
     (said_starts law task words s says).within are stop refused
 

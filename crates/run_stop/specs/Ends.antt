@@ -7,7 +7,6 @@ use Rattle.psr_base.specs.Made.{FilesSeen}
 use Rattle.ring_ends.specs.declared.finished.Finished.{Finished}
 use Rattle.ring_ends.specs.Ended.{sealed_at_end}
 use Rattle.search_model.specs.declared.search.Search.{Search}
-use Rattle.search_words.specs.Settings.{SettingsSeen}
 use Rattle.stream_model.specs.Walk as walk
 use Rattle.stream_model.specs.Walk.{FileStream, walk_stop}
 use Rattle.stream_model.specs.WalkLaws.{AreWalked}
@@ -32,13 +31,18 @@ use Rattle.run_stop.specs.Texts.{status_of}
 use Rattle.run_stop.specs.Firsts.{RefusesFirstText, RefusesFirstFields}
 use Rattle.search_words.specs.declared.fault.WordFault.{WordFault}
 use Rattle.run_stop.specs.Conversions.{stop_of_words, stop_of_feed}
-use Rattle.run_stop.specs.Runs.{Task, is_search, Says, ForFiles, ForFirsts, ForFilesTo, BeginsByFirsts, PassesTo, stream_for, CanSearchFirst, CanRecordFirst, CanBegin, RefusesFirstHeader, RefusesSearch, RefusesToRecord, RefusesFirsts, RefusesSearches, RefusesRecordings, IsWalkStop, SaysOfFiles, IsStopOfWords, Explains}
+use Rattle.run_stop.specs.Runs.{Task, SettingsFor, is_search, IfSearch, Says, ForFiles, ForFirsts, ForFilesTo, BeginsByFirsts, PassesTo, stream_for, CanSearchFirst, CanRecordFirst, CanBegin, RefusesFirstHeader, RefusesSearch, RefusesToRecord, RefusesFirsts, RefusesSearches, RefusesRecordings, IsWalkStop, SaysOfFiles, IsStopOfWords, Explains}
 use Rattle.run_stop.specs.Outcomes.{JudgesWords, ReadsInputs, LeavesAtFault, StopsAtFiles, SealsStream, RecordsFiles, MadeAll, MadeFront, files_of_stream}
 
 -- the status of a run that came to a stop, or to none
 abbrev pub end_status : Option Stop → ℕ
 end_status None = 0
 end_status (Some stop) = status_of stop
+
+-- 5 is the status of want of memory alone, and 6 that of a fault of the inputs
+pub record StatusesSayStops : Type 0 where
+  pub memory : (stop : Stop) → status_of stop ≡ 5 → stop ≡ Memory
+  pub read_fault : (stop : Stop) → status_of stop ≡ 6 → stop ≡ ReadFault
 
 -- what a stop, where there is one, says of the words and of the files
 abbrev pub IsSaid : Task → List (List ℕ) → Told → Option Stop → Type 0
@@ -97,7 +101,7 @@ EndAtWords is_calm = (task : Task) (words : List (List ℕ)) (inputs : InputsSee
 
 -- the same words never say two different settings
 abbrev pub WordsSayOnce : Type 0
-WordsSayOnce = (task : Task) (words : List (List ℕ)) (s t : SettingsSeen) →
+WordsSayOnce = (task : Task) (words : List (List ℕ)) (s t : SettingsFor task) →
     Says task words s → Says task words t → s ≡ t
 
 -- ---- before the session
@@ -128,7 +132,7 @@ pub record StopsBefore (task : Task) (words : List (List ℕ)) (told : Told) (st
 
 -- no block was sealed, and no file was made
 abbrev pub EndBeforeSession : Type 0 → Type 0
-EndBeforeSession is_calm = (task : Task) (words : List (List ℕ)) (s : SettingsSeen)
+EndBeforeSession is_calm = (task : Task) (words : List (List ℕ)) (s : SettingsFor task)
     (inputs : InputsSeen) (before after : FilesSeen) (stop : Stop) → Says task words s →
     StopsBefore task words inputs.told stop → after ≡ before →
     CountsFaults inputs is_calm s.names (stop ≡ ReadFault) →
@@ -143,12 +147,12 @@ pub record IsRunFed
     : Type 0 where
   pub begun : BeginsByFirsts task words told
   pub at : Place
-  pub last : (bytes : ℕ) → feed ≡ feeder.Whole bytes → (s : SettingsSeen) → Says task words s →
+  pub last : (bytes : ℕ) → feed ≡ feeder.Whole bytes → (s : SettingsFor task) → Says task words s →
       at.file ≡ length s.names
-  pub there : ((bytes : ℕ) → feed ≢ feeder.Whole bytes) → (s : SettingsSeen) →
+  pub there : ((bytes : ℕ) → feed ≢ feeder.Whole bytes) → (s : SettingsFor task) →
       Says task words s → at.file < length s.names
   pub names : NamesPlace feed at.file
-  pub limit : (limit : ℕ) → feed ≡ feeder.TooLong limit → (s : SettingsSeen) →
+  pub limit : (limit : ℕ) → feed ≡ feeder.TooLong limit → (s : SettingsFor task) →
       Says task words s → limit ≡ s.max_bytes
   pub passed : PassesTo at.file task words told
   pub walked : ForFilesTo (judged_at feed at) task words told (λ s w.
@@ -159,7 +163,7 @@ pub record IsRunFed
 pub record IsRecorded
     (task : Task) (words : List (List ℕ)) (told : Told) (blocks : Finished)
     (answer : Option RecordEnd) (before after : FilesSeen) : Type 0 where
-  pub unrecorded : (s : SettingsSeen) → Says task words s → s.recording ≡ false →
+  pub unrecorded : (s : SettingsFor task) → Says task words s → s.recording ≡ false →
       (after ≡ before) × (answer ≢ Some recorder.FileFault)
   pub all : answer ≢ Some recorder.FileFault →
       ForFirsts task words told (λ s w. s.recording ≡ true →
@@ -173,7 +177,7 @@ pub record IsRecorded
 
 -- so a session of these settings went through, and this is what was read
 pub record RunsThrough
-    (task : Task) (words : List (List ℕ)) (s : SettingsSeen) (inputs : InputsSeen)
+    (task : Task) (words : List (List ℕ)) (s : SettingsFor task) (inputs : InputsSeen)
     (is_calm : Type 0) (blocks : Finished) (feed : FeedEnd) (answer : Option RecordEnd)
     (before after : FilesSeen) : Type 0 where
   pub says : Says task words s
@@ -183,7 +187,7 @@ pub record RunsThrough
 
 -- the feeder was stopped
 abbrev pub EndAtStop : Type 0 → Type 0
-EndAtStop is_calm = (task : Task) (words : List (List ℕ)) (s : SettingsSeen)
+EndAtStop is_calm = (task : Task) (words : List (List ℕ)) (s : SettingsFor task)
     (inputs : InputsSeen) (blocks : Finished) (feed : FeedEnd) (answer : Option RecordEnd)
     (before after : FilesSeen) (stop : Stop) →
     RunsThrough task words s inputs is_calm blocks feed answer before after →
@@ -197,7 +201,7 @@ pub record IsLate (answer : Option RecordEnd) (status : ℕ) : Type 0 where
   pub failed : status ≡ 11 → answer ≡ Some recorder.FileFault
 
 abbrev pub EndAfterWhole : Type 0 → Type 0
-EndAfterWhole is_calm = (task : Task) (words : List (List ℕ)) (s : SettingsSeen)
+EndAfterWhole is_calm = (task : Task) (words : List (List ℕ)) (s : SettingsFor task)
     (inputs : InputsSeen) (blocks : Finished) (feed : FeedEnd) (answer : Option RecordEnd)
     (before after : FilesSeen) (status : ℕ) →
     RunsThrough task words s inputs is_calm blocks feed answer before after →
@@ -213,7 +217,7 @@ abbrev pub AcceptedGoesOn : Type 0 → Type 0
 AcceptedGoesOn is_calm = (task : Task) (words : List (List ℕ)) (inputs : InputsSeen)
     (blocks : Option Finished) (status : ℕ) → JudgesWords task words status →
     ReadsInputs task words inputs is_calm status →
-    StopsAtFiles task words inputs.told blocks status → (s : SettingsSeen)
+    StopsAtFiles task words inputs.told blocks status → (s : SettingsFor task)
     (files : List (List ℕ)) → Says task words s → AreTold inputs.told s.names files →
     CanBegin task s (stream_for s files) → walk_stop (stream_for s files) ≡ walk.Whole →
     is_calm ⊎ ¬ Rose inputs.faults_before inputs.faults_after →
@@ -224,13 +228,13 @@ AcceptedGoesOn is_calm = (task : Task) (words : List (List ℕ)) (inputs : Input
 pub record AcceptedIsNotRefused : Type 0 where
   pub header : (w : FileStream) (file : ℕ) (cause : HeaderCause) → AreWalked w →
       ¬ RefusesFirstHeader w file cause
-  pub firsts : (task : Task) (words : List (List ℕ)) (told : Told) (s : SettingsSeen)
+  pub firsts : (task : Task) (words : List (List ℕ)) (told : Told) (s : SettingsFor task)
       (files : List (List ℕ)) (file : ℕ) (cause : HeaderCause) → Says task words s →
       AreToldAt (IsFirstFile s.starts (length s.names)) told s.names files →
       AreWalked (stream_for s files) → ¬ RefusesFirsts task words told file cause
   pub search : (search : Search) (w : FileStream) (cause : PlanCause) →
       CanSearchFirst search w (length w.starts) → ¬ RefusesSearch search w cause
-  pub recording : (task : Task) (s : SettingsSeen) (w : FileStream) (cause : RecordingCause) →
+  pub recording : (task : Task) (s : SettingsFor task) (w : FileStream) (cause : RecordingCause) →
       (s.recording ≡ true → CanRecordFirst s.file_size w (length w.starts)) →
       ¬ RefusesToRecord task s w cause
 
@@ -255,34 +259,36 @@ EndsSo stop status = Contains (status_of stop ∷ 5 ∷ []) status
 
 -- a first file has no header, and those of the transfers before it have: it ends so, by these alone
 abbrev pub TextsAreAnswered : Type 0 → Type 0
-TextsAreAnswered is_calm = ForRuns is_calm (λ task words told blocks status. (s : SettingsSeen)
+TextsAreAnswered is_calm = ForRuns is_calm (λ task words told blocks status. (s : SettingsFor task)
     (files : List (List ℕ)) (file : ℕ) (fault : HeaderFault) → Says task words s →
     AreToldAt (IsFirstBefore (file + 1) s.starts (length s.names)) told s.names files →
     RefusesFirstText (stream_for s files) file fault → EndsSo (Header file (Text fault)) status)
 
 -- what a stop that comes before data are read says of the first files, where all of these have headers
-abbrev pub RefusesByFirsts : Task → SettingsSeen → FileStream → Stop → Type 0
+abbrev pub RefusesByFirsts : (task : Task) → SettingsFor task → FileStream → Stop → Type 0
 RefusesByFirsts task s w (Header file (Fields fault)) = RefusesFirstFields w file fault
-RefusesByFirsts task s w (Plan cause) = (is_search task ≡ true) × RefusesSearch s.search w cause
+RefusesByFirsts task s w (Plan cause) = (is_search task ≡ true)
+    × IfSearch task s.search (λ search. RefusesSearch search w cause)
 RefusesByFirsts task s w (Recording cause) = RefusesToRecord task s w cause
 RefusesByFirsts task s w _ = ⊥
 
 -- a first header says no observation, or a search or a recording is refused: it ends so, by the first files alone
 abbrev pub FirstsAreAnswered : Type 0 → Type 0
-FirstsAreAnswered is_calm = ForRuns is_calm (λ task words told blocks status. (s : SettingsSeen)
+FirstsAreAnswered is_calm = ForRuns is_calm (λ task words told blocks status. (s : SettingsFor task)
     (files : List (List ℕ)) (stop : Stop) → Says task words s →
     AreToldAt (IsFirstFile s.starts (length s.names)) told s.names files →
     RefusesByFirsts task s (stream_for s files) stop → EndsSo stop status)
 
 -- a session began; or nothing stands against a run by its first files, which are told
-abbrev pub HasBegun : Task → Told → Option Finished → SettingsSeen → List (List ℕ) → Type 0
+abbrev pub HasBegun : (task : Task) → Told → Option Finished → SettingsFor task → List (List ℕ)
+    → Type 0
 HasBegun task told blocks s files = IsSome blocks
     ⊎ (AreToldAt (IsFirstFile s.starts (length s.names)) told s.names files
     × CanBegin task s (stream_for s files))
 
 -- a run has begun, and the walk of some files stops at one of them: it ends so, by the files up to that one
 abbrev pub StopsAreAnswered : Type 0 → Type 0
-StopsAreAnswered is_calm = ForRuns is_calm (λ task words told blocks status. (s : SettingsSeen)
+StopsAreAnswered is_calm = ForRuns is_calm (λ task words told blocks status. (s : SettingsFor task)
     (files : List (List ℕ)) (file : ℕ) (stop : Stop) → Says task words s →
     AreToldAt (λ k. k < file + 1) told s.names files → HasBegun task told blocks s files →
     IsWalkStop (stream_for s files) stop →

@@ -6,4 +6,3 @@ pub mod Runs
 pub mod Outcomes
 pub mod Laws
 pub mod Ends
-pub mod Faults

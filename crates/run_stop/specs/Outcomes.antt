@@ -1,6 +1,6 @@
 -- What the exit status of a run says, of a program that records or searches files; both programs say it by these names.
 -- Source: this project's choice.
-use Rattle.std.specs.Prelude.{◌≡◌, ◌≢◌, ℕ, ◌+◌, ◌<◌, ◌≤◌, ◌⊎◌, true, false, min, List, [], ◌∷◌, length, map, Option, Some, None, IsSome, Contains}
+use Rattle.std.specs.Prelude.{◌≡◌, ◌≢◌, ℕ, ◌+◌, ◌<◌, ◌≤◌, ◌⊎◌, true, false, min, List, [], ◌∷◌, length, map, Option, Some, None, Result, Ok, Err, IsSome, Contains}
 use Rattle.std.specs.List.{range_with_len}
 use Rattle.psr_base.specs.Count.{Rose}
 use Rattle.psr_base.specs.Told.{Told, InputsSeen}
@@ -9,7 +9,6 @@ use Rattle.psr_base.specs.Written.{SinkSeen, Noted}
 use Rattle.ring_blocks.specs.declared.Entry.{Entry}
 use Rattle.ring_ends.specs.declared.finished.Finished.{Finished}
 use Rattle.ring_ends.specs.Ended.{sealed_at_end, cleared_at_end}
-use Rattle.search_words.specs.Settings.{SettingsSeen}
 use Rattle.stream_model.specs.Blocks.{ended_transfers, transfer_bytes}
 use Rattle.stream_model.specs.Walk.{FileStream, transfer_data, walk_stream}
 use Rattle.stream_model.specs.RecordedLaws.{RecordedTransfer, recorded_of_transfers}
@@ -26,14 +25,14 @@ use Rattle.run_stop.specs.declared.causes.RecordingCause.{RecordingCause}
 use Rattle.run_stop.specs.declared.stop.Stop.{Stop}
 use Rattle.run_stop.specs.declared.stop.Stop.TheVariants.{Header, Gap, TooLong}
 use Rattle.run_stop.specs.Texts.{status_of, note_of}
-use Rattle.run_stop.specs.Runs.{Task, Says, ForFiles, ForFirsts, ForFilesTo, ForFilesWithFirsts, first_recording, CanBegin, BeginsByFirsts, RefusesFirsts, RefusesSearches, RefusesRecordings, PassesTo, IsWalkStop, StopsThere, SaysOfFiles, IsStopOfWords}
+use Rattle.run_stop.specs.Runs.{Task, SettingsFor, Says, ForFiles, ForFirsts, ForFilesTo, ForFilesWithFirsts, first_recording, CanBegin, BeginsByFirsts, RefusesFirsts, RefusesSearches, RefusesRecordings, PassesTo, IsWalkStop, StopsThere, SaysOfFiles, IsStopOfWords}
 
 -- ---- the words
 
 -- 2 exactly where the words say no settings; 5 may come before they are read
 pub record JudgesWords (task : Task) (words : List (List ℕ)) (status : ℕ) : Type 0 where
-  pub refused : status ≡ 2 → (s : SettingsSeen) → ¬ Says task words s
-  pub said : status ≢ 2 → status ≢ 5 → (s : SettingsSeen) × Says task words s
+  pub refused : status ≡ 2 → (s : SettingsFor task) → ¬ Says task words s
+  pub said : status ≢ 2 → status ≢ 5 → (s : SettingsFor task) × Says task words s
 
 -- ---- the inputs
 
@@ -44,8 +43,13 @@ pub record ReadsInputs
   pub failed : status ≡ 6 → Rose inputs.faults_before inputs.faults_after
   pub quiet : status ≢ 6 → inputs.faults_after ≡ inputs.faults_before
   pub count : inputs.faults_before ≤ inputs.faults_after
-  pub serves : is_calm → (s : SettingsSeen) → Says task words s →
+  pub serves : is_calm → (s : SettingsFor task) → Says task words s →
       HoldsAll inputs.told s.names → status ≢ 6
+
+-- what went through the data ring, where there was one
+abbrev pub blocks_of : {T E : Type 0} → (T → Finished) → Result T E → Option Finished
+blocks_of blocks (Ok found) = Some (blocks found)
+blocks_of blocks (Err stop) = None
 
 -- no file was opened; or the first file of each transfer was, in order, and no byte past its header was read
 abbrev pub ReadsNoData : Task → List (List ℕ) → Told → Told → Type 0
@@ -55,7 +59,7 @@ ReadsNoData task words before after = (after ≡ before)
 -- What a fault of the inputs leaves before the session: the header of some transfer's first file isn't judged by what
 -- was read, and those of the transfers before it have headers.
 abbrev pub BreaksFirsts : Task → List (List ℕ) → Type 0 → Told → Told → Type 0
-BreaksFirsts task words is_calm before after = (s : SettingsSeen) → Says task words s →
+BreaksFirsts task words is_calm before after = (s : SettingsFor task) → Says task words s →
     BreaksFirstAt s.names s.starts is_calm before after
 
 -- What it leaves from the session on: all first headers are accepted, and it came at this place, whose file is there.
@@ -69,13 +73,13 @@ pub record BreaksWalk
     (blocks : Finished) : Type 0 where
   pub at : Place
   pub begun : BeginsByFirsts task words before
-  pub there : (s : SettingsSeen) → Says task words s → at.file < length s.names
+  pub there : (s : SettingsFor task) → Says task words s → at.file < length s.names
   pub passed : PassesTo at.file task words before
   pub cut : ForFilesTo (opened_at at) task words before (λ s w.
       IsCutAt w at s.size (sealed_at_end blocks))
   pub stood : ForFilesWithFirsts (at.file + 1) task words before (λ s w.
       BreaksIf at.is_open s.names w before after at)
-  pub missing : is_calm → (s : SettingsSeen) → Says task words s →
+  pub missing : is_calm → (s : SettingsFor task) → Says task words s →
       (at.file < length s.names) × ¬ IsSome (before.bytes_under (file_name s.names at.file))
   pub shut : is_calm → at.is_open ≡ false
   pub unopened : is_calm → ForFilesWithFirsts at.file task words before (λ s w.
@@ -91,7 +95,8 @@ LeavesAtFault task words is_calm before after (Some blocks) =
 
 -- the walk stops at some file, and P holds there; what was sealed is its stream
 abbrev pub StopsSealed
-    : Task → List (List ℕ) → Told → Option Finished → (SettingsSeen → FileStream → Type 0) → Type 0
+    : (task : Task) → List (List ℕ) → Told → Option Finished
+    → (SettingsFor task → FileStream → Type 0) → Type 0
 StopsSealed task words told blocks P = (file : ℕ) × StopsThere file task words told (λ s w.
     P s w × ((b : Finished) → blocks ≡ Some b → sealed_at_end b ≡ walk_stream s.size w))
 
@@ -119,7 +124,7 @@ pub record StopsAtFiles
 pub record BreaksStream (task : Task) (words : List (List ℕ)) (told : Told) (blocks : Finished) :
     Type 0 where
   pub at : Place
-  pub there : (s : SettingsSeen) → Says task words s → at.file < length s.names
+  pub there : (s : SettingsFor task) → Says task words s → at.file < length s.names
   pub passed : PassesTo at.file task words told
   pub front : ForFilesTo (opened_at at) task words told (λ s w.
       IsBroken w s.size (sealed_at_end blocks))
@@ -134,7 +139,7 @@ pub record SealsStream
   pub some : IsSome blocks → Contains (0 ∷ 3 ∷ 6 ∷ 7 ∷ 8 ∷ 9 ∷ 10 ∷ 11 ∷ []) status
   pub begun : IsSome blocks → BeginsByFirsts task words told
   pub passed : IsSome blocks → Contains (0 ∷ 9 ∷ 10 ∷ 11 ∷ []) status →
-      (s : SettingsSeen) → Says task words s → PassesTo (length s.names) task words told
+      (s : SettingsFor task) → Says task words s → PassesTo (length s.names) task words told
   pub sealed : (b : Finished) → blocks ≡ Some b → status ≢ 6 → ForFiles task words told (λ s w.
       CanBegin task s w × (sealed_at_end b ≡ walk_stream s.size w))
   pub broken : (b : Finished) → blocks ≡ Some b → status ≡ 6 → BreaksStream task words told b
@@ -180,7 +185,7 @@ pub record RecordsFiles
     (task : Task) (words : List (List ℕ)) (told : Told) (blocks : Option Finished)
     (before after : FilesSeen) (status : ℕ) : Type 0 where
   pub before_session : blocks ≡ None → after ≡ before
-  pub unrecorded : (s : SettingsSeen) → Says task words s → s.recording ≡ false →
+  pub unrecorded : (s : SettingsFor task) → Says task words s → s.recording ≡ false →
       (after ≡ before) × (status ≢ 11)
   pub all : status ≡ 0 → ForFiles task words told (λ s w.
       s.recording ≡ true → MadeAll (files_of_data w s.file_size) before after)

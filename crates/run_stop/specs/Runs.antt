@@ -10,7 +10,8 @@ use Rattle.search_model.specs.Plan as plan
 use Rattle.search_model.specs.Plan.{PlanRefusal, plan_refusal}
 use Rattle.search_words.specs.declared.fault.WordFault.{WordFault}
 use Rattle.search_words.specs.declared.fault.WordFault.TheVariants.{Refused, OutOfRange}
-use Rattle.search_words.specs.Settings.{SettingsSeen, SaySearch, SayRecord, ExplainsSearch, ExplainsRecord}
+use Rattle.search_words.specs.declared.settings.RunSettings.{RunSettings}
+use Rattle.search_words.specs.Settings.{SettingsOf, SettingsSeen, with_search, run_seen, SaySearch, SayRecord, ExplainsSearch, ExplainsRecord}
 use Rattle.stream_model.specs.Walk as walk
 use Rattle.stream_model.specs.Walk.{FileStream, WalkStop, observation_at, transfer_data, stop_at, walk_stop}
 use Rattle.stream_model.specs.WalkLaws.{IsAccepted, AreWalked}
@@ -49,13 +50,38 @@ is_search Searching = true
 is_search RecordingAlone = false
 is_search (Alone lone) = true
 
+-- what it has for a search
+abbrev pub SearchFor : Task → Type 0
+SearchFor Searching = Search
+SearchFor RecordingAlone = Unit {0}
+SearchFor (Alone lone) = Search
+
+-- P holds of its search, if it has one
+abbrev pub IfSearch : (task : Task) → SearchFor task → (Search → Type 0) → Type 0
+IfSearch Searching search P = P search
+IfSearch RecordingAlone none P = ⊤
+IfSearch (Alone lone) search P = P search
+
+-- its settings
+abbrev pub SettingsFor : Task → Type 0
+SettingsFor task = SettingsOf (SearchFor task)
+
 -- what a run for this is asked to do: to search files, or to record them alone
 abbrev pub task_of : Purpose → Task
-task_of purpose.Search = Searching
+task_of (purpose.Search search) = Searching
 task_of purpose.Record = RecordingAlone
 
--- its words say the settings
-abbrev pub Says : Task → List (List ℕ) → SettingsSeen → Type 0
+-- what it has for a search
+abbrev pub search_for : (purpose : Purpose) → SearchFor (task_of purpose)
+search_for (purpose.Search search) = search
+search_for purpose.Record = tt
+
+-- and its settings, with these of its run
+abbrev pub settings_for : (purpose : Purpose) → RunSettings → SettingsFor (task_of purpose)
+settings_for purpose run = with_search (search_for purpose) (run_seen run)
+
+-- the words of a run say its settings
+abbrev pub Says : (task : Task) → List (List ℕ) → SettingsFor task → Type 0
 Says Searching words s = SaySearch words s
 Says RecordingAlone words s = SayRecord words s
 Says (Alone lone) words s = SayAlone lone words s
@@ -67,33 +93,35 @@ Explains RecordingAlone words fault = ExplainsRecord words fault
 Explains (Alone lone) words fault = ExplainsAlone lone words fault
 
 -- the files of settings as a walk sees them
-abbrev pub stream_for : SettingsSeen → List (List ℕ) → FileStream
+abbrev pub stream_for : {S : Type 0} → SettingsOf S → List (List ℕ) → FileStream
 stream_for s files = record { files = files; starts = s.starts; max_bytes = s.max_bytes }
 
 -- P holds of the settings that the words say, and of the files that they name, where the bytes of all are told
-abbrev pub ForFiles : Task → List (List ℕ) → Told → (SettingsSeen → FileStream → Type 0) → Type 0
-ForFiles task words told P = (s : SettingsSeen) (files : List (List ℕ)) →
+abbrev pub ForFiles : (task : Task) → List (List ℕ) → Told
+    → (SettingsFor task → FileStream → Type 0) → Type 0
+ForFiles task words told P = (s : SettingsFor task) (files : List (List ℕ)) →
     Says task words s → AreTold told s.names files → P s (stream_for s files)
 
 -- P holds of them where those are told that the settings need; of all other files nothing is said
-abbrev pub ForFilesAt : (SettingsSeen → ℕ → Type 0) → Task → List (List ℕ) → Told
-    → (SettingsSeen → FileStream → Type 0) → Type 0
-ForFilesAt Needed task words told P = (s : SettingsSeen) (files : List (List ℕ)) →
+abbrev pub ForFilesAt : (task : Task) → (SettingsFor task → ℕ → Type 0) → List (List ℕ) → Told
+    → (SettingsFor task → FileStream → Type 0) → Type 0
+ForFilesAt task Needed words told P = (s : SettingsFor task) (files : List (List ℕ)) →
     Says task words s → AreToldAt (Needed s) told s.names files → P s (stream_for s files)
 
 -- the first file of each transfer
-abbrev pub ForFirsts : Task → List (List ℕ) → Told → (SettingsSeen → FileStream → Type 0) → Type 0
-ForFirsts = ForFilesAt (λ s. IsFirstFile s.starts (length s.names))
+abbrev pub ForFirsts : (task : Task) → List (List ℕ) → Told
+    → (SettingsFor task → FileStream → Type 0) → Type 0
+ForFirsts task = ForFilesAt task (λ s. IsFirstFile s.starts (length s.names))
 
 -- so many files from the first on
-abbrev pub ForFilesTo : ℕ → Task → List (List ℕ) → Told
-    → (SettingsSeen → FileStream → Type 0) → Type 0
-ForFilesTo opened = ForFilesAt (λ s k. k < opened)
+abbrev pub ForFilesTo : ℕ → (task : Task) → List (List ℕ) → Told
+    → (SettingsFor task → FileStream → Type 0) → Type 0
+ForFilesTo opened task = ForFilesAt task (λ s k. k < opened)
 
 -- these, and the first file of each transfer
-abbrev pub ForFilesWithFirsts : ℕ → Task → List (List ℕ) → Told
-    → (SettingsSeen → FileStream → Type 0) → Type 0
-ForFilesWithFirsts opened = ForFilesAt (λ s. IsAmong opened s.starts (length s.names))
+abbrev pub ForFilesWithFirsts : ℕ → (task : Task) → List (List ℕ) → Told
+    → (SettingsFor task → FileStream → Type 0) → Type 0
+ForFilesWithFirsts opened task = ForFilesAt task (λ s. IsAmong opened s.starts (length s.names))
 
 -- the observation of a transfer's first header
 abbrev pub first_observation : FileStream → ℕ → Observation
@@ -133,9 +161,9 @@ CanRecordFirst file_size w count = (k : ℕ) → k < count →
     CanRecord file_size w.max_bytes (first_file w k)
 
 -- nothing stands against a run before its data are read: the first header of each transfer is accepted
-pub record CanBegin (task : Task) (s : SettingsSeen) (w : FileStream) : Type 0 where
+pub record CanBegin (task : Task) (s : SettingsFor task) (w : FileStream) : Type 0 where
   pub accepted : AreWalked w
-  pub searched : is_search task ≡ true → CanSearchFirst s.search w (length w.starts)
+  pub searched : IfSearch task s.search (λ search. CanSearchFirst search w (length w.starts))
   pub recorded : s.recording ≡ true → CanRecordFirst s.file_size w (length w.starts)
 
 -- the cause is the first for which the search of an observation is refused
@@ -170,10 +198,10 @@ pub record RefusesSearch (search : Search) (w : FileStream) (cause : PlanCause) 
 
 -- the recording of some transfer is, and all searches fit
 pub record RefusesToRecord
-    (task : Task) (s : SettingsSeen) (w : FileStream) (cause : RecordingCause)
+    (task : Task) (s : SettingsFor task) (w : FileStream) (cause : RecordingCause)
     : Type 0 where
   pub accepted : AreWalked w
-  pub searched : is_search task ≡ true → CanSearchFirst s.search w (length w.starts)
+  pub searched : IfSearch task s.search (λ search. CanSearchFirst search w (length w.starts))
   pub records : s.recording ≡ true
   pub transfer : ℕ
   pub there : transfer < length w.starts
@@ -184,30 +212,31 @@ pub record RefusesToRecord
 -- ---- the same of each first file that is told, by itself
 
 -- P holds of each first file of these settings that is told
-abbrev pub OfEachFirst : Told → SettingsSeen → (List ℕ → Type 0) → Type 0
+abbrev pub OfEachFirst : {S : Type 0} → Told → SettingsOf S → (List ℕ → Type 0) → Type 0
 OfEachFirst told s P = EachFirst told s.names s.starts (length s.starts) P
 
 -- nothing stands against a run by any first file that is told
-pub record MayBegin (task : Task) (s : SettingsSeen) (told : Told) : Type 0 where
+pub record MayBegin (task : Task) (s : SettingsFor task) (told : Told) : Type 0 where
   pub accepted : OfEachFirst told s IsAccepted
-  pub searched : is_search task ≡ true → OfEachFirst told s (CanSearch s.search)
+  pub searched : IfSearch task s.search (λ search. OfEachFirst told s (CanSearch search))
   pub recorded : s.recording ≡ true → OfEachFirst told s (CanRecord s.file_size s.max_bytes)
 
 -- the search of some transfer is refused, and those before it fit
-pub record RefusesSearchAt (s : SettingsSeen) (told : Told) (cause : PlanCause) : Type 0 where
+pub record RefusesSearchAt {S : Type 0} (search : Search) (s : SettingsOf S) (told : Told)
+    (cause : PlanCause) : Type 0 where
   pub accepted : OfEachFirst told s IsAccepted
   pub transfer : ℕ
   pub there : transfer < length s.starts
   pub refused : OfFile told (first_name s.names s.starts transfer) (λ file.
-      IsPlanCause (plan_refusal (observation_at file) s.search) cause)
-  pub earlier : EachFirst told s.names s.starts transfer (CanSearch s.search)
+      IsPlanCause (plan_refusal (observation_at file) search) cause)
+  pub earlier : EachFirst told s.names s.starts transfer (CanSearch search)
 
 -- the recording of some transfer is, and all searches fit
 pub record RefusesRecordingAt
-    (task : Task) (s : SettingsSeen) (told : Told) (cause : RecordingCause)
+    (task : Task) (s : SettingsFor task) (told : Told) (cause : RecordingCause)
     : Type 0 where
   pub accepted : OfEachFirst told s IsAccepted
-  pub searched : is_search task ≡ true → OfEachFirst told s (CanSearch s.search)
+  pub searched : IfSearch task s.search (λ search. OfEachFirst told s (CanSearch search))
   pub records : s.recording ≡ true
   pub transfer : ℕ
   pub there : transfer < length s.starts
@@ -230,7 +259,7 @@ abbrev pub IsWalkStop : FileStream → Stop → Type 0
 IsWalkStop w stop = stop_of_walk w.max_bytes (walk_stop w) ≡ Some stop
 
 -- a run begins, and this is where the walk of its files stops
-pub record StopsWalk (task : Task) (s : SettingsSeen) (w : FileStream) (stop : Stop) :
+pub record StopsWalk (task : Task) (s : SettingsFor task) (w : FileStream) (stop : Stop) :
     Type 0 where
   pub begins : CanBegin task s w
   pub stops : IsWalkStop w stop
@@ -264,14 +293,15 @@ abbrev pub IsTooMany : SettingsSeen → ℕ → ℕ → ℕ → Type 0
 IsTooMany s count limit total =
     (total ≡ count) × (limit ≡ s.search.max_candidates) × (limit < count)
 
-abbrev pub HasTooMany : Task → SettingsSeen → FileStream → ℕ → ℕ → Type 0
+abbrev pub HasTooMany : (task : Task) → SettingsFor task → FileStream → ℕ → ℕ → Type 0
+HasTooMany Searching s w count limit = HasCandidates s w (IsTooMany s count limit)
+HasTooMany RecordingAlone s w count limit = ⊥
 HasTooMany (Alone lone) s w count limit = FindsAlone lone s w (IsTooMany s count limit)
-HasTooMany _ s w count limit = HasCandidates s w (IsTooMany s count limit)
 
 -- what first headers say is judged: of each first file that is told, by itself; and P holds where all are told
-abbrev pub JudgesFirsts : Task → List (List ℕ) → Told → (SettingsSeen → Type 0)
-    → (SettingsSeen → FileStream → Type 0) → Type 0
-JudgesFirsts task words told Each P = ((s : SettingsSeen) → Says task words s → Each s)
+abbrev pub JudgesFirsts : (task : Task) → List (List ℕ) → Told → (SettingsFor task → Type 0)
+    → (SettingsFor task → FileStream → Type 0) → Type 0
+JudgesFirsts task words told Each P = ((s : SettingsFor task) → Says task words s → Each s)
     × ForFirsts task words told P
 
 -- nothing stands against a run by its first files
@@ -282,7 +312,7 @@ BeginsByFirsts task words told = JudgesFirsts task words told (λ s. MayBegin ta
 -- The first refused header is that of this file. Its text is refused by this file and the first files before it; what
 -- it says is refused once all first files have headers, since all texts are judged before.
 abbrev pub RefusesFirsts : Task → List (List ℕ) → Told → ℕ → HeaderCause → Type 0
-RefusesFirsts task words told file (Text fault) = (s : SettingsSeen) → Says task words s →
+RefusesFirsts task words told file (Text fault) = (s : SettingsFor task) → Says task words s →
     RefusesTextAt told s.names s.starts file fault
 RefusesFirsts task words told file (Fields fault) =
     JudgesFirsts task words told (λ s. RefusesFieldsAt told s.names s.starts file fault)
@@ -291,8 +321,9 @@ RefusesFirsts task words told file (Fields fault) =
 -- the search of an observation is refused, or its recording
 abbrev pub RefusesSearches : Task → List (List ℕ) → Told → PlanCause → Type 0
 RefusesSearches task words told cause = (is_search task ≡ true)
-    × JudgesFirsts task words told (λ s. RefusesSearchAt s told cause)
-    (λ s w. RefusesSearch s.search w cause)
+    × JudgesFirsts task words told
+    (λ s. IfSearch task s.search (λ search. RefusesSearchAt search s told cause))
+    (λ s w. IfSearch task s.search (λ search. RefusesSearch search w cause))
 
 abbrev pub RefusesRecordings : Task → List (List ℕ) → Told → RecordingCause → Type 0
 RefusesRecordings task words told cause =
@@ -307,9 +338,9 @@ PassesTo file task words told = (k : ℕ) → k < file → ForFilesTo (k + 1) ta
 -- Nothing stands against a run by its first files; this file is there, and none before it stops the walk. By the files
 -- up to it, the walk stops at it, and P holds.
 pub record StopsThere (file : ℕ) (task : Task) (words : List (List ℕ)) (told : Told)
-    (P : SettingsSeen → FileStream → Type 0) : Type 0 where
+    (P : SettingsFor task → FileStream → Type 0) : Type 0 where
   pub begun : BeginsByFirsts task words told
-  pub there : (s : SettingsSeen) → Says task words s → file < length s.names
+  pub there : (s : SettingsFor task) → Says task words s → file < length s.names
   pub passed : PassesTo file task words told
   pub stops : ForFilesTo (file + 1) task words told (λ s w. StopsAtFile (walk_stop w) file)
   pub says : ForFilesTo (file + 1) task words told P
@@ -318,7 +349,7 @@ pub record StopsThere (file : ℕ) (task : Task) (words : List (List ℕ)) (told
 pub record StopsAt (task : Task) (words : List (List ℕ)) (told : Told) (stop : Stop) : Type 0 where
   pub file : ℕ
   pub names : StopNames stop file
-  pub tells : (s : SettingsSeen) → Says task words s → StopTells stop s.max_bytes
+  pub tells : (s : SettingsFor task) → Says task words s → StopTells stop s.max_bytes
   pub stops : StopsThere file task words told (λ s w. IsWalkStop w stop)
 
 -- what a stop says of the files, over those that it needs

@@ -1,12 +1,17 @@
 // Laws of how a run of either program ends, which the contracts of functions that do nothing carry. A caller whose
 // proof needs a law calls its function.
-ghost use Rattle.run_stop.specs.Ends.{EndAtWords, WordsSayOnce, EndBeforeSession, EndAtStop, EndAfterWhole, AcceptedGoesOn, TextsAreAnswered, FirstsAreAnswered, StopsAreAnswered, AcceptedIsNotRefused};
+ghost use Rattle.run_stop.specs.Ends.{EndAtWords, WordsSayOnce, EndBeforeSession, EndAtStop, EndAfterWhole, AcceptedGoesOn, TextsAreAnswered, FirstsAreAnswered, StopsAreAnswered, AcceptedIsNotRefused, StatusesSayStops};
 
 use psr_base::Inputs;
 // Laws: they do nothing when they run, and the proofs use what they ensure.
 use crate::laws::whole_runs_record_data;
 use search_words::said_is_in_range;
 use stream_model::{first_stop_counts, no_stop_is_whole};
+
+/// Which stop the statuses 5 and 6 are those of.
+pub fn statuses_say_stops()
+    ensures { StatusesSayStops }
+{}
 
 /// What the exit status says where the words say no settings.
 pub fn end_at_words<I: Inputs>()

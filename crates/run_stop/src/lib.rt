@@ -16,8 +16,8 @@ pub use causes::{PlanCause, RecordingCause};
 pub use command::words_or_status;
 pub use ends::{
     accepted_goes_on, accepted_is_not_refused, end_after_whole, end_at_stop, end_at_words,
-    end_before_session, firsts_are_answered, stops_are_answered, texts_are_answered,
-    words_say_once,
+    end_before_session, firsts_are_answered, statuses_say_stops, stops_are_answered,
+    texts_are_answered, words_say_once,
 };
 pub use laws::{runs_record_blocks, whole_runs_record_data};
 pub use purpose::Purpose;

@@ -1,10 +1,11 @@
 //! What a run is for.
+use search_model::Search;
 
 /// What a run is for.
 #[derive(Clone, Copy, Debug, PartialEq)]
 pub enum Purpose {
-    /// To search files, and to record them besides where the settings ask for it.
-    Search,
-    /// To record files and search nothing: the settings ask for that.
+    /// To search files so, and to record them besides where the settings of the run ask for it.
+    Search(Search),
+    /// To record files and search nothing: the settings of the run ask for that.
     Record,
 }

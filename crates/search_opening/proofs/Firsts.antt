@@ -27,8 +27,7 @@ use Rattle.disk_feeder.specs.Sources.{plan_of}
 use Rattle.run_stop.specs.declared.stop.Stop.TheVariants.{Memory, ReadFault}
 use Rattle.run_stop.specs.Conversions.{stop_of_begin, stop_of_fields}
 use Rattle.run_stop.specs.Firsts.{first_file, first_at, first_name, HasHeader, HaveHeaders, ReadsFirsts, RefusesTextAt, RefusesFields, RefusesFieldsAt, BreaksFirstAt, RefusesFirstFields}
-use Rattle.run_stop.specs.Ends.{ComesBefore}
-use Rattle.search_opening.specs.First.{OfFirsts, StopsFirsts, AreFirsts, AreFirstsAt, AreHeadersOf, AreObserved}
+use Rattle.search_opening.specs.First.{OfFirsts, ComesFirst, StopsFirsts, AreFirsts, AreFirstsAt, AreHeadersOf, AreObserved}
 use Rattle.search_opening.proofs.Observed.{as_many, some_at, accepted_at}
 
 -- ---- files that are told
@@ -372,14 +371,14 @@ module _ (w : FileStream) (headers : List HeaderText) (many_headers : length hea
 
 -- ---- these stops come before the session
 
-pub begin_comes : (fault : FeedFault) → ComesBefore (stop_of_begin fault)
+pub begin_comes : (fault : FeedFault) → ComesFirst (stop_of_begin fault)
 begin_comes feed.ReadFault = tt
 begin_comes (feed.BadHeader file (header.Short had)) = tt
 begin_comes (feed.BadHeader file (header.NotText place)) = tt
 begin_comes (feed.BadHeader file header.BadSize) = tt
 begin_comes (feed.BadHeader file header.Memory) = tt
 
-pub fields_come : (file : ℕ) (cause : ObsFault) → ComesBefore (stop_of_fields file cause)
+pub fields_come : (file : ℕ) (cause : ObsFault) → ComesFirst (stop_of_fields file cause)
 fields_come file (obs.Missing key) = tt
 fields_come file (obs.BadNumber key) = tt
 fields_come file (obs.OutOfProfile key) = tt

@@ -7,5 +7,7 @@ pub mod Staging
 pub mod Stopping
 mod Opened
 mod Opening
+mod Purposes
 mod Told
 mod Results
+mod Wording

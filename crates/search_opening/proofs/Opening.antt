@@ -5,13 +5,13 @@ use Rattle.std.proofs.lemmas.Option.{get_or_from_slice_get, slice_get-get_or}
 use Rattle.psr_base.specs.Told.{Told}
 use Rattle.dada_model.specs.Fields.{HeaderText}
 use Rattle.dada_model.specs.Observation.{Observation}
-use Rattle.search_words.specs.Settings.{SettingsSeen}
+use Rattle.search_words.specs.Settings.{SettingsOf, RunSeen, with_search}
 use Rattle.disk_feeder.specs.declared.answers.HeaderCause.TheVariants.{Text, Fields}
 use Rattle.disk_feeder.specs.declared.feeder.Feeder.{Feeder}
 use Rattle.disk_feeder.specs.Feeder.{SamePlan, block_size, headers_of, names_at, plan_at}
 use Rattle.disk_feeder.specs.Plan.{IsFirstFile}
 use Rattle.search_opening.specs.Feeders.{HasReadOnly, HasReadFirsts, StopsReadingFirsts, HasAcceptedFirsts}
-use Rattle.search_opening.specs.First.{AreFirsts, AreFirstsAt, AreHeadersOf, AreObserved, StopsFirsts}
+use Rattle.search_opening.specs.First.{AreFirsts, AreFirstsAt, AreHeadersOf, AreObserved, ComesFirst, StopsFirsts}
 use Rattle.search_opening.specs.Offsets.{AreOffsetsOf}
 use Rattle.search_opening.specs.Plans.{PlansFit, IsOfPlan, RefusesObservation, StopsSearch}
 use Rattle.search_opening.specs.Recordings.{RecordingsFit, IsOfRecording, StopsRecording}
@@ -22,17 +22,15 @@ use Rattle.run_stop.specs.Ends.{ComesBefore}
 use Rattle.run_stop.specs.Firsts.{ReadsFirsts, RefusesTextAt, RefusesFieldsAt, BreaksFirstAt, RefusesFirstFields}
 use Rattle.run_stop.specs.declared.causes.PlanCause.{PlanCause}
 use Rattle.run_stop.specs.declared.causes.RecordingCause.{RecordingCause}
-use Rattle.run_stop.specs.Runs.{Task, Searching, RecordingAlone, Alone, is_search, MayBegin, RefusesSearch, RefusesSearchAt, RefusesToRecord, RefusesRecordingAt, stream_for, task_of}
-use Rattle.run_stop.specs.declared.purpose.Purpose.{Purpose}
-use Rattle.run_stop.specs.declared.purpose.Purpose.TheVariants.{Search, Record}
-use Rattle.session_readers.specs.declared.bank.Bank.{Bank}
+use Rattle.run_stop.specs.Runs.{Task, Searching, RecordingAlone, Alone, SettingsFor, is_search, IfSearch, MayBegin, RefusesSearch, RefusesSearchAt, RefusesToRecord, RefusesRecordingAt, stream_for}
 use Rattle.search_opening.specs.declared.spaces.Spaces.{Spaces}
 use Rattle.search_opening.specs.Settings.{CanBeDriven, OfRunFirsts, JudgesRun}
 use Rattle.search_opening.specs.Early.{SaysEarly, StopsEarly, LeavesEarly}
 use Rattle.search_opening.specs.Begun.{HasFirsts, HasBegun}
 use Rattle.search_opening.specs.Judged.{AreFit, RefusesRecorded, RefusesJudged, IsRefused}
 use Rattle.search_opening.specs.Ready.{IsOpened}
-use Rattle.search_opening.specs.Spaces.{AreSpaces, AreBanksOf, shape_for}
+use Rattle.search_opening.specs.Spaces.{AreSpaces, shape_for}
+use Rattle.search_opening.proofs.Purposes.{if_search}
 use Rattle.search_opening.proofs.Observed.{as_many, some_at}
 use Rattle.search_opening.proofs.Stopping.{plan_fits, can_search, refuses_search, refuses_recording, each_accepted, each_searched, each_recorded, refuses_search_at, refuses_recording_at}
 use Rattle.search_opening.proofs.Told.{FeedsRun, of_plan, of_names}
@@ -48,22 +46,29 @@ pub both_err : {T E : Type 0} (P Q : E → Type 0) (r : Result T E) → IfErr r 
 both_err P Q (Ok x) one other = tt
 both_err P Q (Err e) one other = (one, other)
 
-pub is_searching : (purpose : Purpose) → is_search (task_of purpose) ≡ true → purpose ≡ Search
-is_searching Search is = refl
-is_searching Record is = absurd cc
+refuses_judged : (task : Task) (s : SettingsFor task) (headers : List HeaderText)
+    (observations : List (Option Observation)) (stop : Stop) → is_search task ≡ true →
+    IfSearch task s.search (λ search. StopsSearch search observations stop) →
+    RefusesJudged task s headers observations stop
+refuses_judged Searching s headers observations stop is refused =
+    subst (λ e. RefusesJudged Searching s headers observations e) (sym refused.1) (is, refused.2)
+refuses_judged RecordingAlone s headers observations stop is refused = absurd cc
+refuses_judged (Alone lone) s headers observations stop is refused =
+    subst (λ e. RefusesJudged (Alone lone) s headers observations e) (sym refused.1) (is, refused.2)
 
-pub search_refused : (task : Task) (s : SettingsSeen) (headers : List HeaderText)
+pub search_refused : (task : Task) (s : SettingsFor task) (headers : List HeaderText)
     (observations : List (Option Observation)) (stop : Stop) → is_search task ≡ true → IsOfPlan stop →
-    StopsSearch s.search observations stop → IsRefused task s headers observations stop
+    IfSearch task s.search (λ search. StopsSearch search observations stop) →
+    IsRefused task s headers observations stop
 search_refused task s headers observations stop is kind refused = record {
   kind = subst ComesBefore (sym kind.1) tt;
   readable = λ fault. let both = sym kind.1 ∙ fault in absurd cc;
-  says = subst (λ e. RefusesJudged task s headers observations e) (sym refused.1) (is, refused.2);
+  says = refuses_judged task s headers observations stop is refused;
 }
 
-pub recording_refused : (task : Task) (s : SettingsSeen) (headers : List HeaderText)
+pub recording_refused : (task : Task) (s : SettingsFor task) (headers : List HeaderText)
     (observations : List (Option Observation)) (stop : Stop) →
-    (is_search task ≡ true → PlansFit s.search observations) →
+    IfSearch task s.search (λ search. PlansFit search observations) →
     ((stop ≡ Memory) ⊎ IsOfRecording stop)
     × ((stop ≡ Memory) ⊎ StopsRecording s.file_size s.max_bytes headers observations stop) →
     s.recording ≡ true → IsRefused task s headers observations stop
@@ -88,7 +93,7 @@ recording_refused task s headers observations stop searched refused records = re
         (record { searched = searched; records = records; refused = why.2 })
 
 -- what is refused of first headers is refused of the files of the run
-module _ (task : Task) (s : SettingsSeen) (headers : List HeaderText) (observations : List (Option Observation))
+module _ (task : Task) (s : SettingsFor task) (headers : List HeaderText) (observations : List (Option Observation))
     (told : Told) (observed : AreObserved headers observations) (many : length headers ≡ length s.starts)
     (each : AreFirstsAt told s.names s.starts headers observations)
     (firsts : OfRunFirsts told s (λ w. AreFirsts w observations))
@@ -96,26 +101,31 @@ module _ (task : Task) (s : SettingsSeen) (headers : List HeaderText) (observati
   as_starts : length observations ≡ length s.starts
   as_starts = as_many headers observations observed ∙ many
 
-  search_says : (cause : PlanCause) → RefusesObservation s.search observations cause →
-      JudgesRun told s (RefusesSearchAt s told cause) (λ w. RefusesSearch s.search w cause)
+  search_says : (cause : PlanCause) → IfSearch task s.search (λ search. RefusesObservation search observations cause) →
+      JudgesRun told s (IfSearch task s.search (λ search. RefusesSearchAt search s told cause))
+      (λ w. IfSearch task s.search (λ search. RefusesSearch search w cause))
   search_says cause refuses = (
-    refuses_search_at told s headers observations each as_starts cause refuses,
-    λ files given. refuses_search (stream_for s files) observations (firsts files given) s.search cause refuses,
+    if_search task s.search
+        (λ search r. refuses_search_at told s headers observations each as_starts search cause r) refuses,
+    λ files given. if_search task s.search
+        (λ search r. refuses_search (stream_for s files) observations (firsts files given) search cause r) refuses,
   )
 
   recording_says : (cause : RecordingCause) → RefusesRecorded task s headers observations cause →
       JudgesRun told s (RefusesRecordingAt task s told cause) (λ w. RefusesToRecord task s w cause)
   recording_says cause refuses = (
-    refuses_recording_at told s headers observations each as_starts task cause
-        (λ is. each_searched told s headers observations each s.search (length s.starts) (omega arith)
-        (λ k o below. plan_fits s.search observations (refuses.searched is) k o))
+    refuses_recording_at told task s headers observations each as_starts cause
+        (if_search task s.search (λ search fit.
+        each_searched told s headers observations each search (length s.starts) (omega arith)
+        (λ k o below. plan_fits search observations fit k o)) refuses.searched)
         refuses.records refuses.refused,
     λ files given.
         let w = stream_for s files in
         refuses_recording w observations headers (firsts files given) (are files given)
         (as_many headers observations observed) task s cause
-        (λ is. can_search w observations (firsts files given) s.search (length w.starts) (omega arith)
-        (λ k o below. plan_fits s.search observations (refuses.searched is) k o))
+        (if_search task s.search (λ search fit.
+        can_search w observations (firsts files given) search (length w.starts) (omega arith)
+        (λ k o below. plan_fits search observations fit k o)) refuses.searched)
         refuses.records refuses.refused,
   )
 
@@ -134,7 +144,7 @@ module _ (task : Task) (s : SettingsSeen) (headers : List HeaderText) (observati
   refusal_says FileFault says = absurd says
 
 -- a first header is refused, or could not be read
-firsts_say : {I : Type 0} (task : Task) (s : SettingsSeen) (feeder : Feeder I) (told : Told) (stop : Stop) →
+firsts_say : {I : Type 0} (task : Task) (s : SettingsFor task) (feeder : Feeder I) (told : Told) (stop : Stop) →
     FeedsRun feeder s → StopsFirsts told (plan_at feeder) stop → SaysEarly task s told stop
 firsts_say task s feeder told Words plan says = absurd says
 firsts_say task s feeder told (Value opt) plan says = absurd says
@@ -154,30 +164,38 @@ firsts_say task s feeder told (TooMany count limit) plan says = absurd says
 firsts_say task s feeder told SinkFault plan says = absurd says
 firsts_say task s feeder told FileFault plan says = absurd says
 
-pub firsts_stop : {I : Type 0} (told : I → Told) (is_calm : I → Type 0) (task : Task) (s : SettingsSeen)
+first_comes : (stop : Stop) → ComesFirst stop → ComesBefore stop
+first_comes Words kind = absurd kind
+first_comes (Value opt) kind = absurd kind
+first_comes (Header file cause) kind = tt
+first_comes (Plan cause) kind = absurd kind
+first_comes (Recording cause) kind = absurd kind
+first_comes Memory kind = tt
+first_comes ReadFault kind = tt
+first_comes (Gap file expected found) kind = absurd kind
+first_comes (TooLong limit) kind = absurd kind
+first_comes (TooMany count limit) kind = absurd kind
+first_comes SinkFault kind = absurd kind
+first_comes FileFault kind = absurd kind
+
+pub firsts_stop : {I : Type 0} (told : I → Told) (is_calm : I → Type 0) (task : Task) (s : SettingsFor task)
     (old new : Feeder I) (stop : Stop) → FeedsRun old s → StopsReadingFirsts told is_calm old new stop →
     StopsEarly task s (told old.inputs.now) stop
 firsts_stop told is_calm task s old new stop plan stops = record {
-  kind = stops.kind;
+  kind = first_comes stop stops.kind;
   says = firsts_say task s old (told old.inputs.now) stop plan stops.stopped;
 }
 
--- a search of all shards is none of one transfer alone
-searching : (task : Task) (s : SettingsSeen) (observations : List (Option Observation)) (banks : List (Option Bank)) →
-    AreBanksOf task s observations banks → is_search task ≡ true → task ≡ Searching
-searching Searching s observations banks are is = refl
-searching RecordingAlone s observations banks are is = absurd cc
-searching (Alone lone) s observations banks are is = absurd are
-
 -- nothing that is told of first files stands against a run that fits
-may_begin : (task : Task) (s : SettingsSeen) (headers : List HeaderText) (observations : List (Option Observation))
+may_begin : (task : Task) (s : SettingsFor task) (headers : List HeaderText) (observations : List (Option Observation))
     (told : Told) → AreObserved headers observations → length headers ≡ length s.starts →
     AreFirstsAt told s.names s.starts headers observations → AreFit task s headers observations →
-    (is_search task ≡ true → task ≡ Searching) → MayBegin task s told
-may_begin task s headers observations told observed many each fit searches = record {
+    MayBegin task s told
+may_begin task s headers observations told observed many each fit = record {
   accepted = each_accepted told s headers observations each;
-  searched = λ is. each_searched told s headers observations each s.search (length s.starts) (omega arith)
-      (λ k o below. plan_fits s.search observations (fit.fits (searches is)) k o);
+  searched = if_search task s.search (λ search fits.
+      each_searched told s headers observations each search (length s.starts) (omega arith)
+      (λ k o below. plan_fits search observations fits k o)) fit.fits;
   recorded = λ is. each_recorded told s headers observations each s.file_size s.max_bytes (length s.starts)
       (omega arith)
       (subst (RecordingsFit s.file_size s.max_bytes headers observations)
@@ -186,7 +204,7 @@ may_begin task s headers observations told observed many each fit searches = rec
 
 -- ---- what is opened
 
-plan_stays : {I : Type 0} (s : SettingsSeen) (old new : Feeder I) → FeedsRun old s → SamePlan old new → FeedsRun new s
+plan_stays : {I S : Type 0} (s : SettingsOf S) (old new : Feeder I) → FeedsRun old s → SamePlan old new → FeedsRun new s
 plan_stays s old new plan same = record {
   files = same.names ∙ plan.files;
   transfers = same.starts ∙ plan.transfers;
@@ -196,7 +214,7 @@ plan_stays s old new plan same = record {
 }
 
 -- the first headers were read by the feeder of a run
-has_firsts : {I : Type 0} (told : I → Told) (is_open : I → Type 0) (s : SettingsSeen) (old new : Feeder I)
+has_firsts : {I : Type 0} (told : I → Told) (is_open : I → Type 0) (s : RunSeen) (old new : Feeder I)
     (observations : List (Option Observation)) → FeedsRun old s → SamePlan old new →
     HasReadFirsts told is_open old new observations → HasFirsts told is_open s new observations
 has_firsts told is_open s old new observations plan same read =
@@ -214,7 +232,7 @@ has_firsts told is_open s old new observations plan same read =
     }
 
 -- those of its settings' files, and nothing else was
-reads_only : {I : Type 0} (told : I → Told) (s : SettingsSeen) (old new : Feeder I) → FeedsRun old s →
+reads_only : {I : Type 0} (told : I → Told) (s : RunSeen) (old new : Feeder I) → FeedsRun old s →
     HasReadOnly told old new →
     OfRunFirsts (told old.inputs.now) s (λ w. ReadsFirsts s.names w (told old.inputs.now) (told new.inputs.now))
 reads_only told s old new plan read =
@@ -224,7 +242,7 @@ reads_only told s old new plan read =
     subst Names plan.files
     (of_plan IsFirstFile old s before before (λ w. ReadsFirsts (names_at old) w before after) plan refl read)
 
-pub has_begun : {I : Type 0} (told : I → Told) (is_open : I → Type 0) (s : SettingsSeen) (old new : Feeder I)
+pub has_begun : {I : Type 0} (told : I → Told) (is_open : I → Type 0) (s : RunSeen) (old new : Feeder I)
     (observations : List (Option Observation)) → FeedsRun old s → SamePlan old new →
     HasReadFirsts told is_open old new observations → HasBegun told is_open s old new observations
 has_begun told is_open s old new observations plan same read = record {
@@ -234,7 +252,7 @@ has_begun told is_open s old new observations plan same read = record {
 }
 
 -- what a run has read that stopped so
-pub leaves_early : {I : Type 0} (told : I → Told) (is_calm : I → Type 0) (s : SettingsSeen) (old new : Feeder I)
+pub leaves_early : {I : Type 0} (told : I → Told) (is_calm : I → Type 0) (s : RunSeen) (old new : Feeder I)
     (stop : Stop) → FeedsRun old s → StopsReadingFirsts told is_calm old new stop →
     LeavesEarly s (is_calm old.inputs.now) (told old.inputs.now) (told new.inputs.now) stop
 leaves_early told is_calm s old new stop plan stops = record {
@@ -245,7 +263,7 @@ leaves_early told is_calm s old new stop plan stops = record {
 }
 
 -- once they were read, it stops for want of memory, or for what was judged of them
-pub leaves_opening : {I T : Type 0} (told : I → Told) (is_calm : Type 0) (s : SettingsSeen) (old mid new : I)
+pub leaves_opening : {I T : Type 0} (told : I → Told) (is_calm : Type 0) (s : RunSeen) (old mid new : I)
     (r : Result T Stop) →
     OfRunFirsts (told old) s (λ w. ReadsFirsts s.names w (told old) (told mid)) → new ≡ mid →
     r ≢ Err ReadFault → IfErr r (LeavesEarly s is_calm (told old) (told new))
@@ -257,9 +275,9 @@ leaves_opening told is_calm s old mid new (Err stop) only same readable =
       broke = λ failed. absurd (readable (ap Err failed));
     }
 
-feeds_rings : {I : Type 0} (told : I → Told) (is_open : I → Type 0) (s : SettingsSeen) (old new : Feeder I)
+feeds_rings : {I S : Type 0} (told : I → Told) (is_open : I → Type 0) (s : SettingsOf S) (old new : Feeder I)
     (observations : List (Option Observation)) (header : HeaderText) (banks : ℕ) →
-    HasFirsts told is_open s old observations → HasAcceptedFirsts told old new →
+    HasFirsts told is_open (with_search tt s) old observations → HasAcceptedFirsts told old new →
     slice_get (headers_of old) 0 ≡ Some header → FeedsRings told is_open (shape_for s banks) header new
 feeds_rings told is_open s old new observations header banks read is first =
     let plan = plan_stays s old new read.plan is.kept.plan in
@@ -287,9 +305,9 @@ all_there headers observations given are same =
     let at = slice_get-get_or observations k None below ∙ ap (λ (o : Option Observation). Some o) there.1 in
     ap is_some (get_or_from_slice_get observations k (Some there.0) d at))
 
-pub is_opened : {I F : Type 0} (told : I → Told) (is_open : I → Type 0) (task : Task) (s : SettingsSeen)
+pub is_opened : {I F : Type 0} (told : I → Told) (is_open : I → Type 0) (task : Task) (s : SettingsFor task)
     (old new : Feeder I) (observations given : List (Option Observation)) (offsets lent : List ℕ) (header : HeaderText)
-    (spaces : Spaces I F) → HasFirsts told is_open s old observations → HasAcceptedFirsts told old new →
+    (spaces : Spaces I F) → HasFirsts told is_open (with_search tt s) old observations → HasAcceptedFirsts told old new →
     CanBeDriven task s → slice_get (headers_of old) 0 ≡ Some header → given ≡ observations → lent ≡ offsets →
     AreSpaces task s given header lent spaces → AreFit task s (headers_of old) observations →
     AreOffsetsOf observations offsets → IsOpened told is_open task s new observations spaces
@@ -308,7 +326,7 @@ is_opened told is_open task s old new observations given offsets lent header spa
         some = range.transfers.some;
         few = range.most_transfers;
         most = omega (arith, range.most_bytes);
-        range = range.search;
+        range = can.search;
         alone = can.records;
         header = header;
         stage_is = spaces_are'.stage_is;
@@ -318,8 +336,7 @@ is_opened told is_open task s old new observations given offsets lent header spa
         fit = subst Fit (sym is.kept.headers) fit;
         offsets_are = offsets_are;
         begins = subst (λ i. MayBegin task s (told i)) (sym is.inputs) (may_begin task s (headers_of old) observations
-            (told old.inputs.now) read.observed read.plan.headers read.each fit
-            (λ is'. searching task s observations spaces_are'.stage_is.banks.items spaces_are'.stage_is.banks_are is'));
+            (told old.inputs.now) read.observed read.plan.headers read.each fit);
         firsts = subst (λ i. OfRunFirsts (told i) s (λ w. AreFirsts w observations)) (sym is.inputs) read.firsts;
         headers = subst (λ hs. OfRunFirsts (told new.inputs.now) s (λ w. AreHeadersOf w hs)) (sym is.kept.headers)
             (subst (λ i. OfRunFirsts (told i) s (λ w. AreHeadersOf w (headers_of old))) (sym is.inputs) read.headers);

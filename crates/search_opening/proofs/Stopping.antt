@@ -10,7 +10,7 @@ use Rattle.search_engine.specs.Plan.{IsRefusedFirst}
 use Rattle.search_engine.specs.declared.fault.PlanFault.{PlanFault}
 use Rattle.search_engine.specs.declared.fault.PlanFault.TheVariants as plan
 use Rattle.psr_base.specs.Told.{Told}
-use Rattle.search_words.specs.Settings.{SettingsSeen}
+use Rattle.search_words.specs.Settings.{SettingsOf}
 use Rattle.stream_model.specs.Walk.{FileStream, observation_at}
 use Rattle.stream_model.specs.WalkLaws.{IsAccepted}
 use Rattle.stream_model.specs.Recorded.{RecordRefusal, record_refusal}
@@ -26,7 +26,7 @@ use Rattle.run_stop.specs.declared.stop.Stop.{Stop}
 use Rattle.run_stop.specs.declared.stop.Stop.TheVariants as stop
 use Rattle.run_stop.specs.Firsts.{EachFirst}
 use Rattle.run_stop.specs.Conversions.{stop_of_plan, IsRecordingStop}
-use Rattle.run_stop.specs.Runs.{Task, is_search, first_observation, first_recording, recording_of, CanSearch, CanRecord, CanSearchFirst, CanRecordFirst, IsPlanCause, IsRecordingCause, OfEachFirst, RefusesSearch, RefusesSearchAt, RefusesToRecord, RefusesRecordingAt}
+use Rattle.run_stop.specs.Runs.{Task, SettingsFor, IfSearch, first_observation, first_recording, recording_of, CanSearch, CanRecord, CanSearchFirst, CanRecordFirst, IsPlanCause, IsRecordingCause, OfEachFirst, RefusesSearch, RefusesSearchAt, RefusesToRecord, RefusesRecordingAt}
 use Rattle.search_opening.specs.First.{AreFirsts, AreHeadersOf, IsFirstOf, AreFirstsAt}
 use Rattle.search_opening.specs.Plans.{PlansFit, RefusesPlan, RefusesObservation, StopsSearch}
 use Rattle.search_opening.specs.Recordings.{RecordingsFit, RefusesTransfer, RefusesRecordingOf, StopsRecording}
@@ -136,8 +136,8 @@ module _ (w : FileStream) (observations : List (Option Observation)) (headers : 
 -- of a walk
 pub refuses_recording : (w : FileStream) (observations : List (Option Observation)) (headers : List HeaderText) →
     AreFirsts w observations → AreHeadersOf w headers → length observations ≡ length headers → (task : Task)
-    (s : SettingsSeen) (cause : RecordingCause) → (is_search task ≡ true →
-    CanSearchFirst s.search w (length w.starts)) → s.recording ≡ true →
+    (s : SettingsFor task) (cause : RecordingCause) →
+    IfSearch task s.search (λ search. CanSearchFirst search w (length w.starts)) → s.recording ≡ true →
     RefusesRecordingOf s.file_size w.max_bytes headers observations cause → RefusesToRecord task s w cause
 refuses_recording w observations headers firsts are many task s cause searched records refuses =
     let here = first_there w observations firsts refuses.transfer refuses.observation refuses.said in
@@ -177,7 +177,7 @@ stops_recording file_size max_bytes headers observations fault s is refuses =
 
 -- ---- first files, each by itself
 
-module _ (told : Told) (s : SettingsSeen) (headers : List HeaderText) (observations : List (Option Observation))
+module _ {S : Type 0} (told : Told) (s : SettingsOf S) (headers : List HeaderText) (observations : List (Option Observation))
     (are : AreFirstsAt told s.names s.starts headers observations) where
   pub each_accepted : OfEachFirst told s IsAccepted
   each_accepted k below file is =
@@ -223,9 +223,9 @@ module _ (told : Told) (s : SettingsSeen) (headers : List HeaderText) (observati
         slice_get observations k ≡ Some (Some p) → o ≡ p
     same_said k o p one other = same_Some o p (same_Some (Some o) (Some p) (sym one ∙ other))
 
-    pub refuses_search_at : (cause : PlanCause) → RefusesObservation s.search observations cause →
-        RefusesSearchAt s told cause
-    refuses_search_at cause refuses =
+    pub refuses_search_at : (search : Search) (cause : PlanCause) → RefusesObservation search observations cause →
+        RefusesSearchAt search s told cause
+    refuses_search_at search cause refuses =
         let there = place_there refuses.transfer refuses.observation refuses.there in
         record {
           accepted = each_accepted;
@@ -233,31 +233,35 @@ module _ (told : Told) (s : SettingsSeen) (headers : List HeaderText) (observati
           there = there;
           refused = λ file is.
               let first = are refuses.transfer there file is in
-              subst (λ o. IsPlanCause (plan_refusal o s.search) cause)
+              subst (λ o. IsPlanCause (plan_refusal o search) cause)
               (same_said refuses.transfer refuses.observation first.observation refuses.there first.said ∙ first.is)
               refuses.refused;
-          earlier = each_searched s.search refuses.transfer (omega (arith, there)) (λ k o. refuses.earlier k o);
+          earlier = each_searched search refuses.transfer (omega (arith, there)) (λ k o. refuses.earlier k o);
         }
 
-    pub refuses_recording_at : (task : Task) (cause : RecordingCause) →
-        (is_search task ≡ true → OfEachFirst told s (CanSearch s.search)) → s.recording ≡ true →
-        RefusesRecordingOf s.file_size s.max_bytes headers observations cause → RefusesRecordingAt task s told cause
-    refuses_recording_at task cause searched records refuses =
-        let there = place_there refuses.transfer refuses.observation refuses.said in
-        record {
-          accepted = each_accepted;
-          searched = searched;
-          records = records;
-          transfer = refuses.transfer;
-          there = there;
-          refused = λ file is.
-              let first = are refuses.transfer there file is in
-              let header = same_Some refuses.header first.header (sym refuses.there ∙ first.there) in
-              let said = same_said refuses.transfer refuses.observation first.observation refuses.said first.said in
-              subst (λ r. IsRecordingCause (record_refusal r s.max_bytes) cause)
-              (ap (λ (h : HeaderText). recording h refuses.observation.obs_offset s.file_size) header
-              ∙ ap (λ (o : Observation). recording first.header o.obs_offset s.file_size) said
-              ∙ recorded_is s.file_size refuses.transfer file first)
-              refuses.refused;
-          earlier = each_recorded s.file_size s.max_bytes refuses.transfer (omega (arith, there)) refuses.earlier;
-        }
+pub refuses_recording_at : (told : Told) (task : Task) (s : SettingsFor task) (headers : List HeaderText)
+    (observations : List (Option Observation)) → AreFirstsAt told s.names s.starts headers observations →
+    length observations ≡ length s.starts → (cause : RecordingCause) →
+    IfSearch task s.search (λ search. OfEachFirst told s (CanSearch search)) → s.recording ≡ true →
+    RefusesRecordingOf s.file_size s.max_bytes headers observations cause → RefusesRecordingAt task s told cause
+refuses_recording_at told task s headers observations are many cause searched records refuses =
+    let there = place_there told s headers observations are many refuses.transfer refuses.observation refuses.said in
+    record {
+      accepted = each_accepted told s headers observations are;
+      searched = searched;
+      records = records;
+      transfer = refuses.transfer;
+      there = there;
+      refused = λ file is.
+          let first = are refuses.transfer there file is in
+          let header = same_Some refuses.header first.header (sym refuses.there ∙ first.there) in
+          let said = same_said told s headers observations are many refuses.transfer refuses.observation
+          first.observation refuses.said first.said in
+          subst (λ r. IsRecordingCause (record_refusal r s.max_bytes) cause)
+          (ap (λ (h : HeaderText). recording h refuses.observation.obs_offset s.file_size) header
+          ∙ ap (λ (o : Observation). recording first.header o.obs_offset s.file_size) said
+          ∙ recorded_is told s headers observations are s.file_size refuses.transfer file first)
+          refuses.refused;
+      earlier = each_recorded told s headers observations are s.file_size s.max_bytes refuses.transfer
+          (omega (arith, there)) refuses.earlier;
+    }

@@ -10,9 +10,8 @@ use Rattle.disk_feeder.specs.Feeder.{IsFresh, IsBegun, KeepsBegun, FeederFeeds, 
 use Rattle.disk_feeder.specs.Feeding.{header_entries}
 use Rattle.run_stop.specs.declared.stop.Stop.{Stop}
 use Rattle.run_stop.specs.declared.stop.Stop.TheVariants.{Memory, ReadFault}
-use Rattle.run_stop.specs.Ends.{ComesBefore}
 use Rattle.run_stop.specs.Firsts.{ReadsFirsts, BreaksFirstAt}
-use Rattle.search_opening.specs.First.{OfFirsts, AreFirsts, AreFirstsAt, AreHeadersOf, AreObserved, StopsFirsts}
+use Rattle.search_opening.specs.First.{OfFirsts, AreFirsts, AreFirstsAt, AreHeadersOf, AreObserved, ComesFirst, StopsFirsts}
 
 -- P holds of the feeder's files as a walk sees them, where the first one of each transfer is told
 abbrev pub OfFeeder : {I : Type 0} → Told → Feeder I → (FileStream → Type 0) → Type 0
@@ -48,7 +47,7 @@ pub record HasReadFirsts {I : Type 0} (told : I → Told) (is_open : I → Type 
 -- and there was no memory.
 pub record StopsReadingFirsts {I : Type 0} (told : I → Told) (is_calm : I → Type 0)
     (old new : Feeder I) (stop : Stop) : Type 0 where
-  pub kind : ComesBefore stop
+  pub kind : ComesFirst stop
   pub stopped : StopsFirsts (told old.inputs.now) (plan_at old) stop
   pub unread : stop ≡ Memory → HasReadOnly told old new
   pub broke : stop ≡ ReadFault → BreaksFirstAt (plan_at old).names (plan_at old).starts

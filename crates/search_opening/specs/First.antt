@@ -64,6 +64,13 @@ StopsFirsts told plan Memory = ⊤
 StopsFirsts told plan ReadFault = ⊤
 StopsFirsts told plan _ = ⊥
 
+-- a stop that comes while they are read: one of them is refused, the inputs failed, or there was no memory
+abbrev pub ComesFirst : Stop → Type 0
+ComesFirst (Header file cause) = ⊤
+ComesFirst Memory = ⊤
+ComesFirst ReadFault = ⊤
+ComesFirst _ = ⊥
+
 -- ---- the headers that were read
 
 -- each header says the observation that stands at its place

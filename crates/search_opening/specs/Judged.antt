@@ -3,12 +3,11 @@
 use Rattle.std.specs.Prelude.{◌≡◌, ◌≢◌, true, List, length, Option, ⊤}
 use Rattle.dada_model.specs.Fields.{HeaderText}
 use Rattle.dada_model.specs.Observation.{Observation}
-use Rattle.search_words.specs.Settings.{SettingsSeen}
 use Rattle.stream_model.specs.Walk.{FileStream}
 use Rattle.run_stop.specs.declared.causes.RecordingCause.{RecordingCause}
 use Rattle.run_stop.specs.declared.stop.Stop.{Stop}
 use Rattle.run_stop.specs.declared.stop.Stop.TheVariants.{Memory, ReadFault, Plan, Recording}
-use Rattle.run_stop.specs.Runs.{Task, Searching, is_search, CanSearchFirst, CanRecordFirst}
+use Rattle.run_stop.specs.Runs.{Task, SettingsFor, is_search, IfSearch, CanSearchFirst, CanRecordFirst}
 use Rattle.run_stop.specs.Ends.{ComesBefore}
 use Rattle.search_opening.specs.First.{AreFirsts, AreHeadersOf}
 use Rattle.search_opening.specs.Plans.{PlansFit, RefusesObservation}
@@ -16,11 +15,11 @@ use Rattle.search_opening.specs.Recordings.{RecordingsFit, AreReadBack, RefusesR
 
 -- Searches and recordings were judged: all transfers can be searched and recorded, as far as that is asked for. Each is
 -- said of the headers that were read, for what is opened next, and of a walk's files, for what the exit status says.
-pub record AreFit (task : Task) (s : SettingsSeen) (headers : List HeaderText)
+pub record AreFit (task : Task) (s : SettingsFor task) (headers : List HeaderText)
     (observations : List (Option Observation)) : Type 0 where
-  pub fits : task ≡ Searching → PlansFit s.search observations
-  pub searched : task ≡ Searching → (w : FileStream) → AreFirsts w observations →
-      CanSearchFirst s.search w (length w.starts)
+  pub fits : IfSearch task s.search (λ search. PlansFit search observations)
+  pub searched : IfSearch task s.search (λ search. (w : FileStream) → AreFirsts w observations →
+      CanSearchFirst search w (length w.starts))
   pub can : s.recording ≡ true →
       RecordingsFit s.file_size s.max_bytes headers observations (length observations)
   pub read_back : s.recording ≡ true → AreReadBack headers
@@ -29,24 +28,25 @@ pub record AreFit (task : Task) (s : SettingsSeen) (headers : List HeaderText)
       CanRecordFirst s.file_size w (length w.starts)
 
 -- the recording of some transfer is refused, and all searches fit
-pub record RefusesRecorded (task : Task) (s : SettingsSeen) (headers : List HeaderText)
+pub record RefusesRecorded (task : Task) (s : SettingsFor task) (headers : List HeaderText)
     (observations : List (Option Observation)) (cause : RecordingCause) : Type 0 where
-  pub searched : is_search task ≡ true → PlansFit s.search observations
+  pub searched : IfSearch task s.search (λ search. PlansFit search observations)
   pub records : s.recording ≡ true
   pub refused : RefusesRecordingOf s.file_size s.max_bytes headers observations cause
 
 -- what a stop says where first headers are judged, of these and their observations
-abbrev pub RefusesJudged : Task → SettingsSeen → List HeaderText → List (Option Observation) →
-    Stop → Type 0
+abbrev pub RefusesJudged : (task : Task) → SettingsFor task → List HeaderText →
+    List (Option Observation) → Stop → Type 0
 RefusesJudged task s headers observations (Plan cause) =
-    (is_search task ≡ true) × RefusesObservation s.search observations cause
+    (is_search task ≡ true)
+    × IfSearch task s.search (λ search. RefusesObservation search observations cause)
 RefusesJudged task s headers observations (Recording cause) =
     RefusesRecorded task s headers observations cause
 RefusesJudged task s headers observations Memory = ⊤
 RefusesJudged task s headers observations _ = ⊥
 
 -- or one was refused, with its cause, or there was no memory to judge them
-pub record IsRefused (task : Task) (s : SettingsSeen) (headers : List HeaderText)
+pub record IsRefused (task : Task) (s : SettingsFor task) (headers : List HeaderText)
     (observations : List (Option Observation)) (stop : Stop) : Type 0 where
   pub kind : ComesBefore stop
   pub readable : stop ≢ ReadFault

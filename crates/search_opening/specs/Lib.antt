@@ -12,3 +12,4 @@ pub mod Begun
 pub mod Judged
 pub mod Spaces
 pub mod Ready
+pub mod Ended

@@ -5,10 +5,9 @@ use Rattle.dada_model.specs.Fields.{HeaderText}
 use Rattle.dada_model.specs.Observation.{Observation}
 use Rattle.search_model.specs.Search.{SettingsInRange}
 use Rattle.psr_base.specs.Told.{Told}
-use Rattle.search_words.specs.Settings.{SettingsSeen}
 use Rattle.disk_feeder.specs.declared.feeder.Feeder.{Feeder}
 use Rattle.disk_feeder.specs.Feeder.{HasPlan, FeederFaultless, headers_of}
-use Rattle.run_stop.specs.Runs.{Task, RecordingAlone, MayBegin}
+use Rattle.run_stop.specs.Runs.{Task, RecordingAlone, SettingsFor, IfSearch, MayBegin}
 use Rattle.search_opening.specs.First.{AreFirsts, AreHeadersOf, AreObserved}
 use Rattle.search_opening.specs.Offsets.{AreOffsetsOf}
 use Rattle.search_opening.specs.Space.{FeedsRings}
@@ -21,14 +20,14 @@ use Rattle.search_opening.specs.declared.spaces.Spaces.{Spaces}
 -- Nothing stands against a run, and the memory of its session is taken. Its feeder stands before the
 -- first data byte. The data of its transfers begin at these offsets.
 pub record IsReady {I F : Type 0} (told : I → Told) (is_open : I → Type 0) (task : Task)
-    (s : SettingsSeen) (offsets : List ℕ) (feeder : Feeder I)
+    (s : SettingsFor task) (offsets : List ℕ) (feeder : Feeder I)
     (observations : List (Option Observation)) (stage : StageSpace I F) : Type 0 where
   pub plan : HasPlan feeder s.names s.starts s.size s.max_bytes
   pub faultless : FeederFaultless feeder
   pub some : 0 < length s.starts
   pub few : length s.starts ≤ 8
   pub most : s.max_bytes ≤ 2 ^ 48
-  pub range : SettingsInRange s.search
+  pub range : IfSearch task s.search SettingsInRange
   pub alone : task ≡ RecordingAlone → s.recording ≡ true
   pub header : HeaderText
   pub stage_is : IsStageSpace task s observations header stage
@@ -42,7 +41,7 @@ pub record IsReady {I F : Type 0} (told : I → Told) (is_open : I → Type 0) (
 
 -- All is opened: a run is ready, and the space of its recorder is there, where it records.
 pub record IsOpened {I F : Type 0} (told : I → Told) (is_open : I → Type 0) (task : Task)
-    (s : SettingsSeen) (feeder : Feeder I) (observations : List (Option Observation))
+    (s : SettingsFor task) (feeder : Feeder I) (observations : List (Option Observation))
     (spaces : Spaces I F) : Type 0 where
   pub offsets : List ℕ
   pub ready : IsReady told is_open task s offsets feeder observations spaces.stage

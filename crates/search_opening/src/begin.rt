@@ -1,12 +1,13 @@
 // A run begins: the first headers of all transfers are read, by its settings.
 ghost use Rattle.std.specs.Prelude.{◌≡◌, ◌≢◌, Err, IfOk, IfErr};
 ghost use Rattle.psr_base.specs.Inputs.{HasReadFrom};
-ghost use Rattle.search_words.specs.Settings.{AllInRange, settings_seen};
+ghost use Rattle.search_words.specs.Settings.{RunInRange, with_search, run_seen};
 ghost use Rattle.disk_feeder.specs.Feeder.{HasPlan, IsFresh};
 ghost use Rattle.disk_feeder.specs.Filling.{HoldsAll};
-ghost use Rattle.run_stop.specs.Runs.{Task};
+ghost use Rattle.run_stop.specs.Runs.{Task, SearchFor};
 ghost use Rattle.search_opening.specs.Early.{StopsEarly, LeavesEarly};
 ghost use Rattle.search_opening.specs.Begun.{HasBegun};
+ghost use Rattle.search_opening.specs.First.{ComesFirst};
 
 use crate::first::begin_feed;
 use arrayvec::ArrayVec;
@@ -15,7 +16,7 @@ use obs_plan::Observation;
 use psr_base::Inputs;
 use run_stop::Stop;
 use search_model::MOST_TRANSFERS;
-use search_words::Settings;
+use search_words::RunSettings;
 use std::alloc::Global;
 
 /// The observations of all transfers of a run by their first headers, in order, as `begin_feed` gives them: what was
@@ -23,26 +24,28 @@ use std::alloc::Global;
 /// fault of the inputs, or want of memory: whatever the run is for.
 pub fn begin_run<'a, I: Inputs>(
     alloc: Global,
-    settings: &Settings,
+    run: &RunSettings,
     feeder: &mut Feeder<'a, I>,
 ) -> Result<ArrayVec<Option<Observation>, MOST_TRANSFERS>, Stop>
-    requires range { AllInRange (settings_seen settings.now) }
-    requires plan { HasPlan feeder.old (settings_seen settings.now).names
-        settings.now.starts.items settings.now.size settings.now.max_bytes }
+    requires range { RunInRange (run_seen run.now) }
+    requires plan { HasPlan feeder.old (run_seen run.now).names
+        run.now.starts.items run.now.size run.now.max_bytes }
     requires fresh { IsFresh feeder.old }
     ensures same_reference { feeder.new.inputs.ghost_name ≡ feeder.old.inputs.ghost_name }
     ensures inputs { HasReadFrom I.told I.is_calm I.faults (result ≡ Err Stop.ReadFault)
         feeder.old.inputs.now feeder.new.inputs.now }
     ensures serves { I.is_calm feeder.old.inputs.now
-        → HoldsAll (I.told feeder.old.inputs.now) (settings_seen settings.now).names
+        → HoldsAll (I.told feeder.old.inputs.now) (run_seen run.now).names
         → result ≢ Err Stop.ReadFault }
     ensures begun { IfOk result (λ observations. HasBegun I.told I.is_open
-        (settings_seen settings.now) feeder.old feeder.new observations.items) }
-    ensures stopped { IfErr result (λ stop. (task : Task) → StopsEarly task
-        (settings_seen settings.now) (I.told feeder.old.inputs.now) stop) }
-    ensures leaves { IfErr result (LeavesEarly (settings_seen settings.now)
+        (run_seen run.now) feeder.old feeder.new observations.items) }
+    ensures kind { IfErr result ComesFirst }
+    ensures stopped { IfErr result (λ stop. (task : Task) (search : SearchFor task)
+        → StopsEarly task (with_search search (run_seen run.now))
+        (I.told feeder.old.inputs.now) stop) }
+    ensures leaves { IfErr result (LeavesEarly (run_seen run.now)
         (I.is_calm feeder.old.inputs.now) (I.told feeder.old.inputs.now)
         (I.told feeder.new.inputs.now)) }
 {
-    begin_feed(alloc, feeder, settings.starts.as_slice())
+    begin_feed(alloc, feeder, run.starts.as_slice())
 }

@@ -1,14 +1,14 @@
 // What the first headers of all transfers say is judged.
 ghost use Rattle.std.specs.Prelude.{◌≡◌, ◌≤◌, ◌^◌, ◌⊎◌, true, IfErr, OnOk, OnErr, length};
 ghost use Rattle.search_model.specs.Search.{SettingsInRange};
-ghost use Rattle.search_words.specs.Settings.{AllInRange, settings_seen};
+ghost use Rattle.search_words.specs.Settings.{RunInRange, run_seen};
 ghost use Rattle.stream_model.specs.Walk.{FileStream};
 ghost use Rattle.disk_feeder.specs.Feeder.{headers_of};
 ghost use Rattle.search_opening.specs.First.{AreFirsts, AreHeadersOf, AreObserved};
 ghost use Rattle.search_opening.specs.Plans.{PlansFit, IsOfPlan, StopsSearch};
 ghost use Rattle.search_opening.specs.Recordings.{RecordingsFit, AreReadBack, IsOfRecording, StopsRecording};
 ghost use Rattle.run_stop.specs.declared.stop.Stop.TheVariants.{Memory};
-ghost use Rattle.run_stop.specs.Runs.{CanSearchFirst, CanRecordFirst, task_of};
+ghost use Rattle.run_stop.specs.Runs.{is_search, IfSearch, CanSearchFirst, CanRecordFirst, task_of, search_for, settings_for};
 ghost use Rattle.search_opening.specs.Judged.{AreFit, IsRefused};
 
 use crate::plans::check_plans;
@@ -18,27 +18,24 @@ use disk_feeder::Feeder;
 use obs_plan::Observation;
 use psr_base::Inputs;
 use run_stop::{Purpose, Stop};
-use search_words::Settings;
+use search_words::RunSettings;
 use std::alloc::Global;
 
 // Whether all transfers can be searched, where that is asked for.
-fn judge_search(
-    purpose: Purpose,
-    settings: &Settings,
-    observations: &[Option<Observation>],
-) -> Result<(), Stop>
-    requires range { SettingsInRange settings.now.search }
-    ensures fit { OnOk result (purpose ≡ Purpose.Search
-        → PlansFit settings.now.search observations.now) }
-    ensures searched { OnOk result (purpose ≡ Purpose.Search → (w : FileStream)
-        → AreFirsts w observations.now
-        → CanSearchFirst settings.now.search w (length w.starts)) }
+fn judge_search(purpose: Purpose, observations: &[Option<Observation>]) -> Result<(), Stop>
+    requires range { IfSearch (task_of purpose) (search_for purpose) SettingsInRange }
+    ensures fit { OnOk result (IfSearch (task_of purpose) (search_for purpose) (λ search.
+        PlansFit search observations.now)) }
+    ensures searched { OnOk result (IfSearch (task_of purpose) (search_for purpose) (λ search.
+        (w : FileStream) → AreFirsts w observations.now
+        → CanSearchFirst search w (length w.starts))) }
     ensures kind { IfErr result IsOfPlan }
-    ensures searches { OnErr result (purpose ≡ Purpose.Search) }
-    ensures refused { IfErr result (StopsSearch settings.now.search observations.now) }
+    ensures searches { OnErr result (is_search (task_of purpose) ≡ true) }
+    ensures refused { IfErr result (λ stop. IfSearch (task_of purpose) (search_for purpose) (λ search.
+        StopsSearch search observations.now stop)) }
 {
     match purpose {
-        Purpose::Search => check_plans(observations, &settings.search),
+        Purpose::Search(search) => check_plans(observations, &search),
         Purpose::Record => Ok(()),
     }
 }
@@ -46,29 +43,29 @@ fn judge_search(
 // Whether all transfers can be recorded, where that is asked for.
 fn judge_recording<'a, I: Inputs>(
     alloc: Global,
-    settings: &Settings,
+    run: &RunSettings,
     feeder: &Feeder<'a, I>,
     observations: &[Option<Observation>],
 ) -> Result<(), Stop>
     requires observed { AreObserved (headers_of feeder.now) observations.now }
-    requires file_size { (1 ≤ settings.now.file_size) × (settings.now.file_size ≤ 2 ^ 40) }
-    requires limit { settings.now.max_bytes ≤ 2 ^ 48 }
-    ensures fit { OnOk result (settings.now.recording ≡ true
-        → RecordingsFit settings.now.file_size settings.now.max_bytes (headers_of feeder.now)
+    requires file_size { (1 ≤ run.now.file_size) × (run.now.file_size ≤ 2 ^ 40) }
+    requires limit { run.now.max_bytes ≤ 2 ^ 48 }
+    ensures fit { OnOk result (run.now.recording ≡ true
+        → RecordingsFit run.now.file_size run.now.max_bytes (headers_of feeder.now)
         observations.now (length observations.now)) }
-    ensures read_back { OnOk result (settings.now.recording ≡ true
+    ensures read_back { OnOk result (run.now.recording ≡ true
         → AreReadBack (headers_of feeder.now)) }
-    ensures recorded { OnOk result (settings.now.recording ≡ true → (w : FileStream)
+    ensures recorded { OnOk result (run.now.recording ≡ true → (w : FileStream)
         → AreFirsts w observations.now → AreHeadersOf w (headers_of feeder.now)
-        → w.max_bytes ≡ settings.now.max_bytes
-        → CanRecordFirst settings.now.file_size w (length w.starts)) }
+        → w.max_bytes ≡ run.now.max_bytes
+        → CanRecordFirst run.now.file_size w (length w.starts)) }
     ensures kind { IfErr result (λ stop. (stop ≡ Memory) ⊎ IsOfRecording stop) }
-    ensures records { OnErr result (settings.now.recording ≡ true) }
+    ensures records { OnErr result (run.now.recording ≡ true) }
     ensures refused { IfErr result (λ stop. (stop ≡ Memory)
-        ⊎ StopsRecording settings.now.file_size settings.now.max_bytes (headers_of feeder.now)
+        ⊎ StopsRecording run.now.file_size run.now.max_bytes (headers_of feeder.now)
         observations.now stop) }
 {
-    if !settings.recording {
+    if !run.recording {
         return Ok(());
     }
     match Header::blank(alloc) {
@@ -76,8 +73,8 @@ fn judge_recording<'a, I: Inputs>(
             feeder,
             observations,
             &mut space,
-            settings.file_size,
-            settings.max_bytes,
+            run.file_size,
+            run.max_bytes,
         ),
         Err(_memory) => Err(Stop::Memory),
     }
@@ -87,19 +84,20 @@ fn judge_recording<'a, I: Inputs>(
 pub(crate) fn judge<'a, I: Inputs>(
     alloc: Global,
     purpose: Purpose,
-    settings: &Settings,
+    run: &RunSettings,
     feeder: &Feeder<'a, I>,
     observations: &[Option<Observation>],
 ) -> Result<(), Stop>
-    requires range { AllInRange (settings_seen settings.now) }
+    requires range { RunInRange (run_seen run.now) }
+    requires search { IfSearch (task_of purpose) (search_for purpose) SettingsInRange }
     requires observed { AreObserved (headers_of feeder.now) observations.now }
-    ensures fit { OnOk result (AreFit (task_of purpose) (settings_seen settings.now)
+    ensures fit { OnOk result (AreFit (task_of purpose) (settings_for purpose run.now)
         (headers_of feeder.now) observations.now) }
-    ensures refused { IfErr result (IsRefused (task_of purpose) (settings_seen settings.now)
+    ensures refused { IfErr result (IsRefused (task_of purpose) (settings_for purpose run.now)
         (headers_of feeder.now) observations.now) }
 {
-    match judge_search(purpose, settings, observations) {
-        Ok(()) => judge_recording(alloc, settings, feeder, observations),
+    match judge_search(purpose, observations) {
+        Ok(()) => judge_recording(alloc, run, feeder, observations),
         Err(stop) => Err(stop),
     }
 }

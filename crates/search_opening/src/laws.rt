@@ -1,8 +1,42 @@
-// A law of stops before the session of a run, which the contract of a function that does nothing carries. A caller
-// whose proof needs it calls the function.
+// Laws of a run before its session and by its end, which the contracts of functions that do nothing carry. A caller
+// whose proof needs one calls its function.
 ghost use Rattle.search_opening.specs.Early.{EarlyStopsStand};
+ghost use Rattle.search_opening.specs.Ended.{EarlyStopsAreSaid, EarlyStopsLeave, FirstsStayTold, SessionsFeedFiles, RecordingsAreSaid};
+
+use psr_base::Inputs;
+// A law: it does nothing when it runs, and the proofs use what it ensures.
+use run_stop::words_say_once;
 
 /// What a stop before the session says of the files stands as long as what is told under their names does.
 pub fn early_stops_stand()
     ensures { EarlyStopsStand }
 {}
+
+/// The first files stay told as long as what is told under their names does.
+pub fn firsts_stay_told()
+    ensures { FirstsStayTold }
+{}
+
+/// A run that was given up by its settings, before its session, was given up so by all words that say them, and has
+/// read what such a run reads.
+pub fn early_stops_are_said<I: Inputs>()
+    ensures said { EarlyStopsAreSaid }
+    ensures leave { (inputs : I) → EarlyStopsLeave (I.is_calm inputs) }
+{
+    words_say_once();
+}
+
+/// The feeder of a session, over the files of a run's settings, did what the feeder of the run does, for all words that
+/// say the settings.
+pub fn sessions_feed_files<I: Inputs, F>()
+    ensures { SessionsFeedFiles F I.told I.is_calm I.faults }
+{
+    words_say_once();
+}
+
+/// What a session recorded of the files of a run's settings it recorded for all words that say them.
+pub fn recordings_are_said()
+    ensures { RecordingsAreSaid }
+{
+    words_say_once();
+}

@@ -2,10 +2,10 @@
 ghost use Rattle.std.specs.Prelude.{◌≡◌, ◌≢◌, Err, IfOk, IfErr, OnOk};
 ghost use Rattle.psr_base.specs.Told.{Told};
 ghost use Rattle.psr_base.specs.Inputs.{HasReadFrom};
-ghost use Rattle.search_words.specs.Settings.{settings_seen};
+ghost use Rattle.search_words.specs.Settings.{run_seen};
 ghost use Rattle.disk_feeder.specs.Feeder.{HasPlan, IsFresh, FeederRead};
 ghost use Rattle.disk_feeder.specs.Filling.{HoldsAll};
-ghost use Rattle.run_stop.specs.Runs.{task_of};
+ghost use Rattle.run_stop.specs.Runs.{task_of, settings_for};
 ghost use Rattle.search_opening.specs.Settings.{CanBeDriven};
 ghost use Rattle.search_opening.specs.Early.{StopsEarly, LeavesEarly};
 ghost use Rattle.search_opening.specs.Begun.{HasFirsts};
@@ -22,7 +22,7 @@ use obs_plan::Observation;
 use psr_base::{Files, Inputs};
 use run_stop::{Purpose, Stop};
 use search_model::MOST_TRANSFERS;
-use search_words::Settings;
+use search_words::RunSettings;
 use std::alloc::Global;
 use std::thread::Threads;
 
@@ -38,25 +38,25 @@ fn open_begun<'a, I: Inputs, F: Files, R: Threads + Sync>(
     rt: &R,
     alloc: Global,
     purpose: Purpose,
-    settings: &Settings,
+    run: &RunSettings,
     feeder: &mut Feeder<'a, I>,
     observations: ArrayVec<Option<Observation>, MOST_TRANSFERS>,
     offsets: &'a mut ArrayVec<u64, MOST_TRANSFERS>,
 ) -> Result<OpenedRun<'a, I, F>, Stop>
-    requires drivable { CanBeDriven (task_of purpose) (settings_seen settings.now) }
-    requires firsts { HasFirsts I.told I.is_open (settings_seen settings.now) feeder.old
+    requires drivable { CanBeDriven (task_of purpose) (settings_for purpose run.now) }
+    requires firsts { HasFirsts I.told I.is_open (run_seen run.now) feeder.old
         observations.items }
     ensures same_reference { feeder.new.inputs.ghost_name ≡ feeder.old.inputs.ghost_name }
     ensures inputs { feeder.new.inputs.now ≡ feeder.old.inputs.now }
     ensures opened { IfOk result (λ o. IsOpened I.told I.is_open (task_of purpose)
-        (settings_seen settings.now) feeder.new o.observations.items o.spaces) }
-    ensures stopped { IfErr result (StopsEarly (task_of purpose) (settings_seen settings.now)
+        (settings_for purpose run.now) feeder.new o.observations.items o.spaces) }
+    ensures stopped { IfErr result (StopsEarly (task_of purpose) (settings_for purpose run.now)
         (I.told feeder.old.inputs.now)) }
     ensures readable { result ≢ Err Stop.ReadFault }
     ensures reads_on { (before told : Told) → FeederRead before told feeder.old
         → FeederRead before told feeder.new }
 {
-    match judge(alloc, purpose, settings, feeder, observations.as_slice()) {
+    match judge(alloc, purpose, run, feeder, observations.as_slice()) {
         Ok(()) => {}
         Err(stop) => return Err(stop),
     }
@@ -65,7 +65,7 @@ fn open_begun<'a, I: Inputs, F: Files, R: Threads + Sync>(
         rt,
         alloc,
         purpose,
-        settings,
+        run,
         feeder.header(0),
         observations.as_slice(),
         offsets.as_slice(),
@@ -87,34 +87,32 @@ pub fn open_run<'a, I: Inputs, F: Files, R: Threads + Sync>(
     rt: &R,
     alloc: Global,
     purpose: Purpose,
-    settings: &Settings,
+    run: &RunSettings,
     feeder: &mut Feeder<'a, I>,
     offsets: &'a mut ArrayVec<u64, MOST_TRANSFERS>,
 ) -> Result<OpenedRun<'a, I, F>, Stop>
-    requires drivable { CanBeDriven (task_of purpose) (settings_seen settings.now) }
-    requires plan { HasPlan feeder.old (settings_seen settings.now).names
-        settings.now.starts.items settings.now.size settings.now.max_bytes }
+    requires drivable { CanBeDriven (task_of purpose) (settings_for purpose run.now) }
+    requires plan { HasPlan feeder.old (run_seen run.now).names
+        run.now.starts.items run.now.size run.now.max_bytes }
     requires fresh { IsFresh feeder.old }
     ensures same_reference { feeder.new.inputs.ghost_name ≡ feeder.old.inputs.ghost_name }
     ensures inputs { HasReadFrom I.told I.is_calm I.faults (result ≡ Err Stop.ReadFault)
         feeder.old.inputs.now feeder.new.inputs.now }
     ensures serves { I.is_calm feeder.old.inputs.now
-        → HoldsAll (I.told feeder.old.inputs.now) (settings_seen settings.now).names
+        → HoldsAll (I.told feeder.old.inputs.now) (run_seen run.now).names
         → result ≢ Err Stop.ReadFault }
     ensures opened { IfOk result (λ o. IsOpened I.told I.is_open (task_of purpose)
-        (settings_seen settings.now) feeder.new o.observations.items o.spaces) }
-    ensures stopped { IfErr result (StopsEarly (task_of purpose) (settings_seen settings.now)
+        (settings_for purpose run.now) feeder.new o.observations.items o.spaces) }
+    ensures stopped { IfErr result (StopsEarly (task_of purpose) (settings_for purpose run.now)
         (I.told feeder.old.inputs.now)) }
-    ensures leaves { IfErr result (LeavesEarly (settings_seen settings.now)
+    ensures leaves { IfErr result (LeavesEarly (run_seen run.now)
         (I.is_calm feeder.old.inputs.now) (I.told feeder.old.inputs.now)
         (I.told feeder.new.inputs.now)) }
     ensures begins { OnOk result (FeederRead (I.told feeder.old.inputs.now)
         (I.told feeder.new.inputs.now) feeder.new) }
 {
-    match begin_run(alloc, settings, feeder) {
-        Ok(observations) => {
-            open_begun(rt, alloc, purpose, settings, feeder, observations, offsets)
-        }
+    match begin_run(alloc, run, feeder) {
+        Ok(observations) => { open_begun(rt, alloc, purpose, run, feeder, observations, offsets) }
         Err(stop) => Err(stop),
     }
 }

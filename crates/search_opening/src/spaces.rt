@@ -2,11 +2,11 @@
 ghost use Rattle.std.specs.Prelude.{◌≡◌, ◌+◌, ◌^◌, ◌≤◌, true, All, IsSome, IfOk, List, length, Option};
 ghost use Rattle.search_model.specs.Search.{SettingsInRange};
 ghost use Rattle.dada_model.specs.Observation.{Observation as Observed};
-ghost use Rattle.search_words.specs.Settings.{AllInRange, settings_seen};
+ghost use Rattle.search_words.specs.Settings.{RunSeen, RunInRange, with_search, run_seen};
 ghost use Rattle.dada_recorder.specs.Blocks.{PlanInRange};
 ghost use Rattle.search_opening.specs.Plans.{PlansFit};
 ghost use Rattle.search_opening.specs.Space.{hands_in};
-ghost use Rattle.run_stop.specs.Runs.{Task, task_of};
+ghost use Rattle.run_stop.specs.Runs.{Task, SearchFor, IfSearch, task_of, search_for, settings_for};
 ghost use Rattle.search_opening.specs.Spaces.{AreBanksOf, IsStageSpace, HasRecorderSpace, recorders, plan_for};
 
 use crate::engines::open_banks;
@@ -20,7 +20,7 @@ use psr_base::{Files, Inputs, Memory};
 use run_stop::Purpose;
 use search_model::MOST_SHARDS;
 use search_session::Bank;
-use search_words::Settings;
+use search_words::RunSettings;
 use std::alloc::Global;
 use std::thread::Threads;
 
@@ -30,19 +30,20 @@ fn take_banks<R: Threads + Sync>(
     rt: &R,
     alloc: Global,
     purpose: Purpose,
-    settings: &Settings,
+    hands: u32,
     observations: &[Option<Observation>],
 ) -> Result<ArrayVec<Option<Bank>, MOST_SHARDS>, Memory>
     requires few { length observations.now ≤ 8 }
     requires there { All IsSome observations.now }
-    requires fit { purpose ≡ Purpose.Search → PlansFit settings.now.search observations.now }
-    requires range { SettingsInRange settings.now.search }
-    requires hands { 1 ≤ settings.now.hands }
-    ensures { IfOk result (λ banks. AreBanksOf (task_of purpose) (settings_seen settings.now)
-        observations.now banks.items) }
+    requires fit { IfSearch (task_of purpose) (search_for purpose) (λ search.
+        PlansFit search observations.now) }
+    requires range { IfSearch (task_of purpose) (search_for purpose) SettingsInRange }
+    requires hands { 1 ≤ hands }
+    ensures { (run : RunSeen) → IfOk result (λ banks. AreBanksOf (task_of purpose)
+        (with_search (search_for purpose) run) observations.now banks.items) }
 {
     match purpose {
-        Purpose::Search => open_banks(rt, alloc, observations, &settings.search, settings.hands),
+        Purpose::Search(search) => open_banks(rt, alloc, observations, &search, hands),
         Purpose::Record => Ok(ArrayVec::new()),
     }
 }
@@ -50,61 +51,56 @@ fn take_banks<R: Threads + Sync>(
 // The space of a recorder, where the run records.
 fn take_recorder<'a>(
     alloc: Global,
-    settings: &Settings,
+    run: &RunSettings,
     offsets: &'a [u64],
 ) -> Result<Option<RecorderSpace<'a>>, Memory>
     requires plan { PlanInRange
-        (plan_for (settings_seen settings.now) offsets.now) }
-    requires block { (1 ≤ settings.now.size) × (settings.now.size ≤ 2 ^ 24) }
-    ensures { IfOk result (HasRecorderSpace settings.now.recording
-        (plan_for (settings_seen settings.now) offsets.now)
-        settings.now.size) }
+        (plan_for (run_seen run.now) offsets.now) }
+    requires block { (1 ≤ run.now.size) × (run.now.size ≤ 2 ^ 24) }
+    ensures { IfOk result (HasRecorderSpace run.now.recording
+        (plan_for (run_seen run.now) offsets.now)
+        run.now.size) }
 {
-    if !settings.recording {
+    if !run.recording {
         return Ok(None);
     }
-    match RecorderSpace::reserve(
-        alloc,
-        offsets,
-        settings.size,
-        settings.file_size,
-        settings.max_bytes,
-    ) {
+    match RecorderSpace::reserve(alloc, offsets, run.size, run.file_size, run.max_bytes) {
         Ok(space) => Ok(Some(space)),
         Err(memory) => Err(memory),
     }
 }
 
 // How many recorders a run has.
-fn recorder_count(settings: &Settings) -> u32
-    ensures { result ≡ recorders (settings_seen settings.now) }
+fn recorder_count(run: &RunSettings) -> u32
+    ensures { result ≡ recorders (run_seen run.now) }
 {
-    if settings.recording { 1 } else { 0 }
+    if run.recording { 1 } else { 0 }
 }
 
 // The rings, the banks and the hands of a run.
 fn take_stage<'a, I: Inputs, F: Files>(
     alloc: Global,
-    settings: &Settings,
+    run: &RunSettings,
     banks: ArrayVec<Option<Bank>, MOST_SHARDS>,
     header: &Header,
 ) -> Result<StageSpace<'a, I, F>, Memory>
-    requires range { AllInRange (settings_seen settings.now) }
+    requires range { RunInRange (run_seen run.now) }
     requires few { length banks.items ≤ 7 }
-    requires some { 1 ≤ length banks.items + recorders (settings_seen settings.now) }
-    ensures space { (task : Task) (observations : List (Option Observed))
-        → AreBanksOf task (settings_seen settings.now) observations banks.items
-        → IfOk result (IsStageSpace task (settings_seen settings.now) observations header.now) }
-    ensures hands { IfOk result (λ stage. hands_in stage ≡ settings.now.hands) }
+    requires some { 1 ≤ length banks.items + recorders (run_seen run.now) }
+    ensures space { (task : Task) (search : SearchFor task) (observations : List (Option Observed))
+        → AreBanksOf task (with_search search (run_seen run.now)) observations banks.items
+        → IfOk result (IsStageSpace task (with_search search (run_seen run.now)) observations
+        header.now) }
+    ensures hands { IfOk result (λ stage. hands_in stage ≡ run.now.hands) }
 {
     let shape = run_shape(
-        settings.buffers,
-        settings.size,
-        banks.len() as u32 + recorder_count(settings),
-        settings.max_bytes,
-        settings.starts.len() as u32,
+        run.buffers,
+        run.size,
+        banks.len() as u32 + recorder_count(run),
+        run.max_bytes,
+        run.starts.len() as u32,
     );
-    StageSpace::reserve(alloc, banks, shape, header, settings.hands)
+    StageSpace::reserve(alloc, banks, shape, header, run.hands)
 }
 
 /// All space of a run: of its session, and of its recorder, where it has one.
@@ -121,24 +117,26 @@ impl<'a, I: Inputs, F: Files> Spaces<'a, I, F> {
         rt: &R,
         alloc: Global,
         purpose: Purpose,
-        settings: &Settings,
+        run: &RunSettings,
         header: &Header,
         observations: &[Option<Observation>],
         offsets: &'a [u64],
     ) -> Result<Spaces<'a, I, F>, Memory>
-        requires range { AllInRange (settings_seen settings.now) }
+        requires range { RunInRange (run_seen run.now) }
+        requires search { IfSearch (task_of purpose) (search_for purpose) SettingsInRange }
         requires few { length observations.now ≤ 8 }
         requires there { All IsSome observations.now }
-        requires fit { purpose ≡ Purpose.Search → PlansFit settings.now.search observations.now }
-        requires records { purpose ≡ Purpose.Record → settings.now.recording ≡ true }
+        requires fit { IfSearch (task_of purpose) (search_for purpose) (λ search.
+            PlansFit search observations.now) }
+        requires records { purpose ≡ Purpose.Record → run.now.recording ≡ true }
         requires plan { PlanInRange
-            (plan_for (settings_seen settings.now) offsets.now) }
-        ensures { IfOk result (AreSpaces (task_of purpose) (settings_seen settings.now)
+            (plan_for (run_seen run.now) offsets.now) }
+        ensures { IfOk result (AreSpaces (task_of purpose) (settings_for purpose run.now)
             observations.now header.now offsets.now) }
     {
-        let banks = take_banks(rt, alloc, purpose, settings, observations)?;
-        let stage = take_stage(alloc, settings, banks, header)?;
-        let recorder = take_recorder(alloc, settings, offsets)?;
+        let banks = take_banks(rt, alloc, purpose, run.hands, observations)?;
+        let stage = take_stage(alloc, run, banks, header)?;
+        let recorder = take_recorder(alloc, run, offsets)?;
         Ok(Spaces { stage, recorder })
     }
 }

@@ -1,7 +1,6 @@
 mod Wording
 mod Staging
 mod Lists
-mod Told
 mod Recorded
 mod Searched
 mod Through

@@ -8,7 +8,6 @@ use Rattle.dada_model.specs.Fields.{HeaderText, fields_of}
 use Rattle.dada_model.specs.Observation.{Observation, observation_of}
 use Rattle.psr_base.specs.Told.{Told}
 use Rattle.psr_base.specs.Made.{NamedBytes, FilesSeen}
-use Rattle.search_words.specs.Settings.{SettingsSeen}
 use Rattle.stream_model.specs.Walk.{FileStream}
 use Rattle.stream_model.specs.Recorded.{record_refusal}
 use Rattle.disk_feeder.specs.declared.answers.FeedEnd.{FeedEnd}
@@ -22,7 +21,7 @@ use Rattle.search_session.specs.Recorded.{SealsRecordable, EndsRecording, HasRec
 use Rattle.search_opening.specs.declared.space.StageSpace.{StageSpace}
 use Rattle.search_opening.specs.First.{AreFirsts, AreHeadersOf, AreObserved}
 use Rattle.run_stop.specs.Laws.{RecordsFirsts}
-use Rattle.run_stop.specs.Runs.{Task, first_observation}
+use Rattle.run_stop.specs.Runs.{Task, SettingsFor, first_observation}
 use Rattle.search_opening.specs.Ready.{IsReady}
 use Rattle.search_opening.specs.Spaces.{plan_for}
 use Rattle.whole_run.proofs.Lists.{some_at}
@@ -47,7 +46,7 @@ observation_at_place headers observations k are below =
 
 -- ---- nothing stands against the recording
 
-pub is_recordable : {I F : Type 0} (told : I → Told) (is_open : I → Type 0) (task : Task) (s : SettingsSeen)
+pub is_recordable : {I F : Type 0} (told : I → Told) (is_open : I → Type 0) (task : Task) (s : SettingsFor task)
     (offsets : List ℕ) (feeder : Feeder I) (observations : List (Option Observation)) (stage : StageSpace I F) →
     IsReady told is_open task s offsets feeder observations stage → s.recording ≡ true →
     SealsRecordable (plan_for s offsets) (plan_at feeder)
@@ -74,7 +73,7 @@ is_recordable told is_open task s offsets feeder observations stage ready record
 
 -- ---- under which headers
 
-pub records_firsts : {I F : Type 0} (told : I → Told) (is_open : I → Type 0) (task : Task) (s : SettingsSeen)
+pub records_firsts : {I F : Type 0} (told : I → Told) (is_open : I → Type 0) (task : Task) (s : SettingsFor task)
     (offsets : List ℕ) (feeder : Feeder I) (observations : List (Option Observation)) (stage : StageSpace I F)
     (w : FileStream) → IsReady told is_open task s offsets feeder observations stage → s.recording ≡ true →
     w.starts ≡ s.starts → AreFirsts w observations → AreHeadersOf w (headers_of feeder) →

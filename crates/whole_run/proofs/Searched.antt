@@ -10,7 +10,7 @@ use Rattle.dada_model.specs.Observation.{Observation}
 use Rattle.search_model.specs.Plan.{plan_refusal}
 use Rattle.search_model.specs.Search.{SettingsInRange}
 use Rattle.search_model.specs.Observed.{candidates_of}
-use Rattle.search_words.specs.Settings.{SettingsSeen}
+use Rattle.search_model.specs.declared.search.Search.{Search}
 use Rattle.stream_model.specs.Walk.{FileStream, transfer_data}
 use Rattle.transfer_text.specs.Searched.{ObservedTransfer, spectra_of, candidate_total}
 use Rattle.transfer_text.specs.Found.{part_books, HoldTransfers}
@@ -51,10 +51,10 @@ transfers_through end said other n =
 
 -- ---- banks
 
-pub banks_for : (s : SettingsSeen) (observations : List (Option Observation)) (banks : List (Option Bank))
-    (said : List Observation) (other : Observation) → AreOpenedBanks s.search observations banks →
-    observations ≡ map Some said → 0 < s.search.shards →
-    AreBanksFor s.search (said_at said other) (length said) banks
+pub banks_for : (s : Search) (observations : List (Option Observation)) (banks : List (Option Bank))
+    (said : List Observation) (other : Observation) → AreOpenedBanks s observations banks →
+    observations ≡ map Some said → 0 < s.shards →
+    AreBanksFor s (said_at said other) (length said) banks
 banks_for s observations banks said other opened here some = record {
   some = omega (arith, some, opened.count);
   shards = opened.count;
@@ -66,10 +66,10 @@ banks_for s observations banks said other opened here some = record {
 
 -- ---- books
 
-pub hold_transfers : {I F : Type 0} (end : SessionEnd I F) (s : SettingsSeen) (observations : List (Option Observation))
+pub hold_transfers : {I F : Type 0} (end : SessionEnd I F) (s : Search) (observations : List (Option Observation))
     (said : List Observation) (other : Observation) → observations ≡ map Some said →
-    HoldFound s.search (said_at said other) (data_through end) (length said) end →
-    HoldTransfers s.search (transfers_through end said other (length said)) observations
+    HoldFound s (said_at said other) (data_through end) (length said) end →
+    HoldTransfers s (transfers_through end said other (length said)) observations
     (map (λ row. row.items) end.books.items) end.spectra.items
 hold_transfers end s observations said other here held =
     let n = length said in
@@ -82,25 +82,25 @@ hold_transfers end s observations said other here held =
           ∙ map-map Some (said_at said other) (range_with_len 0 n)
           ∙ sym (map-map (λ u. Some u.observation) t (range_with_len 0 n));
       added = held.added
-          ∙ sym (map-map (λ u. part_books s.search (candidates_of u.observation s.search u.bytes)) t
+          ∙ sym (map-map (λ u. part_books s (candidates_of u.observation s u.bytes)) t
           (range_with_len 0 n));
       counted = held.counted ∙ sym (map-map spectra_of t (range_with_len 0 n));
     }
 
 -- ---- how many candidates there are at most
 
-pub transfers_are_counted : {I F : Type 0} (end : SessionEnd I F) (s : SettingsSeen)
+pub transfers_are_counted : {I F : Type 0} (end : SessionEnd I F) (s : Search)
     (observations : List (Option Observation)) (said : List Observation) (other : Observation) → TotalsAreCounted →
-    SettingsInRange s.search → observations ≡ map Some said → length said ≤ 8 → PlansFit s.search observations →
+    SettingsInRange s → observations ≡ map Some said → length said ≤ 8 → PlansFit s observations →
     sum_by (λ k. length (data_through end k)) (range_with_len 0 (length said)) ≤ 2 ^ 48 →
-    candidate_total s.search (transfers_through end said other (length said)) < 2 ^ 64
+    candidate_total s (transfers_through end said other (length said)) < 2 ^ 64
 transfers_are_counted end s observations said other law range here few fit total =
     let n = length said in
     let t : ℕ → ObservedTransfer = λ k. record { observation = said_at said other k; bytes = data_through end k } in
     let count = length-map-range_with_len t 0 n in
-    law s.search (transfers_through end said other n) range (omega (arith, few, count))
-    (all_over (λ u. plan_refusal u.observation s.search ≡ None) t n (λ j within.
-    if_some_at (λ o. plan_refusal o s.search ≡ None) observations j (said_at said other j)
+    law s (transfers_through end said other n) range (omega (arith, few, count))
+    (all_over (λ u. plan_refusal u.observation s ≡ None) t n (λ j within.
+    if_some_at (λ o. plan_refusal o s ≡ None) observations j (said_at said other j)
     (place_of_said observations said other j here within) fit))
     (subst (λ m. m ≤ 2 ^ 48) (sym (sum_over (λ u. length u.bytes) t (range_with_len 0 n))) total)
 

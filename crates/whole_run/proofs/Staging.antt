@@ -3,7 +3,7 @@ use Rattle.std.proofs.Common.{◌≡◌, ℕ, ◌+◌, ◌<◌, Bool, true, fals
 use Rattle.std.specs.Prelude.{IfSome}
 use Rattle.psr_base.specs.Told.{Told}
 use Rattle.dada_model.specs.Observation.{Observation}
-use Rattle.search_words.specs.Settings.{SettingsSeen}
+use Rattle.search_model.specs.declared.search.Search.{Search}
 use Rattle.dada_hdu.specs.declared.hdu.Hdu.{Hdu}
 use Rattle.dada_hdu.specs.Passes.{data_shape}
 use Rattle.disk_feeder.specs.declared.feeder.Feeder.{Feeder}
@@ -20,7 +20,7 @@ use Rattle.search_opening.specs.declared.space.StageSpace.{StageSpace}
 use Rattle.search_opening.specs.Engines.{AreEnginesFor}
 use Rattle.search_opening.specs.First.{AreObserved}
 use Rattle.search_opening.specs.Space.{AreStaged}
-use Rattle.run_stop.specs.Runs.{Task, Searching, RecordingAlone, Alone}
+use Rattle.run_stop.specs.Runs.{Task, Searching, RecordingAlone, Alone, SettingsFor}
 use Rattle.search_opening.specs.declared.spaces.Spaces.{Spaces}
 use Rattle.search_opening.specs.Ready.{IsReady, IsOpened}
 use Rattle.whole_run.specs.Sessions.{RecordsReady, SearchesReady}
@@ -29,8 +29,8 @@ use Rattle.whole_run.proofs.Recorded.{as_many, observation_at_place}
 
 -- ---- banks
 
-unfed_bank : (s : SettingsSeen) (shard : ℕ) (headers : List _) (observations : List (Option Observation)) (bank : Bank)
-    (n : ℕ) → AreObserved headers observations → AreEnginesFor s.search shard observations (engines_of bank) →
+unfed_bank : (s : Search) (shard : ℕ) (headers : List _) (observations : List (Option Observation)) (bank : Bank)
+    (n : ℕ) → AreObserved headers observations → AreEnginesFor s shard observations (engines_of bank) →
     length observations ≡ n → IsUnfed n bank
 unfed_bank s shard headers observations bank n observed engines count = record {
   count = engines.count ∙ count;
@@ -40,13 +40,13 @@ unfed_bank s shard headers observations bank n observed engines count = record {
       (engine.0, engine.1, engine.2.opened.nothing_fed, engine.2.opened.running);
 }
 
-unfed_banks : (task : Task) (s : SettingsSeen) (headers : List _) (observations : List (Option Observation))
+unfed_banks : (task : Task) (s : SettingsFor task) (headers : List _) (observations : List (Option Observation))
     (banks : List (Option Bank)) (n : ℕ) → AreObserved headers observations → length observations ≡ n →
     AreBanksOf task s observations banks → (shard : ℕ) → shard < length banks →
     (bank : Bank) × HasBank banks shard bank × IsUnfed n bank
 unfed_banks Searching s headers observations banks n observed count are shard below =
     let bank = are.each shard (omega (arith, below, are.count)) in
-    (bank.0, bank.1, unfed_bank s shard headers observations bank.0 n observed bank.2 count)
+    (bank.0, bank.1, unfed_bank s.search shard headers observations bank.0 n observed bank.2 count)
 unfed_banks RecordingAlone s headers observations banks n observed count are shard below =
     let none = ap length are in absurd (omega (arith, none, below))
 unfed_banks (Alone lone) s headers observations banks n observed count are shard below = absurd are
@@ -54,7 +54,7 @@ unfed_banks (Alone lone) s headers observations banks n observed count are shard
 -- ---- the stage
 
 pub is_staged : {I F : Type 0} (told : I → Told) (is_open : I → Type 0) (files_open : F → Type 0) (task : Task)
-    (s : SettingsSeen) (offsets : List ℕ) (feeder : Feeder I) (observations : List (Option Observation))
+    (s : SettingsFor task) (offsets : List ℕ) (feeder : Feeder I) (observations : List (Option Observation))
     (stage : StageSpace I F) (recorder : Option (Recorder F)) →
     IsReady told is_open task s offsets feeder observations stage → recorder_count recorder ≡ recorders s →
     ((hdu : Hdu) → (data_shape hdu).size ≡ s.size → IfSome recorder (IsFreshRecorder files_open hdu)) →
@@ -79,7 +79,7 @@ is_staged told is_open files_open task s offsets feeder observations stage recor
     }
 
 pub records_fresh : {I F : Type 0} (told : I → Told) (is_open : I → Type 0) (files_open : F → Type 0) (task : Task)
-    (s : SettingsSeen) (offsets : List ℕ) (feeder : Feeder I) (observations : List (Option Observation))
+    (s : SettingsFor task) (offsets : List ℕ) (feeder : Feeder I) (observations : List (Option Observation))
     (stage : StageSpace I F) (r : Recorder F) →
     RecordsReady told is_open files_open task s offsets feeder observations stage r → (hdu : Hdu) →
     (data_shape hdu).size ≡ s.size → IsFreshRecorder files_open hdu r
@@ -107,7 +107,7 @@ records_not false plan size at has is = refl
 records_not true plan size at has is = let none = sym has.1 ∙ is in absurd cc
 
 pub records_ready : {I F : Type 0} (told : I → Told) (is_open : I → Type 0) (files_open : F → Type 0) (task : Task)
-    (s : SettingsSeen) (feeder : Feeder I) (observations : List (Option Observation)) (spaces : Spaces I F)
+    (s : SettingsFor task) (feeder : Feeder I) (observations : List (Option Observation)) (spaces : Spaces I F)
     (space : RecorderSpace) (r : Recorder F) →
     (opened : IsOpened told is_open task s feeder observations spaces) → spaces.recorder ≡ Some space →
     ((plan : RecordPlan) (block : ℕ) → IsSpaceFor space plan block → IsFreshFor r plan block) →
@@ -123,7 +123,7 @@ records_ready told is_open files_open task s feeder observations spaces space r 
       closed = closed;
     }
 
-pub searches_ready : {I F : Type 0} (told : I → Told) (is_open : I → Type 0) (task : Task) (s : SettingsSeen)
+pub searches_ready : {I F : Type 0} (told : I → Told) (is_open : I → Type 0) (task : Task) (s : SettingsFor task)
     (feeder : Feeder I) (observations : List (Option Observation)) (spaces : Spaces I F) →
     (opened : IsOpened told is_open task s feeder observations spaces) → spaces.recorder ≡ None →
     SearchesReady told is_open task s opened.offsets feeder observations spaces.stage

@@ -3,18 +3,17 @@
 use Rattle.std.specs.Prelude.{◌≡◌, ℕ, true, List, Option, false}
 use Rattle.dada_model.specs.Observation.{Observation}
 use Rattle.psr_base.specs.Told.{Told}
-use Rattle.search_words.specs.Settings.{SettingsSeen}
 use Rattle.disk_feeder.specs.declared.feeder.Feeder.{Feeder}
 use Rattle.dada_recorder.specs.Recorder as recorder
 use Rattle.dada_recorder.specs.declared.recorder.Recorder.{Recorder}
-use Rattle.run_stop.specs.Runs.{Task}
+use Rattle.run_stop.specs.Runs.{Task, SettingsFor}
 use Rattle.search_opening.specs.declared.space.StageSpace.{StageSpace}
 use Rattle.search_opening.specs.Spaces.{plan_for}
 use Rattle.search_opening.specs.Ready.{IsReady}
 
 -- A run that records is ready, and a fresh recorder stands over the files, of which none is open.
 pub record RecordsReady {I F : Type 0} (told : I → Told) (is_open : I → Type 0)
-    (files_open : F → Type 0) (task : Task) (s : SettingsSeen) (offsets : List ℕ)
+    (files_open : F → Type 0) (task : Task) (s : SettingsFor task) (offsets : List ℕ)
     (feeder : Feeder I) (observations : List (Option Observation)) (stage : StageSpace I F)
     (r : Recorder F) : Type 0 where
   pub ready : IsReady told is_open task s offsets feeder observations stage
@@ -24,7 +23,7 @@ pub record RecordsReady {I F : Type 0} (told : I → Told) (is_open : I → Type
 
 -- A run that searches alone is ready: it has no recorder, and the files are lent to nobody.
 pub record SearchesReady {I F : Type 0} (told : I → Told) (is_open : I → Type 0) (task : Task)
-    (s : SettingsSeen) (offsets : List ℕ) (feeder : Feeder I)
+    (s : SettingsFor task) (offsets : List ℕ) (feeder : Feeder I)
     (observations : List (Option Observation)) (stage : StageSpace I F) : Type 0 where
   pub ready : IsReady told is_open task s offsets feeder observations stage
   pub records_not : s.recording ≡ false

@@ -1,10 +1,11 @@
-//! What a run found.
+//! What a run found, and what a program that drives one came to.
 use arrayvec::ArrayVec;
 use candidate_book::Book;
 use dada_recorder::RecordEnd;
 use disk_feeder::FeedEnd;
 use obs_plan::Observation;
 use ring_ends::Finished;
+use run_stop::Stop;
 use search_model::{MOST_SHARDS, MOST_TRANSFERS};
 
 /// What a run found: the observation of each transfer; how the feeder ended; the books by transfer and then by shard,
@@ -18,4 +19,12 @@ pub struct Found {
     pub spectra: ArrayVec<u64, MOST_TRANSFERS>,
     pub recorded: Option<RecordEnd>,
     pub blocks: Finished,
+}
+
+/// What a program came to: its stop, or none where it went to its end; and what went through its data ring, where there
+/// was one.
+#[derive(Drop)]
+pub struct Ended {
+    pub stop: Option<Stop>,
+    pub blocks: Option<Finished>,
 }

@@ -7,5 +7,5 @@ mod lent;
 mod run;
 mod session;
 
-pub use found::Found;
+pub use found::{Ended, Found};
 pub use run::drive;

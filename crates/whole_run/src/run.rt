@@ -1,9 +1,9 @@
 // A run from its settings to the end of its session.
 ghost use Rattle.std.specs.Prelude.{◌≡◌, true, IfOk, IfErr, OnErr};
 ghost use Rattle.psr_base.specs.Inputs.{HasReadFrom};
-ghost use Rattle.search_words.specs.Settings.{settings_seen};
+ghost use Rattle.search_words.specs.Settings.{run_seen};
 ghost use Rattle.disk_feeder.specs.Filling.{HoldsAll};
-ghost use Rattle.run_stop.specs.Runs.{task_of};
+ghost use Rattle.run_stop.specs.Runs.{task_of, settings_for};
 ghost use Rattle.search_opening.specs.Settings.{CanBeDriven};
 ghost use Rattle.whole_run.specs.Wholes.{FailsReading, IsStopped, LeavesInputs, IsDriven};
 
@@ -16,50 +16,50 @@ use psr_base::{Files, Inputs};
 use run_stop::{Purpose, Stop};
 use search_opening::open_run;
 use search_session::Gate;
-use search_words::Settings;
+use search_words::RunSettings;
 use std::alloc::Global;
 use std::sync::Wait;
 use std::thread::Threads;
 use std::time::Clock;
 // A law: it does nothing when it runs, and the proofs use what it ensures.
-use run_stop::words_say_once;
 use search_model::MOST_TRANSFERS;
+use search_opening::early_stops_are_said;
 
 // The same with all that is borrowed in one lifetime. `offsets` will hold where the data of each transfer begin.
 fn within<'a, I: Inputs + Send, F: Files + Send, G: Gate + Sync, R: Threads + Wait + Clock + Sync>(
     rt: &R,
     alloc: Global,
     purpose: Purpose,
-    settings: &'a Settings,
+    run: &'a RunSettings,
     inputs: &'a mut I,
     files: &'a mut F,
     offsets: &'a mut ArrayVec<u64, MOST_TRANSFERS>,
     gate: &G,
 ) -> Lent<'a, I, F, Result<Found, Stop>>
-    requires drivable { CanBeDriven (task_of purpose) (settings_seen settings.now) }
-    requires closed { settings.now.recording ≡ true → ¬ F.is_open files.old }
+    requires drivable { CanBeDriven (task_of purpose) (settings_for purpose run.now) }
+    requires closed { run.now.recording ≡ true → ¬ F.is_open files.old }
     ensures same_inputs { result.inputs.ghost_name ≡ inputs.entry.ghost_name }
     ensures same_files { result.files.ghost_name ≡ files.entry.ghost_name }
     ensures inputs { HasReadFrom I.told I.is_calm I.faults (FailsReading result.done) inputs.old
         result.inputs.now }
     ensures serves { I.is_calm inputs.old
-        → HoldsAll (I.told inputs.old) (settings_seen settings.now).names
+        → HoldsAll (I.told inputs.old) (run_seen run.now).names
         → ¬ FailsReading result.done }
-    ensures stopped { IfErr result.done (IsStopped (task_of purpose) (settings_seen settings.now)
+    ensures stopped { IfErr result.done (IsStopped (task_of purpose) (settings_for purpose run.now)
         (I.told inputs.old)) }
     ensures stands { OnErr result.done (result.files.now ≡ files.old) }
-    ensures leaves { LeavesInputs (task_of purpose) (settings_seen settings.now)
+    ensures leaves { LeavesInputs (task_of purpose) (settings_for purpose run.now)
         (I.is_calm inputs.old) (I.told inputs.old) (I.told result.inputs.now) result.done }
-    ensures driven { IfOk result.done (IsDriven (task_of purpose) (settings_seen settings.now)
+    ensures driven { IfOk result.done (IsDriven (task_of purpose) (settings_for purpose run.now)
         (I.told inputs.old) (F.seen files.old) (F.seen result.files.now)) }
 {
-    words_say_once();
+    early_stops_are_said::<I>();
     let space = match FeederSpace::reserve(
         alloc,
-        settings.names.as_slice(),
-        settings.starts.as_slice(),
-        settings.size,
-        settings.max_bytes,
+        run.names.as_slice(),
+        run.starts.as_slice(),
+        run.size,
+        run.max_bytes,
     ) {
         Ok(space) => space,
         Err(_memory) => {
@@ -71,13 +71,13 @@ fn within<'a, I: Inputs + Send, F: Files + Send, G: Gate + Sync, R: Threads + Wa
         }
     };
     let mut feeder = Feeder::over(inputs, space);
-    match open_run(rt, alloc, purpose, settings, &mut feeder, offsets) {
+    match open_run(rt, alloc, purpose, run, &mut feeder, offsets) {
         Ok(opened) => {
             let Lent {
                 inputs,
                 files,
                 done,
-            } = go_on(rt, settings.turns, opened, feeder, files, gate);
+            } = go_on(rt, run.turns, opened, feeder, files, gate);
             Lent {
                 inputs,
                 files,
@@ -99,35 +99,26 @@ pub fn drive<I: Inputs + Send, F: Files + Send, G: Gate + Sync, R: Threads + Wai
     rt: &R,
     alloc: Global,
     purpose: Purpose,
-    settings: &Settings,
+    run: &RunSettings,
     inputs: &mut I,
     files: &mut F,
     gate: &G,
 ) -> Result<Found, Stop>
-    requires drivable { CanBeDriven (task_of purpose) (settings_seen settings.now) }
-    requires closed { settings.now.recording ≡ true → ¬ F.is_open files.old }
+    requires drivable { CanBeDriven (task_of purpose) (settings_for purpose run.now) }
+    requires closed { run.now.recording ≡ true → ¬ F.is_open files.old }
     ensures inputs { HasReadFrom I.told I.is_calm I.faults (FailsReading result) inputs.old
         inputs.new }
     ensures serves { I.is_calm inputs.old
-        → HoldsAll (I.told inputs.old) (settings_seen settings.now).names
+        → HoldsAll (I.told inputs.old) (run_seen run.now).names
         → ¬ FailsReading result }
-    ensures stopped { IfErr result (IsStopped (task_of purpose) (settings_seen settings.now)
+    ensures stopped { IfErr result (IsStopped (task_of purpose) (settings_for purpose run.now)
         (I.told inputs.old)) }
     ensures stands { OnErr result (files.new ≡ files.old) }
-    ensures leaves { LeavesInputs (task_of purpose) (settings_seen settings.now)
+    ensures leaves { LeavesInputs (task_of purpose) (settings_for purpose run.now)
         (I.is_calm inputs.old) (I.told inputs.old) (I.told inputs.new) result }
-    ensures driven { IfOk result (IsDriven (task_of purpose) (settings_seen settings.now)
+    ensures driven { IfOk result (IsDriven (task_of purpose) (settings_for purpose run.now)
         (I.told inputs.old) (F.seen files.old) (F.seen files.new)) }
 {
     let mut offsets = ArrayVec::new();
-    give_back(within(
-        rt,
-        alloc,
-        purpose,
-        settings,
-        inputs,
-        files,
-        &mut offsets,
-        gate,
-    ))
+    give_back(within(rt, alloc, purpose, run, inputs, files, &mut offsets, gate))
 }

@@ -1,16 +1,14 @@
 // The session of a run.
-ghost use Rattle.std.specs.Prelude.{◌≡◌, ◌≢◌, ℕ, List, Some, IsSome};
+ghost use Rattle.std.specs.Prelude.{◌≡◌, ℕ, List, Some, IsSome};
 ghost use Rattle.std.specs.Borrow.{MutBor};
 ghost use Rattle.psr_base.specs.Inputs.{HasReadFrom};
-ghost use Rattle.search_words.specs.Settings.{SettingsSeen};
 ghost use Rattle.disk_feeder.specs.declared.answers.FeedEnd.TheVariants.{ReadFault};
-ghost use Rattle.disk_feeder.specs.Feeder.{names_at};
-ghost use Rattle.disk_feeder.specs.Filling.{HoldsAll};
-ghost use Rattle.run_stop.specs.Runs.{Task};
+ghost use Rattle.run_stop.specs.Runs.{Task, SettingsFor};
+ghost use Rattle.search_opening.specs.Ended.{HasReadSince, HasFedFiles};
 ghost use Rattle.search_opening.specs.Ready.{IsOpened};
 ghost use Rattle.whole_run.specs.Sessions.{RecordsReady, SearchesReady};
-ghost use Rattle.whole_run.specs.Ends.{IsFoundOf, GoesThrough};
-ghost use Rattle.run_stop.specs.Faults.{FaultLeaves};
+ghost use Rattle.whole_run.specs.Ends.{IsFoundOf};
+ghost use Rattle.whole_run.specs.Wholes.{IsDriven};
 
 use crate::found::Found;
 use crate::lent::Lent;
@@ -27,6 +25,7 @@ use std::time::Clock;
 // Laws: they do nothing when they run, and the proofs use what they ensure.
 use run_stop::runs_record_blocks;
 use search_model::MOST_TRANSFERS;
+use search_opening::{firsts_stay_told, recordings_are_said, sessions_feed_files};
 use transfer_text::totals_are_counted;
 
 // What a session with a recorder left.
@@ -116,25 +115,25 @@ fn with_recorder<
     recorder: Recorder<'a, F>,
     gate: &G,
 ) -> Lent<'a, I, F, Found>
-    requires ready { (task : Task) × (s : SettingsSeen) × (offsets : List ℕ)
+    requires ready { (task : Task) × (s : SettingsFor task) × (offsets : List ℕ)
         × RecordsReady I.told I.is_open F.is_open task s offsets feeder observations.items stage
         recorder }
     ensures same_inputs { result.inputs.ghost_name ≡ feeder.entry.inputs.ghost_name }
     ensures same_files { result.files.ghost_name ≡ recorder.entry.files.ghost_name }
     ensures inputs { HasReadFrom I.told I.is_calm I.faults (result.done.feed ≡ ReadFault)
         feeder.entry.inputs.now result.inputs.now }
-    ensures broke { result.done.feed ≡ ReadFault → FaultLeaves I.told
-        (I.is_calm feeder.entry.inputs.now) feeder.entry result.inputs.now result.done.blocks }
-    ensures serves { I.is_calm feeder.entry.inputs.now
-        → HoldsAll (I.told feeder.entry.inputs.now) (names_at feeder.entry)
-        → result.done.feed ≢ ReadFault }
-    ensures went { (task : Task) (s : SettingsSeen) (offsets : List ℕ)
+    ensures fed { HasFedFiles I.told I.is_calm feeder.entry result.inputs.now result.done.blocks
+        result.done.feed }
+    ensures went { (task : Task) (s : SettingsFor task) (offsets : List ℕ) (before : I)
         → RecordsReady I.told I.is_open F.is_open task s offsets feeder.entry observations.items
-        stage.entry recorder.entry
-        → GoesThrough task s (I.told feeder.entry.inputs.now) (F.seen recorder.entry.files.now)
+        stage.entry recorder.entry → HasReadSince I.told I.is_calm before feeder.entry
+        → IsDriven task s (I.told before) (F.seen recorder.entry.files.now)
         (F.seen result.files.now) result.done }
 {
     runs_record_blocks();
+    sessions_feed_files::<I, F>();
+    firsts_stay_told();
+    recordings_are_said();
     totals_are_counted();
     let stage = stage.stage(feeder, Some(recorder));
     let end = run_session(rt, stage, turns, gate);
@@ -157,22 +156,23 @@ fn without_recorder<
     files: &'a mut F,
     gate: &G,
 ) -> Lent<'a, I, F, Found>
-    requires ready { (task : Task) × (s : SettingsSeen) × (offsets : List ℕ)
+    requires ready { (task : Task) × (s : SettingsFor task) × (offsets : List ℕ)
         × SearchesReady I.told I.is_open task s offsets feeder observations.items stage }
     ensures same_inputs { result.inputs.ghost_name ≡ feeder.entry.inputs.ghost_name }
     ensures same_files { result.files.ghost_name ≡ files.entry.ghost_name }
     ensures inputs { HasReadFrom I.told I.is_calm I.faults (result.done.feed ≡ ReadFault)
         feeder.entry.inputs.now result.inputs.now }
-    ensures broke { result.done.feed ≡ ReadFault → FaultLeaves I.told
-        (I.is_calm feeder.entry.inputs.now) feeder.entry result.inputs.now result.done.blocks }
-    ensures serves { I.is_calm feeder.entry.inputs.now
-        → HoldsAll (I.told feeder.entry.inputs.now) (names_at feeder.entry)
-        → result.done.feed ≢ ReadFault }
-    ensures went { (task : Task) (s : SettingsSeen) (offsets : List ℕ)
+    ensures fed { HasFedFiles I.told I.is_calm feeder.entry result.inputs.now result.done.blocks
+        result.done.feed }
+    ensures went { (task : Task) (s : SettingsFor task) (offsets : List ℕ) (before : I)
         → SearchesReady I.told I.is_open task s offsets feeder.entry observations.items stage.entry
-        → GoesThrough task s (I.told feeder.entry.inputs.now) (F.seen files.old)
-        (F.seen result.files.now) result.done }
+        → HasReadSince I.told I.is_calm before feeder.entry
+        → IsDriven task s (I.told before) (F.seen files.old) (F.seen result.files.now)
+        result.done }
 {
+    sessions_feed_files::<I, F>();
+    firsts_stay_told();
+    recordings_are_said();
     totals_are_counted();
     let stage = stage.stage(feeder, None);
     let end = run_session(rt, stage, turns, gate);
@@ -194,23 +194,20 @@ pub(crate) fn go_on<
     files: &'a mut F,
     gate: &G,
 ) -> Lent<'a, I, F, Found>
-    requires opened { (task : Task) × (s : SettingsSeen) × IsOpened I.told I.is_open task s feeder
+    requires opened { (task : Task) × (s : SettingsFor task) × IsOpened I.told I.is_open task s feeder
         opened.observations.items opened.spaces }
     requires closed { IsSome opened.spaces.recorder → ¬ F.is_open files.old }
     ensures same_inputs { result.inputs.ghost_name ≡ feeder.entry.inputs.ghost_name }
     ensures same_files { result.files.ghost_name ≡ files.entry.ghost_name }
     ensures inputs { HasReadFrom I.told I.is_calm I.faults (result.done.feed ≡ ReadFault)
         feeder.entry.inputs.now result.inputs.now }
-    ensures broke { result.done.feed ≡ ReadFault → FaultLeaves I.told
-        (I.is_calm feeder.entry.inputs.now) feeder.entry result.inputs.now result.done.blocks }
-    ensures serves { I.is_calm feeder.entry.inputs.now
-        → HoldsAll (I.told feeder.entry.inputs.now) (names_at feeder.entry)
-        → result.done.feed ≢ ReadFault }
-    ensures went { (task : Task) (s : SettingsSeen)
+    ensures fed { HasFedFiles I.told I.is_calm feeder.entry result.inputs.now result.done.blocks
+        result.done.feed }
+    ensures went { (task : Task) (s : SettingsFor task) (before : I)
         → IsOpened I.told I.is_open task s feeder.entry opened.entry.observations.items
-        opened.entry.spaces
-        → GoesThrough task s (I.told feeder.entry.inputs.now) (F.seen files.old)
-        (F.seen result.files.now) result.done }
+        opened.entry.spaces → HasReadSince I.told I.is_calm before feeder.entry
+        → IsDriven task s (I.told before) (F.seen files.old) (F.seen result.files.now)
+        result.done }
 {
     let OpenedRun {
         observations,

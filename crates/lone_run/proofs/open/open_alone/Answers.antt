@@ -1,7 +1,8 @@
 use Rattle.std.proofs.Common.{◌≡◌, Result, Ok, Err, OnOk, refl, sym, subst}
-use Rattle.search_words.specs.Settings.{settings_seen}
+use Rattle.search_words.specs.Settings.{run_seen, settings_seen}
 use Rattle.disk_feeder.specs.Feeder.{FeederRead}
 use Rattle.run_stop.specs.declared.stop.Stop.{Stop}
+use Rattle.run_stop.specs.Runs.{RecordingAlone, Alone}
 use Rattle.search_opening.specs.Early.{LeavesEarly}
 use Rattle.lone_run.specs.declared.stop.LoneStop.{LoneStop}
 use Rattle.lone_run.specs.declared.stop.LoneStop.TheVariants.{Run}
@@ -12,7 +13,8 @@ use Rattle.lone_run.proofs.open.open_alone.Goals as goal
 pub returns-in-Ok-clause-stopped : goal.returns-in-Ok-clause-stopped
 returns-in-Ok-clause-stopped g c =
     map_err _ _ c.open_begun.result
-    (λ stop. stops_before_reading c.early_stops_stand.ensures _ _ (settings_seen c.args.settings.now)
+    (λ stop. stops_before_reading c.early_stops_stand.ensures c.firsts_stay_told.ensures _ _
+    (settings_seen c.args.settings.now)
     (g.I.Inputs.told c.args.feeder.now.inputs.now) (g.I.Inputs.told c.begin_run.new.feeder.inputs.now) stop
     c.begin_run.ensures.inputs.names) c.open_begun.ensures.stopped
 
@@ -20,7 +22,8 @@ pub returns-in-Err-clause-stopped : goal.returns-in-Err-clause-stopped
 returns-in-Err-clause-stopped g c =
     begin_stops (g.S.Scoping.scopes c.args.scoping.now) (g.S.Scoping.refuses c.args.scoping.now)
     (settings_seen c.args.settings.now) (g.I.Inputs.told c.args.feeder.now.inputs.now) c.in-Err.stop
-    c.in-Err.ensures.stopped
+    c.in-Err.ensures.kind (c.in-Err.ensures.stopped RecordingAlone tt).kind
+    (λ lone. c.in-Err.ensures.stopped (Alone lone) c.args.settings.now.search)
 
 -- ---- what was read
 
@@ -52,7 +55,7 @@ one_stop r a b one other = cc
 pub returns-in-Err-clause-leaves : goal.returns-in-Err-clause-leaves
 returns-in-Err-clause-leaves g c = λ stop is.
     let told = g.I.Inputs.told in
-    let s = settings_seen c.args.settings.now in
+    let s = run_seen c.args.settings.now.run in
     let old = c.args.feeder.now in
     let new = c.begin_run.new.feeder in
     let Leaves : Stop → Type 0 = λ x. LeavesEarly s (g.I.Inputs.is_calm old.inputs.now) (told old.inputs.now)

@@ -1,9 +1,10 @@
 use Rattle.std.proofs.Common.{rules, ◌≡◌, sym, ◌∙◌, subst}
 use Rattle.search_words.specs.Settings.{settings_seen}
-use Rattle.run_stop.specs.Outcomes.{ReadsNoData, LeavesAtFault}
+use Rattle.run_stop.specs.Outcomes.{blocks_of, ReadsNoData, LeavesAtFault}
 use Rattle.run_stop.specs.Runs.{Alone}
 use Rattle.search_opening.specs.Settings.{ForWords}
-use Rattle.lone_run.specs.Stops.{FailsReading, blocks_of}
+use Rattle.lone_run.specs.declared.found.LoneFound.{LoneFound}
+use Rattle.lone_run.specs.Stops.{FailsReading}
 use Rattle.lone_run.proofs.run.drive_alone.Goals as goal
 
 pub returns-clause-unread : goal.returns-clause-unread
@@ -21,9 +22,11 @@ returns-clause-broken g c = λ failed lone.
     let s = settings_seen c.args.settings.now in
     let calm : Type 0 = g.I.Inputs.is_calm c.args.inputs.now in
     let Leaves : _ → Type 0 = λ i. ForWords (Alone lone) s (λ words.
-    LeavesAtFault (Alone lone) words calm (told c.args.inputs.now) (told i) (blocks_of c.give_back.result)) in
+    LeavesAtFault (Alone lone) words calm (told c.args.inputs.now) (told i)
+    (blocks_of (λ (found : LoneFound). found.blocks) c.give_back.result)) in
     let Blocks : _ → Type 0 = λ r. FailsReading r → ForWords (Alone lone) s (λ words.
-    LeavesAtFault (Alone lone) words calm (told c.args.inputs.now) (told c.within.result.inputs.now) (blocks_of r)) in
+    LeavesAtFault (Alone lone) words calm (told c.args.inputs.now) (told c.within.result.inputs.now)
+    (blocks_of (λ (found : LoneFound). found.blocks) r)) in
     let back : c.inputs-1.given.0 ≡ c.within.result.inputs.now = search rules in
     subst Leaves (sym back)
     (subst Blocks (sym c.give_back.ensures.done) (λ was. c.within.ensures.broken was lone) failed)

@@ -1,20 +1,18 @@
-use Rattle.std.proofs.Common.{◌≡◌, None, Result, Err, refl, sym, ap, ◌∙◌, subst}
-use Rattle.search_words.specs.Settings.{settings_seen}
+use Rattle.std.proofs.Common.{◌≡◌, None, Result, Err, refl, sym, ap, subst}
+use Rattle.search_words.specs.Settings.{run_seen, settings_seen}
 use Rattle.disk_feeder.specs.declared.answers.FeedEnd.TheVariants.{ReadFault}
-use Rattle.disk_feeder.specs.Feeder.{names_at, FeederRead}
-use Rattle.disk_feeder.specs.Streams.{StreamRead}
-use Rattle.disk_feeder.specs.Resting.{feeder_over}
 use Rattle.run_stop.specs.declared.stop.Stop.{Stop as Stopped}
 use Rattle.run_stop.specs.declared.stop.Stop.TheVariants as Stop
 use Rattle.run_stop.specs.Outcomes.{ReadsNoData, LeavesAtFault}
-use Rattle.run_stop.specs.Runs.{Alone}
+use Rattle.run_stop.specs.Runs.{Searching, Alone}
+use Rattle.search_opening.specs.Early.{LeavesEarly}
 use Rattle.search_opening.specs.Settings.{ForWords}
 use Rattle.lone_run.specs.declared.stop.LoneStop.{LoneStop}
 use Rattle.lone_run.specs.declared.stop.LoneStop.TheVariants.{Run, Unscoped}
 use Rattle.lone_run.specs.Stops.{StopsEarly, FailsReading}
-use Rattle.lone_run.proofs.Told.{read_through, hold_still}
-use Rattle.lone_run.proofs.Wording.{stops_alone, reads_no_data, is_fed, is_found, leaves_before, leaves_session}
-use Rattle.lone_run.proofs.Through.{opened_over}
+use Rattle.lone_run.proofs.Told.{read_through}
+use Rattle.lone_run.proofs.Wording.{stops_alone, is_found}
+use Rattle.lone_run.proofs.Through.{opened_over, begins_alone, is_parted}
 use Rattle.lone_run.proofs.run.within.Goals as goal
 
 pub go_on-found-requires : goal.go_on-found-requires
@@ -40,51 +38,34 @@ returns-in-Ok-open_alone-clause-inputs g c =
     c.go_on-found.ensures.inputs
 
 pub returns-in-Ok-open_alone-clause-serves : goal.returns-in-Ok-open_alone-clause-serves
-returns-in-Ok-open_alone-clause-serves g c = λ calm holds.
-    let told = g.I.Inputs.told in
-    let Calm : _ → Type 0 = g.I.Inputs.is_calm in
+returns-in-Ok-open_alone-clause-serves g c =
     let s = settings_seen c.args.settings.now in
-    let read = c.in-Ok-open_alone.ensures.inputs in
-    let lent = c.part-inputs.result.inputs.now in
-    let names = ap (λ i. (told i).bytes_under) c.part-inputs.ensures.inputs ∙ read.names
-    ∙ ap (λ i. (told i).bytes_under) c.over-feeder.ensures.inputs in
     let at = c.in-Ok-open_alone.ensures.opened in
-    let opened = opened_over told g.I.Inputs.is_open s c.open_alone.new.feeder lent
-    c.part-inputs.result.space c.in-Ok-open_alone.opened.observation at.0 c.in-Ok-open_alone.opened.space
-    c.part-inputs.ensures.inputs c.part-inputs.ensures.stream at.2 in
-    c.go_on-found.ensures.serves
-    (subst Calm (sym c.part-inputs.ensures.inputs) (read.calm (subst Calm (sym c.over-feeder.ensures.inputs) calm)))
-    (hold_still (told c.args.inputs.now) (told lent) s.names (names_at (feeder_over lent c.part-inputs.result.space))
-    names opened.feeder.plan.files holds)
+    let parted = is_parted g.I.Inputs.told g.I.Inputs.is_open g.I.Inputs.is_calm g.I.Inputs.faults _ s c.args.inputs.now
+    _ _ c.open_alone.new.feeder _ _ at.0 _ c.over-feeder.ensures.inputs c.in-Ok-open_alone.ensures.inputs
+    c.in-Ok-open_alone.ensures.begins c.part-inputs.ensures.inputs c.part-inputs.ensures.stream at.2 in
+    (c.go_on-found.ensures.fed Searching s c.args.inputs.now parted.opened.feeder.plan parted.read).serves
 
 pub returns-in-Ok-open_alone-clause-fed : goal.returns-in-Ok-open_alone-clause-fed
-returns-in-Ok-open_alone-clause-fed g c =
-    let told = g.I.Inputs.told in
+returns-in-Ok-open_alone-clause-fed g c = λ lone.
     let s = settings_seen c.args.settings.now in
-    let lent = c.part-inputs.result.inputs.now in
-    let names = ap (λ i. (told i).bytes_under) c.part-inputs.ensures.inputs ∙ c.in-Ok-open_alone.ensures.inputs.names
-    ∙ ap (λ i. (told i).bytes_under) c.over-feeder.ensures.inputs in
     let at = c.in-Ok-open_alone.ensures.opened in
-    let opened = opened_over told g.I.Inputs.is_open s c.open_alone.new.feeder lent
-    c.part-inputs.result.space c.in-Ok-open_alone.opened.observation at.0 c.in-Ok-open_alone.opened.space
-    c.part-inputs.ensures.inputs c.part-inputs.ensures.stream at.2 in
-    is_fed c.words_say_once.ensures s (told c.args.inputs.now) (told lent) c.in-Ok-open_alone.opened.observation at.0
-    c.go_on-found.result names (c.go_on-found.ensures.went s at.0 opened)
+    let parted = is_parted g.I.Inputs.told g.I.Inputs.is_open g.I.Inputs.is_calm g.I.Inputs.faults _ s c.args.inputs.now
+    _ _ c.open_alone.new.feeder _ _ at.0 _ c.over-feeder.ensures.inputs c.in-Ok-open_alone.ensures.inputs
+    c.in-Ok-open_alone.ensures.begins c.part-inputs.ensures.inputs c.part-inputs.ensures.stream at.2 in
+    (c.go_on-found.ensures.fed (Alone lone) s c.args.inputs.now parted.opened.feeder.plan parted.read).fed
+    (begins_alone g.I.Inputs.told g.I.Inputs.is_open s _ _ at.0 _ parted.opened lone)
 
 pub returns-in-Ok-open_alone-clause-found : goal.returns-in-Ok-open_alone-clause-found
 returns-in-Ok-open_alone-clause-found g c =
-    let told = g.I.Inputs.told in
     let s = settings_seen c.args.settings.now in
-    let lent = c.part-inputs.result.inputs.now in
-    let names = ap (λ i. (told i).bytes_under) c.part-inputs.ensures.inputs ∙ c.in-Ok-open_alone.ensures.inputs.names
-    ∙ ap (λ i. (told i).bytes_under) c.over-feeder.ensures.inputs in
     let at = c.in-Ok-open_alone.ensures.opened in
-    let opened = opened_over told g.I.Inputs.is_open s c.open_alone.new.feeder lent
-    c.part-inputs.result.space c.in-Ok-open_alone.opened.observation at.0 c.in-Ok-open_alone.opened.space
-    c.part-inputs.ensures.inputs c.part-inputs.ensures.stream at.2 in
-    is_found (g.S.Scoping.scopes c.args.scoping.now) s (told c.args.inputs.now) (told lent)
-    c.in-Ok-open_alone.opened.observation at.0 c.go_on-found.result names at.1
-    (c.go_on-found.ensures.went s at.0 opened)
+    let parted = is_parted g.I.Inputs.told g.I.Inputs.is_open g.I.Inputs.is_calm g.I.Inputs.faults _ s c.args.inputs.now
+    _ _ c.open_alone.new.feeder _ _ at.0 _ c.over-feeder.ensures.inputs c.in-Ok-open_alone.ensures.inputs
+    c.in-Ok-open_alone.ensures.begins c.part-inputs.ensures.inputs c.part-inputs.ensures.stream at.2 in
+    is_found (g.S.Scoping.scopes c.args.scoping.now) s (g.I.Inputs.told c.args.inputs.now)
+    c.in-Ok-open_alone.opened.observation at.0 c.go_on-found.result at.1
+    (c.go_on-found.ensures.went s at.0 c.args.inputs.now parted.opened parted.read)
 
 pub returns-in-Err-open_alone-clause-stopped : goal.returns-in-Err-open_alone-clause-stopped
 returns-in-Err-open_alone-clause-stopped g c =
@@ -93,53 +74,35 @@ returns-in-Err-open_alone-clause-stopped g c =
     let scopes = g.S.Scoping.scopes c.args.scoping.now in
     let refuses = g.S.Scoping.refuses c.args.scoping.now in
     let Early : _ → Type 0 = λ i. StopsEarly scopes refuses s (told i) c.in-Err-open_alone.stop in
-    stops_alone c.words_say_once.ensures scopes refuses s (told c.args.inputs.now) c.in-Err-open_alone.stop
+    stops_alone c.words_say_once.ensures c.early_stops_are_said.ensures.said scopes refuses s
+    (told c.args.inputs.now) c.in-Err-open_alone.stop
     (subst Early c.over-feeder.ensures.inputs c.in-Err-open_alone.ensures.stopped)
 
 -- ---- what a fault leaves
 
 pub returns-in-Ok-open_alone-clause-broken : goal.returns-in-Ok-open_alone-clause-broken
 returns-in-Ok-open_alone-clause-broken g c = λ failed lone.
-    let told = g.I.Inputs.told in
     let s = settings_seen c.args.settings.now in
-    let lent = c.part-inputs.result.inputs.now in
-    let space = c.part-inputs.result.space in
-    let names = ap (λ i. (told i).bytes_under) c.part-inputs.ensures.inputs ∙ c.in-Ok-open_alone.ensures.inputs.names
-    ∙ ap (λ i. (told i).bytes_under) c.over-feeder.ensures.inputs in
     let at = c.in-Ok-open_alone.ensures.opened in
-    let opened = opened_over told g.I.Inputs.is_open s c.open_alone.new.feeder lent
-    space c.in-Ok-open_alone.opened.observation at.0 c.in-Ok-open_alone.opened.space
-    c.part-inputs.ensures.inputs c.part-inputs.ensures.stream at.2 in
-    let feeder = feeder_over lent space in
-    let Before : _ → Type 0 = λ i. StreamRead (told i) (told c.open_alone.new.feeder.inputs.now)
-    c.open_alone.new.feeder.stream in
-    let Now : _ → Type 0 = λ i. StreamRead (told c.args.inputs.now) (told i) c.open_alone.new.feeder.stream in
-    let Of : _ → Type 0 = λ st. StreamRead (told c.args.inputs.now) (told lent) st in
-    let read : FeederRead (told c.args.inputs.now) (told lent) feeder =
-    subst Of (sym c.part-inputs.ensures.stream)
-    (subst Now (sym c.part-inputs.ensures.inputs)
-    (subst Before c.over-feeder.ensures.inputs c.in-Ok-open_alone.ensures.begins)) in
-    let Calm : _ → Type 0 = g.I.Inputs.is_calm in
-    leaves_session c.words_say_once.ensures told (Alone lone) s (Calm c.args.inputs.now) (Calm lent)
-    (told c.args.inputs.now) feeder c.go_on-found.new.inputs c.go_on-found.result.blocks names
-    c.go_on-found.ensures.inputs.names opened.feeder.plan ((c.go_on-found.ensures.went s at.0 opened).begun lone) read
-    (c.go_on-found.ensures.broke failed)
-    (λ calm. subst Calm (sym c.part-inputs.ensures.inputs)
-    (c.in-Ok-open_alone.ensures.inputs.calm (subst Calm (sym c.over-feeder.ensures.inputs) calm)))
+    let parted = is_parted g.I.Inputs.told g.I.Inputs.is_open g.I.Inputs.is_calm g.I.Inputs.faults _ s c.args.inputs.now
+    _ _ c.open_alone.new.feeder _ _ at.0 _ c.over-feeder.ensures.inputs c.in-Ok-open_alone.ensures.inputs
+    c.in-Ok-open_alone.ensures.begins c.part-inputs.ensures.inputs c.part-inputs.ensures.stream at.2 in
+    (c.go_on-found.ensures.fed (Alone lone) s c.args.inputs.now parted.opened.feeder.plan parted.read).broken failed
+    (begins_alone g.I.Inputs.told g.I.Inputs.is_open s _ _ at.0 _ parted.opened lone)
 
 pub returns-in-Err-open_alone-clause-unread : goal.returns-in-Err-open_alone-clause-unread
 returns-in-Err-open_alone-clause-unread g c = λ want lone.
     let told = g.I.Inputs.told in
     let s = settings_seen c.args.settings.now in
+    let now = c.args.inputs.now in
     let early = c.in-Err-open_alone.ensures.leaves Stop.Memory (ap Err (one_err _ _ _ refl want)) in
-    let Before : _ → Type 0 = λ i. ForWords (Alone lone) s (λ words.
-    ReadsNoData (Alone lone) words (told i) (told c.open_alone.new.feeder.inputs.now)) in
+    let Before : _ → Type 0 = λ i. LeavesEarly (run_seen c.args.settings.now.run) (g.I.Inputs.is_calm i) (told i)
+    (told c.open_alone.new.feeder.inputs.now) Stop.Memory in
     let After : _ → Type 0 = λ i. ForWords (Alone lone) s (λ words.
-    ReadsNoData (Alone lone) words (told c.args.inputs.now) (told i)) in
+    ReadsNoData (Alone lone) words (told now) (told i)) in
     subst After (sym c.close.ensures.inputs)
-    (subst Before c.over-feeder.ensures.inputs
-    (reads_no_data c.words_say_once.ensures s (told c.over-feeder.result.inputs.now)
-    (told c.open_alone.new.feeder.inputs.now) (early.unread refl) lone))
+    ((c.early_stops_are_said.ensures.leave now (Alone lone) s (told now) (told c.open_alone.new.feeder.inputs.now)
+    Stop.Memory (subst Before c.over-feeder.ensures.inputs early)).unread refl)
   where
     one_err : {T E : Type 0} (r : Result T E) (a b : E) → r ≡ Err a → r ≡ Err b → a ≡ b
     one_err r a b one other = cc
@@ -148,16 +111,15 @@ pub returns-in-Err-open_alone-clause-broken : goal.returns-in-Err-open_alone-cla
 returns-in-Err-open_alone-clause-broken g c = λ failed lone.
     let told = g.I.Inputs.told in
     let s = settings_seen c.args.settings.now in
+    let now = c.args.inputs.now in
     let early = c.in-Err-open_alone.ensures.leaves Stop.ReadFault (ap Err (at_fault c.in-Err-open_alone.stop failed)) in
-    let Calm : _ → Type 0 = g.I.Inputs.is_calm in
-    let Before : _ → Type 0 = λ i. ForWords (Alone lone) s (λ words.
-    LeavesAtFault (Alone lone) words (Calm i) (told i) (told c.open_alone.new.feeder.inputs.now) None) in
+    let Before : _ → Type 0 = λ i. LeavesEarly (run_seen c.args.settings.now.run) (g.I.Inputs.is_calm i) (told i)
+    (told c.open_alone.new.feeder.inputs.now) Stop.ReadFault in
     let After : _ → Type 0 = λ i. ForWords (Alone lone) s (λ words.
-    LeavesAtFault (Alone lone) words (Calm c.args.inputs.now) (told c.args.inputs.now) (told i) None) in
+    LeavesAtFault (Alone lone) words (g.I.Inputs.is_calm now) (told now) (told i) None) in
     subst After (sym c.close.ensures.inputs)
-    (subst Before c.over-feeder.ensures.inputs
-    (leaves_before c.words_say_once.ensures (Alone lone) s (Calm c.over-feeder.result.inputs.now)
-    (told c.over-feeder.result.inputs.now) (told c.open_alone.new.feeder.inputs.now) (early.broke refl)))
+    ((c.early_stops_are_said.ensures.leave now (Alone lone) s (told now) (told c.open_alone.new.feeder.inputs.now)
+    Stop.ReadFault (subst Before c.over-feeder.ensures.inputs early)).broken refl)
   where
     at_fault : {F : Type 0} (stop : LoneStop F) → FailsReading (Err stop) → stop ≡ Run Stop.ReadFault
     at_fault (Run stop) failed = ap (λ (x : Stopped). Run x) failed

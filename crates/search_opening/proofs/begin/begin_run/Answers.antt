@@ -1,5 +1,5 @@
 use Rattle.std.proofs.Common.{sym, subst}
-use Rattle.search_words.specs.Settings.{settings_seen}
+use Rattle.search_words.specs.Settings.{with_search, run_seen}
 use Rattle.disk_feeder.specs.Filling.{HoldsAll}
 use Rattle.search_opening.proofs.Opening.{has_begun, firsts_stop, leaves_early}
 use Rattle.search_opening.proofs.Results.{if_ok, map_err}
@@ -12,20 +12,23 @@ returns-clause-serves g c = λ calm holds.
 
 pub returns-clause-begun : goal.returns-clause-begun
 returns-clause-begun g c =
-    let s = settings_seen c.args.settings.now in
+    let s = run_seen c.args.run.now in
     if_ok _ _ c.begin_feed.result
     (λ observations. has_begun g.I.Inputs.told g.I.Inputs.is_open s c.args.feeder.now c.begin_feed.new.feeder
     observations.items c.requires.plan c.begin_feed.ensures.plan) c.begin_feed.ensures.read
+
+pub returns-clause-kind : goal.returns-clause-kind
+returns-clause-kind g c = map_err _ _ c.begin_feed.result (λ stop stops. stops.kind) c.begin_feed.ensures.stopped
 
 pub returns-clause-stopped : goal.returns-clause-stopped
 returns-clause-stopped g c =
     let told = g.I.Inputs.told in
     map_err _ _ c.begin_feed.result
-    (λ stop stops task. firsts_stop told g.I.Inputs.is_calm task (settings_seen c.args.settings.now) c.args.feeder.now
-    c.begin_feed.new.feeder stop c.requires.plan stops) c.begin_feed.ensures.stopped
+    (λ stop stops task search. firsts_stop told g.I.Inputs.is_calm task
+    (with_search search (run_seen c.args.run.now)) c.args.feeder.now c.begin_feed.new.feeder stop c.requires.plan stops) c.begin_feed.ensures.stopped
 
 pub returns-clause-leaves : goal.returns-clause-leaves
 returns-clause-leaves g c =
     map_err _ _ c.begin_feed.result
-    (λ stop. leaves_early g.I.Inputs.told g.I.Inputs.is_calm (settings_seen c.args.settings.now) c.args.feeder.now
+    (λ stop. leaves_early g.I.Inputs.told g.I.Inputs.is_calm (run_seen c.args.run.now) c.args.feeder.now
     c.begin_feed.new.feeder stop c.requires.plan) c.begin_feed.ensures.stopped

@@ -5,8 +5,7 @@ use Rattle.std.proofs.lemmas.Option.{slice_get_within}
 use Rattle.stream_model.specs.WalkLaws.{AreStarts}
 use Rattle.disk_feeder.specs.Feeder.{plan_at}
 use Rattle.disk_feeder.specs.Plan.{Plan, stream_of}
-use Rattle.run_stop.specs.Ends.{ComesBefore}
-use Rattle.search_opening.specs.First.{AreHeadersOf, StopsFirsts}
+use Rattle.search_opening.specs.First.{AreHeadersOf, ComesFirst, StopsFirsts}
 use Rattle.search_opening.proofs.Firsts.{still_told, still_headed, same_stream, headers_are, texts_are, firsts_are, breaks_first, fault_of_begin, fields_no_fault, stops_text, no_want, stops_fields, refuses_fields, refuses_fields_at, are_firsts, are_firsts_at, begin_comes, fields_come}
 use Rattle.search_opening.proofs.first.begin_feed.Goals as goal
 
@@ -70,7 +69,7 @@ returns-in-Err-observe_all-clause-stopped g c =
     let within = slice_get_within new.headers refused.transfer r.header r.there in
     let there : refused.transfer < length old.starts = omega (arith, within, headed) in
     record {
-      kind = subst ComesBefore (sym c.of_observation.ensures) (fields_come _ refused.cause);
+      kind = subst ComesFirst (sym c.of_observation.ensures) (fields_come _ refused.cause);
       stopped = subst (StopsFirsts told old) (sym c.of_observation.ensures)
           (stops_fields told old _ refused.cause (λ other.
           refuses_fields_at told old.names old.starts new.headers texts refused.transfer _ refused.cause r.header there
@@ -101,7 +100,7 @@ returns-in-Err-clause-stopped g c =
     let is = sym c.of_begin.ensures in
     let refused = c.in-Err.ensures.refused in
     record {
-      kind = subst ComesBefore is (begin_comes fault);
+      kind = subst ComesFirst is (begin_comes fault);
       stopped = subst (StopsFirsts told old) is (stops_text told source starts fault refused);
       unread = λ want files are. absurd (no_want told source starts fault refused (is ∙ want) files are);
       broke = λ failed. breaks_first told source starts (g.I.Inputs.is_calm c.args.feeder.now.inputs.now) told_now

@@ -1,7 +1,7 @@
 use Rattle.std.proofs.Common.{Result, Ok, Err, OnOk, sym, subst}
-use Rattle.search_words.specs.Settings.{settings_seen}
+use Rattle.search_words.specs.Settings.{run_seen}
 use Rattle.disk_feeder.specs.Feeder.{FeederRead}
-use Rattle.run_stop.specs.Runs.{task_of}
+use Rattle.run_stop.specs.Runs.{task_of, search_for, settings_for}
 use Rattle.search_opening.specs.Early.{StopsEarly}
 use Rattle.search_opening.proofs.Opening.{leaves_opening}
 use Rattle.search_opening.proofs.Results.{map_err}
@@ -13,7 +13,7 @@ open_begun-requires-clause-firsts g c = λ lifetimes lives. c.in-Ok.ensures.begu
 
 pub returns-in-Ok-clause-stopped : goal.returns-in-Ok-clause-stopped
 returns-in-Ok-clause-stopped g c =
-    let s = settings_seen c.args.settings.now in
+    let s = settings_for c.args.purpose c.args.run.now in
     let task = task_of c.args.purpose in
     let old = g.I.Inputs.told c.args.feeder.now.inputs.now in
     let new = g.I.Inputs.told c.begin_run.new.feeder.inputs.now in
@@ -21,7 +21,7 @@ returns-in-Ok-clause-stopped g c =
     (λ stop. stops_before_reading task s old new stop c.begin_run.ensures.inputs.names) c.open_begun.ensures.stopped
 
 pub returns-in-Err-clause-stopped : goal.returns-in-Err-clause-stopped
-returns-in-Err-clause-stopped g c = c.in-Err.ensures.stopped (task_of c.args.purpose)
+returns-in-Err-clause-stopped g c = c.in-Err.ensures.stopped (task_of c.args.purpose) (search_for c.args.purpose)
 
 -- ---- what was read
 
@@ -42,6 +42,6 @@ returns-in-Ok-clause-begins g c =
 pub returns-in-Ok-clause-leaves : goal.returns-in-Ok-clause-leaves
 returns-in-Ok-clause-leaves g c =
     let Calm : _ → Type 0 = g.I.Inputs.is_calm in
-    leaves_opening g.I.Inputs.told (Calm c.args.feeder.now.inputs.now) (settings_seen c.args.settings.now)
+    leaves_opening g.I.Inputs.told (Calm c.args.feeder.now.inputs.now) (run_seen c.args.run.now)
     c.args.feeder.now.inputs.now c.begin_run.new.feeder.inputs.now c.open_begun.new.feeder.inputs.now
     c.open_begun.result c.in-Ok.ensures.begun.only c.open_begun.ensures.inputs c.open_begun.ensures.readable

@@ -3,7 +3,7 @@ use Rattle.std.specs.Prelude.{vec_len}
 use Rattle.std.proofs.Math.Nat.{mul_comm}
 use Rattle.ring_words.specs.declared.shape.RingShape.{RingShape}
 use Rattle.search_engine.specs.Engine.{most_fed}
-use Rattle.search_words.specs.Settings.{settings_seen}
+use Rattle.search_words.specs.Settings.{with_search, run_seen}
 use Rattle.search_opening.specs.Rings.{run_shape}
 use Rattle.search_opening.specs.Space.{IsSpaceOf}
 use Rattle.search_opening.specs.Spaces.{IsStageSpace, recorders, shape_for}
@@ -11,13 +11,13 @@ use Rattle.search_opening.proofs.Results.{if_ok}
 use Rattle.search_opening.proofs.spaces.take_stage.Goals as goal
 
 pub returns-clause-space : goal.returns-clause-space
-returns-clause-space g c = λ task observations are.
-    let s = settings_seen c.args.settings.now in
+returns-clause-space g c = λ task found observations are.
+    let s = with_search found (run_seen c.args.run.now) in
     let banks = c.args.banks in
     let made = c.run_shape-shape in
     let banks_len = c.len.ensures.value in
     let count = c.recorder_count.ensures in
-    let len : vec_len c.args.settings.now.starts ≡ length c.args.settings.now.starts.items = search rules in
+    let len : vec_len c.args.run.now.starts ≡ length c.args.run.now.starts.items = search rules in
     let starts = c.len-2.ensures ∙ len in
     let readers : c.len.result + c.recorder_count.result ≡ length banks.items + recorders s =
     omega (arith, banks_len, count) in

@@ -1,7 +1,7 @@
 use Rattle.std.proofs.Common.{ap, subst, sym, refl}
 use Rattle.std.specs.Prelude.{IsSome}
 use Rattle.psr_base.specs.Made.{FilesSeen}
-use Rattle.whole_run.specs.Ends.{GoesThrough}
+use Rattle.whole_run.specs.Wholes.{IsDriven}
 use Rattle.whole_run.proofs.Staging.{records_ready, searches_ready}
 use Rattle.whole_run.proofs.session.go_on.Goals as goal
 
@@ -20,20 +20,30 @@ with_recorder-requires-clause-ready g c = λ κs lives.
     )
 
 pub returns-in-Some-clause-went : goal.returns-in-Some-clause-went
-returns-in-Some-clause-went g c = λ task s opened.
+returns-in-Some-clause-went g c = λ task s before opened read.
     let IsOpen : _ → Type 0 = g.F.Files.is_open in
     let ready = records_ready g.I.Inputs.told g.I.Inputs.is_open g.F.Files.is_open task s c.args.feeder
     c.args.opened.observations.items c.args.opened.spaces c.in-Some.space c.over-recorder.result opened c.in-Some.is
     c.over-recorder.ensures.fresh
     (λ is_open. c.requires.closed (subst IsSome (sym c.in-Some.is) refl)
     (subst IsOpen c.over-recorder.ensures.files is_open)) in
-    let Through : FilesSeen → Type 0 = λ before. GoesThrough task s (g.I.Inputs.told c.args.feeder.inputs.now) before
+    let Driven : FilesSeen → Type 0 = λ files. IsDriven task s (g.I.Inputs.told before) files
     (g.F.Files.seen c.with_recorder.result.files.now) c.with_recorder.result.done in
-    subst Through (ap g.F.Files.seen c.over-recorder.ensures.files)
-    (c.with_recorder.ensures.went task s opened.offsets ready)
+    subst Driven (ap g.F.Files.seen c.over-recorder.ensures.files)
+    (c.with_recorder.ensures.went task s opened.offsets before ready read)
+
+pub without_recorder-requires-clause-ready : goal.without_recorder-requires-clause-ready
+without_recorder-requires-clause-ready g c = λ κs lives.
+    let at = c.requires.opened in (
+      at.0,
+      at.1,
+      at.2.offsets,
+      searches_ready g.I.Inputs.told g.I.Inputs.is_open at.0 at.1 c.args.feeder c.args.opened.observations.items
+          c.args.opened.spaces at.2 c.in-None.is,
+    )
 
 pub returns-in-None-clause-went : goal.returns-in-None-clause-went
-returns-in-None-clause-went g c = λ task s opened.
-    c.without_recorder.ensures.went task s opened.offsets
+returns-in-None-clause-went g c = λ task s before opened read.
+    c.without_recorder.ensures.went task s opened.offsets before
     (searches_ready g.I.Inputs.told g.I.Inputs.is_open task s c.args.feeder c.args.opened.observations.items
-    c.args.opened.spaces opened c.in-None.is)
+    c.args.opened.spaces opened c.in-None.is) read

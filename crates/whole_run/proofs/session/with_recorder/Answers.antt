@@ -6,7 +6,7 @@ use Rattle.dada_recorder.specs.declared.recorder.Recorder.{Recorder}
 use Rattle.search_session.specs.Recorded.{RecordedAnswers, RecordedBy}
 use Rattle.search_session.specs.Sessions.{FeedAnswers, ShardAnswers}
 use Rattle.whole_run.proofs.Staging.{is_staged, records_fresh}
-use Rattle.whole_run.proofs.Through.{fault_leaves, goes_with}
+use Rattle.whole_run.proofs.Through.{feeds_found, goes_with}
 use Rattle.whole_run.proofs.session.with_recorder.Goals as goal
 
 pub stage-stage-requires : goal.stage-stage-requires
@@ -27,26 +27,19 @@ returns-clause-same_files g c =
     let by = subst Recorded c.stage-stage.ensures.recorder c.run_session-end.ensures.recorded in
     (c.found_of.ensures.files by.files by.given).1 ∙ by.same_reference
 
-pub returns-clause-serves : goal.returns-clause-serves
-returns-clause-serves g c = λ calm holds fault.
+pub returns-clause-fed : goal.returns-clause-fed
+returns-clause-fed g c =
     let end = c.run_session-end.result in
     let Fed : Feeder _ → Type 0 = λ feeder.
     FeedAnswers g.I.Inputs.told g.I.Inputs.is_calm g.I.Inputs.faults feeder end in
-    let fed = subst Fed c.stage-stage.ensures.feeder c.run_session-end.ensures.feed in
-    fed.serves calm holds (sym c.found_of.ensures.found.feed ∙ fault)
-
-pub returns-clause-broke : goal.returns-clause-broke
-returns-clause-broke g c = λ failed.
-    let end = c.run_session-end.result in
-    let Fed : Feeder _ → Type 0 = λ feeder.
-    FeedAnswers g.I.Inputs.told g.I.Inputs.is_calm g.I.Inputs.faults feeder end in
-    fault_leaves g.I.Inputs.told g.I.Inputs.is_calm g.I.Inputs.faults c.args.feeder end c.args.observations
-    c.found_of.result.done c.found_of.result.inputs.now
-    (subst Fed c.stage-stage.ensures.feeder c.run_session-end.ensures.feed) c.found_of.ensures.found
-    c.found_of.ensures.inputs failed
+    feeds_found g.I.Inputs.told g.I.Inputs.is_calm c.args.feeder end c.args.observations c.found_of.result.done
+    c.found_of.result.inputs.now
+    (c.sessions_feed_files.ensures c.args.feeder end
+    (subst Fed c.stage-stage.ensures.feeder c.run_session-end.ensures.feed)) c.found_of.ensures.found
+    c.found_of.ensures.inputs
 
 pub returns-clause-went : goal.returns-clause-went
-returns-clause-went g c = λ task s offsets ready.
+returns-clause-went g c = λ task s offsets before ready read.
     let end = c.run_session-end.result in
     let stage = c.stage-stage.result in
     let seen = g.F.Files.seen in
@@ -60,11 +53,13 @@ returns-clause-went g c = λ task s offsets ready.
     let shards = subst Shards c.stage-stage.ensures.feeder c.run_session-end.ensures.shards in
     let by = subst By c.stage-stage.ensures.feeder
     (subst Recorded c.stage-stage.ensures.recorder c.run_session-end.ensures.recorded) in
-    goes_with c.runs_record_blocks.ensures c.totals_are_counted.ensures g.I.Inputs.told g.I.Inputs.is_open
-    g.I.Inputs.is_calm g.I.Inputs.faults g.F.Files.is_open seen task s offsets c.args.feeder c.args.observations
-    c.args.stage c.args.recorder banks end c.found_of.result.done (seen c.found_of.result.files.now) ready
+    goes_with c.runs_record_blocks.ensures c.totals_are_counted.ensures c.firsts_stay_told.ensures
+    c.recordings_are_said.ensures g.I.Inputs.told g.I.Inputs.is_open g.I.Inputs.is_calm g.I.Inputs.faults
+    g.F.Files.is_open seen task s offsets c.args.feeder c.args.observations c.args.stage c.args.recorder banks end
+    c.found_of.result.done (seen c.found_of.result.files.now) before ready
     (ap (λ ls. ls.items) c.stage-stage.ensures.banks) fed shards by c.found_of.ensures.found
-    (ap seen (c.found_of.ensures.files by.files by.given).0)
+    (ap seen (c.found_of.ensures.files by.files by.given).0) read
+    (c.sessions_feed_files.ensures c.args.feeder end fed)
 
 pub found_of-requires : goal.found_of-requires
 found_of-requires g c =

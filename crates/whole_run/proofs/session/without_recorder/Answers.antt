@@ -1,4 +1,4 @@
-use Rattle.std.proofs.Common.{Bool, Option, None, sym, ap, subst, ◌∙◌}
+use Rattle.std.proofs.Common.{Bool, Option, None, sym, ap, subst}
 use Rattle.std.specs.Prelude.{if◌then◌else◌, length}
 use Rattle.disk_feeder.specs.declared.feeder.Feeder.{Feeder}
 use Rattle.disk_feeder.specs.Feeder.{plan_at}
@@ -6,7 +6,7 @@ use Rattle.dada_recorder.specs.declared.recorder.Recorder.{Recorder}
 use Rattle.search_session.specs.Recorded.{RecordedAnswers}
 use Rattle.search_session.specs.Sessions.{FeedAnswers, ShardAnswers}
 use Rattle.whole_run.proofs.Staging.{is_staged}
-use Rattle.whole_run.proofs.Through.{fault_leaves, goes_without}
+use Rattle.whole_run.proofs.Through.{feeds_found, goes_without}
 use Rattle.whole_run.proofs.session.without_recorder.Goals as goal
 
 pub stage-stage-requires : goal.stage-stage-requires
@@ -16,26 +16,19 @@ stage-stage-requires g c =
     c.args.observations.items c.args.stage None at.3.ready
     (ap (λ (b : Bool). if b then 1 else 0) (sym at.3.records_not)) (λ hdu size. tt)
 
-pub returns-clause-serves : goal.returns-clause-serves
-returns-clause-serves g c = λ calm holds fault.
+pub returns-clause-fed : goal.returns-clause-fed
+returns-clause-fed g c =
     let end = c.run_session-end.result in
     let Fed : Feeder _ → Type 0 = λ feeder.
     FeedAnswers g.I.Inputs.told g.I.Inputs.is_calm g.I.Inputs.faults feeder end in
-    let fed = subst Fed c.stage-stage.ensures.feeder c.run_session-end.ensures.feed in
-    fed.serves calm holds (sym c.found_without.ensures.found.feed ∙ fault)
-
-pub returns-clause-broke : goal.returns-clause-broke
-returns-clause-broke g c = λ failed.
-    let end = c.run_session-end.result in
-    let Fed : Feeder _ → Type 0 = λ feeder.
-    FeedAnswers g.I.Inputs.told g.I.Inputs.is_calm g.I.Inputs.faults feeder end in
-    fault_leaves g.I.Inputs.told g.I.Inputs.is_calm g.I.Inputs.faults c.args.feeder end c.args.observations
-    c.found_without.result.done c.found_without.result.inputs.now
-    (subst Fed c.stage-stage.ensures.feeder c.run_session-end.ensures.feed) c.found_without.ensures.found
-    c.found_without.ensures.inputs failed
+    feeds_found g.I.Inputs.told g.I.Inputs.is_calm c.args.feeder end c.args.observations c.found_without.result.done
+    c.found_without.result.inputs.now
+    (c.sessions_feed_files.ensures c.args.feeder end
+    (subst Fed c.stage-stage.ensures.feeder c.run_session-end.ensures.feed)) c.found_without.ensures.found
+    c.found_without.ensures.inputs
 
 pub returns-clause-went : goal.returns-clause-went
-returns-clause-went g c = λ task s offsets ready.
+returns-clause-went g c = λ task s offsets before ready read.
     let end = c.run_session-end.result in
     let stage = c.stage-stage.result in
     let seen = g.F.Files.seen in
@@ -44,11 +37,11 @@ returns-clause-went g c = λ task s offsets ready.
     FeedAnswers g.I.Inputs.told g.I.Inputs.is_calm g.I.Inputs.faults feeder end in
     let Shards : Feeder _ → Type 0 = λ feeder. ShardAnswers (length (plan_at feeder).starts) banks end in
     let Recorded : Option (Recorder _) → Type 0 = λ r. RecordedAnswers seen stage.feeder r (length banks) end in
-    goes_without c.totals_are_counted.ensures g.I.Inputs.told g.I.Inputs.is_open g.I.Inputs.is_calm g.I.Inputs.faults
-    task s offsets c.args.feeder c.args.observations c.args.stage banks end c.found_without.result.done
-    (seen c.args.files.now) (seen c.found_without.result.files.now) ready
-    (ap (λ ls. ls.items) c.stage-stage.ensures.banks)
-    (subst Fed c.stage-stage.ensures.feeder c.run_session-end.ensures.feed)
+    let fed = subst Fed c.stage-stage.ensures.feeder c.run_session-end.ensures.feed in
+    goes_without c.totals_are_counted.ensures c.firsts_stay_told.ensures c.recordings_are_said.ensures g.I.Inputs.told
+    g.I.Inputs.is_open g.I.Inputs.is_calm g.I.Inputs.faults task s offsets c.args.feeder c.args.observations
+    c.args.stage banks end c.found_without.result.done (seen c.args.files.now)
+    (seen c.found_without.result.files.now) before ready (ap (λ ls. ls.items) c.stage-stage.ensures.banks) fed
     (subst Shards c.stage-stage.ensures.feeder c.run_session-end.ensures.shards)
     (subst Recorded c.stage-stage.ensures.recorder c.run_session-end.ensures.recorded) c.found_without.ensures.found
-    (ap seen c.found_without.ensures.files)
+    (ap seen c.found_without.ensures.files) read (c.sessions_feed_files.ensures c.args.feeder end fed)
