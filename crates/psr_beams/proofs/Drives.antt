@@ -40,7 +40,7 @@ module _ {I : Type 0} (told : I → Told) (is_open : I → Type 0) (is_calm : I 
   all_lent = omega (arith, enough, count_is)
 
   starts : s.starts ≡ 0 ∷ []
-  starts = only_start s.starts n range.transfers one.transfer
+  starts = only_start s.starts n range.run.transfers one.transfer
 
   reach : n ≤ length mid
   reach = let lent = read.lent in omega (arith, lent, enough, count_is)

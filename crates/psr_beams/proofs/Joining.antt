@@ -140,10 +140,6 @@ module _ {X : Type 0} where
   left all now new k slot within is gone = gone ∙ ap (λ xs. remove xs 0) (is ∙ drop_more all k slot within)
 
 module _ (told : ℕ → Told) (s : SettingsSeen) (o : Observation) where
-  pub none_joined : (feeders : List (Option FeederSpace)) (beams : List (Option Beam)) → beams ≡ [] →
-      AreJoined told s o 0 feeders beams
-  none_joined feeders beams none = record { many = ap length none; each = λ k within. absurd (omega (arith, within)) }
-
   pub one_joined : (k : ℕ) (feeders : List (Option FeederSpace)) (beams new : List (Option Beam))
       (slot : Option FeederSpace) (beam : Option Beam) → AreJoined told s o k feeders beams →
       get_or feeders k None ≡ slot → IsSlotJoined (told k) s o (beam_name s k) slot beam →

@@ -35,8 +35,8 @@ one_needed {Needed} names name file told same is =
     (record { count = refl; each = λ k below needed. one_name name file told is k below })
 
 -- a source of one file has its name for that of the one transfer's first file
-pub first_name_is : (source : Source) (name : List ℕ) → source.starts.now ≡ 0 ∷ [] → (plan_of source).names ≡ name ∷ [] →
-    first_name source 0 ≡ name
+pub first_name_is : (source : Source) (name : List ℕ) → source.starts.now ≡ 0 ∷ [] →
+    (plan_of source).names ≡ name ∷ [] → first_name source 0 ≡ name
 first_name_is source name starts names =
     ap (λ st. get_or (plan_of source).names (begin_at st (length source.names.now) 0) []) starts
     ∙ ap (λ ns. get_or ns 0 []) names
@@ -104,7 +104,8 @@ pub one_broken : (plan : Plan) (s : SettingsSeen) (name file : List ℕ) → pla
 one_broken plan s name file names starts limit before after is is_calm at size blocks b =
     let same = stream_is plan s file starts limit in
     one_left s name file before after at size blocks
-    (subst (λ (w : FileStream). IsCutAt w at size blocks) same (b.cut (file ∷ []) (one_needed plan.names name file after names is))) at.is_open
+    (subst (λ (w : FileStream). IsCutAt w at size blocks) same
+    (b.cut (file ∷ []) (one_needed plan.names name file after names is))) at.is_open
     (subst (λ (w : FileStream). BreaksIf at.is_open (name ∷ []) w before after at) same
     (subst (λ (ns : List (List ℕ)). BreaksIf at.is_open ns (stream_of plan (file ∷ [])) before after at) names
     (b.stood (file ∷ []) (one_needed plan.names name file after names is))))

@@ -1,5 +1,5 @@
 -- The sample, computed.
-use Rattle.std.proofs.Common.{◌≡◌, ℕ, List, [], ◌∷◌, Some, false, refl, ap, subst, ◌∙◌, arith, zero, suc, ◌<◌, slice_index_or}
+use Rattle.std.proofs.Common.{◌≡◌, ℕ, List, [], ◌∷◌, Some, refl, ap, subst, ◌∙◌, arith, zero, suc, ◌<◌, slice_index_or}
 use Rattle.std.specs.Prelude.{codes, map}
 use Rattle.std.specs.Fmt.{digits}
 use Rattle.psr_base.specs.Told.{Told}
@@ -8,10 +8,10 @@ use Rattle.dada_model.specs.Number.{number_value}
 use Rattle.dada_model.specs.Fields.{is_white, without_comment, words_of, fields_of, value_of, header_size, header_of}
 use Rattle.dada_model.specs.Observation.{number_of, observation_in, signed_edge, edge, edges, dispersion_span, dm}
 use Rattle.dada_model.specs.Worked.{two_channels}
-use Rattle.search_model.specs.declared.search.Search.{Search}
 use Rattle.search_model.specs.Paths.{entry, path}
 use Rattle.clap.proofs.OnLiterals.{clap_on_literals}
 use Rattle.search_words.specs.Settings.{SettingsSeen}
+use Rattle.search_words.specs.Defaults.{default_settings, sample_search}
 use Rattle.stream_model.specs.Walk.{data_of, observation_at}
 use Rattle.beam_set.specs.Text.{beam_line}
 use Rattle.beam_set.specs.Searched.{searched_beams_text}
@@ -21,36 +21,8 @@ use Rattle.psr_beams.specs.Files.{AreBeamsTold, beams_observation}
 use Rattle.psr_beams.specs.Found.{beams_text_of}
 use Rattle.psr_beams.specs.Sample.{sample_words, pulse_file, empty_file, sample_text, SampleIsFound}
 
-search : Search
-search = record {
-  min_delay = 0;
-  max_delay = 1;
-  widest = 1;
-  fold_min = 2;
-  fold_max = 0;
-  fold_rows = 6;
-  fold_step = 64;
-  chunk = 1024;
-  shards = 1;
-  max_candidates = 65536;
-  mean = 1000;
-  sd = 2000;
-  snr = 700;
-}
-
 settings : SettingsSeen
-settings = record {
-  search = search;
-  buffers = 4;
-  size = 524288;
-  hands = 1;
-  turns = 64;
-  recording = false;
-  file_size = 1073741824;
-  max_bytes = 1099511627776;
-  names = codes "a" ∷ codes "b" ∷ codes "c" ∷ [];
-  starts = 0 ∷ [];
-}
+settings = default_settings sample_search (codes "a" ∷ codes "b" ∷ codes "c" ∷ [])
 
 abbrev pulse : List ℕ
 pulse = 10 ∷ 0 ∷ 0 ∷ 20 ∷ 0 ∷ 0 ∷ []
@@ -58,12 +30,12 @@ pulse = 10 ∷ 0 ∷ 0 ∷ 20 ∷ 0 ∷ 0 ∷ []
 abbrev nothing : List ℕ
 nothing = 0 ∷ 0 ∷ 0 ∷ 0 ∷ 0 ∷ 0 ∷ []
 
-text_is : searched_beams_text two_channels search 0 1 (pulse ∷ pulse ∷ nothing ∷ []) ≡ sample_text
-unfolding search digits edges edge signed_edge dm dispersion_span path entry beam_line
+text_is : searched_beams_text two_channels sample_search 0 1 (pulse ∷ pulse ∷ nothing ∷ []) ≡ sample_text
+unfolding sample_search digits edges edge signed_edge dm dispersion_span path entry beam_line
 text_is = refl
 
 says : SayBeams sample_words settings
-unfolding settings search number_value number_between clap_on_literals
+unfolding settings sample_search number_value number_between clap_on_literals
 says = record {
   form = refl;
   search = record {
@@ -97,11 +69,11 @@ files = pulse_file ∷ pulse_file ∷ empty_file ∷ []
 text_of_files : beams_text_of sample_words settings files ≡ sample_text
 unfolding settings
 text_of_files =
-    ap (λ o. searched_beams_text o search (within_in sample_words) (more_in sample_words) (map data_of files))
+    ap (λ o. searched_beams_text o sample_search (within_in sample_words) (more_in sample_words) (map data_of files))
     observation_is
-    ∙ ap (λ w. searched_beams_text two_channels search w (more_in sample_words) (map data_of files)) within_is
-    ∙ ap (λ m. searched_beams_text two_channels search 0 m (map data_of files)) more_is
-    ∙ ap (λ d. searched_beams_text two_channels search 0 1 d) data_is
+    ∙ ap (λ w. searched_beams_text two_channels sample_search w (more_in sample_words) (map data_of files)) within_is
+    ∙ ap (λ m. searched_beams_text two_channels sample_search 0 m (map data_of files)) more_is
+    ∙ ap (λ d. searched_beams_text two_channels sample_search 0 1 d) data_is
     ∙ text_is
 
 there : (told : ℕ → Told) → (told 0).bytes_under (codes "a") ≡ Some pulse_file →

@@ -60,8 +60,8 @@ pub(crate) fn drive<I: Inputs + Send, K: Sink, G: Gate + Sync, R: Threads + Wait
 ) -> Option<Stop>
     requires range { AllInRange (settings_seen said.now.settings) }
     requires one { IsOfOne (settings_seen said.now.settings) }
-    requires beams { (2 ≤ length said.now.settings.names.items)
-        × (length said.now.settings.names.items ≤ 7) }
+    requires beams { (2 ≤ length said.now.settings.run.names.items)
+        × (length said.now.settings.run.names.items ≤ 7) }
     requires lent { length inputs.old ≡ 7 }
     ensures { IsDriven I.told I.is_calm I.faults (settings_seen said.now.settings) said.now.within
         said.now.more inputs.old inputs.new (K.seen out.old) (K.seen out.new) result }
@@ -81,7 +81,7 @@ pub(crate) fn drive<I: Inputs + Send, K: Sink, G: Gate + Sync, R: Threads + Wait
     } = opened;
     let ends = run_joined(
         rt,
-        said.settings.turns,
+        said.settings.run.turns,
         spaces,
         feeders,
         &observation,

@@ -32,8 +32,8 @@ fn begin_beam<'a, I: Inputs>(
 ) -> Result<FeederSpace<'a>, Stop>
     requires range { AllInRange (settings_seen settings.now) }
     requires one { IsOfOne (settings_seen settings.now) }
-    requires there { beam < length settings.now.names.items }
-    requires few { length settings.now.names.items ≤ 7 }
+    requires there { beam < length settings.now.run.names.items }
+    requires few { length settings.now.run.names.items ≤ 7 }
     ensures begun { IfOk result (HasBegun I.told I.is_open (settings_seen settings.now)
         (beam_name (settings_seen settings.now) beam) inputs.new) }
     ensures read { OnOk result (ReadsHeader I.told I.is_calm I.faults
@@ -45,10 +45,10 @@ fn begin_beam<'a, I: Inputs>(
 {
     let mut space = match FeederSpace::reserve(
         alloc,
-        &settings.names[beam..beam + 1],
-        settings.starts.as_slice(),
-        settings.size,
-        settings.max_bytes,
+        &settings.run.names[beam..beam + 1],
+        settings.run.starts.as_slice(),
+        settings.run.size,
+        settings.run.max_bytes,
     ) {
         Ok(space) => space,
         Err(_memory) => return Err(Stop::Memory),
@@ -69,19 +69,19 @@ pub(crate) fn begin_all<'a, I: Inputs>(
 ) -> Result<ArrayVec<Option<FeederSpace<'a>>, MOST_BEAMS>, Stop>
     requires range { AllInRange (settings_seen settings.now) }
     requires one { IsOfOne (settings_seen settings.now) }
-    requires few { length settings.now.names.items ≤ 7 }
+    requires few { length settings.now.run.names.items ≤ 7 }
     requires lent { length inputs.old ≡ 7 }
     ensures read { OnOk result (AreRead I.told I.is_calm I.faults (settings_seen settings.now)
-        (length settings.now.names.items) inputs.old inputs.new) }
+        (length settings.now.run.names.items) inputs.old inputs.new) }
     ensures begun { IfOk result (λ slots. AreBegun I.told I.is_open (settings_seen settings.now)
-        (length settings.now.names.items) inputs.new slots.items) }
-    ensures reads { IfOk result (λ slots. HaveRead I.told (length settings.now.names.items)
+        (length settings.now.run.names.items) inputs.new slots.items) }
+    ensures reads { IfOk result (λ slots. HaveRead I.told (length settings.now.run.names.items)
         inputs.old inputs.new slots.items) }
     ensures stopped { IfErr result (StopsReading I.told I.is_calm I.faults
         (settings_seen settings.now) inputs.old inputs.new) }
 {
     let mut slots = ArrayVec::new();
-    for beam in 0..settings.names.len() {
+    for beam in 0..settings.run.names.len() {
         match begin_beam(alloc, settings, beam, &mut inputs[beam]) {
             Ok(space) => slots.push(Some(space)),
             Err(stop) => return Err(stop),

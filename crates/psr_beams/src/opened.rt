@@ -51,7 +51,13 @@ fn take_space(
     ensures { (o : Described) → IsEngineOf settings.now.search o engine → IfOk result
         (IsSpaceOf (settings_seen settings.now) o (slot_header slot.now)) }
 {
-    let shape = run_shape(settings.buffers, settings.size, 1, settings.max_bytes, 1);
+    let shape = run_shape(
+        settings.run.buffers,
+        settings.run.size,
+        1,
+        settings.run.max_bytes,
+        1,
+    );
     BeamSpace::reserve(alloc, engine, shape, header_of(slot))
 }
 

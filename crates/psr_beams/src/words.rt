@@ -47,7 +47,7 @@ fn number_at(words: &[String], place: usize, least: u32, most: u32) -> Option<u3
 fn is_beam_count(settings: &Settings) -> bool
     ensures { result ≡ is_beam_count_of (length (settings_seen settings.now).names) }
 {
-    2 <= settings.names.len() && settings.names.len() <= 7
+    2 <= settings.run.names.len() && settings.run.names.len() <= 7
 }
 
 /// What the words say, or why they say nothing.

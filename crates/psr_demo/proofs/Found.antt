@@ -1,5 +1,5 @@
 -- How the search of the observation of a number ends.
-use Rattle.std.proofs.Common.{◌≡◌, ◌≢◌, ℕ, zero, suc, ◌+◌, ◌<◌, ◌≤◌, List, [], ◌∷◌, length, inl, Some, None, Contains, false, refl, sym, ap, ap₂, subst, ◌∙◌, arith, lit<, slice_index_or}
+use Rattle.std.proofs.Common.{◌≡◌, ◌≢◌, ℕ, zero, suc, ◌+◌, ◌<◌, ◌≤◌, List, [], ◌∷◌, length, inl, Some, None, Contains, refl, sym, ap, ap₂, subst, ◌∙◌, arith, lit<, slice_index_or}
 use Rattle.std.specs.Prelude.{Option, codes}
 use Rattle.std.specs.Io.KnownBytes.{append_known}
 use Rattle.std.proofs.lemmas.List.{append-nil}
@@ -19,6 +19,7 @@ use Rattle.search_model.specs.Plan.{plan_refusal}
 use Rattle.search_model.specs.SampleLaws.{SamplesOfBytes}
 use Rattle.search_model.specs.SubbandLaws.{SumsAreBounded}
 use Rattle.search_words.specs.Settings.{SettingsSeen, SaySearch}
+use Rattle.search_words.specs.Defaults.{default_settings}
 use Rattle.stream_model.specs.Walk as walk
 use Rattle.stream_model.specs.Walk.{FileStream, walk_stop, header_stop, data_between, data_of, file_at, begin_of}
 use Rattle.stream_model.specs.WalkLaws.{AreWalked, IsAccepted, FirstFilesContinue, WholeExactly}
@@ -41,18 +42,7 @@ use Rattle.psr_demo.proofs.Pulses.{text_short}
 -- ---- the words
 
 abbrev settings : SettingsSeen
-settings = record {
-  search = demo_search;
-  buffers = 4;
-  size = 524288;
-  hands = 3;
-  turns = 64;
-  recording = false;
-  file_size = 1073741824;
-  max_bytes = 1099511627776;
-  names = codes "demo" ∷ [];
-  starts = 0 ∷ [];
-}
+settings = record (default_settings demo_search (codes "demo" ∷ [])) { hands = 3 }
 
 says : SaySearch search_line settings
 unfolding number_value clap_on_literals
@@ -157,7 +147,7 @@ module _ (by_front : HeadersByFront) (continues : FirstFilesContinue) (exactly :
   begins : CanBegin Searching settings stream
   begins = record {
     accepted = walked;
-    searched = λ is. searched;
+    searched = searched;
     recorded = λ records. absurd cc;
   }
 

@@ -90,7 +90,8 @@ module _ (words : List (List ℕ)) (is_calm : Type 0) (seen : SearchSeen)
     (outcome : Outcome words seen.inputs is_calm seen.out_before seen.out_after seen.notes_before seen.notes_after
     seen.ran)
     (s : SettingsSeen) (files : List (List ℕ)) (says : SayAlone (mask_search words) words s)
-    (are : AreTold seen.inputs.told s.names files) (not_refused : AcceptedIsNotRefused) (masks : MasksAreNotRefused) where
+    (are : AreTold seen.inputs.told s.names files) (not_refused : AcceptedIsNotRefused)
+    (masks : MasksAreNotRefused) where
   abbrev w : FileStream
   w = stream_for s files
 
@@ -221,7 +222,7 @@ module _ (words : List (List ℕ)) (is_calm : Type 0) (seen : SearchSeen)
 
   plan : Quiet → AcceptsFirst words w → (cause : PlanCause) → RefusesSearch s.search w cause → Answers n 4
   plan calm accepts cause refuses = before_data calm
-      (λ begins. not_refused.search s.search w cause (begins.searched refl) refuses) 4
+      (λ begins. not_refused.search s.search w cause begins.searched refuses) 4
       (λ e file first again. absurd (not_firsts refuses.accepted file first again)) (λ e. inl e)
       (λ e. absurd (no_mask accepts e))
 
@@ -263,7 +264,7 @@ module _ (words : List (List ℕ)) (is_calm : Type 0) (seen : SearchSeen)
         (λ e. searched (searched_at (inl e)))
         (λ e. absurd (outcome.answered.run.judged.refused e s says))
         at_three
-        (λ e. let r = at_plan e in absurd (not_refused.search s.search w r.0 (begins.searched refl) r.1))
+        (λ e. let r = at_plan e in absurd (not_refused.search s.search w r.0 begins.searched r.1))
         (λ e. inr e)
         (λ e. absurd (not_six calm e))
         (λ e. let r = at_gap e in stops (Gap r.0 r.1 r.2) e r.3.stops)
@@ -288,7 +289,8 @@ module _ (words : List (List ℕ)) (is_calm : Type 0) (seen : SearchSeen)
   walk_stops calm accepts stop at = after_begin calm accepts at.begins (status_of stop)
       (λ searched. absurd (no_stop w.max_bytes (walk_stop w) stop searched.whole at.stops))
       (λ other e is. inl (e ∙ one_stop w.max_bytes (walk_stop w) other stop is at.stops))
-      (λ e. absurd (no_stop w.max_bytes (walk_stop w) stop (outcome.answered.too_many e s files says are).whole at.stops))
+      (λ e. absurd (no_stop w.max_bytes (walk_stop w) stop (outcome.answered.too_many e s files says are).whole
+      at.stops))
 
   too_many : Quiet → AcceptsFirst words w → HasMasked words s w (λ total. s.search.max_candidates < total) →
       Answers n 9

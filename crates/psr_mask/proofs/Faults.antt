@@ -1,5 +1,5 @@
 -- A stop at a fault of the inputs.
-use Rattle.std.proofs.Common.{◌≡◌, ℕ, List, Some, None, Err, refl, sym, ap, subst, arith}
+use Rattle.std.proofs.Common.{◌≡◌, ℕ, List, Some, None, Err, refl, sym, subst}
 use Rattle.std.specs.Prelude.{Bool, Option, IfSome}
 use Rattle.dada_model.specs.Observation.{Observation}
 use Rattle.psr_base.specs.Written.{SinkSeen}
@@ -10,13 +10,11 @@ use Rattle.search_words.specs.declared.fault.WordFault.{WordFault}
 use Rattle.search_words.specs.declared.fault.WordFault.TheVariants as words_fault
 use Rattle.run_stop.specs.Conversions.{stop_of_words, stop_of_feed}
 use Rattle.run_stop.specs.declared.stop.Stop.{Stop}
-use Rattle.run_stop.specs.declared.stop.Stop.TheVariants.{Words, Value, Header, Plan, Recording, Memory, ReadFault, Gap, TooLong, TooMany, SinkFault, FileFault}
-use Rattle.run_stop.specs.Texts.{status_of}
+use Rattle.run_stop.specs.declared.stop.Stop.TheVariants.{ReadFault}
 use Rattle.lone_run.specs.declared.stop.LoneStop.{LoneStop}
-use Rattle.lone_run.specs.declared.stop.LoneStop.TheVariants.{Run, Unscoped}
+use Rattle.lone_run.specs.declared.stop.LoneStop.TheVariants.{Run}
 use Rattle.lone_run.specs.Stops.{FailsReading}
 use Rattle.psr_mask.specs.Ends.{EndsFed, as_alone}
-use Rattle.psr_mask.specs.Notes.{end_status}
 use Rattle.psr_mask.specs.declared.refusal.MaskRefusal.{MaskRefusal}
 
 -- words that are refused are no fault of the inputs
@@ -25,28 +23,6 @@ pub not_words : (f : WordFault) (stop : Stop) → stop ≡ stop_of_words f →
 not_words words_fault.Refused stop of same = absurd cc
 not_words (words_fault.OutOfRange opt) stop of same = absurd cc
 not_words words_fault.Memory stop of same = absurd cc
-
--- 6 is a fault of the inputs alone
-six_of : (stop : Stop) → status_of stop ≡ 6 → stop ≡ ReadFault
-six_of Words e = absurd (omega (arith, e))
-six_of (Value opt) e = absurd (omega (arith, e))
-six_of (Header file cause) e = absurd (omega (arith, e))
-six_of (Plan cause) e = absurd (omega (arith, e))
-six_of (Recording cause) e = absurd (omega (arith, e))
-six_of Memory e = absurd (omega (arith, e))
-six_of ReadFault e = refl
-six_of (Gap file expected found) e = absurd (omega (arith, e))
-six_of (TooLong limit) e = absurd (omega (arith, e))
-six_of (TooMany count limit) e = absurd (omega (arith, e))
-six_of SinkFault e = absurd (omega (arith, e))
-six_of FileFault e = absurd (omega (arith, e))
-
-pub six_is : (stop : Option (LoneStop MaskRefusal)) → end_status stop ≡ 6 → stop ≡ Some (Run ReadFault)
-six_is None e = absurd (omega (arith, e))
-six_is (Some (Run stop)) e =
-    let as_own : Stop → Option (LoneStop MaskRefusal) = λ x. Some (Run x) in
-    ap as_own (six_of stop e)
-six_is (Some (Unscoped refusal)) e = absurd (omega (arith, e))
 
 -- a search that had no session fails reading at this stop
 pub fails : (stop : LoneStop MaskRefusal) → Some stop ≡ Some (Run ReadFault) → FailsReading (Err stop)

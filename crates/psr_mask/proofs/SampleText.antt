@@ -1,5 +1,5 @@
 -- The sample, computed.
-use Rattle.std.proofs.Common.{◌≡◌, ℕ, List, [], ◌∷◌, Some, false, refl, ap, subst, ◌∙◌, arith, zero, suc, ◌<◌, slice_index_or}
+use Rattle.std.proofs.Common.{◌≡◌, ℕ, List, [], ◌∷◌, Some, refl, ap, subst, ◌∙◌, arith, zero, suc, ◌<◌, slice_index_or}
 use Rattle.std.specs.Prelude.{codes}
 use Rattle.std.specs.Fmt.{digits}
 use Rattle.psr_base.specs.Told.{Told}
@@ -8,13 +8,13 @@ use Rattle.dada_model.specs.Number.{number_value}
 use Rattle.dada_model.specs.Fields.{is_white, without_comment, words_of, fields_of, value_of, header_size, header_of}
 use Rattle.dada_model.specs.Observation.{Observation, number_of, observation_in, signed_edge, edge, edges, dispersion_span, dm}
 use Rattle.dada_model.specs.Worked.{two_channels}
-use Rattle.search_model.specs.declared.search.Search.{Search}
 use Rattle.search_model.specs.Masks.{masked_text}
 use Rattle.search_model.specs.Paths.{entry, path}
 use Rattle.search_engine.specs.Scope.{kept_by}
 use Rattle.channel_mask.specs.Masks.{mask_of}
 use Rattle.clap.proofs.OnLiterals.{clap_on_literals}
 use Rattle.search_words.specs.Settings.{SettingsSeen}
+use Rattle.search_words.specs.Defaults.{default_settings, sample_search}
 use Rattle.stream_model.specs.Walk.{FileStream, data_of, data_between, observation_at, transfer_data}
 use Rattle.disk_feeder.specs.Plan.{AreTold}
 use Rattle.run_stop.specs.Lone.{SayAlone}
@@ -25,47 +25,19 @@ use Rattle.psr_mask.specs.Sample.{sample_words, sample_data, sample_file, sample
 observation : Observation
 observation = two_channels
 
-search : Search
-search = record {
-  min_delay = 0;
-  max_delay = 1;
-  widest = 1;
-  fold_min = 2;
-  fold_max = 0;
-  fold_rows = 6;
-  fold_step = 64;
-  chunk = 1024;
-  shards = 1;
-  max_candidates = 65536;
-  mean = 1000;
-  sd = 2000;
-  snr = 700;
-}
-
 settings : SettingsSeen
-settings = record {
-  search = search;
-  buffers = 4;
-  size = 524288;
-  hands = 1;
-  turns = 64;
-  recording = false;
-  file_size = 1073741824;
-  max_bytes = 1099511627776;
-  names = codes "pulse.dada" ∷ [];
-  starts = 0 ∷ [];
-}
+settings = default_settings sample_search (codes "pulse.dada" ∷ [])
 
 -- the text of a search of an observation and its data without its first channel
 abbrev text_of : Observation → List ℕ → List ℕ
-text_of o bytes = masked_text o search (kept_by (mask_of o (codes "0"))) bytes
+text_of o bytes = masked_text o sample_search (kept_by (mask_of o (codes "0"))) bytes
 
 text_is : text_of observation sample_data ≡ sample_text
-unfolding observation search edges edge signed_edge path entry dm dispersion_span digits
+unfolding observation sample_search edges edge signed_edge path entry dm dispersion_span digits
 text_is = refl
 
 says : SayAlone (mask_search sample_words) sample_words settings
-unfolding settings search number_value clap_on_literals
+unfolding settings sample_search number_value clap_on_literals
 says = record {
   form = refl;
   search = record {

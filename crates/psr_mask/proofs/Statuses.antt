@@ -1,16 +1,11 @@
 -- Statuses and stops.
-use Rattle.std.proofs.Common.{◌≡◌, ◌≤◌, ℕ, zero, suc, List, [], ◌∷◌, refl, ap, subst, Some, None, Contains, arith}
-use Rattle.std.specs.Prelude.{Option}
+use Rattle.std.proofs.Common.{◌≡◌, ◌≤◌, ℕ, zero, suc, List, [], ◌∷◌, refl, subst, None, Contains, arith}
 use Rattle.disk_feeder.specs.declared.answers.FeedEnd.{FeedEnd}
 use Rattle.disk_feeder.specs.declared.answers.FeedEnd.TheVariants as feed
 use Rattle.run_stop.specs.Conversions.{stop_of_feed}
 use Rattle.run_stop.specs.declared.stop.Stop.{Stop}
 use Rattle.run_stop.specs.declared.stop.Stop.TheVariants.{Words, Value, Header, Plan, Recording, Memory, ReadFault, Gap, TooLong, TooMany, SinkFault, FileFault}
 use Rattle.run_stop.specs.Texts.{status_of}
-use Rattle.lone_run.specs.declared.stop.LoneStop.{LoneStop}
-use Rattle.lone_run.specs.declared.stop.LoneStop.TheVariants.{Run, Unscoped}
-use Rattle.psr_mask.specs.Notes.{end_status}
-use Rattle.psr_mask.specs.declared.refusal.MaskRefusal.{MaskRefusal}
 
 abbrev pub statuses : List ℕ
 statuses = 0 ∷ 2 ∷ 3 ∷ 4 ∷ 5 ∷ 6 ∷ 7 ∷ 8 ∷ 9 ∷ 10 ∷ 12 ∷ []
@@ -53,20 +48,6 @@ of_run (TooMany count limit) = omega arith
 of_run SinkFault = omega arith
 of_run FileFault = omega arith
 
-five_is : (stop : Stop) → status_of stop ≡ 5 → stop ≡ Memory
-five_is Words e = absurd (omega (arith, e))
-five_is (Value opt) e = absurd (omega (arith, e))
-five_is (Header file cause) e = absurd (omega (arith, e))
-five_is (Plan cause) e = absurd (omega (arith, e))
-five_is (Recording cause) e = absurd (omega (arith, e))
-five_is Memory e = refl
-five_is ReadFault e = absurd (omega (arith, e))
-five_is (Gap file expected found) e = absurd (omega (arith, e))
-five_is (TooLong limit) e = absurd (omega (arith, e))
-five_is (TooMany count limit) e = absurd (omega (arith, e))
-five_is SinkFault e = absurd (omega (arith, e))
-five_is FileFault e = absurd (omega (arith, e))
-
 -- all data were sealed where the feeder has no stop
 pub whole_is : (e : FeedEnd) → stop_of_feed e ≡ None → (count : ℕ) × (e ≡ feed.Whole count)
 whole_is (feed.Whole count) none = (count, refl)
@@ -74,11 +55,3 @@ whole_is feed.ReadFault none = absurd cc
 whole_is (feed.BadHeader file cause) none = absurd cc
 whole_is (feed.Gap file expected found) none = absurd cc
 whole_is (feed.TooLong limit) none = absurd cc
-
--- 5 is want of memory alone
-pub memory_is : (stop : Option (LoneStop MaskRefusal)) → end_status stop ≡ 5 → stop ≡ Some (Run Memory)
-memory_is None e = absurd (omega (arith, e))
-memory_is (Some (Run stop)) e =
-    let as_own : Stop → Option (LoneStop MaskRefusal) = λ x. Some (Run x) in
-    ap as_own (five_is stop e)
-memory_is (Some (Unscoped refusal)) e = absurd (omega (arith, e))

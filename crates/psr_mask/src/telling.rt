@@ -1,6 +1,8 @@
 // How the user is told.
-ghost use Rattle.std.specs.Prelude.{◌≡◌, ℕ, List};
+ghost use Rattle.std.specs.Prelude.{◌≡◌, ℕ, List, Some};
 ghost use Rattle.psr_base.specs.Told.{Told};
+ghost use Rattle.run_stop.specs.declared.stop.Stop.TheVariants.{Memory, ReadFault};
+ghost use Rattle.lone_run.specs.declared.stop.LoneStop.TheVariants.{Run};
 ghost use Rattle.psr_mask.specs.Notes.{end_status};
 ghost use Rattle.psr_mask.specs.Ends.{IsSaidOf};
 ghost use Rattle.psr_mask.specs.Outcome.{TellsMask};
@@ -17,6 +19,8 @@ const MASK_REFUSED: u8 = 12;
 /// and the notes take nothing. A fault of the notes changes nothing.
 pub(crate) fn tell_mask<E: Sink>(stop: Option<LoneStop<MaskRefusal>>, notes: &mut E) -> u8
     ensures status { result ≡ end_status stop }
+    ensures memory { result ≡ 5 → stop ≡ Some (Run Memory) }
+    ensures read_fault { result ≡ 6 → stop ≡ Some (Run ReadFault) }
     ensures told { (words : List (List ℕ)) (told : Told) → IsSaidOf words told stop
         → TellsMask words told (E.seen notes.old) (E.seen notes.new) result }
 {

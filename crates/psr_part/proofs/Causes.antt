@@ -95,9 +95,9 @@ by_status P n (suc (suc (suc (suc (suc (suc (suc (suc (suc (suc (suc k))))))))))
 -- ---- an outcome over files and a text of CHECK that are told
 
 module _ (words : List (List ℕ)) (is_calm : Type 0) (seen : PartSeen) (o : IsOutcome words is_calm seen)
-    (any : Checkpoint) (s : SettingsSeen) (files : List (List ℕ)) (says_any_one : SayAlone (part_search words any) words s)
-    (are : AreTold seen.inputs.told s.names files) (bytes : List ℕ)
-    (named : check_text_of seen.inputs.told words ≡ Some bytes) where
+    (any : Checkpoint) (s : SettingsSeen) (files : List (List ℕ))
+    (says_any_one : SayAlone (part_search words any) words s) (are : AreTold seen.inputs.told s.names files)
+    (bytes : List ℕ) (named : check_text_of seen.inputs.told words ≡ Some bytes) where
   abbrev w : FileStream
   w = stream_for s files
 
@@ -299,7 +299,7 @@ module _ (words : List (List ℕ)) (is_calm : Type 0) (seen : PartSeen) (o : IsO
           (λ e. absurd (not_refused.header w file cause (at_plan e).1.accepted refuses))
 
       plan : (cause : PlanCause) → RefusesSearch s.search w cause → Answers n 4
-      plan cause refuses = before_data (λ b. not_refused.search s.search w cause (b.searched refl) refuses) 4
+      plan cause refuses = before_data (λ b. not_refused.search s.search w cause b.searched refuses) 4
           (λ e file first again. absurd (not_firsts refuses.accepted file first again)) (λ e. inl e)
 
       -- Where a run begins, nothing is refused before its data are read.
@@ -313,7 +313,7 @@ module _ (words : List (List ℕ)) (is_calm : Type 0) (seen : PartSeen) (o : IsO
             (λ e. searched (searched_at (inl e)))
             (λ e. absurd (o.run.judged.refused e s says))
             (λ e. by_header (at_header seen.ran.blocks refl e) e)
-            (λ e. let r = at_plan e in absurd (not_refused.search s.search w r.0 (starts.searched refl) r.1))
+            (λ e. let r = at_plan e in absurd (not_refused.search s.search w r.0 starts.searched r.1))
             (λ e. inr e)
             (λ e. absurd (not_six quiet e))
             (λ e. let r = at_gap e in stops (Gap r.0 r.1 r.2) e r.3.stops)

@@ -88,26 +88,6 @@ no_thirteen (TooMany count limit) e = omega (arith, e)
 no_thirteen SinkFault e = omega (arith, e)
 no_thirteen FileFault e = omega (arith, e)
 
--- a stop with the status of want of memory is that
-only_memory : (stop : Stop) → status_of stop ≡ 5 → stop ≡ Memory
-only_memory Words e = absurd (omega (arith, e))
-only_memory (Value opt) e = absurd (omega (arith, e))
-only_memory (Header file cause) e = absurd (omega (arith, e))
-only_memory (Plan cause) e = absurd (omega (arith, e))
-only_memory (Recording cause) e = absurd (omega (arith, e))
-only_memory Memory e = refl
-only_memory ReadFault e = absurd (omega (arith, e))
-only_memory (Gap file expected found) e = absurd (omega (arith, e))
-only_memory (TooLong limit) e = absurd (omega (arith, e))
-only_memory (TooMany count limit) e = absurd (omega (arith, e))
-only_memory SinkFault e = absurd (omega (arith, e))
-only_memory FileFault e = absurd (omega (arith, e))
-
-pub memory_stop : (stop : Option PartStop) → end_status stop ≡ 5 → stop ≡ Some (Run Memory)
-memory_stop None e = absurd (omega (arith, e))
-memory_stop (Some (Run stop)) e = ap (λ (s : Stop). Some (Run s)) (only_memory stop e)
-memory_stop (Some (Refused refusal)) e = absurd (omega (arith, e))
-
 -- ---- parts of the outcome
 
 module _ (words : List (List ℕ)) where

@@ -1,5 +1,5 @@
 -- What a fault of the inputs leaves.
-use Rattle.std.proofs.Common.{◌≡◌, ◌≢◌, ℕ, List, Bool, true, false, Some, None, Err, inl, refl, sym, ap, ◌∙◌, subst, arith}
+use Rattle.std.proofs.Common.{◌≡◌, ◌≢◌, ℕ, List, Bool, true, false, Some, None, Err, inl, refl, sym, ap, ◌∙◌, subst}
 use Rattle.std.specs.Prelude.{Option, IfSome, IsSome, Result, if◌then◌else◌}
 use Rattle.std.specs.Str.{bytes_eq}
 use Rattle.dada_model.specs.Observation.{Observation}
@@ -17,15 +17,14 @@ use Rattle.warm_restart.specs.declared.checkpoint.CheckpointFault.{CheckpointFau
 use Rattle.warm_restart.specs.declared.checkpoint.CheckpointFault.TheVariants as check
 use Rattle.warm_restart.specs.Named.{most_read, named_text, new_word}
 use Rattle.run_stop.specs.declared.stop.Stop.{Stop}
-use Rattle.run_stop.specs.declared.stop.Stop.TheVariants.{Words, Value, Header, Plan, Recording, Memory, ReadFault, Gap, TooLong, TooMany, SinkFault, FileFault}
-use Rattle.run_stop.specs.Texts.{status_of}
+use Rattle.run_stop.specs.declared.stop.Stop.TheVariants.{Memory, ReadFault}
 use Rattle.run_stop.specs.Conversions.{stop_of_words, stop_of_feed}
 use Rattle.lone_run.specs.declared.stop.LoneStop.{LoneStop}
 use Rattle.lone_run.specs.declared.stop.LoneStop.TheVariants as lone
 use Rattle.lone_run.specs.Stops.{FailsReading}
 use Rattle.psr_part.specs.declared.stop.PartStop.{PartStop}
-use Rattle.psr_part.specs.declared.stop.PartStop.TheVariants.{Run, Refused}
-use Rattle.psr_part.specs.Texts.{stop_of_checkpoint, end_status}
+use Rattle.psr_part.specs.declared.stop.PartStop.TheVariants.{Run}
+use Rattle.psr_part.specs.Texts.{stop_of_checkpoint}
 use Rattle.psr_part.specs.Part.{check_word}
 use Rattle.psr_part.specs.Outcome.{LeavesAtFault}
 use Rattle.psr_part.specs.Ends.{EndsFed, EndsText}
@@ -77,26 +76,6 @@ at_check words is_calm word old new f stop is not_new broke serves of same =
             serves calm (named_there (bytes_eq word new_word) word old told) failed;
       },
     )
-
--- 6 is a fault of the inputs alone
-six_of : (stop : Stop) → status_of stop ≡ 6 → stop ≡ ReadFault
-six_of Words e = absurd (omega (arith, e))
-six_of (Value opt) e = absurd (omega (arith, e))
-six_of (Header file cause) e = absurd (omega (arith, e))
-six_of (Plan cause) e = absurd (omega (arith, e))
-six_of (Recording cause) e = absurd (omega (arith, e))
-six_of Memory e = absurd (omega (arith, e))
-six_of ReadFault e = refl
-six_of (Gap file expected found) e = absurd (omega (arith, e))
-six_of (TooLong limit) e = absurd (omega (arith, e))
-six_of (TooMany count limit) e = absurd (omega (arith, e))
-six_of SinkFault e = absurd (omega (arith, e))
-six_of FileFault e = absurd (omega (arith, e))
-
-pub six_is : (stop : Option PartStop) → end_status stop ≡ 6 → stop ≡ Some (Run ReadFault)
-six_is None e = absurd (omega (arith, e))
-six_is (Some (Run stop)) e = ap (λ (s : Stop). Some (Run s)) (six_of stop e)
-six_is (Some (Refused refusal)) e = absurd (omega (arith, e))
 
 -- a search that had no session fails reading at this stop
 pub fails : {F : Type 0} (x : LoneStop F) (stop : Stop) → x ≡ lone.Run stop → Some (Run stop) ≡ Some (Run ReadFault) →

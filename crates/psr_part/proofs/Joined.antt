@@ -1,19 +1,14 @@
 -- Two searches of parts, one after the other, write the text of the whole search.
 use Rattle.std.proofs.Common.{◌≡◌, ◌<◌, ◌≤◌, ℕ, List, Bool, true, false, Option, Some, None, refl, sym, ◌∙◌, subst, length, drop, lit<, arith}
-use Rattle.std.specs.Prelude.{unwrap_or, option_and_then, if◌then◌else◌, nat_le, ℤ, pos, negsuc}
-use Rattle.std.specs.Option.{option_map_or}
+use Rattle.std.specs.Prelude.{unwrap_or, if◌then◌else◌}
 use Rattle.std.specs.Str.{bytes_eq}
-use Rattle.std.proofs.lemmas.Bool.{and_parts, leb-true, ltb-true}
+use Rattle.std.proofs.lemmas.Bool.{ltb-true}
 use Rattle.std.proofs.lemmas.Slice.Eq.{bytes_eq-Decides}
 use Rattle.psr_base.specs.Told.{Told}
 use Rattle.psr_base.specs.Written.{WroteAll}
 use Rattle.search_model.specs.Parts.{check_line, within_part}
 use Rattle.search_model.specs.Observed.{candidates_of, search_text}
-use Rattle.search_words.specs.declared.opt.Opt.TheVariants.{MaxCandidates}
-use Rattle.search_words.specs.Command.{matches_on}
-use Rattle.search_words.specs.Settings.{SettingsSeen, SaySettings}
-use Rattle.search_words.specs.Table.{option_row}
-use Rattle.search_words.specs.Values.{limits_allow, if_allowed, value_in_row, number_read, given_word}
+use Rattle.search_words.specs.Settings.{SettingsSeen, SaidIsInRange}
 use Rattle.stream_model.specs.Walk.{FileStream, transfer_data}
 use Rattle.dada_model.specs.Observation.{Observation}
 use Rattle.warm_restart.specs.declared.checkpoint.Checkpoint.{Checkpoint}
@@ -51,35 +46,9 @@ bound_of law word None e = omega arith
 until_bound : TextsSayOne → (words : List (List ℕ)) → until_in words ≤ greatest_count
 until_bound law words = bound_of law (until_word words) (until_of (until_word words)) refl
 
--- what words say for the most pulses is in the range of that option
-abbrev most_allowed : ℕ
-most_allowed = 1048576
-
-allowed_few : (n : ℕ) (b : Bool) → limits_allow (option_row MaxCandidates).limits n ≡ b →
-    unwrap_or (if b then Some n else None) 0 ≤ most_allowed
-allowed_few n true e = leb-true n most_allowed (and_parts (nat_le 0 n) (nat_le n most_allowed) e).1
-allowed_few n false e = omega arith
-
-number_few : (z : Option ℤ) →
-    unwrap_or (option_and_then (if_allowed (option_row MaxCandidates).limits) z) 0 ≤ most_allowed
-number_few None = omega arith
-number_few (Some (pos n)) = allowed_few n (limits_allow (option_row MaxCandidates).limits n) refl
-number_few (Some (negsuc n)) = omega arith
-
-word_few : (word : Option (List ℕ)) →
-    unwrap_or (option_map_or (value_in_row (option_row MaxCandidates)) word (Some (option_row MaxCandidates).default)) 0
-    ≤ most_allowed
-word_few None = omega arith
-word_few (Some text) = number_few (number_read (option_row MaxCandidates).reader text)
-
-limit_bound : {program : _} (words : List (List ℕ)) (s : SettingsSeen) → SaySettings program words s →
-    s.search.max_candidates ≤ most_allowed
-limit_bound {program} words s says =
-    subst (λ (x : SettingsSeen). x.search.max_candidates ≤ most_allowed) (sym says.values)
-    (word_few (given_word program (matches_on program words) MaxCandidates))
-
-module _ (law : TextsSayOne) (back : LinesAreReadBack) (join : PartTextsJoin) (is_calm : Type 0)
-    (words second_words : List (List ℕ)) (first second : PartSeen) (s : SettingsSeen) (files : List (List ℕ))
+module _ (ranged : SaidIsInRange) (law : TextsSayOne) (back : LinesAreReadBack) (join : PartTextsJoin)
+    (is_calm : Type 0) (words second_words : List (List ℕ)) (first second : PartSeen) (s : SettingsSeen)
+    (files : List (List ℕ))
     (a : HasEnded is_calm words first s files) (b : HasEnded is_calm second_words second s files)
     (new : check_word words ≡ new_word) (short : until_in words < spectra_in (stream_for s files))
     (long : spectra_in (stream_for s files) ≤ until_in second_words) where
@@ -123,7 +92,8 @@ module _ (law : TextsSayOne) (back : LinesAreReadBack) (join : PartTextsJoin) (i
   -- the second goes on from the line of the first
   went_on : check_text_of second.inputs.told second_words ≡ Some (check_line cut next.pulses) → b.outcome.from ≡ next
   went_on line =
-      let most : s.search.max_candidates ≤ 1048576 = limit_bound (drop 2 words) s (a.says first_spectrum).search.says in
+      let range = ranged.search (drop 2 words) s (a.says first_spectrum).search.says in
+      let most : s.search.max_candidates ≤ 1048576 = range.search.parts.most_candidates in
       one_said law (check_line cut next.pulses) b.outcome.from next
       ((b.outcome.accepted (0, lit< tt, sym b.all)).text (check_line cut next.pulses) line)
       (back.line next (record { place = until_bound law words; pulses = omega (arith, few, most) }))
@@ -149,6 +119,7 @@ module _ (law : TextsSayOne) (back : LinesAreReadBack) (join : PartTextsJoin) (i
     );
   }
 
-pub parts_are_joined : TextsSayOne → LinesAreReadBack → PartTextsJoin → (is_calm : Type 0) → PartsAreJoined is_calm
-parts_are_joined law back join is_calm words second_words first second s files a b new short long =
-    whole law back join is_calm words second_words first second s files a b new short long
+pub parts_are_joined : SaidIsInRange → TextsSayOne → LinesAreReadBack → PartTextsJoin → (is_calm : Type 0) →
+    PartsAreJoined is_calm
+parts_are_joined ranged law back join is_calm words second_words first second s files a b new short long =
+    whole ranged law back join is_calm words second_words first second s files a b new short long

@@ -21,9 +21,9 @@ use Rattle.warm_restart.specs.declared.checkpoint.Checkpoint.{Checkpoint}
 use Rattle.warm_restart.specs.Named.{new_word}
 use Rattle.run_stop.specs.declared.stop.Stop.{Stop}
 use Rattle.run_stop.specs.declared.stop.Stop.TheVariants.{Words, Value, Header, Plan, Recording, Memory, ReadFault, Gap, TooLong, TooMany, SinkFault, FileFault}
-use Rattle.run_stop.specs.Lone.{SayAlone}
+use Rattle.run_stop.specs.Lone.{LoneSearch, SayAlone}
 use Rattle.run_stop.specs.Firsts.{first_name, EachFirst, RefusesFieldsAt, RefusesFirstFields}
-use Rattle.run_stop.specs.Runs.{Task, ForFilesAt, ForFirsts, ForFilesTo, JudgesFirsts, BeginsByFirsts, MayBegin, CanBegin, RefusesSearch, RefusesSearchAt, RefusesToRecord, RefusesRecordingAt}
+use Rattle.run_stop.specs.Runs.{Task, Alone, ForFilesAt, ForFirsts, ForFilesTo, JudgesFirsts, BeginsByFirsts, MayBegin, CanBegin, RefusesSearch, RefusesSearchAt, RefusesToRecord, RefusesRecordingAt}
 use Rattle.run_stop.specs.Outcomes.{LeavesAtFault}
 use Rattle.run_stop.specs.Ends.{CountsFaults, StopsBefore, SaysBefore, IsRunFed}
 use Rattle.search_opening.specs.Settings.{OfRun, OfRunAt, OfRunFirsts}
@@ -70,9 +70,12 @@ pub of_run_firsts : (s : SettingsSeen) (old new : Told) (P : FileStream → Type
     new.bytes_under ≡ old.bytes_under → OfRunFirsts new s P → OfRunFirsts old s P
 of_run_firsts s = of_run_at (IsFirstFile s.starts (length s.names)) s
 
-module _ (task : Task) (words : List (List ℕ)) (old new : Told) (same : new.bytes_under ≡ old.bytes_under) where
+module _ (lone : LoneSearch) (words : List (List ℕ)) (old new : Told) (same : new.bytes_under ≡ old.bytes_under) where
+  abbrev task : Task
+  task = Alone lone
+
   for_files_at : (Needed : SettingsSeen → ℕ → Type 0) (P : SettingsSeen → FileStream → Type 0) →
-      ForFilesAt Needed task words new P → ForFilesAt Needed task words old P
+      ForFilesAt task Needed words new P → ForFilesAt task Needed words old P
   for_files_at Needed P holds s files says are =
       holds s files says (needed_still_told (Needed s) old new s.names files same are)
 
@@ -99,7 +102,7 @@ module _ (task : Task) (words : List (List ℕ)) (old new : Told) (same : new.by
   begins : BeginsByFirsts task words new → BeginsByFirsts task words old
   begins = judges_firsts (λ s told. MayBegin task s told) (λ s w. CanBegin task s w) (λ s r. record {
     accepted = each_first s.names s.starts (length s.starts) r.accepted;
-    searched = λ is. each_first s.names s.starts (length s.starts) (r.searched is);
+    searched = each_first s.names s.starts (length s.starts) r.searched;
     recorded = λ is. each_first s.names s.starts (length s.starts) (r.recorded is);
   })
 
@@ -112,7 +115,8 @@ module _ (task : Task) (words : List (List ℕ)) (old new : Told) (same : new.by
     earlier = λ k less. of_file (first_name s.names s.starts k) (r.earlier k less);
   }
   says_before (Header file (Fields fault)) says =
-      judges_firsts (λ s told. RefusesFieldsAt told s.names s.starts file fault) (λ s w. RefusesFirstFields w file fault)
+      judges_firsts (λ s told. RefusesFieldsAt told s.names s.starts file fault)
+      (λ s w. RefusesFirstFields w file fault)
       (λ s r. record {
         texts = each_first s.names s.starts (length s.starts) r.texts;
         transfer = r.transfer;
@@ -123,7 +127,7 @@ module _ (task : Task) (words : List (List ℕ)) (old new : Told) (same : new.by
       }) says
   says_before (Plan cause) says = (
     says.0,
-    judges_firsts (λ s told. RefusesSearchAt s told cause) (λ s w. RefusesSearch s.search w cause) (λ s r. record {
+    judges_firsts (λ s told. RefusesSearchAt s.search s told cause) (λ s w. RefusesSearch s.search w cause) (λ s r. record {
       accepted = each_first s.names s.starts (length s.starts) r.accepted;
       transfer = r.transfer;
       there = r.there;
@@ -135,7 +139,7 @@ module _ (task : Task) (words : List (List ℕ)) (old new : Told) (same : new.by
       judges_firsts (λ s told. RefusesRecordingAt task s told cause) (λ s w. RefusesToRecord task s w cause)
       (λ s r. record {
         accepted = each_first s.names s.starts (length s.starts) r.accepted;
-        searched = λ is. each_first s.names s.starts (length s.starts) (r.searched is);
+        searched = each_first s.names s.starts (length s.starts) r.searched;
         records = r.records;
         transfer = r.transfer;
         there = r.there;

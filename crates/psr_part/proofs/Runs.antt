@@ -199,7 +199,7 @@ module _ {I : Type 0} (told : I → Told) (is_calm : I → Type 0) (faults : I �
     where_stopped stop more serves stops law out =
         at_stop words (seen new) (is_calm old) from None stop out out
         (law 13 (part_search words from) words s (seen new) stop says
-        (stops_before (searching words from) words (told old) (told mid) first.names stop stops)
+        (stops_before (part_search words from) words (told old) (told mid) first.names stop stops)
         (counts_through told is_calm faults First (stop ≡ ReadFault) old mid new s.names (check_names words) first not
         more serves)) (λ later. goes) refl
 
@@ -232,7 +232,7 @@ module _ {I : Type 0} (told : I → Told) (is_calm : I → Type 0) (faults : I �
     where_driven found more serves fed cleared observed once stops wholes before after stop stopped until same ended =
         after_session words (seen new) (is_calm old) from once s found.blocks found.feed (record {
           says = says;
-          fed = is_run_fed (searching words from) words (told old) (told mid) first.names found.blocks found.feed fed;
+          fed = is_run_fed (part_search words from) words (told old) (told mid) first.names found.blocks found.feed fed;
           read = counts_through told is_calm faults First (found.feed ≡ feed.ReadFault) old mid new s.names
               (check_names words) first not more serves;
           cleared = cleared;

@@ -1,5 +1,5 @@
 -- The sample, computed.
-use Rattle.std.proofs.Common.{◌≡◌, ℕ, List, [], ◌∷◌, Some, true, false, refl, ap, subst, sym, ◌∙◌, arith, zero, suc, ◌<◌, slice_index_or, drop, lit<}
+use Rattle.std.proofs.Common.{◌≡◌, ℕ, List, [], ◌∷◌, Some, true, refl, ap, subst, sym, ◌∙◌, arith, zero, suc, ◌<◌, slice_index_or, drop, lit<}
 use Rattle.std.specs.Prelude.{codes}
 use Rattle.std.specs.Fmt.{digits}
 use Rattle.psr_base.specs.Told.{Told}
@@ -8,11 +8,11 @@ use Rattle.dada_model.specs.Number.{number_value}
 use Rattle.dada_model.specs.Fields.{is_white, without_comment, words_of, fields_of, value_of, header_size, header_of}
 use Rattle.dada_model.specs.Observation.{Observation, number_of, observation_in, signed_edge, edge, edges, dispersion_span, dm}
 use Rattle.dada_model.specs.Worked.{two_channels}
-use Rattle.search_model.specs.declared.search.Search.{Search}
 use Rattle.search_model.specs.Paths.{entry, path}
 use Rattle.search_model.specs.Parts.{check_line}
 use Rattle.clap.proofs.OnLiterals.{clap_on_literals}
 use Rattle.search_words.specs.Settings.{SettingsSeen, SaySearch}
+use Rattle.search_words.specs.Defaults.{default_settings, sample_search}
 use Rattle.stream_model.specs.Walk.{FileStream, data_of, data_between, observation_at, transfer_data}
 use Rattle.disk_feeder.specs.Plan.{AreTold}
 use Rattle.warm_restart.specs.declared.checkpoint.Checkpoint.{Checkpoint}
@@ -28,46 +28,18 @@ use Rattle.psr_part.proofs.Causes.{one_said}
 observation : Observation
 observation = two_channels
 
-search : Search
-search = record {
-  min_delay = 0;
-  max_delay = 1;
-  widest = 1;
-  fold_min = 2;
-  fold_max = 0;
-  fold_rows = 6;
-  fold_step = 64;
-  chunk = 1024;
-  shards = 1;
-  max_candidates = 65536;
-  mean = 1000;
-  sd = 2000;
-  snr = 700;
-}
-
 settings : SettingsSeen
-settings = record {
-  search = search;
-  buffers = 4;
-  size = 524288;
-  hands = 1;
-  turns = 64;
-  recording = false;
-  file_size = 1073741824;
-  max_bytes = 1099511627776;
-  names = codes "pulse.dada" ∷ [];
-  starts = 0 ∷ [];
-}
+settings = default_settings sample_search (codes "pulse.dada" ∷ [])
 
 first_spectrum : Checkpoint
 first_spectrum = record { place = 0; pulses = 0 }
 
-text_is : text_of_part observation search first_spectrum 2 sample_data ≡ sample_text
-unfolding observation search first_spectrum edges edge signed_edge path entry dm dispersion_span digits
+text_is : text_of_part observation sample_search first_spectrum 2 sample_data ≡ sample_text
+unfolding observation sample_search first_spectrum edges edge signed_edge path entry dm dispersion_span digits
 text_is = refl
 
 says : SaySearch (drop 2 sample_words) settings
-unfolding settings search number_value clap_on_literals
+unfolding settings sample_search number_value clap_on_literals
 says = record { taken = refl; in_range = refl; values = refl }
 
 until_two : until_in sample_words ≡ 2
@@ -79,7 +51,7 @@ unfolding until_of
 form = refl
 
 says_part : (from : Checkpoint) → SayAlone (part_search sample_words from) sample_words settings
-unfolding settings search
+unfolding settings sample_search
 says_part from = record {
   form = form;
   search = record { says = says; one = record { transfer = refl; unrecorded = refl } };
@@ -114,16 +86,17 @@ unfolding sample_stream data_between data_of header_of header_size fields_of val
     number_value
 data_is = refl
 
-in_stream : text_of_part (first_observation sample_stream 0) search first_spectrum 2 (transfer_data sample_stream 0)
-    ≡ sample_text
+in_stream : text_of_part (first_observation sample_stream 0) sample_search first_spectrum 2
+    (transfer_data sample_stream 0) ≡ sample_text
 in_stream =
-    ap (λ (o : Observation). text_of_part o search first_spectrum 2 (transfer_data sample_stream 0)) observation_is
-    ∙ (ap (text_of_part observation search first_spectrum 2) data_is ∙ text_is)
+    ap (λ (o : Observation). text_of_part o sample_search first_spectrum 2 (transfer_data sample_stream 0))
+    observation_is
+    ∙ (ap (text_of_part observation sample_search first_spectrum 2) data_is ∙ text_is)
 
 text_found : text_in_part sample_words first_spectrum settings (stream_for settings (sample_file ∷ [])) ≡ sample_text
 unfolding settings sample_stream
 text_found =
-    ap (λ (until : ℕ). text_of_part (first_observation sample_stream 0) search first_spectrum until
+    ap (λ (until : ℕ). text_of_part (first_observation sample_stream 0) sample_search first_spectrum until
     (transfer_data sample_stream 0)) until_two
     ∙ in_stream
 

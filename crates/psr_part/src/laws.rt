@@ -7,6 +7,7 @@ ghost use Rattle.psr_part.specs.Sample.{SampleIsFound};
 use psr_base::Inputs;
 // Laws: they do nothing when they run, and the proofs use what they ensure.
 use run_stop::{accepted_goes_on, accepted_is_not_refused};
+use search_words::said_is_in_range;
 use warm_restart::{lines_are_read_back, part_texts_join, texts_say_one};
 
 /// Words, a checkpoint, headers and data that are accepted are searched, or there is no memory, where neither the
@@ -41,6 +42,7 @@ pub fn told_room_is_enough<I: Inputs>()
 pub fn parts_are_joined<I: Inputs>()
     ensures { (inputs : I) → PartsAreJoined (I.is_calm inputs) }
 {
+    said_is_in_range();
     texts_say_one();
     lines_are_read_back();
     part_texts_join();

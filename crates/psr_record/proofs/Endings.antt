@@ -6,7 +6,7 @@ use Rattle.psr_base.specs.Told.{InputsSeen}
 use Rattle.psr_base.specs.Made.{FilesSeen}
 use Rattle.psr_base.specs.Written.{SinkSeen}
 use Rattle.ring_ends.specs.declared.finished.Finished.{Finished}
-use Rattle.search_words.specs.Settings.{SettingsSeen, SayRecord}
+use Rattle.search_words.specs.Settings.{RunSeen, SayRecord}
 use Rattle.stream_model.specs.Walk as walk
 use Rattle.stream_model.specs.Walk.{walk_stop}
 use Rattle.disk_feeder.specs.declared.answers.FeedEnd.{FeedEnd}
@@ -29,8 +29,8 @@ one_list : (a b : Finished) → Some a ≡ Some b → a ≡ b
 one_list a b e = cc
 
 -- the settings of a recording ask for it
-pub records : (words : List (List ℕ)) (s : SettingsSeen) → SayRecord words s → s.recording ≡ true
-records words s says = ap (λ (t : SettingsSeen). t.recording) says.values
+pub records : (words : List (List ℕ)) (s : RunSeen) → SayRecord words s → s.recording ≡ true
+records words s says = ap (λ (t : RunSeen). t.recording) says.values
 
 module _ (words : List (List ℕ)) (inputs : InputsSeen) (is_calm : Type 0) (files_before files_after : FilesSeen) where
   -- ---- before all data were sealed
@@ -52,7 +52,7 @@ module _ (words : List (List ℕ)) (inputs : InputsSeen) (is_calm : Type 0) (fil
 
   -- ---- with all data
 
-  module _ (s0 : SettingsSeen) (blocks : Finished) (end : FeedEnd) (recorded : Option RecordEnd)
+  module _ (s0 : RunSeen) (blocks : Finished) (end : FeedEnd) (recorded : Option RecordEnd)
       (through : RunsThrough RecordingAlone words s0 inputs is_calm blocks end recorded files_before files_after)
       (cleared : recorded ≢ Some recorder.FileFault → AllCleared blocks 0 1) where
     module _ (law : EndAfterWhole is_calm) (whole : stop_of_feed end ≡ None) where

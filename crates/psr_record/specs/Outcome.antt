@@ -6,7 +6,7 @@ use Rattle.psr_base.specs.Told.{Told, InputsSeen}
 use Rattle.psr_base.specs.Made.{FilesSeen}
 use Rattle.psr_base.specs.Written.{SinkSeen}
 use Rattle.ring_ends.specs.declared.finished.Finished.{Finished}
-use Rattle.search_words.specs.Settings.{SettingsSeen, SayRecord}
+use Rattle.search_words.specs.Settings.{RunSeen, SayRecord}
 use Rattle.stream_model.specs.Walk as walk
 use Rattle.stream_model.specs.Walk.{FileStream, walk_stop}
 use Rattle.disk_feeder.specs.Plan.{AreTold}
@@ -16,11 +16,11 @@ use Rattle.run_stop.specs.Outcomes.{JudgesWords, ReadsInputs, StopsAtFiles, Seal
 
 -- P holds of the settings that the words of a recording say and of the files that they name, where all of them are
 -- told
-abbrev pub ForRecord : List (List ℕ) → Told → (SettingsSeen → FileStream → Type 0) → Type 0
+abbrev pub ForRecord : List (List ℕ) → Told → (RunSeen → FileStream → Type 0) → Type 0
 ForRecord = ForFiles RecordingAlone
 
 -- all data can be read and recorded
-pub record IsRecordable (s : SettingsSeen) (w : FileStream) : Type 0 where
+pub record IsRecordable (s : RunSeen) (w : FileStream) : Type 0 where
   pub begins : CanBegin RecordingAlone s w
   pub whole : walk_stop w ≡ walk.Whole
 
@@ -61,7 +61,7 @@ abbrev pub AcceptedIsRecorded : Type 0 → Type 0
 AcceptedIsRecorded is_calm = (words : List (List ℕ)) (inputs : InputsSeen)
     (files_before files_after : FilesSeen) (notes_before notes_after : SinkSeen) (ran : Ran) →
     Outcome words inputs is_calm files_before files_after notes_before notes_after ran →
-    (s : SettingsSeen) (files : List (List ℕ)) → SayRecord words s →
+    (s : RunSeen) (files : List (List ℕ)) → SayRecord words s →
     AreTold inputs.told s.names files → IsRecordable s (stream_for s files) →
     is_calm ⊎ ¬ Rose inputs.faults_before inputs.faults_after →
     ¬ Rose files_before.faults files_after.faults → (ran.status ≡ 0) ⊎ (ran.status ≡ 5)

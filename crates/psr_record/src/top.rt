@@ -7,25 +7,16 @@ ghost use Rattle.psr_record.specs.Outcome.{Outcome};
 ghost use Rattle.psr_record.specs.Ends.{Ends, stop_of_session};
 
 use psr_base::{Files, Inputs, Sink};
-use ring_ends::Finished;
 use run_stop::{Purpose, Ran, Stop, tell};
 use search_session::Gate;
-use search_words::Settings;
+use search_words::RunSettings;
 use std::alloc::Global;
 use std::sync::Wait;
 use std::thread::Threads;
 use std::time::Clock;
-use whole_run::{Found, drive};
+use whole_run::{Ended, Found, drive};
 // Laws: they do nothing when they run, and the proofs use what they ensure.
 use run_stop::{end_after_whole, end_at_stop, end_at_words, end_before_session};
-
-// What a recording came to: its stop, or none where it went to its end; and what went through its data ring, where
-// there was one.
-#[derive(Drop)]
-struct Ended {
-    stop: Option<Stop>,
-    blocks: Option<Finished>,
-}
 
 /// Records the data of the files that the words name in new files. The first word is the program's name. `gate` is
 /// called at each turn. It answers the exit status, and what went through the data ring, where there was one; where the
@@ -100,7 +91,7 @@ fn record_files<
     end_before_session::<I>();
     end_at_stop::<I>();
     end_after_whole::<I>();
-    let settings = match Settings::of_record(alloc, words) {
+    let settings = match RunSettings::of_record(alloc, words) {
         Ok(settings) => settings,
         Err(fault) => {
             return Ended {

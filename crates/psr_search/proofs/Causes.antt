@@ -171,7 +171,7 @@ module _ (words : List (List ℕ)) (is_calm : Type 0) (seen : SearchSeen)
 
   plan : Quiet → (cause : PlanCause) → RefusesSearch s.search w cause → Answers n 4
   plan calm cause refuses = before_data calm
-      (λ begins. not_refused.search s.search w cause (begins.searched refl) refuses) 4
+      (λ begins. not_refused.search s.search w cause begins.searched refuses) 4
       (λ e file first again. absurd (not_firsts refuses.accepted file first again)) (λ e. inl e)
 
   recording : Quiet → (cause : RecordingCause) → RefusesToRecord Searching s w cause → Answers n 4
@@ -211,7 +211,7 @@ module _ (words : List (List ℕ)) (is_calm : Type 0) (seen : SearchSeen)
 
         fits : ((c : PlanCause) × RefusesSearch s.search w c)
             ⊎ ((c : RecordingCause) × RefusesToRecord Searching s w c) → ⊥
-        fits (inl r) = not_refused.search s.search w r.0 (begins.searched refl) r.1
+        fits (inl r) = not_refused.search s.search w r.0 begins.searched r.1
         fits (inr r) = not_refused.recording Searching s w r.0 begins.recorded r.1
 
   walk_stops : Quiet → (stop : Stop) → StopsWalk Searching s w stop → Answers n (status_of stop)

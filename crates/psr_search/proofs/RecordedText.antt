@@ -14,6 +14,7 @@ use Rattle.search_model.specs.declared.search.Search.{Search}
 use Rattle.search_model.specs.Paths.{entry, path}
 use Rattle.clap.proofs.OnLiterals.{clap_on_literals}
 use Rattle.search_words.specs.Settings.{SettingsSeen, SaySearch}
+use Rattle.search_words.specs.Defaults.{default_settings, sample_search}
 use Rattle.obs_plan.specs.Later.{later_offset_of}
 use Rattle.stream_model.specs.Walk.{FileStream, Whole, data_of, data_between, transfer_of, observation_at, header_stop, length_stop, stop_at, walk_stop, file_at, begin_of}
 use Rattle.stream_model.specs.WalkLaws.{AreStarts, IsAccepted, AreWalked}
@@ -31,36 +32,17 @@ use Rattle.psr_search.specs.RecordedSample.{recording_words, limited_words, firs
 -- ---- the words
 
 search : ℕ → Search
-search most = record {
-  min_delay = 0;
-  max_delay = 1;
-  widest = 1;
-  fold_min = 2;
-  fold_max = 0;
-  fold_rows = 6;
-  fold_step = 64;
-  chunk = 1024;
-  shards = 1;
-  max_candidates = most;
-  mean = 1000;
-  sd = 2000;
-  snr = 700;
-}
+search most = record sample_search { max_candidates = most }
 
 -- the settings with a limit of candidates, and whether the files are recorded
 settings : ℕ → Bool → ℕ → ℕ → SettingsSeen
-settings most recording file_size max_bytes = record {
-  search = search most;
-  buffers = 4;
-  size = 524288;
-  hands = 1;
-  turns = 64;
-  recording = recording;
-  file_size = file_size;
-  max_bytes = max_bytes;
-  names = codes "first.dada" ∷ codes "next.dada" ∷ [];
-  starts = 0 ∷ 1 ∷ [];
-}
+settings most recording file_size max_bytes =
+    record (default_settings (search most) (codes "first.dada" ∷ codes "next.dada" ∷ [])) {
+      recording = recording;
+      file_size = file_size;
+      max_bytes = max_bytes;
+      starts = 0 ∷ 1 ∷ [];
+    }
 
 recording_settings : SettingsSeen
 recording_settings = settings 65536 true 4 1000
@@ -69,11 +51,11 @@ limited_settings : SettingsSeen
 limited_settings = settings 0 false 1073741824 1099511627776
 
 say_recording : SaySearch recording_words recording_settings
-unfolding recording_settings settings search number_value clap_on_literals
+unfolding recording_settings settings search sample_search number_value clap_on_literals
 say_recording = record { taken = refl; in_range = refl; values = refl }
 
 say_limit : SaySearch limited_words limited_settings
-unfolding limited_settings settings search number_value clap_on_literals
+unfolding limited_settings settings search sample_search number_value clap_on_literals
 say_limit = record { taken = refl; in_range = refl; values = refl }
 
 -- ---- the files
@@ -113,11 +95,11 @@ unfolding stream files transfers observation_at data_between data_of header_of h
 transfers_are max_bytes = refl
 
 text_is : searched_text (search 65536) transfers ≡ text_of_two
-unfolding transfer_line transfers search edges edge signed_edge path entry dm dispersion_span digits
+unfolding transfer_line transfers search sample_search edges edge signed_edge path entry dm dispersion_span digits
 text_is = refl
 
 one_candidate : (most : ℕ) → candidate_total (search most) transfers ≡ 1
-unfolding transfers search edges edge signed_edge path entry dm dispersion_span
+unfolding transfers search sample_search edges edge signed_edge path entry dm dispersion_span
 one_candidate most = refl
 
 files_are : files_of_data (stream 1000) 4 ≡ made_files
@@ -173,8 +155,8 @@ walked max_bytes = record { starts = starts; accepted = accepted }
     accepted (suc (suc k)) below = absurd (omega (arith, below))
 
 searched_first : (most max_bytes : ℕ) → CanSearchFirst (search most) (stream max_bytes) 2
-unfolding stream files search observation_at header_of header_size fields_of value_of words_of without_comment is_white
-    number_value number_of observation_in
+unfolding stream files search sample_search observation_at header_of header_size fields_of value_of words_of
+    without_comment is_white number_value number_of observation_in
 searched_first most max_bytes zero below = refl
 searched_first most max_bytes (suc zero) below = refl
 searched_first most max_bytes (suc (suc k)) below = absurd (omega (arith, below))
@@ -207,11 +189,11 @@ are_told told first next = record { count = refl; each = told_both told first ne
 -- ---- the outcome
 
 searched : IsSearched recording_settings (stream_for recording_settings files)
-unfolding recording_settings settings search stream files
+unfolding recording_settings settings search sample_search stream files
 searched = record {
   begins = record {
     accepted = walked 1000;
-    searched = λ _. searched_first 65536 1000;
+    searched = searched_first 65536 1000;
     recorded = λ _. recorded_first;
   };
   whole = whole;
@@ -233,11 +215,11 @@ no_two e = cc
 
 crowded : HasCandidates limited_settings (stream_for limited_settings files)
     (λ total. limited_settings.search.max_candidates < total)
-unfolding limited_settings settings search stream files
+unfolding limited_settings settings search sample_search stream files
 crowded = record {
   begins = record {
     accepted = walked 1099511627776;
-    searched = λ _. searched_first 0 1099511627776;
+    searched = searched_first 0 1099511627776;
     recorded = λ records. absurd (no_two records);
   };
   whole = limited_whole;

@@ -1,5 +1,5 @@
 -- The sample, computed.
-use Rattle.std.proofs.Common.{◌≡◌, ℕ, List, [], ◌∷◌, Ok, Some, false, refl, ap, subst, ◌∙◌, arith, zero, suc, ◌<◌, slice_index_or}
+use Rattle.std.proofs.Common.{◌≡◌, ℕ, List, [], ◌∷◌, Ok, Some, refl, ap, subst, ◌∙◌, arith, zero, suc, ◌<◌, slice_index_or}
 use Rattle.std.specs.Prelude.{codes}
 use Rattle.std.specs.Fmt.{digits}
 use Rattle.psr_base.specs.Told.{Told}
@@ -8,10 +8,10 @@ use Rattle.dada_model.specs.Number.{number_value}
 use Rattle.dada_model.specs.Fields.{HeaderText, is_white, without_comment, words_of, fields_of, value_of, header_size, header_of}
 use Rattle.dada_model.specs.Observation.{Observation, number_of, observation_in, signed_edge, edge, edges, refusal_at, refusals, observation_of, dispersion_span, dm}
 use Rattle.dada_model.specs.Worked.{two_channels}
-use Rattle.search_model.specs.declared.search.Search.{Search}
 use Rattle.search_model.specs.Paths.{entry, path}
 use Rattle.clap.proofs.OnLiterals.{clap_on_literals}
 use Rattle.search_words.specs.Settings.{SettingsSeen, SaySearch}
+use Rattle.search_words.specs.Defaults.{default_settings, sample_search}
 use Rattle.stream_model.specs.Walk.{FileStream, data_of, data_between, observation_at}
 use Rattle.transfer_text.specs.Searched.{ObservedTransfer, searched_text}
 use Rattle.disk_feeder.specs.Plan.{AreTold}
@@ -33,47 +33,19 @@ unfolding observation fields_of value_of words_of without_comment is_white numbe
     signed_edge edge refusal_at refusals observation_of
 observation_is = refl
 
-search : Search
-search = record {
-  min_delay = 0;
-  max_delay = 1;
-  widest = 1;
-  fold_min = 2;
-  fold_max = 0;
-  fold_rows = 6;
-  fold_step = 64;
-  chunk = 1024;
-  shards = 1;
-  max_candidates = 65536;
-  mean = 1000;
-  sd = 2000;
-  snr = 700;
-}
-
 settings : SettingsSeen
-settings = record {
-  search = search;
-  buffers = 4;
-  size = 524288;
-  hands = 1;
-  turns = 64;
-  recording = false;
-  file_size = 1073741824;
-  max_bytes = 1099511627776;
-  names = codes "pulse.dada" ∷ [];
-  starts = 0 ∷ [];
-}
+settings = default_settings sample_search (codes "pulse.dada" ∷ [])
 
 -- the file as a transfer that is searched
 transfer : ObservedTransfer
 transfer = record { observation = observation; bytes = sample_data }
 
-text_is : searched_text search (transfer ∷ []) ≡ sample_text
-unfolding transfer observation search edges edge signed_edge path entry dm dispersion_span digits
+text_is : searched_text sample_search (transfer ∷ []) ≡ sample_text
+unfolding transfer observation sample_search edges edge signed_edge path entry dm dispersion_span digits
 text_is = refl
 
 says : SaySearch sample_words settings
-unfolding settings search number_value clap_on_literals
+unfolding settings sample_search number_value clap_on_literals
 says = record { taken = refl; in_range = refl; values = refl }
 
 -- the bytes of the one file are told
@@ -101,7 +73,7 @@ transfers_are = refl
 
 searched_is : searched_text settings.search (observed_transfers (stream_for settings (sample_file ∷ []))) ≡ sample_text
 unfolding settings sample_stream
-searched_is = ap (searched_text search) transfers_are ∙ text_is
+searched_is = ap (searched_text sample_search) transfers_are ∙ text_is
 
 pub found : (is_calm : Type 0) → SampleIsFound is_calm
 found is_calm inputs files_before files_after out_before out_after notes_before notes_after ran known outcome zeroth =

@@ -7,7 +7,6 @@ ghost use Rattle.psr_search.specs.Ends.{Ends};
 
 use crate::writing::write_end;
 use psr_base::{Files, Inputs, Sink};
-use ring_ends::Finished;
 use run_stop::{Purpose, Ran, Stop, tell};
 use search_session::Gate;
 use search_words::Settings;
@@ -15,17 +14,9 @@ use std::alloc::Global;
 use std::sync::Wait;
 use std::thread::Threads;
 use std::time::Clock;
-use whole_run::drive;
+use whole_run::{Ended, drive};
 // Laws: they do nothing when they run, and the proofs use what they ensure.
 use run_stop::{end_after_whole, end_at_stop, end_at_words, end_before_session, words_say_once};
-
-// What a search came to: its stop, or none where it went to its end; and what went through its data ring, where there
-// was one.
-#[derive(Drop)]
-struct Ended {
-    stop: Option<Stop>,
-    blocks: Option<Finished>,
-}
 
 /// Searches the files that the words name for dispersed pulses and folded periods, and writes their text to `out`. The
 /// data are recorded in `files` where the words ask for it. The first word is the program's name. `gate` is called at
@@ -113,7 +104,15 @@ fn search<
             };
         }
     };
-    match drive(rt, alloc, Purpose::Search, &settings, inputs, files, gate) {
+    match drive(
+        rt,
+        alloc,
+        Purpose::Search(settings.search),
+        &settings.run,
+        inputs,
+        files,
+        gate,
+    ) {
         Ok(found) => {
             let stop = write_end(&settings.search, &found, out);
             Ended {

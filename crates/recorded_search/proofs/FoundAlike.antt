@@ -1,5 +1,5 @@
 -- Two searches write one text, and are accepted alike.
-use Rattle.std.proofs.Common.{◌≡◌, ℕ, ◌≤◌, List, length, refl, sym, ap, subst, ◌∙◌}
+use Rattle.std.proofs.Common.{◌≡◌, ℕ, ◌≤◌, List, length, sym, ap, subst, ◌∙◌}
 use Rattle.psr_base.specs.Written.{WroteAll}
 use Rattle.search_model.specs.declared.search.Search.{Search}
 use Rattle.transfer_text.specs.Searched.{searched_text, candidate_total}
@@ -33,7 +33,7 @@ is_accepted alike can recorded s again files files_again h most unrecorded searc
     let r = h.recording in
     let mine : CanSearchFirst s.search w (length w.starts) =
     subst (λ (begins : List ℕ). CanSearchFirst s.search (record w { starts = begins }) (length begins)) h.transfers
-    (searched.begins.searched refl) in
+    searched.begins.searched in
     let fits : CanSearchFirst again.search w (length w.starts) =
     subst (λ (search : Search). CanSearchFirst search w (length w.starts)) (sym h.same) mine in
     let both = can recorded w r.in_range r.recording r.recordable r.offsets again files_again h.named most unrecorded

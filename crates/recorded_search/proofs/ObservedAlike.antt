@@ -11,7 +11,7 @@ use Rattle.dada_model.specs.ChangeLaws.{IsReadBack, HeadersAreReadBack, HeadersA
 use Rattle.dada_model.specs.Laws.{AcceptedByRows}
 use Rattle.dada_model.specs.Observation.{Observation, observation_in, observation_of}
 use Rattle.psr_base.specs.Made.{NamedBytes}
-use Rattle.search_words.specs.Settings.{SettingsSeen, AllInRange}
+use Rattle.search_words.specs.Settings.{SettingsSeen, RunSeen, RunInRange}
 use Rattle.stream_model.specs.Recorded.{file_count, file_data, file_header, file_offset, recorded_file, recorded_files}
 use Rattle.stream_model.specs.RecordedLaws.{EachHeaderHasRoom, HasNumbers, HeadersKeepObservation, HeadersKeepValues, RecordedTransfer, CanBeRecorded, recorded_of_transfers, recorded_starts, stream_of_recorded}
 use Rattle.stream_model.specs.Walk.{FileStream, fields_past, observation_at, header_stop, transfer_data, walk_stop}
@@ -170,7 +170,7 @@ first_read laws t can =
 
 -- ---- all transfers
 
-module _ (laws : Laws) (read : RecordedIsReadBack) (s : SettingsSeen) (w : FileStream) (range : AllInRange s)
+module _ (laws : Laws) (read : RecordedIsReadBack) (s : RunSeen) (w : FileStream) (range : RunInRange s)
     (recording : s.recording ≡ true) (recordable : IsRecordable s w) (offsets : HasOffsets w) where
   abbrev transfers : List RecordedTransfer
   transfers = recorded_transfers w s.file_size (length w.starts) (transfer_data w)
@@ -282,7 +282,7 @@ searched_alike law s w range recording recordable offsets again files names sear
     ap observed_transfers same ∙ law s w range recording recordable offsets in
     (ap (searched_text search) alike, ap (candidate_total search) alike)
 
-named_stream : (s : SettingsSeen) (w : FileStream) (again : SettingsSeen) (files : List (List ℕ)) →
+named_stream : (s : RunSeen) (w : FileStream) (again : SettingsSeen) (files : List (List ℕ)) →
     NamesRecorded s w again files →
     stream_for again files ≡ record (recorded_stream s w) { max_bytes = again.max_bytes }
 named_stream s w again files names =
@@ -305,7 +305,7 @@ can_be_searched laws read s w range recording recordable offsets again files nam
     subst P (sym (named_stream s w again files names)) (
       record {
         accepted = record { starts = both.0.starts; accepted = both.0.accepted };
-        searched = λ task. both.1;
+        searched = both.1;
         recorded = λ records. absurd cc;
       },
       whole_within laws.whole (recorded_stream s w) again.max_bytes most whole,

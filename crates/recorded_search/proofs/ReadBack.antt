@@ -8,7 +8,7 @@ use Rattle.std.proofs.lemmas.List.FromFn.{get_or-range_with_len, get_or-map-rang
 use Rattle.dada_model.specs.Fields.{HeaderText, header_of, fields_of}
 use Rattle.dada_model.specs.ChangeLaws.{IsReadBack, HeadersAreReadBack}
 use Rattle.dada_model.specs.Observation.{observation_of}
-use Rattle.search_words.specs.Settings.{SettingsSeen, AllInRange}
+use Rattle.search_words.specs.Settings.{RunSeen, RunInRange}
 use Rattle.stream_model.specs.Walk.{FileStream, transfer_data, walk_data}
 use Rattle.stream_model.specs.WalkLaws.{WholeExactly, WalkJoinsData}
 use Rattle.stream_model.specs.Blocks.{joined_data}
@@ -48,11 +48,11 @@ within transfers k d near =
     omega arith
 
 -- a transfer as it is recorded
-abbrev pub recorded_at : SettingsSeen → FileStream → ℕ → RecordedTransfer
+abbrev pub recorded_at : RunSeen → FileStream → ℕ → RecordedTransfer
 recorded_at s w k = record { recording = first_recording w s.file_size k; bytes = transfer_data w k }
 
-module _ (read : HeadersAreReadBack) (exactly : WholeExactly) (joins : WalkJoinsData) (s : SettingsSeen)
-    (w : FileStream) (range : AllInRange s) (recording : s.recording ≡ true) (recordable : IsRecordable s w)
+module _ (read : HeadersAreReadBack) (exactly : WholeExactly) (joins : WalkJoinsData) (s : RunSeen)
+    (w : FileStream) (range : RunInRange s) (recording : s.recording ≡ true) (recordable : IsRecordable s w)
     (offsets : HasOffsets w) where
   total : length (joined_data (walk_data w)) ≤ w.max_bytes
   total =

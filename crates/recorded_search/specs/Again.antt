@@ -5,7 +5,7 @@ use Rattle.std.specs.Prelude.{◌≡◌, ℕ, ◌≤◌, true, false, List}
 use Rattle.psr_base.specs.Told.{InputsSeen}
 use Rattle.psr_base.specs.Made.{FilesSeen}
 use Rattle.psr_base.specs.Written.{SinkSeen, WroteAll}
-use Rattle.search_words.specs.Settings.{SettingsSeen, AllInRange, SaySearch}
+use Rattle.search_words.specs.Settings.{SettingsSeen, RunSeen, RunInRange, SaySearch}
 use Rattle.disk_feeder.specs.Plan.{AreTold}
 use Rattle.run_stop.specs.declared.ran.Ran.{Ran}
 use Rattle.run_stop.specs.Runs.{stream_for}
@@ -31,15 +31,15 @@ pub record HasSearched (is_calm : Type 0) (s : SettingsSeen) (files : List (List
   pub whole : ran.status ≡ 0
 
 -- all data of these files can be read and recorded with these settings, and their offsets end in their range
-pub record HasRecording (s : SettingsSeen) (files : List (List ℕ)) : Type 0 where
-  pub in_range : AllInRange s
+pub record HasRecording (s : RunSeen) (files : List (List ℕ)) : Type 0 where
+  pub in_range : RunInRange s
   pub recording : s.recording ≡ true
   pub recordable : IsRecordable s (stream_for s files)
   pub offsets : HasOffsets (stream_for s files)
 
 -- a search of files, and the same search of the files of a recording of all their data
-pub record SearchesAgain (recorded s again : SettingsSeen) (files files_again : List (List ℕ)) :
-    Type 0 where
+pub record SearchesAgain (recorded : RunSeen) (s again : SettingsSeen)
+    (files files_again : List (List ℕ)) : Type 0 where
   pub recording : HasRecording recorded files
   pub transfers : s.starts ≡ recorded.starts
   pub named : NamesRecorded recorded (stream_for recorded files) again files_again
@@ -48,7 +48,7 @@ pub record SearchesAgain (recorded s again : SettingsSeen) (files files_again : 
 -- both write the same text
 abbrev pub RecordedIsFoundAlike : Type 0 → Type 0 → Type 0
 RecordedIsFoundAlike is_calm is_calm_again =
-    (recorded s again : SettingsSeen) (files files_again : List (List ℕ)) →
+    (recorded : RunSeen) (s again : SettingsSeen) (files files_again : List (List ℕ)) →
     SearchesAgain recorded s again files files_again →
     (before after before_again after_again : SinkSeen) →
     HasSearched is_calm s files before after →
@@ -59,7 +59,7 @@ RecordedIsFoundAlike is_calm is_calm_again =
 -- recording
 abbrev pub RecordedIsAccepted : Type 0
 RecordedIsAccepted =
-    (recorded s again : SettingsSeen) (files files_again : List (List ℕ)) →
+    (recorded : RunSeen) (s again : SettingsSeen) (files files_again : List (List ℕ)) →
     SearchesAgain recorded s again files files_again → recorded.max_bytes ≤ again.max_bytes →
     again.recording ≡ false → IsSearched s (stream_for s files) →
     IsSearched again (stream_for again files_again)

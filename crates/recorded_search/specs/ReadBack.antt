@@ -3,7 +3,7 @@
 -- choice.
 use Rattle.std.specs.Prelude.{◌≡◌, ◌+◌, ◌^◌, ◌<◌, ◌≤◌, ℕ, true, false, List, length, map}
 use Rattle.search_model.specs.declared.search.Search.{Search}
-use Rattle.search_words.specs.Settings.{SettingsSeen, AllInRange}
+use Rattle.search_words.specs.Settings.{SettingsSeen, RunSeen, RunInRange}
 use Rattle.stream_model.specs.Walk as walk
 use Rattle.stream_model.specs.Walk.{FileStream, transfer_data, walk_stop, walk_data}
 use Rattle.stream_model.specs.RecordedLaws.{stream_of_recorded}
@@ -13,7 +13,7 @@ use Rattle.run_stop.specs.Outcomes.{recorded_transfers, files_of_data}
 use Rattle.psr_record.specs.Outcome.{IsRecordable}
 
 -- the files of a recording of all data, in the order in which they were created, as the files of a stream
-abbrev pub recorded_stream : SettingsSeen → FileStream → FileStream
+abbrev pub recorded_stream : RunSeen → FileStream → FileStream
 recorded_stream s w = stream_of_recorded w.max_bytes
     (recorded_transfers w s.file_size (length w.starts) (transfer_data w))
 
@@ -24,7 +24,7 @@ HasOffsets w = (k : ℕ) → k < length w.starts →
 
 -- fed in order, the files of a recording of all data are a whole stream with the same data
 abbrev pub RecordedIsReadBack : Type 0
-RecordedIsReadBack = (s : SettingsSeen) (w : FileStream) → AllInRange s → s.recording ≡ true →
+RecordedIsReadBack = (s : RunSeen) (w : FileStream) → RunInRange s → s.recording ≡ true →
     IsRecordable s w → HasOffsets w →
     ((recorded_stream s w).files ≡ map (λ file. file.bytes) (files_of_data w s.file_size))
     × (walk_stop (recorded_stream s w) ≡ walk.Whole)
@@ -32,20 +32,20 @@ RecordedIsReadBack = (s : SettingsSeen) (w : FileStream) → AllInRange s → s.
 
 -- and their transfers, as they are searched, are those of the data that were recorded
 abbrev pub RecordedIsObservedAlike : Type 0
-RecordedIsObservedAlike = (s : SettingsSeen) (w : FileStream) → AllInRange s → s.recording ≡ true →
+RecordedIsObservedAlike = (s : RunSeen) (w : FileStream) → RunInRange s → s.recording ≡ true →
     IsRecordable s w → HasOffsets w →
     observed_transfers (recorded_stream s w) ≡ observed_transfers w
 
 -- settings name the files of a recording in the order in which they were created, and part them into the transfers that
 -- were recorded; these are the bytes of the files
-pub record NamesRecorded (s : SettingsSeen) (w : FileStream) (again : SettingsSeen)
+pub record NamesRecorded (s : RunSeen) (w : FileStream) (again : SettingsSeen)
     (files : List (List ℕ)) : Type 0 where
   pub bytes : files ≡ (recorded_stream s w).files
   pub transfers : again.starts ≡ (recorded_stream s w).starts
 
 -- so every search of the recorded files has the text and the candidates of that search of all data
 abbrev pub RecordedIsSearchedAlike : Type 0
-RecordedIsSearchedAlike = (s : SettingsSeen) (w : FileStream) → AllInRange s → s.recording ≡ true →
+RecordedIsSearchedAlike = (s : RunSeen) (w : FileStream) → RunInRange s → s.recording ≡ true →
     IsRecordable s w → HasOffsets w → (again : SettingsSeen) (files : List (List ℕ)) →
     NamesRecorded s w again files → (search : Search) →
     let observed = observed_transfers (stream_for again files) in
@@ -55,7 +55,7 @@ RecordedIsSearchedAlike = (s : SettingsSeen) (w : FileStream) → AllInRange s �
 -- and nothing stands against a search of the recorded files, which records none itself, where nothing stands against
 -- that search of all data
 abbrev pub RecordedCanBeSearched : Type 0
-RecordedCanBeSearched = (s : SettingsSeen) (w : FileStream) → AllInRange s → s.recording ≡ true →
+RecordedCanBeSearched = (s : RunSeen) (w : FileStream) → RunInRange s → s.recording ≡ true →
     IsRecordable s w → HasOffsets w → (again : SettingsSeen) (files : List (List ℕ)) →
     NamesRecorded s w again files → w.max_bytes ≤ again.max_bytes → again.recording ≡ false →
     CanSearchFirst again.search w (length w.starts) →

@@ -1,6 +1,6 @@
 // Lines of words, and the settings that they say.
 use psr_base::Memory;
-use search_words::{Settings, WordFault};
+use search_words::{RunSettings, Settings, WordFault};
 use std::alloc::Global;
 
 // The words of a search, which a space parts, and whether they are accepted, refused, or out of an option's range.
@@ -80,26 +80,34 @@ fn words_of(alloc: Global, line: &str) -> Result<Vec<String>, Memory> {
     Ok(words)
 }
 
-// The settings that the words say, of a search or of a recording.
-fn settings_of(alloc: Global, line: &str, is_record: bool) -> Result<Settings, WordFault> {
+// Why the words say no settings, of a search or of a recording, or none where they do.
+fn fault_of(alloc: Global, line: &str, is_record: bool) -> Option<WordFault> {
     let Ok(words) = words_of(alloc, line) else {
-        return Err(WordFault::Memory);
+        return Some(WordFault::Memory);
     };
     if is_record {
-        return Settings::of_record(alloc, words.as_slice());
+        return match RunSettings::of_record(alloc, words.as_slice()) {
+            Ok(_) => None,
+            Err(fault) => Some(fault),
+        };
     }
-    Settings::of(alloc, words.as_slice())
+    match Settings::of(alloc, words.as_slice()) {
+        Ok(_) => None,
+        Err(fault) => Some(fault),
+    }
 }
 
 // Whether the words of a line are judged as it says.
 fn is_judged(alloc: Global, line: &str, is_record: bool) -> bool {
     let (words, wanted) = line.split_once('|').unwrap_or((line, ""));
     let wanted = wanted.trim();
-    match settings_of(alloc, words, is_record) {
-        Ok(_) => wanted == "accepted",
-        Err(WordFault::Refused) => wanted == "refused",
-        Err(WordFault::OutOfRange(option)) => wanted.strip_prefix("out of ") == Some(option.name()),
-        Err(WordFault::Memory) => false,
+    match fault_of(alloc, words, is_record) {
+        None => wanted == "accepted",
+        Some(WordFault::Refused) => wanted == "refused",
+        Some(WordFault::OutOfRange(option)) => {
+            wanted.strip_prefix("out of ") == Some(option.name())
+        }
+        Some(WordFault::Memory) => false,
     }
 }
 
@@ -128,41 +136,42 @@ fn is_search(settings: &Settings) -> bool {
 }
 
 // Whether a session has.
-fn is_session(settings: &Settings) -> bool {
-    let is_shaped = settings.buffers == 4 && settings.size == 524288 && settings.hands == 1;
-    let is_long = settings.file_size == 1073741824 && settings.max_bytes == 1099511627776;
-    is_shaped && is_long && settings.recording && settings.turns == 3
+fn is_session(run: &RunSettings) -> bool {
+    let is_shaped = run.buffers == 4 && run.size == 524288 && run.hands == 1;
+    let is_long = run.file_size == 1073741824 && run.max_bytes == 1099511627776;
+    is_shaped && is_long && run.recording && run.turns == 3
 }
 
 // Whether there are two files of one transfer and one of the next.
-fn has_files(settings: &Settings) -> bool {
-    let are_named = match settings.names.as_slice() {
+fn has_files(run: &RunSettings) -> bool {
+    let are_named = match run.names.as_slice() {
         [a, b, c] => a.as_str() == "a" && b.as_str() == "b" && c.as_str() == "c",
         _ => false,
     };
-    are_named && settings.starts.as_slice() == [0, 2].as_slice()
+    are_named && run.starts.as_slice() == [0, 2].as_slice()
 }
 
 // Whether the words of a search give all values.
 fn are_values(alloc: Global) -> bool {
     let line = "--mean 1.5 --sd 2 --snr 7.129 --record a b + c --turns 3";
-    match settings_of(alloc, line, false) {
-        Ok(settings) => { is_search(&settings) && is_session(&settings) && has_files(&settings) }
+    let Ok(words) = words_of(alloc, line) else {
+        return false;
+    };
+    match Settings::of(alloc, words.as_slice()) {
+        Ok(settings) => {
+            is_search(&settings) && is_session(&settings.run) && has_files(&settings.run)
+        }
         Err(_) => false,
     }
 }
 
-// Whether settings are those of a recording, with the defaults of a search.
-fn is_recording(settings: &Settings) -> bool {
-    let search = &settings.search;
-    let is_ruled = search.mean == 0 && search.sd == 1000 && search.snr == 700;
-    is_ruled && search.max_delay == 256 && settings.recording && settings.size == 4096
-}
-
-// Whether the words of a recording give them.
+// Whether the words of a recording give a size and else the defaults, and ask for it.
 fn are_defaults(alloc: Global) -> bool {
-    match settings_of(alloc, "--size 4096 a", true) {
-        Ok(settings) => is_recording(&settings),
+    let Ok(words) = words_of(alloc, "--size 4096 a") else {
+        return false;
+    };
+    match RunSettings::of_record(alloc, words.as_slice()) {
+        Ok(run) => run.recording && run.size == 4096 && run.buffers == 4 && run.hands == 1,
         Err(_) => false,
     }
 }

@@ -12,8 +12,8 @@ use Rattle.psr_beams.proofs.drive.drive.Goals as goal
 pub open_all-requires-clause-headers : goal.open_all-requires-clause-headers
 open_all-requires-clause-headers g c = λ lifetimes lives.
     let s = settings_seen c.args.said.now.settings in
-    let count = length c.args.said.now.settings.names.items in
-    let same = length-map c.args.said.now.settings.names.items string_bytes in
+    let count = length c.args.said.now.settings.run.names.items in
+    let same = length-map c.args.said.now.settings.run.names.items string_bytes in
     let least = c.requires.beams.0 in
     let most = c.requires.beams.1 in
     let lent = c.requires.lent in
@@ -28,8 +28,8 @@ open_all-requires-clause-headers g c = λ lifetimes lives.
 pub returns-in-Err-open_all : goal.returns-in-Err-open_all
 returns-in-Err-open_all g c =
     let s = settings_seen c.args.said.now.settings in
-    let count = length c.args.said.now.settings.names.items in
-    let same = length-map c.args.said.now.settings.names.items string_bytes in
+    let count = length c.args.said.now.settings.run.names.items in
+    let same = length-map c.args.said.now.settings.run.names.items string_bytes in
     let least = c.requires.beams.0 in
     let most = c.requires.beams.1 in
     let lent = c.requires.lent in
@@ -44,8 +44,8 @@ returns-in-Err-open_all g c =
 pub run_joined-ends-requires-after_bounds : goal.run_joined-ends-requires-after_bounds
 run_joined-ends-requires-after_bounds g c = λ lifetimes lives.
     let s = settings_seen c.args.said.now.settings in
-    let count = length c.args.said.now.settings.names.items in
-    let same = length-map c.args.said.now.settings.names.items string_bytes in
+    let count = length c.args.said.now.settings.run.names.items in
+    let same = length-map c.args.said.now.settings.run.names.items string_bytes in
     let least = c.requires.beams.0 in
     let most = c.requires.beams.1 in
     let lent = c.requires.lent in
@@ -66,8 +66,8 @@ run_joined-ends-requires-after_bounds g c = λ lifetimes lives.
 pub write_end-requires-clause-found : goal.write_end-requires-clause-found
 write_end-requires-clause-found g c =
     let s = settings_seen c.args.said.now.settings in
-    let count = length c.args.said.now.settings.names.items in
-    let same = length-map c.args.said.now.settings.names.items string_bytes in
+    let count = length c.args.said.now.settings.run.names.items in
+    let same = length-map c.args.said.now.settings.run.names.items string_bytes in
     let least = c.requires.beams.0 in
     let most = c.requires.beams.1 in
     let lent = c.requires.lent in
@@ -96,8 +96,8 @@ write_end-requires-clause-found g c =
 pub returns : goal.returns
 returns g c =
     let s = settings_seen c.args.said.now.settings in
-    let count = length c.args.said.now.settings.names.items in
-    let same = length-map c.args.said.now.settings.names.items string_bytes in
+    let count = length c.args.said.now.settings.run.names.items in
+    let same = length-map c.args.said.now.settings.run.names.items string_bytes in
     let least = c.requires.beams.0 in
     let most = c.requires.beams.1 in
     let lent = c.requires.lent in

@@ -12,8 +12,8 @@ pub returns-in-Ok-begin-clause-begun : goal.returns-in-Ok-begin-clause-begun
 returns-in-Ok-begin-clause-begun g c =
     let s = settings_seen c.args.settings.now in
     let name = beam_name s c.args.beam in
-    let starts = only_start s.starts (length s.names) c.requires.range.transfers c.requires.one.transfer in
-    let names = one_slice string_bytes c.deref.result.now c.args.settings.now.names.items c.args.beam
+    let starts = only_start s.starts (length s.names) c.requires.range.run.transfers c.requires.one.transfer in
+    let names = one_slice string_bytes c.deref.result.now c.args.settings.now.run.names.items c.args.beam
     c.deref.ensures.value c.requires.there in
     let at = (c.rests.ensures _ _ _ _ c.in-Ok.ensures).0 in
     let plan = subst (λ st. HasPlan (at_rest c.in-Ok.space) (name ∷ []) st s.size s.max_bytes) c.as_slice.ensures.value
@@ -26,8 +26,8 @@ pub returns-in-Ok-begin-clause-read : goal.returns-in-Ok-begin-clause-read
 returns-in-Ok-begin-clause-read g c =
     let s = settings_seen c.args.settings.now in
     let name = beam_name s c.args.beam in
-    let starts = only_start s.starts (length s.names) c.requires.range.transfers c.requires.one.transfer in
-    let names = one_slice string_bytes c.deref.result.now c.args.settings.now.names.items c.args.beam
+    let starts = only_start s.starts (length s.names) c.requires.range.run.transfers c.requires.one.transfer in
+    let names = one_slice string_bytes c.deref.result.now c.args.settings.now.run.names.items c.args.beam
     c.deref.ensures.value c.requires.there in
     let at = (c.rests.ensures _ _ _ _ c.in-Ok.ensures).0 in
     let plan = subst (λ st. HasPlan (at_rest c.in-Ok.space) (name ∷ []) st s.size s.max_bytes) c.as_slice.ensures.value
@@ -43,8 +43,8 @@ pub returns-clause-stopped : goal.returns-clause-stopped
 returns-clause-stopped g c =
     let s = settings_seen c.args.settings.now in
     let name = beam_name s c.args.beam in
-    let starts = only_start s.starts (length s.names) c.requires.range.transfers c.requires.one.transfer in
-    let names = one_slice string_bytes c.deref.result.now c.args.settings.now.names.items c.args.beam
+    let starts = only_start s.starts (length s.names) c.requires.range.run.transfers c.requires.one.transfer in
+    let names = one_slice string_bytes c.deref.result.now c.args.settings.now.run.names.items c.args.beam
     c.deref.ensures.value c.requires.there in
     let at = (c.rests.ensures _ _ _ _ c.in-Ok.ensures).0 in
     let plan = subst (λ st. HasPlan (at_rest c.in-Ok.space) (name ∷ []) st s.size s.max_bytes) c.as_slice.ensures.value

@@ -1,7 +1,4 @@
-use Rattle.std.proofs.Common.{sym, ◌∙◌}
 use Rattle.psr_mask.proofs.Endings.{outcome}
-use Rattle.psr_mask.proofs.Statuses.{memory_is}
-use Rattle.psr_mask.proofs.Faults.{six_is}
 use Rattle.psr_mask.proofs.top.run_mask.Goals as goal
 
 pub returns-clause-outcome : goal.returns-clause-outcome
@@ -10,9 +7,7 @@ returns-clause-outcome g c =
     c.tell_mask-status.ensures.status (c.tell_mask-status.ensures.told _ _ c.search-stop.ensures.ends.said)
 
 pub returns-clause-early : goal.returns-clause-early
-returns-clause-early g c = λ five.
-    c.search-stop.ensures.early (memory_is _ (sym c.tell_mask-status.ensures.status ∙ five))
+returns-clause-early g c = λ five. c.search-stop.ensures.early (c.tell_mask-status.ensures.memory five)
 
 pub returns-clause-broken : goal.returns-clause-broken
-returns-clause-broken g c = λ six.
-    c.search-stop.ensures.broken (six_is _ (sym c.tell_mask-status.ensures.status ∙ six))
+returns-clause-broken g c = λ six. c.search-stop.ensures.broken (c.tell_mask-status.ensures.read_fault six)

@@ -1,6 +1,4 @@
-use Rattle.std.proofs.Common.{sym, ◌∙◌}
-use Rattle.psr_part.proofs.Endings.{outcome, memory_stop}
-use Rattle.psr_part.proofs.Faults.{six_is}
+use Rattle.psr_part.proofs.Endings.{outcome}
 use Rattle.psr_part.proofs.top.run_part.Goals as goal
 
 pub returns-clause-outcome : goal.returns-clause-outcome
@@ -9,9 +7,7 @@ returns-clause-outcome g c =
     (λ from said. c.tell_part-status.ensures.told _ from _ _ said)
 
 pub returns-clause-early : goal.returns-clause-early
-returns-clause-early g c = λ five.
-    c.search-stop.ensures.early (memory_stop _ (sym c.tell_part-status.ensures.status ∙ five))
+returns-clause-early g c = λ five. c.search-stop.ensures.early (c.tell_part-status.ensures.memory five)
 
 pub returns-clause-broken : goal.returns-clause-broken
-returns-clause-broken g c = λ six.
-    c.search-stop.ensures.broken (six_is _ (sym c.tell_part-status.ensures.status ∙ six))
+returns-clause-broken g c = λ six. c.search-stop.ensures.broken (c.tell_part-status.ensures.read_fault six)

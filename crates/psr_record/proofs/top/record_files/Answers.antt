@@ -14,6 +14,7 @@ use Rattle.psr_record.proofs.top.record_files.Goals as goal
 pub drive-requires-clause-drivable : goal.drive-requires-clause-drivable
 drive-requires-clause-drivable g c = λ lifetimes lives. record {
   range = c.in-Ok.ensures.in_range;
+  search = tt;
   records = λ alone. records _ _ c.in-Ok.ensures.says;
 }
 

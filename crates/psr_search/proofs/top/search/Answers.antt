@@ -15,7 +15,8 @@ use Rattle.psr_search.proofs.top.search.Goals as goal
 
 pub drive-requires-clause-drivable : goal.drive-requires-clause-drivable
 drive-requires-clause-drivable g c = λ lifetimes lives. record {
-  range = c.in-Ok.ensures.in_range;
+  range = c.in-Ok.ensures.in_range.run;
+  search = c.in-Ok.ensures.in_range.search;
   records = λ alone. absurd cc;
 }
 
@@ -37,9 +38,9 @@ returns-in-Ok-drive-clause-ends g c =
       recorded = driven.recorded _ says;
       read = record { rose = r.inputs.rose; quiet = r.inputs.quiet; count = r.inputs.count; serves = r.serves };
     })
-    (driven.cleared.shards refl) driven.cleared.recorder (c.end_at_stop.ensures c.args.inputs.now)
+    driven.cleared.shards driven.cleared.recorder (c.end_at_stop.ensures c.args.inputs.now)
     (c.end_after_whole.ensures c.args.inputs.now) _ _ c.write_end-stop.result c.write_end-stop.ensures.stopped
-    (λ bytes is. let h = driven.held refl bytes is in record {
+    (λ bytes is. let h = driven.held bytes is in record {
       transfers = h.transfers;
       known = h.known;
       ended = c.write_end-stop.ensures.ended h.transfers h.held;
@@ -81,7 +82,7 @@ returns-in-Ok-drive-clause-broken g c = λ failed.
     let found = c.in-Ok-drive.found in
     r.leaves.broken
     (fed_fault found.feed _ found.recorded _ _ c.write_end-stop.result c.write_end-stop.ensures.stopped
-    (λ bytes is. let h = r.driven.held refl bytes is in
+    (λ bytes is. let h = r.driven.held bytes is in
     (h.transfers, c.write_end-stop.ensures.ended h.transfers h.held)) failed)
     _ c.in-Ok.ensures.says
 
