@@ -3,8 +3,8 @@ use Rattle.std.proofs.Common.{◌≡◌, ℕ, ◌+◌, ◌-◌, ◌*◌, ◌/◌
 use Rattle.std.proofs.lemmas.List.{get_or-map, take-map, drop-map}
 use Rattle.std.proofs.Math.Nat.{mod-add-mod, mod-lt}
 use Rattle.search_model.specs.Folds.{shift, fold_sum}
-use Rattle.fast_fold.specs.Excess.{capped, excesses, excess_sum, IsGreatestExcess}
-use Rattle.fast_fold.specs.Tiles.{capped_sum}
+use Rattle.fdmt_rows.specs.Capped.{capped, capped_sum}
+use Rattle.fast_fold.specs.Excess.{excesses, excess_sum, IsGreatestExcess}
 use Rattle.fast_fold.proofs.Halves.{fold_halves, of_rows}
 use Rattle.fast_fold.proofs.Ranges.{same_terms}
 

@@ -8,8 +8,8 @@ use mir.Syntax.{Width}
 use mir.Val.{bits, hbits}
 use Rattle.std.proofs.lemmas.List.{get_or_past, get_or-take, get_or-drop}
 use Rattle.std.proofs.lemmas.Simd.{get_or-put_chunk_below, get_or-put_chunk_at, get_or-put_chunk_above, get_or-replicate, length-replicate, tops_compared, length-zip2, get_or-zip2, length-sel_l, get_or-sel_l}
+use Rattle.fdmt_rows.specs.Capped.{AreRaised}
 use Rattle.fdmt_rows.specs.Writes.{Writes}
-use Rattle.fast_fold.specs.Tiles.{capped_sum, AreRaised, LanesUpTo, SumsUpTo}
 
 -- lanes that are stored at a place
 pub stored : (xs lanes : List ℕ) (at n : ℕ) (value : ℕ → ℕ) → length lanes ≡ n → at + n ≤ length xs
@@ -33,42 +33,6 @@ written_as old new i j value same writes is = record {
   before = writes.before;
   written = λ k low high. writes.written k low high ∙ is k low high;
   after = writes.after;
-}
-
--- one step more
-pub more : (old mid new : List ℕ) (i j n : ℕ) (value step : ℕ → ℕ) → i ≤ j → j ≡ n
-    → Writes old mid 0 i value → Writes mid new i j step
-    → ((k : ℕ) → i ≤ k → k < j → step k ≡ value k)
-    → Writes old new 0 n value
-more old mid new i j n value step le end so_far one same = record {
-  before = λ k h. absurd (omega arith);
-  written = λ k low high. elim (cases_lt k i) [
-    | inl h ↦ one.before k h ∙ so_far.written k low h
-    | inr h ↦ one.written k h (omega arith) ∙ same k h (omega arith)
-  ];
-  after = λ k h. one.after k (omega arith) ∙ so_far.after k (omega arith);
-}
-
--- no lane is above a bound where none of sixteen is
-pub lanes_up_to : (lanes : List ℕ) (bound : ℕ) → length lanes ≡ 16
-    → ((lane : ℕ) → lane < 16 → slice_index lanes lane ≤ bound) → LanesUpTo lanes bound
-lanes_up_to lanes bound long each lane = elim (cases_lt lane 16) [
-  | inl h ↦ each lane h
-  | inr h ↦ subst (λ (x : ℕ). x ≤ bound) (sym (get_or_past lanes lane 0 (omega arith))) (omega arith)
-]
-
--- lanes that are the greater of two
-pub raised_by_greater : (a b new : List ℕ) → length a ≡ 16 → length b ≡ 16 → length new ≡ 16
-    → ((j : ℕ) → j < 16 → slice_index new j ≡ max (slice_index a j) (slice_index b j))
-    → AreRaised a new (LanesUpTo b)
-raised_by_greater a b new in_a in_b long is = record {
-  long = long;
-  before = λ bound up. lanes_up_to a bound in_a
-      (λ j lt. let e = is j lt in let u = up j in grind (arith, e, u));
-  enough = λ bound up. lanes_up_to b bound in_b
-      (λ j lt. let e = is j lt in let u = up j in grind (arith, e, u));
-  least = λ bound up_a up_b. lanes_up_to new bound long
-      (λ j lt. let e = is j lt in let u = up_a j in let v = up_b j in grind (arith, e, u, v));
 }
 
 -- lanes that are raised to nothing
@@ -113,34 +77,6 @@ turned_at row turn k lt =
     ∙ get_or-drop turn row k 0
     ∙ ap (λ i. slice_index row i) (let e : turn + k ≡ k + turn = omega arith in e)
 
--- raised to sixteen sums more
-pub raised_further : (old mid new lanes first second : List ℕ) (turn done next : ℕ) → done + 16 ≡ next
-    → length lanes ≡ 16
-    → turn + next ≤ length second
-    → ((k : ℕ) → k < 16 → slice_index lanes k
-    ≡ capped_sum (slice_index first (done + k))
-    (slice_index (take (length second - turn) (drop turn second)) (done + k)))
-    → AreRaised old mid (SumsUpTo first second turn done) → AreRaised mid new (LanesUpTo lanes)
-    → AreRaised old new (SumsUpTo first second turn next)
-raised_further old mid new lanes first second turn done next is_next long room sums so_far one =
-    let is : (k : ℕ) → k < 16 → slice_index lanes k
-    ≡ capped_sum (slice_index first (done + k)) (slice_index second (done + k + turn)) =
-    λ k lt. sums k lt
-    ∙ ap (λ y. capped_sum (slice_index first (done + k)) y) (turned_at second turn (done + k) (omega arith)) in
-    raised_twice old mid new (SumsUpTo first second turn done) (LanesUpTo lanes) (SumsUpTo first second turn next)
-    so_far one
-    (λ bound before after k lt. elim (cases_lt k done) [
-      | inl h ↦ before k h
-      | inr h ↦
-          let j : ℕ = k - done in
-          let at : done + j ≡ k = omega arith in
-          let P : ℕ → Type 0 = λ i. capped_sum (slice_index first i) (slice_index second (i + turn)) ≤ bound in
-          subst P at (subst (λ (x : ℕ). x ≤ bound) (is j (omega arith)) (after j))
-    ])
-    (λ bound all k lt. all k (omega arith))
-    (λ bound all. lanes_up_to lanes bound long
-    (λ j lt. subst (λ (x : ℕ). x ≤ bound) (sym (is j lt)) (all (done + j) (omega arith))))
-
 -- the greater of two lanes
 pub greater_is_max : (x y z : ℕ) → y ≡ z → cond (ltb x y) y x ≡ max x z
 greater_is_max x y z e = grind (arith, nat_tests)
@@ -155,12 +91,8 @@ zero_lanes lane = elim (cases_lt lane 16) [
 -- the lesser of two lanes
 pub lesser_is_min : (x y : ℕ) → cond (ltb x y) x y ≡ min x y
 lesser_is_min x y =
-    cond_both (ltb x y) x y (λ z. z ≡ min x y) (λ e. omega (arith, ltb-true x y e)) (λ e. omega (arith, ltb-false x y e))
-
--- a sum past 16 bits
-pub saturated : (x y z : ℕ) → x < 65536 → z ≡ 65535 - x → (x + cond (ltb y z) y z) % 2 ^ 16 ≡ capped_sum x y
-saturated x y z small is =
-    ap (λ m. (x + m) % 2 ^ 16) (lesser_is_min y z) ∙ omega arith
+    cond_both (ltb x y) x y (λ z. z ≡ min x y) (λ e. omega (arith, ltb-true x y e))
+    (λ e. omega (arith, ltb-false x y e))
 
 -- lanes that are chosen by a comparison
 abbrev pub chosen : Width → List ℕ → List ℕ → List ℕ → List ℕ → List ℕ

@@ -5,9 +5,10 @@ use Rattle.std.proofs.lemmas.List.{get_or-take, get_or-drop, get_or_append_left,
 use Rattle.std.proofs.lemmas.Nat.{mul-add-lt}
 use Rattle.std.proofs.Math.Nat.{mod-lt, mod-eq_of_lt, mod-add-mod, mod-eq-sub-mod, mul-le-mul_right}
 use borrow.Rule.Slice.PartMut.{put_mid}
-use Rattle.fast_fold.specs.Excess.{capped, excesses, excess_sum, ExcessUpTo, IsGreatestExcess}
+use Rattle.fdmt_rows.specs.Capped.{capped, capped_sum, AreRaised, LanesUpTo, SumsUpTo}
+use Rattle.fast_fold.specs.Excess.{excesses, excess_sum, ExcessUpTo, IsGreatestExcess}
 use Rattle.fast_fold.specs.Merging.{at}
-use Rattle.fast_fold.specs.Tiles.{capped_sum, AreRaised, LanesUpTo, SumsUpTo, merged_sum, AreMergedTrials, MergedUpTo, AreTrials, AreTrialsOfHalves, TrialsUpTo}
+use Rattle.fast_fold.specs.Tiles.{merged_sum, AreMergedTrials, MergedUpTo, AreTrials, AreTrialsOfHalves, TrialsUpTo}
 use Rattle.fast_fold.proofs.Blocks.{first_half, second_half}
 use Rattle.fast_fold.proofs.Excess.{phase_within, excess_halves, excess_of_rows, excess_of_row}
 use Rattle.fast_fold.proofs.Halves.{twice}

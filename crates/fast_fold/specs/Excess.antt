@@ -1,11 +1,8 @@
 -- What fold sums have above a base, in 16 bits.
 -- Source: this project's choice.
-use Rattle.std.specs.Prelude.{ℕ, ◌-◌, ◌^◌, ◌<◌, ◌≤◌, List, map, min}
+use Rattle.std.specs.Prelude.{ℕ, ◌-◌, ◌^◌, ◌<◌, ◌≤◌, List, map}
+use Rattle.fdmt_rows.specs.Capped.{capped}
 use Rattle.search_model.specs.Folds.{fold_sum}
-
--- a number in 16 bits: the greatest one stands for itself and for all that are greater
-abbrev pub capped : ℕ → ℕ
-capped n = min n 65535
 
 -- what each value has above a base
 abbrev pub excesses : ℕ → List ℕ → List ℕ

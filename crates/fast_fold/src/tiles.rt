@@ -1,11 +1,13 @@
 // The greatest sum of all trials of a period, by halves, some phases of all trials at a time: so few that the rows of a
 // tile stay in the first cache. The last halving is not stored.
 ghost use Rattle.std.specs.Prelude.{◌≡◌, ℕ, ◌+◌, ◌-◌, ◌*◌, ◌%◌, ◌^◌, ◌<◌, ◌≤◌, length, slice_index};
-ghost use Rattle.fast_fold.specs.Excess.{capped, IsGreatestExcess};
-ghost use Rattle.fast_fold.specs.Tiles.{capped_sum, AreRaised, AreMergedTrials, MergedUpTo, AreTrials, AreTrialsOfHalves, TrialsUpTo};
+ghost use Rattle.fdmt_rows.specs.Capped.{capped, capped_sum, AreRaised};
+ghost use Rattle.fast_fold.specs.Excess.{IsGreatestExcess};
+ghost use Rattle.fast_fold.specs.Tiles.{AreMergedTrials, MergedUpTo, AreTrials, AreTrialsOfHalves, TrialsUpTo};
 
-use crate::lanes::{LANES, add_rows, greatest_lane, raise_to_sums, write_excess};
+use crate::lanes::write_excess;
 use crate::powers::power;
+use fdmt_rows::{LANES, add_capped_rows, greatest_lane, raise_to_sums};
 use std::simd::prelude::*;
 
 /// The most halvings of a tile.
@@ -58,8 +60,8 @@ fn merge_pair(pair: &mut [u16], first: &[u16], second: &[u16], turn: usize, step
         ≡ capped_sum (slice_index first.now x) (slice_index second.now (x + (turn + 1))) }
 {
     let (even, odd) = pair.split_at_mut(first.len());
-    add_rows(even, first, &second[turn..], steps);
-    add_rows(odd, first, &second[turn + 1..], steps);
+    add_capped_rows(even, first, &second[turn..], steps);
+    add_capped_rows(odd, first, &second[turn + 1..], steps);
 }
 
 // Merges the trials of both halves, so many of each.

@@ -1,5 +1,6 @@
 pub mod Steps
 pub mod GreatestValues
 pub mod Sums
+pub mod Raising
 pub mod AddedMaxima
 pub mod Worked

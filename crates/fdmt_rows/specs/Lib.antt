@@ -1,3 +1,4 @@
+pub mod Capped
 pub mod Lanes
 pub mod Rows
 pub mod Writes

@@ -6,13 +6,16 @@ ghost use Rattle.std.specs.Prelude.{◌≡◌, ℕ, ◌+◌, ◌-◌, ◌<◌, �
 ghost use Rattle.fdmt_rows.specs.Rows.{AddsWrapping, AddsPlainly, IsGreatest, sum_from};
 
 mod adding_maxima;
+mod capped;
 mod copies;
 mod lanes;
 mod maxima;
 mod narrow;
 
 pub use adding_maxima::add_rows_greatest;
+pub use capped::{add_capped_rows, greatest_lane, greatest_narrow_sum, raise_to_sums};
 pub use copies::{copy_narrow_row, copy_row};
+pub use lanes::LANES;
 use lanes::{add_to_whole_lanes, add_whole_lanes, widen_whole_lanes};
 use maxima::{greatest_lanes, greatest_of_lanes};
 pub use narrow::{

@@ -1,7 +1,7 @@
 use Rattle.std.proofs.Common.{◌≡◌, ℕ, ◌+◌, ◌-◌, ◌%◌, ◌^◌, cond, ltb, length, slice_index, get_or, replicate, sym, ap, ◌∙◌, arith, w32}
 use Rattle.std.specs.Simd.Lanes.{zip2, chunk}
 use Rattle.std.proofs.lemmas.Simd.{length-chunk, get_or-chunk, length-replicate, get_or-replicate, length-zip2, get_or-zip2}
-use Rattle.fast_fold.specs.Excess.{capped}
+use Rattle.fdmt_rows.specs.Capped.{capped}
 use Rattle.fast_fold.proofs.Raising.{chosen, chosen_length, chosen_at, excess_is}
 use Rattle.fast_fold.proofs.lanes.excess_at.Goals as goal
 

@@ -2,7 +2,7 @@ use Rattle.std.proofs.Common.{◌≡◌, ℕ, ◌+◌, ◌-◌, ◌%◌, ◌<◌
 use Rattle.std.specs.Simd.Lanes.{zip2}
 use Rattle.std.proofs.lemmas.List.{get_or-map}
 use Rattle.std.proofs.lemmas.Simd.{Each1-all, Each1-from_get_or, Each2-splat, get_or-zip2, get_or-replicate, length-zip2, length-replicate}
-use Rattle.fast_fold.specs.Excess.{capped}
+use Rattle.fdmt_rows.specs.Capped.{capped}
 use Rattle.fast_fold.proofs.Raising.{written_as}
 use Rattle.fast_fold.proofs.lanes.excess_lanes.Goals as goal
 

@@ -1,6 +1,6 @@
 use Rattle.std.proofs.Common.{◌-◌, ◌*◌, slice_index}
+use Rattle.fdmt_rows.specs.Capped.{capped}
 use Rattle.fdmt_rows.specs.Writes.{Writes}
-use Rattle.fast_fold.specs.Excess.{capped}
 use Rattle.fast_fold.proofs.lanes.excess_whole_lanes.Given as goal
 
 abbrev pub invariant-loop-step : goal.invariant-loop-step

@@ -1,6 +1,6 @@
 use Rattle.std.proofs.Common.{◌-◌, slice_index}
+use Rattle.fdmt_rows.specs.Capped.{capped}
 use Rattle.fdmt_rows.specs.Writes.{Writes}
-use Rattle.fast_fold.specs.Excess.{capped}
 use Rattle.fast_fold.proofs.lanes.write_excess.Given as goal
 
 abbrev pub invariant-loop-k : goal.invariant-loop-k

@@ -2,8 +2,9 @@ use Rattle.std.proofs.Common.{◌≡◌, ℕ, ◌+◌, ◌-◌, ◌*◌, ◌/◌
 use Rattle.std.proofs.lemmas.List.{length-take-le}
 use Rattle.std.proofs.lemmas.Simd.{length-replicate}
 use Rattle.std.proofs.Math.Nat.{mul-le-mul_left}
+use Rattle.fdmt_rows.specs.Capped.{AreRaised}
 use Rattle.fast_fold.specs.Excess.{IsGreatestExcess}
-use Rattle.fast_fold.specs.Tiles.{AreRaised, TrialsUpTo}
+use Rattle.fast_fold.specs.Tiles.{TrialsUpTo}
 use Rattle.fast_fold.proofs.Halves.{twice}
 use Rattle.fast_fold.proofs.Raising.{raised_to_none, zero_lanes}
 use Rattle.fast_fold.proofs.Tiling.{raised_tile, greatest_of_all}

@@ -1,6 +1,6 @@
 use Rattle.std.proofs.Common.{◌+◌, ◌-◌, ◌≤◌, replicate}
+use Rattle.fdmt_rows.specs.Capped.{AreRaised}
 use Rattle.fast_fold.specs.Excess.{ExcessUpTo}
-use Rattle.fast_fold.specs.Tiles.{AreRaised}
 use Rattle.fast_fold.proofs.tiles.greatest_excess.Given as goal
 
 -- the phases so far were looked at

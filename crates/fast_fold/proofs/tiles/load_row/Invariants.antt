@@ -1,5 +1,5 @@
 use Rattle.std.proofs.Common.{◌≡◌, ℕ, ◌+◌, ◌-◌, ◌%◌, ◌<◌, ◌≤◌, length, slice_index}
-use Rattle.fast_fold.specs.Excess.{capped}
+use Rattle.fdmt_rows.specs.Capped.{capped}
 use Rattle.fast_fold.proofs.tiles.load_row.Given as goal
 
 -- the places so far are filled

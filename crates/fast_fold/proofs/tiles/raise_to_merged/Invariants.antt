@@ -1,5 +1,6 @@
 use Rattle.std.proofs.Common.{◌*◌}
-use Rattle.fast_fold.specs.Tiles.{AreRaised, MergedUpTo}
+use Rattle.fdmt_rows.specs.Capped.{AreRaised}
+use Rattle.fast_fold.specs.Tiles.{MergedUpTo}
 use Rattle.fast_fold.proofs.tiles.raise_to_merged.Given as goal
 
 abbrev pub invariant-loop-j : goal.invariant-loop-j

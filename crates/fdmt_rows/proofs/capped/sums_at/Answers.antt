@@ -2,9 +2,9 @@ use Rattle.std.proofs.Common.{◌≡◌, ◌+◌, ◌-◌, ◌%◌, ◌^◌, fal
 use lib.Lanes.{zip2, sel_l, chunk}
 use Rattle.std.proofs.lemmas.List.{get_or-map, length-map}
 use Rattle.std.proofs.lemmas.Simd.{tops_compared, length-zip2, length-chunk, length-sel_l, get_or-chunk, get_or-sel_l, get_or-zip2}
-use Rattle.fast_fold.specs.Tiles.{capped_sum}
-use Rattle.fast_fold.proofs.Raising.{saturated}
-use Rattle.fast_fold.proofs.lanes.sums_at.Goals as goal
+use Rattle.fdmt_rows.specs.Capped.{capped_sum}
+use Rattle.fdmt_rows.proofs.Raising.{saturated}
+use Rattle.fdmt_rows.proofs.capped.sums_at.Goals as goal
 
 -- the second of two rows of lanes, so far as there is room above the first
 pub returns-clause-long : goal.returns-clause-long

@@ -1,6 +1,6 @@
 use Rattle.std.proofs.Common.{◌*◌, arith}
-use Rattle.fast_fold.proofs.Raising.{raised_further, raised_to_none}
-use Rattle.fast_fold.proofs.lanes.raise_to_sums.Goals as goal
+use Rattle.fdmt_rows.proofs.Raising.{raised_further, raised_to_none}
+use Rattle.fdmt_rows.proofs.capped.raise_to_sums.Goals as goal
 
 pub loop-step-init : goal.loop-step-init
 loop-step-init c = raised_to_none c.args.most _ c.requires.long (λ bound k lt. absurd (omega arith))

@@ -1,6 +1,6 @@
 use Rattle.std.proofs.Common.{ℕ, ◌<◌, ◌≤◌, slice_index}
-use Rattle.fast_fold.specs.Tiles.{LanesUpTo}
-use Rattle.fast_fold.proofs.lanes.greatest_lane.Given as goal
+use Rattle.fdmt_rows.specs.Capped.{LanesUpTo}
+use Rattle.fdmt_rows.proofs.capped.greatest_lane.Given as goal
 
 abbrev pub invariant-loop-lane : goal.invariant-loop-lane
 invariant-loop-lane l = record {

@@ -1,8 +1,9 @@
 use Rattle.std.proofs.Common.{◌≡◌, false, refl, cond, ltb, length, get_or, ap, ◌∙◌, arith, w16}
 use lib.Lanes.{zip2, sel_l}
 use Rattle.std.proofs.lemmas.Simd.{tops_compared, length-zip2, length-sel_l, get_or-sel_l, get_or-zip2}
-use Rattle.fast_fold.proofs.Raising.{greater_is_max, raised_by_greater}
-use Rattle.fast_fold.proofs.lanes.greater.Goals as goal
+use Rattle.fdmt_rows.proofs.Raising.{raised_by_greater}
+use Rattle.fdmt_rows.proofs.Steps.{greater_is_max}
+use Rattle.fdmt_rows.proofs.capped.greater.Goals as goal
 
 pub returns : goal.returns
 returns c =

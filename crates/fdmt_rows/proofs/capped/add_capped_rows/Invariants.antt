@@ -1,7 +1,7 @@
 use Rattle.std.proofs.Common.{◌*◌, slice_index}
 use Rattle.fdmt_rows.specs.Writes.{Writes}
-use Rattle.fast_fold.specs.Tiles.{capped_sum}
-use Rattle.fast_fold.proofs.lanes.add_rows.Given as goal
+use Rattle.fdmt_rows.specs.Capped.{capped_sum}
+use Rattle.fdmt_rows.proofs.capped.add_capped_rows.Given as goal
 
 abbrev pub invariant-loop-step : goal.invariant-loop-step
 invariant-loop-step l =
