@@ -4,6 +4,7 @@ use Rattle.std.proofs.lemmas.Bool.{cases_lt, cases_eq}
 use Rattle.std.proofs.lemmas.List.{get_or-replicate, get_or_past, length-replicate}
 use Rattle.std.proofs.lemmas.Option.{slice_get-get_or}
 use Rattle.std.proofs.Math.Nat.{mod-eq_of_lt}
+use Rattle.row_model.specs.declared.Merge.{Merge}
 use Rattle.row_model.specs.declared.Rows.{Rows}
 use Rattle.row_model.specs.declared.Source.{Source}
 use Rattle.row_model.specs.declared.Source.TheVariants.{Channel, Sum}
@@ -13,22 +14,23 @@ use Rattle.row_schedule.specs.declared.step.Step.{Step}
 use Rattle.row_schedule.specs.Samples.{AreNext}
 use Rattle.row_schedule.specs.Orders.{holds, is_made}
 use Rattle.row_schedule.specs.Schedules.{Scheduled}
-use Rattle.row_schedule.specs.Steps.{AreApart, makes_narrow, upper_narrow, lower_narrow, step_at}
+use Rattle.row_schedule.specs.declared.step.Kind.TheVariants.{AddWidened}
+use Rattle.row_schedule.specs.Steps.{AreApart, copies, makes_narrow, upper_narrow, lower_narrow, step_at}
 use Rattle.row_schedule.specs.Layout.{hold_of, slot_narrow, tail_of, wide_hold}
 use Rattle.row_schedule.specs.Follows.{Follows, IsStep, BeginsAt}
-use Rattle.row_schedule.specs.Running.{Stores, Kept, KeepsRow, SlotHas, Running, kept_of, list_of, stores}
+use Rattle.row_schedule.specs.Running.{Stores, IsLast, IsUsed, Kept, KeepsRow, SlotHas, Running, Stands, kept_of, list_of, stores}
 use Rattle.row_schedule.specs.Making.{StepMade, next_value}
 use Rattle.row_schedule.specs.Moving.{AreWidened, AreNarrowed}
 use Rattle.row_schedule.specs.Laws.{BeginEmpty}
 use Rattle.row_schedule.proofs.Holding.{MakesIn, holds_here, holds_made, holds_none, holds_other, made_here, made_none, made_other, row_at, slot_at}
 use Rattle.row_schedule.proofs.Keeping.{kept_apart}
-use Rattle.row_schedule.proofs.Values.{value_later, value_now, summed_value, sampled_value}
+use Rattle.row_schedule.proofs.Values.{value_at, value_later, value_now, summed_value, sampled_value}
 
 -- no order was carried out
 pub begins : (rows : Rows) (s : Scheduled) (y : Sums) (u spectra : ℕ) (st : Stores) → Kept rows s.narrow y u st →
     Running rows s y u spectra 0 st
 begins rows s y u spectra st kept = record {
-  slots = λ slot r has. let none = holds_none s.orders slot in absurd cc;
+  slots = λ slot r has _. let none = holds_none s.orders slot in absurd cc;
   made = λ r lt made. let none = made_none s.orders r in absurd cc;
   others = λ r lt _. kept r lt;
 }
@@ -45,6 +47,29 @@ ends rows s y u spectra st follows running r lt =
     by_tail false e = λ i small.
         let all = follows.all r lt (omega arith) in
         absurd cc
+
+-- one whose row is a last one was left out
+pub left_out : (rows : Rows) (s : Scheduled) (y : Sums) (u spectra j : ℕ) (st : Stores) →
+    IsLast rows (row_at s.orders j) → Running rows s y u spectra j st → Running rows s y u spectra (j + 1) st
+left_out rows s y u spectra j st last running = rw add-one (record {
+  slots = λ slot r has used. elim (cases_eq (slot_at s.orders j) slot) [
+    | inl same ↦
+        let here = holds_here s.orders j slot same in
+        let row : r ≡ row_at s.orders j = cc in
+        absurd (last.unused (subst (λ r. IsUsed rows r) row used))
+    | inr other ↦ running.slots slot r (sym (holds_other s.orders j slot other) ∙ has) used
+  ];
+  made = λ r lt made. elim (cases_eq (row_at s.orders j) r) [
+    | inl same ↦ λ i small.
+        let nothing : tail_of rows r ≡ 0 = ap (tail_of rows) (sym same) ∙ last.nothing_kept in
+        absurd (omega arith)
+    | inr other ↦ running.made r lt (sym (made_other s.orders j r other) ∙ made)
+  ];
+  others = λ r lt not_made. elim (cases_eq (row_at s.orders j) r) [
+    | inl same ↦ absurd (let made = made_here s.orders j r same in cc)
+    | inr other ↦ running.others r lt (sym (made_other s.orders j r other) ∙ not_made)
+  ];
+})
 
 zero_at : (n k : ℕ) → slice_index (replicate n 0) k ≡ 0
 zero_at n k = elim (cases_lt k n) [
@@ -70,6 +95,52 @@ zeros rows narrow y a b n m empty r lt i small =
         slice_index (kept_of narrow (stores a b (replicate n 0) (replicate m 0))) k ≡ 0
     by_width true k = zero_at n k
     by_width false k = zero_at m k
+
+-- a value of a row that is added
+added_value : (rows : Rows) (s : Scheduled) (y : Sums) (u spectra j : ℕ) (st : Stores) → Follows rows s →
+    j < length s.orders → Running rows s y u spectra j st → (r late place i k : ℕ) (v : Bool) → IsUsed rows r →
+    BeginsAt rows s.orders s.places j r (place + late) → v ≡ is_narrow s.narrow r →
+    k + late ≡ tail_of rows r + i → i < spectra →
+    slice_index (list_of v st) (place + i) ≡ value_of y rows.tails.items u r k
+added_value rows s y u spectra j st follows number running r late place i k v used at v_is e lt =
+    let m : MakesIn s.orders j at.slot r = holds_made s.orders j at.slot r at.has in
+    let before = m.before in
+    let ready = follows.order m.number (omega arith) in
+    let there = at.place in
+    let same : v ≡ slot_narrow s.slots at.slot =
+    v_is ∙ ap (is_narrow s.narrow) (sym m.row_is) ∙ sym ready.width ∙ ap (slot_narrow s.slots) m.slot_is in
+    let was = running.slots at.slot r at.has used k (omega arith) in
+    ap (λ v. slice_index (list_of v st) (place + i)) same
+    ∙ ap (λ p. slice_index (list_of (slot_narrow s.slots at.slot) st) p)
+    (let p : place + i ≡ slice_index s.places at.slot + k = omega arith in p)
+    ∙ was
+
+-- a value of the upper one of two rows that are added, which ends earlier
+upper_value : (rows : Rows) (s : Scheduled) (y : Sums) (u spectra j : ℕ) (st : Stores) → Follows rows s →
+    j < length s.orders → Running rows s y u spectra j st → (m : Merge) (i k : ℕ) (v : Bool) →
+    slice_get rows.sources.items (row_at s.orders j) ≡ Some (Sum m) → v ≡ is_narrow s.narrow m.upper →
+    k + m.late ≡ tail_of rows m.upper + i → i < spectra →
+    slice_index (list_of v st) ((step_at s.steps j).upper + i) ≡ value_of y rows.tails.items u m.upper k
+upper_value rows s y u spectra j st follows number running m i k v source v_is e lt =
+    let entries = follows.entries in
+    let sum = (follows.steps_are j (omega arith)).sum m source in
+    added_value rows s y u spectra j st follows number running m.upper m.late (step_at s.steps j).upper i k v
+    (record { by = row_at s.orders j; merge = m; source = source; half = inl refl }) sum.upper v_is e lt
+
+-- and of the lower one
+lower_value : (rows : Rows) (s : Scheduled) (y : Sums) (u spectra j : ℕ) (st : Stores) → Follows rows s →
+    j < length s.orders → Running rows s y u spectra j st → (m : Merge) (i : ℕ) (v : Bool) →
+    slice_get rows.sources.items (row_at s.orders j) ≡ Some (Sum m) → v ≡ is_narrow s.narrow m.lower → i < spectra →
+    slice_index (list_of v st) ((step_at s.steps j).lower + i)
+    ≡ value_of y rows.tails.items u m.lower (tail_of rows m.lower + i)
+lower_value rows s y u spectra j st follows number running m i v source v_is lt =
+    let entries = follows.entries in
+    let sum = (follows.steps_are j (omega arith)).sum m source in
+    let place : ℕ = (step_at s.steps j).lower in
+    let at = subst (λ p. BeginsAt rows s.orders s.places j m.lower p)
+    (let z : place ≡ place + 0 = omega arith in z) sum.lower in
+    added_value rows s y u spectra j st follows number running m.lower 0 place i (tail_of rows m.lower + i) v
+    (record { by = row_at s.orders j; merge = m; source = source; half = inr refl }) at v_is (omega arith) lt
 
 -- What is known where order j is carried out on the spectra from spectrum u on.
 pub record OneMore (rows : Rows) (s : Scheduled) (x : ℕ → ℕ → ℕ) (y : Sums) (u spectra j : ℕ) (samples : List ℕ)
@@ -105,13 +176,13 @@ module _ (rows : Rows) (s : Scheduled) (x : ℕ → ℕ → ℕ) (y : Sums) (u s
   kept_stays v e = subst (λ v. kept_of v new ≡ kept_of v old) (sym e) o.made.kept_rest
 
   -- the row of another slot stays
-  slot_stays : (slot r : ℕ) → slot_at s.orders j ≢ slot → holds s.orders j slot ≡ Some r →
+  slot_stays : (slot r : ℕ) → slot_at s.orders j ≢ slot → holds s.orders j slot ≡ Some r → IsUsed rows r →
       SlotHas rows s y u spectra new slot r
-  slot_stays slot r other has i lt =
+  slot_stays slot r other has used i lt =
       let m : MakesIn s.orders j slot r = holds_made s.orders j slot r has in
       let before = m.before in
       let number = o.number in
-      let was = o.before.slots slot r has i lt in
+      let was = o.before.slots slot r has used i lt in
       let k : ℕ = slice_index s.places slot + i in
       let v : Bool = slot_narrow s.slots slot in
       elim (same_or_not v width) [
@@ -162,24 +233,6 @@ module _ (rows : Rows) (s : Scheduled) (x : ℕ → ℕ → ℕ) (y : Sums) (u s
             stays ∙ keeps i small
       ]
 
-  -- a value of a row that is added
-  added_value : (r late place i k : ℕ) (v : Bool) → BeginsAt rows s.orders s.places j r (place + late) →
-      v ≡ is_narrow s.narrow r → k + late ≡ tail_of rows r + i → i < spectra →
-      slice_index (list_of v old) (place + i) ≡ value_of y rows.tails.items u r k
-  added_value r late place i k v at v_is e lt =
-      let m : MakesIn s.orders j at.slot r = holds_made s.orders j at.slot r at.has in
-      let before = m.before in
-      let number = o.number in
-      let ready = o.follows.order m.number (omega arith) in
-      let there = at.place in
-      let same : v ≡ slot_narrow s.slots at.slot =
-      v_is ∙ ap (is_narrow s.narrow) (sym m.row_is) ∙ sym ready.width ∙ ap (slot_narrow s.slots) m.slot_is in
-      let was = o.before.slots at.slot r at.has k (omega arith) in
-      ap (λ v. slice_index (list_of v old) (place + i)) same
-      ∙ ap (λ p. slice_index (list_of (slot_narrow s.slots at.slot) old) p)
-      (let p : place + i ≡ slice_index s.places at.slot + k = omega arith in p)
-      ∙ was
-
   -- the next values of the row that is made
   next_values : (i : ℕ) → i < spectra → next_value step.kind step samples old i
       ≡ value_of y rows.tails.items u (row_at s.orders j) (tail_of rows (row_at s.orders j) + i)
@@ -204,18 +257,16 @@ module _ (rows : Rows) (s : Scheduled) (x : ℕ → ℕ → ℕ) (y : Sums) (u s
           let enough = merge.enough in
           let k : ℕ = tail_of rows m.upper - m.late + i in
           let e' : k + m.late ≡ tail_of rows m.upper + i = omega arith in
-          let above = added_value m.upper m.late step.upper i k (upper_narrow step.kind) sum.upper sum.upper_width e'
-          lt in
-          let lower_at = subst (λ p. BeginsAt rows s.orders s.places j m.lower p)
-          (let z : step.lower ≡ step.lower + 0 = omega arith in z) sum.lower in
-          let below = added_value m.lower 0 step.lower i (tail_of rows m.lower + i) (lower_narrow step.kind) lower_at
-          sum.lower_width (omega arith) lt in
+          let above = upper_value rows s y u spectra j old o.follows o.number o.before m i k (upper_narrow step.kind) e
+          sum.upper_width e' lt in
+          let below = lower_value rows s y u spectra j old o.follows o.number o.before m i (lower_narrow step.kind) e
+          sum.lower_width lt in
           rw (sum.adds, above, below, is_step.width)
           (summed_value rows s.narrow x y u (row_at s.orders j) i k (u + spectra) m o.adds o.fits
           (omega arith) e e' enough)
 
   -- the slot has the row
-  slot_made : SlotHas rows s y u spectra new (slot_at s.orders j) (row_at s.orders j)
+  pub slot_made : Stands rows s y u spectra new j
   slot_made i lt =
       let is = is_step in
       let out = is.out in
@@ -263,13 +314,13 @@ module _ (rows : Rows) (s : Scheduled) (x : ℕ → ℕ → ℕ) (y : Sums) (u s
   -- one order more was carried out
   pub one_more : Running rows s y u spectra (j + 1) new
   one_more = rw add-one (record {
-    slots = λ slot r has. elim (cases_eq (slot_at s.orders j) slot) [
+    slots = λ slot r has used. elim (cases_eq (slot_at s.orders j) slot) [
       | inl same ↦
           let here = holds_here s.orders j slot same in
           let row : row_at s.orders j ≡ r = cc in
           subst (λ slot. SlotHas rows s y u spectra new slot r) same
           (subst (λ r. SlotHas rows s y u spectra new (slot_at s.orders j) r) row slot_made)
-      | inr other ↦ slot_stays slot r other (sym (holds_other s.orders j slot other) ∙ has)
+      | inr other ↦ slot_stays slot r other (sym (holds_other s.orders j slot other) ∙ has) used
     ];
     made = λ r lt made. elim (cases_eq (row_at s.orders j) r) [
       | inl same ↦ subst (λ r. KeepsRow rows s.narrow y (u + spectra) new r) same row_made
@@ -285,14 +336,13 @@ module _ (rows : Rows) (s : Scheduled) (x : ℕ → ℕ → ℕ) (y : Sums) (u s
   })
 
 -- a value of a row of 32 bits that stands in its slot
-pub row_read : (rows : Rows) (s : Scheduled) (x : ℕ → ℕ → ℕ) (y : Sums) (u spectra order j k : ℕ) (st : Stores)
+pub row_read : (rows : Rows) (s : Scheduled) (x : ℕ → ℕ → ℕ) (y : Sums) (u spectra order k : ℕ) (st : Stores)
     (wide : List ℕ) → Follows rows s → order < length s.orders →
     is_narrow s.narrow (row_at s.orders order) ≡ false → AddUp rows.sources.items x y → st.wide ≡ wide →
-    Running rows s y u spectra j st → holds s.orders j (slot_at s.orders order) ≡ Some (row_at s.orders order) →
-    k < spectra →
+    Stands rows s y u spectra st order → k < spectra →
     slice_index wide (slice_index s.places (slot_at s.orders order) + tail_of rows (row_at s.orders order) + k)
     ≡ y (row_at s.orders order) (u + k) 0 % 2 ^ 32
-row_read rows s x y u spectra order j k st wide follows in_orders off adds wide_is running has lt =
+row_read rows s x y u spectra order k st wide follows in_orders off adds wide_is stands lt =
     let ready = follows.order order in_orders in
     let slot : ℕ = slot_at s.orders order in
     let r : ℕ = row_at s.orders order in
@@ -302,8 +352,50 @@ row_read rows s x y u spectra order j k st wide follows in_orders off adds wide_
     ∙ ap (λ p. slice_index (list_of (slot_narrow s.slots slot) st) p)
     (let p : slice_index s.places slot + tail_of rows r + k ≡ slice_index s.places slot + (tail_of rows r + k) =
     omega arith in p)
-    ∙ running.slots slot r has (tail_of rows r + k) (omega arith)
+    ∙ stands (tail_of rows r + k) (omega arith)
     ∙ value_now rows x y u r k adds
+
+-- a value of the row that is made of two rows of 16 bits
+pub row_bound : (rows : Rows) (s : Scheduled) (x : ℕ → ℕ → ℕ) (y : Sums) (u spectra j k bound : ℕ) (st : Stores) →
+    (step_at s.steps j).kind ≡ AddWidened → j < length s.orders →
+    ((i : ℕ) → i < spectra → slice_index st.narrow ((step_at s.steps j).upper + i)
+    + slice_index st.narrow ((step_at s.steps j).lower + i) ≤ bound) →
+    Follows rows s → AddUp rows.sources.items x y → Fit s.narrow y (u + spectra) →
+    Running rows s y u spectra j st → k < spectra → y (row_at s.orders j) (u + k) 0 ≤ bound
+row_bound rows s x y u spectra j k bound st kind_is number up follows adds fits running lt =
+    let ready = follows.order j number in
+    let entries = follows.entries in
+    by_source (slice_index_or rows.sources.items (row_at s.orders j) (Channel 0)) (follows.steps_are j (omega arith))
+    (slice_get-get_or rows.sources.items (row_at s.orders j) (Channel 0) ready.row)
+  where
+    by_source : (source : Source) → IsStep rows s.narrow s.orders s.places s.chunk j (step_at s.steps j) →
+        slice_get rows.sources.items (row_at s.orders j) ≡ Some source → y (row_at s.orders j) (u + k) 0 ≤ bound
+    by_source (Channel c) is e =
+        let copy = (is.channel c e).copies_it in
+        let adds_it : copies (step_at s.steps j).kind ≡ false = ap copies kind_is in
+        absurd cc
+    by_source (Sum m) is e =
+        let sum = is.sum m e in
+        let merge = follows.rows_are.merge (row_at s.orders j) m e in
+        let enough = merge.enough in
+        let q : ℕ = tail_of rows m.upper - m.late + k in
+        let q_is : q + m.late ≡ tail_of rows m.upper + k = omega arith in
+        let upper_on : true ≡ is_narrow s.narrow m.upper = sym (ap upper_narrow kind_is) ∙ sum.upper_width in
+        let lower_on : true ≡ is_narrow s.narrow m.lower = sym (ap lower_narrow kind_is) ∙ sum.lower_width in
+        let upper_fits = fits m.upper (u + k) m.late (sym upper_on) (omega arith) in
+        let lower_fits = fits m.lower (u + k) 0 (sym lower_on) (omega arith) in
+        let above : slice_index st.narrow ((step_at s.steps j).upper + k) ≡ y m.upper (u + k) m.late =
+        upper_value rows s y u spectra j st follows number running m k q true e upper_on q_is lt
+        ∙ value_at rows x y u m.upper k q m.late adds q_is enough ∙ mod-eq_of_lt (omega arith) in
+        let below : slice_index st.narrow ((step_at s.steps j).lower + k) ≡ y m.lower (u + k) 0 =
+        lower_value rows s y u spectra j st follows number running m k true e lower_on lt
+        ∙ value_now rows x y u m.lower k adds ∙ mod-eq_of_lt (omega arith) in
+        let none : 0 + m.late ≡ m.late = omega arith in
+        let whole : y (row_at s.orders j) (u + k) 0 ≡ y m.upper (u + k) m.late + y m.lower (u + k) 0 =
+        adds.sums (row_at s.orders j) (u + k) 0 m e
+        ∙ ap (λ l. y m.upper (u + k) l + y m.lower (u + k) 0) none in
+        let least = up k lt in
+        omega arith
 
 -- what is kept of all rows, written in 32 bits
 pub widened : (rows : Rows) (narrow none : List Bool) (y : Sums) (u : ℕ) (a b kept_narrow old new : List ℕ) →

@@ -5,7 +5,8 @@ use Rattle.row_model.specs.declared.Rows.{Rows}
 use Rattle.row_model.specs.Sums.{Sums}
 use Rattle.row_schedule.specs.Schedules.{Scheduled}
 use Rattle.row_schedule.specs.Follows.{Follows}
-use Rattle.row_schedule.specs.Running.{Stores, Kept, Running, stores}
+use Rattle.row_schedule.specs.Orders.{order_at}
+use Rattle.row_schedule.specs.Running.{Stores, Kept, IsLast, Running, stores}
 
 -- with what is kept before the next spectra, a schedule begins of which no order was carried out on them
 unfoldable pub RunningBegins : Type 0
@@ -17,6 +18,12 @@ unfoldable pub RunningEnds : Type 0
 RunningEnds = (rows : Rows) (s : Scheduled) (y : Sums) (u spectra : ℕ) (st : Stores) →
     Follows rows s → Running rows s y u spectra (length s.orders) st →
     Kept rows s.narrow y (u + spectra) st
+
+-- an order can be left out whose row is a last one
+unfoldable pub LastRowsAreLeftOut : Type 0
+LastRowsAreLeftOut = (rows : Rows) (s : Scheduled) (y : Sums) (u spectra j : ℕ) (st : Stores) →
+    IsLast rows (order_at s.orders j).row → Running rows s y u spectra j st →
+    Running rows s y u spectra (j + 1) st
 
 -- sums that end before the first spectrum are 0
 abbrev pub BeginEmpty : Sums → Type 0

@@ -1,10 +1,12 @@
 -- What rows and kept values stand for while a schedule is carried out.
 -- Source: this project's choice.
-use Rattle.std.specs.Prelude.{◌≡◌, ℕ, ◌+◌, ◌≤◌, ◌<◌, true, false, Bool, List, Some, length, slice_index, if◌then◌else◌}
+use Rattle.std.specs.Prelude.{◌≡◌, ℕ, ◌+◌, ◌≤◌, ◌<◌, ◌⊎◌, true, false, Bool, List, Some, length, slice_get, slice_index, if◌then◌else◌}
+use Rattle.row_model.specs.declared.Merge.{Merge}
 use Rattle.row_model.specs.declared.Rows.{Rows}
+use Rattle.row_model.specs.declared.Source.TheVariants.{Sum}
 use Rattle.row_model.specs.Sums.{Sums, is_narrow, value_of}
 use Rattle.row_model.specs.Tails.{row_count}
-use Rattle.row_schedule.specs.Orders.{holds, is_made}
+use Rattle.row_schedule.specs.Orders.{holds, is_made, order_at}
 use Rattle.row_schedule.specs.Schedules.{Scheduled}
 use Rattle.row_schedule.specs.Layout.{hold_of, slot_narrow}
 
@@ -69,11 +71,30 @@ abbrev pub SlotHas : Rows → Scheduled → Sums → ℕ → ℕ → Stores → 
 SlotHas rows s y u spectra st slot r = (i : ℕ) → i < slice_index rows.tails.items r + spectra →
     slot_value s st slot i ≡ value_of y rows.tails.items u r i
 
--- The first j orders were carried out on the spectra from spectrum u on: the slots have the rows
--- that were made in them last, and what is kept of the rows that were made is of these spectra.
+-- the slot of an order has its row
+abbrev pub Stands : Rows → Scheduled → Sums → ℕ → ℕ → Stores → ℕ → Type 0
+Stands rows s y u spectra st order = SlotHas rows s y u spectra st
+    (order_at s.orders order).slot (order_at s.orders order).row
+
+-- a row is made of row r
+pub record IsUsed (rows : Rows) (r : ℕ) : Type 0 where
+  pub by : ℕ
+  pub merge : Merge
+  pub source : slice_get rows.sources.items by ≡ Some (Sum merge)
+  pub half : (merge.upper ≡ r) ⊎ (merge.lower ≡ r)
+
+-- no row is made of row r, and nothing is kept of it
+pub record IsLast (rows : Rows) (r : ℕ) : Type 0 where
+  pub unused : IsUsed rows r → ⊥
+  pub nothing_kept : slice_index rows.tails.items r ≡ 0
+
+-- The first j orders were carried out on the spectra from spectrum u on, but for some whose rows are
+-- last ones: the slots have the rows that were made in them last, as far as others are made of
+-- them, and what is kept of the rows that were made is of these spectra.
 pub record Running (rows : Rows) (s : Scheduled) (y : Sums) (u spectra j : ℕ) (st : Stores) :
     Type 0 where
-  pub slots : (slot r : ℕ) → holds s.orders j slot ≡ Some r → SlotHas rows s y u spectra st slot r
+  pub slots : (slot r : ℕ) → holds s.orders j slot ≡ Some r → IsUsed rows r →
+      SlotHas rows s y u spectra st slot r
   pub made : (r : ℕ) → r < row_count rows → is_made s.orders j r ≡ true →
       KeepsRow rows s.narrow y (u + spectra) st r
   pub others : (r : ℕ) → r < row_count rows → is_made s.orders j r ≡ false →

@@ -39,8 +39,8 @@ pub record Scheduled : Type 0 where
 
 abbrev pub scheduled : ℕ → ℕ → ℕ → List Bool → List Bool → List Order → List ℕ → List Step →
     ℕ → ℕ → ℕ → ℕ → Scheduled
-scheduled channels chunk most narrow slots orders places steps narrow_size wide_size kept_narrow_size
-    kept_wide_size = record {
+scheduled channels chunk most narrow slots orders places steps narrow_size wide_size
+    kept_narrow_size kept_wide_size = record {
       channels = channels;
       chunk = chunk;
       most = most;

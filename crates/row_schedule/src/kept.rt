@@ -6,7 +6,7 @@ ghost use Rattle.row_schedule.specs.Layout.{kept_room, narrow_hold, narrow_kept_
 ghost use Rattle.row_schedule.specs.Running.{Kept, stores};
 ghost use Rattle.row_schedule.specs.Making.{Puts};
 ghost use Rattle.row_schedule.specs.Moving.{AreWidened, AreNarrowed};
-ghost use Rattle.row_schedule.specs.Laws.{RunningBegins, RunningEnds, NothingKept};
+ghost use Rattle.row_schedule.specs.Laws.{RunningBegins, RunningEnds, LastRowsAreLeftOut, NothingKept};
 
 use crate::lead::NARROW_LEAD;
 use crate::reading::{next_hold, row_is_narrow, tail, wide_hold};
@@ -22,6 +22,11 @@ pub fn running_begins()
 /// Once all orders were carried out, the rows are kept for the next spectra. It does nothing.
 pub fn running_ends()
     ensures { RunningEnds }
+{}
+
+/// An order can be left out of whose row nothing is kept and no row is made. It does nothing.
+pub fn last_rows_are_left_out()
+    ensures { LastRowsAreLeftOut }
 {}
 
 /// Before the first spectrum zeros are kept. It does nothing.

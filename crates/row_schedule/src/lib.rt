@@ -21,7 +21,7 @@ mod step;
 mod stores;
 
 pub use builder::{Builder, Order};
-pub use kept::{nothing_kept, running_begins, running_ends};
+pub use kept::{last_rows_are_left_out, nothing_kept, running_begins, running_ends};
 pub use samples::Samples;
 pub use schedule::Schedule;
 pub use stores::{Sizes, Stores};

@@ -1,16 +1,17 @@
 // A schedule, and how it is carried out.
-ghost use Rattle.std.specs.Prelude.{◌≡◌, ℕ, ◌+◌, ◌-◌, ◌*◌, ◌%◌, ◌^◌, ◌<◌, ◌≤◌, false, Some, length, slice_index};
+ghost use Rattle.std.specs.Prelude.{◌≡◌, ℕ, ◌+◌, ◌-◌, ◌*◌, ◌%◌, ◌^◌, ◌<◌, ◌≤◌, false, length, slice_index};
 ghost use Rattle.row_model.specs.Sums.{Sums, AddUp, Fit, is_narrow};
 ghost use Rattle.row_schedule.specs.Samples.{values_of, AreNext};
-ghost use Rattle.row_schedule.specs.Orders.{order_at, holds};
+ghost use Rattle.row_schedule.specs.Orders.{order_at};
 ghost use Rattle.row_schedule.specs.Steps.{IsSafe, step_at};
 ghost use Rattle.row_schedule.specs.Follows.{Follows};
-ghost use Rattle.row_schedule.specs.Running.{Stores, HaveRoom, AreAsLong, Running};
+ghost use Rattle.row_schedule.specs.Running.{Stores, HaveRoom, AreAsLong, Running, Stands};
 ghost use Rattle.row_schedule.specs.Making.{StepMade};
 
 use crate::builder::Order;
 use crate::making::{
-    add_narrow, add_narrow_wide, add_wide, add_wide_narrow, add_widened, copy_narrow, copy_wide,
+    add_narrow, add_narrow_wide, add_wide, add_wide_narrow, add_widened, bound_of_parts,
+    copy_narrow, copy_wide,
 };
 use crate::reading::tail;
 use crate::samples::Samples;
@@ -158,9 +159,32 @@ impl Schedule {
             → AreNext x self.now.channels self.now.chunk u spectra (values_of samples.entry)
             → Running rows self.now y u spectra from stores.old
             → Running rows self.now y u spectra to stores.new }
+        ensures stands { (rows : Rows) (x : ℕ → ℕ → ℕ) (y : Sums) (u : ℕ) → Follows rows self.now
+            → AddUp rows.sources.items x y → Fit self.now.narrow y (u + spectra)
+            → AreNext x self.now.channels self.now.chunk u spectra (values_of samples.entry)
+            → Running rows self.now y u spectra from stores.old
+            → from < to → Stands rows self.now y u spectra stores.new (to - 1) }
     {
         for j in from..to {
             self.make(j, stores, samples, spectra);
+        }
+    }
+
+    /// A bound of the row of an order that is to be carried out next: none of its values that end at the next spectra
+    /// is greater. The greatest u32 bounds nothing.
+    pub fn bound(&self, order: usize, stores: &Stores, spectra: usize) -> u32
+        requires order { order < length self.now.orders }
+        requires room { HaveRoom self.now stores.now }
+        requires short { spectra ≤ self.now.most }
+        ensures { (rows : Rows) (x : ℕ → ℕ → ℕ) (y : Sums) (u k : ℕ) → Follows rows self.now
+            → AddUp rows.sources.items x y → Fit self.now.narrow y (u + spectra)
+            → Running rows self.now y u spectra order stores.now → k < spectra
+            → result < 2 ^ 32 - 1 → y (order_at self.now.orders order).row (u + k) 0 ≤ result }
+    {
+        let step = self.steps[order];
+        match step.kind {
+            Kind::AddWidened => bound_of_parts(stores.narrow(), step.upper, step.lower, spectra),
+            _ => u32::MAX,
         }
     }
 
@@ -178,11 +202,9 @@ impl Schedule {
         requires room { self.now.wide_size ≤ length stores.now.wide }
         requires short { spectra ≤ self.now.most }
         ensures long { length result.now ≡ spectra }
-        ensures values { (x : ℕ → ℕ → ℕ) (y : Sums) (u j k : ℕ) (st : Stores)
+        ensures values { (x : ℕ → ℕ → ℕ) (y : Sums) (u k : ℕ) (st : Stores)
             → AddUp rows.now.sources.items x y → st.wide ≡ stores.now.wide
-            → Running rows.now self.now y u spectra j st
-            → holds self.now.orders j (order_at self.now.orders order).slot
-            ≡ Some (order_at self.now.orders order).row
+            → Stands rows.now self.now y u spectra st order
             → k < spectra → slice_index result.now k
             ≡ y (order_at self.now.orders order).row (u + k) 0 % 2 ^ 32 }
     {

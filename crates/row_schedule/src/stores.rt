@@ -98,6 +98,13 @@ impl Stores {
         })
     }
 
+    // The slots of rows of 16 bits.
+    pub(crate) fn narrow(&self) -> &[u16]
+        ensures { result.now ≡ self.now.narrow }
+    {
+        self.narrow.as_slice()
+    }
+
     // The slots of rows of 32 bits.
     pub(crate) fn wide(&self) -> &[u32]
         ensures { result.now ≡ self.now.wide }

@@ -7,7 +7,7 @@ use Rattle.row_schedule.proofs.Carrying.{row_read}
 use Rattle.row_schedule.proofs.schedule.Schedule.row.Goals as goal
 
 pub returns-clause-values : goal.returns-clause-values
-returns-clause-values c = λ x y u j k st adds wide_is running has lt.
+returns-clause-values c = λ x y u k st adds wide_is stands lt.
     let s = c.args.self.now in
     let rows = c.args.rows.now in
     let order = c.order-row.ensures in
@@ -18,5 +18,5 @@ returns-clause-values c = λ x y u j k st adds wide_is running has lt.
     ∙ ap (λ p. slice_index c.wide-wide.result.now (p + k)) (let e :
     at ≡ slice_index s.places (order_at s.orders c.args.order).slot + tail_of rows (order_at s.orders c.args.order).row
     = omega arith in e)
-    ∙ row_read rows s x y u c.args.spectra c.args.order j k st c.wide-wide.result.now c.requires.follows
-    c.requires.order c.requires.width adds (wide_is ∙ sym c.wide-wide.ensures) running has lt
+    ∙ row_read rows s x y u c.args.spectra c.args.order k st c.wide-wide.result.now c.requires.follows
+    c.requires.order c.requires.width adds (wide_is ∙ sym c.wide-wide.ensures) stands lt
