@@ -7,7 +7,7 @@ use Rattle.std.proofs.lemmas.Bool.{cases_lt}
 use Rattle.std.proofs.lemmas.List.{get_or-append-add, get_or-replicate, length-replicate}
 use Rattle.std.proofs.Math.ListN.{get_or-append}
 use Rattle.subband_plan.specs.Nodes.{BandPlan}
-use Rattle.fdmt_carry.specs.Carrying.{Carrying, AreNext, AreThere, IsFed, IsBegun, IsRowOn, IsOpened, IsStream, StandsForSamples, StandsMidway}
+use Rattle.fdmt_carry.specs.Carrying.{Carrying, AreNext, AreThere, HasMade, IsFed, IsBegun, IsRowOn, IsOpened, IsStream, StandsForSamples, StandsMidway}
 use Rattle.search_model.specs.Samples.{Filterbank}
 use Rattle.search_model.specs.Sums.{path_sum}
 use Rattle.search_model.specs.Masks.{kept_cells}
@@ -113,7 +113,8 @@ module _ (before now : Carrying) (samples sums : List ℕ) (d : ℕ) (reads : Re
 
   module _ (next : Carrying) (made : List ℕ) (row_on : IsRowOn now next)
       (stands : (f : Filterbank) → StandsMidway now f → AreNext now f samples now.last → StandsMidway next f)
-      (sums_made : (f : Filterbank) (k : ℕ) → StandsMidway next f → k < next.last →
+      (makes : (f : Filterbank) → StandsMidway now f → AreNext now f samples now.last → HasMade next f)
+      (sums_made : (f : Filterbank) (k : ℕ) → HasMade next f → k < next.last →
       slice_index made k ≡ path_sum f next.tables.plan.edges (next.fed + k) (next.next - 1)) where
     stands_next : (f : Filterbank) → Repeats f samples → StandsForSamples before f → StandsMidway next f
     stands_next f repeats there = stands f (reads.stands f repeats there) (still_next f repeats)
@@ -123,7 +124,8 @@ module _ (before now : Carrying) (samples sums : List ℕ) (d : ℕ) (reads : Re
     last_made f repeats there =
         let last = row_on.last in
         let delay : next.next - 1 ≡ d = omega (arith, row_on.next, reads.next) in
-        sums_made f 543 (stands_next f repeats there) (omega (arith, reads.last))
+        let made_now = makes f (reads.stands f repeats there) (still_next f repeats) in
+        sums_made f 543 made_now (omega (arith, reads.last))
         ∙ ap (λ n. path_sum f next.tables.plan.edges (next.fed + 543) n) delay
         ∙ ap (λ n. path_sum f next.tables.plan.edges (n + 543) d) (row_on.fed ∙ reads.fed)
         ∙ ap (λ t. path_sum f t.plan.edges (before.fed + 543) d) (row_on.tables ∙ reads.tables)

@@ -1,7 +1,8 @@
 -- What a carry stands for, from call to call.
-use Rattle.std.proofs.Common.{◌≡◌, ℕ, ◌+◌, ◌-◌, ◌*◌, true, false, List, length, slice_index, arith, ap, sym, ◌∙◌, subst, refl, inl, inr}
+use Rattle.std.proofs.Common.{◌≡◌, ℕ, ◌+◌, ◌-◌, ◌*◌, ◌<◌, true, false, List, length, slice_index, arith, ap, sym, ◌∙◌, subst, refl, inl, inr}
 use Rattle.std.proofs.lemmas.Bool.{cases_lt, false≢true}
 use Rattle.search_model.specs.Samples.{Filterbank}
+use Rattle.search_model.specs.Sums.{path_sum}
 use Rattle.row_schedule.specs.Running.{Stores, Running}
 use Rattle.row_schedule.specs.declared.stores.Sizes.{Sizes}
 use Rattle.row_schedule.specs.Laws.{NothingKept, RunningBegins, RunningEnds}
@@ -9,9 +10,9 @@ use Rattle.row_schedule.specs.Sizes.{AreZeros}
 use Rattle.subband_plan.specs.Values.{AreAtMost, RowsBeginEmpty}
 use Rattle.fdmt_carry.specs.declared.passing.Passing.{Passing}
 use Rattle.fdmt_carry.specs.Tables.{Tables, AreTables, TablesStand, table_sums}
-use Rattle.fdmt_carry.specs.Passing.{AreKept, IsPassOf, stop_at}
-use Rattle.fdmt_carry.specs.Carrying.{Carrying, IsStream, IsBegun, IsFed, IsRowOn, IsSettled, AreNext, StandsForSamples, StandsMidway, carrying}
-use Rattle.fdmt_carry.specs.Making.{AreTaken, Fills, KeepsFor, MakesRow}
+use Rattle.fdmt_carry.specs.Passing.{AreKept, HasBandRow, IsPassOf, stop_at}
+use Rattle.fdmt_carry.specs.Carrying.{Carrying, IsStream, IsBegun, IsFed, IsRowOn, IsSettled, AreNext, HasMade, StandsForSamples, StandsMidway, carrying}
+use Rattle.fdmt_carry.specs.Making.{AreTaken, BandRowIsBelow, Fills, KeepsFor, MakesBandRow, GoesPastRow}
 use Rattle.fdmt_carry.proofs.Rooms.{same_stores}
 
 -- opened, it stands for each stream
@@ -111,11 +112,32 @@ begun_stands begins c spectra first f is pass first_is stands small =
 
 -- makes a row
 pub row_stands : (c : Carrying) (new : Stores) (samples : List ℕ) (f : Filterbank) → IsPassOf c.tables c.limit c.pass →
-    MakesRow c.tables c.pass c.next c.last samples c.stores new → StandsMidway c f → AreNext c f samples c.last →
+    GoesPastRow c.tables c.pass c.next c.last samples c.stores new → StandsMidway c f → AreNext c f samples c.last →
     StandsMidway (record c { next = c.next + 1; stores = new }) f
 row_stands c new samples f is makes stands next =
     let taken = next_taken c c.last samples f is stands.stream stands.small next in
     record { stream = stands.stream; small = stands.small; running = makes f c.limit c.fed taken stands.running }
+
+-- which then stands
+pub made_stands : (c : Carrying) (new : Stores) (samples : List ℕ) (f : Filterbank) → IsPassOf c.tables c.limit c.pass →
+    MakesBandRow c.tables c.pass c.next c.last samples c.stores new → StandsMidway c f → AreNext c f samples c.last →
+    HasMade (record c { next = c.next + 1; stores = new }) f
+made_stands c new samples f is makes stands next =
+    let taken = next_taken c c.last samples f is stands.stream stands.small next in
+    let same : c.next ≡ c.next + 1 - 1 = omega arith in
+    record {
+      stream = stands.stream;
+      row = subst (λ (d : ℕ). HasBandRow c.tables c.pass f c.fed c.last d new) same
+          (makes f c.limit c.fed taken stands.running);
+    }
+
+-- or leaves it out
+pub left_out_below : (c : Carrying) (samples : List ℕ) (f : Filterbank) (k least : ℕ) →
+    IsPassOf c.tables c.limit c.pass → BandRowIsBelow c.tables c.pass c.next c.last samples c.stores least →
+    StandsMidway c f → AreNext c f samples c.last → k < c.last →
+    path_sum f c.tables.plan.edges (c.fed + k) c.next < least
+left_out_below c samples f k least is below stands next lt =
+    below f c.limit c.fed k (next_taken c c.last samples f is stands.stream stands.small next) stands.running lt
 
 -- and ends
 pub ended_stands : RunningEnds → (c : Carrying) (f : Filterbank) → AreTables c.tables →

@@ -8,5 +8,6 @@ pub mod Bounds
 pub mod Reading
 pub mod Tabled
 pub mod Running
+pub mod Leaving
 pub mod Carried
 pub mod Rooms

@@ -1,13 +1,11 @@
 -- What is read of rows that were made.
-use Rattle.std.proofs.Common.{◌≡◌, ℕ, suc, ◌+◌, ◌-◌, ◌%◌, ◌^◌, ◌<◌, ◌≤◌, true, List, Some, length, slice_index, arith, ap, sym, ◌∙◌, subst, refl}
-use Rattle.std.proofs.lemmas.Bool.{eq-eqb}
+use Rattle.std.proofs.Common.{◌≡◌, ℕ, ◌+◌, ◌-◌, ◌%◌, ◌^◌, ◌<◌, ◌≤◌, true, List, length, slice_index, arith, ap, sym, ◌∙◌, subst, refl}
 use Rattle.search_model.specs.Laws.{SplitsFit}
 use Rattle.row_model.specs.declared.Rows.{Rows}
 use Rattle.row_model.specs.Sums.{Sums, AddUp, is_narrow}
-use Rattle.row_schedule.specs.declared.builder.Order.{Order}
-use Rattle.row_schedule.specs.Orders.{holds, order_at}
+use Rattle.row_schedule.specs.Orders.{order_at}
 use Rattle.row_schedule.specs.Filling.{own_place}
-use Rattle.row_schedule.specs.Running.{Stores, Running}
+use Rattle.row_schedule.specs.Running.{Stores, Stands}
 use Rattle.row_schedule.specs.Schedules.{Scheduled}
 use Rattle.subband_plan.specs.declared.nodes.Node.{Node}
 use Rattle.subband_plan.specs.Nodes.{HasRow, root, nodes_of, node_at}
@@ -24,11 +22,10 @@ use Rattle.fdmt_carry.proofs.Bounds.{sum_is_plain, sum_of_node}
 use Rattle.fdmt_carry.proofs.Narrow.{not_true}
 use Rattle.fdmt_carry.proofs.Starts.{kept_row}
 
--- the row of an order of a schedule is read, wherever it stands
+-- the row of an order of a schedule is read, which stands in its slot
 abbrev pub ReadsRow : Rows → Scheduled → ℕ → ℕ → List ℕ → List ℕ → Type 0
-ReadsRow rows s order spectra wide row = (x : ℕ → ℕ → ℕ) (y : Sums) (u j k : ℕ) (st : Stores) →
-    AddUp rows.sources.items x y → st.wide ≡ wide → Running rows s y u spectra j st →
-    holds s.orders j (order_at s.orders order).slot ≡ Some (order_at s.orders order).row → k < spectra →
+ReadsRow rows s order spectra wide row = (x : ℕ → ℕ → ℕ) (y : Sums) (u k : ℕ) (st : Stores) →
+    AddUp rows.sources.items x y → st.wide ≡ wide → Stands rows s y u spectra st order → k < spectra →
     slice_index row k ≡ y (order_at s.orders order).row (u + k) 0 % 2 ^ 32
 
 -- a row that stands at its place is read
@@ -46,15 +43,8 @@ node_read bounded laid fit t k d r spectra wide row is row_is reads f m u i st f
     ∙ sum_is_plain fit bounded t.plan t.rows f m r (u + i) is.plan (laid t.plan is.plan).0 is.rows stream fits there
     ∙ sum_of_node t.plan t.rows f k d r (u + i) row_is
 
--- a slot has the row that was made in it last
-held_last : (orders : List Order) (j n : ℕ) → suc n ≡ j →
-    holds orders j (order_at orders n).slot ≡ Some (order_at orders n).row
-unfolding holds
-held_last orders j n is = subst (λ j. holds orders j (order_at orders n).slot ≡ Some (order_at orders n).row) is
-    (rw (eq-eqb (order_at orders n).slot (order_at orders n).slot refl) refl)
-
 -- the row of the whole band of delay d, and where a pass stops after it
-record IsShown (t : Tables) (pass : Passing) (d : ℕ) : Type 0 where
+pub record IsShown (t : Tables) (pass : Passing) (d : ℕ) : Type 0 where
   pub has : HasRow (node_at (nodes_of t.plan) 0) d
   pub row : IsRow t.rows 0 d (band_row t.plan t.rows d)
   pub some : 0 < stop_at t pass (d + 1)
@@ -62,7 +52,7 @@ record IsShown (t : Tables) (pass : Passing) (d : ℕ) : Type 0 where
   pub within : stop_at t pass (d + 1) ≤ length pass.schedule.orders
   pub order : (order_at pass.schedule.orders (stop_at t pass (d + 1) - 1)).row ≡ band_row t.plan t.rows d
 
-is_shown : RowsAreNumbered → PlansAreLaid → (t : Tables) (pass : Passing) (m d : ℕ) → AreTables t →
+pub is_shown : RowsAreNumbered → PlansAreLaid → (t : Tables) (pass : Passing) (m d : ℕ) → AreTables t →
     IsPassOf t m pass → HasRow (root t.plan) d → IsShown t pass d
 is_shown numbered laid t pass m d is pass_is has =
     let laws = laid t.plan is.plan in
@@ -97,10 +87,12 @@ shows_row numbered laid t pass m d is pass_is has =
     let shown = is_shown numbered laid t pass m d is pass_is has in
     let orders = pass.schedule.orders in
     let some = shown.some in
-    let within = shown.within in (
+    let within = shown.within in
+    let rise = shown.rise in (
       some,
       record {
         within = omega arith;
+        before = omega arith;
         stop = omega arith;
         row = shown.order;
         is_row = shown.row;
@@ -116,12 +108,13 @@ pub band_read : RowsAddUp → RowsAreBounded → BandRowsArePathSums → PlansAr
     ShowsRow t pass d order → ReadsRow t.rows.rows pass.schedule order spectra wide row →
     ReadsBand t pass d spectra wide row
 band_read adds bounded paths laid fit t pass d order spectra wide row is has shows reads f m u k st fits stream same
-    passing lt =
+    stands lt =
     let y = table_sums t f in
     let r : ℕ = band_row t.plan t.rows d in
     let stop = shows.stop in
-    reads f.value y u (stop_at t pass (d + 1)) k st (adds t.plan t.rows f is.plan is.rows stream.channels) same passing
-    (held_last pass.schedule.orders (stop_at t pass (d + 1)) order (omega arith)) lt
+    let last : stop_at t pass (d + 1) - 1 ≡ order = omega arith in
+    reads f.value y u k st (adds t.plan t.rows f is.plan is.rows stream.channels) same
+    (subst (λ (j : ℕ). Stands t.rows.rows pass.schedule y u spectra st j) last stands) lt
     ∙ ap (λ n. y n (u + k) 0 % 2 ^ 32) shows.row
     ∙ sum_is_plain fit bounded t.plan t.rows f m r (u + k) is.plan (laid t.plan is.plan).0 is.rows stream fits
     shows.is_row.there

@@ -1,5 +1,5 @@
 -- What schedules leave of tables.
-use Rattle.std.proofs.Common.{◌≡◌, ℕ, ◌+◌, false, Bool, List, [], arith, sym, ◌∙◌, subst, refl}
+use Rattle.std.proofs.Common.{◌≡◌, ℕ, ◌+◌, ◌-◌, ◌<◌, false, Bool, List, [], arith, sym, ◌∙◌, subst, refl}
 use Rattle.band_paths.specs.Edges.{channels_of}
 use Rattle.search_model.specs.Samples.{Filterbank}
 use Rattle.row_model.specs.declared.Rows.{Rows}
@@ -7,13 +7,13 @@ use Rattle.row_model.specs.Sums.{Sums, AddUp, Fit, is_narrow}
 use Rattle.row_schedule.specs.Samples.{AreNext}
 use Rattle.row_schedule.specs.Schedules.{Scheduled}
 use Rattle.row_schedule.specs.Follows.{Follows}
-use Rattle.row_schedule.specs.Running.{Stores, Kept, Running}
+use Rattle.row_schedule.specs.Running.{Stores, Kept, Running, Stands}
 use Rattle.row_schedule.specs.Filling.{KeepsOn, KeepsWide}
 use Rattle.subband_plan.specs.Values.{RowsAddUp, RowsAreBounded}
 use Rattle.fdmt_carry.specs.declared.passing.Passing.{Passing}
 use Rattle.fdmt_carry.specs.Tables.{Tables, AreTables, AreSamples, IsScheduled, MakesTables, RowsStand, table_sums}
-use Rattle.fdmt_carry.specs.Passing.{stop_at}
-use Rattle.fdmt_carry.specs.Making.{AreFit, Fills, KeepsFor, MakesRow}
+use Rattle.fdmt_carry.specs.Passing.{IsPassing, stop_at}
+use Rattle.fdmt_carry.specs.Making.{AreFit, AreTaken, Fills, KeepsFor, MakesBandRow, GoesPastRow}
 
 -- what a schedule does between two orders
 abbrev pub Ran : Scheduled → ℕ → ℕ → ℕ → List ℕ → Stores → Stores → Type 0
@@ -22,7 +22,7 @@ Ran s spectra from to samples old new = (rows : Rows) (x : ℕ → ℕ → ℕ) 
     Running rows s y u spectra from old → Running rows s y u spectra to new
 
 -- the sums of rows of 16 bits fit
-sums_fit : RowsAreBounded → (t : Tables) (pass : Passing) (f : Filterbank) (m e : ℕ) → AreTables t →
+pub sums_fit : RowsAreBounded → (t : Tables) (pass : Passing) (f : Filterbank) (m e : ℕ) → AreTables t →
     AreFit t pass f m e → Fit pass.schedule.narrow (table_sums t f) e
 sums_fit bounded t pass f m e is fit r u late has early =
     let most = bounded t.plan t.rows f e m is.plan is.rows fit.channels fit.small r u late early in
@@ -40,19 +40,45 @@ samples_next t s f most u spectra samples is next =
     subst (λ (chunk : ℕ). AreNext f.value s.channels chunk u spectra samples) (sym is.chunk_is)
     (subst (λ (channels : ℕ). AreNext f.value channels t.chunk u spectra samples) (sym is.channels) next)
 
--- a row of the whole band
-pub row_made : RowsAddUp → RowsAreBounded → (t : Tables) (pass : Passing) (d spectra from to : ℕ)
-    (samples : List ℕ) (old new : Stores) → AreTables t → from ≡ stop_at t pass d → to ≡ stop_at t pass (d + 1) →
-    Ran pass.schedule spectra from to samples old new → MakesRow t pass d spectra samples old new
-row_made adds bounded t pass d spectra from to samples old new is from_is to_is ran f m u taken passing =
+-- and the row of the last one stands
+abbrev pub RanTo : Scheduled → ℕ → ℕ → ℕ → List ℕ → Stores → Stores → Type 0
+RanTo s spectra from to samples old new = (rows : Rows) (x : ℕ → ℕ → ℕ) (y : Sums) (u : ℕ) → Follows rows s →
+    AddUp rows.sources.items x y → Fit s.narrow y (u + spectra) → AreNext x s.channels s.chunk u spectra samples →
+    Running rows s y u spectra from old → from < to → Stands rows s y u spectra new (to - 1)
+
+-- a pass goes on by some orders, from the stop before a row of the whole band on
+pub went_on : RowsAddUp → RowsAreBounded → (t : Tables) (pass : Passing) (d spectra from to : ℕ) (samples : List ℕ)
+    (old new : Stores) (f : Filterbank) (m u : ℕ) → AreTables t → from ≡ stop_at t pass d →
+    Ran pass.schedule spectra from to samples old new → AreTaken t pass f m u spectra samples →
+    IsPassing t pass f u spectra d old → Running t.rows.rows pass.schedule (table_sums t f) u spectra to new
+went_on adds bounded t pass d spectra from to samples old new f m u is from_is ran taken passing =
     let y = table_sums t f in
     let runs = taken.fit.pass_is.runs in
-    let before : Running t.rows.rows pass.schedule y u spectra from old =
-    subst (λ (j : ℕ). Running t.rows.rows pass.schedule y u spectra j old) (sym from_is) passing in
-    subst (λ (j : ℕ). Running t.rows.rows pass.schedule y u spectra j new) to_is
+    ran t.rows.rows f.value y u runs.follows (adds t.plan t.rows f is.plan is.rows taken.fit.channels)
+    (sums_fit bounded t pass f m (u + spectra) is taken.fit)
+    (samples_next t pass.schedule f t.chunk u spectra samples runs taken.samples_are)
+    (subst (λ (j : ℕ). Running t.rows.rows pass.schedule y u spectra j old) (sym from_is) passing)
+
+-- up to the next stop
+pub row_made : RowsAddUp → RowsAreBounded → (t : Tables) (pass : Passing) (d spectra from to : ℕ)
+    (samples : List ℕ) (old new : Stores) → AreTables t → from ≡ stop_at t pass d → to ≡ stop_at t pass (d + 1) →
+    Ran pass.schedule spectra from to samples old new → GoesPastRow t pass d spectra samples old new
+row_made adds bounded t pass d spectra from to samples old new is from_is to_is ran f m u taken passing =
+    subst (λ (j : ℕ). Running t.rows.rows pass.schedule (table_sums t f) u spectra j new) to_is
+    (went_on adds bounded t pass d spectra from to samples old new f m u is from_is ran taken passing)
+
+-- so its row of the whole band stands
+pub band_row_made : RowsAddUp → RowsAreBounded → (t : Tables) (pass : Passing) (d spectra from to : ℕ)
+    (samples : List ℕ) (old new : Stores) → AreTables t → from ≡ stop_at t pass d → to ≡ stop_at t pass (d + 1) →
+    from < to → RanTo pass.schedule spectra from to samples old new → MakesBandRow t pass d spectra samples old new
+band_row_made adds bounded t pass d spectra from to samples old new is from_is to_is rise ran f m u taken passing =
+    let y = table_sums t f in
+    let runs = taken.fit.pass_is.runs in
+    subst (λ (j : ℕ). Stands t.rows.rows pass.schedule y u spectra new (j - 1)) to_is
     (ran t.rows.rows f.value y u runs.follows (adds t.plan t.rows f is.plan is.rows taken.fit.channels)
     (sums_fit bounded t pass f m (u + spectra) is taken.fit)
-    (samples_next t pass.schedule f t.chunk u spectra samples runs taken.samples_are) before)
+    (samples_next t pass.schedule f t.chunk u spectra samples runs taken.samples_are)
+    (subst (λ (j : ℕ). Running t.rows.rows pass.schedule y u spectra j old) (sym from_is) passing) rise)
 
 -- what is kept in 16 bits, written in 32 bits, and back
 abbrev pub Widens : Rows → List Bool → Stores → Stores → Type 0

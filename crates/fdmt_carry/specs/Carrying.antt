@@ -10,7 +10,7 @@ use Rattle.subband_plan.specs.Nodes.{BandPlan}
 use Rattle.subband_plan.specs.Values.{AreAtMost}
 use Rattle.fdmt_carry.specs.declared.passing.Passing.{Passing}
 use Rattle.fdmt_carry.specs.Tables.{Tables, TablesStand}
-use Rattle.fdmt_carry.specs.Passing.{AreKept, IsPassing, IsPassOf}
+use Rattle.fdmt_carry.specs.Passing.{AreKept, HasBandRow, IsPassing, IsPassOf}
 
 -- Tables that took `fed` spectra in all and `last` of them by the last call; `has_tables` tells
 -- whether that made the tables of all nodes, which then stand. While a pass goes on, its `last`
@@ -71,7 +71,7 @@ pub record IsBegun (before after : Carrying) (spectra : ℕ) : Type 0 where
   pub passing : after.is_passing ≡ true
   pub next : after.next ≡ before.tables.plan.first
 
--- a pass has made one row more
+-- a pass has gone on by one row
 pub record IsRowOn (before after : Carrying) : Type 0 where
   pub tables : after.tables ≡ before.tables
   pub max_sample : after.max_sample ≡ before.max_sample
@@ -106,12 +106,17 @@ pub record StandsForSamples (c : Carrying) (f : Filterbank) : Type 0 where
   pub kept : AreKept c.tables c.pass f c.fed c.stores
   pub nodes : c.has_tables ≡ true → TablesStand c.tables f (c.fed - c.last) c.last c.stores
 
--- The same amid a pass over its next spectra: the rows of the whole band of the delays before
--- `c.next` were made.
+-- The same amid a pass over its next spectra, which has come to the row of the whole band of delay
+-- `c.next`.
 pub record StandsMidway (c : Carrying) (f : Filterbank) : Type 0 where
   pub stream : IsStream c.tables.plan c.max_sample f
   pub small : AreAtMost f (c.fed + c.last) c.limit
   pub running : IsPassing c.tables c.pass f c.fed c.last c.next c.stores
+
+-- the row of the delay before `c.next` was made of a stream, and stands
+pub record HasMade (c : Carrying) (f : Filterbank) : Type 0 where
+  pub stream : IsStream c.tables.plan c.max_sample f
+  pub row : HasBandRow c.tables c.pass f c.fed c.last (c.next - 1) c.stores
 
 -- no next sample is above the limit, or none can be
 abbrev pub AreWithinLimit : Carrying → List ℕ → Type 0

@@ -1,6 +1,6 @@
 -- What calls on tables leave, and what is read of them.
 -- Source: this project's choice.
-use Rattle.std.specs.Prelude.{◌≡◌, ℕ, ◌+◌, ◌*◌, ◌^◌, ◌<◌, false, List, length, slice_index}
+use Rattle.std.specs.Prelude.{◌≡◌, ℕ, ◌+◌, ◌*◌, ◌^◌, ◌<◌, ◌≤◌, false, List, length, slice_index}
 use Rattle.band_paths.specs.Edges.{channels_of}
 use Rattle.row_model.specs.Sums.{is_narrow}
 use Rattle.row_schedule.specs.Orders.{order_at}
@@ -13,7 +13,7 @@ use Rattle.subband_plan.specs.Values.{AreAtMost}
 use Rattle.fdmt_carry.specs.declared.passing.Passing.{Passing}
 use Rattle.fdmt_carry.specs.Orders.{band_row}
 use Rattle.fdmt_carry.specs.Tables.{Tables, AreSamples, TablesStand, node_of}
-use Rattle.fdmt_carry.specs.Passing.{AreKept, IsPassing, IsPassOf, stop_at}
+use Rattle.fdmt_carry.specs.Passing.{AreKept, HasBandRow, IsPassing, IsPassOf, stop_at}
 use Rattle.fdmt_carry.specs.Carrying.{IsStream}
 
 -- A pass is made for samples up to m, and no sample of a stream before spectrum e is greater.
@@ -40,11 +40,23 @@ Fills t pass spectra samples old new = (f : Filterbank) (m u : ℕ) →
     AreTaken t pass f m u spectra samples → AreKept t pass f u old →
     AreFilled t pass f u spectra new
 
--- a pass has made the row of delay d of the whole band
-abbrev pub MakesRow : Tables → Passing → ℕ → ℕ → List ℕ → Stores → Stores → Type 0
-MakesRow t pass d spectra samples old new = (f : Filterbank) (m u : ℕ) →
+-- a pass that had come to the row of delay d of the whole band has come to the next one
+abbrev pub GoesPastRow : Tables → Passing → ℕ → ℕ → List ℕ → Stores → Stores → Type 0
+GoesPastRow t pass d spectra samples old new = (f : Filterbank) (m u : ℕ) →
     AreTaken t pass f m u spectra samples → IsPassing t pass f u spectra d old →
     IsPassing t pass f u spectra (d + 1) new
+
+-- the row of delay d of the whole band stands then
+abbrev pub MakesBandRow : Tables → Passing → ℕ → ℕ → List ℕ → Stores → Stores → Type 0
+MakesBandRow t pass d spectra samples old new = (f : Filterbank) (m u : ℕ) →
+    AreTaken t pass f m u spectra samples → IsPassing t pass f u spectra d old →
+    HasBandRow t pass f u spectra d new
+
+-- no sum of the row of delay d of the whole band reaches `least`
+abbrev pub BandRowIsBelow : Tables → Passing → ℕ → ℕ → List ℕ → Stores → ℕ → Type 0
+BandRowIsBelow t pass d spectra samples old least = (f : Filterbank) (m u k : ℕ) →
+    AreTaken t pass f m u spectra samples → IsPassing t pass f u spectra d old → k < spectra →
+    path_sum f t.plan.edges (u + k) d < least
 
 -- what was kept for one pass is kept for another
 abbrev pub KeepsFor : Tables → Passing → Passing → Stores → Stores → Type 0
@@ -55,19 +67,20 @@ KeepsFor t pass next old new = (f : Filterbank) (m u : ℕ) → AreFit t next f 
 abbrev pub SumsFit : Tables → ℕ → Type 0
 SumsFit t m = m * (channels_of t.plan.edges + t.plan.last) < 2 ^ 32
 
--- An order of a pass makes the row of delay d of the whole band, in 32 bits, and is the last one before
--- the stop that comes after it.
+-- An order of a pass makes the row of delay d of the whole band, in 32 bits. It comes after the stop
+-- before that row, and is the last one before the next stop.
 pub record ShowsRow (t : Tables) (pass : Passing) (d order : ℕ) : Type 0 where
   pub within : order < length pass.schedule.orders
+  pub before : stop_at t pass d ≤ order
   pub stop : stop_at t pass (d + 1) ≡ order + 1
   pub row : (order_at pass.schedule.orders order).row ≡ band_row t.plan t.rows d
   pub is_row : IsRow t.rows 0 d (band_row t.plan t.rows d)
   pub width : is_narrow pass.schedule.narrow (order_at pass.schedule.orders order).row ≡ false
 
--- a row is that of delay d of the whole band, which a pass made last
+-- a row is that of delay d of the whole band, which stands
 abbrev pub ReadsBand : Tables → Passing → ℕ → ℕ → List ℕ → List ℕ → Type 0
 ReadsBand t pass d spectra wide row = (f : Filterbank) (m u k : ℕ) (st : Stores) → SumsFit t m →
-    IsStream t.plan m f → st.wide ≡ wide → IsPassing t pass f u spectra (d + 1) st → k < spectra →
+    IsStream t.plan m f → st.wide ≡ wide → HasBandRow t pass f u spectra d st → k < spectra →
     slice_index row k ≡ path_sum f t.plan.edges (u + k) d
 
 -- a row is that of delay d of node k

@@ -1,21 +1,28 @@
 -- Passes: schedules that make the rows of the whole band one after another.
 -- Source: this project's choice.
-use Rattle.std.specs.Prelude.{ℕ, ◌-◌, slice_index}
-use Rattle.row_schedule.specs.Running.{Stores, Kept, Running}
+use Rattle.std.specs.Prelude.{◌≡◌, ℕ, ◌+◌, ◌-◌, ◌≤◌, true, slice_index}
+use Rattle.row_schedule.specs.Running.{Stores, IsLast, Kept, Running, Stands}
 use Rattle.search_model.specs.Samples.{Filterbank}
 use Rattle.subband_plan.specs.declared.rows.PlanRows.{PlanRows}
 use Rattle.subband_plan.specs.Nodes.{BandPlan}
 use Rattle.fdmt_carry.specs.declared.passing.Passing.{Passing}
-use Rattle.fdmt_carry.specs.Orders.{AreLow, AreParts, AreStops}
+use Rattle.fdmt_carry.specs.Orders.{AreLow, AreParts, AreStops, band_row}
 use Rattle.fdmt_carry.specs.Tables.{IsScheduled, Tables, table_sums}
 
--- A pass makes the rows of a plan, of up to `chunk` spectra, while no sample is above m. It has made a
--- row of the whole band at the stop that comes after it.
+-- no row is made of a row of the whole band, and nothing is kept of it
+abbrev pub BandRowsAreLast : BandPlan → PlanRows → Type 0
+BandRowsAreLast p rows = (d : ℕ) → p.first ≤ d → d ≤ p.last →
+    IsLast rows.rows (band_row p rows d)
+
+-- A pass makes the rows of a plan, of up to `chunk` spectra, while no sample is above m. It has come
+-- past a row of the whole band at the stop after it. It leaves such a row out only where all of them
+-- are last ones.
 pub record IsPass (p : BandPlan) (rows : PlanRows) (chunk m : ℕ) (pass : Passing) : Type 0 where
   pub runs : IsScheduled p rows chunk chunk pass.schedule
   pub parts : AreParts rows pass.schedule.narrow
   pub low : AreLow p rows pass.schedule.narrow m
   pub stops : AreStops p rows pass.schedule.orders pass.stops.items
+  pub last : pass.can_leave_out ≡ true → BandRowsAreLast p rows
 
 -- one for these tables
 abbrev pub IsPassOf : Tables → ℕ → Passing → Type 0
@@ -34,3 +41,8 @@ AreKept t pass f u st = Kept t.rows.rows pass.schedule.narrow (table_sums t f) u
 abbrev pub IsPassing : Tables → Passing → Filterbank → ℕ → ℕ → ℕ → Stores → Type 0
 IsPassing t pass f u spectra d st =
     Running t.rows.rows pass.schedule (table_sums t f) u spectra (stop_at t pass d) st
+
+-- the row of delay d of the whole band stands
+abbrev pub HasBandRow : Tables → Passing → Filterbank → ℕ → ℕ → ℕ → Stores → Type 0
+HasBandRow t pass f u spectra d st =
+    Stands t.rows.rows pass.schedule (table_sums t f) u spectra st (stop_at t pass (d + 1) - 1)

@@ -8,7 +8,7 @@ ghost use Rattle.search_model.specs.Subbands.{node_sum};
 ghost use Rattle.subband_plan.specs.Nodes.{HasRow, root};
 ghost use Rattle.subband_plan.specs.Values.{AreAtMost};
 ghost use Rattle.fdmt_carry.specs.Tables.{node_of, node_count};
-ghost use Rattle.fdmt_carry.specs.Carrying.{Carrying, AreThere, IsOpened, IsFed, IsBegun, IsRowOn, IsStream, AreNext, IsSettled, StandsForSamples, StandsMidway, IsSound, HasSpare, carrying};
+ghost use Rattle.fdmt_carry.specs.Carrying.{Carrying, AreThere, IsOpened, IsFed, IsBegun, IsRowOn, IsStream, AreNext, HasMade, IsSettled, StandsForSamples, StandsMidway, IsSound, HasSpare, carrying};
 
 use crate::opening::Passes;
 use crate::passing::Passing;
@@ -25,8 +25,8 @@ use subband_plan::{Plan, plans_are_laid, rows_begin_empty};
 /// many values as later spectra need, or some more.
 ///
 /// `feed` and `take` make the rows of all nodes, which then stand. In a pass only the rows of the whole band can be
-/// read, as they are made, one after another by their delays: `begin`, `make_row` for each delay, with `made` to read
-/// the row, and `finish`.
+/// read, as they are made, one after another by their delays: `begin`, `make_row` or `make_reaching_row` for each
+/// delay, with `made` to read a row that was made, and `finish`.
 ///
 /// A pass for small samples serves until a greater one comes, and then one for all samples; where few samples are so
 /// small, that one serves from the start. No clause says which rows have 16 bits.
@@ -224,6 +224,8 @@ impl Carry {
         ensures stands { (f : Filterbank) → StandsMidway self.old f
             → AreNext self.old f (values_of samples.entry) self.old.last
             → StandsMidway self.new f }
+        ensures made { (f : Filterbank) → StandsMidway self.old f
+            → AreNext self.old f (values_of samples.entry) self.old.last → HasMade self.new f }
     {
         self.tables.hold();
         self.tables.make_row(
@@ -236,12 +238,43 @@ impl Carry {
         self.next += 1;
     }
 
-    /// The row that was made last: the path sums of its delay that end at the spectra of the pass.
+    /// Goes on to the next delay as `make_row` does, but makes the row only where one of its path sums may reach
+    /// `least`, and says whether it did. Where it didn't, none of them does. Only where both rows that it is made of
+    /// have 16 bits can it be left out, which takes much less time.
+    pub fn make_reaching_row(&mut self, samples: Samples<'_>, least: u32) -> bool
+        requires rows { AreThere self.old (values_of samples) self.old.last }
+        requires passing { self.old.is_passing ≡ true }
+        requires more { self.old.next ≤ self.old.tables.plan.last }
+        ensures row_on { IsRowOn self.old self.new }
+        ensures stands { (f : Filterbank) → StandsMidway self.old f
+            → AreNext self.old f (values_of samples.entry) self.old.last
+            → StandsMidway self.new f }
+        ensures made { result ≡ true → (f : Filterbank) → StandsMidway self.old f
+            → AreNext self.old f (values_of samples.entry) self.old.last → HasMade self.new f }
+        ensures below { result ≡ false → (f : Filterbank) (k : ℕ) → StandsMidway self.old f
+            → AreNext self.old f (values_of samples.entry) self.old.last → k < self.old.last
+            → path_sum f self.old.tables.plan.edges (self.old.fed + k) self.old.next < least }
+    {
+        self.tables.hold();
+        let is_made = self.tables.make_reaching_row(
+            &self.pass,
+            self.next,
+            &mut self.stores,
+            samples,
+            self.last as usize,
+            least,
+        );
+        self.next += 1;
+        is_made
+    }
+
+    /// The row that was made last, for the delay before the next: the path sums of its delay that end at the spectra of
+    /// the pass.
     pub fn made(&self) -> &[u32]
         requires passing { self.now.is_passing ≡ true }
         requires some { self.now.tables.plan.first < self.now.next }
         ensures long { length result.now ≡ self.now.last }
-        ensures sums { (f : Filterbank) (k : ℕ) → StandsMidway self.now f → k < self.now.last
+        ensures sums { (f : Filterbank) (k : ℕ) → HasMade self.now f → k < self.now.last
             → slice_index result.now k
             ≡ path_sum f self.now.tables.plan.edges (self.now.fed + k) (self.now.next - 1) }
     {

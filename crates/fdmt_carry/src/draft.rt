@@ -13,8 +13,15 @@ use subband_plan::{Node, PlanRows};
 // No slot and no row has this number.
 const NONE: u32 = u32::MAX;
 
-// Nodes at these depths have a slot for each row.
+// Nodes at these depths have a slot for each row, so that the rows below a node at one of them, and those between both,
+// mostly stay in the second cache.
 const TABLE_DEPTHS: [u32; 2] = [4, 7];
+
+// The same where nodes have many rows.
+const LONG_TABLE_DEPTHS: [u32; 2] = [5, 8];
+
+// From this delay on they have.
+const LONG_DELAY: u32 = 4096;
 
 // How often a band of 4096 channels is halved.
 const DEEPEST: u32 = 12;
@@ -66,6 +73,14 @@ impl Tree<'_> {
 
     fn is_narrow(&self, r: u32) -> bool {
         self.narrow.get(r as usize) == Some(&true)
+    }
+
+    // At which depths nodes have a slot for each row.
+    fn table_depths(&self) -> [u32; 2] {
+        match self.nodes.first() {
+            Some(band) if band.last_row >= LONG_DELAY => LONG_TABLE_DEPTHS,
+            _ => TABLE_DEPTHS,
+        }
     }
 
     // Whether row `r` is a row of the whole band that is shown.
@@ -138,7 +153,7 @@ impl Drafting {
             return Ok(());
         }
         let channels = node.hi.saturating_sub(node.lo);
-        let is_table = channels <= 2 || TABLE_DEPTHS.contains(&depth);
+        let is_table = channels <= 2 || tree.table_depths().contains(&depth);
         let (first, mut end) = tree.rows_of(k);
         if channels < 2 && !asked {
             end = first.saturating_add(1);

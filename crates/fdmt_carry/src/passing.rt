@@ -1,16 +1,19 @@
 // The schedule that makes the rows of the whole band one after another.
-ghost use Rattle.std.specs.Prelude.{◌≡◌, ℕ, ◌+◌, ◌-◌, ◌*◌, ◌^◌, ◌≤◌, ◌<◌, true, length, IfOk, IfSome};
+ghost use Rattle.std.specs.Prelude.{◌≡◌, ℕ, ◌+◌, ◌-◌, ◌*◌, ◌^◌, ◌≤◌, ◌<◌, true, false, length, IfOk, IfSome};
 ghost use Rattle.dada_model.specs.Bounds.{most_delay};
 ghost use Rattle.dada_model.specs.Edges.{most_channels};
 ghost use Rattle.subband_plan.specs.Rows.{ArePlanRows};
 ghost use Rattle.fdmt_carry.specs.Orders.{AreLow, AreParts, AreStops, IsStop};
+ghost use Rattle.fdmt_carry.specs.Leaving.{AreMadeOfLater, IsMadeOfLater, KeepNothing};
+ghost use Rattle.fdmt_carry.specs.Passing.{BandRowsAreLast};
 
 use crate::building::schedule_of;
 use crate::draft::Draft;
 use crate::numbers::{row_number, whole_band};
 use crate::plain::{plain_schedule, plain_stops};
 use psr_base::Memory;
-use row_schedule::{Order, Schedule};
+use row_model::Source;
+use row_schedule::{Order, Schedule, Stores};
 use std::alloc::Global;
 use subband_plan::{Node, Plan, PlanRows};
 
@@ -20,14 +23,17 @@ const NARROW_SUMS: u32 = 65536;
 // The least limit for which a first pass is drawn up: samples of 8 bits soon pass a lower one.
 const LEAST_LIMIT: u32 = 16;
 
-/// The schedule of a pass, and where it stops.
+/// The schedule of a pass, where it stops, and whether rows of the whole band can be left out.
 #[derive(Drop)]
 pub struct Passing {
     pub schedule: Schedule,
     pub stops: Vec<usize>,
+    pub can_leave_out: bool,
 }
 
 impl Passing {
+    ghost use Rattle.row_schedule.specs.Running.{HaveRoom};
+    ghost use Rattle.fdmt_carry.specs.Leaving.{IsRowBelow};
     ghost use Rattle.fdmt_carry.specs.Passing.{IsPass};
 
     /// The schedule of the rows of a plan over samples up to `limit`: the drafted one, or the plain one where that
@@ -86,7 +92,11 @@ impl Passing {
             chunk,
         )?;
         match made {
-            Some(schedule) => Ok(Some(Passing { schedule, stops })),
+            Some(schedule) => Ok(Some(Passing {
+                schedule,
+                stops,
+                can_leave_out: are_last(plan, rows),
+            })),
             None => Ok(None),
         }
     }
@@ -101,7 +111,21 @@ impl Passing {
         Ok(Passing {
             schedule,
             stops: plain_stops(alloc, plan, rows)?,
+            can_leave_out: are_last(plan, rows),
         })
+    }
+
+    /// Whether no sum of the row of an order, which is to be carried out next, reaches `least`, and the order can be
+    /// left out. It may say no where that holds.
+    pub fn can_pass_over(&self, order: usize, stores: &Stores, spectra: usize, least: u32) -> bool
+        requires order { order < length self.now.schedule.orders }
+        requires room { HaveRoom self.now.schedule stores.now }
+        requires short { spectra ≤ self.now.schedule.most }
+        ensures last { result ≡ true → self.now.can_leave_out ≡ true }
+        ensures below { result ≡ true
+            → IsRowBelow self.now.schedule spectra order stores.now least }
+    {
+        self.can_leave_out && self.schedule.bound(order, stores, spectra) < least
     }
 }
 
@@ -156,6 +180,52 @@ fn is_stop(orders: &[Order], stops: &[usize], i: usize, r: usize) -> bool
 {
     let (from, to) = (stops[i], stops[i + 1]);
     from < to && to <= orders.len() && orders[to - 1].row as usize == r
+}
+
+// Whether nothing is kept of the first rows, so many.
+fn keep_nothing(tails: &[u32], count: usize) -> bool
+    requires { count ≤ length tails.now }
+    ensures { result ≡ true → KeepNothing tails.now count }
+{
+    for r in 0..count {
+        if tails[r] > 0 {
+            return false;
+        }
+    }
+    true
+}
+
+// Whether a row is made of one of the first rows, so many.
+fn is_made_of_first(source: Source, count: usize) -> bool
+    ensures { result ≡ false → IsMadeOfLater source count }
+{
+    match source {
+        Source::Channel(_) => false,
+        Source::Sum(merge) => (merge.upper as usize) < count || (merge.lower as usize) < count,
+    }
+}
+
+// Whether no row is made of one of the first rows, so many.
+fn are_made_of_later(sources: &[Source], count: usize) -> bool
+    ensures { result ≡ true → AreMadeOfLater sources.now (length sources.now) count }
+{
+    for r in 0..sources.len() {
+        if is_made_of_first(sources[r], count) {
+            return false;
+        }
+    }
+    true
+}
+
+// Whether no row is made of a row of the whole band, and nothing is kept of one. These rows come first.
+fn are_last(plan: &Plan, rows: &PlanRows) -> bool
+    requires rows { ArePlanRows plan.now rows.now }
+    ensures { result ≡ true → BandRowsAreLast plan.now rows.now }
+{
+    let band = whole_band(plan);
+    let count = row_number(plan, rows, 0, band.last_row) + 1;
+    keep_nothing(rows.rows.tails.as_slice(), count)
+        && are_made_of_later(rows.rows.sources.as_slice(), count)
 }
 
 // Whether these are the stops of all rows of the whole band.

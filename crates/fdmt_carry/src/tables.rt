@@ -1,5 +1,5 @@
 // The tables of a plan: rows of all nodes, and passes over them.
-ghost use Rattle.std.specs.Prelude.{◌≡◌, ℕ, ◌+◌, ◌-◌, ◌*◌, ◌≤◌, ◌<◌, length, IfOk};
+ghost use Rattle.std.specs.Prelude.{◌≡◌, ℕ, ◌+◌, ◌-◌, ◌*◌, ◌≤◌, ◌<◌, true, false, length, IfOk};
 ghost use Rattle.band_paths.specs.Edges.{channels_of};
 ghost use Rattle.row_schedule.specs.Running.{AreAsLong, HaveRoom};
 ghost use Rattle.row_schedule.specs.Moving.{SlotsStay};
@@ -9,12 +9,12 @@ ghost use Rattle.row_schedule.specs.Samples.{values_of};
 ghost use Rattle.subband_plan.specs.Nodes.{IsPlan, HasRow, root};
 ghost use Rattle.fdmt_carry.specs.Tables.{AreTables, MakesNode, MakesTables, node_of, node_count};
 ghost use Rattle.fdmt_carry.specs.Passing.{IsPassOf, stop_at};
-ghost use Rattle.fdmt_carry.specs.Making.{Fills, KeepsFor, MakesRow, ReadsBand, ReadsNode, ShowsRow};
+ghost use Rattle.fdmt_carry.specs.Making.{BandRowIsBelow, Fills, KeepsFor, MakesBandRow, GoesPastRow, ReadsBand, ReadsNode, ShowsRow};
 
 use crate::numbers::{row_number, whole_band};
 use crate::passing::{Passing, narrow_limit};
 use psr_base::Memory;
-use row_schedule::{Samples, Sizes, Stores};
+use row_schedule::{Samples, Sizes, Stores, last_rows_are_left_out};
 use search_model::splits_fit;
 use std::alloc::Global;
 use std::marker::Model;
@@ -226,7 +226,9 @@ impl Tables {
             ≤ length (values_of samples) + (self.now.chunk - spectra) }
         requires short { spectra ≤ self.now.chunk }
         ensures long { AreAsLong stores.old stores.new }
-        ensures makes { MakesRow self.now pass.now d spectra (values_of samples.entry) stores.old
+        ensures past { GoesPastRow self.now pass.now d spectra (values_of samples.entry) stores.old
+            stores.new }
+        ensures made { MakesBandRow self.now pass.now d spectra (values_of samples.entry) stores.old
             stores.new }
     {
         rows_add_up();
@@ -238,7 +240,49 @@ impl Tables {
         pass.schedule.run(from, to, stores, samples, spectra);
     }
 
-    /// The row of delay `d` of the whole band, which a pass made last.
+    /// Does what `make_row` does, but makes the row of the whole band only where one of its sums may reach `least`, and
+    /// says whether it did. Where it didn't, none of them does.
+    pub fn make_reaching_row(
+        &self,
+        pass: &Passing,
+        d: u32,
+        stores: &mut Stores,
+        samples: Samples<'_>,
+        spectra: usize,
+        least: u32,
+    ) -> bool
+        requires pass { (m : ℕ) × IsPassOf self.now m pass.now }
+        requires row { HasRow (root self.now.plan) d }
+        requires room { HaveRoom pass.now.schedule stores.old }
+        requires samples { channels_of self.now.plan.edges * self.now.chunk
+            ≤ length (values_of samples) + (self.now.chunk - spectra) }
+        requires short { spectra ≤ self.now.chunk }
+        ensures long { AreAsLong stores.old stores.new }
+        ensures past { GoesPastRow self.now pass.now d spectra (values_of samples.entry) stores.old
+            stores.new }
+        ensures made { result ≡ true → MakesBandRow self.now pass.now d spectra
+            (values_of samples.entry) stores.old stores.new }
+        ensures below { result ≡ false → BandRowIsBelow self.now pass.now d spectra
+            (values_of samples.entry) stores.old least }
+    {
+        rows_add_up();
+        rows_are_bounded();
+        band_rows_are_path_sums();
+        last_rows_are_left_out();
+        plans_are_laid();
+        rows_are_numbered();
+        self.hold();
+        let (from, to) = (self.stop(pass, d), self.stop(pass, d + 1));
+        let order = self.shown(pass, d);
+        pass.schedule.run(from, order, stores, samples, spectra);
+        if pass.can_pass_over(order, stores, spectra, least) {
+            return false;
+        }
+        pass.schedule.run(order, to, stores, samples, spectra);
+        true
+    }
+
+    /// The row of delay `d` of the whole band, which a pass made last, and which stands.
     pub fn made<'a>(&self, pass: &Passing, d: u32, stores: &'a Stores, spectra: usize) -> &'a [u32]
         requires pass { (m : ℕ) × IsPassOf self.now m pass.now }
         requires row { HasRow (root self.now.plan) d }

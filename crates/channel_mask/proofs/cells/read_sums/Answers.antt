@@ -24,4 +24,4 @@ pub loop-d-preserved : goal.loop-d-preserved
 loop-d-preserved c =
     let sums = c.loop-d.auto.sums in
     reads_more _ _ _ _ _ c.loop-d.invariant c.make_row.new.self c.made.result.now c.make_row.ensures.row_on
-    c.make_row.ensures.stands c.made.ensures.sums (omega (arith, c.loop-d-test.true))
+    c.make_row.ensures.stands c.make_row.ensures.made c.made.ensures.sums (omega (arith, c.loop-d-test.true))

@@ -1,7 +1,7 @@
 use Rattle.std.proofs.Common.{subst, sym}
 use Rattle.row_schedule.specs.Samples.{values_of}
 use Rattle.fdmt_carry.specs.Carrying.{Carrying, AreNext, StandsMidway, carrying}
-use Rattle.fdmt_carry.proofs.Carried.{row_stands}
+use Rattle.fdmt_carry.proofs.Carried.{made_stands, row_stands}
 use Rattle.fdmt_carry.proofs.carry.Carry.make_row.Goals as goal
 
 pub returns-clause-stands : goal.returns-clause-stands
@@ -13,4 +13,15 @@ returns-clause-stands c = λ f stands next.
     let before : StandsMidway inside f = subst (λ (x : Carrying). StandsMidway x f) (sym c.self.view_is) stands in
     let given : AreNext inside f samples s.last =
     subst (λ (x : Carrying). AreNext x f samples x.last) (sym c.self.view_is) next in
-    row_stands inside c.make_row.new.stores samples f c.self.invariant.0.pass_is c.make_row.ensures.makes before given
+    row_stands inside c.make_row.new.stores samples f c.self.invariant.0.pass_is c.make_row.ensures.past before given
+
+pub returns-clause-made : goal.returns-clause-made
+returns-clause-made c = λ f stands next.
+    let s = c.self.inside in
+    let samples = values_of c.args.samples in
+    let inside : Carrying = carrying s.tables s.pass s.limit s.max_sample s.fed s.last s.has_tables s.is_passing s.next
+    s.stores in
+    let before : StandsMidway inside f = subst (λ (x : Carrying). StandsMidway x f) (sym c.self.view_is) stands in
+    let given : AreNext inside f samples s.last =
+    subst (λ (x : Carrying). AreNext x f samples x.last) (sym c.self.view_is) next in
+    made_stands inside c.make_row.new.stores samples f c.self.invariant.0.pass_is c.make_row.ensures.made before given

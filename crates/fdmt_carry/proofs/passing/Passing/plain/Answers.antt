@@ -12,4 +12,5 @@ returns c = λ m.
       parts = low.1;
       low = low.0;
       stops = c.in_ok-plain_stops.ensures c.in_ok-schedule.schedule.orders plain.orders;
+      last = c.are_last.ensures;
     }
