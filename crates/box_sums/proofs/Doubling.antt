@@ -1,13 +1,13 @@
 -- Boxes twice as wide are two boxes each.
-use Rattle.std.proofs.Common.{◌≡◌, ℕ, ◌+◌, ◌-◌, ◌*◌, ◌%◌, ◌^◌, ◌<◌, ◌≤◌, ◌≢◌, inl, inr, List, length, slice_index, set, sum_by, take, drop, ◌∙◌, sym, ap, subst, arith, length-drop}
+use Rattle.std.proofs.Common.{◌≡◌, ℕ, zero, suc, refl, ◌+◌, ◌-◌, ◌*◌, ◌%◌, ◌^◌, ◌<◌, ◌≤◌, ◌≢◌, inl, inr, List, length, slice_index, set, sum_by, take, drop, ◌∙◌, sym, ap, subst, arith, length-drop}
 use Rattle.std.proofs.lemmas.Bool.{cases_lt}
 use Rattle.std.proofs.lemmas.List.{take-take, drop-drop, drop-take, get_or-drop, get_or-set_same, get_or-set_other}
 use Rattle.std.proofs.lemmas.List.Sums.{sum_by-take-drop, sum_by-take-le, sum_by_more}
 use Rattle.std.proofs.lemmas.Nat.{pow-add, pow_pos}
-use Rattle.std.proofs.Math.Nat.{mod-eq_of_lt, mul-le-mul_right}
+use Rattle.std.proofs.Math.Nat.{mod-eq_of_lt, mul-le-mul_right, mul-add}
 use Rattle.std.proofs.Math.Pow.{pow_mono}
 use Rattle.fdmt_rows.specs.Rows.{sum_from, wrapping_sum}
-use Rattle.box_sums.specs.Tables.{AreBoxes, AreBounds}
+use Rattle.box_sums.specs.Tables.{AreBoxes, AreBounds, AreMade}
 
 pub two_boxes : (row : List ℕ) (k n m : ℕ) → sum_from row k (n + m) ≡ sum_from row k n + sum_from row (k + n) m
 two_boxes row k n m =
@@ -36,18 +36,17 @@ single row i inside =
     omega (arith, cut, value, place)
 
 -- the boxes of two values
-pub first_level : (line new : List ℕ) (stride total levels : ℕ)
-    → 1 ≤ levels → total ≡ length line → ((i : ℕ) → sum_from line i (2 ^ levels) < 2 ^ 32)
+pub first_level : (line new : List ℕ) (stride total widest : ℕ)
+    → 2 ≤ widest → total ≤ length line → ((i : ℕ) → sum_from line i widest < 2 ^ 32)
     → ((i : ℕ) → i < total - 1
     → slice_index new i ≡ wrapping_sum (slice_index line i) (slice_index line (1 + i)))
     → AreBoxes new stride 1 line total
-first_level line new stride total levels some long fits doubled m i lt room =
+first_level line new stride total widest wide long fits doubled m i lt room =
     let zero : 0 ≡ m = omega arith in
     let P : ℕ → Type 0 = λ m. slice_index new (m * stride + i) ≡ sum_from line i (2 ^ (m + 1)) in
     let inside : i + 2 ^ 1 ≤ total = subst (λ (m : ℕ). i + 2 ^ (m + 1) ≤ total) (sym zero) room in
     let place : 0 * stride + i ≡ i = omega arith in
-    let fewer : 2 ^ 1 ≤ 2 ^ levels = pow_mono some in
-    let grows = wider_sums line i (2 ^ 1) (2 ^ levels) fewer in
+    let grows = wider_sums line i (2 ^ 1) widest wide in
     let fit = fits i in
     let one = single line i (omega arith) in
     let other = single line (i + 1) (omega arith) in
@@ -143,3 +142,55 @@ bounds_more boxes line bounds stride level width total most is inside are bound 
           subst (λ (m : ℕ). sum_from line i (2 ^ m) ≤ slice_index (set bounds (level + 2) most) m) is_top
           (omega (arith, same, box, same_sum, b))
     ]
+
+-- one width more is made
+pub made_more : (old new line greatest : List ℕ) (stride known prior level width total most : ℕ)
+    → prior + 1 ≡ known → known < level → width ≡ 2 ^ known → total ≤ stride → known + 1 < length greatest
+    → ((i : ℕ) → sum_from line i (2 ^ level) < 2 ^ 32)
+    → ((i : ℕ) → i < total + 1 - 2 * width → slice_index new ((prior + 1) * stride + i)
+    ≡ wrapping_sum (slice_index old (prior * stride + i)) (slice_index old (prior * stride + (width + i))))
+    → ((k : ℕ) → k < (prior + 1) * stride → slice_index new k ≡ slice_index old k)
+    → ((i : ℕ) → i < total + 1 - 2 * width → slice_index new ((prior + 1) * stride + i) ≤ most)
+    → AreMade line total old stride greatest known
+    → AreMade line total new stride (set greatest (known + 1) most) (known + 1)
+made_more old new line greatest stride known prior level width total most is more wide short inside fits doubled below
+    bound are =
+    let same : known ≡ prior + 1 = sym is in
+    let next : prior + 2 ≡ known + 1 = omega arith in
+    let width_is : width ≡ 2 ^ (prior + 1) = wide ∙ ap (λ k. 2 ^ k) same in
+    let sums : AreBoxes new stride (prior + 2) line total =
+    level_more old new line stride prior level width total (total + 1 - 2 * width) (omega arith) width_is short refl fits
+    doubled below (subst (λ k. AreBoxes old stride k line total) same are.sums) in
+    record {
+      sums = subst (λ k. AreBoxes new stride k line total) next sums;
+      bounds = subst (λ k. AreBounds (set greatest k most) k line total) next
+          (bounds_more new line greatest stride prior width total most width_is (omega arith) sums bound
+          (subst (λ k. AreBounds greatest k line total) same are.bounds));
+    }
+
+-- twice a multiple
+twice_as_many : (g x y : ℕ) → y ≡ x + x → g * y ≡ g * x + g * x
+twice_as_many g x y is = ap (λ z. g * z) is ∙ mul-add g x x
+
+-- a box is so many narrower boxes, of which none is above their bound
+pub boxes_bounded : (bounds line : List ℕ) (made known k total i : ℕ) → 1 ≤ known → known ≤ made
+    → AreBounds bounds made line total → i + 2 ^ (known + k) ≤ total
+    → sum_from line i (2 ^ (known + k)) ≤ slice_index bounds known * 2 ^ k
+boxes_bounded bounds line made known zero total i some le are room =
+    let same : 2 ^ (known + zero) ≡ 2 ^ known = ap (λ n. 2 ^ n) (omega arith) in
+    let sum_is = ap (λ n. sum_from line i n) same in
+    let most = are known i some le (omega (arith, same, room)) in
+    let once : slice_index bounds known * 2 ^ zero ≡ slice_index bounds known = omega arith in
+    omega (arith, sum_is, most, once)
+boxes_bounded bounds line made known (suc k) total i some le are room =
+    let half : ℕ = 2 ^ (known + k) in
+    let twice : 2 ^ (known + suc k) ≡ half + half =
+    ap (λ n. 2 ^ n) (let e : known + suc k ≡ known + k + 1 = omega arith in e) ∙ pow-add 2 (known + k) 1 ∙ omega arith in
+    let factor : 2 ^ suc k ≡ 2 ^ k + 2 ^ k =
+    ap (λ n. 2 ^ n) (let e : suc k ≡ k + 1 = omega arith in e) ∙ pow-add 2 k 1 ∙ omega arith in
+    let first = boxes_bounded bounds line made known k total i some le are (omega (arith, twice, room)) in
+    let second = boxes_bounded bounds line made known k total (i + half) some le are (omega (arith, twice, room)) in
+    let both = two_boxes line i half half in
+    let sum_is = ap (λ n. sum_from line i n) twice in
+    let most = twice_as_many (slice_index bounds known) (2 ^ k) (2 ^ suc k) factor in
+    omega (arith, first, second, both, sum_is, most)

@@ -1,17 +1,18 @@
 -- What a feed leaves, and what boxes read of it.
-use Rattle.std.proofs.Common.{◌≡◌, ℕ, ◌+◌, ◌-◌, ◌*◌, ◌^◌, ◌<◌, ◌≤◌, inl, inr, List, length, slice_index, sum, take, drop, replicate, ◌++◌, ◌∙◌, sym, ap, subst, arith, length-append, length-take, append_assoc}
+use Rattle.std.proofs.Common.{◌≡◌, refl, ℕ, ◌+◌, ◌-◌, ◌*◌, ◌^◌, ◌<◌, ◌≤◌, inl, inr, List, length, slice_index, sum, take, drop, replicate, ◌++◌, ◌∙◌, sym, ap, subst, arith, length-append, length-take, append_assoc}
 use Rattle.std.specs.List.{All}
 use Rattle.std.proofs.lemmas.Bool.{cases_lt}
 use Rattle.std.proofs.lemmas.List.{drop_all, take-take, drop-drop, drop-take, drop-append-le, length-replicate, get_or_past}
 use Rattle.std.proofs.lemmas.List.Elements.{All-from_get_or}
 use Rattle.std.proofs.lemmas.List.Sums.{sum_by-le}
-use Rattle.std.proofs.lemmas.Nat.{pow_below}
 use Rattle.std.proofs.Math.Nat.{mul-le-mul_right}
+use Rattle.std.proofs.Math.Pow.{pow_mono}
 use Rattle.fdmt_rows.specs.Rows.{sum_from}
 use Rattle.box_sums.specs.Tails.{row_at}
 use Rattle.box_sums.specs.Rows.{sum_ending, Keeps}
-use Rattle.box_sums.specs.Tables.{AreBounds, AreUpTo}
-use Rattle.box_sums.proofs.Parts.{part_small}
+use Rattle.box_sums.specs.Tables.{AreBounds, AreMade, AreUpTo}
+use Rattle.box_sums.proofs.Doubling.{boxes_bounded}
+use Rattle.box_sums.proofs.Parts.{part_small, drop_small}
 use Rattle.box_sums.proofs.Ending.{box_is_ending}
 
 pub feeds : (old new feed xs : List ℕ) (reach n : ℕ) → Keeps old reach n xs
@@ -117,26 +118,33 @@ pub same_row : (old given new kept : List ℕ) (stride e : ℕ) → given ≡ ol
 same_row old given new kept stride e same_old same_new same =
     sym (ap (λ ys. row_at ys stride e) same_old) ∙ sym same ∙ sym (ap (λ ys. row_at ys stride e) same_new)
 
--- a narrower width has a lower level
-pub level_le : (m levels widest : ℕ) → 2 ^ m ≤ widest → 2 ^ levels ≡ widest → m ≤ levels
-level_le m levels widest narrow is = elim (cases_lt levels m) [
-  | inl h ↦ let more = pow_below levels m h in absurd (omega (arith, more, narrow, is))
-  | inr h ↦ h
+-- what is made is no wider than the widest
+pub made_narrow : (made level result widest : ℕ) → 2 ^ made ≤ widest → 2 ^ level ≤ widest
+    → ((most : ℕ) → made ≤ most → level ≤ most → result ≤ most) → 2 ^ result ≤ widest
+made_narrow made level result widest before asked within = elim (cases_lt made level) [
+  | inl h ↦ let fewer : 2 ^ result ≤ 2 ^ level = pow_mono (within level (omega arith) (omega arith)) in omega arith
+  | inr h ↦ let fewer : 2 ^ result ≤ 2 ^ made = pow_mono (within made (omega arith) h) in omega arith
 ]
 
-pub line_bounds : (bounds new line values : List ℕ) (reach n levels widest m : ℕ)
-    → bounds ≡ new → values ≡ take (reach + n) line → length values ≡ reach + n
-    → 2 ^ levels ≡ widest → 2 ^ m ≤ widest
-    → AreBounds new levels values (length values)
-    → AreBounds bounds m line (reach + n)
-line_bounds bounds new line values reach n levels widest m same is long is_widest narrow are m' i some le room =
-    let lower = level_le m levels widest narrow is_widest in
-    let sum_is : sum_from values i (2 ^ m') ≡ sum_from line i (2 ^ m') =
-    ap (λ xs. sum_from xs i (2 ^ m')) is
-    ∙ ap (λ xs. sum xs) (inner_part (reach + n) i (2 ^ m') line room) in
-    subst (λ (x : ℕ). x ≤ slice_index bounds m') sum_is
-    (subst (λ (xs : List ℕ). sum_from values i (2 ^ m') ≤ slice_index xs m') (sym same)
-    (are m' i some (omega (arith, le, lower)) (omega (arith, room, long))))
+-- what was made in the parts of a value is made in it
+pub made_seen : (line given boxes new greatest most : List ℕ) (total stride made : ℕ) → given ≡ line → boxes ≡ new
+    → greatest ≡ most → AreMade given total new stride most made → AreMade line total boxes stride greatest made
+made_seen line given boxes new greatest most total stride made same_line same_boxes same_greatest are =
+    subst (λ xs. AreMade xs total boxes stride greatest made) same_line
+    (subst (λ xs. AreMade given total xs stride greatest made) (sym same_boxes)
+    (subst (λ xs. AreMade given total new stride xs made) (sym same_greatest) are))
+
+-- boxes of further widths fit, so they are made
+pub made_doubled : (line boxes given new greatest most next : List ℕ) (bound widest total stride made level result : ℕ)
+    → AreUpTo bound line → 2 ^ level ≤ widest → bound * widest < 2 ^ 32 → given ≡ boxes → most ≡ greatest
+    → ((line : List ℕ) → ((i : ℕ) → sum_from line i (2 ^ level) < 2 ^ 32)
+    → AreMade line total given stride most made → AreMade line total new stride next result)
+    → AreMade line total boxes stride greatest made → AreMade line total new stride next result
+made_doubled line boxes given new greatest most next bound widest total stride made level result small narrow fits
+    same_boxes same_greatest doubles are =
+    doubles line
+    (λ i. sum_fits bound widest (2 ^ level) (drop i line) (drop_small bound i line small) narrow fits)
+    (made_seen line line given boxes most greatest total stride made refl same_boxes same_greatest are)
 
 pub box_read : (table xs : List ℕ) (stride at reach n k w : ℕ)
     → Keeps (row_at table stride at) reach n xs → k < n → w ≤ reach + 1 → reach + n ≤ stride
@@ -149,12 +157,26 @@ box_read table xs stride at reach n k w keeps lt narrow short =
     ∙ ap (λ ys. sum ys) (sym (inner_part stride start w (drop (at * stride) table) (omega arith)))
     ∙ box_is_ending (row_at table stride at) xs reach n k w keeps lt narrow
 
-pub bound_read : (bounds line xs : List ℕ) (reach n k w level : ℕ)
-    → 2 ^ level ≡ w → 1 ≤ level → AreBounds bounds level line (reach + n)
+-- a box that ends in the last feed is below a least sum where so many of the greatest narrower boxes are
+pub box_below : (bounds line xs : List ℕ) (reach n k w made known level least : ℕ)
+    → 2 ^ level ≡ w → 1 ≤ known → known ≤ level → known ≤ made → AreBounds bounds made line (reach + n)
+    → slice_index bounds known * 2 ^ (level - known) < least
     → Keeps line reach n xs → k < n → w ≤ reach + 1
-    → sum_ending xs (length xs - n + k) w ≤ slice_index bounds level
-bound_read bounds line xs reach n k w level power some are keeps lt narrow =
+    → sum_ending xs (length xs - n + k) w < least
+box_below bounds line xs reach n k w made known level least power some order le are below keeps lt narrow =
     let start : ℕ = reach + 1 - w + k in
-    subst (λ (x : ℕ). x ≤ slice_index bounds level)
-    (ap (λ m. sum_from line start m) power ∙ box_is_ending line xs reach n k w keeps lt narrow)
-    (are level start some (omega arith) (omega (arith, power)))
+    let more : ℕ = level - known in
+    let whole : 2 ^ (known + more) ≡ w = ap (λ m. 2 ^ m) (let e : known + more ≡ level = omega arith in e) ∙ power in
+    let sum_is = ap (λ m. sum_from line start m) whole ∙ box_is_ending line xs reach n k w keeps lt narrow in
+    let most = boxes_bounded bounds line made known more (reach + n) start some le are (omega (arith, whole)) in
+    omega (arith, sum_is, most, below)
+
+-- and each fits
+pub ending_fits : (line xs : List ℕ) (bound widest reach n k w : ℕ) → AreUpTo bound line → w ≤ widest
+    → bound * widest < 2 ^ 32 → Keeps line reach n xs → k < n → w ≤ reach + 1
+    → sum_ending xs (length xs - n + k) w < 2 ^ 32
+ending_fits line xs bound widest reach n k w small le fits keeps lt narrow =
+    let start : ℕ = reach + 1 - w + k in
+    let whole = box_is_ending line xs reach n k w keeps lt narrow in
+    let fit = sum_fits bound widest w (drop start line) (drop_small bound start line small) le fits in
+    omega (arith, whole, fit)

@@ -7,7 +7,7 @@ use Rattle.search_model.specs.Search.{longest_chunk}
 use Rattle.fdmt_rows.specs.Rows.{sum_from}
 use Rattle.box_sums.specs.Tails.{RowTails, row_at}
 use Rattle.box_sums.specs.Rows.{Keeps, IsWidth}
-use Rattle.box_sums.specs.Tables.{AreBounds, AreUpTo, TablesAreSound}
+use Rattle.box_sums.specs.Tables.{AreMade, AreUpTo, TablesAreSound}
 use Rattle.box_sums.proofs.Parts.{part_length, part_at, drop_small, same_values}
 use Rattle.box_sums.proofs.Feeding.{sum_bound}
 
@@ -40,11 +40,19 @@ zeros_keep n reach at room =
           ∙ sym (ap (λ ys. slice_index ys k) back ∙ zero_at reach k));
     }
 
-pub zero_bounds : (n rows total m : ℕ) → AreBounds (replicate n 0) m (replicate rows 0) total
-zero_bounds n rows total m m' i some le room =
-    let none = sum_bound 0 (2 ^ m') (drop i (replicate rows 0)) (drop_small 0 i (replicate rows 0)
+-- all boxes of zeros are zeros
+no_sum : (rows i w : ℕ) → sum_from (replicate rows 0) i w ≡ 0
+no_sum rows i w =
+    let none = sum_bound 0 w (drop i (replicate rows 0)) (drop_small 0 i (replicate rows 0)
     (zeros_are_small 0 rows)) in
-    let zero : sum_from (replicate rows 0) i (2 ^ m') ≤ slice_index (replicate n 0) m' = omega (arith, none) in zero
+    omega (arith, none)
+
+zeros_made : (n cells rows stride total made : ℕ)
+    → AreMade (replicate rows 0) total (replicate cells 0) stride (replicate n 0) made
+zeros_made n cells rows stride total made = record {
+  sums = λ m i lt room. zero_at cells (m * stride + i) ∙ sym (no_sum rows i (2 ^ (m + 1)));
+  bounds = λ m i some le room. let none = no_sum rows i (2 ^ m) in omega (arith, none);
+}
 
 -- what is opened
 abbrev pub opened : ℕ → ℕ → ℕ → ℕ → ℕ → ℕ → List ℕ → List ℕ → List ℕ → RowTails
@@ -62,13 +70,24 @@ opened first last chunk widest bound reach tails line kept = record {
   kept = kept;
 }
 
-pub zeros_sound : (first last chunk widest bound reach memory : ℕ)
+-- a box of several values is not on the lowest level
+pub some_level : (level w : ℕ) → 2 ^ level ≡ w → 2 ≤ w → 1 ≤ level
+some_level level w power wide = elim (cases_lt level 1) [
+  | inl h ↦
+      let zero : level ≡ 0 = omega arith in
+      let one : 2 ^ level ≡ 1 = ap (λ m. 2 ^ m) zero in
+      absurd (omega (arith, power, one))
+  | inr h ↦ h
+]
+
+pub zeros_sound : (first last chunk widest bound reach levels memory : ℕ)
     → (last - first + 1) * (reach + chunk) ≤ memory → first ≤ last → last ≤ most_delay → 1 ≤ chunk → chunk ≤ longest_chunk → IsWidth widest → bound * widest < 2 ^ 32
-    → widest ≤ reach + 1 → reach ≤ 32 → (widest ≤ 1 → reach ≡ 0)
+    → widest ≤ reach + 1 → reach ≤ 32 → (widest ≤ 1 → reach ≡ 0) → 2 ^ levels ≡ widest
     → TablesAreSound (opened first last chunk widest bound reach (replicate ((last - first + 1) * reach) 0)
     (replicate (reach + chunk) 0) [])
-    (replicate (5 * (reach + chunk)) 0) (replicate 6 0) memory
-zeros_sound first last chunk widest bound reach memory room order few some most width fits enough near alone =
+    (replicate (5 * (reach + chunk)) 0) (replicate 6 0) levels memory
+zeros_sound first last chunk widest bound reach levels memory room order few some most width fits enough near alone
+    power =
     let stride : ℕ = reach + chunk in
     let rows : ℕ = last - first + 1 in
     record {
@@ -92,5 +111,7 @@ zeros_sound first last chunk widest bound reach memory room order few some most 
       small_tails = zeros_are_small bound (rows * reach);
       small_line = zeros_are_small bound stride;
       small_kept = zeros_are_small bound 0;
-      bounds = λ m narrow. zero_bounds 6 stride (reach + 0) m;
+      some_made = λ wide. some_level levels widest power wide;
+      narrow_made = omega (arith, power);
+      are_made = zeros_made 6 (5 * stride) stride stride (reach + 0) levels;
     }

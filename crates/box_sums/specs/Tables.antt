@@ -28,9 +28,17 @@ abbrev pub AreBounds : List ℕ → ℕ → List ℕ → ℕ → Type 0
 AreBounds bounds levels line total = (m i : ℕ) → 1 ≤ m → m ≤ levels → i + 2 ^ m ≤ total
     → sum_from line i (2 ^ m) ≤ slice_index bounds m
 
--- what stands behind is as large as it has to be, and no box of the row that was fed last is
--- above the greatest of its width; there is memory for the lines of all rows that may be kept
-pub record TablesAreSound (b : RowTails) (boxes greatest : List ℕ) (memory : ℕ) : Type 0 where
+-- of the first `total` values of a line, the boxes of up to 2^made values are made, and the greatest of each width
+pub record AreMade
+    (line : List ℕ) (total : ℕ) (boxes : List ℕ) (stride : ℕ) (greatest : List ℕ) (made : ℕ)
+    : Type 0 where
+  pub sums : AreBoxes boxes stride made line total
+  pub bounds : AreBounds greatest made line total
+
+-- what stands behind is as large as it has to be; of the row that was fed last, boxes are made up to a width that is no
+-- wider than the widest, those of two values at least; there is memory for the lines of all rows that may be kept
+pub record TablesAreSound (b : RowTails) (boxes greatest : List ℕ) (made memory : ℕ)
+    : Type 0 where
   pub order : b.first ≤ b.last
   pub few_rows : b.last ≤ most_delay
   pub some : 1 ≤ b.chunk
@@ -51,4 +59,6 @@ pub record TablesAreSound (b : RowTails) (boxes greatest : List ℕ) (memory : �
   pub small_tails : AreUpTo b.bound b.tails
   pub small_line : AreUpTo b.bound b.line
   pub small_kept : AreUpTo b.bound b.kept
-  pub bounds : (m : ℕ) → 2 ^ m ≤ b.widest → AreBounds greatest m b.line (b.reach + b.fed)
+  pub some_made : 1 < b.widest → 1 ≤ made
+  pub narrow_made : 2 ^ made ≤ b.widest
+  pub are_made : AreMade b.line (b.reach + b.fed) boxes (b.reach + b.chunk) greatest made

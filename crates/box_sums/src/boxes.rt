@@ -1,5 +1,5 @@
 // Rows that are fed, and boxes over them.
-ghost use Rattle.std.specs.Prelude.{◌≡◌, ℕ, ◌+◌, ◌-◌, ◌*◌, ◌^◌, ◌<◌, ◌≤◌, ◌≢◌, ◌++◌, List, [], length, sum, take, drop, replicate, vec_capacity, IfOk};
+ghost use Rattle.std.specs.Prelude.{◌≡◌, ℕ, ◌+◌, ◌-◌, ◌*◌, ◌^◌, ◌<◌, ◌≤◌, ◌≢◌, ◌++◌, false, List, [], length, sum, take, drop, replicate, vec_capacity, IfOk};
 ghost use Rattle.std.specs.List.{All};
 ghost use Rattle.dada_model.specs.Bounds.{most_delay};
 ghost use Rattle.search_model.specs.Search.{longest_chunk};
@@ -8,7 +8,7 @@ ghost use Rattle.box_sums.specs.Rows.{IsWidth, SumsAddValues, sum_ending};
 ghost use Rattle.box_sums.specs.Tables.{TablesAreSound};
 
 use crate::keep::{fill_up, join, write_row};
-use crate::sums::fill_boxes;
+use crate::sums::{add_pairs, boxes_may_reach, double_up_to};
 use psr_base::Memory;
 use std::alloc::Global;
 use std::marker::Model;
@@ -20,10 +20,12 @@ const LEVELS: usize = 6;
 const LANES: usize = 16;
 
 /// Rows that are fed in pieces, with the sums of the values that end at each place of the last feed. `feed_row` and
-/// `sum` serve all rows. A search that looks at few of them calls `feed_unkept` and `bound_of_newest`, and only for
-/// these `keep_newest` and then `kept_sum`. Memory for kept rows is used only up to the last row that was kept.
+/// `sum` serve all rows. A search that looks at few of them calls `feed_unkept` and `may_reach`, and only for these
+/// `keep_newest` and then `kept_sum`. Memory for kept rows is used only up to the kept row with the highest
+/// number.
 ///
-/// `boxes` is where the sums of the row that was fed last are added up, and `greatest` has the greatest of each width.
+/// `boxes` is where the sums of the row that was fed last are added up, of two values, four and so on, and `greatest`
+/// has the greatest of each width. So far `made` of these widths are.
 #[derive(Drop)]
 pub struct Boxes {
     first: u32,
@@ -39,6 +41,7 @@ pub struct Boxes {
     kept: Vec<u32>,
     boxes: Vec<u32>,
     greatest: Vec<u32>,
+    made: usize,
 }
 
 impl Model for Boxes {
@@ -70,7 +73,7 @@ impl Model for Boxes {
       fed = b.fed;
       line = b.line.items;
       kept = b.kept.items;
-    }) b.boxes.items b.greatest.items (vec_capacity b.kept) };
+    }) b.boxes.items b.greatest.items b.made (vec_capacity b.kept) };
 }
 
 impl Boxes {
@@ -110,6 +113,7 @@ impl Boxes {
             kept: Vec::with_capacity(alloc, rows * stride)?,
             boxes: zeros(alloc, (LEVELS - 1) * stride)?,
             greatest: zeros(alloc, LEVELS)?,
+            made: level_of(widest),
         })
     }
 
@@ -166,12 +170,12 @@ impl Boxes {
         join(self.line.as_mut_slice(), tail, row);
         let last = front_of(self.line.as_slice(), row.len(), self.reach);
         write_row(self.tails.as_mut_slice(), self.reach, at, last);
-        fill_boxes(
+        self.made = add_pairs(
             self.boxes.as_mut_slice(),
             self.greatest.as_mut_slice(),
-            self.reach + self.chunk as usize,
-            level_of(self.widest),
-            front_of(self.line.as_slice(), 0, self.reach + row.len()),
+            self.widest,
+            self.line.as_slice(),
+            self.reach + row.len(),
         );
         self.newest = d;
         self.fed = row.len() as u32;
@@ -207,22 +211,42 @@ impl Boxes {
         let stride = self.reach + self.chunk as usize;
         let place = at * stride + (self.reach + 1 - w as usize) + k as usize;
         if self.kept.len() < place + w as usize {
+            // a row that was never kept
             return 0;
         }
         add_all(front_of(self.kept.as_slice(), place, w as usize))
     }
 
-    /// A bound for the row that was fed last: no sum of `w` values that ends at a value of its last feed is greater. As
-    /// it is made, it is the greatest sum of `w` neighbours among these values and those that are kept before them,
-    /// which no clause says.
-    pub fn bound_of_newest(&self, w: u32) -> u32
+    /// Whether a sum of `w` values that ends at a value of the last feed may reach `least`, in the row that was fed
+    /// last. Where not, none of them does. Boxes are added up, each from two of half its width, only as far as the
+    /// answer needs.
+    pub fn may_reach(&mut self, w: u32, least: u32) -> bool
         requires width { IsWidth w }
         requires wide { 2 ≤ w }
-        requires narrow { w ≤ self.now.widest }
-        ensures { (d n k : ℕ) (xs : List ℕ) → IsNewest self.now d n xs → k < n
-            → sum_ending xs (length xs - n + k) w ≤ result }
+        requires narrow { w ≤ self.old.widest }
+        ensures same { self.new ≡ self.old }
+        ensures below { result ≡ false → (d n k : ℕ) (xs : List ℕ) → IsNewest self.old d n xs
+            → k < n → sum_ending xs (length xs - n + k) w < least }
     {
-        self.greatest[level_of(w)]
+        let level = level_of(w);
+        self.made = double_up_to(
+            self.boxes.as_mut_slice(),
+            self.greatest.as_mut_slice(),
+            self.reach + self.chunk as usize,
+            self.made,
+            level,
+            least,
+            self.reach + self.fed as usize,
+        );
+        boxes_may_reach(self.greatest.as_slice(), self.made.min(level), level, least)
+    }
+
+    /// Every sum that ends at a value of the last feed of the row that was fed last fits into 32 bits.
+    pub fn sums_fit(&self)
+        ensures { (d n k w : ℕ) (xs : List ℕ) → IsNewest self.now d n xs → k < n → IsWidth w
+            → w ≤ self.now.widest → sum_ending xs (length xs - n + k) w < 2 ^ 32 }
+    {
+        let _ = &self.line;
     }
 }
 

@@ -1,7 +1,7 @@
 // Sums of neighbours, by doubling, and the greatest of each width.
-ghost use Rattle.std.specs.Prelude.{◌≡◌, ℕ, ◌+◌, ◌*◌, ◌^◌, ◌<◌, ◌≤◌, length, slice_index};
+ghost use Rattle.std.specs.Prelude.{◌≡◌, ℕ, ◌+◌, ◌-◌, ◌*◌, ◌^◌, ◌<◌, ◌≤◌, false, List, length, slice_index};
 ghost use Rattle.fdmt_rows.specs.Rows.{wrapping_sum, sum_from};
-ghost use Rattle.box_sums.specs.Tables.{AreBounds};
+ghost use Rattle.box_sums.specs.Tables.{AreMade};
 
 use fdmt_rows::add_rows_greatest;
 
@@ -33,29 +33,86 @@ fn double(boxes: &mut [u32], stride: usize, level: usize, width: usize, count: u
     add_neighbours(high, &low[level * stride..], width, count)
 }
 
-/// Writes the boxes of a line, in row m the sums of 2^(m+1) neighbours, and the greatest of each width.
-pub fn fill_boxes(
+/// Makes the boxes of two of the first `total` values of a line, where boxes may be that wide, and their greatest. Gives
+/// how many widths are made.
+pub fn add_pairs(
+    boxes: &mut [u32],
+    greatest: &mut [u32],
+    widest: u32,
+    line: &[u32],
+    total: usize,
+) -> usize
+    requires width { 1 ≤ widest }
+    requires room { total ≤ length boxes.old }
+    requires places { length greatest.old ≡ 6 }
+    requires inside { total ≤ length line.now }
+    requires wide { widest ≤ total + 1 }
+    requires fits { (i : ℕ) → sum_from line.now i widest < 2 ^ 32 }
+    ensures some { 1 < widest → 1 ≤ result }
+    ensures narrow { 2 ^ result ≤ widest }
+    ensures made { (stride : ℕ)
+        → AreMade line.now total boxes.new stride greatest.new result }
+{
+    if widest < 2 {
+        return 0;
+    }
+    greatest[1] = add_neighbours(boxes, line, 1, total - 1);
+    1
+}
+
+/// Makes boxes of further widths of a line's first `total` values, of which the first `made` widths are made, up to
+/// those of 2^level values, but none past the width whose greatest shows that they are below `least`. Gives how many
+/// widths are made then.
+pub fn double_up_to(
     boxes: &mut [u32],
     greatest: &mut [u32],
     stride: usize,
-    levels: usize,
-    line: &[u32],
-)
-    requires few { levels ≤ 5 }
-    requires room { levels * stride ≤ length boxes.old }
+    made: usize,
+    level: usize,
+    least: u32,
+    total: usize,
+) -> usize
+    requires some { 1 ≤ made }
+    requires few { level ≤ 5 }
+    requires room { length boxes.old ≡ 5 * stride }
     requires places { length greatest.old ≡ 6 }
-    requires short { length line.now ≤ stride }
-    requires wide { 2 ^ levels ≤ length line.now + 1 }
-    requires fits { (i : ℕ) → sum_from line.now i (2 ^ levels) < 2 ^ 32 }
-    ensures { AreBounds greatest.new levels line.now (length line.now) }
+    requires short { total ≤ stride }
+    requires wide { 2 ^ level ≤ total + 1 }
+    ensures more { made ≤ result }
+    ensures within { (most : ℕ) → made ≤ most → level ≤ most → result ≤ most }
+    ensures made { (line : List ℕ) → ((i : ℕ) → sum_from line i (2 ^ level) < 2 ^ 32)
+        → AreMade line total boxes.old stride greatest.old made
+        → AreMade line total boxes.new stride greatest.new result }
 {
-    if levels == 0 {
-        return;
+    if made >= level {
+        return made;
     }
-    greatest[1] = add_neighbours(boxes, line, 1, line.len() - 1);
-    let mut width = 2;
-    for level in 0..levels - 1 {
-        greatest[level + 2] = double(boxes, stride, level, width, line.len() + 1 - 2 * width);
-        width *= 2;
+    for known in made..level {
+        if !boxes_may_reach(greatest, known, level, least) {
+            return known;
+        }
+        let width = width_of(known);
+        greatest[known + 1] = double(boxes, stride, known - 1, width, total + 1 - 2 * width);
     }
+    level
+}
+
+/// Whether a box of 2^level values may reach `least`, by the greatest of those of 2^known values: it is so many of
+/// these.
+pub fn boxes_may_reach(greatest: &[u32], known: usize, level: usize, least: u32) -> bool
+    requires places { length greatest.now ≡ 6 }
+    requires order { known ≤ level }
+    requires few { level ≤ 5 }
+    ensures { result ≡ false → slice_index greatest.now known * 2 ^ (level - known) < least }
+{
+    u64::from(greatest[known]) * width_of(level - known) as u64 >= u64::from(least)
+}
+
+// How many values a box of a level has.
+fn width_of(level: usize) -> usize
+    requires { level ≤ 5 }
+    ensures value { result ≡ 2 ^ level }
+    ensures bound { result ≤ 32 }
+{
+    1 << level
 }

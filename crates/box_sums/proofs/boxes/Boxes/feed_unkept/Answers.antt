@@ -1,11 +1,11 @@
-use Rattle.std.proofs.Common.{inl, inr, ℕ, ◌≡◌, ◌≢◌, ◌+◌, ◌-◌, ◌^◌, ◌≤◌, ◌++◌, List, length, take, drop, ◌∙◌, sym, ap, subst, refl, arith}
+use Rattle.std.proofs.Common.{inl, inr, ℕ, ◌≡◌, ◌≢◌, ◌+◌, ◌-◌, ◌≤◌, ◌++◌, List, length, take, drop, ◌∙◌, sym, ap, subst, refl, arith}
 use Rattle.std.proofs.lemmas.Bool.{cases_lt}
 use Rattle.std.proofs.lemmas.List.{take_at}
 use Rattle.std.specs.List.{All}
 use Rattle.box_sums.specs.Tails.{RowTails, StandsForRow, row_at}
 use Rattle.box_sums.specs.Rows.{Keeps}
 use Rattle.box_sums.specs.Tables.{AreUpTo}
-use Rattle.box_sums.proofs.Feeding.{none_kept, line_keeps, tail_keeps, same_row, line_bounds, sum_fits, all_up_to}
+use Rattle.box_sums.proofs.Feeding.{none_kept, line_keeps, tail_keeps, same_row, made_seen, sum_fits, all_up_to}
 use Rattle.box_sums.proofs.Parts.{part_small, drop_small}
 use Rattle.box_sums.proofs.boxes.Boxes.feed_unkept.Goals as goal
 
@@ -21,8 +21,8 @@ line_is_small bound b old given tails rows tail line feed at reach same all same
     (subst (AreUpTo bound) (sym same_rows) small_tails)))
     (subst (λ (b : ℕ). AreUpTo b feed) (sym same) (all_up_to b feed all))
 
-pub fill_boxes-requires-clause-fits : goal.fill_boxes-requires-clause-fits
-fill_boxes-requires-clause-fits c = λ i.
+pub add_pairs-self-inside-requires-clause-fits : goal.add_pairs-self-inside-requires-clause-fits
+add_pairs-self-inside-requires-clause-fits c = λ i.
     let f = c.self.inside in
     let bound : f.bound ≡ c.args.self.now.bound = ap (λ (b : RowTails). b.bound) c.self.view_is in
     let line = line_is_small f.bound c.args.self.now.bound f.line.items c.as_mut_slice.result.now f.tails.items
@@ -32,13 +32,9 @@ fill_boxes-requires-clause-fits c = λ i.
     let line_is : c.as_slice-3.result.now ≡ c.join.new.line =
     c.as_slice-3.ensures.value
     ∙ take_at c.join.new.line _ f.line.len (c.join.auto.line ∙ c.as_mut_slice.ensures.len) in
-    let total : ℕ = f.reach + length c.args.row.now in
-    let front : AreUpTo f.bound c.front_of.result.now =
-    subst (AreUpTo f.bound) (sym c.front_of.ensures.values)
-    (part_small f.bound 0 total c.as_slice-3.result.now (subst (AreUpTo f.bound) (sym line_is) line)) in
-    sum_fits f.bound f.widest (2 ^ c.level_of.result) (drop i c.front_of.result.now)
-    (drop_small f.bound i c.front_of.result.now front)
-    (let power = c.level_of.ensures.power in omega (arith, power)) c.self.invariant.fits
+    let small : AreUpTo f.bound c.as_slice-3.result.now = subst (AreUpTo f.bound) (sym line_is) line in
+    sum_fits f.bound f.widest f.widest (drop i c.as_slice-3.result.now)
+    (drop_small f.bound i c.as_slice-3.result.now small) (omega arith) c.self.invariant.fits
 
 pub invariant_of-self : goal.invariant_of-self
 invariant_of-self c =
@@ -57,12 +53,12 @@ invariant_of-self c =
     let tails_is : take f.tails.len (c.write_row.new.table ++ drop
     (length c.write_row.new.table) f.tails.items) ≡ c.write_row.new.table =
     take_at c.write_row.new.table _ f.tails.len (c.write_row.auto.table ∙ c.as_mut_slice-2.ensures.len) in
-    let boxes_is : take f.boxes.len (c.fill_boxes.new.boxes ++ drop
-    (length c.fill_boxes.new.boxes) f.boxes.items) ≡ c.fill_boxes.new.boxes =
-    take_at c.fill_boxes.new.boxes _ f.boxes.len (c.fill_boxes.auto.boxes ∙ c.as_mut_slice-3.ensures.len) in
-    let greatest_is : take f.greatest.len (c.fill_boxes.new.greatest ++ drop
-    (length c.fill_boxes.new.greatest) f.greatest.items) ≡ c.fill_boxes.new.greatest =
-    take_at c.fill_boxes.new.greatest _ f.greatest.len (c.fill_boxes.auto.greatest ∙ c.as_mut_slice-4.ensures.len) in
+    let boxes_is : take f.boxes.len (c.add_pairs-self-inside.new.boxes ++ drop
+    (length c.add_pairs-self-inside.new.boxes) f.boxes.items) ≡ c.add_pairs-self-inside.new.boxes =
+    take_at c.add_pairs-self-inside.new.boxes _ f.boxes.len (c.add_pairs-self-inside.auto.boxes ∙ c.as_mut_slice-3.ensures.len) in
+    let greatest_is : take f.greatest.len (c.add_pairs-self-inside.new.greatest ++ drop
+    (length c.add_pairs-self-inside.new.greatest) f.greatest.items) ≡ c.add_pairs-self-inside.new.greatest =
+    take_at c.add_pairs-self-inside.new.greatest _ f.greatest.len (c.add_pairs-self-inside.auto.greatest ∙ c.as_mut_slice-4.ensures.len) in
     let line : AreUpTo f.bound c.join.new.line = line_is_small f.bound c.args.self.now.bound f.line.items
     c.as_mut_slice.result.now f.tails.items
     c.as_slice.result.now c.front_of-tail.result.now c.join.new.line c.args.row.now _ f.reach bound c.requires.small
@@ -90,18 +86,18 @@ invariant_of-self c =
       line_room = ap length line_is ∙ c.join.auto.line ∙ ap length c.as_mut_slice.ensures.value
           ∙ c.self.invariant.line_room;
       kept_room = c.self.invariant.kept_room;
-      boxes_room = ap length boxes_is ∙ c.fill_boxes.auto.boxes ∙ ap length c.as_mut_slice-3.ensures.value
+      boxes_room = ap length boxes_is ∙ c.add_pairs-self-inside.auto.boxes ∙ ap length c.as_mut_slice-3.ensures.value
           ∙ c.self.invariant.boxes_room;
-      greatest_room = ap length greatest_is ∙ c.fill_boxes.auto.greatest ∙ ap length c.as_mut_slice-4.ensures.value
+      greatest_room = ap length greatest_is ∙ c.add_pairs-self-inside.auto.greatest ∙ ap length c.as_mut_slice-4.ensures.value
           ∙ c.self.invariant.greatest_room;
       small_tails = subst (AreUpTo f.bound) (sym tails_is) (c.write_row.ensures.small f.bound
           (subst (AreUpTo f.bound) (sym c.as_mut_slice-2.ensures.value) c.self.invariant.small_tails) last_values);
       small_line = subst (AreUpTo f.bound) (sym line_is) line;
       small_kept = c.self.invariant.small_kept;
-      bounds = λ m narrow.
-          line_bounds _ c.fill_boxes.new.greatest _ c.front_of.result.now f.reach n c.level_of.result f.widest m
-          greatest_is (c.front_of.ensures.values ∙ ap (λ ys. take (f.reach + n) ys) c.as_slice-3.ensures.value)
-          c.front_of.ensures.long c.level_of.ensures.power narrow c.fill_boxes.ensures;
+      some_made = c.add_pairs-self-inside.ensures.some;
+      narrow_made = c.add_pairs-self-inside.ensures.narrow;
+      are_made = made_seen _ _ _ _ _ _ (f.reach + n) (f.reach + f.chunk) c.add_pairs-self-inside.result c.as_slice-3.ensures.value
+          boxes_is greatest_is (c.add_pairs-self-inside.ensures.made (f.reach + f.chunk));
     }
 
 pub returns-clause-newest : goal.returns-clause-newest

@@ -42,7 +42,9 @@ invariant_of-self c =
       small_kept = subst (AreUpTo f.bound) (sym kept_is) (c.write_row.ensures.small f.bound
           (subst (AreUpTo f.bound) (sym c.as_mut_slice.ensures.value)
           (filled_small f.bound f.kept.items g.items c.fill_up.ensures.filled c.self.invariant.small_kept)) line);
-      bounds = c.self.invariant.bounds;
+      some_made = c.self.invariant.some_made;
+      narrow_made = c.self.invariant.narrow_made;
+      are_made = c.self.invariant.are_made;
     }
 
 pub returns-clause-own : goal.returns-clause-own
