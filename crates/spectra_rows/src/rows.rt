@@ -68,16 +68,52 @@ fn write_tile<T: RowSample>(rows: &mut [T], bytes: &[u8], layout: Layout, place:
     }
 }
 
-// Writes as many bytes as whole tiles have, and says how far it came.
+// The same of fewer channels. What a tile has beside these is not written.
+fn write_part<T: RowSample>(
+    rows: &mut [T],
+    bytes: &[u8],
+    layout: Layout,
+    place: usize,
+    end: usize,
+    from: usize,
+)
+    requires order { place ≤ end }
+    requires few { end ≤ place + CHANNELS }
+    requires inside { end ≤ layout.channels }
+    requires chunk { from + SPECTRA ≤ layout.chunk }
+    requires bytes { (from + 15) * layout.channels + place + CHANNELS ≤ length bytes.now }
+    requires room { layout.channels * layout.chunk + (from + SPECTRA)
+        ≤ length rows.old + layout.chunk }
+    ensures { WritesCells (T.numbers rows.old) (T.numbers rows.new)
+        (channel_place layout.channels layout.is_falling)
+        layout.channels layout.chunk place end from (from + SPECTRA)
+        (λ p t. slice_index bytes.now (t * layout.channels + p)) }
+{
+    let tile = turned(bytes, from * layout.channels + place, layout.channels);
+    let middle = end.min(place + 16);
+    for lower in 0..middle - place {
+        let values = tile[lower].extract::<0, 16>();
+        write_values(rows, values, layout, place + lower, from);
+    }
+    for upper in 0..end - middle {
+        let values = tile[upper].extract::<16, 16>();
+        write_values(rows, values, layout, middle + upper, from);
+    }
+}
+
+// Writes as many bytes as tiles have that lie in the bytes whole, and says how far it came.
 fn write_tiles<T: RowSample>(
     rows: &mut [T],
     bytes: &[u8],
     layout: Layout,
     place: usize,
+    end: usize,
     from: usize,
     to: usize,
 ) -> usize
-    requires place { place + CHANNELS ≤ layout.channels }
+    requires places { place ≤ end }
+    requires few { end ≤ place + CHANNELS }
+    requires inside { end ≤ layout.channels }
     requires order { from ≤ to }
     requires chunk { to ≤ layout.chunk }
     requires bytes { to * layout.channels ≤ length bytes.now }
@@ -87,19 +123,24 @@ fn write_tiles<T: RowSample>(
     ensures within { result ≤ to }
     ensures written { WritesCells (T.numbers rows.old) (T.numbers rows.new)
         (channel_place layout.channels layout.is_falling)
-        layout.channels layout.chunk place (place + CHANNELS) from result
+        layout.channels layout.chunk place end from result
         (λ p t. slice_index bytes.now (t * layout.channels + p)) }
 {
     let mut done = from;
     while to - done >= SPECTRA {
-        write_tile(rows, bytes, layout, place, done);
+        if end - place == CHANNELS {
+            write_tile(rows, bytes, layout, place, done);
+        } else if (done + 15) * layout.channels + place + CHANNELS <= bytes.len() {
+            write_part(rows, bytes, layout, place, end, done);
+        } else {
+            return done;
+        }
         done += SPECTRA;
     }
     done
 }
 
-// The same for samples of any kind: where each is a byte, and there are as many channels as in a tile, whole tiles are
-// written, and else nothing.
+// The same for samples of any kind: where each is a byte, tiles are written, and else nothing.
 fn begin_channels<T: RowSample>(
     rows: &mut [T],
     bytes: &[u8],
@@ -110,6 +151,7 @@ fn begin_channels<T: RowSample>(
     to: usize,
 ) -> usize
     requires places { place ≤ end }
+    requires few { end ≤ place + CHANNELS }
     requires inside { end ≤ layout.channels }
     requires order { from ≤ to }
     requires chunk { to ≤ layout.chunk }
@@ -125,8 +167,8 @@ fn begin_channels<T: RowSample>(
         layout.channels layout.chunk place end from result
         (cell layout.channels layout.nbit layout.npol bytes.now) }
 {
-    if layout.nbit == 8 && layout.npol == 1 && end - place == CHANNELS {
-        write_tiles(rows, bytes, layout, place, from, to)
+    if layout.nbit == 8 && layout.npol == 1 {
+        write_tiles(rows, bytes, layout, place, end, from, to)
     } else {
         from
     }
@@ -201,6 +243,7 @@ fn write_channels<T: RowSample>(
     to: usize,
 )
     requires places { place ≤ end }
+    requires few { end ≤ place + CHANNELS }
     requires inside { end ≤ layout.channels }
     requires order { from ≤ to }
     requires chunk { to ≤ layout.chunk }

@@ -8,7 +8,7 @@ invariant-loop-done g l = record {
   within : l.done ≤ l.to;
   written : WritesCells (g.T.RowSample.numbers l.fn.rows) (g.T.RowSample.numbers l.rows)
       (channel_place l.layout.channels l.layout.is_falling)
-      l.layout.channels l.layout.chunk l.place (l.place + 32) l.from l.done
+      l.layout.channels l.layout.chunk l.place l.end l.from l.done
       (λ p t. slice_index l.bytes (t * l.layout.channels + p));
 }
 
