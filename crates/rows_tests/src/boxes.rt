@@ -27,12 +27,12 @@ fn kept_rows_are_summed(rt: HostRuntime) -> Result<(), Memory> {
     boxes.feed_unkept(1, &[0, 30, 20]);
     boxes.keep_newest();
     let first = [boxes.kept_sum(1, 2, 2), boxes.kept_sum(1, 0, 2)];
-    let bound = boxes.bound_of_newest(2);
+    let reached = boxes.may_reach(2, 50) && !boxes.may_reach(2, 51);
     boxes.feed_unkept(1, &[7]);
     let before = boxes.kept_sum(1, 2, 2);
     boxes.keep_newest();
     let second = [before, boxes.kept_sum(1, 0, 2), boxes.kept_sum(1, 0, 1)];
-    let are = first.as_slice() == [50_u32, 0].as_slice() && bound == 50;
+    let are = first.as_slice() == [50_u32, 0].as_slice() && reached;
     assert!(rt; are && second.as_slice() == [50_u32, 27, 7].as_slice());
     Ok(())
 }
@@ -58,21 +58,22 @@ fn sum_of_last(values: &[u32], w: usize) -> u32 {
 }
 
 // Whether the boxes of a width are right, of which the last feed of row `d` has `count`.
-fn are_right(boxes: &Boxes, d: u32, w: u32, all: &[u32], count: usize) -> bool
-    requires row { KeepsRow boxes.now d }
+fn are_right(boxes: &mut Boxes, d: u32, w: u32, all: &[u32], count: usize) -> bool
+    requires row { KeepsRow boxes.old d }
     requires few { count ≤ 16 }
-    requires chunk { boxes.now.chunk ≡ 16 }
+    requires chunk { boxes.old.chunk ≡ 16 }
     requires given { count ≤ length all.now }
-    requires widest { boxes.now.widest ≡ 32 }
+    requires widest { boxes.old.widest ≡ 32 }
     requires width { IsWidth w }
     requires narrow { w ≤ 32 }
+    ensures { boxes.new ≡ boxes.old }
 {
     for k in 0..count {
         let wanted = sum_of_last(&all[..all.len() - count + k + 1], w as usize);
         if boxes.sum(d, k as u32, w) != wanted {
             return false;
         }
-        if w > 1 && wanted > boxes.bound_of_newest(w) {
+        if w > 1 && !boxes.may_reach(w, wanted) {
             return false;
         }
     }
@@ -80,12 +81,13 @@ fn are_right(boxes: &Boxes, d: u32, w: u32, all: &[u32], count: usize) -> bool
 }
 
 // Whether the boxes of each width are.
-fn are_all_right(boxes: &Boxes, d: u32, all: &[u32], count: usize) -> bool
-    requires row { KeepsRow boxes.now d }
+fn are_all_right(boxes: &mut Boxes, d: u32, all: &[u32], count: usize) -> bool
+    requires row { KeepsRow boxes.old d }
     requires few { count ≤ 16 }
-    requires chunk { boxes.now.chunk ≡ 16 }
+    requires chunk { boxes.old.chunk ≡ 16 }
     requires given { count ≤ length all.now }
-    requires widest { boxes.now.widest ≡ 32 }
+    requires widest { boxes.old.widest ≡ 32 }
+    ensures { boxes.new ≡ boxes.old }
 {
     are_right(boxes, d, 1, all, count)
         && are_right(boxes, d, 2, all, count)
@@ -105,7 +107,7 @@ fn are_fed(alloc: Global) -> Result<bool, Memory> {
         let piece = values(alloc, count, 1000, count as u32)?;
         boxes.feed_row(5, piece.as_slice());
         all.extend_from_slice(piece.as_slice())?;
-        if !are_all_right(&boxes, 5, all.as_slice(), count) {
+        if !are_all_right(&mut boxes, 5, all.as_slice(), count) {
             return Ok(false);
         }
     }

@@ -64,3 +64,28 @@ fn samples_that_16_bits_do_not_hold(rt: HostRuntime) -> Result<(), Memory> {
     assert!(rt; are);
     Ok(())
 }
+
+// Whether the row of a delay over four channels is left out where no sum of it reaches a least one, and made where one
+// does.
+fn is_left_out(alloc: Global) -> Result<bool, Memory> {
+    let edges = [1_500_000, 1_400_000, 1_300_000, 1_200_000, 1_100_000];
+    let plan = Plan::open(alloc, &edges, 0, 1)?;
+    let mut carry = Carry::open(alloc, plan, 1, 255)?;
+    let samples = Samples::Words(&[1, 2, 3, 4]);
+    carry.begin(samples, 1);
+    let is_below = !carry.make_reaching_row(samples, 11);
+    carry.make_row(samples);
+    carry.finish();
+    carry.begin(samples, 1);
+    let reaches = carry.make_reaching_row(samples, 10) && carry.made() == [10].as_slice();
+    carry.make_row(samples);
+    carry.finish();
+    Ok(is_below && reaches)
+}
+
+#[test]
+fn a_row_that_reaches_no_least_sum(rt: HostRuntime) -> Result<(), Memory> {
+    let is = is_left_out(rt.alloc())?;
+    assert!(rt; is);
+    Ok(())
+}
