@@ -1,5 +1,5 @@
 // Folds of the series of a shard's delays.
-ghost use Rattle.std.specs.Prelude.{◌≡◌, ℕ, ◌+◌, ◌-◌, ◌*◌, ◌^◌, ◌<◌, ◌≤◌, ◌≢◌, ◌++◌, List, [], All, IfOk, IsTrue, length, slice_index_or};
+ghost use Rattle.std.specs.Prelude.{◌≡◌, ℕ, ◌+◌, ◌-◌, ◌*◌, ◌^◌, ◌<◌, ◌≤◌, ◌≢◌, ◌++◌, List, [], false, All, IfOk, IsTrue, length, slice_index_or};
 ghost use Rattle.search_model.specs.Samples.{Filterbank};
 ghost use Rattle.search_model.specs.Search.{SettingsInRange, folds_are_on};
 ghost use Rattle.search_model.specs.Folds.{series};
@@ -70,6 +70,16 @@ impl FoldSearch {
             fronts: open_fronts(alloc, search, first, end)?,
             folder: open_folder(alloc, search)?,
         })
+    }
+
+    /// Whether the series of a delay is folded. Of one that isn't, nothing is kept, whatever is taken of it.
+    pub fn is_folded(&self, delay: u32) -> bool
+        requires { HasDelay self.now delay }
+        ensures value { result ≡ is_folded_of self.now.search delay }
+        ensures kept { result ≡ false → (xs ys : List ℕ) → KeepsFrontOf self.now delay xs
+            → KeepsFrontOf self.now delay ys }
+    {
+        is_folded(&self.search, delay)
     }
 
     /// Takes the next path sums of a delay. The first of a delay is the one that ends at the spectrum of that number.

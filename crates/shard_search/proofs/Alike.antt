@@ -1,5 +1,5 @@
 -- Two that search for the same as a third.
-use Rattle.std.proofs.Common.{ℕ, ◌+◌, ◌≤◌, length, ◌∙◌, arith}
+use Rattle.std.proofs.Common.{◌≡◌, ℕ, ◌+◌, ◌≤◌, length, sym, ◌∙◌, subst, arith}
 use Rattle.fold_search.specs.FoldSearch.{Fronts, FoldsAlike}
 use Rattle.shard_search.specs.PulseSearch.{PulseState, SearchAlike}
 use Rattle.shard_search.specs.Sums.{GoOnAlike}
@@ -30,3 +30,16 @@ on_alike p q r f g h first d from before pulses folds few = record {
   folds = folds_alike f g h folds before.folds;
   few = let all = before.few in omega (arith, few, all, from);
 }
+
+-- or it was left out
+pub still_alike : (p q : PulseState) (f g : Fronts) (first d : ℕ) → GoOnAlike p q f g first d →
+    GoOnAlike p q f g first (d + 1)
+still_alike p q f g first d before = record {
+  pulses = before.pulses;
+  folds = before.folds;
+  few = let all = before.few in omega (arith, all);
+}
+
+-- what is known of the parts that a branch leaves
+pub of_same : (P : PulseState → Fronts → Type 0) (p q : PulseState) (f g : Fronts) → p ≡ q → f ≡ g → P q g → P p f
+of_same P p q f g pulses folds is = subst (λ r. P r f) (sym pulses) (subst (λ h. P q h) (sym folds) is)

@@ -1,5 +1,6 @@
 -- Boxes over the sums of a stream, and which of them are detected.
 use Rattle.std.proofs.Common.{◌≡◌, ℕ, ◌+◌, ◌-◌, ◌*◌, ◌<◌, ◌≤◌, ◌^◌, ◌&&◌, Bool, true, false, cond, IsTrue, [], ◌∷◌, zero, suc, Option, Some, None, length, slice_index, nat_le, slice_get, get_or, sym, ◌∙◌, ap, subst, arith, refl}
+use Rattle.std.specs.Option.{unwrap_or}
 use Rattle.std.proofs.lemmas.Bool.{false≢true, le-leb}
 use Rattle.std.proofs.lemmas.List.FromFn.{length-map-range_with_len, get_or-map-range_with_len}
 use Rattle.std.proofs.lemmas.Option.{slice_get-get_or}
@@ -37,7 +38,7 @@ box_is adds y d m u w lt =
     ∙ same_terms (λ i. value_before (first_sums y d m) u i) (λ i. cond (nat_le i u) (y d (u - i)) 0) w
     (λ i below. value_is y d m u i (nat_le i u) lt)
 
-width_one : (w : ℕ) → IsWidth w → w < 2 → w ≡ 1
+pub width_one : (w : ℕ) → IsWidth w → w < 2 → w ≡ 1
 width_one zero is lt = absurd (false≢true is)
 width_one (suc zero) is lt = refl
 width_one (suc (suc w)) is lt = absurd (omega arith)
@@ -85,6 +86,17 @@ pub quiet_box : TestsDetection → (y : ℕ → ℕ → ℕ) (s : Search) (c : S
 quiet_box tests y s c u d w most least out bound fits below =
     no_pulse tests y s c u d w (is_silent s (w * cells_in c d) (box_of y d u w) least (omega arith) out
     (λ x e. let short = below x e in omega arith))
+
+-- nor is one below the least sum or, where there is none, below the greatest number of 32 bits
+pub lesser_box : TestsDetection → (y : ℕ → ℕ → ℕ) (s : Search) (c : Sought) (u d w most : ℕ) (least : Option ℕ) →
+    StandOutFrom (noise_of s) (w * cells_in c d) least → most ≡ unwrap_or least (2 ^ 32 - 1) → most < 2 ^ 32 →
+    box_of y d u w < most → pulse_of y s c u d w ≡ []
+lesser_box tests y s c u d w most (Some x) out is fits below =
+    quiet_box tests y s c u d w (box_of y d u w) (Some x) out (omega arith) (omega arith)
+    (λ least e. let same : x ≡ least = ap (λ o. unwrap_or o x) e in omega (arith, below, is, same))
+lesser_box tests y s c u d w most None out is fits below =
+    quiet_box tests y s c u d w (box_of y d u w) None out (omega arith) (omega arith)
+    (λ least e. let both : None ≡ Some least = e in absurd (cc))
 
 -- the least sum of a delay
 pub least_at : (s : Search) (c : Sought) (first end d : ℕ) (thresholds : BoxThresholds) (least : Option ℕ) →

@@ -1,10 +1,10 @@
 -- A row more of a pass.
-use Rattle.std.proofs.Common.{◌≡◌, ℕ, ◌+◌, ◌-◌, ◌*◌, ◌<◌, List, get_or, slice_index, sym, ◌∙◌, ap, arith}
+use Rattle.std.proofs.Common.{◌≡◌, ℕ, ◌+◌, ◌-◌, ◌*◌, ◌<◌, List, get_or, slice_index, sym, ◌∙◌, ap, subst, arith}
 use Rattle.fdmt_carry.specs.Carrying.{Carrying, IsBegun, IsRowOn, AreNext}
 use Rattle.fdmt_carry.specs.Tables.{Tables}
 use Rattle.search_model.specs.Samples.{Filterbank}
 use Rattle.search_model.specs.Sums.{path_sum}
-use Rattle.shard_search.specs.Sums.{IsPassedTo}
+use Rattle.shard_search.specs.Sums.{IsPassedTo, sums_of}
 
 pub passed_more : (c mid new : Carrying) (d : ℕ) → IsPassedTo c mid d → IsRowOn mid new → IsPassedTo c new (d + 1)
 passed_more c mid new d passed row = record {
@@ -45,3 +45,16 @@ row_is_made c new f row d passed is = λ k inside.
     ∙ ap (λ (t : Tables). path_sum f t.plan.edges (new.fed + k) (new.next - 1)) passed.tables
     ∙ ap (λ u. path_sum f c.tables.plan.edges (u + k) (new.next - 1)) passed.fed
     ∙ ap (λ e. path_sum f c.tables.plan.edges (c.fed + k) e) (let e : new.next - 1 ≡ d = omega (arith, next) in e)
+
+-- the sums of a row that was left out are those of its delay
+pub sums_left_out : (c mid : Carrying) (f : Filterbank) (d start least : ℕ) → IsPassedTo c mid d → start ≡ c.fed →
+    ((k : ℕ) → k < mid.last → path_sum f mid.tables.plan.edges (mid.fed + k) mid.next < least) →
+    (k : ℕ) → k < c.last → sums_of f c.tables.plan.edges d (start + k) < least
+unfolding sums_of
+sums_left_out c mid f d start least passed from below = λ k inside.
+    let last = passed.last in
+    subst (λ (sum : ℕ). sum < least)
+    (ap (λ (t : Tables). path_sum f t.plan.edges (mid.fed + k) mid.next) passed.tables
+    ∙ ap (λ u. path_sum f c.tables.plan.edges (u + k) mid.next) (passed.fed ∙ sym from)
+    ∙ ap (λ e. path_sum f c.tables.plan.edges (start + k) e) passed.next)
+    (below k (omega (arith, inside, last)))

@@ -1,5 +1,6 @@
 -- How many widths there are, and the pulses of a delay by width.
-use Rattle.std.proofs.Common.{◌≡◌, ℕ, ◌≤◌, Bool, List, length, map, nat_le, sym, ◌∙◌, ap, arith}
+use Rattle.std.proofs.Common.{◌≡◌, ℕ, ◌<◌, ◌≤◌, Bool, List, [], ◌∷◌, length, map, nat_le, sym, ◌∙◌, ap, arith, append-nil}
+use Rattle.std.specs.Prelude.{filter}
 use Rattle.std.specs.List.{flat_map}
 use Rattle.std.proofs.lemmas.List.Sums.{length-filter, count_by-le-length}
 use Rattle.std.proofs.lemmas.List.Folds.{flat_map-map}
@@ -27,3 +28,19 @@ pub pulses_by_width : (y : ℕ → ℕ → ℕ) (s : Search) (c : Sought) (first
 pulses_by_width y s c first end u d by_width are =
     sym (flat_map-map (λ w. pulse_of y s c u d w) (λ (l : BoxThresholds). l.width) by_width)
     ∙ ap (flat_map (λ w. pulse_of y s c u d w)) are.widths
+
+-- where boxes have one sum, there is one width
+one_width : (s : Search) → s.widest ≡ 1 → widths s ≡ 1 ∷ []
+one_width s one = ap (λ n. filter (λ w. nat_le w n) box_widths) one
+
+pub first_width : (s : Search) (c : Sought) (first end : ℕ) (by_width : List BoxThresholds) →
+    AreOfAllWidths s c first end by_width → s.widest ≡ 1 → 0 < length by_width
+first_width s c first end by_width are one =
+    let long : length (map (λ (l : BoxThresholds). l.width) by_width) ≡ length by_width = simp length-map in
+    let same = ap (λ (ws : List ℕ). length ws) (are.widths ∙ one_width s one) in
+    omega (arith, long, same)
+
+pub pulses_of_one : (y : ℕ → ℕ → ℕ) (s : Search) (c : Sought) (u d : ℕ) → s.widest ≡ 1 →
+    pulses_of_delay y s c u d ≡ pulse_of y s c u d 1
+pulses_of_one y s c u d one =
+    ap (flat_map (λ w. pulse_of y s c u d w)) (one_width s one) ∙ append-nil (pulse_of y s c u d 1)

@@ -6,7 +6,7 @@ use Rattle.search_model.specs.declared.search.Search.{Search}
 use Rattle.search_model.specs.Samples.{Filterbank}
 use Rattle.search_model.specs.Search.{folds_are_on}
 use Rattle.subband_plan.specs.Plans.{band_plan}
-use Rattle.shard_search.specs.Counts.{most_tables}
+use Rattle.shard_search.specs.declared.tables.TheConstants.{MOST_TABLES}
 use Rattle.fold_search.specs.FoldSearch.{FoldsFit}
 use Rattle.shard_search.specs.Sought.{Sought}
 use Rattle.shard_search.specs.Sums.{ShardState, StandsForStream}
@@ -23,7 +23,7 @@ pub record IsOpenedShard
     : Type 0 where
   pub plan : x.carry.tables.plan ≡ band_plan edges first (end - 1)
   pub rows : x.carry.tables.chunk ≡ chunk
-  pub most : x.carry.tables.most ≡ min chunk most_tables
+  pub most : x.carry.tables.most ≡ min chunk MOST_TABLES
   pub greatest : x.carry.max_sample ≡ max_sample
   pub search_is : x.pulses.search ≡ s
   pub sought_is : x.pulses.sought ≡ c

@@ -64,8 +64,8 @@ pub record GoOnAlike (p p' : PulseState) (g g' : Fronts) (first end : ℕ) : Typ
   pub folds : FoldsAlike g' g
   pub few : length p'.hits ≤ 6 * (end - first)
 
--- The parts were fed the sums of a stream: for the delays below d, n more than those that end at the first m spectra.
--- The hits are those of these n spectra, for the delays below d, and their rows are kept.
+-- What the parts keep is of the sums of a stream: for the delays below d, of n more than those that end at the first m
+-- spectra. The hits are those of these n spectra, for the delays below d, and their rows are kept.
 pub record HaveTaken (y : ℕ → ℕ → ℕ) (p : PulseState) (g : Fronts) (m n d : ℕ) : Type 0 where
   pub rows_below : (e : ℕ) → SearchesDelay p e → e < d
       → WideRowHas p.boxes e (first_sums y e (m + n))
@@ -75,6 +75,12 @@ pub record HaveTaken (y : ℕ → ℕ → ℕ) (p : PulseState) (g : Fronts) (m 
   pub hits : (k : ℕ) → k < n → pulses_of_hits y p.search p.sought (m + k) p.hits
       ≡ pulses_of_end y p.search p.sought p.first d (m + k)
   pub kept : All (IsHitBelow y p.boxes m n d) p.hits
+
+-- The row of delay d need not be taken where all its sums are below `least`: with the rows of the delays below d, those
+-- up to d are taken as well.
+abbrev pub CanLeaveOut : PulseState → Fronts → ℕ → ℕ → Type 0
+CanLeaveOut p g d least = (y : ℕ → ℕ → ℕ) (m n : ℕ) → ((k : ℕ) → k < n → y d (m + k) < least) →
+    HaveTaken y p g m n d → HaveTaken y p g m n (d + 1)
 
 -- all parts were fed the first spectra of a stream
 pub record StandsForStream (s : ShardState) (f : Filterbank) : Type 0 where
@@ -107,7 +113,7 @@ pub record IsAtRow (c : Carrying) (d start : ℕ) : Type 0 where
   pub short : c.last ≤ c.tables.chunk
   pub start_is : start ≡ c.fed
 
--- the pass goes on, and has made the rows of the delays below d
+-- the pass goes on, and has come to the row of delay d
 pub record IsPassedTo (before after : Carrying) (d : ℕ) : Type 0 where
   pub tables : after.tables ≡ before.tables
   pub max_sample : after.max_sample ≡ before.max_sample

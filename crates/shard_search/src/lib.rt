@@ -6,6 +6,7 @@ mod laws;
 mod pulse_search;
 mod shard;
 mod sought;
+mod tables;
 mod thresholds;
 
 pub use laws::shards_are_listed;

@@ -109,6 +109,20 @@ impl PulseSearch {
         self.hits.clear();
     }
 
+    /// The least path sum for which the row of a delay has to be taken: 0 where boxes are wider than one sum, and the
+    /// greatest u32 where no sum is detected. No pulse ends at a lesser one.
+    pub(crate) fn least_needed(&self, d: u32) -> u32
+        requires { SearchesDelay self.now d }
+        ensures wide { 1 < self.now.boxes.widest → result ≡ 0 }
+        ensures quiet { (y : ℕ → ℕ → ℕ) (u : ℕ) → y d u < result
+            → pulses_of_delay y self.now.search self.now.sought u d ≡ [] }
+    {
+        if self.search.widest > 1 {
+            return 0;
+        }
+        self.by_width[0].least(self.first, d)
+    }
+
     /// Takes the next path sums of a delay, and notes the widths at which a box that ends at one of them may be
     /// detected. At each other width none is.
     pub(crate) fn take(&mut self, d: u32, row: &[u32])
@@ -137,7 +151,7 @@ impl PulseSearch {
         note_hits(
             &mut self.hits,
             self.by_width.as_slice(),
-            &self.boxes,
+            &mut self.boxes,
             row,
             self.first,
             d,
@@ -267,14 +281,15 @@ fn keep_row(boxes: &mut Boxes, widest: u32, d: u32, row: &[u32])
 fn note_hits(
     hits: &mut Vec<Hit>,
     by_width: &[BoxThresholds],
-    boxes: &Boxes,
+    boxes: &mut Boxes,
     row: &[u32],
     first: u32,
     d: u32,
 )
     requires above { first ≤ d }
-    requires by_width { All (CanJudge boxes.now first d) by_width.now }
+    requires by_width { All (CanJudge boxes.old first d) by_width.now }
     requires room { vec_len hits.old + length by_width.now ≤ vec_capacity hits.old }
+    ensures same { boxes.new ≡ boxes.old }
     ensures capacity { vec_capacity hits.new ≡ vec_capacity hits.old }
     ensures few { length hits.new.items ≤ length hits.old.items + length by_width.now }
     ensures hits { (s : Search) (c : Described) (end : ℕ)
@@ -283,7 +298,7 @@ fn note_hits(
     ensures own { AddsHitsOf d hits.old.items hits.new.items }
     ensures pulses { (s : Search) (c : Described) (end m k : ℕ) (y : ℕ → ℕ → ℕ)
         → All (AreThresholds s c first end) by_width.now
-        → IsTakenRow y boxes.now d m row.now → k < length row.now
+        → IsTakenRow y boxes.old d m row.now → k < length row.now
         → pulses_of_hits y s c (m + k) hits.new.items
         ≡ pulses_of_hits y s c (m + k) hits.old.items
         ++ flat_map (λ thresholds. pulse_of y s c (m + k) d thresholds.width) by_width.now }

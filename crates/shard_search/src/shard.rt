@@ -7,17 +7,19 @@ ghost use Rattle.search_model.specs.Samples.{Filterbank};
 ghost use Rattle.search_model.specs.Search.{SettingsInRange};
 ghost use Rattle.dada_model.specs.Edges.{AreEdges};
 ghost use Rattle.fold_search.specs.Counts.{most_folds};
-ghost use Rattle.shard_search.specs.Counts.{most_pulses_at_end, most_tables};
+ghost use Rattle.shard_search.specs.Counts.{most_pulses_at_end};
+ghost use Rattle.shard_search.specs.declared.tables.TheConstants.{MOST_TABLES};
 ghost use Rattle.fold_search.specs.FoldSearch.{IsDelayRange, HasDelay, FoldsAlike};
 ghost use Rattle.fold_search.specs.Judging.{Adds};
 ghost use Rattle.shard_search.specs.Opening.{SumsFit, IsOpenedShard};
 ghost use Rattle.shard_search.specs.PulseSearch.{SearchesDelay, SearchAlike};
 ghost use Rattle.shard_search.specs.Pulses.{IsRowOf};
 ghost use Rattle.shard_search.specs.Sought.{CanBeSought, cells_in};
-ghost use Rattle.shard_search.specs.Sums.{ShardState, FitTogether, StandsForStream, HasStream, ContinuesStream, PassesStream, AreDelaysOf, IsAtRow, GoOnAlike, IsPassedTo, HaveTaken, HasTakenNext, sums_of, folds_of_plan};
+ghost use Rattle.shard_search.specs.Sums.{ShardState, FitTogether, StandsForStream, HasStream, ContinuesStream, PassesStream, AreDelaysOf, IsAtRow, GoOnAlike, IsPassedTo, HaveTaken, CanLeaveOut, HasTakenNext, sums_of, folds_of_plan};
 
 use crate::pulse_search::PulseSearch;
 use crate::sought::Sought;
+use crate::tables::MOST_TABLES;
 use candidate_book::Book;
 use fdmt_carry::Carry;
 use fold_search::FoldSearch;
@@ -29,9 +31,6 @@ use search_model::sums_are_bounded;
 use std::alloc::Global;
 use std::marker::Model;
 use subband_plan::Plan;
-
-/// Of how many spectra the tables of all nodes are made at the end, at most. They would take much memory for a chunk.
-const MOST_TABLES: u32 = 16;
 
 /// The path sums of a shard's delays, and the search for pulses and folds in them.
 #[derive(Drop)]
@@ -98,7 +97,8 @@ impl ShardSearch {
     }
 
     /// Takes the next spectra, whose samples of channel `c` begin at `c` times the chunk, and adds the pulses that end
-    /// at them to a book. The row of each delay is searched as it is made.
+    /// at them to a book. The row of each delay is searched as it is made. One that no fold needs, and at whose sums no
+    /// pulse can end, may be left out.
     pub fn pass(&mut self, samples: Samples<'_>, spectra: u32, book: &mut Book)
         requires rows { length (values_of samples)
             ≡ channels_of self.old.carry.tables.plan.edges * self.old.carry.tables.chunk }
@@ -214,7 +214,7 @@ fn open_carry(alloc: Global, plan: Plan, chunk: u32, max_sample: u32) -> Result<
     requires some { 1 ≤ chunk }
     requires short { chunk ≤ 65536 }
     requires fits { max_sample * (channels_of plan.edges + plan.last) < 2 ^ 32 }
-    ensures opened { IfOk result (λ c. IsOpened c plan chunk (min chunk most_tables) max_sample) }
+    ensures opened { IfOk result (λ c. IsOpened c plan chunk (min chunk MOST_TABLES) max_sample) }
     ensures stands { IfOk result (λ c. (f : Filterbank) → IsStream plan max_sample f
         → StandsForSamples c f) }
 {
@@ -222,7 +222,8 @@ fn open_carry(alloc: Global, plan: Plan, chunk: u32, max_sample: u32) -> Result<
     Carry::open_passing(alloc, plan, chunk, most, max_sample)
 }
 
-// Makes the rows of all delays in a pass, and takes each; their sums end at spectrum `start` and after it.
+// Makes and takes the rows of all delays in a pass, but for those that need not be taken; their sums end at spectrum
+// `start` and after it.
 fn pass_rows(
     pulses: &mut PulseSearch,
     folds: &mut FoldSearch,
@@ -257,9 +258,23 @@ fn pass_rows(
 {
     sums_are_bounded();
     for d in first..end {
-        carry.make_row(samples);
-        take_row(pulses, folds, carry.made(), start, d);
+        let least = least_needed(pulses, folds, d);
+        if carry.make_reaching_row(samples, least) {
+            take_row(pulses, folds, carry.made(), start, d);
+        }
     }
+}
+
+// The least path sum for which the row of a delay has to be taken: 0 where it has to be whatever its sums are.
+fn least_needed(pulses: &PulseSearch, folds: &FoldSearch, d: u32) -> u32
+    requires delay { SearchesDelay pulses.now d }
+    requires fold { HasDelay folds.now d }
+    ensures { CanLeaveOut pulses.now folds.now d result }
+{
+    if folds.is_folded(d) {
+        return 0;
+    }
+    pulses.least_needed(d)
 }
 
 // Takes the rows of all delays of a carry, whose sums end at spectrum `start` and after it.

@@ -1,5 +1,5 @@
 // The least detected sums of boxes.
-ghost use Rattle.std.specs.Prelude.{◌≡◌, ℕ, ◌+◌, ◌-◌, ◌*◌, ◌≤◌, ◌<◌, IfOk, IfSome, length, option_to_list};
+ghost use Rattle.std.specs.Prelude.{◌≡◌, ℕ, ◌+◌, ◌-◌, ◌*◌, ◌^◌, ◌≤◌, ◌<◌, [], false, IfOk, IfSome, length, option_to_list};
 ghost use Rattle.box_sums.specs.Rows.{IsWidth};
 ghost use Rattle.search_model.specs.declared.search.Search.{Search};
 ghost use Rattle.search_model.specs.Search.{SettingsInRange};
@@ -96,26 +96,39 @@ impl BoxThresholds {
         Ok(BoxThresholds { width, least_sums })
     }
 
+    /// The least detected sum of a box of delay `d`, or the greatest u32, where no sum is detected. No lesser one is.
+    pub(crate) fn least(&self, first: u32, d: u32) -> u32
+        requires above { first ≤ d }
+        requires below { d < first + length self.now.least_sums.items }
+        ensures { (s : Search) (c : Described) (end u : ℕ) (y : ℕ → ℕ → ℕ)
+            → AreThresholds s c first end self.now → box_of y d u self.now.width < result
+            → pulse_of y s c u d self.now.width ≡ [] }
+    {
+        tests_detection();
+        self.least_sums[(d - first) as usize].unwrap_or(u32::MAX)
+    }
+
     /// The row of delay `d`, which was taken last, where one of its sums may end a detected box of this width. Where
     /// there is none, none of them does.
-    pub(crate) fn hit(&self, boxes: &Boxes, row: &[u32], first: u32, d: u32) -> Option<Hit>
+    pub(crate) fn hit(&self, boxes: &mut Boxes, row: &[u32], first: u32, d: u32) -> Option<Hit>
         requires above { first ≤ d }
         requires below { d < first + length self.now.least_sums.items }
         requires width { IsWidth self.now.width }
-        requires narrow { self.now.width ≤ boxes.now.widest }
+        requires narrow { self.now.width ≤ boxes.old.widest }
+        ensures same { boxes.new ≡ boxes.old }
         ensures own { IfSome result (λ hit. hit.delay ≡ d) }
         ensures hit { (s : Search) (c : Described) (end : ℕ) → AreThresholds s c first end self.now
             → IfSome result (IsHit s c first end) }
         ensures pulses { (s : Search) (c : Described) (end m k : ℕ) (y : ℕ → ℕ → ℕ)
             → AreThresholds s c first end self.now
-            → IsTakenRow y boxes.now d m row.now → k < length row.now
+            → IsTakenRow y boxes.old d m row.now → k < length row.now
             → pulses_of_hits y s c (m + k) (option_to_list result)
             ≡ pulse_of y s c (m + k) d self.now.width }
     {
         tests_detection();
-        let most = greatest_box(boxes, row, self.width);
+        boxes_fit(boxes, row, self.width);
         let least = self.least_sums[(d - first) as usize]?;
-        if most >= least {
+        if may_reach(boxes, row, self.width, least) {
             Some(Hit {
                 delay: d,
                 width: self.width,
@@ -127,17 +140,29 @@ impl BoxThresholds {
     }
 }
 
-// No box of a width that ends at one of the sums of a row, which was taken last, is greater. A box of one sum is that
-// sum.
-fn greatest_box(boxes: &Boxes, row: &[u32], width: u32) -> u32
+// Each box of a width that ends at one of the sums of a row, which was taken last, fits into 32 bits.
+fn boxes_fit(boxes: &Boxes, row: &[u32], width: u32)
     requires width { IsWidth width }
     requires narrow { width ≤ boxes.now.widest }
     ensures { (y : ℕ → ℕ → ℕ) (d m k : ℕ) → IsTakenRow y boxes.now d m row.now → k < length row.now
-        → box_of y d (m + k) width ≤ result }
+        → box_of y d (m + k) width < 2 ^ 32 }
+{
+    sums_add_values();
+    boxes.sums_fit();
+}
+
+// Whether a box of a width that ends at one of the sums of a row, which was taken last, may reach `least`. Where not,
+// none does. A box of one sum is that sum.
+fn may_reach(boxes: &mut Boxes, row: &[u32], width: u32, least: u32) -> bool
+    requires width { IsWidth width }
+    requires narrow { width ≤ boxes.old.widest }
+    ensures same { boxes.new ≡ boxes.old }
+    ensures below { result ≡ false → (y : ℕ → ℕ → ℕ) (d m k : ℕ) → IsTakenRow y boxes.old d m row.now
+        → k < length row.now → box_of y d (m + k) width < least }
 {
     if width < 2 {
-        return greatest(row);
+        return greatest(row) >= least;
     }
     sums_add_values();
-    boxes.bound_of_newest(width)
+    boxes.may_reach(width, least)
 }

@@ -10,13 +10,14 @@ use Rattle.shard_search.proofs.pulse_search.note_hits.Given as goal
 -- the hits of the first widths
 abbrev pub invariant-loop-thresholds : goal.invariant-loop-thresholds
 invariant-loop-thresholds l = record {
+  same : l.boxes ≡ l.fn.boxes;
   capacity : vec_capacity l.hits ≡ vec_capacity l.fn.hits;
   few : length l.hits.items ≤ length l.fn.hits.items + l.thresholds-index;
   hits : (s : Search) (c : Sought) (end : ℕ) → All (AreThresholds s c l.first end) l.by_width
       → All (IsHit s c l.first end) l.fn.hits.items → All (IsHit s c l.first end) l.hits.items;
   own : AddsHitsOf l.d l.fn.hits.items l.hits.items;
   pulses : (s : Search) (c : Sought) (end m k : ℕ) (y : ℕ → ℕ → ℕ) → All (AreThresholds s c l.first end) l.by_width
-      → IsTakenRow y l.boxes l.d m l.row → k < length l.row
+      → IsTakenRow y l.fn.boxes l.d m l.row → k < length l.row
       → pulses_of_hits y s c (m + k) l.hits.items ≡ pulses_of_hits y s c (m + k) l.fn.hits.items
       ++ flat_map (λ thresholds. pulse_of y s c (m + k) l.d thresholds.width) (take l.thresholds-index l.by_width);
 }

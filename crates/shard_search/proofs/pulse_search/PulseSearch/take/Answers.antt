@@ -1,5 +1,5 @@
 use Rattle.std.proofs.Common.{◌≡◌, ℕ, ◌+◌, ◌<◌, ◌++◌, All, List, length, vec_len, get_or, sym, ◌∙◌, ap, subst, arith, rules}
-use Rattle.box_sums.specs.Tails.{RowTails, IsNewest, IsKept}
+use Rattle.box_sums.specs.Tails.{RowTails, AreAlike, IsNewest, IsKept}
 use Rattle.shard_search.specs.declared.thresholds.BoxThresholds.{BoxThresholds}
 use Rattle.shard_search.specs.Thresholds.{AreThresholds}
 use Rattle.shard_search.specs.PulseSearch.{PulseState, WideRowHas, IsTakenRow, IsHitBelow}
@@ -38,7 +38,8 @@ pub invariant_of-self : goal.invariant_of-self
 invariant_of-self c =
     let f = c.self.inside in
     let i = c.self.invariant in
-    let fed = c.feed_boxes.ensures.alike in
+    let fed : AreAlike c.note_hits.new.boxes f.boxes =
+    subst (λ (b : RowTails). AreAlike b f.boxes) (sym c.note_hits.ensures.same) c.feed_boxes.ensures.alike in
     let kept = c.keep_row.ensures.alike in
     record {
       range = i.range;
@@ -100,11 +101,14 @@ returns-then-len-before-clause-kept c = λ y m is has before.
     let i = c.self.invariant in
     let d : ℕ = c.args.d in
     let n : ℕ = length c.args.row.now in
-    let alike = c.feed_boxes.ensures.alike in
+    let same = c.note_hits.ensures.same in
+    let alike : AreAlike c.note_hits.new.boxes f.boxes =
+    subst (λ (b : RowTails). AreAlike b f.boxes) (sym same) c.feed_boxes.ensures.alike in
     let first = alike.first in
     let last = alike.last in
-    let taken = taken_row y f.boxes c.args.self.now.boxes c.feed_boxes.new.boxes d m c.args.row.now
-    (ap (λ (p : PulseState). p.boxes) c.self.view_is) is has c.feed_boxes.ensures.newest in
+    let taken = subst (λ (b : RowTails). IsTakenRow y b d m c.args.row.now) (sym same)
+    (taken_row y f.boxes c.args.self.now.boxes c.feed_boxes.new.boxes d m c.args.row.now
+    (ap (λ (p : PulseState). p.boxes) c.self.view_is) is has c.feed_boxes.ensures.newest) in
     let sums = sums_more y d m c.args.row.now is in
     kept_more y f.boxes c.keep_row.new.boxes m n d f.hits.items c.note_hits.new.hits.items c.note_hits.ensures.own
     (λ j h inside. keeps_hit f.search f.sought f.first f.end f.boxes (get_or f.hits.items j h) i.boxes
@@ -115,10 +119,11 @@ returns-then-len-before-clause-kept c = λ y m is has before.
       above = (let above = keeps.above in omega (arith, above, first));
       below = (let below = keeps.below in omega (arith, below, last));
     })
-    apart (c.feed_boxes.ensures.kept e n (first_sums y e (m + n)) kept))
+    apart (subst (λ (b : RowTails). IsKept b e n (first_sums y e (m + n))) (sym same)
+    (c.feed_boxes.ensures.kept e n (first_sums y e (m + n)) kept)))
     (subst (IsKept c.keep_row.new.boxes d n) sums
     (c.keep_row.ensures.own (first_sums y d m)
-    (λ wide. subst (IsNewest c.feed_boxes.new.boxes d n) (sym sums) (taken.newest wide))))
+    (λ wide. subst (IsNewest c.note_hits.new.boxes d n) (sym sums) (taken.newest wide))))
 
 pub returns-else-len-before-clause-kept : goal.returns-else-len-before-clause-kept
 returns-else-len-before-clause-kept c = λ y m is has before.
@@ -129,7 +134,8 @@ returns-else-len-before-clause-kept c = λ y m is has before.
     let first = c.len-before.ensures in
     let second = c.len.ensures in
     let few = c.if-len-before.false in
-    kept_same y f.boxes c.feed_boxes.new.boxes m n c.args.d f.hits.items c.note_hits.new.hits.items
+    kept_same y f.boxes c.note_hits.new.boxes m n c.args.d f.hits.items c.note_hits.new.hits.items
     c.note_hits.ensures.own (omega (arith, old, new, first, second, few))
     (hits_seen y m n c.args.d _ c.args.self.now c.self.view_is before)
-    (λ e kept. c.feed_boxes.ensures.kept e n (first_sums y e (m + n)) kept)
+    (λ e kept. subst (λ (b : RowTails). IsKept b e n (first_sums y e (m + n))) (sym c.note_hits.ensures.same)
+    (c.feed_boxes.ensures.kept e n (first_sums y e (m + n)) kept))
