@@ -14,7 +14,7 @@ use Rattle.search_model.specs.SampleLaws.{SamplesOfBytes}
 use Rattle.search_model.specs.Samples.{Filterbank, filterbank, samples_of}
 use Rattle.spectra_rows.specs.Unpacking.{OpenedAlike, Unpacking, StandsForBytes, spectrum_bytes, unpacked}
 use Rattle.subband_plan.specs.Nodes.{BandPlan}
-use Rattle.search_engine.specs.Engine.{EngineState, EngineIsSound, Searches, HoldsData, HasTakenChunks, StandsForPart, BeginsWith, most_fed, scope_of}
+use Rattle.search_engine.specs.Engine.{EngineState, Searches, HoldsData, HasTakenChunks, StandsForPart, BeginsWith, most_fed, scope_of}
 use Rattle.search_engine.specs.Scope.{Scope, bytes_in, kept_by, kept_samples, spectrum_size}
 use Rattle.shard_search.specs.Sums.{ShardState, StandsForStream, ContinuesStream, SumsAlike}
 use Rattle.search_engine.proofs.Data.{begins_before, data_begin}
@@ -112,15 +112,6 @@ more_taken o taken e n has most = record {
   holds = more_holds o taken e n has.holds most;
   chunks = has.chunks;
   book = has.book;
-}
-
-pub more_sound : (e : EngineState) (n : ℕ) → EngineIsSound e → e.fed + n ≤ most_fed →
-    EngineIsSound (record e { fed = e.fed + n })
-more_sound e n sound most = record {
-  observation = sound.observation;
-  bytes = sound.bytes;
-  holds = more_holds sound.observation sound.bytes e n sound.holds most;
-  room = sound.room;
 }
 
 -- ---- bytes are pushed

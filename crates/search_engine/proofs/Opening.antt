@@ -10,7 +10,7 @@ use Rattle.search_model.specs.Plan.{plan_refusal}
 use Rattle.search_model.specs.Search.{SettingsInRange, shard_start}
 use Rattle.candidate_book.specs.Book.{BookContents, book_of}
 use Rattle.spectra_rows.specs.Unpacking.{Unpacking, StandsForBytes, spectrum_bytes}
-use Rattle.shard_search.specs.Counts.{most_tables}
+use Rattle.shard_search.specs.declared.tables.TheConstants.{MOST_TABLES}
 use Rattle.shard_search.specs.Pulses.{pulses_of_ends}
 use Rattle.shard_search.specs.Sought.{Sought}
 use Rattle.shard_search.specs.Sums.{ShardState, sums_of}
@@ -63,7 +63,7 @@ module _ (o : Observation) (s : Search) (k : ℕ) (masked : List Bool) (x : Soug
     chunk = ap (λ (u : Unpacking). u.chunk) p.unpacker ∙ p.chunk_is;
     plan = p.path_sums.plan;
     rows = p.path_sums.rows ∙ p.chunk_is;
-    most = p.path_sums.most ∙ ap (λ n. min n most_tables) p.chunk_is;
+    most = p.path_sums.most ∙ ap (λ n. min n MOST_TABLES) p.chunk_is;
     max_sample = p.path_sums.greatest;
     search = p.path_sums.search_is;
   }

@@ -8,7 +8,7 @@ use Rattle.search_model.specs.Observed.{candidates_of, filterbank_of}
 use Rattle.search_model.specs.Samples.{Filterbank}
 use Rattle.search_engine.specs.Engine.{EngineState, HasFoundIn, HasFoundPart, HasSearched, chunk_of, scope_of}
 use Rattle.search_engine.specs.Scope.{Scope, kept_samples, searched, spectrum_size, whole_scope}
-use Rattle.shard_search.specs.Counts.{most_tables}
+use Rattle.shard_search.specs.declared.tables.TheConstants.{MOST_TABLES}
 use Rattle.shard_search.specs.Laws.{ShardsAreListed}
 use Rattle.shard_search.specs.Sought.{Sought, sought_of, whole_of}
 
@@ -40,5 +40,5 @@ has_searched listed o bytes e whole part =
       plan = found.plan;
       carry = subst (λ (f : Filterbank). carry.StandsForSamples e.sums.carry f) same found.carry;
       tables = found.tables;
-      last = found.last ∙ ap (λ (f : Filterbank). min (f.spectra % chunk_of e.search) most_tables) same;
+      last = found.last ∙ ap (λ (f : Filterbank). min (f.spectra % chunk_of e.search) MOST_TABLES) same;
     }

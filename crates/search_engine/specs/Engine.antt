@@ -1,6 +1,6 @@
 -- What contracts see of an engine, and the data bytes that it stands for.
 -- Source: this project's choice.
-use Rattle.std.specs.Prelude.{◌≡◌, ℕ, ◌+◌, ◌-◌, ◌*◌, ◌/◌, ◌%◌, ◌^◌, ◌≤◌, ◌<◌, All, Bool, true, false, List, Option, None, length, min}
+use Rattle.std.specs.Prelude.{◌≡◌, ℕ, ◌+◌, ◌-◌, ◌*◌, ◌/◌, ◌%◌, ◌^◌, ◌≤◌, ◌<◌, All, Bool, true, false, List, Option, None, length, min, nat_lt, if◌then◌else◌}
 use Rattle.dada_model.specs.Bounds.{ObservationInRange}
 use Rattle.dada_model.specs.Observation.{Observation, edges, max_sample}
 use Rattle.search_model.specs.declared.search.Search.{Search}
@@ -14,11 +14,12 @@ use Rattle.spectra_rows.specs.Unpacking.{Unpacking, StandsForBytes, spectrum_byt
 use Rattle.subband_plan.specs.Plans.{band_plan}
 use Rattle.fdmt_carry.specs.Carrying as carry
 use Rattle.fdmt_carry.specs.Carrying.{IsStream}
-use Rattle.shard_search.specs.Counts.{most_pulses_at_end, most_tables}
+use Rattle.shard_search.specs.Counts.{most_pulses_at_end}
+use Rattle.shard_search.specs.declared.tables.TheConstants.{MOST_TABLES}
 use Rattle.shard_search.specs.Pulses.{pulses_of_ends}
 use Rattle.shard_search.specs.Sought.{Sought, cells_in, sought_of}
 use Rattle.shard_search.specs.Sums.{ShardState, StandsForStream, sums_of}
-use Rattle.search_engine.specs.declared.chunk.TheConstants.{MOST_CHUNK}
+use Rattle.search_engine.specs.declared.chunk.TheConstants.{LONG_DELAY, MOST_CHUNK, MOST_LONG_CHUNK}
 use Rattle.search_engine.specs.Scope.{Scope, bytes_in, candidates_in, kept_samples, limit_in_bytes, searched, whole_scope}
 
 -- The search of one shard: which channels are masked, how many bytes it was fed, and whether it ended; what stands
@@ -53,9 +54,9 @@ pub record KnowsSizes
 abbrev pub most_fed : ℕ
 most_fed = 2 ^ 48 + 2 ^ 28
 
--- how many spectra are searched at a time
+-- how many spectra are searched at a time: more where delays are long
 abbrev pub chunk_of : Search → ℕ
-chunk_of s = min s.chunk MOST_CHUNK
+chunk_of s = min s.chunk (if nat_lt s.max_delay LONG_DELAY then MOST_CHUNK else MOST_LONG_CHUNK)
 
 -- a stream of an observation's samples that begins with the first u spectra of the samples g
 pub record BeginsWith (o : Observation) (g : Filterbank) (u : ℕ) (f : Filterbank) : Type 0 where
@@ -78,7 +79,7 @@ pub record Searches (o : Observation) (e : EngineState) : Type 0 where
   pub plan : e.sums.carry.tables.plan
       ≡ band_plan (edges o) (shard_start e.search e.shard) (shard_start e.search (e.shard + 1) - 1)
   pub rows : e.sums.carry.tables.chunk ≡ chunk_of e.search
-  pub most : e.sums.carry.tables.most ≡ min (chunk_of e.search) most_tables
+  pub most : e.sums.carry.tables.most ≡ min (chunk_of e.search) MOST_TABLES
   pub max_sample : e.sums.carry.max_sample ≡ max_sample o
   pub search : e.sums.pulses.search ≡ e.search
 
@@ -113,8 +114,8 @@ pub record StandsForData (o : Observation) (bytes : List ℕ) (e : EngineState) 
   pub whole : scope_of e ≡ whole_scope o.channels
 
 -- all full chunks of what it took were searched: fewer spectra are held than a chunk has
-abbrev pub HoldsNoChunk : EngineState → Type 0
-HoldsNoChunk e = e.unpacker.whole < e.unpacker.chunk
+abbrev pub HoldsNoFullChunk : EngineState → Type 0
+HoldsNoFullChunk e = e.unpacker.whole < e.unpacker.chunk
 
 -- what always holds: there are bytes that it took; and as long as it has not ended, its book has room for more
 pub record EngineIsSound (e : EngineState) : Type 0 where
@@ -137,7 +138,7 @@ pub record SameShard (e f : EngineState) : Type 0 where
 
 -- The engine has searched these data bytes of an observation: its book has the shard's part of the candidate list, and
 -- its carry stands for all whole spectra over the shard's delays. The tables of all nodes stand for the last of these
--- alone, as many as come after the last whole chunk, but at most `most_tables`.
+-- alone, as many as come after the last whole chunk, but at most `MOST_TABLES`.
 pub record HasSearched (o : Observation) (bytes : List ℕ) (e : EngineState) : Type 0 where
   pub book : e.book ≡ book_of e.search.max_candidates
       (shard_part e.search e.shard (candidates_of o e.search bytes))
@@ -147,7 +148,7 @@ pub record HasSearched (o : Observation) (bytes : List ℕ) (e : EngineState) : 
   pub carry : carry.StandsForSamples e.sums.carry (filterbank_of o bytes)
   pub tables : e.sums.carry.has_tables ≡ true
   pub last : e.sums.carry.last
-      ≡ min ((filterbank_of o bytes).spectra % chunk_of e.search) most_tables
+      ≡ min ((filterbank_of o bytes).spectra % chunk_of e.search) MOST_TABLES
 
 -- The same of what lies in a scope: its book has the shard's part of the candidates that are sought there. That is the
 -- same for all streams that begin with these samples. And how many whole spectra there are in all.
@@ -162,7 +163,7 @@ pub record HasFoundIn (o : Observation) (c : Scope) (bytes : List ℕ) (e : Engi
       ≡ band_plan (edges o) (shard_start e.search e.shard) (shard_start e.search (e.shard + 1) - 1)
   pub carry : carry.StandsForSamples e.sums.carry (searched o c bytes)
   pub tables : e.sums.carry.has_tables ≡ true
-  pub last : e.sums.carry.last ≡ min ((searched o c bytes).spectra % chunk_of e.search) most_tables
+  pub last : e.sums.carry.last ≡ min ((searched o c bytes).spectra % chunk_of e.search) MOST_TABLES
   pub all : spectra_fed e ≡ (filterbank_of o bytes).spectra
   pub alike : (f : Filterbank) → BeginsWith o (searched o c bytes) e.sums.carry.fed f
       → f.spectra ≡ e.sums.carry.fed
@@ -184,7 +185,7 @@ pub record IsOpenedSums (o : Observation) (search : Search) (k chunk : ℕ) (c :
   pub plan : s.carry.tables.plan
       ≡ band_plan (edges o) (shard_start search k) (shard_start search (k + 1) - 1)
   pub rows : s.carry.tables.chunk ≡ chunk
-  pub most : s.carry.tables.most ≡ min chunk most_tables
+  pub most : s.carry.tables.most ≡ min chunk MOST_TABLES
   pub greatest : s.carry.max_sample ≡ max_sample o
   pub search_is : s.pulses.search ≡ search
   pub sought_is : s.pulses.sought ≡ c

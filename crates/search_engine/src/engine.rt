@@ -6,12 +6,12 @@ ghost use Rattle.search_model.specs.Plan.{plan_refusal};
 ghost use Rattle.search_engine.specs.Plan.{Explains};
 ghost use Rattle.row_schedule.specs.Samples.{values_of};
 ghost use Rattle.spectra_rows.specs.Unpacking.{StandsForBytes};
-ghost use Rattle.search_engine.specs.Engine.{EngineState, EngineIsSound, IsOpenedSums, StandsForData, StandsForPart, HasTakenChunks, HoldsNoChunk, KnowsSizes, HasSearched, HasFoundPart, IsOpenedEngine, IsOpenedUnpacker, SameShard, most_fed, scope_of, spectra_fed};
+ghost use Rattle.search_engine.specs.Engine.{EngineState, EngineIsSound, IsOpenedSums, StandsForData, StandsForPart, HasTakenChunks, HoldsNoFullChunk, KnowsSizes, HasSearched, HasFoundPart, IsOpenedEngine, IsOpenedUnpacker, SameShard, most_fed, scope_of, spectra_fed};
 ghost use Rattle.search_engine.specs.Scope.{FitsObservation, marks_of, count_before as count_before_of, limit_in_bytes as limit_in_bytes_of, spectrum_size as spectrum_size_of};
 ghost use Rattle.search_model.specs.Observed.{filterbank_of};
 ghost use Rattle.shard_search.specs.Sought.{CanBeSought, cells_in};
 
-use crate::chunk::MOST_CHUNK;
+use crate::chunk::chunk_of;
 use crate::fault::PlanFault;
 use crate::hiding::Masked;
 use crate::plan::check_plan;
@@ -120,7 +120,7 @@ impl Engine {
         check_plan(observation, search)?;
         observation.lies_in_range();
         edges_fall();
-        let chunk = search.chunk.min(MOST_CHUNK);
+        let chunk = chunk_of(search);
         let spectrum = spectrum_size(observation);
         let skipped = scope.first * spectrum;
         let stop = limit_in_bytes(scope.until, spectrum);
@@ -155,14 +155,14 @@ impl Engine {
             → StandsForPart o (before ++ bytes.now) self.new }
         ensures stands { (o : Described) (before : List ℕ) → StandsForData o before self.old
             → StandsForData o (before ++ bytes.now) self.new }
-        ensures searched { HoldsNoChunk self.new }
+        ensures searched { HoldsNoFullChunk self.new }
     {
         self.unpack(bytes);
         self.search_full();
     }
 
     /// Takes the next data bytes as `feed` does, but leaves a chunk that is full where they end. It is searched by
-    /// `search_full`, before the next bytes are taken, or by `end`.
+    /// `search_full`, by `end`, or before the next bytes are taken.
     pub fn unpack(&mut self, bytes: &[u8])
         requires running { self.old.has_ended ≡ false }
         requires few { self.old.fed + length bytes.now ≤ most_fed }
@@ -182,8 +182,8 @@ impl Engine {
         self.fed += (bytes.len() - to) as u64;
     }
 
-    /// How many bytes more make the chunk that is held full: `unpack` searches nothing where it takes no more. It is a
-    /// hint: no clause speaks of the answer.
+    /// How many bytes more make the chunk that is held full, at the least: those that the scope leaves out fill none.
+    /// `unpack` searches nothing where it takes no more than these. It is a hint: no clause speaks of the answer.
     pub fn room(&self) -> u64 {
         let spectra = u64::from(self.chunk - self.unpacker.spectra());
         let part = self.fed % self.spectrum;
@@ -203,7 +203,7 @@ impl Engine {
             → StandsForPart o bytes self.new }
         ensures stands { (o : Described) (bytes : List ℕ) → StandsForData o bytes self.old
             → StandsForData o bytes self.new }
-        ensures searched { HoldsNoChunk self.new }
+        ensures searched { HoldsNoFullChunk self.new }
     {
         if self.unpacker.spectra() == self.chunk {
             self.search_chunk();
@@ -307,7 +307,7 @@ impl Engine {
 
     // Takes bytes up to the end of the chunk, of which some are missing, and answers how many it took.
     fn take_piece(&mut self, bytes: &[u8]) -> usize
-        requires room { HoldsNoChunk self.old }
+        requires room { HoldsNoFullChunk self.old }
         requires some { 0 < length bytes.now }
         requires few { self.old.fed + length bytes.now ≤ most_fed }
         ensures some { 0 < result }
@@ -335,7 +335,7 @@ impl Engine {
         ensures fed { self.new.fed ≡ self.old.fed }
         ensures taken { (o : Described) (bytes : List ℕ) → HasTakenChunks o bytes self.old
             → HasTakenChunks o bytes self.new }
-        ensures searched { HoldsNoChunk self.new }
+        ensures searched { HoldsNoFullChunk self.new }
     {
         edges_fall();
         samples_of_bytes();
@@ -349,7 +349,7 @@ impl Engine {
     // Ends the data where less than a chunk is held.
     fn end_part(&mut self)
         requires running { self.old.has_ended ≡ false }
-        requires part { HoldsNoChunk self.old }
+        requires part { HoldsNoFullChunk self.old }
         ensures same { SameShard self.new self.old }
         ensures scope { scope_of self.new ≡ scope_of self.old }
         ensures ended { self.new.has_ended ≡ true }

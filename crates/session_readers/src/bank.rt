@@ -92,8 +92,8 @@ impl Bank {
         self.engines.len()
     }
 
-    /// How many bytes the engine of a transfer takes before the chunk that it holds is full. It is a hint: no clause
-    /// speaks of the answer.
+    /// How many bytes the engine of a transfer takes, at the least, before the chunk that it holds is full. It is a
+    /// hint: no clause speaks of the answer.
     pub(crate) fn room(&self, transfer: usize) -> u64 {
         match self.engines.get(transfer) {
             Some(Some(engine)) => engine.room(),

@@ -9,8 +9,8 @@ use Rattle.search_model.specs.declared.search.Search.{Search}
 use Rattle.row_schedule.specs.Samples.{values_of}
 use Rattle.search_model.specs.Samples.{Filterbank}
 use Rattle.spectra_rows.specs.Unpacking.{Unpacking}
-use Rattle.shard_search.specs.Counts.{most_tables}
-use Rattle.search_engine.specs.Engine.{BeginsWith, EngineState, HasFoundIn, HoldsData, HoldsNoChunk, StandsForPart, chunk_of, scope_of}
+use Rattle.shard_search.specs.declared.tables.TheConstants.{MOST_TABLES}
+use Rattle.search_engine.specs.Engine.{BeginsWith, EngineState, HasFoundIn, HoldsData, HoldsNoFullChunk, StandsForPart, chunk_of, scope_of}
 use Rattle.search_engine.specs.Scope.{Scope, bytes_in, kept_by, kept_samples, marks_of, spectrum_size}
 use Rattle.fold_search.specs.Judging.{Adds}
 use Rattle.shard_search.specs.Sought.{Sought, cells_in, sought_of}
@@ -116,7 +116,7 @@ returns-clause-found c = λ o bytes stands.
     let old = part.chunks in
     let holds = old.holds in
     let s = holds.searches in
-    let H : EngineState → Type 0 = λ e. HoldsNoChunk e in
+    let H : EngineState → Type 0 = λ e. HoldsNoFullChunk e in
     let short = subst H (sym c.self.view_is) c.requires.part in
     let masked : List Bool = marks_of i.masked in
     let sought : Sought = i.sums.pulses.sought in
@@ -185,7 +185,7 @@ returns-clause-found c = λ o bytes stands.
       carry = subst (λ (t : ShardState). carry.StandsForSamples t.carry g) (sym same) (after g own).carry;
       tables = ap (λ (t : ShardState). t.carry.has_tables) same ∙ c.take.ensures.tables;
       last = ap (λ (t : ShardState). t.carry.last) same ∙ c.take.ensures.last
-          ∙ last_are u r (chunk_of i.search) g.spectra most_tables i.sums.carry.tables.most s.most all old.chunks
+          ∙ last_are u r (chunk_of i.search) g.spectra MOST_TABLES i.sums.carry.tables.most s.most all old.chunks
           (subst (λ n. r < n) s.chunk (omega (arith, short, whole)));
       all = ap (λ n. i.fed / n) (same_size _ _ (hidden_alike _ _ _ _ hidden) ∙ size_is o _ s)
           ∙ ap (λ n. n / spectrum_size o) (sym part.count) ∙ sym (spectra_are o bytes);

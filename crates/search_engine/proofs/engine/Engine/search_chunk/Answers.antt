@@ -8,7 +8,7 @@ use Rattle.shard_search.specs.Sought.{Sought}
 use Rattle.search_engine.proofs.Feeding.{begins_less, rows_long, next_spectra, goes_on, few_spectra, searched_holds, marks_fit, few_channels}
 use Rattle.search_engine.proofs.Searched.{book_more, pulses_so_far}
 use Rattle.search_engine.proofs.Silenced.{IsHidden, hidden_alike, hidden_given, hidden_rows}
-use Rattle.search_engine.proofs.Sizes.{none_left, sizes_kept}
+use Rattle.search_engine.proofs.Sizes.{chunk_has_some, none_left, sizes_kept}
 use Rattle.search_engine.proofs.Whole.{scope_at}
 use Rattle.search_engine.proofs.WholeChunks.{chunk_more}
 use Rattle.search_engine.proofs.engine.Engine.search_chunk.Goals as goal
@@ -97,9 +97,9 @@ pub returns-clause-searched : goal.returns-clause-searched
 returns-clause-searched c =
     let s = c.self.invariant.0.holds.searches in
     let chunk = s.chunk in
-    let least = s.range.parts.least_chunk in
+    let some = chunk_has_some c.self.inside.search s.range.parts.least_chunk in
     let same = ap (λ (x : Unpacking). x.chunk) c.hide.ensures.same in
-    none_left c.hide.new.unpacker c.taken.new.self c.taken.ensures.part (omega (arith, same, chunk, least))
+    none_left c.hide.new.unpacker c.taken.new.self c.taken.ensures.part (omega (arith, same, chunk, some))
 
 pub returns-clause-taken : goal.returns-clause-taken
 returns-clause-taken c = λ o bytes stands.

@@ -1,5 +1,5 @@
 use Rattle.std.proofs.Common.{◌++◌, take, refl, sym, ap, subst, arith}
-use Rattle.search_engine.specs.Engine.{EngineState, HasTakenChunks, HoldsNoChunk}
+use Rattle.search_engine.specs.Engine.{EngineState, HasTakenChunks, HoldsNoFullChunk}
 use Rattle.search_engine.proofs.Feeding.{piece_holds, begins_old}
 use Rattle.search_engine.proofs.Slices.{bytes_are}
 use Rattle.search_engine.proofs.Sizes.{room_left, sizes_kept}
@@ -25,7 +25,7 @@ invariant_of-self c =
 
 pub returns-clause-some : goal.returns-clause-some
 returns-clause-some c =
-    let H : EngineState → Type 0 = λ e. HoldsNoChunk e in
+    let H : EngineState → Type 0 = λ e. HoldsNoFullChunk e in
     let part = subst H (sym c.self.view_is) c.requires.room in
     let room = room_left c.self.inside.unpacker c.self.invariant.0.holds.held.short part in
     let count = c.push-count.ensures.count in
