@@ -1,4 +1,5 @@
-//! Rows of tables of options: how a value is read, which numbers it may be, and which one stands where no word gives one.
+//! Rows of tables of options: how a value is read, which numbers it may be, and which one stands where no word gives
+//! one.
 #![tactic(auto)]
 
 mod laws;

@@ -1,6 +1,6 @@
 // The text of what was found.
-ghost use Rattle.std.specs.Prelude.{◌≡◌, ℕ, Bool, List, Some, IfSome};
-ghost use Rattle.disk_feeder.specs.declared.answers.FeedEnd.TheVariants.{Whole};
+ghost use Rattle.std.specs.Prelude.{◌≡◌, ◌≢◌, ℕ, Bool, List, Some, IfSome};
+ghost use Rattle.disk_feeder.specs.declared.answers.FeedEnd.TheVariants.{Whole, ReadFault};
 ghost use Rattle.run_stop.specs.Conversions.{stop_of_feed};
 ghost use Rattle.channel_mask.specs.Masked.{HasFoundKept};
 ghost use Rattle.psr_mask.specs.Ends.{HoldsKept, EndsFed, EndsMasked};
@@ -23,10 +23,11 @@ fn write_text<K: Sink>(
 ) -> Option<Stop>
     requires { (mask : List Bool) × (bytes : List ℕ)
         × HasFoundKept observation.now search.now mask bytes engine.now }
-    ensures { (mask : List Bool) (bytes : List ℕ)
+    ensures ended { (mask : List Bool) (bytes : List ℕ)
         → HasFoundKept observation.now search.now mask bytes engine.now
         → EndsMasked observation.now search.now mask bytes (K.seen out.old) (K.seen out.new)
         result }
+    ensures no_read_fault { result ≢ Some Stop.ReadFault }
 {
     let count = engine.book().count();
     if count > u64::from(search.max_candidates) {
@@ -53,6 +54,7 @@ pub(crate) fn write_end<K: Sink>(
         × HoldsKept observation.now search.now mask bytes engine }
     ensures stopped { IfSome (stop_of_feed feed) (λ fed. (result ≡ Some fed)
         × (K.seen out.new ≡ K.seen out.old)) }
+    ensures read_fault { result ≡ Some Stop.ReadFault → feed ≡ ReadFault }
     ensures ended { (mask : List Bool) (bytes : List ℕ)
         → HoldsKept observation.now search.now mask bytes engine
         → EndsFed (stop_of_feed feed) observation.now search.now mask bytes (K.seen out.old)

@@ -7,7 +7,6 @@ use Rattle.dada_model.specs.Observation.{Observation}
 use Rattle.psr_base.specs.Told.{Told, InputsSeen}
 use Rattle.psr_base.specs.Written.{SinkSeen, WroteAll, WroteFront}
 use Rattle.ring_ends.specs.declared.finished.Finished.{Finished}
-use Rattle.search_model.specs.declared.search.Search.{Search}
 use Rattle.search_words.specs.declared.fault.WordFault.{WordFault}
 use Rattle.search_words.specs.declared.fault.WordFault.TheVariants as word
 use Rattle.search_words.specs.Settings.{SettingsSeen}
@@ -377,24 +376,6 @@ module _ (words : List (List ℕ)) (inputs : InputsSeen) (is_calm : Type 0) wher
         at_text wholes is f.observation f.bytes f.known before after stop
         (subst (λ (x : Option Stop). EndsFed x f.observation s0.search from (until_in words) f.bytes before after stop)
         is f.ended)
-
--- ---- want of memory is none of the ends of a session
-
-pub never_memory : (end : FeedEnd) (stop : Option PartStop) (o : Observation) (s : Search) (from : Checkpoint)
-    (until : ℕ) (before after : SinkSeen) →
-    IfSome (stop_of_feed end) (λ fed. (stop ≡ Some (Run fed)) × (after ≡ before)) →
-    ((count : ℕ) → end ≡ feed.Whole count → (bytes : List ℕ)
-    × EndsFed (stop_of_feed end) o s from until bytes before after stop) → stop ≡ Some (Run Memory) → ⊥
-never_memory (feed.Whole count) stop o s from until before after stopped ended is =
-    let e = ended count refl in
-    subst (λ (x : Option PartStop). EndsText o s from until e.0 before after x) is e.1
-never_memory feed.ReadFault stop o s from until before after stopped ended is = let e = stopped.0 in absurd cc
-never_memory (feed.BadHeader file cause) stop o s from until before after stopped ended is =
-    let e = stopped.0 in absurd cc
-never_memory (feed.Gap file expected found) stop o s from until before after stopped ended is =
-    let e = stopped.0 in absurd cc
-never_memory (feed.TooLong limit) stop o s from until before after stopped ended is =
-    let e = stopped.0 in absurd cc
 
 -- ---- with the notes
 

@@ -1,24 +1,19 @@
 -- What a fault of the inputs leaves.
 use Rattle.std.proofs.Common.{◌≡◌, ◌≢◌, ℕ, List, Bool, true, false, Some, None, Err, inl, refl, sym, ap, ◌∙◌, subst}
-use Rattle.std.specs.Prelude.{Option, IfSome, IsSome, Result, if◌then◌else◌}
+use Rattle.std.specs.Prelude.{Option, IsSome, Result, if◌then◌else◌}
 use Rattle.std.specs.Str.{bytes_eq}
-use Rattle.dada_model.specs.Observation.{Observation}
 use Rattle.psr_base.specs.Told.{Told, OfFile, BreaksOff}
-use Rattle.psr_base.specs.Written.{SinkSeen}
 use Rattle.ring_ends.specs.declared.finished.Finished.{Finished}
-use Rattle.search_model.specs.declared.search.Search.{Search}
 use Rattle.search_model.specs.Parts.{check_line}
 use Rattle.search_words.specs.declared.fault.WordFault.{WordFault}
 use Rattle.search_words.specs.declared.fault.WordFault.TheVariants as word
-use Rattle.disk_feeder.specs.declared.answers.FeedEnd.{FeedEnd}
-use Rattle.disk_feeder.specs.declared.answers.FeedEnd.TheVariants as feed
 use Rattle.warm_restart.specs.declared.checkpoint.Checkpoint.{Checkpoint}
 use Rattle.warm_restart.specs.declared.checkpoint.CheckpointFault.{CheckpointFault}
 use Rattle.warm_restart.specs.declared.checkpoint.CheckpointFault.TheVariants as check
 use Rattle.warm_restart.specs.Named.{most_read, named_text, new_word}
 use Rattle.run_stop.specs.declared.stop.Stop.{Stop}
 use Rattle.run_stop.specs.declared.stop.Stop.TheVariants.{Memory, ReadFault}
-use Rattle.run_stop.specs.Conversions.{stop_of_words, stop_of_feed}
+use Rattle.run_stop.specs.Conversions.{stop_of_words}
 use Rattle.lone_run.specs.declared.stop.LoneStop.{LoneStop}
 use Rattle.lone_run.specs.declared.stop.LoneStop.TheVariants as lone
 use Rattle.lone_run.specs.Stops.{FailsReading}
@@ -27,7 +22,6 @@ use Rattle.psr_part.specs.declared.stop.PartStop.TheVariants.{Run}
 use Rattle.psr_part.specs.Texts.{stop_of_checkpoint}
 use Rattle.psr_part.specs.Part.{check_word}
 use Rattle.psr_part.specs.Outcome.{LeavesAtFault}
-use Rattle.psr_part.specs.Ends.{EndsFed, EndsText}
 
 -- words that are refused are no fault of the inputs
 pub not_words : (f : WordFault) (stop : Stop) → stop ≡ stop_of_words f → Some (Run stop) ≡ Some (Run ReadFault) → ⊥
@@ -84,22 +78,6 @@ fails {F} x stop is same =
     let Fails : LoneStop F → Type 0 = λ y. FailsReading (Err y) in
     let e : stop ≡ ReadFault = cc in
     subst Fails (sym (is ∙ ap lone.Run e)) refl
-
--- a search whose session ended with this stop was stopped by its feeder
-pub fed_fault : (end : FeedEnd) (stop : Option PartStop) (o : Observation) (s : Search) (from : Checkpoint) (until : ℕ)
-    (before after : SinkSeen) → IfSome (stop_of_feed end) (λ fed. (stop ≡ Some (Run fed)) × (after ≡ before)) →
-    ((count : ℕ) → end ≡ feed.Whole count → (bytes : List ℕ)
-    × EndsFed (stop_of_feed end) o s from until bytes before after stop) → stop ≡ Some (Run ReadFault) →
-    end ≡ feed.ReadFault
-fed_fault feed.ReadFault stop o s from until before after stopped ended is = refl
-fed_fault (feed.Whole count) stop o s from until before after stopped ended is =
-    let e = ended count refl in
-    absurd (subst (λ (x : Option PartStop). EndsText o s from until e.0 before after x) is e.1)
-fed_fault (feed.BadHeader file cause) stop o s from until before after stopped ended is =
-    let e = stopped.0 in absurd cc
-fed_fault (feed.Gap file expected found) stop o s from until before after stopped ended is =
-    let e = stopped.0 in absurd cc
-fed_fault (feed.TooLong limit) stop o s from until before after stopped ended is = let e = stopped.0 in absurd cc
 
 -- it stands on what went through the data ring
 pub with_them : (words : List (List ℕ)) (is_calm : Type 0) (old new : Told) (blocks all : Option Finished) →

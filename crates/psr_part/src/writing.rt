@@ -1,6 +1,6 @@
 // The text of what was found.
-ghost use Rattle.std.specs.Prelude.{◌≡◌, ℕ, ◌<◌, List, Some, IfSome};
-ghost use Rattle.disk_feeder.specs.declared.answers.FeedEnd.TheVariants.{Whole};
+ghost use Rattle.std.specs.Prelude.{◌≡◌, ◌≢◌, ℕ, ◌<◌, List, Some, IfSome};
+ghost use Rattle.disk_feeder.specs.declared.answers.FeedEnd.TheVariants.{Whole, ReadFault};
 ghost use Rattle.warm_restart.specs.Warm.{HasFound, SearchedPart};
 ghost use Rattle.run_stop.specs.Conversions.{stop_of_feed};
 ghost use Rattle.psr_part.specs.declared.stop.PartStop.TheVariants.{Run};
@@ -35,9 +35,11 @@ fn write_text<K: Sink>(
     requires found { (bytes : List ℕ) × HasFound observation.now bytes warm.now }
     requires place { place ≡ warm.now.checkpoint.place }
     requires limit { limit ≡ warm.now.search.max_candidates }
-    ensures { let w = warm.now in (bytes : List ℕ) → HasFound observation.now bytes w
+    ensures ended { let w = warm.now in (bytes : List ℕ) → HasFound observation.now bytes w
         → EndsText observation.now w.search w.checkpoint w.until bytes (K.seen out.old)
         (K.seen out.new) result }
+    ensures no_read_fault { result ≢ Some (Run Stop.ReadFault) }
+    ensures no_memory { result ≢ Some (Run Stop.Memory) }
 {
     let spectra = warm.spectra();
     if spectra < place {
@@ -68,6 +70,8 @@ fn write_end<K: Sink>(
     requires limit { limit ≡ warm.now.search.max_candidates }
     ensures stopped { IfSome (stop_of_feed feed) (λ fed. (result ≡ Some (Run fed))
         × (K.seen out.new ≡ K.seen out.old)) }
+    ensures read_fault { result ≡ Some (Run Stop.ReadFault) → feed ≡ ReadFault }
+    ensures no_memory { result ≢ Some (Run Stop.Memory) }
     ensures ended { let w = warm.now in (bytes : List ℕ) → HasFound observation.now bytes w
         → EndsFed (stop_of_feed feed) observation.now w.search w.checkpoint w.until bytes
         (K.seen out.old) (K.seen out.new) result }
@@ -92,6 +96,8 @@ pub(crate) fn finish<K: Sink>(
     ensures blocks { result.blocks ≡ Some found.blocks }
     ensures stopped { IfSome (stop_of_feed found.feed) (λ fed. (result.stop ≡ Some (Run fed))
         × (K.seen out.new ≡ K.seen out.old)) }
+    ensures read_fault { result.stop ≡ Some (Run Stop.ReadFault) → found.feed ≡ ReadFault }
+    ensures no_memory { result.stop ≢ Some (Run Stop.Memory) }
     ensures ended { (bytes : List ℕ)
         → SearchedPart found.observation search.now checkpoint until bytes found.engine
         → EndsFed (stop_of_feed found.feed) found.observation search.now checkpoint until bytes

@@ -1,5 +1,6 @@
 // The top call.
 ghost use Rattle.std.specs.Prelude.{◌≡◌, Some, map, string_bytes};
+ghost use Rattle.disk_feeder.specs.declared.answers.FeedEnd.TheVariants.{ReadFault};
 ghost use Rattle.run_stop.specs.Conversions.{stop_of_feed};
 ghost use Rattle.run_stop.specs.Outcomes.{ReadsNoData, LeavesAtFault};
 ghost use Rattle.run_stop.specs.Runs.{RecordingAlone};
@@ -14,7 +15,7 @@ use std::alloc::Global;
 use std::sync::Wait;
 use std::thread::Threads;
 use std::time::Clock;
-use whole_run::{Ended, Found, drive};
+use whole_run::{Found, ProgramEnd, drive};
 // Laws: they do nothing when they run, and the proofs use what they ensure.
 use run_stop::{end_after_whole, end_at_stop, end_at_words, end_before_session};
 
@@ -50,14 +51,15 @@ pub fn run_record<
     ensures broken { result.status ≡ 6 → LeavesAtFault RecordingAlone (map string_bytes words.now)
         (I.is_calm inputs.old) (I.told inputs.old) (I.told inputs.new) result.blocks }
 {
-    let Ended { stop, blocks } = record_files(rt, alloc, words, inputs, files, gate);
+    let ProgramEnd { stop, blocks } = record_files(rt, alloc, words, inputs, files, gate);
     let status = tell(stop, notes);
     Ran { status, blocks }
 }
 
 // What stopped a session.
 fn stop_of(found: &Found) -> Option<Stop>
-    ensures { result ≡ stop_of_session (stop_of_feed found.now.feed) found.now.recorded }
+    ensures is { result ≡ stop_of_session (stop_of_feed found.now.feed) found.now.recorded }
+    ensures read_fault { result ≡ Some Stop.ReadFault → found.now.feed ≡ ReadFault }
 {
     match Stop::of_feed(found.feed) {
         Some(stop) => Some(stop),
@@ -71,7 +73,7 @@ fn record_files<
     F: Files + Send,
     G: Gate + Sync,
     R: Threads + Wait + Clock + Sync,
->(rt: &R, alloc: Global, words: &[String], inputs: &mut I, files: &mut F, gate: &G) -> Ended
+>(rt: &R, alloc: Global, words: &[String], inputs: &mut I, files: &mut F, gate: &G) -> ProgramEnd
     requires closed { ¬ F.is_open files.old }
     ensures ends { Ends (map string_bytes words.now)
         (record {
@@ -94,7 +96,7 @@ fn record_files<
     let settings = match RunSettings::of_record(alloc, words) {
         Ok(settings) => settings,
         Err(fault) => {
-            return Ended {
+            return ProgramEnd {
                 stop: Some(Stop::of_words(fault)),
                 blocks: None,
             };
@@ -103,12 +105,12 @@ fn record_files<
     match drive(rt, alloc, Purpose::Record, &settings, inputs, files, gate) {
         Ok(found) => {
             let stop = stop_of(&found);
-            Ended {
+            ProgramEnd {
                 stop,
                 blocks: Some(found.blocks),
             }
         }
-        Err(stop) => Ended {
+        Err(stop) => ProgramEnd {
             stop: Some(stop),
             blocks: None,
         },

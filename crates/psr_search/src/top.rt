@@ -14,7 +14,7 @@ use std::alloc::Global;
 use std::sync::Wait;
 use std::thread::Threads;
 use std::time::Clock;
-use whole_run::{Ended, drive};
+use whole_run::{ProgramEnd, drive};
 // Laws: they do nothing when they run, and the proofs use what they ensure.
 use run_stop::{end_after_whole, end_at_stop, end_at_words, end_before_session, words_say_once};
 
@@ -53,7 +53,7 @@ pub fn run<
     ensures broken { result.status ≡ 6 → LeavesAtFault Searching (map string_bytes words.now)
         (I.is_calm inputs.old) (I.told inputs.old) (I.told inputs.new) result.blocks }
 {
-    let Ended { stop, blocks } = search(rt, alloc, words, inputs, files, out, gate);
+    let ProgramEnd { stop, blocks } = search(rt, alloc, words, inputs, files, out, gate);
     let status = tell(stop, notes);
     Ran { status, blocks }
 }
@@ -73,7 +73,7 @@ fn search<
     files: &mut F,
     out: &mut K,
     gate: &G,
-) -> Ended
+) -> ProgramEnd
     requires closed { AsksToRecord (map string_bytes words.now) → ¬ F.is_open files.old }
     ensures ends { Ends (map string_bytes words.now)
         (record {
@@ -98,7 +98,7 @@ fn search<
     let settings = match Settings::of(alloc, words) {
         Ok(settings) => settings,
         Err(fault) => {
-            return Ended {
+            return ProgramEnd {
                 stop: Some(Stop::of_words(fault)),
                 blocks: None,
             };
@@ -115,12 +115,12 @@ fn search<
     ) {
         Ok(found) => {
             let stop = write_end(&settings.search, &found, out);
-            Ended {
+            ProgramEnd {
                 stop,
                 blocks: Some(found.blocks),
             }
         }
-        Err(stop) => Ended {
+        Err(stop) => ProgramEnd {
             stop: Some(stop),
             blocks: None,
         },

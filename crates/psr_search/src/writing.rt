@@ -1,9 +1,9 @@
 // The text of what was found.
-ghost use Rattle.std.specs.Prelude.{◌≡◌, ◌<◌, ◌^◌, ℕ, List, Some, None, IfSome, map};
+ghost use Rattle.std.specs.Prelude.{◌≡◌, ◌≢◌, ◌<◌, ◌^◌, ℕ, List, Some, None, IfSome, map};
 ghost use Rattle.search_model.specs.Search.{SettingsInRange};
 ghost use Rattle.transfer_text.specs.Searched.{ObservedTransfer, candidate_total};
 ghost use Rattle.transfer_text.specs.Found.{HoldTransfers};
-ghost use Rattle.disk_feeder.specs.declared.answers.FeedEnd.TheVariants.{Whole};
+ghost use Rattle.disk_feeder.specs.declared.answers.FeedEnd.TheVariants.{Whole, ReadFault};
 ghost use Rattle.run_stop.specs.Conversions.{stop_of_feed};
 ghost use Rattle.psr_search.specs.Ends.{EndsSearch, EndsFed};
 
@@ -20,10 +20,11 @@ fn write_text<K: Sink>(search: &Search, found: &Found, out: &mut K) -> Option<St
         × HoldTransfers search.now transfers found.now.observations.items
         (map (λ row. row.items) found.now.books.items) found.now.spectra.items
         × (candidate_total search.now transfers < 2 ^ 64) }
-    ensures { (transfers : List ObservedTransfer) → HoldTransfers search.now transfers
+    ensures ended { (transfers : List ObservedTransfer) → HoldTransfers search.now transfers
         found.now.observations.items (map (λ row. row.items) found.now.books.items)
         found.now.spectra.items → EndsSearch search.now transfers found.now.recorded
         (K.seen out.old) (K.seen out.new) result }
+    ensures no_read_fault { result ≢ Some Stop.ReadFault }
 {
     match write_found(
         search,
@@ -48,6 +49,7 @@ pub(crate) fn write_end<K: Sink>(search: &Search, found: &Found, out: &mut K) ->
         × (candidate_total search.now transfers < 2 ^ 64) }
     ensures stopped { IfSome (stop_of_feed found.now.feed) (λ fed. (result ≡ Some fed)
         × (K.seen out.new ≡ K.seen out.old)) }
+    ensures read_fault { result ≡ Some Stop.ReadFault → found.now.feed ≡ ReadFault }
     ensures ended { (transfers : List ObservedTransfer) → HoldTransfers search.now transfers
         found.now.observations.items (map (λ row. row.items) found.now.books.items)
         found.now.spectra.items → EndsFed (stop_of_feed found.now.feed) search.now transfers

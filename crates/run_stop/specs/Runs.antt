@@ -50,19 +50,19 @@ is_search Searching = true
 is_search RecordingAlone = false
 is_search (Alone lone) = true
 
--- what it has for a search
+-- what a task has for a search
 abbrev pub SearchFor : Task → Type 0
 SearchFor Searching = Search
 SearchFor RecordingAlone = Unit {0}
 SearchFor (Alone lone) = Search
 
--- P holds of its search, if it has one
+-- P holds of the search of a task, if it has one
 abbrev pub IfSearch : (task : Task) → SearchFor task → (Search → Type 0) → Type 0
 IfSearch Searching search P = P search
 IfSearch RecordingAlone none P = ⊤
 IfSearch (Alone lone) search P = P search
 
--- its settings
+-- the settings of a task
 abbrev pub SettingsFor : Task → Type 0
 SettingsFor task = SettingsOf (SearchFor task)
 
@@ -71,12 +71,12 @@ abbrev pub task_of : Purpose → Task
 task_of (purpose.Search search) = Searching
 task_of purpose.Record = RecordingAlone
 
--- what it has for a search
+-- what a purpose has for a search
 abbrev pub search_for : (purpose : Purpose) → SearchFor (task_of purpose)
 search_for (purpose.Search search) = search
 search_for purpose.Record = tt
 
--- and its settings, with these of its run
+-- and the settings of its task, with these of a run
 abbrev pub settings_for : (purpose : Purpose) → RunSettings → SettingsFor (task_of purpose)
 settings_for purpose run = with_search (search_for purpose) (run_seen run)
 

@@ -113,6 +113,8 @@ impl Stop {
         ensures is { result ≡ stop_of_feed end }
         ensures walked { (bytes limit : ℕ) (stop : WalkStop) → end ≡ end_of bytes limit stop
             → result ≡ stop_of_walk limit stop }
+        ensures read_fault { result ≡ Some Stop.ReadFault → end ≡ FeedEnd.ReadFault }
+        ensures no_memory { result ≢ Some Stop.Memory }
     {
         match end {
             FeedEnd::Whole { .. } => None,

@@ -31,8 +31,8 @@ pub record StopsEarly (task : Task) (s : SettingsFor task) (told : Told) (stop :
   pub kind : ComesBefore stop
   pub says : SaysEarly task s told stop
 
--- What it has read: the first headers of all transfers and nothing else, where there was no memory; and a fault came
--- before that of some transfer was judged.
+-- What it has read, over its settings: the first headers of all transfers and nothing else, where there was no memory;
+-- and a fault came before that of some transfer was judged.
 pub record LeavesEarly (s : RunSeen) (is_calm : Type 0) (before after : Told) (stop : Stop) :
     Type 0 where
   pub unread : stop ≡ Memory → OfRunFirsts before s (λ w. ReadsFirsts s.names w before after)

@@ -30,12 +30,13 @@ use Rattle.search_opening.specs.Settings.{ForWords, OfRun, OfRunFirsts, BeginsRu
 
 -- ---- before the session
 
--- a run that was given up by its settings was given up so by its words
+-- a run was given up by its settings: so it is for all words that say these
 abbrev pub EarlyStopsAreSaid : Type 0
 EarlyStopsAreSaid = (task : Task) (s : SettingsFor task) (told : Told) (stop : Stop) →
     StopsEarly task s told stop → ForWords task s (λ words. StopsBefore task words told stop)
 
--- What it has read: no data, where there was no memory; and at a fault of its inputs what that leaves.
+-- What it has read, for all words that say its settings: no data, where there was no memory; and at a fault of its
+-- inputs what that leaves.
 pub record LeavesBefore (task : Task) (s : SettingsFor task) (is_calm : Type 0) (before after : Told)
     (stop : Stop) : Type 0 where
   pub unread : stop ≡ Memory → ForWords task s (λ words. ReadsNoData task words before after)
@@ -55,8 +56,8 @@ FirstsStayTold = (names : List (List ℕ)) (starts : List ℕ) (old new : Told)
 
 -- ---- by its session
 
--- A feeder has read since the inputs were `before`, and none of its calls failed. In this and the next two: what inputs
--- tell, and whether they are calm.
+-- A feeder has read since the inputs were `before`. In this and the next two `told` is what inputs tell, and `is_calm`
+-- whether they are calm.
 pub record HasReadSince {I : Type 0} (told : I → Told) (is_calm : I → Type 0) (before : I)
     (feeder : Feeder I) : Type 0 where
   pub names : (told feeder.inputs.now).bytes_under ≡ (told before).bytes_under
@@ -80,8 +81,8 @@ pub record HasFed {I : Type 0} (told : I → Told) (is_calm : I → Type 0) (tas
       k < length w.starts → transfer_bytes k (sealed_at_end blocks) ≡ transfer_data w k)
   pub few : (bytes : ℕ) → feed ≡ Whole bytes → bytes ≤ s.max_bytes
 
--- so it did whatever the run is for, for the settings that it reads the files of, and since any inputs that it has read
--- since
+-- `HasFed` holds for every task, for all settings whose files the feeder reads, and for all inputs since which it has
+-- read
 abbrev pub HasFedFiles : {I : Type 0} → (I → Told) → (I → Type 0) → Feeder I → I → Finished → FeedEnd →
     Type 0
 HasFedFiles {I} told is_calm feeder after blocks feed = (task : Task) (s : SettingsFor task)
@@ -99,7 +100,8 @@ SessionsFeedFiles {I} F told is_calm faults = (feeder : Feeder I) (end : Session
 
 -- ---- by its recorder
 
--- what was recorded of what went through: all of it, or a front where a call failed; or nothing was to be recorded
+-- What was recorded of what went through, over the settings: all of it, or a front where a call failed; or nothing was
+-- to be recorded. The recorder ended with this answer, if there was one.
 pub record RecordsRun {S : Type 0} (s : SettingsOf S) (told : Told) (blocks : Finished)
     (answer : Option RecordEnd) (before after : FilesSeen) : Type 0 where
   pub unrecorded : s.recording ≡ false → (after ≡ before) × (answer ≢ Some FileFault)

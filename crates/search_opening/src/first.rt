@@ -11,10 +11,10 @@ use disk_feeder::Feeder;
 use obs_plan::{ObsFault, Observation};
 use psr_base::Inputs;
 use run_stop::Stop;
-use std::alloc::Global;
-// Laws: they do nothing when they run, and the proofs use what they ensure.
-use dada_model::accepted_by_rows;
 use search_model::MOST_TRANSFERS;
+use std::alloc::Global;
+// A law: it does nothing when it runs, and the proofs use what it ensures.
+use dada_model::accepted_by_rows;
 
 // The first header of a transfer has no observation. Transfers count from 0.
 #[derive(Clone, Copy)]

@@ -31,8 +31,8 @@ fn judge_search(purpose: Purpose, observations: &[Option<Observation>]) -> Resul
         → CanSearchFirst search w (length w.starts))) }
     ensures kind { IfErr result IsOfPlan }
     ensures searches { OnErr result (is_search (task_of purpose) ≡ true) }
-    ensures refused { IfErr result (λ stop. IfSearch (task_of purpose) (search_for purpose) (λ search.
-        StopsSearch search observations.now stop)) }
+    ensures refused { IfErr result (λ stop. IfSearch (task_of purpose) (search_for purpose)
+        (λ search. StopsSearch search observations.now stop)) }
 {
     match purpose {
         Purpose::Search(search) => check_plans(observations, &search),

@@ -1,4 +1,4 @@
-// Laws of a run before its session and by its end, which the contracts of functions that do nothing carry. A caller
+// Laws of a run before its session and at its end, which the contracts of functions that do nothing carry. A caller
 // whose proof needs one calls its function.
 ghost use Rattle.search_opening.specs.Early.{EarlyStopsStand};
 ghost use Rattle.search_opening.specs.Ended.{EarlyStopsAreSaid, EarlyStopsLeave, FirstsStayTold, SessionsFeedFiles, RecordingsAreSaid};
@@ -17,7 +17,7 @@ pub fn firsts_stay_told()
     ensures { FirstsStayTold }
 {}
 
-/// A run that was given up by its settings, before its session, was given up so by all words that say them, and has
+/// A run was given up by its settings, before its session: so it is for all words that say these settings, and it has
 /// read what such a run reads.
 pub fn early_stops_are_said<I: Inputs>()
     ensures said { EarlyStopsAreSaid }

@@ -37,7 +37,7 @@ pub record SettingsOf (S : Type 0) : Type 0 where
 abbrev pub SettingsSeen : Type 0
 SettingsSeen = SettingsOf Search
 
--- and those of a run that searches nothing
+-- and those of a run alone, whatever it is for
 abbrev pub RunSeen : Type 0
 RunSeen = SettingsOf (Unit {0})
 

@@ -2,9 +2,10 @@
 use Rattle.std.proofs.Common.{◌≡◌, ℕ, ◌+◌, ◌^◌, ◌<◌, ◌≤◌, List, Option, Some, None, length, map, sym, ap, ◌∙◌, subst, arith}
 use Rattle.std.specs.Prelude.{slice_get, slice_index_or}
 use Rattle.std.specs.List.{sum_by, range_with_len}
+use Rattle.std.specs.Option.{option_map}
 use Rattle.std.proofs.lemmas.List.{length-map}
 use Rattle.std.proofs.lemmas.List.FromFn.{length-map-range_with_len}
-use Rattle.std.proofs.lemmas.Option.{slice_get-map, get_or_from_slice_get}
+use Rattle.std.proofs.lemmas.Option.{slice_get-map, slice_get-get_or, get_or_from_slice_get}
 use Rattle.std.proofs.lemmas.Simd.{map-map}
 use Rattle.dada_model.specs.Observation.{Observation}
 use Rattle.search_model.specs.Plan.{plan_refusal}
@@ -22,7 +23,7 @@ use Rattle.search_opening.specs.Engines.{AreOpenedBanks}
 use Rattle.search_opening.specs.First.{AreFirsts}
 use Rattle.search_opening.specs.Plans.{PlansFit}
 use Rattle.run_stop.specs.Runs.{first_observation, observed_transfers}
-use Rattle.whole_run.proofs.Lists.{some_at, if_some_at, same_over, as_map, sum_over, all_over}
+use Rattle.whole_run.proofs.Lists.{if_some_at, same_over, as_map, sum_over, all_over}
 
 -- ---- observations by their places
 
@@ -34,14 +35,8 @@ pub place_of_said : (observations : List (Option Observation)) (said : List Obse
     observations ≡ map Some said → k < length said →
     slice_get observations k ≡ Some (Some (said_at said other k))
 place_of_said observations said other k here below =
-    let there = some_at said k below in
     ap (λ os. slice_get os k) here ∙ slice_get-map Some said k
-    ∙ ap (λ o. option_of o) there.1
-    ∙ ap (λ (o : Observation). Some (Some o)) (sym (get_or_from_slice_get said k there.0 other there.1))
-  where
-    option_of : Option Observation → Option (Option Observation)
-    option_of (Some o) = Some (Some o)
-    option_of None = None
+    ∙ ap (option_map Some) (slice_get-get_or said k other below)
 
 -- the transfers of a session
 abbrev pub transfers_through : {I F : Type 0} → SessionEnd I F → List Observation → Observation → ℕ →

@@ -24,7 +24,7 @@ pub struct Found {
 /// What a program came to: its stop, or none where it went to its end; and what went through its data ring, where there
 /// was one.
 #[derive(Drop)]
-pub struct Ended {
+pub struct ProgramEnd {
     pub stop: Option<Stop>,
     pub blocks: Option<Finished>,
 }

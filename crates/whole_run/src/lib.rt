@@ -7,5 +7,5 @@ mod lent;
 mod run;
 mod session;
 
-pub use found::{Ended, Found};
+pub use found::{Found, ProgramEnd};
 pub use run::drive;

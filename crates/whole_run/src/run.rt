@@ -14,6 +14,7 @@ use arrayvec::ArrayVec;
 use disk_feeder::{Feeder, FeederSpace};
 use psr_base::{Files, Inputs};
 use run_stop::{Purpose, Stop};
+use search_model::MOST_TRANSFERS;
 use search_opening::open_run;
 use search_session::Gate;
 use search_words::RunSettings;
@@ -22,7 +23,6 @@ use std::sync::Wait;
 use std::thread::Threads;
 use std::time::Clock;
 // A law: it does nothing when it runs, and the proofs use what it ensures.
-use search_model::MOST_TRANSFERS;
 use search_opening::early_stops_are_said;
 
 // The same with all that is borrowed in one lifetime. `offsets` will hold where the data of each transfer begin.

@@ -17,6 +17,7 @@ use dada_recorder::Recorder;
 use disk_feeder::Feeder;
 use obs_plan::Observation;
 use psr_base::{Files, Inputs};
+use search_model::MOST_TRANSFERS;
 use search_opening::{OpenedRun, Spaces, StageSpace};
 use search_session::{Gate, SessionEnd, run_session};
 use std::sync::Wait;
@@ -24,7 +25,6 @@ use std::thread::Threads;
 use std::time::Clock;
 // Laws: they do nothing when they run, and the proofs use what they ensure.
 use run_stop::runs_record_blocks;
-use search_model::MOST_TRANSFERS;
 use search_opening::{firsts_stay_told, recordings_are_said, sessions_feed_files};
 use transfer_text::totals_are_counted;
 
@@ -194,8 +194,8 @@ pub(crate) fn go_on<
     files: &'a mut F,
     gate: &G,
 ) -> Lent<'a, I, F, Found>
-    requires opened { (task : Task) × (s : SettingsFor task) × IsOpened I.told I.is_open task s feeder
-        opened.observations.items opened.spaces }
+    requires opened { (task : Task) × (s : SettingsFor task)
+        × IsOpened I.told I.is_open task s feeder opened.observations.items opened.spaces }
     requires closed { IsSome opened.spaces.recorder → ¬ F.is_open files.old }
     ensures same_inputs { result.inputs.ghost_name ≡ feeder.entry.inputs.ghost_name }
     ensures same_files { result.files.ghost_name ≡ files.entry.ghost_name }

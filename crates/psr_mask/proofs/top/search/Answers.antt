@@ -11,7 +11,7 @@ use Rattle.lone_run.specs.Found.{IsFoundAlone}
 use Rattle.lone_run.specs.Stops.{StopsAlone}
 use Rattle.psr_mask.specs.Masking.{mask_search, mask_word, RefusesMask, ScopesMask}
 use Rattle.psr_mask.specs.declared.refusal.MaskRefusal.{MaskRefusal}
-use Rattle.psr_mask.proofs.Faults.{not_words, fails, of_alone, not_read, fed_fault}
+use Rattle.psr_mask.proofs.Faults.{not_words, fails, of_alone}
 use Rattle.psr_mask.proofs.Endings.{at_words, before_session, after_session, answered_so, holds, memory_is_early}
 use Rattle.psr_mask.proofs.top.search.Goals as goal
 
@@ -89,19 +89,9 @@ returns-in-Err-clause-broken g c = λ is. absurd (not_words c.in-Err.fault c.of_
 pub returns-in-Ok-drive_alone-clause-broken : goal.returns-in-Ok-drive_alone-clause-broken
 returns-in-Ok-drive_alone-clause-broken g c = λ failed.
     let words = map string_bytes c.args.words.now in
-    let told = g.I.Inputs.told c.args.inputs.now in
-    let s = settings_seen c.in-Ok.settings in
-    let found = c.in-Ok-drive_alone.found in
-    let r = c.in-Ok-drive_alone.ensures in
-    let is = subst (λ (text : List ℕ). IsFoundAlone (ScopesMask text) s told found) c.mask_word.ensures r.found in
-    let mask = mask_of found.observation (mask_word words) in
-    let stopped = fed_fault found.feed _ _ c.write_end-stop.result c.write_end-stop.ensures.stopped (λ count whole so.
-    let all = is.held count whole in
-    not_read found.feed count found.observation s.search mask all.bytes _ _ c.write_end-stop.result whole
-    (c.write_end-stop.ensures.ended mask all.bytes
-    (holds words told s found is c.in-Ok.ensures.in_range.search all)) so)
-    (of_alone c.write_end-stop.result (sym c.as_stop.ensures ∙ failed)) in
-    r.broken stopped (mask_search words) words c.in-Ok.ensures.says
+    let stopped = of_alone c.write_end-stop.result (sym c.as_stop.ensures ∙ failed) in
+    c.in-Ok-drive_alone.ensures.broken (c.write_end-stop.ensures.read_fault stopped) (mask_search words) words
+    c.in-Ok.ensures.says
 
 pub returns-clause-broken : goal.returns-clause-broken
 returns-clause-broken g c = λ is.

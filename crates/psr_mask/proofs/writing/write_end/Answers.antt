@@ -28,5 +28,5 @@ returns-in-None-clause-ended g c = λ mask bytes holds.
     (λ (x : Option Stop). EndsFed x o s mask bytes (g.K.Sink.seen c.args.out.now)
     (g.K.Sink.seen c.write_text-in-None.new.out) c.write_text-in-None.result)
     c.in-None.ensures.is
-    (c.write_text-in-None.ensures mask bytes
+    (c.write_text-in-None.ensures.ended mask bytes
     (c.of_engine.ensures.found o s mask bytes holds.searches holds.found))

@@ -4,8 +4,8 @@ use Rattle.candidate_book.specs.Book.{BookContents}
 use Rattle.search_engine.specs.Scope.{kept_by}
 use Rattle.psr_mask.proofs.writing.write_text.Goals as goal
 
-pub returns-in-Ok : goal.returns-in-Ok
-returns-in-Ok g c = λ mask bytes found.
+pub returns-in-Ok-clause-ended : goal.returns-in-Ok-clause-ended
+returns-in-Ok-clause-ended g c = λ mask bytes found.
     let s = c.args.search.now in
     let e = c.args.engine.now in
     let total : e.book.count ≡ length (masked_candidates_of c.args.observation.now s (kept_by mask) bytes) =
@@ -15,8 +15,8 @@ returns-in-Ok g c = λ mask bytes found.
     let few : e.book.count ≤ s.max_candidates = omega (arith, count, c.from.ensures, c.if-count-from.false) in
     (omega (arith, few, total), (c.in-Ok.ensures s mask bytes found few).text.all)
 
-pub returns-in-Err-Fault : goal.returns-in-Err-Fault
-returns-in-Err-Fault g c = λ mask bytes found.
+pub returns-in-Err-Fault-clause-ended : goal.returns-in-Err-Fault-clause-ended
+returns-in-Err-Fault-clause-ended g c = λ mask bytes found.
     let s = c.args.search.now in
     let e = c.args.engine.now in
     let total : e.book.count ≡ length (masked_candidates_of c.args.observation.now s (kept_by mask) bytes) =

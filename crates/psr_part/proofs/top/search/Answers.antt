@@ -1,13 +1,13 @@
 use Rattle.std.proofs.Common.{◌≡◌, Some, None, inr, refl, map}
 use Rattle.std.specs.Prelude.{string_bytes}
-use Rattle.psr_part.proofs.Endings.{at_words, never_memory}
+use Rattle.psr_part.proofs.Endings.{at_words}
 use Rattle.run_stop.specs.Outcomes as runs
 use Rattle.warm_restart.specs.Warm.{part_scope}
 use Rattle.psr_part.specs.Part.{check_names, searching}
 use Rattle.psr_part.proofs.Said.{until_is}
 use Rattle.psr_part.proofs.Runs.{goes_on, never, after_check, part_found, is_memory, with_blocks, where_refused, where_lone, where_driven}
 use Rattle.psr_part.proofs.Moved.{where_calm}
-use Rattle.psr_part.proofs.Faults.{not_words, not_memory, at_check, fails, fed_fault, with_them}
+use Rattle.psr_part.proofs.Faults.{not_words, not_memory, at_check, fails, with_them}
 use Rattle.psr_part.proofs.top.search.Goals as goal
 
 pub returns-in-Err-clause-ends : goal.returns-in-Err-clause-ends
@@ -72,13 +72,7 @@ returns-in-Ok-drive_alone-clause-ends g c =
     (part.0, part.1, c.finish.ensures.ended part.0 part.2)))
 
 pub returns-in-Ok-drive_alone-clause-early : goal.returns-in-Ok-drive_alone-clause-early
-returns-in-Ok-drive_alone-clause-early g c = λ is.
-    absurd (never_memory c.in-Ok-drive_alone.found.feed c.finish.result.stop _ _ _ _ _ _ c.finish.ensures.stopped
-    (λ count whole.
-    let part = part_found _ _ c.in-Ok-drive_alone.found c.in-Ok-read_checkpoint.checkpoint c.in-Ok.said.until _ _
-    c.in-Ok-read_checkpoint.ensures.within c.in-Ok.ensures.bound c.in-Ok.ensures.unfolded c.in-Ok.ensures.in_range
-    c.of-scope.ensures.place c.of-scope.ensures.until c.in-Ok-drive_alone.ensures.found count whole in
-    (part.0, c.finish.ensures.ended part.0 part.2)) is)
+returns-in-Ok-drive_alone-clause-early g c = λ is. absurd (c.finish.ensures.no_memory is)
 
 pub returns-clause-ends : goal.returns-clause-ends
 returns-clause-ends g c =
@@ -125,10 +119,6 @@ returns-in-Ok-drive_alone-clause-broken g c = λ is.
     let from = c.in-Ok-read_checkpoint.checkpoint in
     let found = c.in-Ok-drive_alone.found in
     let until = c.in-Ok.said.until in
-    let fault = fed_fault found.feed c.finish.result.stop _ _ _ _ _ _ c.finish.ensures.stopped (λ count whole.
-    let part = part_found _ _ found from until _ _ read.within c.in-Ok.ensures.bound c.in-Ok.ensures.unfolded
-    c.in-Ok.ensures.in_range c.of-scope.ensures.place c.of-scope.ensures.until driven.found count whole in
-    (part.0, c.finish.ensures.ended part.0 part.2)) is in
     with_them words (g.I.Inputs.is_calm c.args.inputs.now) told (g.I.Inputs.told c.drive_alone.new.inputs)
     (Some found.blocks)
     c.finish.result.blocks c.finish.ensures.blocks
@@ -138,7 +128,7 @@ returns-in-Ok-drive_alone-clause-broken g c = λ is.
     (λ x told. runs.LeavesAtFault (searching words x) words (g.I.Inputs.is_calm c.args.inputs.now) told
     (g.I.Inputs.told c.drive_alone.new.inputs) (Some found.blocks))
     (where_calm (searching words from) words _ _ _ _ (Some found.blocks) read.inputs.calm
-    (driven.broken fault _ words (c.in-Ok.ensures.says from)))))
+    (driven.broken (c.finish.ensures.read_fault is) _ words (c.in-Ok.ensures.says from)))))
 
 pub returns-clause-early : goal.returns-clause-early
 returns-clause-early g c = λ is.

@@ -1,13 +1,6 @@
 use Rattle.std.proofs.Common.{◌≡◌, Some, None, refl, ap}
-use Rattle.std.specs.Prelude.{Option}
-use Rattle.disk_feeder.specs.declared.answers.FeedEnd.{FeedEnd}
-use Rattle.disk_feeder.specs.declared.answers.FeedEnd.TheVariants as end
-use Rattle.dada_recorder.specs.declared.answers.RecordEnd.{RecordEnd}
-use Rattle.dada_recorder.specs.declared.answers.RecordEnd.TheVariants as recorder
 use Rattle.run_stop.specs.declared.stop.Stop.{Stop}
 use Rattle.run_stop.specs.declared.stop.Stop.TheVariants.{ReadFault}
-use Rattle.run_stop.specs.Conversions.{stop_of_feed}
-use Rattle.psr_record.specs.Ends.{stop_of_session}
 use Rattle.psr_record.proofs.Endings.{records, at_short, after_session}
 use Rattle.psr_record.proofs.top.record_files.Goals as goal
 
@@ -37,7 +30,7 @@ returns-in-Ok-drive-clause-ends g c =
       read = record { rose = r.inputs.rose; quiet = r.inputs.quiet; count = r.inputs.count; serves = r.serves };
     })
     (driven.cleared.recorder (records _ _ says)) (c.end_at_stop.ensures c.args.inputs.now)
-    (c.end_after_whole.ensures c.args.inputs.now) c.stop_of-stop.result c.stop_of-stop.ensures
+    (c.end_after_whole.ensures c.args.inputs.now) c.stop_of-stop.result c.stop_of-stop.ensures.is
 
 pub returns-clause-ends : goal.returns-clause-ends
 returns-clause-ends g c =
@@ -50,25 +43,9 @@ returns-clause-ends g c =
 
 -- ---- what a fault of the inputs leaves
 
--- a session that ended with this stop was stopped by its feeder
-fed_fault : (feed : FeedEnd) (recorded : Option RecordEnd) (stop : Option Stop) →
-    stop ≡ stop_of_session (stop_of_feed feed) recorded → stop ≡ Some ReadFault → feed ≡ end.ReadFault
-fed_fault end.ReadFault recorded stop is failed = refl
-fed_fault (end.Whole bytes) None stop is failed = absurd cc
-fed_fault (end.Whole bytes) (Some (recorder.Whole files)) stop is failed = absurd cc
-fed_fault (end.Whole bytes) (Some (recorder.Cut files)) stop is failed = absurd cc
-fed_fault (end.Whole bytes) (Some recorder.FileFault) stop is failed = absurd cc
-fed_fault (end.Whole bytes) (Some (recorder.BadHeader fault)) stop is failed = absurd cc
-fed_fault (end.Whole bytes) (Some (recorder.TooLong limit)) stop is failed = absurd cc
-fed_fault (end.BadHeader file cause) recorded stop is failed = absurd cc
-fed_fault (end.Gap file expected found) recorded stop is failed = absurd cc
-fed_fault (end.TooLong limit) recorded stop is failed = absurd cc
-
 pub returns-in-Ok-drive-clause-broken : goal.returns-in-Ok-drive-clause-broken
 returns-in-Ok-drive-clause-broken g c = λ failed.
-    let found = c.in-Ok-drive.found in
-    c.in-Ok-drive.ensures.leaves.broken
-    (fed_fault found.feed found.recorded c.stop_of-stop.result c.stop_of-stop.ensures failed) _ c.in-Ok.ensures.says
+    c.in-Ok-drive.ensures.leaves.broken (c.stop_of-stop.ensures.read_fault failed) _ c.in-Ok.ensures.says
 
 one_stop : (a b : Stop) → Some a ≡ Some b → a ≡ b
 one_stop a b e = cc

@@ -1,15 +1,7 @@
-use Rattle.std.proofs.Common.{◌≡◌, ℕ, List, Some, refl, ap, subst}
-use Rattle.std.specs.Prelude.{Option, IfSome}
-use Rattle.psr_base.specs.Written.{SinkSeen}
-use Rattle.search_model.specs.declared.search.Search.{Search}
-use Rattle.transfer_text.specs.Searched.{ObservedTransfer}
-use Rattle.disk_feeder.specs.declared.answers.FeedEnd.{FeedEnd}
-use Rattle.disk_feeder.specs.declared.answers.FeedEnd.TheVariants as end
-use Rattle.dada_recorder.specs.declared.answers.RecordEnd.{RecordEnd}
+use Rattle.std.proofs.Common.{◌≡◌, Some, refl, ap}
 use Rattle.run_stop.specs.declared.stop.Stop.{Stop}
 use Rattle.run_stop.specs.declared.stop.Stop.TheVariants.{ReadFault}
 use Rattle.run_stop.specs.Conversions.{stop_of_feed}
-use Rattle.psr_search.specs.Ends.{EndsSearch, EndsFed}
 use Rattle.psr_search.proofs.Endings.{at_once, after_session}
 use Rattle.psr_search.proofs.top.search.Goals as goal
 
@@ -57,34 +49,9 @@ returns-clause-ends g c =
 
 -- ---- what a fault of the inputs leaves
 
--- a search whose session ended with this stop was stopped by its feeder
-fed_fault : (feed : FeedEnd) (search : Search) (recorded : Option RecordEnd) (before after : SinkSeen)
-    (stop : Option Stop) →
-    IfSome (stop_of_feed feed) (λ fed. (stop ≡ Some fed) × (after ≡ before)) →
-    ((bytes : ℕ) → feed ≡ end.Whole bytes → (transfers : List ObservedTransfer)
-    × EndsFed (stop_of_feed feed) search transfers recorded before after stop) →
-    stop ≡ Some ReadFault → feed ≡ end.ReadFault
-fed_fault end.ReadFault search recorded before after stop stopped ended failed = refl
-fed_fault (end.Whole bytes) search recorded before after stop stopped ended failed =
-    let all = ended bytes refl in
-    let Ends : Option Stop → Type 0 = λ x. EndsSearch search all.0 recorded before after x in
-    absurd (subst Ends failed all.1)
-fed_fault (end.BadHeader file cause) search recorded before after stop stopped ended failed =
-    let is = stopped.0 in absurd cc
-fed_fault (end.Gap file expected found) search recorded before after stop stopped ended failed =
-    let is = stopped.0 in absurd cc
-fed_fault (end.TooLong limit) search recorded before after stop stopped ended failed =
-    let is = stopped.0 in absurd cc
-
 pub returns-in-Ok-drive-clause-broken : goal.returns-in-Ok-drive-clause-broken
 returns-in-Ok-drive-clause-broken g c = λ failed.
-    let r = c.in-Ok-drive.ensures in
-    let found = c.in-Ok-drive.found in
-    r.leaves.broken
-    (fed_fault found.feed _ found.recorded _ _ c.write_end-stop.result c.write_end-stop.ensures.stopped
-    (λ bytes is. let h = r.driven.held bytes is in
-    (h.transfers, c.write_end-stop.ensures.ended h.transfers h.held)) failed)
-    _ c.in-Ok.ensures.says
+    c.in-Ok-drive.ensures.leaves.broken (c.write_end-stop.ensures.read_fault failed) _ c.in-Ok.ensures.says
 
 one_stop : (a b : Stop) → Some a ≡ Some b → a ≡ b
 one_stop a b e = cc
