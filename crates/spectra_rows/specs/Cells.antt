@@ -2,6 +2,7 @@
 -- Source: this project's choice.
 use Rattle.std.specs.Prelude.{ℕ, ◌+◌, ◌-◌, ◌*◌, ◌≡◌, ◌<◌, ◌≤◌, ◌/◌, ◌%◌, ◌⊎◌, Bool, List, [], length, slice_index, get_or, if◌then◌else◌}
 use Rattle.search_model.specs.Samples.{sample_bytes, sample_at}
+use Rattle.spectra_rows.specs.declared.tile.TheConstants.{CHANNELS}
 use Rattle.spectra_rows.specs.Unpacking.{AreValues, Keeps}
 
 -- where a channel, counted from the highest frequency, stands in a spectrum
@@ -19,6 +20,12 @@ pub record WritesCells (old new : List ℕ) (row : ℕ → ℕ) (channels chunk 
       → slice_index new (row p * chunk + t) ≡ slice_index old (row p * chunk + t)
   pub beside : (p t : ℕ) → p < channels → t < chunk → (t < from) ⊎ (to ≤ t)
       → slice_index new (row p * chunk + t) ≡ slice_index old (row p * chunk + t)
+
+-- the places from `place` up to, but without, `end` are places of a spectrum, no more than a tile has
+pub record AreInTile (channels place end : ℕ) : Type 0 where
+  pub order : place ≤ end
+  pub few : end ≤ place + CHANNELS
+  pub inside : end ≤ channels
 
 -- the sample of spectrum t at a place of the spectrum
 abbrev pub cell : ℕ → ℕ → ℕ → List ℕ → ℕ → ℕ → ℕ

@@ -1,7 +1,7 @@
 // Spectra into rows. So few channels are turned at a time that what is written of their rows stays in a near cache.
 ghost use Rattle.std.specs.Prelude.{◌≡◌, ◌+◌, ◌-◌, ◌*◌, ◌<◌, ◌≤◌, length, slice_index};
 ghost use Rattle.search_model.specs.Samples.{sample_bytes};
-ghost use Rattle.spectra_rows.specs.Cells.{WritesCells, cell, channel_place};
+ghost use Rattle.spectra_rows.specs.Cells.{AreInTile, WritesCells, cell, channel_place};
 
 use crate::layout::Layout;
 use crate::row_sample::RowSample;
@@ -77,9 +77,7 @@ fn write_part<T: RowSample>(
     end: usize,
     from: usize,
 )
-    requires order { place ≤ end }
-    requires few { end ≤ place + CHANNELS }
-    requires inside { end ≤ layout.channels }
+    requires places { AreInTile layout.channels place end }
     requires chunk { from + SPECTRA ≤ layout.chunk }
     requires bytes { (from + 15) * layout.channels + place + CHANNELS ≤ length bytes.now }
     requires room { layout.channels * layout.chunk + (from + SPECTRA)
@@ -101,7 +99,7 @@ fn write_part<T: RowSample>(
     }
 }
 
-// Writes as many bytes as tiles have that lie in the bytes whole, and says how far it came.
+// Writes these channels of spectra by sixteen, as long as a tile of them lies in the bytes, and says how far it came.
 fn write_tiles<T: RowSample>(
     rows: &mut [T],
     bytes: &[u8],
@@ -111,9 +109,7 @@ fn write_tiles<T: RowSample>(
     from: usize,
     to: usize,
 ) -> usize
-    requires places { place ≤ end }
-    requires few { end ≤ place + CHANNELS }
-    requires inside { end ≤ layout.channels }
+    requires places { AreInTile layout.channels place end }
     requires order { from ≤ to }
     requires chunk { to ≤ layout.chunk }
     requires bytes { to * layout.channels ≤ length bytes.now }
@@ -150,9 +146,7 @@ fn begin_channels<T: RowSample>(
     from: usize,
     to: usize,
 ) -> usize
-    requires places { place ≤ end }
-    requires few { end ≤ place + CHANNELS }
-    requires inside { end ≤ layout.channels }
+    requires places { AreInTile layout.channels place end }
     requires order { from ≤ to }
     requires chunk { to ≤ layout.chunk }
     requires kept { T.keeps layout.nbit layout.npol }
@@ -242,9 +236,7 @@ fn write_channels<T: RowSample>(
     from: usize,
     to: usize,
 )
-    requires places { place ≤ end }
-    requires few { end ≤ place + CHANNELS }
-    requires inside { end ≤ layout.channels }
+    requires places { AreInTile layout.channels place end }
     requires order { from ≤ to }
     requires chunk { to ≤ layout.chunk }
     requires kept { T.keeps layout.nbit layout.npol }
