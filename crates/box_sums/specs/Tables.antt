@@ -28,7 +28,7 @@ abbrev pub AreBounds : List ℕ → ℕ → List ℕ → ℕ → Type 0
 AreBounds bounds levels line total = (m i : ℕ) → 1 ≤ m → m ≤ levels → i + 2 ^ m ≤ total
     → sum_from line i (2 ^ m) ≤ slice_index bounds m
 
--- of the first `total` values of a line, the boxes of up to 2^made values are made, and the greatest of each width
+-- of the first `total` values of a line, the boxes of up to 2^made values are made, with a bound of each width
 pub record AreMade
     (line : List ℕ) (total : ℕ) (boxes : List ℕ) (stride : ℕ) (greatest : List ℕ) (made : ℕ)
     : Type 0 where

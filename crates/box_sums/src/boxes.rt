@@ -241,7 +241,7 @@ impl Boxes {
         boxes_may_reach(self.greatest.as_slice(), self.made.min(level), level, least)
     }
 
-    /// Every sum that ends at a value of the last feed of the row that was fed last fits into 32 bits.
+    /// Every sum that ends at a value of the last feed of the row that was fed last fits into 32 bits. It does nothing.
     pub fn sums_fit(&self)
         ensures { (d n k w : ℕ) (xs : List ℕ) → IsNewest self.now d n xs → k < n → IsWidth w
             → w ≤ self.now.widest → sum_ending xs (length xs - n + k) w < 2 ^ 32 }
