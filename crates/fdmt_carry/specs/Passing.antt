@@ -14,9 +14,9 @@ abbrev pub BandRowsAreLast : BandPlan → PlanRows → Type 0
 BandRowsAreLast p rows = (d : ℕ) → p.first ≤ d → d ≤ p.last →
     IsLast rows.rows (band_row p rows d)
 
--- A pass makes the rows of a plan, of up to `chunk` spectra, while no sample is above m. It has come
--- past a row of the whole band at the stop after it. It leaves such a row out only where all of them
--- are last ones.
+-- A pass makes the rows of a plan, of up to `chunk` spectra, while no sample is above m. Stop i + 1
+-- is how many orders it has come past once it is past row i of the whole band. It can leave such a
+-- row out only where no row is made of one and nothing is kept of one.
 pub record IsPass (p : BandPlan) (rows : PlanRows) (chunk m : ℕ) (pass : Passing) : Type 0 where
   pub runs : IsScheduled p rows chunk chunk pass.schedule
   pub parts : AreParts rows pass.schedule.narrow

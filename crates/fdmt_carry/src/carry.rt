@@ -28,8 +28,8 @@ use subband_plan::{Plan, plans_are_laid, rows_begin_empty};
 /// read, as they are made, one after another by their delays: `begin`, `make_row` or `make_reaching_row` for each
 /// delay, with `made` to read a row that was made, and `finish`.
 ///
-/// A pass for small samples serves until a greater one comes, and then one for all samples; where few samples are so
-/// small, that one serves from the start. No clause says which rows have 16 bits.
+/// A pass for small samples serves until a greater sample comes, and then one for all samples. No clause says which rows
+/// have 16 bits.
 #[derive(Drop)]
 pub struct Carry {
     tables: Tables,
@@ -163,7 +163,7 @@ impl Carry {
     }
 
     /// Begins a pass over the next spectra, so many: the samples of channel `c`, the highest frequency first, begin at
-    /// `c * chunk`. They are only looked at here; each `make_row` takes them.
+    /// `c * chunk`. They are only looked at here; each call that makes a row takes them.
     pub fn begin(&mut self, samples: Samples<'_>, spectra: u32)
         requires short { spectra ≤ self.old.tables.chunk }
         requires few { self.old.fed + spectra ≤ 2 ^ 48 }
@@ -238,9 +238,9 @@ impl Carry {
         self.next += 1;
     }
 
-    /// Goes on to the next delay as `make_row` does, but makes the row only where one of its path sums may reach
-    /// `least`, and says whether it did. Where it didn't, none of them does. Only where both rows that it is made of
-    /// have 16 bits can it be left out, which takes much less time.
+    /// Goes on to the next delay as `make_row` does, but may leave out a row of which no path sum reaches `least`, and
+    /// says whether it made the row. It leaves one out only where both rows that it is made of have 16 bits, and no row
+    /// of the whole band is needed for another.
     pub fn make_reaching_row(&mut self, samples: Samples<'_>, least: u32) -> bool
         requires rows { AreThere self.old (values_of samples) self.old.last }
         requires passing { self.old.is_passing ≡ true }
@@ -268,7 +268,7 @@ impl Carry {
         is_made
     }
 
-    /// The row that was made last, for the delay before the next: the path sums of its delay that end at the spectra of
+    /// The row of the delay before the next, where it was made: the path sums of that delay that end at the spectra of
     /// the pass.
     pub fn made(&self) -> &[u32]
         requires passing { self.now.is_passing ≡ true }
@@ -281,7 +281,7 @@ impl Carry {
         self.tables.made(&self.pass, self.next - 1, &self.stores, self.last as usize)
     }
 
-    /// Ends the pass, all rows of which were made.
+    /// Ends the pass, which has come past the rows of all delays.
     pub fn finish(&mut self)
         requires passing { self.old.is_passing ≡ true }
         requires all { self.old.next ≡ self.old.tables.plan.last + 1 }

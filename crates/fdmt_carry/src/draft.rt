@@ -17,11 +17,11 @@ const NONE: u32 = u32::MAX;
 // mostly stay in the second cache.
 const TABLE_DEPTHS: [u32; 2] = [4, 7];
 
-// The same where nodes have many rows.
-const LONG_TABLE_DEPTHS: [u32; 2] = [5, 8];
+// The same where nodes have many rows of 32 bits.
+const DEEP_TABLE_DEPTHS: [u32; 2] = [5, 8];
 
-// From this delay on they have.
-const LONG_DELAY: u32 = 4096;
+// Nodes have many rows where the last row of the band has this delay or a longer one.
+const MANY_ROWS_FROM: u32 = 4096;
 
 // How often a band of 4096 channels is halved.
 const DEEPEST: u32 = 12;
@@ -78,9 +78,25 @@ impl Tree<'_> {
     // At which depths nodes have a slot for each row.
     fn table_depths(&self) -> [u32; 2] {
         match self.nodes.first() {
-            Some(band) if band.last_row >= LONG_DELAY => LONG_TABLE_DEPTHS,
+            Some(band) if band.last_row >= MANY_ROWS_FROM && !self.has_narrow_rows() => {
+                DEEP_TABLE_DEPTHS
+            }
             _ => TABLE_DEPTHS,
         }
+    }
+
+    // Whether all rows of nodes at the first of the usual depths have 16 bits. It looks at the longest of them, the last
+    // row of the node of the lowest frequencies.
+    fn has_narrow_rows(&self) -> bool {
+        let mut k = 0_usize;
+        for _ in 0..TABLE_DEPTHS[0] {
+            let Some(node) = self.nodes.get(k) else {
+                return false;
+            };
+            k = lower_number(k, node.hi.saturating_sub(node.lo));
+        }
+        let (_, end) = self.rows_of(k);
+        self.is_narrow(end.saturating_sub(1))
     }
 
     // Whether row `r` is a row of the whole band that is shown.
@@ -161,7 +177,7 @@ impl Drafting {
         self.give_slots(tree, first, end, is_table)?;
         let (narrow_used, wide_used) = (self.narrow_slots.used, self.wide_slots.used);
         if channels >= 2 {
-            let lower = k.saturating_add(2 * (channels / 2) as usize);
+            let lower = lower_number(k, channels);
             self.open_node(tree, k.saturating_add(1), depth + 1, channels == 3)?;
             self.open_node(tree, lower, depth + 1, channels == 3)?;
         }
@@ -255,6 +271,11 @@ impl Stack {
         self.used = self.slots.len();
         Ok(slot)
     }
+}
+
+// The number of the lower half of node `k`, which has so many channels.
+fn lower_number(k: usize, channels: u32) -> usize {
+    k.saturating_add(2 * (channels / 2) as usize)
 }
 
 // A number of a list; past its end there is none.

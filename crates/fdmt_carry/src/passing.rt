@@ -20,8 +20,8 @@ use subband_plan::{Node, Plan, PlanRows};
 // A sum that is less than this has 16 bits.
 const NARROW_SUMS: u32 = 65536;
 
-// The least limit for which a first pass is drawn up: samples of 8 bits soon pass a lower one.
-const LEAST_LIMIT: u32 = 16;
+// The least limit of a first pass. Samples that had 4 bits or fewer stay below it, and so does noise of a small mean.
+const LEAST_LIMIT: u32 = 40;
 
 /// The schedule of a pass, where it stops, and whether rows of the whole band can be left out.
 #[derive(Drop)]
@@ -142,9 +142,9 @@ fn is_low(k: usize, node: Node, delay: u32, limit: u32) -> bool
     k > 0 && u64::from(limit) * cells < u64::from(NARROW_SUMS)
 }
 
-/// A limit of samples for a first pass: up to it the sums of all rows but those of the whole band have 16 bits. Where
-/// that limit is so low that samples soon pass it, it is the greatest u32, and one pass is for all samples. Nothing
-/// rests on it: a pass for samples up to any limit has the widths that these need.
+/// A limit of samples for a first pass: up to it the sums of all rows but those of the whole band have 16 bits. A limit
+/// that would be too low to last is raised, and then fewer rows have 16 bits. Nothing rests on it: a pass for samples up
+/// to any limit has the widths that these need.
 pub fn narrow_limit(plan: &Plan) -> u32 {
     let nodes = plan.all_nodes();
     let mut cells = 1;
@@ -153,8 +153,8 @@ pub fn narrow_limit(plan: &Plan) -> u32 {
         cells = channels.saturating_add(nodes[k].last_row).max(cells);
     }
     match (NARROW_SUMS - 1).checked_div(cells) {
-        Some(limit) if limit >= LEAST_LIMIT => limit,
-        _ => u32::MAX,
+        Some(limit) => limit.max(LEAST_LIMIT),
+        None => LEAST_LIMIT,
     }
 }
 
