@@ -1,9 +1,8 @@
 -- Boxes over the sums of a stream, and which of them are detected.
-use Rattle.std.proofs.Common.{◌≡◌, ℕ, ◌+◌, ◌-◌, ◌*◌, ◌<◌, ◌≤◌, ◌^◌, ◌&&◌, Bool, true, false, cond, IsTrue, [], ◌∷◌, zero, suc, Option, Some, None, length, slice_index, nat_le, slice_get, get_or, sym, ◌∙◌, ap, subst, arith, refl}
+use Rattle.std.proofs.Common.{◌≡◌, ℕ, ◌+◌, ◌-◌, ◌*◌, ◌<◌, ◌^◌, ◌&&◌, Bool, true, false, cond, IsTrue, [], ◌∷◌, zero, suc, Option, Some, None, slice_index, nat_le, ◌∙◌, ap, arith, refl}
 use Rattle.std.specs.Option.{unwrap_or}
 use Rattle.std.proofs.lemmas.Bool.{false≢true, le-leb}
 use Rattle.std.proofs.lemmas.List.FromFn.{length-map-range_with_len, get_or-map-range_with_len}
-use Rattle.std.proofs.lemmas.Option.{slice_get-get_or}
 use Rattle.box_sums.specs.Rows.{IsWidth, SumsAddValues, sum_ending, value_before}
 use Rattle.detect_rule.specs.Noise.{StandOutFrom}
 use Rattle.search_model.specs.declared.search.Search.{Search}
@@ -11,9 +10,7 @@ use Rattle.search_model.specs.declared.candidate.Candidate.TheVariants.{Pulse}
 use Rattle.search_model.specs.Candidates.{if_detected}
 use Rattle.search_model.specs.Detection.{IsDetected, is_detected}
 use Rattle.search_model.specs.Laws.{TestsDetection}
-use Rattle.shard_search.specs.declared.thresholds.BoxThresholds.{BoxThresholds}
 use Rattle.fold_search.specs.Judging.{noise_of}
-use Rattle.shard_search.specs.Thresholds.{AreThresholds}
 use Rattle.shard_search.specs.Pulses.{first_sums, box_of, pulse_of}
 use Rattle.shard_search.specs.Sought.{Sought, cells_in, is_sought_end}
 use Rattle.shard_search.proofs.Terms.{one_term, same_terms}
@@ -79,33 +76,20 @@ is_silent s cells sum (Some x) fits out below = λ is.
     let reached = (out sum fits).0 is in let short = below x refl in absurd (omega arith)
 is_silent s cells sum None fits out below = out sum fits
 
--- a box that is at most a value below the least sum is no pulse
-pub quiet_box : TestsDetection → (y : ℕ → ℕ → ℕ) (s : Search) (c : Sought) (u d w most : ℕ) (least : Option ℕ) →
-    StandOutFrom (noise_of s) (w * cells_in c d) least → box_of y d u w ≤ most → most < 2 ^ 32 →
-    ((x : ℕ) → least ≡ Some x → most < x) → pulse_of y s c u d w ≡ []
-quiet_box tests y s c u d w most least out bound fits below =
-    no_pulse tests y s c u d w (is_silent s (w * cells_in c d) (box_of y d u w) least (omega arith) out
-    (λ x e. let short = below x e in omega arith))
+-- a box below the least sum that is detected is no pulse, and none is where there is no least one
+pub quiet_box : TestsDetection → (y : ℕ → ℕ → ℕ) (s : Search) (c : Sought) (u d w : ℕ) (least : Option ℕ) →
+    StandOutFrom (noise_of s) (w * cells_in c d) least → box_of y d u w < 2 ^ 32 →
+    ((x : ℕ) → least ≡ Some x → box_of y d u w < x) → pulse_of y s c u d w ≡ []
+quiet_box tests y s c u d w least out fits below =
+    no_pulse tests y s c u d w (is_silent s (w * cells_in c d) (box_of y d u w) least fits out below)
 
 -- nor is one below the least sum or, where there is none, below the greatest number of 32 bits
-pub lesser_box : TestsDetection → (y : ℕ → ℕ → ℕ) (s : Search) (c : Sought) (u d w most : ℕ) (least : Option ℕ) →
-    StandOutFrom (noise_of s) (w * cells_in c d) least → most ≡ unwrap_or least (2 ^ 32 - 1) → most < 2 ^ 32 →
-    box_of y d u w < most → pulse_of y s c u d w ≡ []
-lesser_box tests y s c u d w most (Some x) out is fits below =
-    quiet_box tests y s c u d w (box_of y d u w) (Some x) out (omega arith) (omega arith)
+pub lesser_box : TestsDetection → (y : ℕ → ℕ → ℕ) (s : Search) (c : Sought) (u d w bound : ℕ) (least : Option ℕ) →
+    StandOutFrom (noise_of s) (w * cells_in c d) least → bound ≡ unwrap_or least (2 ^ 32 - 1) → bound < 2 ^ 32 →
+    box_of y d u w < bound → pulse_of y s c u d w ≡ []
+lesser_box tests y s c u d w bound (Some x) out is fits below =
+    quiet_box tests y s c u d w (Some x) out (omega arith)
     (λ least e. let same : x ≡ least = ap (λ o. unwrap_or o x) e in omega (arith, below, is, same))
-lesser_box tests y s c u d w most None out is fits below =
-    quiet_box tests y s c u d w (box_of y d u w) None out (omega arith) (omega arith)
+lesser_box tests y s c u d w bound None out is fits below =
+    quiet_box tests y s c u d w None out (omega arith)
     (λ least e. let both : None ≡ Some least = e in absurd (cc))
-
--- the least sum of a delay
-pub least_at : (s : Search) (c : Sought) (first end d : ℕ) (thresholds : BoxThresholds) (least : Option ℕ) →
-    AreThresholds s c first end thresholds → first ≤ d → d < first + length thresholds.least_sums.items →
-    least ≡ get_or thresholds.least_sums.items (d - first) least →
-    StandOutFrom (noise_of s) (thresholds.width * cells_in c d) least
-least_at s c first end d thresholds least is above below read =
-    let place : first + (d - first) ≡ d = omega arith in
-    let found : slice_get thresholds.least_sums.items (d - first) ≡ Some least =
-    slice_get-get_or thresholds.least_sums.items (d - first) least (omega arith) ∙ ap Some (sym read) in
-    subst (λ e. StandOutFrom (noise_of s) (thresholds.width * cells_in c e) least) place
-    (is.least_sums (d - first) least found)

@@ -1,18 +1,33 @@
 -- The hits of a row.
-use Rattle.std.proofs.Common.{◌≡◌, ◌≢◌, ℕ, ◌+◌, ◌≤◌, ◌++◌, All, List, [], Option, length, get_or, sym, ◌∙◌, ap, subst, arith, append_assoc, append-nil, length-append}
+use Rattle.std.proofs.Common.{◌≡◌, ◌≢◌, ℕ, ◌+◌, ◌<◌, ◌≤◌, ◌++◌, All, List, [], Option, length, get_or, sym, ◌∙◌, ap, subst, arith, append_assoc, append-nil, length-append}
 use Rattle.std.specs.Prelude.{option_to_list, IfSome}
-use Rattle.std.specs.List.{flat_map}
 use Rattle.std.proofs.lemmas.List.Elements.{All-append}
 use Rattle.box_sums.specs.Tails.{RowTails, IsKept, KeepsRow}
 use Rattle.search_model.specs.declared.search.Search.{Search}
 use Rattle.shard_search.specs.declared.thresholds.Hit.{Hit}
 use Rattle.shard_search.specs.declared.thresholds.BoxThresholds.{BoxThresholds}
-use Rattle.shard_search.specs.Thresholds.{IsHit, AreThresholds, AreOfAllWidths, pulses_of_hits}
-use Rattle.shard_search.specs.PulseSearch.{PulseState, AddsHitsOf, HasBoxes, IsHitBelow}
-use Rattle.shard_search.specs.Pulses.{first_sums, pulse_of, pulses_of_delay}
+use Rattle.shard_search.specs.Thresholds.{AreThresholds, IsHit, pulses_of_hits}
+use Rattle.shard_search.specs.PulseSearch.{PulseState, AddsHitsOf, CanBeWide, CanJudge, HasBoxes, IsHitBelow}
+use Rattle.shard_search.specs.Pulses.{first_sums, pulses_of_delay}
 use Rattle.shard_search.specs.Sought.{Sought}
 use Rattle.shard_search.proofs.Pieces.{all_noted}
-use Rattle.shard_search.proofs.WidthCounts.{pulses_by_width}
+use Rattle.shard_search.proofs.WidthCounts.{are_widths, are_narrow}
+use Rattle.shard_search.proofs.WidthLists.{places_within}
+
+-- the thresholds of a search can judge the boxes of each of its delays
+pub can_judge : (s : Search) (c : Sought) (first end d : ℕ) (thresholds : BoxThresholds) (b : RowTails) →
+    AreThresholds s c first end thresholds → b.widest ≡ s.widest → first ≤ d → d < end →
+    CanJudge b first d thresholds
+can_judge s c first end d thresholds b are widest from below = record {
+  above = from;
+  inside = (let count = are.count in
+      let within = places_within (length thresholds.widths.items) first d end from below in
+      omega (arith, count, within));
+  widths = subst (All (CanBeWide b)) (sym are.widths_are) (λ i w inside. record {
+    width = are_widths s i w inside;
+    narrow = (let narrow = are_narrow s i w inside in omega (arith, narrow, widest));
+  });
+}
 
 -- none so far
 pub none_noted : (d : ℕ) (hits : List Hit) → AddsHitsOf d hits hits
@@ -79,23 +94,17 @@ kept_same y b b' m n d old new adds few before same =
     record { delay = omega (arith, early); kept = same (get_or old i h).delay hit.kept })
     (λ i h inside. absurd (omega (arith, inside, grown, both, few))))
 
--- what is noted of a row are its pulses
-pub row_pulses : (y : ℕ → ℕ → ℕ) (s : Search) (c : Sought) (first end u d : ℕ) (old new : List Hit)
-    (by_width lent : List BoxThresholds) (p : PulseState) → AreOfAllWidths s c first end by_width → lent ≡ by_width →
-    (All (AreThresholds s c first end) lent → pulses_of_hits y s c u new
-    ≡ pulses_of_hits y s c u old ++ flat_map (λ (l : BoxThresholds). pulse_of y s c u d l.width) lent) →
+-- what is noted of a row are its pulses, as contracts see them
+pub row_pulses : (y : ℕ → ℕ → ℕ) (s : Search) (c : Sought) (u d : ℕ) (old new : List Hit) (p : PulseState) →
+    pulses_of_hits y s c u new ≡ pulses_of_hits y s c u old ++ pulses_of_delay y s c u d →
     s ≡ p.search → c ≡ p.sought → old ≡ p.hits →
     pulses_of_hits y p.search p.sought u new
     ≡ pulses_of_hits y p.search p.sought u p.hits ++ pulses_of_delay y p.search p.sought u d
-row_pulses y s c first end u d old new by_width lent p judges same noted search sought hits =
+row_pulses y s c u d old new p noted search sought hits =
     let S : Search → Type 0 =
     λ t. pulses_of_hits y t c u new ≡ pulses_of_hits y t c u old ++ pulses_of_delay y t c u d in
     let C : Sought → Type 0 = λ x. pulses_of_hits y p.search x u new
     ≡ pulses_of_hits y p.search x u old ++ pulses_of_delay y p.search x u d in
     let H : List Hit → Type 0 = λ xs. pulses_of_hits y p.search p.sought u new
     ≡ pulses_of_hits y p.search p.sought u xs ++ pulses_of_delay y p.search p.sought u d in
-    subst H hits (subst C sought (subst S search
-    (noted (subst (All (AreThresholds s c first end)) (sym same) judges.each)
-    ∙ ap (λ (ls : List BoxThresholds). pulses_of_hits y s c u old
-    ++ flat_map (λ (l : BoxThresholds). pulse_of y s c u d l.width) ls) same
-    ∙ ap (λ xs. pulses_of_hits y s c u old ++ xs) (pulses_by_width y s c first end u d by_width judges))))
+    subst H hits (subst C sought (subst S search noted))

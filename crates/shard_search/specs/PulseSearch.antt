@@ -7,12 +7,12 @@ use Rattle.search_model.specs.declared.search.Search.{Search}
 use Rattle.search_model.specs.Search.{SettingsInRange}
 use Rattle.shard_search.specs.declared.thresholds.Hit.{Hit}
 use Rattle.shard_search.specs.declared.thresholds.BoxThresholds.{BoxThresholds}
-use Rattle.shard_search.specs.Thresholds.{AreOfAllWidths, IsHit}
+use Rattle.shard_search.specs.Thresholds.{AreThresholds, IsHit}
 use Rattle.shard_search.specs.Pulses.{first_sums, IsRowOf}
 use Rattle.shard_search.specs.Sought.{Sought, CanBeSought}
 
 -- a search of the delays from `first` up to, but without, `end`, and what is sought in their rows; its boxes over these
--- rows; and the rows in which a box that ends at one of the last spectra may be detected
+-- rows; and the delays and widths at which a box that ends at one of the last spectra may be detected
 pub record PulseState : Type 0 where
   pub search : Search
   pub sought : Sought
@@ -33,13 +33,13 @@ pub record HasBoxes (s : Search) (first end : ℕ) (b : RowTails) : Type 0 where
   pub widest : b.widest ≡ s.widest
 
 -- what always holds, where there is room for so many hits
-pub record PulsesAreSound (p : PulseState) (by_width : List BoxThresholds) (capacity : ℕ)
+pub record PulsesAreSound (p : PulseState) (thresholds : BoxThresholds) (capacity : ℕ)
     : Type 0 where
   pub range : SettingsInRange p.search
   pub sought : CanBeSought p.sought 4096 p.end
   pub few_delays : p.end ≤ 8193
   pub boxes : HasBoxes p.search p.first p.end p.boxes
-  pub judges : AreOfAllWidths p.search p.sought p.first p.end by_width
+  pub thresholds_are : AreThresholds p.search p.sought p.first p.end thresholds
   pub hits : All (IsHit p.search p.sought p.first p.end) p.hits
   pub room : 6 * (p.end - p.first) ≤ capacity
 
@@ -86,8 +86,14 @@ pub record AddsHitsOf (d : ℕ) (old new : List Hit) : Type 0 where
   pub grown : new ≡ old ++ more
   pub own : All (λ hit. hit.delay ≡ d) more
 
+-- boxes can be so wide
+pub record CanBeWide (b : RowTails) (w : ℕ) : Type 0 where
+  pub width : IsWidth w
+  pub narrow : w ≤ b.widest
+
 -- thresholds can judge the boxes of a row
 pub record CanJudge (b : RowTails) (first d : ℕ) (thresholds : BoxThresholds) : Type 0 where
-  pub inside : d < first + length thresholds.least_sums.items
-  pub width : IsWidth thresholds.width
-  pub narrow : thresholds.width ≤ b.widest
+  pub above : first ≤ d
+  pub inside : length thresholds.widths.items * (d - first) + length thresholds.widths.items
+      ≤ length thresholds.least_sums.items
+  pub widths : All (CanBeWide b) thresholds.widths.items

@@ -64,8 +64,10 @@ pub record GoOnAlike (p p' : PulseState) (g g' : Fronts) (first end : ℕ) : Typ
   pub folds : FoldsAlike g' g
   pub few : length p'.hits ≤ 6 * (end - first)
 
--- What the parts keep is of the sums of a stream: for the delays below d, of n more than those that end at the first m
--- spectra. The hits are those of these n spectra, for the delays below d, and their rows are kept.
+-- Amid a chunk of n spectra that begins at spectrum m: the rows of the delays below d were taken, the others not yet.
+-- So what is kept of a delay below d is of its sums that end at the first m + n spectra, and what is kept of another
+-- is of those that end at the first m. The hits stand for all pulses of the delays below d that end in the chunk, and
+-- boxes can be asked for over their rows.
 pub record HaveTaken (y : ℕ → ℕ → ℕ) (p : PulseState) (g : Fronts) (m n d : ℕ) : Type 0 where
   pub rows_below : (e : ℕ) → SearchesDelay p e → e < d
       → WideRowHas p.boxes e (first_sums y e (m + n))
@@ -76,8 +78,8 @@ pub record HaveTaken (y : ℕ → ℕ → ℕ) (p : PulseState) (g : Fronts) (m 
       ≡ pulses_of_end y p.search p.sought p.first d (m + k)
   pub kept : All (IsHitBelow y p.boxes m n d) p.hits
 
--- The row of delay d need not be taken where all its sums are below `least`: with the rows of the delays below d, those
--- up to d are taken as well.
+-- Where all sums of the row of delay d are below `least`, the row may be left out: what is kept is then as if it had
+-- been taken.
 abbrev pub CanLeaveOut : PulseState → Fronts → ℕ → ℕ → Type 0
 CanLeaveOut p g d least = (y : ℕ → ℕ → ℕ) (m n : ℕ) → ((k : ℕ) → k < n → y d (m + k) < least) →
     HaveTaken y p g m n d → HaveTaken y p g m n (d + 1)

@@ -7,11 +7,11 @@ ghost use Rattle.fold_search.specs.Judging.{Adds};
 ghost use Rattle.shard_search.specs.Thresholds.{IsHit, AreThresholds, pulses_of_hits, pulse_of_hit};
 ghost use Rattle.shard_search.specs.PulseSearch.{PulseState, PulsesAreSound, SearchesDelay, SearchesFor, SearchAlike, RowsStandFor, CanJudge, WideRowHas, IsTakenRow, HitIsKept, IsHitBelow, AddsHitsOf};
 ghost use Rattle.search_model.specs.declared.search.Search.{Search};
-ghost use Rattle.shard_search.specs.Pulses.{first_sums, IsRowOf, pulse_of, pulses_of_delay};
+ghost use Rattle.shard_search.specs.Pulses.{first_sums, IsRowOf, pulses_of_delay};
 ghost use Rattle.shard_search.specs.Sought.{Sought as Described, CanBeSought, is_sought_end};
 
 use crate::sought::Sought;
-use crate::thresholds::{BoxThresholds, Hit};
+use crate::thresholds::{BoxThresholds, Hit, find_hit};
 use box_sums::Boxes;
 use candidate_book::Book;
 use psr_base::Memory;
@@ -33,7 +33,7 @@ pub(crate) struct PulseSearch {
     first: u32,
     end: u32,
     boxes: Boxes,
-    by_width: Vec<BoxThresholds>,
+    thresholds: BoxThresholds,
     hits: Vec<Hit>,
 }
 
@@ -56,7 +56,7 @@ impl Model for PulseSearch {
       end = p.end;
       boxes = p.boxes;
       hits = p.hits.items;
-    }) p.by_width.items (vec_capacity p.hits) };
+    }) p.thresholds (vec_capacity p.hits) };
 }
 
 impl PulseSearch {
@@ -88,7 +88,7 @@ impl PulseSearch {
             first,
             end,
             boxes: Boxes::open(alloc, first, end - 1, chunk, search.widest, bound)?,
-            by_width: BoxThresholds::up_to(alloc, search, &sought, first, end)?,
+            thresholds: BoxThresholds::open(alloc, search, &sought, first, end)?,
             hits: Vec::with_capacity(alloc, MOST_WIDTHS * delays)?,
             sought,
         })
@@ -117,10 +117,12 @@ impl PulseSearch {
         ensures quiet { (y : ℕ → ℕ → ℕ) (u : ℕ) → y d u < result
             → pulses_of_delay y self.now.search self.now.sought u d ≡ [] }
     {
+        tests_detection();
         if self.search.widest > 1 {
             return 0;
         }
-        self.by_width[0].least(self.first, d)
+        let least = self.thresholds.least(self.first, d, 0);
+        least.unwrap_or(u32::MAX)
     }
 
     /// Takes the next path sums of a delay, and notes the widths at which a box that ends at one of them may be
@@ -150,7 +152,7 @@ impl PulseSearch {
         feed_boxes(&mut self.boxes, self.search.widest, d, row);
         note_hits(
             &mut self.hits,
-            self.by_width.as_slice(),
+            &self.thresholds,
             &mut self.boxes,
             row,
             self.first,
@@ -280,31 +282,32 @@ fn keep_row(boxes: &mut Boxes, widest: u32, d: u32, row: &[u32])
 // Notes the widths at which a box over row `d`, which was taken last, may be detected.
 fn note_hits(
     hits: &mut Vec<Hit>,
-    by_width: &[BoxThresholds],
+    thresholds: &BoxThresholds,
     boxes: &mut Boxes,
     row: &[u32],
     first: u32,
     d: u32,
 )
-    requires above { first ≤ d }
-    requires by_width { All (CanJudge boxes.old first d) by_width.now }
-    requires room { vec_len hits.old + length by_width.now ≤ vec_capacity hits.old }
+    requires judge { CanJudge boxes.old first d thresholds.now }
+    requires room { vec_len hits.old + length thresholds.now.widths.items ≤ vec_capacity hits.old }
     ensures same { boxes.new ≡ boxes.old }
     ensures capacity { vec_capacity hits.new ≡ vec_capacity hits.old }
-    ensures few { length hits.new.items ≤ length hits.old.items + length by_width.now }
+    ensures few { length hits.new.items
+        ≤ length hits.old.items + length thresholds.now.widths.items }
     ensures hits { (s : Search) (c : Described) (end : ℕ)
-        → All (AreThresholds s c first end) by_width.now
+        → AreThresholds s c first end thresholds.now
         → All (IsHit s c first end) hits.old.items → All (IsHit s c first end) hits.new.items }
     ensures own { AddsHitsOf d hits.old.items hits.new.items }
     ensures pulses { (s : Search) (c : Described) (end m k : ℕ) (y : ℕ → ℕ → ℕ)
-        → All (AreThresholds s c first end) by_width.now
+        → AreThresholds s c first end thresholds.now
         → IsTakenRow y boxes.old d m row.now → k < length row.now
         → pulses_of_hits y s c (m + k) hits.new.items
-        ≡ pulses_of_hits y s c (m + k) hits.old.items
-        ++ flat_map (λ thresholds. pulse_of y s c (m + k) d thresholds.width) by_width.now }
+        ≡ pulses_of_hits y s c (m + k) hits.old.items ++ pulses_of_delay y s c (m + k) d }
 {
-    for thresholds in by_width {
-        note(hits, thresholds.hit(boxes, row, first, d));
+    for at in 0..thresholds.widths.len() {
+        let width = thresholds.widths[at];
+        let least = thresholds.least(first, d, at);
+        note(hits, find_hit(boxes, row, d, width, least));
     }
 }
 

@@ -1,5 +1,5 @@
 // The search of a shard's path sums, chunk by chunk.
-ghost use Rattle.std.specs.Prelude.{◌≡◌, ℕ, ◌+◌, ◌-◌, ◌*◌, ◌^◌, ◌≤◌, ◌<◌, [], true, false, All, IfOk, length, drop, min};
+ghost use Rattle.std.specs.Prelude.{◌≡◌, ℕ, ◌+◌, ◌-◌, ◌*◌, ◌^◌, ◌≤◌, ◌<◌, ◌≢◌, ◌++◌, [], true, false, All, List, IfOk, length, drop, min};
 ghost use Rattle.band_paths.specs.Edges.{channels_of};
 ghost use Rattle.fdmt_carry.specs.Carrying.{AreNext, AreThere, IsOpened, IsStream, StandsForSamples, StandsMidway};
 ghost use Rattle.row_schedule.specs.Samples.{values_of};
@@ -9,7 +9,7 @@ ghost use Rattle.dada_model.specs.Edges.{AreEdges};
 ghost use Rattle.fold_search.specs.Counts.{most_folds};
 ghost use Rattle.shard_search.specs.Counts.{most_pulses_at_end};
 ghost use Rattle.shard_search.specs.declared.tables.TheConstants.{MOST_TABLES};
-ghost use Rattle.fold_search.specs.FoldSearch.{IsDelayRange, HasDelay, FoldsAlike};
+ghost use Rattle.fold_search.specs.FoldSearch.{IsDelayRange, HasDelay, FoldsAlike, KeepsFrontOf};
 ghost use Rattle.fold_search.specs.Judging.{Adds};
 ghost use Rattle.shard_search.specs.Opening.{SumsFit, IsOpenedShard};
 ghost use Rattle.shard_search.specs.PulseSearch.{SearchesDelay, SearchAlike};
@@ -326,6 +326,22 @@ fn take_row(pulses: &mut PulseSearch, folds: &mut FoldSearch, row: &[u32], start
         → HaveTaken y pulses.new folds.new start (length row.now) (d + 1) }
 {
     pulses.take(d, row);
+    take_folds(folds, row, start, d);
+}
+
+// Takes the row of a delay for its folds, where it is folded.
+fn take_folds(folds: &mut FoldSearch, row: &[u32], start: u64, d: u32)
+    requires fold { HasDelay folds.old d }
+    requires small { All (λ x. x ≤ folds.old.bound) row.now }
+    ensures alike { FoldsAlike folds.new folds.old }
+    ensures own { (xs : List ℕ) → KeepsFrontOf folds.old d xs
+        → KeepsFrontOf folds.new d (xs ++ drop (d - start) row.now) }
+    ensures others { (e : ℕ) (xs : List ℕ) → HasDelay folds.old e → e ≢ d
+        → KeepsFrontOf folds.old e xs → KeepsFrontOf folds.new e xs }
+{
+    if !folds.is_folded(d) {
+        return;
+    }
     folds.take(d, from_delay(row, start, d));
 }
 

@@ -1,11 +1,14 @@
 // The least detected sums of boxes.
-ghost use Rattle.std.specs.Prelude.{◌≡◌, ℕ, ◌+◌, ◌-◌, ◌*◌, ◌^◌, ◌≤◌, ◌<◌, [], false, IfOk, IfSome, length, option_to_list};
+ghost use Rattle.std.specs.Prelude.{◌≡◌, ℕ, ◌+◌, ◌-◌, ◌*◌, ◌^◌, ◌≤◌, ◌<◌, false, All, IfOk, OnOk, IfSome, length, slice_index, option_to_list};
 ghost use Rattle.box_sums.specs.Rows.{IsWidth};
+ghost use Rattle.detect_rule.specs.Noise.{StandOutFrom};
+ghost use Rattle.fold_search.specs.Judging.{noise_of};
 ghost use Rattle.search_model.specs.declared.search.Search.{Search};
-ghost use Rattle.search_model.specs.Search.{SettingsInRange};
-ghost use Rattle.shard_search.specs.PulseSearch.{IsTakenRow};
+ghost use Rattle.search_model.specs.Search.{SettingsInRange, widths};
+ghost use Rattle.shard_search.specs.PulseSearch.{CanBeWide, IsTakenRow};
 ghost use Rattle.shard_search.specs.Pulses.{box_of, pulse_of};
-ghost use Rattle.shard_search.specs.Sought.{Sought as Described, CanBeSought};
+ghost use Rattle.shard_search.specs.Sought.{Sought as Described, CanBeSought, cells_in};
+ghost use Rattle.shard_search.specs.Thresholds.{AreLeastSums, IsHit, pulses_of_hits};
 
 use crate::sought::Sought;
 use box_sums::Boxes;
@@ -21,8 +24,8 @@ use search_model::tests_detection;
 /// The widths that a box can have.
 const WIDTHS: [u32; 6] = [1, 2, 4, 8, 16, 32];
 
-/// A row of boxes in which one of the last spectra may end a detected box: the delay, the width in spectra, and the
-/// least detected sum.
+/// A delay and a width at which a box that ends at one of the spectra taken last may be detected, and the least sum at
+/// which a box of that delay and width is detected.
 #[derive(Clone, Copy, Drop)]
 pub(crate) struct Hit {
     pub(crate) delay: u32,
@@ -30,113 +33,164 @@ pub(crate) struct Hit {
     pub(crate) least: u32,
 }
 
-/// A width of boxes, with the least detected sum of each delay from the first on, where there is one.
+/// The widths of a search, and for each delay from the first on the least detected sum of each of them, where there is
+/// one. Those of one delay stand one behind the other, so that they lie in one or two lines of the cache.
 #[derive(Drop)]
 pub(crate) struct BoxThresholds {
-    pub(crate) width: u32,
+    pub(crate) widths: Vec<u32>,
     pub(crate) least_sums: Vec<Option<u32>>,
 }
 
 impl BoxThresholds {
-    ghost use Rattle.shard_search.specs.Thresholds.{AreThresholds, AreOfAllWidths, IsHit, pulses_of_hits};
+    ghost use Rattle.shard_search.specs.Thresholds.{AreThresholds};
 
-    /// The thresholds of each width of a search, for the delays from `first` up to, but without, `end`.
-    pub(crate) fn up_to(
+    /// The thresholds of a search for the delays from `first` up to, but without, `end`.
+    pub(crate) fn open(
         alloc: Global,
         search: &Search,
         sought: &Sought,
         first: u32,
         end: u32,
-    ) -> Result<Vec<BoxThresholds>, Memory>
-        requires range { SettingsInRange search.now }
-        requires sought { CanBeSought sought.now 4096 end }
-        requires order { first ≤ end }
-        requires few_delays { end ≤ 8193 }
-        ensures { IfOk result (λ by_width.
-            AreOfAllWidths search.now sought.now first end by_width.items) }
-    {
-        let mut by_width = Vec::with_capacity(alloc, WIDTHS.len())?;
-        for width in WIDTHS {
-            if width <= search.widest {
-                let thresholds = BoxThresholds::open(alloc, search, sought, first, end, width)?;
-                by_width.push(thresholds)?;
-            }
-        }
-        Ok(by_width)
-    }
-
-    // The thresholds of a width.
-    fn open(
-        alloc: Global,
-        search: &Search,
-        sought: &Sought,
-        first: u32,
-        end: u32,
-        width: u32,
     ) -> Result<BoxThresholds, Memory>
         requires range { SettingsInRange search.now }
         requires sought { CanBeSought sought.now 4096 end }
         requires order { first ≤ end }
         requires few_delays { end ≤ 8193 }
-        requires width { IsWidth width }
-        requires narrow { width ≤ search.now.widest }
-        ensures width { IfOk result (λ thresholds. thresholds.width ≡ width) }
-        ensures thresholds { IfOk result (AreThresholds search.now sought.now first end) }
+        ensures { IfOk result (AreThresholds search.now sought.now first end) }
     {
-        let rule = Rule {
-            mean: search.mean,
-            sd: search.sd,
-            snr: search.snr,
-        };
-        let mut least_sums = Vec::with_capacity(alloc, (end - first) as usize)?;
-        for d in first..end {
-            let cells = u64::from(width) * u64::from(sought.cells(d));
-            least_sums.push(rule.least(cells))?;
-        }
-        Ok(BoxThresholds { width, least_sums })
+        let widths = widths_of(alloc, search)?;
+        let least_sums = open_sums(alloc, search, sought, widths.as_slice(), first, end)?;
+        Ok(BoxThresholds { widths, least_sums })
     }
 
-    /// The least detected sum of a box of delay `d`, or the greatest u32, where no sum is detected. No lesser one is.
-    pub(crate) fn least(&self, first: u32, d: u32) -> u32
+    /// The least detected sum of a box of delay `d` and of the width at a place, where there is one.
+    pub(crate) fn least(&self, first: u32, d: u32, at: usize) -> Option<u32>
         requires above { first ≤ d }
-        requires below { d < first + length self.now.least_sums.items }
-        ensures { (s : Search) (c : Described) (end u : ℕ) (y : ℕ → ℕ → ℕ)
-            → AreThresholds s c first end self.now → box_of y d u self.now.width < result
-            → pulse_of y s c u d self.now.width ≡ [] }
+        requires width { at < length self.now.widths.items }
+        requires inside { length self.now.widths.items * (d - first) + at
+            < length self.now.least_sums.items }
+        ensures { (s : Search) (c : Described) (end : ℕ) → AreThresholds s c first end self.now
+            → StandOutFrom (noise_of s) (slice_index self.now.widths.items at * cells_in c d)
+            result }
     {
-        tests_detection();
-        self.least_sums[(d - first) as usize].unwrap_or(u32::MAX)
+        self.least_sums[self.widths.len() * (d - first) as usize + at]
     }
+}
 
-    /// The row of delay `d`, which was taken last, where one of its sums may end a detected box of this width. Where
-    /// there is none, none of them does.
-    pub(crate) fn hit(&self, boxes: &mut Boxes, row: &[u32], first: u32, d: u32) -> Option<Hit>
-        requires above { first ≤ d }
-        requires below { d < first + length self.now.least_sums.items }
-        requires width { IsWidth self.now.width }
-        requires narrow { self.now.width ≤ boxes.old.widest }
-        ensures same { boxes.new ≡ boxes.old }
-        ensures own { IfSome result (λ hit. hit.delay ≡ d) }
-        ensures hit { (s : Search) (c : Described) (end : ℕ) → AreThresholds s c first end self.now
-            → IfSome result (IsHit s c first end) }
-        ensures pulses { (s : Search) (c : Described) (end m k : ℕ) (y : ℕ → ℕ → ℕ)
-            → AreThresholds s c first end self.now
-            → IsTakenRow y boxes.old d m row.now → k < length row.now
-            → pulses_of_hits y s c (m + k) (option_to_list result)
-            ≡ pulse_of y s c (m + k) d self.now.width }
-    {
-        tests_detection();
-        boxes_fit(boxes, row, self.width);
-        let least = self.least_sums[(d - first) as usize]?;
-        if may_reach(boxes, row, self.width, least) {
-            Some(Hit {
-                delay: d,
-                width: self.width,
-                least,
-            })
-        } else {
-            None
+// The widths of a search.
+fn widths_of(alloc: Global, search: &Search) -> Result<Vec<u32>, Memory>
+    ensures { IfOk result (λ ws. ws.items ≡ widths search.now) }
+{
+    let mut widths = Vec::with_capacity(alloc, WIDTHS.len())?;
+    for width in WIDTHS {
+        if width <= search.widest {
+            widths.push(width)?;
         }
+    }
+    Ok(widths)
+}
+
+// The least detected sums of some widths, for the delays from `first` up to, but without, `end`.
+fn open_sums(
+    alloc: Global,
+    search: &Search,
+    sought: &Sought,
+    widths: &[u32],
+    first: u32,
+    end: u32,
+) -> Result<Vec<Option<u32>>, Memory>
+    requires range { SettingsInRange search.now }
+    requires sought { CanBeSought sought.now 4096 end }
+    requires order { first ≤ end }
+    requires few_delays { end ≤ 8193 }
+    requires widths { All (λ w. w ≤ 32) widths.now }
+    requires few_widths { length widths.now ≤ 6 }
+    ensures count { IfOk result (λ sums.
+        length sums.items ≡ length widths.now * (end - first)) }
+    ensures least { IfOk result (λ sums.
+        AreLeastSums search.now sought.now first widths.now sums.items) }
+{
+    let mut sums = Vec::with_capacity(alloc, widths.len() * (end - first) as usize)?;
+    for d in first..end {
+        add_sums(&mut sums, search, sought, widths, first, d)?;
+    }
+    Ok(sums)
+}
+
+// Adds the least detected sums of a delay, behind those of the delays before it.
+fn add_sums(
+    sums: &mut Vec<Option<u32>>,
+    search: &Search,
+    sought: &Sought,
+    widths: &[u32],
+    first: u32,
+    d: u32,
+) -> Result<(), Memory>
+    requires range { SettingsInRange search.now }
+    requires cells { cells_in sought.now d < 2 ^ 14 }
+    requires above { first ≤ d }
+    requires widths { All (λ w. w ≤ 32) widths.now }
+    requires count { length sums.old.items ≡ length widths.now * (d - first) }
+    requires before { AreLeastSums search.now sought.now first widths.now sums.old.items }
+    ensures count { OnOk result
+        (length sums.new.items ≡ length widths.now * (d - first) + length widths.now) }
+    ensures least { OnOk result
+        (AreLeastSums search.now sought.now first widths.now sums.new.items) }
+{
+    for at in 0..widths.len() {
+        sums.push(least_sum(search, sought, widths[at], d))?;
+    }
+    Ok(())
+}
+
+// The least sum of a box of a width and of delay `d` that is detected; `None` where no sum below 2^32 is.
+fn least_sum(search: &Search, sought: &Sought, width: u32, d: u32) -> Option<u32>
+    requires range { SettingsInRange search.now }
+    requires cells { cells_in sought.now d < 2 ^ 14 }
+    requires width { width ≤ 32 }
+    ensures { StandOutFrom (noise_of search.now) (width * cells_in sought.now d) result }
+{
+    let rule = Rule {
+        mean: search.mean,
+        sd: search.sd,
+        snr: search.snr,
+    };
+    let cells = u64::from(width) * u64::from(sought.cells(d));
+    rule.least(cells)
+}
+
+/// The hit of delay `d` and a width, where a box of these that ends in the row may be detected. The row is the one that
+/// was taken last, and `least` is their least detected sum, if there is one. Where there is no hit, no such box is
+/// detected.
+pub(crate) fn find_hit(
+    boxes: &mut Boxes,
+    row: &[u32],
+    d: u32,
+    width: u32,
+    least: Option<u32>,
+) -> Option<Hit>
+    requires width { CanBeWide boxes.old width }
+    ensures same { boxes.new ≡ boxes.old }
+    ensures own { IfSome result (λ hit. hit.delay ≡ d) }
+    ensures hit { (s : Search) (c : Described) (first end : ℕ) → first ≤ d → d < end
+        → width ≤ s.widest → StandOutFrom (noise_of s) (width * cells_in c d) least
+        → IfSome result (IsHit s c first end) }
+    ensures pulses { (s : Search) (c : Described) (m k : ℕ) (y : ℕ → ℕ → ℕ)
+        → StandOutFrom (noise_of s) (width * cells_in c d) least
+        → IsTakenRow y boxes.old d m row.now → k < length row.now
+        → pulses_of_hits y s c (m + k) (option_to_list result) ≡ pulse_of y s c (m + k) d width }
+{
+    tests_detection();
+    boxes_fit(boxes, row, width);
+    let least = least?;
+    if may_reach(boxes, row, width, least) {
+        Some(Hit {
+            delay: d,
+            width,
+            least,
+        })
+    } else {
+        None
     }
 }
 

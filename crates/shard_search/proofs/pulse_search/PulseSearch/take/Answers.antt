@@ -1,10 +1,8 @@
 use Rattle.std.proofs.Common.{◌≡◌, ℕ, ◌+◌, ◌<◌, ◌++◌, All, List, length, vec_len, get_or, sym, ◌∙◌, ap, subst, arith, rules}
 use Rattle.box_sums.specs.Tails.{RowTails, AreAlike, IsNewest, IsKept}
-use Rattle.shard_search.specs.declared.thresholds.BoxThresholds.{BoxThresholds}
-use Rattle.shard_search.specs.Thresholds.{AreThresholds}
 use Rattle.shard_search.specs.PulseSearch.{PulseState, WideRowHas, IsTakenRow, IsHitBelow}
 use Rattle.shard_search.specs.Pulses.{first_sums, IsRowOf}
-use Rattle.shard_search.proofs.Hits.{keeps_hit, kept_more, kept_same, row_pulses}
+use Rattle.shard_search.proofs.Hits.{can_judge, keeps_hit, kept_more, kept_same, row_pulses}
 use Rattle.shard_search.proofs.Rows.{sums_more}
 use Rattle.shard_search.proofs.WidthCounts.{widths_few}
 use Rattle.shard_search.proofs.pulse_search.PulseSearch.take.Goals as goal
@@ -27,12 +25,23 @@ note_hits-requires-clause-room c =
     let hits = ap (λ (p : PulseState). length p.hits) c.self.view_is in
     let first = ap (λ (p : PulseState). p.first) c.self.view_is in
     let end = ap (λ (p : PulseState). p.end) c.self.view_is in
-    let few = widths_few f.search f.sought f.first f.end f.by_width.items c.self.invariant.judges in
-    let by_width = ap (λ (xs : List BoxThresholds). length xs) c.as_slice.ensures.value in
+    let few = widths_few f.search in
+    let widths = ap (λ (xs : List ℕ). length xs) c.self.invariant.thresholds_are.widths_are in
     let len : vec_len f.hits ≡ length f.hits.items = search rules in
     let room = c.requires.room in
     let capacity = c.self.invariant.room in
-    omega (arith, hits, first, end, few, by_width, len, room, capacity)
+    omega (arith, hits, first, end, few, widths, len, room, capacity)
+
+pub note_hits-requires-clause-judge : goal.note_hits-requires-clause-judge
+note_hits-requires-clause-judge c =
+    let f = c.self.inside in
+    let i = c.self.invariant in
+    let first = ap (λ (p : PulseState). p.first) c.self.view_is in
+    let end = ap (λ (p : PulseState). p.end) c.self.view_is in
+    let above = c.requires.delay.above in
+    let below = c.requires.delay.below in
+    can_judge f.search f.sought f.first f.end c.args.d f.thresholds c.feed_boxes.new.boxes i.thresholds_are
+    (c.feed_boxes.ensures.alike.widest ∙ i.boxes.widest) (omega (arith, first, above)) (omega (arith, end, below))
 
 pub invariant_of-self : goal.invariant_of-self
 invariant_of-self c =
@@ -50,10 +59,8 @@ invariant_of-self c =
         last_row = ap (λ n. n + 1) (kept.last ∙ fed.last) ∙ i.boxes.last_row;
         widest = kept.widest ∙ fed.widest ∙ i.boxes.widest;
       };
-      judges = i.judges;
-      hits = c.note_hits.ensures.hits f.search f.sought f.end
-          (subst (All (AreThresholds f.search f.sought f.first f.end))
-          (sym c.as_slice.ensures.value) i.judges.each) i.hits;
+      thresholds_are = i.thresholds_are;
+      hits = c.note_hits.ensures.hits f.search f.sought f.end i.thresholds_are i.hits;
       room = let same = c.note_hits.ensures.capacity in let room = i.room in omega (arith, same, room);
     }
 
@@ -61,10 +68,10 @@ pub returns-then-len-before-clause-few : goal.returns-then-len-before-clause-few
 returns-then-len-before-clause-few c =
     let f = c.self.inside in
     let hits = ap (λ (p : PulseState). length p.hits) c.self.view_is in
-    let few = widths_few f.search f.sought f.first f.end f.by_width.items c.self.invariant.judges in
-    let by_width = ap (λ (xs : List BoxThresholds). length xs) c.as_slice.ensures.value in
+    let few = widths_few f.search in
+    let widths = ap (λ (xs : List ℕ). length xs) c.self.invariant.thresholds_are.widths_are in
     let more = c.note_hits.ensures.few in
-    omega (arith, hits, few, by_width, more)
+    omega (arith, hits, few, widths, more)
 
 pub returns-then-len-before-clause-hits : goal.returns-then-len-before-clause-hits
 returns-then-len-before-clause-hits c = λ y m k is has below.
@@ -72,9 +79,8 @@ returns-then-len-before-clause-hits c = λ y m k is has below.
     let s = c.args.self.now in
     let taken = taken_row y f.boxes s.boxes c.feed_boxes.new.boxes c.args.d m c.args.row.now
     (ap (λ (p : PulseState). p.boxes) c.self.view_is) is has c.feed_boxes.ensures.newest in
-    row_pulses y f.search f.sought f.first f.end (m + k) c.args.d f.hits.items c.note_hits.new.hits.items
-    f.by_width.items c.as_slice.result.now s c.self.invariant.judges c.as_slice.ensures.value
-    (λ all. c.note_hits.ensures.pulses f.search f.sought f.end m k y all taken below)
+    row_pulses y f.search f.sought (m + k) c.args.d f.hits.items c.note_hits.new.hits.items s
+    (c.note_hits.ensures.pulses f.search f.sought f.end m k y c.self.invariant.thresholds_are taken below)
     (ap (λ (p : PulseState). p.search) c.self.view_is) (ap (λ (p : PulseState). p.sought) c.self.view_is)
     (ap (λ (p : PulseState). p.hits) c.self.view_is)
 
@@ -84,9 +90,8 @@ returns-else-len-before-clause-hits c = λ y m k is has below.
     let s = c.args.self.now in
     let taken = taken_row y f.boxes s.boxes c.feed_boxes.new.boxes c.args.d m c.args.row.now
     (ap (λ (p : PulseState). p.boxes) c.self.view_is) is has c.feed_boxes.ensures.newest in
-    row_pulses y f.search f.sought f.first f.end (m + k) c.args.d f.hits.items c.note_hits.new.hits.items
-    f.by_width.items c.as_slice.result.now s c.self.invariant.judges c.as_slice.ensures.value
-    (λ all. c.note_hits.ensures.pulses f.search f.sought f.end m k y all taken below)
+    row_pulses y f.search f.sought (m + k) c.args.d f.hits.items c.note_hits.new.hits.items s
+    (c.note_hits.ensures.pulses f.search f.sought f.end m k y c.self.invariant.thresholds_are taken below)
     (ap (λ (p : PulseState). p.search) c.self.view_is) (ap (λ (p : PulseState). p.sought) c.self.view_is)
     (ap (λ (p : PulseState). p.hits) c.self.view_is)
 

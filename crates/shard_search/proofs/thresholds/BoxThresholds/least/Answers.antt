@@ -1,10 +1,12 @@
-use Rattle.shard_search.proofs.Boxes.{least_at, lesser_box}
+use Rattle.std.proofs.Common.{◌≡◌, ◌+◌, ◌-◌, ◌*◌, ◌<◌, length, vec_len, ◌∙◌, ap, subst, sym, rules}
+use Rattle.shard_search.proofs.WidthLists.{least_at}
 use Rattle.shard_search.proofs.thresholds.BoxThresholds.least.Goals as goal
 
 pub returns : goal.returns
-returns c = λ s x end u y is below.
+returns c = λ s x end are.
     let a = c.args in
-    let out = least_at s x a.first end a.d a.self.now c.index.result.now is c.requires.above c.requires.below
-    c.index.ensures in
-    lesser_box c.tests_detection.ensures y s x u a.d a.self.now.width c.unwrap_or.result c.index.result.now out
-    c.unwrap_or.ensures c.unwrap_or.type_inv below
+    let t = a.self.now in
+    let len : vec_len t.widths ≡ length t.widths.items = search rules in
+    let place = ap (λ n. n * (a.d - a.first) + a.at) (c.len.ensures ∙ len) in
+    least_at s x a.first end a.d a.at _ c.index.result.now t are c.requires.above c.requires.width place
+    (subst (λ n. n < length t.least_sums.items) (sym place) c.requires.inside) c.index.ensures
