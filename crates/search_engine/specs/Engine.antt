@@ -54,7 +54,7 @@ pub record KnowsSizes
 abbrev pub most_fed : ℕ
 most_fed = 2 ^ 48 + 2 ^ 28
 
--- how many spectra are searched at a time: more where delays are long
+-- how many spectra are searched at a time at most: more where delays are long
 abbrev pub chunk_of : Search → ℕ
 chunk_of s = min s.chunk (if nat_lt s.max_delay LONG_DELAY then MOST_CHUNK else MOST_LONG_CHUNK)
 

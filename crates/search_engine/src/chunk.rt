@@ -5,13 +5,13 @@ ghost use Rattle.search_engine.specs.Engine.{chunk_of as chunk_of_search};
 
 use search_model::Search;
 
-/// The most spectra that are searched at a time. A block of 524288 bytes has 512, 256 or 128 spectra of 1024, 2048 or
-/// 4096 channels of 8 bits, so that a chunk of so many ends where a block does. This is tuning alone, and no clause
-/// asks for this number.
+/// The most spectra that are searched at a time where the greatest delay is below `LONG_DELAY`. A block of 524288 bytes
+/// has 512, 256 or 128 spectra of 1024, 2048 or 4096 channels of 8 bits, so that a chunk of so many ends where a block
+/// does. This is tuning alone, and no clause asks for this number.
 pub const MOST_CHUNK: u32 = 512;
 
-/// The same from `LONG_DELAY` on: what is kept of rows for later spectra is copied once for each chunk, and then takes
-/// most of the time.
+/// The same from `LONG_DELAY` on: what is kept of rows for later spectra is copied once for each chunk, which then takes
+/// a good part of the time.
 pub const MOST_LONG_CHUNK: u32 = 1024;
 
 /// The least greatest delay of a search, in spectra, that is long.

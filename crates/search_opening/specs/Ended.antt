@@ -30,7 +30,7 @@ use Rattle.search_opening.specs.Settings.{ForWords, OfRun, OfRunFirsts, BeginsRu
 
 -- ---- before the session
 
--- a run was given up by its settings: so it is for all words that say these
+-- what is said of a run that its settings ended is said for all words that say these settings
 abbrev pub EarlyStopsAreSaid : Type 0
 EarlyStopsAreSaid = (task : Task) (s : SettingsFor task) (told : Told) (stop : Stop) →
     StopsEarly task s told stop → ForWords task s (λ words. StopsBefore task words told stop)
