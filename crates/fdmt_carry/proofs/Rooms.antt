@@ -1,6 +1,5 @@
 -- Lists that are long enough for schedules.
-use Rattle.std.proofs.Common.{◌≡◌, ℕ, ◌≤◌, Bool, List, Option, None, Some, length, ap, ◌∙◌, arith, refl}
-use Rattle.std.specs.Option.{IfSome}
+use Rattle.std.proofs.Common.{◌≡◌, ℕ, ◌≤◌, Bool, List, length, ap, ◌∙◌, arith, refl}
 use Rattle.std.proofs.lemmas.List.{length-replicate}
 use Rattle.row_model.specs.declared.Rows.{Rows}
 use Rattle.row_schedule.specs.declared.stores.Sizes.{Sizes}
@@ -9,7 +8,7 @@ use Rattle.row_schedule.specs.Layout.{kept_room, narrow_kept_room}
 use Rattle.row_schedule.specs.Moving.{SlotsStay}
 use Rattle.row_schedule.specs.Filling.{HaveTableRoom, WroteKept, WroteWide}
 use Rattle.row_schedule.specs.Running.{AreAsLong, HaveRoom, Stores, stores}
-use Rattle.row_schedule.specs.Sizes.{AreEnough, AreEnoughForTables, AreZeros}
+use Rattle.row_schedule.specs.Sizes.{AreEnough, AreEnoughForTables, AreZeros, HaveGoneOver}
 use Rattle.fdmt_carry.specs.declared.passing.Passing.{Passing}
 use Rattle.fdmt_carry.specs.Passing.{IsPassOf}
 use Rattle.fdmt_carry.specs.Tables.{Tables}
@@ -19,14 +18,6 @@ pub same_stores : {a a' b b' c c' d d' : List ℕ} → a ≡ a' → b ≡ b' →
 same_stores {a} {a'} {b} {b'} {c} {c'} {d} {d'} first second third fourth =
     ap (λ (x : List ℕ). stores x b c d) first ∙ ap (λ (x : List ℕ). stores a' x c d) second
     ∙ ap (λ (x : List ℕ). stores a' b' x d) third ∙ ap (λ (x : List ℕ). stores a' b' c' x) fourth
-
--- what is enough for a pass is so where there is more room
-pub spare_enough : (spare : Option Passing) (own sizes : Sizes) →
-    IfSome spare (λ pass. AreEnough pass.schedule own) →
-    ((s : Scheduled) → AreEnough s own → AreEnough s sizes) →
-    IfSome spare (λ pass. AreEnough pass.schedule sizes)
-spare_enough None own sizes enough most = tt
-spare_enough (Some pass) own sizes enough most = most pass.schedule enough
 
 pub have_room : (s : Scheduled) (sizes : Sizes) (st : Stores) → AreZeros sizes st → AreEnough s sizes → HaveRoom s st
 have_room s sizes st zeros enough =
@@ -116,11 +107,6 @@ wrote_yet old mid new first second = record {
 pub nothing_written : (st : Stores) → WroteWide st st
 nothing_written st = record { long = refl; narrow = refl; kept_narrow = refl; kept_wide = refl }
 
-pub spare_room : (spare : Option Passing) (sizes : Sizes) (st : Stores) → AreZeros sizes st →
-    IfSome spare (λ pass. AreEnough pass.schedule sizes) → IfSome spare (λ pass. HaveRoom pass.schedule st)
-spare_room None sizes st zeros enough = tt
-spare_room (Some pass) sizes st zeros enough = have_room pass.schedule sizes st zeros enough
-
 -- lists are as long as they were where the slots stay
 pub slots_long : (old new : Stores) → SlotsStay old new → AreAsLong old new
 slots_long old new stays = record {
@@ -160,3 +146,45 @@ pass_keeps t pass m st widths is pass_is has =
     let room = has.kept_narrow_room in
     let room' = has.kept_wide_room in
     rw is (omega (arith, narrow, room), omega (arith, wide, room'))
+
+-- what is kept in 32 bits has room after lists of another schedule were gone over to
+kept_over : (t : Tables) (pass : Passing) (m : ℕ) (sizes : Sizes) (old widened gone : Stores) → IsPassOf t m pass →
+    HaveRoom pass.schedule old → SlotsStay old widened → HaveGoneOver sizes widened gone →
+    kept_room t.rows.rows ≤ length gone.kept_wide
+kept_over t pass m sizes old widened gone pass_is has stays over =
+    let kept = (pass_keeps t pass m old pass.schedule.narrow refl pass_is has).1 in
+    let wide = stays.kept_wide in
+    let same = ap length over.kept_wide in
+    omega (arith, kept, wide, same)
+
+-- they have room for the pass that they are for
+pub next_room : (t : Tables) (pass next : Passing) (m n : ℕ) (sizes : Sizes) (old widened gone : Stores) →
+    IsPassOf t m pass → IsPassOf t n next → HaveRoom pass.schedule old → SlotsStay old widened →
+    HaveGoneOver sizes widened gone → AreEnough next.schedule sizes → HaveRoom next.schedule gone
+next_room t pass next m n sizes old widened gone pass_is next_is has stays over enough =
+    let a = over.narrow in
+    let b = over.wide in
+    let d = over.kept_narrow in
+    let e = kept_over t pass m sizes old widened gone pass_is has stays over in
+    let size = next_is.runs.follows.kept_are.wide in
+    let narrows = enough.narrow in
+    let wides = enough.wide in
+    let keeps = enough.kept_narrow in
+    record {
+      narrow_room = omega (arith, a, narrows);
+      wide_room = omega (arith, b, wides);
+      kept_narrow_room = omega (arith, d, keeps);
+      kept_wide_room = omega (arith, e, size);
+    }
+
+-- and for the rows of all nodes
+pub next_table_room : (t : Tables) (pass : Passing) (m : ℕ) (sizes : Sizes) (old widened gone : Stores) →
+    IsPassOf t m pass → HaveRoom pass.schedule old → SlotsStay old widened → HaveGoneOver sizes widened gone →
+    AreEnoughForTables t.rows.rows t.most sizes → HaveTableRoom t.rows.rows t.most gone
+next_table_room t pass m sizes old widened gone pass_is has stays over enough =
+    let b = over.wide in
+    let wides = enough.wide in
+    record {
+      wide_room = omega (arith, b, wides);
+      kept_wide_room = kept_over t pass m sizes old widened gone pass_is has stays over;
+    }

@@ -89,13 +89,19 @@ abbrev pub Narrows : Rows → List Bool → Stores → Stores → Type 0
 Narrows rows narrow old new = (none : List Bool) (y : Sums) (u : ℕ) → ((r : ℕ) → is_narrow none r ≡ false) →
     Fit narrow y u → Kept rows none y u old → Kept rows narrow y u new
 
+-- what is kept in 32 bits stays where lists of other slots are gone over to
+abbrev pub StaysWide : Rows → Stores → Stores → Type 0
+StaysWide rows old new = (none : List Bool) (y : Sums) (u : ℕ) → ((r : ℕ) → is_narrow none r ≡ false) →
+    Kept rows none y u old → Kept rows none y u new
+
 -- what is kept for one pass, written for another
-pub kept_for : RowsAreBounded → (t : Tables) (pass next : Passing) (old widened new : Stores) → AreTables t →
-    Widens t.rows.rows pass.schedule.narrow old widened → Narrows t.rows.rows next.schedule.narrow widened new →
-    KeepsFor t pass next old new
-kept_for bounded t pass next old widened new is widens narrows f m u fit before =
+pub kept_for : RowsAreBounded → (t : Tables) (pass next : Passing) (old widened gone new : Stores) → AreTables t →
+    Widens t.rows.rows pass.schedule.narrow old widened → StaysWide t.rows.rows widened gone →
+    Narrows t.rows.rows next.schedule.narrow gone new → KeepsFor t pass next old new
+kept_for bounded t pass next old widened gone new is widens over narrows f m u fit before =
     let y = table_sums t f in
-    narrows [] y u none_of_none (sums_fit bounded t next f m u is fit) (widens [] y u none_of_none before)
+    narrows [] y u none_of_none (sums_fit bounded t next f m u is fit)
+    (over [] y u none_of_none (widens [] y u none_of_none before))
 
 -- the tables of all nodes: what is kept was widened, their rows were made and kept, and what is kept was narrowed
 pub filled : RowsAddUp → RowsAreBounded → (t : Tables) (pass : Passing) (spectra : ℕ) (samples : List ℕ)

@@ -5,9 +5,11 @@ use Rattle.std.specs.Prelude.{◌≡◌, ◌≢◌, ℕ, ◌+◌, ◌-◌, ◌*�
 use Rattle.band_paths.specs.Edges.{channels_of}
 use Rattle.row_schedule.specs.Filling.{HaveTableRoom}
 use Rattle.row_schedule.specs.Running.{Stores, HaveRoom}
+use Rattle.row_schedule.specs.Sizes.{AreEnough, AreEnoughForTables}
 use Rattle.search_model.specs.Samples.{Filterbank}
 use Rattle.subband_plan.specs.Nodes.{BandPlan}
 use Rattle.subband_plan.specs.Values.{AreAtMost}
+use Rattle.fdmt_carry.specs.declared.opening.Spare.{Spare}
 use Rattle.fdmt_carry.specs.declared.passing.Passing.{Passing}
 use Rattle.fdmt_carry.specs.Tables.{Tables, TablesStand}
 use Rattle.fdmt_carry.specs.Passing.{AreKept, HasBandRow, IsPassing, IsPassOf}
@@ -144,8 +146,14 @@ pub record IsSound (c : Carrying) : Type 0 where
   pub from : c.is_passing ≡ true → c.tables.plan.first ≤ c.next
   pub to : c.is_passing ≡ true → c.next ≤ c.tables.plan.last + 1
 
+-- a spare is a pass for samples up to m, with lists that are long enough for it and for the rows of
+-- all nodes
+pub record IsSpareOf (t : Tables) (m : ℕ) (spare : Spare) : Type 0 where
+  pub pass_is : IsPassOf t m spare.pass
+  pub room : AreEnough spare.pass.schedule spare.stores
+  pub table_room : AreEnoughForTables t.rows.rows t.most spare.stores
+
 -- a pass for all samples is there as long as the one in use is for smaller ones alone
-pub record HasSpare (c : Carrying) (spare : Option Passing) : Type 0 where
+pub record HasSpare (c : Carrying) (spare : Option Spare) : Type 0 where
   pub some : c.limit < c.max_sample → spare ≢ None
-  pub pass_is : IfSome spare (λ pass. IsPassOf c.tables c.max_sample pass)
-  pub room : IfSome spare (λ pass. HaveRoom pass.schedule c.stores)
+  pub is_spare : IfSome spare (IsSpareOf c.tables c.max_sample)

@@ -10,7 +10,7 @@ ghost use Rattle.subband_plan.specs.Values.{AreAtMost};
 ghost use Rattle.fdmt_carry.specs.Tables.{node_of, node_count};
 ghost use Rattle.fdmt_carry.specs.Carrying.{Carrying, AreThere, IsOpened, IsFed, IsBegun, IsRowOn, IsStream, AreNext, HasMade, IsSettled, StandsForSamples, StandsMidway, IsSound, HasSpare, carrying};
 
-use crate::opening::Passes;
+use crate::opening::{Passes, Spare};
 use crate::passing::Passing;
 use crate::tables::Tables;
 use psr_base::Memory;
@@ -35,7 +35,7 @@ pub struct Carry {
     tables: Tables,
     pass: Passing,
     limit: u32,
-    spare: Option<Passing>,
+    spare: Option<Spare>,
     max_sample: u32,
     fed: u64,
     last: u32,
@@ -91,7 +91,7 @@ impl Carry {
         rows_begin_empty();
         let tables = Tables::of(alloc, plan, chunk, most)?;
         let passes = Passes::of(alloc, &tables, max_sample)?;
-        let stores = Stores::zeros(alloc, passes.sizes(tables.room()))?;
+        let stores = Stores::zeros(alloc, tables.room(&passes.pass))?;
         tables.hold();
         let Passes { pass, limit, spare } = passes;
         Ok(Carry {
@@ -190,9 +190,11 @@ impl Carry {
         let Some(spare) = mem::replace(&mut self.spare, None) else {
             unreachable!();
         };
+        let Spare { pass, stores } = spare;
         self.tables.hold();
-        self.tables.keep_for(&self.pass, &spare, &mut self.stores);
-        self.pass = spare;
+        self.tables
+            .go_over(&self.pass, &pass, stores, &mut self.stores);
+        self.pass = pass;
         self.limit = self.max_sample;
     }
 

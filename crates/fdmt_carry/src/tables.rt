@@ -2,8 +2,7 @@
 ghost use Rattle.std.specs.Prelude.{◌≡◌, ℕ, ◌+◌, ◌-◌, ◌*◌, ◌≤◌, ◌<◌, true, false, length, IfOk};
 ghost use Rattle.band_paths.specs.Edges.{channels_of};
 ghost use Rattle.row_schedule.specs.Running.{AreAsLong, HaveRoom};
-ghost use Rattle.row_schedule.specs.Moving.{SlotsStay};
-ghost use Rattle.row_schedule.specs.Sizes.{AreEnoughForTables};
+ghost use Rattle.row_schedule.specs.Sizes.{AreEnough, AreEnoughForTables};
 ghost use Rattle.row_schedule.specs.Filling.{HaveTableRoom, WroteWide};
 ghost use Rattle.row_schedule.specs.Samples.{values_of};
 ghost use Rattle.subband_plan.specs.Nodes.{IsPlan, HasRow, root};
@@ -14,7 +13,7 @@ ghost use Rattle.fdmt_carry.specs.Making.{BandRowIsBelow, Fills, KeepsFor, Makes
 use crate::numbers::{row_number, whole_band};
 use crate::passing::{Passing, narrow_limit};
 use psr_base::Memory;
-use row_schedule::{Samples, Sizes, Stores, last_rows_are_left_out};
+use row_schedule::{Samples, Sizes, SpareStores, Stores, last_rows_are_left_out};
 use search_model::splits_fit;
 use std::alloc::Global;
 use std::marker::Model;
@@ -88,12 +87,13 @@ impl Tables {
         &self.plan
     }
 
-    /// How long lists are in which the rows of all nodes are made.
-    pub fn room(&self) -> Sizes
-        ensures { AreEnoughForTables self.now.rows.rows self.now.most result }
+    /// How long lists are in which the rows of all nodes are made, and on which a pass works.
+    pub fn room(&self, pass: &Passing) -> Sizes
+        ensures tables { AreEnoughForTables self.now.rows.rows self.now.most result }
+        ensures pass { AreEnough pass.now.schedule result }
     {
         self.hold();
-        Sizes::of_tables(&self.rows.rows, self.most as usize)
+        Sizes::of_tables(&self.rows.rows, self.most as usize).most(pass.schedule.sizes())
     }
 
     /// Of how many spectra the rows of all nodes are made at most.
@@ -196,17 +196,20 @@ impl Tables {
         }
     }
 
-    /// Writes what is kept for one pass as it is kept for another, which then goes on by it.
-    pub fn keep_for(&self, pass: &Passing, next: &Passing, stores: &mut Stores)
+    /// Goes over from one pass to another, and to its lists: what is kept is written as that keeps it.
+    pub fn go_over(&self, pass: &Passing, next: &Passing, spare: SpareStores, stores: &mut Stores)
         requires pass { (m : ℕ) × IsPassOf self.now m pass.now }
         requires next { (m : ℕ) × IsPassOf self.now m next.now }
         requires room { HaveRoom pass.now.schedule stores.old }
-        requires next_room { HaveRoom next.now.schedule stores.old }
-        ensures stays { SlotsStay stores.old stores.new }
+        requires next_room { AreEnough next.now.schedule spare }
+        requires table_room { AreEnoughForTables self.now.rows.rows self.now.most spare }
+        ensures room { HaveRoom next.now.schedule stores.new }
+        ensures table_room { HaveTableRoom self.now.rows.rows self.now.most stores.new }
         ensures keeps { KeepsFor self.now pass.now next.now stores.old stores.new }
     {
         rows_are_bounded();
         stores.widen_kept(&self.rows.rows, pass.schedule.narrow());
+        stores.go_over(spare);
         stores.narrow_kept(&self.rows.rows, next.schedule.narrow());
     }
 

@@ -1,6 +1,6 @@
 -- How long the lists are that schedules work on.
 -- Source: this project's choice.
-use Rattle.std.specs.Prelude.{◌≡◌, ℕ, ◌≤◌, replicate}
+use Rattle.std.specs.Prelude.{◌≡◌, ℕ, ◌≤◌, length, replicate}
 use Rattle.row_model.specs.declared.Rows.{Rows}
 use Rattle.row_schedule.specs.declared.stores.Sizes.{Sizes}
 use Rattle.row_schedule.specs.Layout.{kept_room}
@@ -19,6 +19,20 @@ pub record AreEnough (s : Scheduled) (sizes : Sizes) : Type 0 where
 pub record AreEnoughForTables (rows : Rows) (room : ℕ) (sizes : Sizes) : Type 0 where
   pub wide : table_size rows room ≤ sizes.wide
   pub kept : kept_room rows ≤ sizes.kept_wide
+
+-- lists have memory for as many slots, and for as many values that are kept in 16 bits
+pub record AreReserved (sizes : Sizes) (narrow wide kept_narrow : ℕ) : Type 0 where
+  pub narrow_room : sizes.narrow ≤ narrow
+  pub wide_room : sizes.wide ≤ wide
+  pub kept_room : sizes.kept_narrow ≤ kept_narrow
+
+-- the lists of slots, and of what is kept in 16 bits, are others of such lengths or longer, and what is
+-- kept in 32 bits stays
+pub record HaveGoneOver (sizes : Sizes) (old new : Stores) : Type 0 where
+  pub narrow : sizes.narrow ≤ length new.narrow
+  pub wide : sizes.wide ≤ length new.wide
+  pub kept_narrow : sizes.kept_narrow ≤ length new.kept_narrow
+  pub kept_wide : new.kept_wide ≡ old.kept_wide
 
 -- lists of as many zeros
 pub record AreZeros (sizes : Sizes) (st : Stores) : Type 0 where

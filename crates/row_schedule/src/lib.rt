@@ -17,6 +17,7 @@ mod marks;
 mod reading;
 mod samples;
 mod schedule;
+mod spare;
 mod step;
 mod stores;
 
@@ -24,4 +25,5 @@ pub use builder::{Builder, Order};
 pub use kept::{last_rows_are_left_out, nothing_kept, running_begins, running_ends};
 pub use samples::Samples;
 pub use schedule::Schedule;
+pub use spare::SpareStores;
 pub use stores::{Sizes, Stores};

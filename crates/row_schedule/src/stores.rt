@@ -8,12 +8,13 @@ ghost use Rattle.row_schedule.specs.Running.{Kept};
 ghost use Rattle.row_schedule.specs.Moving.{SlotsStay};
 ghost use Rattle.row_schedule.specs.Filling.{AreGiven, HasSources, HaveSamples, HaveTableRoom, IsOfOthers, KeepsOn, StandsAtPlace, WroteKept, WroteWide, own_place};
 ghost use Rattle.row_schedule.specs.Schedules.{Scheduled};
-ghost use Rattle.row_schedule.specs.Sizes.{AreEnough, AreEnoughForTables, AreZeros};
+ghost use Rattle.row_schedule.specs.Sizes.{AreEnough, AreEnoughForTables, AreZeros, HaveGoneOver};
 
 use crate::filling::{fill_row, keep_rows, own_place};
 use crate::kept::{narrow_rows, widen_rows};
 use crate::reading::kept_room;
 use crate::samples::Samples;
+use crate::spare::SpareStores;
 use psr_base::Memory;
 use row_model::Rows;
 use std::alloc::Global;
@@ -129,6 +130,19 @@ impl Stores {
             self.kept_narrow.as_slice(),
             self.kept_wide.as_mut_slice(),
         );
+    }
+
+    /// Goes over to the lists of another schedule. What is kept in 32 bits stays.
+    pub fn go_over(&mut self, spare: SpareStores)
+        ensures over { HaveGoneOver spare self.old self.new }
+        ensures kept { (rows : Rows) (none : List Bool) (y : Sums) (u : ℕ)
+            → ((r : ℕ) → is_narrow none r ≡ false)
+            → Kept rows none y u self.old → Kept rows none y u self.new }
+    {
+        let (narrow, wide, kept_narrow) = spare.filled();
+        self.narrow = narrow;
+        self.wide = wide;
+        self.kept_narrow = kept_narrow;
     }
 
     /// Writes what is kept of the rows that have 16 bits, from the values of 32 bits. What is kept stays the same where

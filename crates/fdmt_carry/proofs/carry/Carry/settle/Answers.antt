@@ -1,8 +1,7 @@
 use Rattle.std.proofs.Common.{Option, subst, sym}
 use Rattle.std.specs.Option.{IfSome}
-use Rattle.fdmt_carry.specs.declared.passing.Passing.{Passing}
-use Rattle.fdmt_carry.specs.Passing.{IsPassOf}
-use Rattle.fdmt_carry.specs.Carrying.{Carrying, StandsForSamples, carrying}
+use Rattle.fdmt_carry.specs.declared.opening.Spare.{Spare}
+use Rattle.fdmt_carry.specs.Carrying.{Carrying, IsSpareOf, StandsForSamples, carrying}
 use Rattle.fdmt_carry.proofs.Carried.{settled_stands}
 use Rattle.fdmt_carry.proofs.carry.Carry.settle.Goals as goal
 
@@ -14,6 +13,6 @@ returns-clause-stands c = λ f stands.
     s.stores in
     let before : StandsForSamples inside f =
     subst (λ (x : Carrying). StandsForSamples x f) (sym c.self.view_is) stands in
-    settled_stands inside c.in-Some.spare c.keep_for.new.stores f
-    (subst (λ (x : Option Passing). IfSome x (λ pass. IsPassOf t s.max_sample pass)) (sym c.in-Some.ensures.value)
-    c.self.invariant.1.pass_is) c.keep_for.ensures.keeps before
+    let spare = subst (λ (x : Option Spare). IfSome x (IsSpareOf t s.max_sample)) (sym c.in-Some.ensures.value)
+    c.self.invariant.1.is_spare in
+    settled_stands inside c.in-Some.spare.pass c.go_over.new.stores f spare.pass_is c.go_over.ensures.keeps before
