@@ -25,7 +25,7 @@ can_judge s c first end d thresholds b are widest from below = record {
       omega (arith, count, within));
   widths = subst (All (CanBeWide b)) (sym are.widths_are) (λ i w inside. record {
     width = are_widths s i w inside;
-    narrow = (let narrow = are_narrow s i w inside in omega (arith, narrow, widest));
+    within = (let narrow = are_narrow s i w inside in omega (arith, narrow, widest));
   });
 }
 

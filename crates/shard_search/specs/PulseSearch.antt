@@ -89,7 +89,7 @@ pub record AddsHitsOf (d : ℕ) (old new : List Hit) : Type 0 where
 -- boxes can be so wide
 pub record CanBeWide (b : RowTails) (w : ℕ) : Type 0 where
   pub width : IsWidth w
-  pub narrow : w ≤ b.widest
+  pub within : w ≤ b.widest
 
 -- thresholds can judge the boxes of a row
 pub record CanJudge (b : RowTails) (first d : ℕ) (thresholds : BoxThresholds) : Type 0 where

@@ -35,7 +35,7 @@ pub record IsHit (s : Search) (c : Sought) (first end : ℕ) (hit : Hit) : Type 
   pub above : first ≤ hit.delay
   pub below : hit.delay < end
   pub width : IsWidth hit.width
-  pub narrow : hit.width ≤ s.widest
+  pub within : hit.width ≤ s.widest
   pub least : StandOutFrom (noise_of s) (hit.width * cells_in c hit.delay) (Some hit.least)
 
 -- the pulse of a hit that ends at spectrum u, if it is sought and detected

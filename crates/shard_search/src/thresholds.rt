@@ -197,7 +197,7 @@ pub(crate) fn find_hit(
 // Each box of a width that ends at one of the sums of a row, which was taken last, fits into 32 bits.
 fn boxes_fit(boxes: &Boxes, row: &[u32], width: u32)
     requires width { IsWidth width }
-    requires narrow { width ≤ boxes.now.widest }
+    requires within { width ≤ boxes.now.widest }
     ensures { (y : ℕ → ℕ → ℕ) (d m k : ℕ) → IsTakenRow y boxes.now d m row.now → k < length row.now
         → box_of y d (m + k) width < 2 ^ 32 }
 {
@@ -209,7 +209,7 @@ fn boxes_fit(boxes: &Boxes, row: &[u32], width: u32)
 // none does. A box of one sum is that sum.
 fn may_reach(boxes: &mut Boxes, row: &[u32], width: u32, least: u32) -> bool
     requires width { IsWidth width }
-    requires narrow { width ≤ boxes.old.widest }
+    requires within { width ≤ boxes.old.widest }
     ensures same { boxes.new ≡ boxes.old }
     ensures below { result ≡ false → (y : ℕ → ℕ → ℕ) (d m k : ℕ) → IsTakenRow y boxes.old d m row.now
         → k < length row.now → box_of y d (m + k) width < least }

@@ -99,7 +99,7 @@ fn write_part<T: RowSample>(
     }
 }
 
-// Writes these channels of spectra by sixteen, as long as a tile of them lies in the bytes, and says how far it came.
+// Writes these channels, sixteen spectra at a time, while a whole tile lies in the bytes. Says up to which spectrum.
 fn write_tiles<T: RowSample>(
     rows: &mut [T],
     bytes: &[u8],

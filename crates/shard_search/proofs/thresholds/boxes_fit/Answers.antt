@@ -8,7 +8,7 @@ use Rattle.shard_search.proofs.thresholds.boxes_fit.Goals as goal
 pub returns : goal.returns
 returns c = λ y d m k taken inside.
     let n : ℕ = length c.args.row.now in
-    let narrow = c.requires.narrow in
+    let narrow = c.requires.within in
     elim (cases_lt c.args.width 2) [
       | inl one ↦
           let is = box_of_one y d (m + k) c.args.width c.requires.width one in

@@ -19,7 +19,7 @@ returns-then-width-lt2-clause-below c = λ out y d m k taken inside.
 pub returns-clause-below : goal.returns-clause-below
 returns-clause-below c = λ out y d m k taken inside.
     let n : ℕ = length c.args.row.now in
-    let narrow = c.requires.narrow in
+    let narrow = c.requires.within in
     let above = c.if-width-lt2.false in
     subst (λ (sum : ℕ). sum < c.args.least)
     (ending_is_box c.sums_add_values.ensures y d m n k c.args.width inside)
