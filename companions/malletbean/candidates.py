@@ -24,6 +24,13 @@ def check_fits(path: str, found: Found, head: Header) -> None:
             raise refused(path, "its DM are not those of this header: does it belong to another file?")
 
 
+def check_noise(path: str, found: Found, mean: float, deviation: float) -> None:
+    """Refuses a text with lines that a search of this noise would not have: their ratios are below 0."""
+    for lines in (found.pulses, found.folds):
+        if (printed_ratio(lines, mean, deviation) < 0).any():
+            raise refused(path, "some of its ratios are below 0: MEAN and SD are not those of its search")
+
+
 def printed_ratio(lines: np.ndarray, mean: float, deviation: float) -> np.ndarray:
     """The ratio by which the search judges: all samples of a sum are taken to be independent."""
     return (lines["sum"] - lines["cells"] * mean) / (deviation * np.sqrt(lines["cells"]))

@@ -15,6 +15,11 @@ from .refusal import HEADER, READ, Refusal, bytes_of
 LEAST_SIZE = 4096
 MOST_SIZE = 65536
 TOP_KHZ = 2**24
+# how files of other forms begin
+OTHER_FORMS = (
+    (4, b"HEADER_START", "a SIGPROC filterbank: psr_fil makes a DADA file of it"),
+    (0, b"SIMPLE  =", "a FITS file, and has to be turned into a DADA file first"),
+)
 UTC_FORM = re.compile(r"(\d{4}-\d\d-\d\d)-(\d\d:\d\d:\d\d)")
 # each keyword with its decimals, and what it is where it is missing; they are judged in this order
 KEYWORDS: dict[str, tuple[int, int | None]] = {
@@ -110,14 +115,15 @@ class Header:
 
     @property
     def start(self) -> np.datetime64:
-        """The time of the file's first spectrum.
+        """The time of the file's first spectrum: PICOSECONDS after UTC_START begins the observation.
 
         NaT where the header has no UTC_START of the usual form, or the time is none that numpy counts in nanoseconds.
         """
         match = UTC_FORM.fullmatch(self.fields.get("UTC_START", ""))
         if match is None:
             return np.datetime64("NaT", "ns")
-        nanoseconds = self.offset * self.sample_ns // self.spectrum_bytes
+        picoseconds = scaled(self.fields.get("PICOSECONDS", "0"), 0) or 0
+        nanoseconds = picoseconds // 1000 + self.offset * self.sample_ns // self.spectrum_bytes
         if not 1970 <= int(match[1][:4]) < 2200 or nanoseconds >= 2**61:
             return np.datetime64("NaT", "ns")
         try:
@@ -143,6 +149,9 @@ def header(path: str) -> Header:
 def header_text(path: str) -> tuple[bytes, int]:
     """The text of a file's header, and how many bytes the header has."""
     front = bytes_of(path, LEAST_SIZE)
+    for place, mark, form in OTHER_FORMS:
+        if front[place:].startswith(mark):
+            raise refused(path, f"it is {form}")
     if len(front) < LEAST_SIZE:
         raise refused(path, f"Short {len(front)}")
     size = scaled(fields_of(before_nul(front)).get("HDR_SIZE", str(LEAST_SIZE)), 0)

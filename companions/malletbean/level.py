@@ -2,15 +2,15 @@
 from __future__ import annotations
 
 import argparse
-import os
 from collections.abc import Iterator, Sequence
-from typing import IO
+from typing import BinaryIO
 
 import numpy as np
 
 from .headers import Header, refused
+from .output import new_file
 from .program import Words
-from .refusal import OUTPUT, WORDS, Refusal, bytes_of
+from .refusal import WORDS, Refusal, bytes_of
 from .samples import Samples
 
 # how many values are worked on at a time: few enough for the caches
@@ -28,21 +28,11 @@ def psr_level(words: Sequence[str]) -> None:
     head = samples.header
     if head.spectra < 2:
         raise refused(asked.file, f"its data have {head.data_bytes} bytes, fewer than two spectra")
-    try:
-        with open(asked.output, "xb") as file:
-            try:
-                write_levelled(file, samples, asked)
-                file.flush()
-            except BaseException:
-                os.unlink(asked.output)
-                raise
-    except FileExistsError as fault:
-        raise Refusal(OUTPUT, f"can't write {asked.output}: it is there already") from fault
-    except OSError as fault:
-        raise Refusal(OUTPUT, f"can't write {asked.output}: {fault.strerror}") from fault
+    with new_file(asked.output) as file:
+        write_levelled(file, samples, asked)
     mean, deviation = LEVELS[head.bits]
     print(f"psr_level: each channel has the mean {mean} and the deviation {deviation} in each polarisation now; "
-          f"psr_look {asked.output} says the words of a search")
+          f"psr_look {asked.output} prints a first search")
 
 
 def parsed(words: Sequence[str]) -> argparse.Namespace:
@@ -61,7 +51,7 @@ def parsed(words: Sequence[str]) -> argparse.Namespace:
     return asked
 
 
-def write_levelled(file: IO[bytes], samples: Samples, asked: argparse.Namespace) -> None:
+def write_levelled(file: BinaryIO, samples: Samples, asked: argparse.Namespace) -> None:
     """Writes the header of the file that the words name, and its levelled values."""
     head, dither = samples.header, np.random.default_rng(0)
     file.write(bytes_of(asked.file, head.size))

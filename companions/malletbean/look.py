@@ -1,4 +1,4 @@
-"""`psr_look`: what a header says, and what the first megabytes tell for the words of a search. It estimates."""
+"""`psr_look`: what a header says, and what parts of the data tell for the words of a search. It estimates."""
 from __future__ import annotations
 
 import argparse
@@ -9,6 +9,7 @@ from dataclasses import dataclass, replace
 
 import numpy as np
 
+from .candidates import cells_by_delay, pulse_noise_cells
 from .headers import Header, refused
 from .level import LEVELS
 from .masks import mask_text
@@ -20,8 +21,8 @@ from .samples import Samples
 # the greatest delay of a search where none is said, the greatest there is, and the widest box where none is said
 USUAL_DELAY, GREATEST_DELAY = 256, 8192
 USUAL_WIDTH = 8
-# a threshold that keeps the text of a first search short
-FIRST_SNR = 15
+# a threshold that keeps the text of a first search short, and the one of a search where none is said
+FIRST_SNR, USUAL_SNR = 15, 7
 # the usual and greatest size of recorded files
 USUAL_FILE_SIZE = 2**30
 # stretches to level by: at most so many spectra, and at least so many times as long as a pulse in a channel
@@ -42,9 +43,13 @@ MEDIAN_DISTANCE = 0.6745
 
 @dataclass(frozen=True)
 class Measured:
-    """Estimates from the first spectra: each channel's mean and deviation, the highest first, and each piece's mean."""
+    """Estimates from pieces of the data: each channel's mean and deviation, the highest first, and each piece's mean.
+
+    `spectra` counts those that were read, and `reach` those from the first to the last of them.
+    """
 
     spectra: int
+    reach: int
     means: np.ndarray
     deviations: np.ndarray
     piece_means: np.ndarray
@@ -73,7 +78,8 @@ def psr_look(words: Sequence[str]) -> None:
         raise refused(asked.file, f"its data have {head.data_bytes} bytes, fewer than two spectra")
     measured = measure(samples, int(asked.megabytes * 1e6) // head.spectrum_bytes)
     taken = measured.spectra * head.spectrum_bytes / 1e6
-    print(f"psr_look estimates, from the first {taken:.3g} MB of the data; nothing of what it says is proved.")
+    part = "all" if measured.spectra == head.spectra else f"{PIECES} pieces of the"
+    print(f"psr_look estimates, from {part} data ({taken:.3g} MB); nothing of what it says is proved.")
     for name, text in said(asked, head, measured, form_of(samples)):
         print(f"{name:<12}{text}")
     if asked.channels:
@@ -86,6 +92,7 @@ def parsed(words: Sequence[str]) -> argparse.Namespace:
     parser.add_argument("file", metavar="FILE", help="a DADA file of filterbank samples")
     parser.add_argument("dm", metavar="DM", nargs="?", type=dispersion_measure, help="a dispersion measure in pc/cm^3")
     parser.add_argument("--megabytes", metavar="N", type=positive, default=64.0, help="how much is read (64)")
+    parser.add_argument("--mask", metavar="MASK", help="channels to leave out, in place of those that stand out")
     parser.add_argument("--channels", action="store_true", help="each channel's mean and deviation besides")
     return parser.parse_args(words)
 
@@ -107,20 +114,21 @@ def positive(text: str) -> float:
 
 
 def measure(samples: Samples, most: int) -> Measured:
-    """Estimates from the first spectra, `most` at the most, but two at least."""
+    """Estimates from pieces that lie evenly in the data, of `most` spectra at the most, but two at least."""
     spectra = min(samples.spectra, max(most, 2))
     bounds = np.linspace(0, spectra, min(PIECES, spectra) + 1).astype(int)
+    begins = bounds[:-1] + np.linspace(0, samples.spectra - spectra, len(bounds) - 1).astype(int)
     total = np.zeros(samples.header.channels)
     squares = np.zeros(samples.header.channels)
     piece_means = []
-    for first, stop in zip(bounds, bounds[1:]):
-        piece = samples.read(int(first), int(stop - first)).astype(np.float64)
+    for begin, count in zip(begins, np.diff(bounds)):
+        piece = samples.read(int(begin), int(count)).astype(np.float64)
         total += piece.sum(axis=0)
         squares += (piece**2).sum(axis=0)
         piece_means.append(piece.mean())
     means = total / spectra
     variances = np.maximum(squares / spectra - means**2, 0)
-    return Measured(spectra, means, np.sqrt(variances), np.array(piece_means))
+    return Measured(spectra, samples.spectra, means, np.sqrt(variances), np.array(piece_means))
 
 
 def form_of(samples: Samples) -> str:
@@ -135,11 +143,13 @@ def form_of(samples: Samples) -> str:
 def said(asked: argparse.Namespace, head: Header, measured: Measured, form: str) -> list[tuple[str, str]]:
     """What is said of the file, line by line."""
     max_delay = delay_to_search(head, asked.dm)
+    masked = head if asked.mask is None else head.without(asked.mask)
     lines = header_lines(head)
     if form != "<u":
         lines.append(("values", f"they look {FORMS[form]}; psr_search would take them as {FORMS['<u']}: "
                                 f"psr_level FILE OUT {FORM_WORDS[form]} turns them"))
     lines += noise_lines(head, measured, max_delay)
+    lines.append(("threshold", threshold_text(head, max_delay)))
     if asked.dm is not None:
         lines.append(("delay", delay_text(head, asked.dm)))
     lines.append(("reach", ", ".join(
@@ -147,9 +157,11 @@ def said(asked: argparse.Namespace, head: Header, measured: Measured, form: str)
     lines.append(("file size", f"--file-size {USUAL_FILE_SIZE // head.spectrum_bytes * head.spectrum_bytes} "
                                "cuts recorded files between spectra"))
     lines += level_lines(asked, head, measured, max_delay, form)
+    if asked.dm is not None and head.delay(asked.dm) > GREATEST_DELAY:
+        return lines
     rest = f"--snr {FIRST_SNR} --max-delay {max_delay} {shlex.quote(asked.file)}"
     lines.append(("words", f"psr_search {noise_words(measured)} {rest}"))
-    are_kept = ~stand_out(measured)
+    are_kept = ~stand_out(measured) if asked.mask is None else np.isin(np.arange(head.channels), masked.kept)
     if not are_kept.all():
         mask = mask_text(file_numbers(head, ~are_kept))
         lines.append(("masked", f"psr_mask {mask} {noise_words(measured.of_channels(are_kept))} {rest}"))
@@ -225,11 +237,11 @@ def is_level(head: Header, measured: Measured) -> bool:
 def stretch_to_level(head: Header, measured: Measured, max_delay: int, drift: float) -> int:
     """A power of two of spectra, short beside the drift, but long beside the longest pulse within a channel.
 
-    A mean that moves ratios by `drift` over what was read moves them by about 1 over a `drift`-th of that, if it goes
+    A mean that moves ratios by `drift` over the data moves them by about 1 over a `drift`-th of these, if it goes
     evenly; half of that is taken, for one that goes up and down.
     """
     longest = USUAL_WIDTH + int(path_cells(head.edges_khz, np.array([max_delay])).max())
-    most = int(min(MOST_STRETCH, measured.spectra / max(2 * drift, 1)))
+    most = int(min(MOST_STRETCH, measured.reach / max(2 * drift, 1)))
     return 2 ** max(most.bit_length() - 1, (TIMES_PULSE * longest - 1).bit_length())
 
 
@@ -274,6 +286,21 @@ def delay_to_search(head: Header, dm: float | None) -> int:
     if dm is None:
         return USUAL_DELAY
     return min(GREATEST_DELAY, math.ceil(head.delay(dm) * 9 / 8) + 1)
+
+
+def threshold_text(head: Header, max_delay: int) -> str:
+    """Which threshold a true S/N is, where wide boxes have more noise than the search reckons with.
+
+    64 delays at the most are tried.
+    """
+    delays = np.unique(np.linspace(0, max_delay, 64).astype(int))
+    widths = np.array([2**level for level in range(USUAL_WIDTH.bit_length())])
+    lines = np.zeros(len(delays) * len(widths), [("delay", int), ("width", int)])
+    lines["delay"], lines["width"] = np.repeat(delays, len(widths)), np.tile(widths, len(delays))
+    cells = cells_by_delay(head, lines["delay"]) * lines["width"]
+    greatest = math.sqrt((pulse_noise_cells(lines, head) / cells).max())
+    return (f"a true S/N of {USUAL_SNR} is --snr {USUAL_SNR * greatest:.1f} at widths to {USUAL_WIDTH} and delays to "
+            f"{max_delay}, and --snr {USUAL_SNR} at --widths 1")
 
 
 def delay_text(head: Header, dm: float) -> str:

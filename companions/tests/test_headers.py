@@ -123,3 +123,19 @@ def test_no_file(tmp_path: Path) -> None:
 def test_a_start_of_another_form(tmp_path: Path) -> None:
     for other in ("2024-01-02T03:04:05", "2024-13-02-03:04:05"):
         assert np.isnat(header(written(tmp_path, TELESCOPE.replace("2024-01-02-03:04:05", other))).start)
+
+
+def test_a_start_between_two_seconds(tmp_path: Path) -> None:
+    whole = header(written(tmp_path, TELESCOPE)).start
+    later = header(written(tmp_path, TELESCOPE.replace("UTC_START", "PICOSECONDS 730000000000\nUTC_START"))).start
+    assert later - whole == np.timedelta64(730, "ms")
+
+
+@pytest.mark.parametrize("front, form", [
+    (b"\x0c\0\0\0HEADER_START", "it is a SIGPROC filterbank: psr_fil makes a DADA file of it"),
+    (b"SIMPLE  =                    T", "it is a FITS file, and has to be turned into a DADA file first"),
+])
+def test_files_of_another_form(tmp_path: Path, front: bytes, form: str) -> None:
+    (tmp_path / "other").write_bytes(front.ljust(8192, b"\0"))
+    with pytest.raises(Refusal, match=form):
+        header(str(tmp_path / "other"))

@@ -8,9 +8,11 @@ import numpy as np
 import pytest
 
 import made
-from malletbean import Refusal
+from malletbean import Refusal, header
+from malletbean.candidates import shared_by_delay
 from malletbean.level import psr_level
 from malletbean.look import psr_look
+from malletbean.paths import box_noise_cells
 
 
 def said(capsys: pytest.CaptureFixture[str], *words: str) -> dict[str, str]:
@@ -121,10 +123,35 @@ def test_channels_are_counted_in_the_order_of_the_file(tmp_path: Path, capsys: p
 def test_a_delay_past_every_search(files: dict[str, str], capsys: pytest.CaptureFixture[str]) -> None:
     lines = said(capsys, files["made"], "1000")
     assert "average 3 spectra into one first" in lines["delay"]
-    assert "--max-delay 8192 " in lines["words"]
+    assert "words" not in lines
 
 
 def test_one_spectrum_is_too_few(tmp_path: Path) -> None:
     made.make(tmp_path / "one.dada", spectra=1, delay=0)
     with pytest.raises(Refusal, match="fewer than two spectra"):
         psr_look([str(tmp_path / "one.dada")])
+
+
+def test_a_drift_at_the_end_of_a_long_file(tmp_path: Path, capsys: pytest.CaptureFixture[str]) -> None:
+    path = tmp_path / "late.dada"
+    made.make(path, spectra=32768, height=0)
+    raw = np.frombuffer(path.read_bytes(), np.uint8).copy()
+    raw[4096 + 24576 * 64:] += 2
+    path.write_bytes(raw.tobytes())
+    lines = said(capsys, str(path), "--megabytes", "0.5")
+    assert lines["first"].startswith("psr_look estimates, from 8 pieces of the data (0.5 MB)")
+    assert lines["level first"].startswith(f"psr_level {path} OUT --spectra ")
+
+
+def test_the_threshold_of_wide_boxes(files: dict[str, str], capsys: pytest.CaptureFixture[str]) -> None:
+    lines = said(capsys, files["made"], "3.07")
+    shares = shared_by_delay(header(files["made"]), np.arange(int(lines["words"].split()[8]) + 1))
+    factors = [box_noise_cells(shared, width) / (width * shared[0]) for shared in shares for width in (1, 2, 4, 8)]
+    assert float(lines["threshold"].split()[7]) == pytest.approx(7 * max(factors)**0.5, abs=0.06)
+
+
+def test_a_mask_that_is_said(files: dict[str, str], capsys: pytest.CaptureFixture[str]) -> None:
+    lines = said(capsys, files["made"], "--mask", "3,17-19")
+    assert lines["mask to try:"] == " none" and lines["masked"].startswith("psr_mask 3,17-19 --mean ")
+    with pytest.raises(Refusal, match="mask refused"):
+        psr_look([files["made"], "--mask", "32"])

@@ -8,13 +8,14 @@ from pathlib import Path
 import pytest
 
 from conftest import DATA, HERE
+from malletbean.fil import psr_fil
 from malletbean.level import psr_level
 from malletbean.look import psr_look
 from malletbean.plot import psr_plot
 from malletbean.program import run
 from malletbean.table import psr_table
 
-PROGRAMS = {"psr_level": psr_level, "psr_look": psr_look, "psr_plot": psr_plot, "psr_table": psr_table}
+PROGRAMS = {one.__name__: one for one in (psr_fil, psr_level, psr_look, psr_plot, psr_table)}
 MADE, TWO = str(DATA / "made.txt"), str(DATA / "two.txt")
 
 
@@ -35,6 +36,8 @@ def test_the_commands(program: str) -> None:
     ("psr_look", ["/nowhere/a.dada"], 6, "can't read /nowhere/a.dada"),
     ("psr_look", [MADE], 3, f"header of {MADE} refused: Short"),
     ("psr_look", ["/dev/null"], 6, "can't read /dev/null: it is a pipe or a device, and has to be a file"),
+    ("psr_fil", ["FILE", "OUT"], 3, "refused: it is no header of a SIGPROC filterbank"),
+    ("psr_fil", ["/nowhere/a.fil", "OUT"], 6, "can't read /nowhere/a.fil"),
     ("psr_level", ["FILE"], 2, "the following arguments are required: OUT"),
     ("psr_level", ["FILE", "OUT", "--spectra", "1"], 2, "argument --spectra: it is below 2"),
     ("psr_level", ["FILE", MADE], 10, f"can't write {MADE}: it is there already"),
@@ -43,6 +46,7 @@ def test_the_commands(program: str) -> None:
     ("psr_table", ["FILE", "16", "0", MADE], 2, "argument SD: it is 0"),
     ("psr_table", ["FILE", "16", "2.828", "/nowhere/text"], 6, "can't read /nowhere/text"),
     ("psr_table", ["FILE", "16", "2.828", __file__], 4, "no END line"),
+    ("psr_table", ["FILE", "160", "2.828", MADE], 4, "MEAN and SD are not those of its search"),
     ("psr_table", ["FILE", "16", "2.828", TWO], 4, "has 2 observations"),
     ("psr_table", ["FILE", "16", "2.828", TWO, "--obs", "2"], 4, "has no observation 2"),
     ("psr_table", ["FILE", "16", "2.828", MADE, "--beam", "0"], 4, "has no beam 0"),

@@ -1,0 +1,28 @@
+"""Files that a companion makes."""
+from __future__ import annotations
+
+import os
+from collections.abc import Iterator
+from contextlib import contextmanager
+from typing import BinaryIO
+
+from .refusal import OUTPUT, Refusal
+
+
+@contextmanager
+def new_file(path: str) -> Iterator[BinaryIO]:
+    """A file to write that must not be there yet. Where what writes it fails, it is removed."""
+    try:
+        file = open(path, "xb")
+    except FileExistsError as fault:
+        raise Refusal(OUTPUT, f"can't write {path}: it is there already") from fault
+    except OSError as fault:
+        raise Refusal(OUTPUT, f"can't write {path}: {fault.strerror}") from fault
+    try:
+        with file:
+            yield file
+    except BaseException as fault:
+        os.unlink(path)
+        if isinstance(fault, OSError):
+            raise Refusal(OUTPUT, f"can't write {path}: {fault.strerror}") from fault
+        raise

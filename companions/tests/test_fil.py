@@ -1,0 +1,131 @@
+"""What psr_fil makes of SIGPROC filterbanks, and which ones it refuses."""
+from __future__ import annotations
+
+import struct
+from pathlib import Path
+
+import numpy as np
+import pytest
+
+import made
+from malletbean import fil
+from malletbean.fil import psr_fil
+from malletbean.headers import header
+from malletbean.refusal import Refusal
+from malletbean.samples import Samples
+
+# the header of a file of made.make
+USUAL = {"nchans": 64, "nbits": 8, "nifs": 1, "tsamp": 64e-6, "fch1": 1578.875, "foff": -6.25,
+         "tstart": 60311.12783564815}
+
+
+def word(text: str) -> bytes:
+    """A word of a SIGPROC header."""
+    return struct.pack("<i", len(text)) + text.encode()
+
+
+def entry(keyword: str, value: object) -> bytes:
+    """A keyword and its value."""
+    kind = {int: "<i", float: "<d"}.get(type(value))
+    return word(keyword) + (word(str(value)) if kind is None else struct.pack(kind, value))
+
+
+def write(path: Path, data: bytes, other: bytes = b"", **changed: object) -> str:
+    """Makes a filterbank of these data; a value that is None is left out."""
+    values = {keyword: value for keyword, value in (USUAL | changed).items() if value is not None}
+    entries = b"".join(entry(keyword, value) for keyword, value in values.items())
+    path.write_bytes(word("HEADER_START") + entries + other + word("HEADER_END") + data)
+    return str(path)
+
+
+def test_a_made_observation(tmp_path: Path, monkeypatch: pytest.MonkeyPatch,
+                            capsys: pytest.CaptureFixture[str]) -> None:
+    monkeypatch.setattr(fil, "VALUES_AT_A_TIME", 1000)
+    path, out = tmp_path / "made.dada", tmp_path / "out.dada"
+    made.make(path)
+    psr_fil([write(tmp_path / "a.fil", path.read_bytes()[4096:] + b"cut", source_name="J0437 4715"), str(out)])
+    assert capsys.readouterr().out.startswith("psr_fil: 4096 spectra of 64 channels; psr_look ")
+    assert out.read_bytes()[4096:] == path.read_bytes()[4096:]
+    before, after = header(str(path)), header(str(out))
+    assert (after.edges_khz, after.sample_ns, after.start) == (before.edges_khz, before.sample_ns, before.start)
+    assert after.is_falling and after.fields["SOURCE"] == "J0437_4715" and after.fields["PICOSECONDS"] == "0"
+
+
+@pytest.mark.parametrize("bits", [1, 2, 4])
+@pytest.mark.parametrize("channels", [5, 64])
+def test_values_of_few_bits(tmp_path: Path, bits: int, channels: int) -> None:
+    out = tmp_path / "out.dada"
+    values = np.random.default_rng(1).integers(0, 2**bits, (16, channels), np.uint8)
+    each = np.unpackbits(values.reshape(-1, 1), axis=1, count=bits, bitorder="little")
+    data = np.packbits(each.reshape(-1), bitorder="little").tobytes()
+    psr_fil([write(tmp_path / "a.fil", data, nchans=channels, nbits=bits), str(out)])
+    assert out.read_bytes()[4096:] == values.tobytes()
+
+
+def test_ifs_alternate_within_a_channel(tmp_path: Path) -> None:
+    values = np.arange(3 * 2 * 64, dtype="<u2").reshape(3, 2, 64)
+    path = write(tmp_path / "a.fil", values.tobytes(), nifs=2, nbits=16, foff=6.25)
+    psr_fil([path, str(tmp_path / "both.dada")])
+    assert Samples([str(tmp_path / "both.dada")]).read(0, 3).tolist() == values.sum(axis=1)[:, ::-1].tolist()
+    psr_fil([path, str(tmp_path / "one.dada"), "--if", "1"])
+    assert Samples([str(tmp_path / "one.dada")]).read(0, 3).tolist() == values[:, 1, ::-1].tolist()
+
+
+@pytest.mark.parametrize("bits", [8, 16])
+def test_signed_values(tmp_path: Path, bits: int) -> None:
+    values = np.arange(-64, 64, dtype=f"<i{bits // 8}")
+    path = write(tmp_path / "a.fil", values.tobytes(), word("signed") + b"\1", nbits=bits)
+    psr_fil([path, str(tmp_path / "out.dada")])
+    written = np.frombuffer((tmp_path / "out.dada").read_bytes()[4096:], f"<u{bits // 8}")
+    assert written.tolist() == (values.astype(int) + 2 ** (bits - 1)).tolist()
+
+
+def test_a_table_of_frequencies(tmp_path: Path) -> None:
+    table = [entry("fchannel", 1400.0 - 0.5 * channel) for channel in range(4)]
+    other = word("FREQUENCY_START") + b"".join(table) + word("FREQUENCY_END")
+    psr_fil([write(tmp_path / "a.fil", bytes(8), other, nchans=4, fch1=None, foff=None), str(tmp_path / "out.dada")])
+    assert header(str(tmp_path / "out.dada")).edges_khz == (1400250, 1399750, 1399250, 1398750, 1398250)
+
+
+@pytest.mark.parametrize("changed, status, line", [
+    ({"nbits": 32}, 3, "it has 32 bits, and only 1, 2, 4, 8 and 16 are taken"),
+    ({"nifs": 4}, 3, "it has 4 IFs: choose one with --if K, K from 0 on"),
+    ({"nchans": 1}, 3, "OutOfRange NCHAN"),
+    ({"tsamp": None}, 3, "it has no tsamp"),
+    ({"tsamp": float("nan")}, 3, "its tsamp is no number"),
+    ({"foff": 0.0}, 3, "OutOfRange BW"),
+    ({"colour": 1}, 3, "'colour' is no keyword that is known"),
+    ({"other": word("FREQUENCY_START") + entry("fchannel", 1400.0) + entry("fchannel", 1399.0)}, 3, "don't lie evenly"),
+])
+def test_what_is_refused(tmp_path: Path, changed: dict[str, object], status: int, line: str) -> None:
+    out = tmp_path / "out.dada"
+    with pytest.raises(Refusal) as refusal:
+        psr_fil([write(tmp_path / "a.fil", bytes(640), **changed), str(out)])
+    assert refusal.value.status == status and line in refusal.value.line and not out.exists()
+
+
+def test_a_header_that_was_cut(tmp_path: Path) -> None:
+    whole = Path(write(tmp_path / "a.fil", b""))
+    for length in range(0, whole.stat().st_size, 7):
+        (tmp_path / "cut.fil").write_bytes(whole.read_bytes()[:length])
+        with pytest.raises(Refusal) as refusal:
+            psr_fil([str(tmp_path / "cut.fil"), str(tmp_path / "out.dada")])
+        assert refusal.value.status == 3 and refusal.value.line.endswith("it ends before HEADER_END")
+
+
+def test_a_file_that_was_cut(tmp_path: Path, capsys: pytest.CaptureFixture[str]) -> None:
+    psr_fil([write(tmp_path / "a.fil", bytes(640), nsamples=20), str(tmp_path / "out.dada")])
+    assert "a.fil has 10 spectra, where nsamples says 20\n" in capsys.readouterr().out
+
+
+def test_files_that_follow_one_another(tmp_path: Path) -> None:
+    data = np.random.default_rng(2).integers(0, 256, 64 * 3000, np.uint8).tobytes()
+    parts = [write(tmp_path / f"{first}.fil", data[64 * first:64 * (first + 1000)],
+                   tstart=USUAL["tstart"] + first * 64e-6 / 86400) for first in (0, 1000, 2000)]
+    psr_fil([*parts, str(tmp_path / "out.dada")])
+    assert (tmp_path / "out.dada").read_bytes()[4096:] == data
+    with pytest.raises(Refusal, match="begins 1000.0 spectra after the end of the file before it"):
+        psr_fil([parts[0], parts[2], str(tmp_path / "other.dada")])
+    with pytest.raises(Refusal, match="its bits differs from that of the first file"):
+        psr_fil([parts[0], write(tmp_path / "wide.fil", b"", nbits=16), str(tmp_path / "other.dada")])
+    assert not (tmp_path / "other.dada").exists()
