@@ -3,7 +3,7 @@
 # Each line of README.md and docs/MANUAL.md that begins with `$` in a code block is run with the programs in BINDIR, or
 # those that were last built here, and what follows it is compared with what it prints. A command goes on over the next
 # line as long as it isn't complete. A line `..` stands for any lines. Each document has a fresh folder, and each
-# command must end with status 0. Commands of the companions (psr_look, psr_level, psr_plot, psr_table) run where numpy
+# command must end with status 0. Commands of the companions (psr_fil, psr_look, psr_level ..) run where numpy
 # and matplotlib are there, and else it is told that they were left out. The pages of man/ must be those that man/pages
 # makes, so their examples are the manual's, and `man` must show them without a warning; the completions must offer the
 # options of the manual's tables. Statuses: 0; 1 where something differs; 2 where a program is missing.
