@@ -14,19 +14,14 @@ VALUES_AT_A_TIME = 2**22
 DELAYS_AT_A_TIME = 256
 
 
-def check_fits(path: str, found: Found, head: Header) -> None:
-    """Refuses a text whose lines say other cells or dispersion measures than the header makes."""
+def check_fits(path: str, found: Found, head: Header, mean: float, deviation: float) -> None:
+    """Refuses a text whose lines say other cells or dispersion measures than the header makes, or ratios below 0."""
     for lines, counted in ((found.pulses, found.pulses["width"]), (found.folds, found.folds["rows"])):
         delays, firsts, places = np.unique(lines["delay"], return_index=True, return_inverse=True)
         if (lines["cells"] != counted.astype(np.int64) * cells_by_delay(head, delays)[places]).any():
             raise refused(path, "its CELLS are not those of this header: does it belong to another file or mask?")
         if any(head.dm(int(delay)) != lines["dm"][first] for delay, first in zip(delays, firsts)):
             raise refused(path, "its DM are not those of this header: does it belong to another file?")
-
-
-def check_noise(path: str, found: Found, mean: float, deviation: float) -> None:
-    """Refuses a text with lines that a search of this noise would not have: their ratios are below 0."""
-    for lines in (found.pulses, found.folds):
         if (printed_ratio(lines, mean, deviation) < 0).any():
             raise refused(path, "some of its ratios are below 0: MEAN and SD are not those of its search")
 

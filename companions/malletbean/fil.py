@@ -30,6 +30,8 @@ MARKS = ("FREQUENCY_START", "FREQUENCY_END")
 LONGEST_WORD = 80
 # what files of one observation have in common
 COMMON = ("channels", "bits", "ifs", "is_signed", "seconds", "first", "step")
+# two numbers of days tell how far they are apart to so many seconds
+TSTART_ERROR = 2e-6
 # day 0 of MJD
 DAY_ZERO = datetime(1858, 11, 17)
 
@@ -164,7 +166,7 @@ def bank_of(source: Source, values: dict[str, list]) -> Filterbank:
         values = values | {"fch1": [centres[0]], "foff": [step]}
     if first("nbits") not in (1, 2, 4, 8, 16):
         raise source.refused(f"it has {first('nbits')} bits, and only 1, 2, 4, 8 and 16 are taken: "
-                             "turn them into 8 bits first, as DSPSR's digifil can")
+                             "turn them into 8 bits first")
     for keyword in ("tsamp", "fch1", "foff", "tstart"):
         if keyword in values and not np.isfinite(values[keyword][0]):
             raise source.refused(f"its {keyword} is no number")
@@ -201,7 +203,7 @@ def check_follows(source: Source, bank: Filterbank, first: Filterbank, count: in
     if first.start is None or bank.start is None:
         return
     apart = (bank.start - first.start) * 86400 / first.seconds - count
-    if abs(apart) > 0.5:
+    if abs(apart) > 0.5 + TSTART_ERROR / first.seconds:
         raise source.refused(f"by its tstart it begins {apart:.1f} spectra after the end of the file before it")
 
 
@@ -219,8 +221,9 @@ def dada_text(bank: Filterbank, polarisations: int) -> bytes:
         f"BW {bank.step * bank.channels:.6f}",
         *start_lines(bank.start),
     ]
-    if bank.source and bank.source.isascii() and bank.source.split():
-        lines.append(f"SOURCE {'_'.join(bank.source.split())}")
+    name = "_".join((bank.source or "").split("\0")[0].split())
+    if name and name.isascii() and name.isprintable():
+        lines.append(f"SOURCE {name}")
     return "".join(line + "\n" for line in lines).encode()
 
 

@@ -124,7 +124,7 @@ class Header:
             return np.datetime64("NaT", "ns")
         picoseconds = scaled(self.fields.get("PICOSECONDS", "0"), 0) or 0
         nanoseconds = picoseconds // 1000 + self.offset * self.sample_ns // self.spectrum_bytes
-        if not 1970 <= int(match[1][:4]) < 2200 or nanoseconds >= 2**61:
+        if not 1970 <= int(match[1][:4]) < 2200 or not 0 <= nanoseconds < 2**61:
             return np.datetime64("NaT", "ns")
         try:
             begun = np.datetime64(f"{match[1]}T{match[2]}", "ns")

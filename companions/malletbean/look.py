@@ -222,7 +222,8 @@ def level_lines(asked: argparse.Namespace, head: Header, measured: Measured, max
     words = f"{shlex.quote(asked.file)} OUT --spectra {stretch_to_level(head, measured, max_delay, drift)}"
     forms = "" if form == "<u" else f" {FORM_WORDS[form]}"
     dm = "" if asked.dm is None else f" {asked.dm:g}"
-    return [("level first", f"psr_level {words}{forms}, then psr_look OUT{dm}: {why}")]
+    mask = f" --mask {mask_text(file_numbers(head, stand_out(measured)))}" if stand_out(measured).any() else ""
+    return [("level first", f"psr_level {words}{forms}, then psr_look OUT{dm}{mask}: {why}")]
 
 
 def is_level(head: Header, measured: Measured) -> bool:

@@ -154,7 +154,7 @@ def draw_beams(figure: Figure, asked: argparse.Namespace, head: Header, beams: S
     figure.suptitle(title_of(asked, head, max(beam.spectra for beam in beams)), fontsize=9, parse_math=False)
     panels = figure.subplots(1, len(beams), sharex=True, sharey=True, squeeze=False)[0]
     for panel, beam in zip(panels, beams):
-        check_fits(asked.text, beam, head)
+        check_fits(asked.text, beam, head, asked.mean, asked.deviation)
         pulses = by_strength(pulse_table(beam.pulses, head, asked.mean, asked.deviation))
         draw_beam(panel, pulses, f"beam {beam.number}: {len(pulses)} lines, {int(beam.are_marked.sum())} RFI")
     panels[0].set_ylabel("DM / (pc/cm$^3$)")

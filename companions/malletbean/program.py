@@ -6,7 +6,7 @@ import os
 import sys
 from collections.abc import Callable, Sequence
 
-from .candidates import check_fits, check_noise
+from .candidates import check_fits
 from .headers import Header
 from .number import scaled
 from .refusal import MEMORY, OUTPUT, TEXT, WORDS, Refusal
@@ -87,6 +87,5 @@ def found_by(words: argparse.Namespace, head: Header) -> Found:
     if len(entries) > 1:
         kind, word = ("beams", "--beam") if entries[0].is_beam else ("observations", "--obs")
         raise Refusal(TEXT, f"{words.text} has {len(entries)} {kind}: choose one with {word} K, K from 0 on")
-    check_fits(words.text, entries[0], head)
-    check_noise(words.text, entries[0], words.mean, words.deviation)
+    check_fits(words.text, entries[0], head, words.mean, words.deviation)
     return entries[0]

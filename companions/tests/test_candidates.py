@@ -43,13 +43,13 @@ def test_ratios_of_folds(files: dict[str, str]) -> None:
 
 def test_a_text_of_another_file_is_refused(files: dict[str, str]) -> None:
     found = read(str(DATA / "made.txt"))[0]
-    check_fits("text", found, header(files["made"]))
+    check_fits("text", found, header(files["made"]), 16, 2.828)
     with pytest.raises(Refusal, match="CELLS"):
-        check_fits("text", found, header(files["rising"]))
+        check_fits("text", found, header(files["rising"]), 16, 2.828)
     other = Found(0, found.pulses.copy(), found.folds, 256)
     other.pulses["dm"] += 0.001
     with pytest.raises(Refusal, match="DM"):
-        check_fits("text", other, header(files["made"]))
+        check_fits("text", other, header(files["made"]), 16, 2.828)
 
 
 def test_groups_of_pulses() -> None:

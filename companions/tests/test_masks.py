@@ -65,10 +65,10 @@ def test_a_text_of_another_mask_is_refused(files: dict[str, str]) -> None:
     cells = int(cells_by_delay(head, np.array([20]))[0])
     pulses = np.array([(b"PULSE", 20, 20, head.dm(20), 2, 2000, 2 * cells)], PULSE)
     found = Found(0, pulses, np.empty(0, FOLD), 256)
-    check_fits("text", found, head)
+    check_fits("text", found, head, 16, 2.828)
     for other in (header(files["made"]), header(files["made"]).without("3,17-18")):
         with pytest.raises(Refusal, match="another file or mask"):
-            check_fits("text", found, other)
+            check_fits("text", found, other, 16, 2.828)
 
 
 def test_noise_of_what_is_kept(files: dict[str, str]) -> None:
