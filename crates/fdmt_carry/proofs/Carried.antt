@@ -1,8 +1,10 @@
 -- What a carry stands for, from call to call.
-use Rattle.std.proofs.Common.{◌≡◌, ℕ, ◌+◌, ◌-◌, ◌*◌, ◌<◌, true, false, List, length, slice_index, arith, ap, sym, ◌∙◌, subst, refl, inl, inr}
+use Rattle.std.proofs.Common.{◌≡◌, ℕ, ◌+◌, ◌-◌, ◌*◌, ◌<◌, true, false, List, Option, Some, None, IfSome, slice_index, arith, ap, sym, ◌∙◌, subst, refl, inl, inr}
 use Rattle.std.proofs.lemmas.Bool.{cases_lt, false≢true}
 use Rattle.search_model.specs.Samples.{Filterbank}
 use Rattle.search_model.specs.Sums.{path_sum}
+use Rattle.row_schedule.specs.declared.halves.Halves.{Halves}
+use Rattle.row_schedule.specs.Halves.{half_sum}
 use Rattle.row_schedule.specs.Running.{Stores, Running}
 use Rattle.row_schedule.specs.declared.stores.Sizes.{Sizes}
 use Rattle.row_schedule.specs.Laws.{NothingKept, RunningBegins, RunningEnds}
@@ -10,15 +12,15 @@ use Rattle.row_schedule.specs.Sizes.{AreZeros}
 use Rattle.subband_plan.specs.Values.{AreAtMost, RowsBeginEmpty}
 use Rattle.fdmt_carry.specs.declared.passing.Passing.{Passing}
 use Rattle.fdmt_carry.specs.Tables.{Tables, AreTables, TablesStand, table_sums}
-use Rattle.fdmt_carry.specs.Passing.{AreKept, HasBandRow, IsPassOf, stop_at}
+use Rattle.fdmt_carry.specs.Passing.{AreKept, HasBandRow, HasDone, IsBefore, IsPassOf}
 use Rattle.fdmt_carry.specs.Carrying.{Carrying, IsStream, IsBegun, IsFed, IsRowOn, IsSettled, AreNext, HasMade, StandsForSamples, StandsMidway, carrying}
-use Rattle.fdmt_carry.specs.Making.{AreTaken, BandRowIsBelow, Fills, KeepsFor, MakesBandRow, GoesPastRow}
+use Rattle.fdmt_carry.specs.Making.{AddUpToRow, AreTaken, Fills, CarriesOut, KeepsFor, MakesBandRow}
 use Rattle.fdmt_carry.proofs.Rooms.{same_stores}
 
 -- opened, it stands for each stream
 pub opened_stands : NothingKept → RowsBeginEmpty → (t : Tables) (pass : Passing) (limit max_sample : ℕ) (sizes : Sizes)
     (st : Stores) (f : Filterbank) → AreTables t → AreZeros sizes st → IsStream t.plan max_sample f →
-    StandsForSamples (carrying t pass limit max_sample 0 0 false false 0 st) f
+    StandsForSamples (carrying t pass limit max_sample 0 0 false false 0 0 st) f
 unfolding NothingKept
 opened_stands nothing empty t pass limit max_sample sizes st f is zeros stream = record {
   stream = stream;
@@ -93,36 +95,29 @@ settled_stands c next new f is keeps stands = record {
 }
 
 -- a pass begins
-pub begun_stands : RunningBegins → (c : Carrying) (spectra first : ℕ) (f : Filterbank) → AreTables c.tables →
-    IsPassOf c.tables c.limit c.pass → first ≡ c.tables.plan.first → StandsForSamples c f →
+pub begun_stands : RunningBegins → (c : Carrying) (spectra first : ℕ) (f : Filterbank) → StandsForSamples c f →
     AreAtMost f (c.fed + spectra) c.limit →
-    StandsMidway (record c { last = spectra; has_tables = false; is_passing = true; next = first }) f
+    StandsMidway (record c { last = spectra; has_tables = false; is_passing = true; next = first; done = 0 }) f
 unfolding RunningBegins
-begun_stands begins c spectra first f is pass first_is stands small =
-    let t = c.tables in
-    let stop : 0 ≡ stop_at t c.pass first =
-    sym pass.stops.first
-    ∙ ap (λ (i : ℕ). slice_index c.pass.stops.items i) (let e : 0 ≡ first - t.plan.first = omega arith in e) in
-    record {
-      stream = stands.stream;
-      small = small;
-      running = subst (λ (j : ℕ). Running t.rows.rows c.pass.schedule (table_sums t f) c.fed spectra j c.stores) stop
-          (begins t.rows.rows c.pass.schedule (table_sums t f) c.fed spectra c.stores stands.kept);
-    }
+begun_stands begins c spectra first f stands small = record {
+  stream = stands.stream;
+  small = small;
+  running = begins c.tables.rows.rows c.pass.schedule (table_sums c.tables f) c.fed spectra c.stores stands.kept;
+}
 
--- makes a row
-pub row_stands : (c : Carrying) (new : Stores) (samples : List ℕ) (f : Filterbank) → IsPassOf c.tables c.limit c.pass →
-    GoesPastRow c.tables c.pass c.next c.last samples c.stores new → StandsMidway c f → AreNext c f samples c.last →
-    StandsMidway (record c { next = c.next + 1; stores = new }) f
-row_stands c new samples f is makes stands next =
+-- goes on
+pub on_stands : (c : Carrying) (new : Stores) (done : ℕ) (samples : List ℕ) (f : Filterbank) →
+    IsPassOf c.tables c.limit c.pass → CarriesOut c.tables c.pass c.done done c.last samples c.stores new →
+    StandsMidway c f → AreNext c f samples c.last → StandsMidway (record c { done = done; stores = new }) f
+on_stands c new done samples f is goes stands next =
     let taken = next_taken c c.last samples f is stands.stream stands.small next in
-    record { stream = stands.stream; small = stands.small; running = makes f c.limit c.fed taken stands.running }
+    record { stream = stands.stream; small = stands.small; running = goes f c.limit c.fed taken stands.running }
 
--- which then stands
-pub made_stands : (c : Carrying) (new : Stores) (samples : List ℕ) (f : Filterbank) → IsPassOf c.tables c.limit c.pass →
-    MakesBandRow c.tables c.pass c.next c.last samples c.stores new → StandsMidway c f → AreNext c f samples c.last →
-    HasMade (record c { next = c.next + 1; stores = new }) f
-made_stands c new samples f is makes stands next =
+-- makes a row, which then stands
+pub made_stands : (c : Carrying) (new : Stores) (done : ℕ) (samples : List ℕ) (f : Filterbank) →
+    IsPassOf c.tables c.limit c.pass → MakesBandRow c.tables c.pass c.next c.done c.last samples c.stores new →
+    StandsMidway c f → AreNext c f samples c.last → HasMade (record c { next = c.next + 1; done = done; stores = new }) f
+made_stands c new done samples f is makes stands next =
     let taken = next_taken c c.last samples f is stands.stream stands.small next in
     let same : c.next ≡ c.next + 1 - 1 = omega arith in
     record {
@@ -131,33 +126,46 @@ made_stands c new samples f is makes stands next =
           (makes f c.limit c.fed taken stands.running);
     }
 
+-- the halves of a row add up to it
+pub halves_stand : (c : Carrying) (halves : Halves) (f : Filterbank) (k : ℕ) → IsPassOf c.tables c.limit c.pass →
+    AddUpToRow c.tables c.pass c.next c.done c.last c.stores halves → StandsMidway c f → k < c.last →
+    half_sum halves k ≡ path_sum f c.tables.plan.edges (c.fed + k) c.next
+halves_stand c halves f k is add stands lt =
+    add f c.limit c.fed k (record { pass_is = is; channels = stands.stream.channels; small = stands.small })
+    stands.running lt
+
+pub if_halves_stand : (c : Carrying) (halves : Option Halves) → IsPassOf c.tables c.limit c.pass →
+    IfSome halves (AddUpToRow c.tables c.pass c.next c.done c.last c.stores) →
+    IfSome halves (λ h. (f : Filterbank) (k : ℕ) → StandsMidway c f → k < c.last →
+    half_sum h k ≡ path_sum f c.tables.plan.edges (c.fed + k) c.next)
+if_halves_stand c None is add = add
+if_halves_stand c (Some halves) is add = λ f k stands lt. halves_stand c halves f k is add stands lt
+
 -- or leaves it out
-pub left_out_below : (c : Carrying) (samples : List ℕ) (f : Filterbank) (k least : ℕ) →
-    IsPassOf c.tables c.limit c.pass → BandRowIsBelow c.tables c.pass c.next c.last samples c.stores least →
-    StandsMidway c f → AreNext c f samples c.last → k < c.last →
-    path_sum f c.tables.plan.edges (c.fed + k) c.next < least
-left_out_below c samples f k least is below stands next lt =
-    below f c.limit c.fed k (next_taken c c.last samples f is stands.stream stands.small next) stands.running lt
+pub left_stands : (c : Carrying) (done : ℕ) (f : Filterbank) →
+    ((f : Filterbank) (u spectra : ℕ) (st : Stores) → HasDone c.tables c.pass f u spectra c.done st →
+    HasDone c.tables c.pass f u spectra done st) → StandsMidway c f →
+    StandsMidway (record c { next = c.next + 1; done = done }) f
+left_stands c done f left stands = record {
+  stream = stands.stream;
+  small = stands.small;
+  running = left f c.fed c.last c.stores stands.running;
+}
 
 -- and ends
-pub ended_stands : RunningEnds → (c : Carrying) (f : Filterbank) → AreTables c.tables →
-    IsPassOf c.tables c.limit c.pass → c.next ≡ c.tables.plan.last + 1 → StandsMidway c f →
+pub ended_stands : RunningEnds → (c : Carrying) (f : Filterbank) → IsPassOf c.tables c.limit c.pass →
+    c.next ≡ c.tables.plan.last + 1 → IsBefore c.tables c.pass c.next c.done → StandsMidway c f →
     StandsForSamples (record c { fed = c.fed + c.last; has_tables = false; is_passing = false }) f
 unfolding RunningEnds
-ended_stands ends c f is pass all stands =
+ended_stands ends c f pass all before stands =
     let t = c.tables in
-    let order = is.plan.order in
-    let stop : stop_at t c.pass c.next ≡ length c.pass.schedule.orders =
-    ap (λ (i : ℕ). slice_index c.pass.stops.items i)
-    (let e : c.next - t.plan.first ≡ t.plan.last - t.plan.first + 1 = omega arith in e)
-    ∙ pass.stops.last in
     record {
       stream = stands.stream;
       small = stands.small;
       before = omega arith;
       kept = ends t.rows.rows c.pass.schedule (table_sums t f) c.fed c.last c.stores pass.runs.follows
-          (subst (λ (j : ℕ). Running t.rows.rows c.pass.schedule (table_sums t f) c.fed c.last j c.stores) stop
-          stands.running);
+          (subst (λ (j : ℕ). Running t.rows.rows c.pass.schedule (table_sums t f) c.fed c.last j c.stores)
+          (before.end all) stands.running);
       nodes = λ has. absurd (false≢true has);
     }
 

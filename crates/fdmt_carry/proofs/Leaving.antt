@@ -1,8 +1,14 @@
 -- Rows of the whole band that are left out.
-use Rattle.std.proofs.Common.{◌≡◌, ℕ, ◌+◌, ◌<◌, true, List, Some, slice_get, slice_index, arith, ap, sym, ◌∙◌, subst, inl, inr}
+use Rattle.std.proofs.Common.{◌≡◌, ℕ, ◌+◌, ◌<◌, List, Option, Some, None, IfSome, slice_get, arith, ap, sym, ◌∙◌, subst, inl, inr}
 use Rattle.std.proofs.lemmas.Bool.{cases_lt}
 use Rattle.std.proofs.lemmas.Option.{same_Some, slice_get_within}
+use Rattle.row_model.specs.declared.Rows.{Rows}
 use Rattle.row_model.specs.declared.Source.{Source}
+use Rattle.row_model.specs.Sums.{Sums, AddUp, Fit}
+use Rattle.row_schedule.specs.declared.halves.Halves.{Halves}
+use Rattle.row_schedule.specs.Follows.{Follows}
+use Rattle.row_schedule.specs.Halves.{half_sum}
+use Rattle.search_model.specs.Samples.{Filterbank}
 use Rattle.row_schedule.specs.Laws.{LastRowsAreLeftOut}
 use Rattle.row_schedule.specs.Orders.{order_at}
 use Rattle.row_schedule.specs.Running.{Stores, IsLast, Running}
@@ -12,19 +18,12 @@ use Rattle.subband_plan.specs.Nodes.{BandPlan, HasRow, root}
 use Rattle.subband_plan.specs.Rows.{all_rows}
 use Rattle.subband_plan.specs.Values.{BandRowsArePathSums, RowsAddUp, RowsAreBounded}
 use Rattle.fdmt_carry.specs.declared.passing.Passing.{Passing}
-use Rattle.fdmt_carry.specs.Leaving.{AreMadeOfLater, IsMadeOfLater, IsRowBelow, KeepNothing}
-use Rattle.fdmt_carry.specs.Making.{BandRowIsBelow, MakesBandRow, GoesPastRow, ShowsRow}
+use Rattle.fdmt_carry.specs.Leaving.{AreMadeOfLater, IsMadeOfLater, KeepNothing}
+use Rattle.fdmt_carry.specs.Making.{AddUpToRow, CanLeaveOut, ShowsRow}
 use Rattle.fdmt_carry.specs.Orders.{band_row}
-use Rattle.fdmt_carry.specs.Passing.{BandRowsAreLast, stop_at}
+use Rattle.fdmt_carry.specs.Passing.{BandRowsAreLast, HasDone, IsPassOf, stop_at}
 use Rattle.fdmt_carry.specs.Tables.{Tables, AreTables, table_sums}
-use Rattle.fdmt_carry.proofs.Running.{Ran, RanTo, band_row_made, row_made, sums_fit, went_on}
-
--- nothing is kept of one row more
-pub nothing_more : (tails : List ℕ) (r : ℕ) → KeepNothing tails r → slice_index tails r ≡ 0 → KeepNothing tails (r + 1)
-nothing_more tails r nothing none q lt = elim (cases_lt q r) [
-  | inl before ↦ nothing q before
-  | inr now ↦ ap (λ i. slice_index tails i) (let e : q ≡ r = omega arith in e) ∙ none
-]
+use Rattle.fdmt_carry.proofs.Running.{sums_fit}
 
 -- one row more is made of later ones
 pub later_more : (sources : List Source) (end count : ℕ) (source : Source) → AreMadeOfLater sources end count →
@@ -55,67 +54,42 @@ band_rows_last p rows r is nothing later d from to =
       nothing_kept = nothing (band_row p rows d) before;
     }
 
--- some orders and some more
-ran_both : (s : Scheduled) (spectra from mid to : ℕ) (samples : List ℕ) (old between new : Stores) →
-    Ran s spectra from mid samples old between → Ran s spectra mid to samples between new →
-    Ran s spectra from to samples old new
-ran_both s spectra from mid to samples old between new first second rows x y u follows adds fit next running =
-    second rows x y u follows adds fit next (first rows x y u follows adds fit next running)
-
-ran_both_to : (s : Scheduled) (spectra from mid to : ℕ) (samples : List ℕ) (old between new : Stores) → mid < to →
-    Ran s spectra from mid samples old between → RanTo s spectra mid to samples between new →
-    RanTo s spectra from to samples old new
-ran_both_to s spectra from mid to samples old between new some first second rows x y u follows adds fit next running
-    rise =
-    second rows x y u follows adds fit next (first rows x y u follows adds fit next running) some
-
--- the orders before that of a row of the whole band, and this
-pub reached_row_made : RowsAddUp → RowsAreBounded → (t : Tables) (pass : Passing) (d spectra from order to : ℕ)
-    (samples : List ℕ) (old between new : Stores) → AreTables t → from ≡ stop_at t pass d →
-    to ≡ stop_at t pass (d + 1) → Ran pass.schedule spectra from order samples old between →
-    Ran pass.schedule spectra order to samples between new → GoesPastRow t pass d spectra samples old new
-reached_row_made adds bounded t pass d spectra from order to samples old between new is from_is to_is first second =
-    row_made adds bounded t pass d spectra from to samples old new is from_is to_is
-    (ran_both pass.schedule spectra from order to samples old between new first second)
-
-pub reached_band_row_made : RowsAddUp → RowsAreBounded → (t : Tables) (pass : Passing) (d spectra from order to : ℕ)
-    (samples : List ℕ) (old between new : Stores) → AreTables t → from ≡ stop_at t pass d →
-    to ≡ stop_at t pass (d + 1) → ShowsRow t pass d order → Ran pass.schedule spectra from order samples old between →
-    RanTo pass.schedule spectra order to samples between new → MakesBandRow t pass d spectra samples old new
-reached_band_row_made adds bounded t pass d spectra from order to samples old between new is from_is to_is shows first
-    second =
-    let before = shows.before in
-    let stop = shows.stop in
-    band_row_made adds bounded t pass d spectra from to samples old new is from_is to_is (omega arith)
-    (ran_both_to pass.schedule spectra from order to samples old between new (omega arith) first second)
-
--- without it
-pub left_out : RowsAddUp → RowsAreBounded → LastRowsAreLeftOut → (t : Tables) (pass : Passing)
-    (d spectra from order : ℕ) (samples : List ℕ) (old new : Stores) → AreTables t → HasRow (root t.plan) d →
-    pass.can_leave_out ≡ true → from ≡ stop_at t pass d → ShowsRow t pass d order →
-    Ran pass.schedule spectra from order samples old new → GoesPastRow t pass d spectra samples old new
+-- the order of such a row is left out
+pub left_out : LastRowsAreLeftOut → (t : Tables) (pass : Passing) (m d done : ℕ) → IsPassOf t m pass →
+    CanLeaveOut t pass d done → (f : Filterbank) (u spectra : ℕ) (st : Stores) → HasDone t pass f u spectra done st →
+    HasDone t pass f u spectra (stop_at t pass (d + 1)) st
 unfolding LastRowsAreLeftOut
-left_out adds bounded leave t pass d spectra from order samples old new is has can from_is shows ran f m u taken
-    passing =
+left_out leave t pass m d done is can f u spectra st before =
     let y = table_sums t f in
-    let last : IsLast t.rows.rows (order_at pass.schedule.orders order).row =
-    subst (λ (r : ℕ). IsLast t.rows.rows r) (sym shows.row) (taken.fit.pass_is.last can d has.least has.most) in
-    subst (λ (j : ℕ). Running t.rows.rows pass.schedule y u spectra j new) (sym shows.stop)
-    (leave t.rows.rows pass.schedule y u spectra order new last
-    (went_on adds bounded t pass d spectra from order samples old new f m u is from_is ran taken passing))
+    let last : IsLast t.rows.rows (order_at pass.schedule.orders done).row =
+    subst (λ (r : ℕ). IsLast t.rows.rows r) (sym can.shows.row) (is.last can.last d can.row.least can.row.most) in
+    subst (λ (j : ℕ). Running t.rows.rows pass.schedule y u spectra j st) (sym can.shows.stop)
+    (leave t.rows.rows pass.schedule y u spectra done st last before)
 
--- then none of its sums reaches the least one
-pub left_out_is_below : RowsAddUp → RowsAreBounded → BandRowsArePathSums → (t : Tables) (pass : Passing)
-    (d spectra from order least : ℕ) (samples : List ℕ) (old new : Stores) → AreTables t → HasRow (root t.plan) d →
-    from ≡ stop_at t pass d → ShowsRow t pass d order →
-    Ran pass.schedule spectra from order samples old new → IsRowBelow pass.schedule spectra order new least →
-    BandRowIsBelow t pass d spectra samples old least
-left_out_is_below adds bounded paths t pass d spectra from order least samples old new is has from_is shows ran below f
-    m u k taken passing lt =
+-- the sums of the halves of an order are its row, where the orders before it were carried out
+abbrev pub AreHalves : Scheduled → ℕ → ℕ → Stores → Halves → Type 0
+AreHalves s spectra order st halves = (rows : Rows) (x : ℕ → ℕ → ℕ) (y : Sums) (u k : ℕ) → Follows rows s →
+    AddUp rows.sources.items x y → Fit s.narrow y (u + spectra) → Running rows s y u spectra order st →
+    k < spectra → half_sum halves k ≡ y (order_at s.orders order).row (u + k) 0
+
+-- so they are path sums where that is the row of the whole band
+pub add_up_to_row : RowsAddUp → RowsAreBounded → BandRowsArePathSums → (t : Tables) (pass : Passing)
+    (d order spectra : ℕ) (st : Stores) (halves : Halves) → AreTables t → HasRow (root t.plan) d →
+    ShowsRow t pass d order → AreHalves pass.schedule spectra order st halves →
+    AddUpToRow t pass d order spectra st halves
+add_up_to_row adds bounded paths t pass d order spectra st halves is has shows are f m u k fit before lt =
     let y = table_sums t f in
-    let channels = taken.fit.channels in
-    subst (λ (n : ℕ). n < least)
-    (ap (λ (r : ℕ). y r (u + k) 0) shows.row ∙ paths t.plan t.rows f d (u + k) is.plan is.rows channels has)
-    (below t.rows.rows f.value y u k taken.fit.pass_is.runs.follows (adds t.plan t.rows f is.plan is.rows channels)
-    (sums_fit bounded t pass f m (u + spectra) is taken.fit)
-    (went_on adds bounded t pass d spectra from order samples old new f m u is from_is ran taken passing) lt)
+    let channels = fit.channels in
+    are t.rows.rows f.value y u k fit.pass_is.runs.follows (adds t.plan t.rows f is.plan is.rows channels)
+    (sums_fit bounded t pass f m (u + spectra) is fit) before lt
+    ∙ ap (λ (r : ℕ). y r (u + k) 0) shows.row
+    ∙ paths t.plan t.rows f d (u + k) is.plan is.rows channels has
+
+-- the same where there may be none
+pub if_add_up : RowsAddUp → RowsAreBounded → BandRowsArePathSums → (t : Tables) (pass : Passing)
+    (d order spectra : ℕ) (st : Stores) (halves : Option Halves) → AreTables t → HasRow (root t.plan) d →
+    ShowsRow t pass d order → IfSome halves (AreHalves pass.schedule spectra order st) →
+    IfSome halves (AddUpToRow t pass d order spectra st)
+if_add_up adds bounded paths t pass d order spectra st None is has shows are = are
+if_add_up adds bounded paths t pass d order spectra st (Some halves) is has shows are =
+    add_up_to_row adds bounded paths t pass d order spectra st halves is has shows are

@@ -69,10 +69,6 @@ pub are_low : (p : BandPlan) (rows : PlanRows) (m count : ℕ) (narrow : List Bo
     AreLowRows p rows m count narrow → AreLow p rows narrow m
 are_low p rows m count narrow low r has = (low.each r has).low
 
-pub are_parts : (p : BandPlan) (rows : PlanRows) (m count : ℕ) (narrow : List Bool) →
-    AreLowRows p rows m count narrow → AreParts rows narrow
-are_parts p rows m count narrow low r has zero = let part = (low.each r has).part in omega arith
-
 -- no row has 16 bits
 pub none_low : (p : BandPlan) (rows : PlanRows) (n m : ℕ) (narrow : List Bool) → narrow ≡ replicate n false →
     AreLow p rows narrow m × AreParts rows narrow

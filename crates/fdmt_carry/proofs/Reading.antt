@@ -16,7 +16,7 @@ use Rattle.subband_plan.specs.Values.{BandRowsArePathSums, RowsAddUp, RowsAreBou
 use Rattle.fdmt_carry.specs.Orders.{band_row}
 use Rattle.fdmt_carry.specs.declared.passing.Passing.{Passing}
 use Rattle.fdmt_carry.specs.Tables.{Tables, AreTables, table_sums}
-use Rattle.fdmt_carry.specs.Passing.{IsPassOf, stop_at}
+use Rattle.fdmt_carry.specs.Passing.{IsBefore, IsPassOf, stop_at}
 use Rattle.fdmt_carry.specs.Making.{ReadsBand, ReadsNode, ShowsRow}
 use Rattle.fdmt_carry.proofs.Bounds.{sum_is_plain, sum_of_node}
 use Rattle.fdmt_carry.proofs.Narrow.{not_true}
@@ -119,3 +119,16 @@ band_read adds bounded paths laid fit t pass d order spectra wide row is has sho
     ∙ sum_is_plain fit bounded t.plan t.rows f m r (u + k) is.plan (laid t.plan is.plan).0 is.rows stream fits
     shows.is_row.there
     ∙ paths t.plan t.rows f d (u + k) is.plan is.rows stream.channels has
+
+-- at a stop a pass has come to a row of the whole band
+pub before_at_stop : RowsAreNumbered → PlansAreLaid → (t : Tables) (pass : Passing) (m d : ℕ) → AreTables t →
+    IsPassOf t m pass → t.plan.first ≤ d → d ≤ t.plan.last + 1 → IsBefore t pass d (stop_at t pass d)
+before_at_stop numbered laid t pass m d is pass_is from within = record {
+  from = omega arith;
+  to = λ to. (is_shown numbered laid t pass m d is pass_is (record { least = from; most = to })).rise;
+  end = λ past.
+      let order = is.plan.order in
+      ap (λ (i : ℕ). slice_index pass.stops.items i)
+      (let e : d - t.plan.first ≡ t.plan.last - t.plan.first + 1 = omega arith in e)
+      ∙ pass_is.stops.last;
+}

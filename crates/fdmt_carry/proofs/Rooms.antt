@@ -1,17 +1,14 @@
 -- Lists that are long enough for schedules.
-use Rattle.std.proofs.Common.{◌≡◌, ℕ, ◌≤◌, Bool, List, length, ap, ◌∙◌, arith, refl}
+use Rattle.std.proofs.Common.{◌≡◌, ℕ, ◌+◌, true, false, Bool, List, length, slice_index, ap, ◌∙◌, arith, refl}
 use Rattle.std.proofs.lemmas.List.{length-replicate}
 use Rattle.row_model.specs.declared.Rows.{Rows}
+use Rattle.row_model.specs.Sums.{Sums, is_narrow}
 use Rattle.row_schedule.specs.declared.stores.Sizes.{Sizes}
 use Rattle.row_schedule.specs.Schedules.{Scheduled}
-use Rattle.row_schedule.specs.Layout.{kept_room, narrow_kept_room}
-use Rattle.row_schedule.specs.Moving.{SlotsStay}
-use Rattle.row_schedule.specs.Filling.{HaveTableRoom, WroteKept, WroteWide}
-use Rattle.row_schedule.specs.Running.{AreAsLong, HaveRoom, Stores, stores}
-use Rattle.row_schedule.specs.Sizes.{AreEnough, AreEnoughForTables, AreZeros, HaveGoneOver}
-use Rattle.fdmt_carry.specs.declared.passing.Passing.{Passing}
-use Rattle.fdmt_carry.specs.Passing.{IsPassOf}
-use Rattle.fdmt_carry.specs.Tables.{Tables}
+use Rattle.row_schedule.specs.Layout.{hold_of}
+use Rattle.row_schedule.specs.Filling.{AreGiven, HaveTableRoom, WroteKept, WroteWide}
+use Rattle.row_schedule.specs.Running.{AreAsLong, HaveRoom, Kept, Stores, kept_of, stores}
+use Rattle.row_schedule.specs.Sizes.{AreEnough, AreEnoughForTables, AreZeros, HaveSizes}
 
 pub same_stores : {a a' b b' c c' d d' : List ℕ} → a ≡ a' → b ≡ b' → c ≡ c' → d ≡ d' →
     stores a b c d ≡ stores a' b' c' d'
@@ -40,26 +37,14 @@ pub have_table_room : (rows : Rows) (room : ℕ) (sizes : Sizes) (st : Stores) �
     AreEnoughForTables rows room sizes → HaveTableRoom rows room st
 have_table_room rows room sizes st zeros enough =
     let b = ap length zeros.wide ∙ length-replicate sizes.wide 0 in
-    let e = ap length zeros.kept_wide ∙ length-replicate sizes.kept_wide 0 in
-    let wides = enough.wide in
-    let keeps = enough.kept in
-    record {
-      wide_room = omega (arith, b, wides);
-      kept_wide_room = omega (arith, e, keeps);
-    }
+    omega (arith, b, enough)
 
 -- lists that are as long as they were have room for the tables that they had room for
 pub table_room_stays : (rows : Rows) (room : ℕ) (old new : Stores) → AreAsLong old new →
     HaveTableRoom rows room old → HaveTableRoom rows room new
 table_room_stays rows room old new long has =
     let b = long.wide in
-    let e = long.kept_wide in
-    let wides = has.wide_room in
-    let keeps = has.kept_wide_room in
-    record {
-      wide_room = omega (arith, b, wides);
-      kept_wide_room = omega (arith, e, keeps);
-    }
+    omega (arith, b, has)
 
 -- and for the schedules
 pub pass_room_stays : (s : Scheduled) (old new : Stores) → AreAsLong old new → HaveRoom s old → HaveRoom s new
@@ -92,8 +77,8 @@ pub kept_long : (old new : Stores) → WroteKept old new → AreAsLong old new
 kept_long old new wrote = record {
   narrow = ap length wrote.narrow;
   wide = ap length wrote.wide;
-  kept_narrow = ap length wrote.kept_narrow;
-  kept_wide = wrote.long;
+  kept_narrow = wrote.kept_narrow;
+  kept_wide = wrote.kept_wide;
 }
 
 pub wrote_yet : (old mid new : Stores) → WroteWide old mid → WroteWide mid new → WroteWide old new
@@ -107,15 +92,6 @@ wrote_yet old mid new first second = record {
 pub nothing_written : (st : Stores) → WroteWide st st
 nothing_written st = record { long = refl; narrow = refl; kept_narrow = refl; kept_wide = refl }
 
--- lists are as long as they were where the slots stay
-pub slots_long : (old new : Stores) → SlotsStay old new → AreAsLong old new
-slots_long old new stays = record {
-  narrow = ap length stays.narrow;
-  wide = ap length stays.wide;
-  kept_narrow = stays.kept_narrow;
-  kept_wide = stays.kept_wide;
-}
-
 -- and so they are after one call and another
 pub long_yet : (old mid new : Stores) → AreAsLong old mid → AreAsLong mid new → AreAsLong old new
 long_yet old mid new first second = record {
@@ -126,65 +102,51 @@ long_yet old mid new first second = record {
 }
 
 -- the rows of all nodes were made, and then kept
-pub made_long : (old widened made : Stores) → SlotsStay old widened → WroteWide widened made → AreAsLong old made
-made_long old widened made stays wrote =
-    long_yet old widened made (slots_long old widened stays) (wide_long widened made wrote)
+pub filled_long : (old made kept : Stores) → WroteWide old made → WroteKept made kept → AreAsLong old kept
+filled_long old made kept wrote wrote' = long_yet old made kept (wide_long old made wrote) (kept_long made kept wrote')
 
-pub filled_long : (old widened made kept : Stores) → SlotsStay old widened → WroteWide widened made →
-    WroteKept made kept → AreAsLong old kept
-filled_long old widened made kept stays wrote wrote' =
-    long_yet old made kept (made_long old widened made stays wrote) (kept_long made kept wrote')
-
--- what a pass keeps has room
-pub pass_keeps : (t : Tables) (pass : Passing) (m : ℕ) (st : Stores) (widths : List Bool) →
-    widths ≡ pass.schedule.narrow → IsPassOf t m pass → HaveRoom pass.schedule st →
-    (narrow_kept_room t.rows.rows widths ≤ length st.kept_narrow) × (kept_room t.rows.rows ≤ length st.kept_wide)
-pass_keeps t pass m st widths is pass_is has =
-    let sizes = pass_is.runs.follows.kept_are in
-    let narrow = sizes.narrow in
-    let wide = sizes.wide in
-    let room = has.kept_narrow_room in
-    let room' = has.kept_wide_room in
-    rw is (omega (arith, narrow, room), omega (arith, wide, room'))
-
--- what is kept in 32 bits has room after lists of another schedule were gone over to
-kept_over : (t : Tables) (pass : Passing) (m : ℕ) (sizes : Sizes) (old widened gone : Stores) → IsPassOf t m pass →
-    HaveRoom pass.schedule old → SlotsStay old widened → HaveGoneOver sizes widened gone →
-    kept_room t.rows.rows ≤ length gone.kept_wide
-kept_over t pass m sizes old widened gone pass_is has stays over =
-    let kept = (pass_keeps t pass m old pass.schedule.narrow refl pass_is has).1 in
-    let wide = stays.kept_wide in
-    let same = ap length over.kept_wide in
-    omega (arith, kept, wide, same)
-
--- they have room for the pass that they are for
-pub next_room : (t : Tables) (pass next : Passing) (m n : ℕ) (sizes : Sizes) (old widened gone : Stores) →
-    IsPassOf t m pass → IsPassOf t n next → HaveRoom pass.schedule old → SlotsStay old widened →
-    HaveGoneOver sizes widened gone → AreEnough next.schedule sizes → HaveRoom next.schedule gone
-next_room t pass next m n sizes old widened gone pass_is next_is has stays over enough =
-    let a = over.narrow in
-    let b = over.wide in
-    let d = over.kept_narrow in
-    let e = kept_over t pass m sizes old widened gone pass_is has stays over in
-    let size = next_is.runs.follows.kept_are.wide in
+-- lists that are long enough for a schedule have room for it
+pub sizes_room : (s : Scheduled) (sizes : Sizes) (st : Stores) → AreEnough s sizes → HaveSizes sizes st → HaveRoom s st
+sizes_room s sizes st enough has =
+    let a = has.narrow in
+    let b = has.wide in
+    let d = has.kept_narrow in
+    let e = has.kept_wide in
     let narrows = enough.narrow in
     let wides = enough.wide in
     let keeps = enough.kept_narrow in
+    let keeps' = enough.kept_wide in
     record {
       narrow_room = omega (arith, a, narrows);
       wide_room = omega (arith, b, wides);
       kept_narrow_room = omega (arith, d, keeps);
-      kept_wide_room = omega (arith, e, size);
+      kept_wide_room = omega (arith, e, keeps');
     }
 
 -- and for the rows of all nodes
-pub next_table_room : (t : Tables) (pass : Passing) (m : ℕ) (sizes : Sizes) (old widened gone : Stores) →
-    IsPassOf t m pass → HaveRoom pass.schedule old → SlotsStay old widened → HaveGoneOver sizes widened gone →
-    AreEnoughForTables t.rows.rows t.most sizes → HaveTableRoom t.rows.rows t.most gone
-next_table_room t pass m sizes old widened gone pass_is has stays over enough =
-    let b = over.wide in
-    let wides = enough.wide in
-    record {
-      wide_room = omega (arith, b, wides);
-      kept_wide_room = kept_over t pass m sizes old widened gone pass_is has stays over;
-    }
+pub sizes_table_room : (rows : Rows) (room : ℕ) (sizes : Sizes) (st : Stores) → AreEnoughForTables rows room sizes →
+    HaveSizes sizes st → HaveTableRoom rows room st
+sizes_table_room rows room sizes st enough has =
+    let b = has.wide in
+    omega (arith, b, enough)
+
+-- what is kept stays where slots alone were written
+pub kept_stays : (rows : Rows) (narrow : List Bool) (y : Sums) (u : ℕ) (old new : Stores) → WroteWide old new →
+    Kept rows narrow y u old → Kept rows narrow y u new
+kept_stays rows narrow y u old new wrote kept r lt i small =
+    by_width (is_narrow narrow r) (hold_of rows narrow (is_narrow narrow r) r + i) ∙ kept r lt i small
+  where
+    by_width : (w : Bool) (k : ℕ) → slice_index (kept_of w new) k ≡ slice_index (kept_of w old) k
+    by_width true k = ap (λ xs. slice_index xs k) wrote.kept_narrow
+    by_width false k = ap (λ xs. slice_index xs k) wrote.kept_wide
+
+pub given_stays : (rows : Rows) (narrow : List Bool) (x : ℕ → ℕ → ℕ) (y : Sums) (u chunk spectra : ℕ)
+    (samples : List ℕ) (old new : Stores) → WroteWide old new →
+    AreGiven rows narrow x y u chunk spectra samples old → AreGiven rows narrow x y u chunk spectra samples new
+given_stays rows narrow x y u chunk spectra samples old new wrote given = record {
+  adds = given.adds;
+  channels = given.channels;
+  rows_are = given.rows_are;
+  next = given.next;
+  kept_are = kept_stays rows narrow y u old new wrote given.kept_are;
+}

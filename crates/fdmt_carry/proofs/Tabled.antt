@@ -1,15 +1,16 @@
 -- The rows of all nodes, made node by node.
-use Rattle.std.proofs.Common.{◌≡◌, ◌≢◌, ℕ, ◌+◌, ◌<◌, ◌≤◌, List, length, ap, arith, sym, ◌∙◌, subst, refl, inl, inr}
+use Rattle.std.proofs.Common.{◌≡◌, ◌≢◌, ℕ, ◌+◌, ◌<◌, ◌≤◌, Bool, List, length, ap, arith, sym, ◌∙◌, subst, refl, inl, inr}
 use Rattle.std.proofs.lemmas.Bool.{cases_lt, cases_eq}
 use Rattle.row_model.specs.Sums.{Sums}
 use Rattle.row_schedule.specs.Running.{Stores}
-use Rattle.row_schedule.specs.Filling.{AreGiven, HasSources, IsOfOthers, StandsAtPlace}
+use Rattle.row_schedule.specs.Filling.{AreGiven, HasSources, IsOfOthers, StandsAtPlace, WroteWide}
 use Rattle.subband_plan.specs.NodeLaws.{AreLaid}
 use Rattle.subband_plan.specs.Nodes.{nodes_of}
 use Rattle.subband_plan.specs.RowLaws.{IsBelow, RowsAreNumbered, RowsComeAfter}
 use Rattle.subband_plan.specs.Rows.{all_rows, node_of}
 use Rattle.fdmt_carry.specs.Orders.{start_of}
 use Rattle.fdmt_carry.specs.Tables.{Tables, AreTables, RowsStand, node_count}
+use Rattle.fdmt_carry.proofs.Rooms.{given_stays}
 use Rattle.fdmt_carry.proofs.Starts.{row_is_among, row_is_of}
 
 -- the rows of node k before row r stand, and those of the nodes after it
@@ -91,32 +92,32 @@ sources_stand numbered come t k r u spectra y wide laid is node stands = record 
         ]
 
 -- node k is made up to row r
-abbrev pub MakesBefore : Tables → ℕ → ℕ → ℕ → List ℕ → Stores → Stores → Type 0
-MakesBefore t k r spectra samples old new = (x : ℕ → ℕ → ℕ) (y : Sums) (u : ℕ) →
-    AreGiven t.rows.rows x y u t.chunk spectra samples old.kept_wide →
+abbrev pub MakesBefore : Tables → List Bool → ℕ → ℕ → ℕ → List ℕ → Stores → Stores → Type 0
+MakesBefore t narrow k r spectra samples old new = (x : ℕ → ℕ → ℕ) (y : Sums) (u : ℕ) →
+    AreGiven t.rows.rows narrow x y u t.chunk spectra samples old →
     RowsStand t (start_of t.rows (k + 1)) y u spectra old.wide → NodeStands t k r y u spectra new.wide
 
 -- a row was made at its place
-abbrev pub FillsRow : Tables → ℕ → ℕ → List ℕ → Stores → Stores → Type 0
-FillsRow t r spectra samples old new = (x : ℕ → ℕ → ℕ) (y : Sums) (u : ℕ) →
-    AreGiven t.rows.rows x y u t.chunk spectra samples old.kept_wide →
+abbrev pub FillsRow : Tables → List Bool → ℕ → ℕ → List ℕ → Stores → Stores → Type 0
+FillsRow t narrow r spectra samples old new = (x : ℕ → ℕ → ℕ) (y : Sums) (u : ℕ) →
+    AreGiven t.rows.rows narrow x y u t.chunk spectra samples old →
     HasSources t.rows.rows t.most y u spectra old.wide r → StandsAtPlace t.most y u spectra new.wide r
 
 abbrev pub LeavesOthers : Tables → ℕ → ℕ → Stores → Stores → Type 0
 LeavesOthers t r spectra old new = (y : Sums) (u q : ℕ) → q ≢ r → StandsAtPlace t.most y u spectra old.wide q →
     StandsAtPlace t.most y u spectra new.wide q
 
-pub makes_more : RowsAreNumbered → RowsComeAfter → (t : Tables) (k r spectra : ℕ) (samples : List ℕ)
-    (old mid new : Stores) → AreLaid t.plan.edges (nodes_of t.plan) → AreTables t → k < node_count t →
-    start_of t.rows k ≤ r → r < start_of t.rows (k + 1) → mid.kept_wide ≡ old.kept_wide →
-    FillsRow t r spectra samples mid new → LeavesOthers t r spectra mid new →
-    MakesBefore t k r spectra samples old mid → MakesBefore t k (r + 1) spectra samples old new
-makes_more numbered come t k r spectra samples old mid new laid is in_k from to kept fills others so_far x y u given
-    after =
+pub makes_more : RowsAreNumbered → RowsComeAfter → (t : Tables) (narrow : List Bool) (k r spectra : ℕ)
+    (samples : List ℕ) (old mid new : Stores) → AreLaid t.plan.edges (nodes_of t.plan) → AreTables t →
+    k < node_count t → start_of t.rows k ≤ r → r < start_of t.rows (k + 1) → WroteWide old mid →
+    FillsRow t narrow r spectra samples mid new → LeavesOthers t r spectra mid new →
+    MakesBefore t narrow k r spectra samples old mid → MakesBefore t narrow k (r + 1) spectra samples old new
+makes_more numbered come t narrow k r spectra samples old mid new laid is in_k from to wrote fills others so_far x y u
+    given after =
     let stands = so_far x y u given after in
     let of = row_is_of numbered t.plan t.rows k r laid is.rows in_k from to in
     row_stands t k r u spectra y mid.wide new.wide to
-    (fills x y u (subst (λ xs. AreGiven t.rows.rows x y u t.chunk spectra samples xs) (sym kept) given)
+    (fills x y u (given_stays t.rows.rows narrow x y u t.chunk spectra samples old mid wrote given)
     (sources_stand numbered come t k r u spectra y mid.wide laid is of.node stands))
     (others y u) stands
 

@@ -12,12 +12,13 @@ use Rattle.subband_plan.specs.Values.{AreAtMost}
 use Rattle.fdmt_carry.specs.declared.opening.Spare.{Spare}
 use Rattle.fdmt_carry.specs.declared.passing.Passing.{Passing}
 use Rattle.fdmt_carry.specs.Tables.{Tables, TablesStand}
-use Rattle.fdmt_carry.specs.Passing.{AreKept, HasBandRow, IsPassing, IsPassOf}
+use Rattle.fdmt_carry.specs.Passing.{AreKept, HasBandRow, HasDone, IsBefore, IsPassOf}
 
 -- Tables that took `fed` spectra in all and `last` of them by the last call; `has_tables` tells
 -- whether that made the tables of all nodes, which then stand. While a pass goes on, its `last`
--- spectra come after those that were fed, and `next` is the delay of the row of the whole band that
--- is made next. Passes go by `pass`, which is for samples up to `limit`: none so far is greater.
+-- spectra come after those that were fed, `next` is the delay of the row of the whole band that is
+-- made next, and `done` of its orders were carried out. Passes go by `pass`, which is for samples up
+-- to `limit`: none so far is greater.
 pub record Carrying : Type 0 where
   pub tables : Tables
   pub pass : Passing
@@ -28,10 +29,11 @@ pub record Carrying : Type 0 where
   pub has_tables : Bool
   pub is_passing : Bool
   pub next : ℕ
+  pub done : ℕ
   pub stores : Stores
 
-abbrev pub carrying : Tables → Passing → ℕ → ℕ → ℕ → ℕ → Bool → Bool → ℕ → Stores → Carrying
-carrying tables pass limit max_sample fed last has_tables is_passing next stores = record {
+abbrev pub carrying : Tables → Passing → ℕ → ℕ → ℕ → ℕ → Bool → Bool → ℕ → ℕ → Stores → Carrying
+carrying tables pass limit max_sample fed last has_tables is_passing next done stores = record {
   tables = tables;
   pass = pass;
   limit = limit;
@@ -41,6 +43,7 @@ carrying tables pass limit max_sample fed last has_tables is_passing next stores
   has_tables = has_tables;
   is_passing = is_passing;
   next = next;
+  done = done;
   stores = stores;
 }
 
@@ -83,6 +86,16 @@ pub record IsRowOn (before after : Carrying) : Type 0 where
   pub passing : after.is_passing ≡ true
   pub next : after.next ≡ before.next + 1
 
+-- it has come to all that the next row is made of
+pub record IsReached (before after : Carrying) : Type 0 where
+  pub tables : after.tables ≡ before.tables
+  pub max_sample : after.max_sample ≡ before.max_sample
+  pub fed : after.fed ≡ before.fed
+  pub last : after.last ≡ before.last
+  pub has_tables : after.has_tables ≡ before.has_tables
+  pub passing : after.is_passing ≡ true
+  pub next : after.next ≡ before.next
+
 -- an endless stream of samples of the band, none above `max_sample`
 pub record IsStream (plan : BandPlan) (max_sample : ℕ) (f : Filterbank) : Type 0 where
   pub channels : f.channels ≡ channels_of plan.edges
@@ -113,7 +126,7 @@ pub record StandsForSamples (c : Carrying) (f : Filterbank) : Type 0 where
 pub record StandsMidway (c : Carrying) (f : Filterbank) : Type 0 where
   pub stream : IsStream c.tables.plan c.max_sample f
   pub small : AreAtMost f (c.fed + c.last) c.limit
-  pub running : IsPassing c.tables c.pass f c.fed c.last c.next c.stores
+  pub running : HasDone c.tables c.pass f c.fed c.last c.done c.stores
 
 -- the row of the delay before `c.next` was made of a stream, and stands
 pub record HasMade (c : Carrying) (f : Filterbank) : Type 0 where
@@ -145,6 +158,7 @@ pub record IsSound (c : Carrying) : Type 0 where
   pub alone : c.is_passing ≡ true → c.has_tables ≡ false
   pub from : c.is_passing ≡ true → c.tables.plan.first ≤ c.next
   pub to : c.is_passing ≡ true → c.next ≤ c.tables.plan.last + 1
+  pub before : c.is_passing ≡ true → IsBefore c.tables c.pass c.next c.done
 
 -- a spare is a pass for samples up to m, with lists that are long enough for it and for the rows of
 -- all nodes

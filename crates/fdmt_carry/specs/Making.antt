@@ -1,19 +1,22 @@
 -- What calls on tables leave, and what is read of them.
 -- Source: this project's choice.
-use Rattle.std.specs.Prelude.{◌≡◌, ℕ, ◌+◌, ◌*◌, ◌^◌, ◌<◌, ◌≤◌, false, List, length, slice_index}
+use Rattle.std.specs.Prelude.{◌≡◌, ℕ, ◌+◌, ◌*◌, ◌^◌, ◌<◌, ◌≤◌, true, false, List, length, slice_index}
 use Rattle.band_paths.specs.Edges.{channels_of}
 use Rattle.row_model.specs.Sums.{is_narrow}
+use Rattle.row_schedule.specs.declared.halves.Halves.{Halves}
+use Rattle.row_schedule.specs.Halves.{half_sum}
 use Rattle.row_schedule.specs.Orders.{order_at}
 use Rattle.row_schedule.specs.Running.{Stores}
 use Rattle.search_model.specs.Samples.{Filterbank}
 use Rattle.search_model.specs.Sums.{path_sum}
 use Rattle.search_model.specs.Subbands.{node_sum}
+use Rattle.subband_plan.specs.Nodes.{HasRow, root}
 use Rattle.subband_plan.specs.Rows.{IsRow}
 use Rattle.subband_plan.specs.Values.{AreAtMost}
 use Rattle.fdmt_carry.specs.declared.passing.Passing.{Passing}
 use Rattle.fdmt_carry.specs.Orders.{band_row}
 use Rattle.fdmt_carry.specs.Tables.{Tables, AreSamples, TablesStand, node_of}
-use Rattle.fdmt_carry.specs.Passing.{AreKept, HasBandRow, IsPassing, IsPassOf, stop_at}
+use Rattle.fdmt_carry.specs.Passing.{AreKept, HasBandRow, HasDone, IsPassOf, stop_at}
 use Rattle.fdmt_carry.specs.Carrying.{IsStream}
 
 -- A pass is made for samples up to m, and no sample of a stream before spectrum e is greater.
@@ -40,23 +43,17 @@ Fills t pass spectra samples old new = (f : Filterbank) (m u : ℕ) →
     AreTaken t pass f m u spectra samples → AreKept t pass f u old →
     AreFilled t pass f u spectra new
 
--- a pass that had come to the row of delay d of the whole band has come to the next one
-abbrev pub GoesPastRow : Tables → Passing → ℕ → ℕ → List ℕ → Stores → Stores → Type 0
-GoesPastRow t pass d spectra samples old new = (f : Filterbank) (m u : ℕ) →
-    AreTaken t pass f m u spectra samples → IsPassing t pass f u spectra d old →
-    IsPassing t pass f u spectra (d + 1) new
+-- a pass goes on from so many orders to so many
+abbrev pub CarriesOut : Tables → Passing → ℕ → ℕ → ℕ → List ℕ → Stores → Stores → Type 0
+CarriesOut t pass from to spectra samples old new = (f : Filterbank) (m u : ℕ) →
+    AreTaken t pass f m u spectra samples → HasDone t pass f u spectra from old →
+    HasDone t pass f u spectra to new
 
 -- the row of delay d of the whole band stands then
-abbrev pub MakesBandRow : Tables → Passing → ℕ → ℕ → List ℕ → Stores → Stores → Type 0
-MakesBandRow t pass d spectra samples old new = (f : Filterbank) (m u : ℕ) →
-    AreTaken t pass f m u spectra samples → IsPassing t pass f u spectra d old →
+abbrev pub MakesBandRow : Tables → Passing → ℕ → ℕ → ℕ → List ℕ → Stores → Stores → Type 0
+MakesBandRow t pass d from spectra samples old new = (f : Filterbank) (m u : ℕ) →
+    AreTaken t pass f m u spectra samples → HasDone t pass f u spectra from old →
     HasBandRow t pass f u spectra d new
-
--- no sum of the row of delay d of the whole band reaches `least`
-abbrev pub BandRowIsBelow : Tables → Passing → ℕ → ℕ → List ℕ → Stores → ℕ → Type 0
-BandRowIsBelow t pass d spectra samples old least = (f : Filterbank) (m u k : ℕ) →
-    AreTaken t pass f m u spectra samples → IsPassing t pass f u spectra d old → k < spectra →
-    path_sum f t.plan.edges (u + k) d < least
 
 -- what was kept for one pass is kept for another
 abbrev pub KeepsFor : Tables → Passing → Passing → Stores → Stores → Type 0
@@ -76,6 +73,18 @@ pub record ShowsRow (t : Tables) (pass : Passing) (d order : ℕ) : Type 0 where
   pub row : (order_at pass.schedule.orders order).row ≡ band_row t.plan t.rows d
   pub is_row : IsRow t.rows 0 d (band_row t.plan t.rows d)
   pub width : is_narrow pass.schedule.narrow (order_at pass.schedule.orders order).row ≡ false
+
+-- the next order of a pass makes the row of delay d of the whole band, and can be left out
+pub record CanLeaveOut (t : Tables) (pass : Passing) (d done : ℕ) : Type 0 where
+  pub row : HasRow (root t.plan) d
+  pub shows : ShowsRow t pass d done
+  pub last : pass.can_leave_out ≡ true
+
+-- the sums of two halves are the path sums of delay d, where the next order makes its row of them
+abbrev pub AddUpToRow : Tables → Passing → ℕ → ℕ → ℕ → Stores → Halves → Type 0
+AddUpToRow t pass d done spectra st halves = (f : Filterbank) (m u k : ℕ) →
+    AreFit t pass f m (u + spectra) → HasDone t pass f u spectra done st → k < spectra →
+    half_sum halves k ≡ path_sum f t.plan.edges (u + k) d
 
 -- a row is that of delay d of the whole band, which stands
 abbrev pub ReadsBand : Tables → Passing → ℕ → ℕ → List ℕ → List ℕ → Type 0

@@ -1,6 +1,6 @@
 -- Passes: schedules that make the rows of the whole band one after another.
 -- Source: this project's choice.
-use Rattle.std.specs.Prelude.{◌≡◌, ℕ, ◌+◌, ◌-◌, ◌≤◌, true, slice_index}
+use Rattle.std.specs.Prelude.{◌≡◌, ℕ, ◌+◌, ◌-◌, ◌≤◌, ◌<◌, true, length, slice_index}
 use Rattle.row_schedule.specs.Running.{Stores, IsLast, Kept, Running, Stands}
 use Rattle.search_model.specs.Samples.{Filterbank}
 use Rattle.subband_plan.specs.declared.rows.PlanRows.{PlanRows}
@@ -37,10 +37,18 @@ stop_at t pass d = slice_index pass.stops.items (d - t.plan.first)
 abbrev pub AreKept : Tables → Passing → Filterbank → ℕ → Stores → Type 0
 AreKept t pass f u st = Kept t.rows.rows pass.schedule.narrow (table_sums t f) u st
 
--- a pass has come to the row of delay d of the whole band
-abbrev pub IsPassing : Tables → Passing → Filterbank → ℕ → ℕ → ℕ → Stores → Type 0
-IsPassing t pass f u spectra d st =
-    Running t.rows.rows pass.schedule (table_sums t f) u spectra (stop_at t pass d) st
+-- so many orders of a pass were carried out
+abbrev pub HasDone : Tables → Passing → Filterbank → ℕ → ℕ → ℕ → Stores → Type 0
+HasDone t pass f u spectra done st =
+    Running t.rows.rows pass.schedule (table_sums t f) u spectra done st
+
+-- So many are, where a pass has come to the row of delay d of the whole band: those before the stop
+-- before this row, and maybe some of those after it, but not the one that makes the row. Past the
+-- row of the last delay, all are.
+pub record IsBefore (t : Tables) (pass : Passing) (d done : ℕ) : Type 0 where
+  pub from : stop_at t pass d ≤ done
+  pub to : d ≤ t.plan.last → done < stop_at t pass (d + 1)
+  pub end : d ≡ t.plan.last + 1 → done ≡ length pass.schedule.orders
 
 -- the row of delay d of the whole band stands
 abbrev pub HasBandRow : Tables → Passing → Filterbank → ℕ → ℕ → ℕ → Stores → Type 0

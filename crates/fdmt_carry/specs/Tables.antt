@@ -1,7 +1,7 @@
 -- The tables of a plan, and the schedule that makes the rows of all nodes.
 -- Source: Zackay & Ofek, ApJ 835:11, 2017, section 2 (the partial sums of the transform); that
 -- values are kept from chunk to chunk is this project's choice.
-use Rattle.std.specs.Prelude.{◌≡◌, ℕ, ◌+◌, ◌≤◌, ◌<◌, false, List, length, replicate}
+use Rattle.std.specs.Prelude.{◌≡◌, ℕ, ◌+◌, ◌≤◌, ◌<◌, false, Bool, List, length, replicate}
 use Rattle.band_paths.specs.Edges.{channels_of}
 use Rattle.row_model.specs.Sums.{Sums}
 use Rattle.row_schedule.specs.Samples.{AreNext}
@@ -76,15 +76,15 @@ RowsStand t from y u spectra wide = (r : ℕ) → from ≤ r → r < all_rows t.
 abbrev pub TablesStand : Tables → Filterbank → ℕ → ℕ → Stores → Type 0
 TablesStand t f u spectra st = RowsStand t 0 (table_sums t f) u spectra st.wide
 
--- the rows of all nodes are made of the next spectra
-abbrev pub MakesTables : Tables → ℕ → List ℕ → Stores → Stores → Type 0
-MakesTables t spectra samples old new = (x : ℕ → ℕ → ℕ) (y : Sums) (u : ℕ) →
-    AreGiven t.rows.rows x y u t.chunk spectra samples old.kept_wide →
+-- the rows of all nodes are made of the next spectra, where what is kept of narrow ones has 16 bits
+abbrev pub MakesTables : Tables → List Bool → ℕ → List ℕ → Stores → Stores → Type 0
+MakesTables t narrow spectra samples old new = (x : ℕ → ℕ → ℕ) (y : Sums) (u : ℕ) →
+    AreGiven t.rows.rows narrow x y u t.chunk spectra samples old →
     RowsStand t 0 y u spectra new.wide
 
 -- and so are those of node k, where those of the nodes after it stand
-abbrev pub MakesNode : Tables → ℕ → ℕ → List ℕ → Stores → Stores → Type 0
-MakesNode t k spectra samples old new = (x : ℕ → ℕ → ℕ) (y : Sums) (u : ℕ) →
-    AreGiven t.rows.rows x y u t.chunk spectra samples old.kept_wide →
+abbrev pub MakesNode : Tables → List Bool → ℕ → ℕ → List ℕ → Stores → Stores → Type 0
+MakesNode t narrow k spectra samples old new = (x : ℕ → ℕ → ℕ) (y : Sums) (u : ℕ) →
+    AreGiven t.rows.rows narrow x y u t.chunk spectra samples old →
     RowsStand t (start_of t.rows (k + 1)) y u spectra old.wide →
     RowsStand t (start_of t.rows k) y u spectra new.wide

@@ -1,6 +1,7 @@
 // Tables that are carried from chunk to chunk.
-ghost use Rattle.std.specs.Prelude.{◌≡◌, ℕ, ◌+◌, ◌-◌, ◌*◌, ◌^◌, ◌<◌, ◌≤◌, true, false, length, slice_index, None, IfOk};
+ghost use Rattle.std.specs.Prelude.{◌≡◌, ℕ, ◌+◌, ◌-◌, ◌*◌, ◌^◌, ◌<◌, ◌≤◌, true, false, length, slice_index, None, IfOk, IfSome};
 ghost use Rattle.band_paths.specs.Edges.{channels_of};
+ghost use Rattle.row_schedule.specs.Halves.{HaveLength, half_sum};
 ghost use Rattle.row_schedule.specs.Samples.{values_of};
 ghost use Rattle.search_model.specs.Samples.{Filterbank};
 ghost use Rattle.search_model.specs.Sums.{path_sum};
@@ -8,13 +9,14 @@ ghost use Rattle.search_model.specs.Subbands.{node_sum};
 ghost use Rattle.subband_plan.specs.Nodes.{HasRow, root};
 ghost use Rattle.subband_plan.specs.Values.{AreAtMost};
 ghost use Rattle.fdmt_carry.specs.Tables.{node_of, node_count};
-ghost use Rattle.fdmt_carry.specs.Carrying.{Carrying, AreThere, IsOpened, IsFed, IsBegun, IsRowOn, IsStream, AreNext, HasMade, IsSettled, StandsForSamples, StandsMidway, IsSound, HasSpare, carrying};
+ghost use Rattle.fdmt_carry.specs.Making.{CanLeaveOut};
+ghost use Rattle.fdmt_carry.specs.Carrying.{Carrying, AreThere, IsOpened, IsFed, IsBegun, IsRowOn, IsReached, IsStream, AreNext, HasMade, IsSettled, StandsForSamples, StandsMidway, IsSound, HasSpare, carrying};
 
 use crate::opening::{Passes, Spare};
 use crate::passing::Passing;
 use crate::tables::Tables;
 use psr_base::Memory;
-use row_schedule::{Samples, Stores, nothing_kept, running_begins, running_ends};
+use row_schedule::{Halves, Samples, Stores, nothing_kept, running_begins, running_ends};
 use search_model::whole_band_is_path_sum;
 use std::alloc::Global;
 use std::marker::Model;
@@ -26,10 +28,11 @@ use subband_plan::{Plan, plans_are_laid, rows_begin_empty};
 ///
 /// `feed` and `take` make the rows of all nodes, which then stand. In a pass only the rows of the whole band can be
 /// read, as they are made, one after another by their delays: `begin`, `make_row` or `make_reaching_row` for each
-/// delay, with `made` to read a row that was made, and `finish`.
+/// delay, with `made` to read a row that was made, and `finish`. In place of `make_reaching_row` there is also
+/// `reach_row`, which makes all that the row of a delay is made of; then `halves`, and `make_row` or `leave_out`.
 ///
-/// A pass for small samples serves until a greater sample comes, and then one for all samples. No clause says which rows
-/// have 16 bits.
+/// A pass for small samples serves until a greater sample comes, and then one for all samples. No clause says which
+/// rows have 16 bits.
 #[derive(Drop)]
 pub struct Carry {
     tables: Tables,
@@ -42,6 +45,7 @@ pub struct Carry {
     has_tables: bool,
     is_passing: bool,
     next: u32,
+    done: usize,
     stores: Stores,
 }
 
@@ -49,12 +53,12 @@ impl Model for Carry {
     ghost Value = { Carrying };
 
     ghost view = { λ c. carrying c.tables c.pass c.limit c.max_sample c.fed c.last c.has_tables
-        c.is_passing c.next c.stores };
+        c.is_passing c.next c.done c.stores };
 
     ghost invariant = { λ c. IsSound (carrying c.tables c.pass c.limit c.max_sample c.fed c.last
-        c.has_tables c.is_passing c.next c.stores)
+        c.has_tables c.is_passing c.next c.done c.stores)
         × HasSpare (carrying c.tables c.pass c.limit c.max_sample c.fed c.last c.has_tables
-        c.is_passing c.next c.stores) c.spare };
+        c.is_passing c.next c.done c.stores) c.spare };
 }
 
 impl Carry {
@@ -105,6 +109,7 @@ impl Carry {
             has_tables: false,
             is_passing: false,
             next: 0,
+            done: 0,
             stores,
         })
     }
@@ -209,8 +214,10 @@ impl Carry {
     {
         running_begins();
         self.tables.hold();
+        self.tables.begins(&self.pass);
         let (first, _) = self.tables.delays();
         self.next = first;
+        self.done = 0;
         self.last = spectra;
         self.has_tables = false;
         self.is_passing = true;
@@ -230,14 +237,88 @@ impl Carry {
             → AreNext self.old f (values_of samples.entry) self.old.last → HasMade self.new f }
     {
         self.tables.hold();
-        self.tables.make_row(
+        self.done = self.tables.make_row(
             &self.pass,
             self.next,
+            self.done,
             &mut self.stores,
             samples,
             self.last as usize,
         );
         self.next += 1;
+    }
+
+    /// Makes all that the row of the next delay is made of, from the same samples, so that `halves` can be asked for
+    /// it. Then `make_row` makes the row, or `leave_out` goes on without it.
+    pub fn reach_row(&mut self, samples: Samples<'_>)
+        requires rows { AreThere self.old (values_of samples) self.old.last }
+        requires passing { self.old.is_passing ≡ true }
+        requires more { self.old.next ≤ self.old.tables.plan.last }
+        ensures reached { IsReached self.old self.new }
+        ensures stands { (f : Filterbank) → StandsMidway self.old f
+            → AreNext self.old f (values_of samples.entry) self.old.last
+            → StandsMidway self.new f }
+    {
+        self.tables.hold();
+        self.done = self.tables.reach_row(
+            &self.pass,
+            self.next,
+            self.done,
+            &mut self.stores,
+            samples,
+            self.last as usize,
+        );
+    }
+
+    /// The two rows of 16 bits whose sums are the row of the next delay, once all is made that it is made of. There are
+    /// none where it is made of other rows, or where a row of the whole band is needed for another.
+    pub fn halves(&self) -> Option<Halves<'_>>
+        requires passing { self.now.is_passing ≡ true }
+        requires more { self.now.next ≤ self.now.tables.plan.last }
+        ensures long { IfSome result (HaveLength self.now.last) }
+        ensures leave { IfSome result (λ halves. CanLeaveOut self.now.tables self.now.pass
+            self.now.next self.now.done) }
+        ensures sums { IfSome result (λ halves. (f : Filterbank) (k : ℕ) → StandsMidway self.now f
+            → k < self.now.last → half_sum halves k
+            ≡ path_sum f self.now.tables.plan.edges (self.now.fed + k) self.now.next) }
+    {
+        self.tables.hold();
+        self.tables.halves(
+            &self.pass,
+            self.next,
+            self.done,
+            &self.stores,
+            self.last as usize,
+        )
+    }
+
+    /// Goes on to the next delay, and leaves out the row of this one, whose halves were there.
+    pub fn leave_out(&mut self)
+        requires passing { self.old.is_passing ≡ true }
+        requires leave { CanLeaveOut self.old.tables self.old.pass self.old.next self.old.done }
+        ensures row_on { IsRowOn self.old self.new }
+        ensures stands { (f : Filterbank) → StandsMidway self.old f → StandsMidway self.new f }
+    {
+        self.tables.hold();
+        self.done = self.tables.leave_out(&self.pass, self.next, self.done);
+        self.next += 1;
+    }
+
+    // Whether no path sum of the next delay reaches `least`, and its row can be left out. It may say no where that
+    // holds.
+    fn is_below(&self, least: u32) -> bool
+        requires passing { self.now.is_passing ≡ true }
+        requires more { self.now.next ≤ self.now.tables.plan.last }
+        ensures leave { result ≡ true → CanLeaveOut self.now.tables self.now.pass self.now.next
+            self.now.done }
+        ensures below { result ≡ true → (f : Filterbank) (k : ℕ) → StandsMidway self.now f
+            → k < self.now.last
+            → path_sum f self.now.tables.plan.edges (self.now.fed + k) self.now.next < least }
+    {
+        match self.halves() {
+            Some(halves) => halves.bound() < least,
+            None => false,
+        }
     }
 
     /// Goes on to the next delay as `make_row` does, but may leave out a row of which no path sum reaches `least`, and
@@ -257,17 +338,13 @@ impl Carry {
             → AreNext self.old f (values_of samples.entry) self.old.last → k < self.old.last
             → path_sum f self.old.tables.plan.edges (self.old.fed + k) self.old.next < least }
     {
-        self.tables.hold();
-        let is_made = self.tables.make_reaching_row(
-            &self.pass,
-            self.next,
-            &mut self.stores,
-            samples,
-            self.last as usize,
-            least,
-        );
-        self.next += 1;
-        is_made
+        self.reach_row(samples);
+        if self.is_below(least) {
+            self.leave_out();
+            return false;
+        }
+        self.make_row(samples);
+        true
     }
 
     /// The row of the delay before the next, where it was made: the path sums of that delay that end at the spectra of

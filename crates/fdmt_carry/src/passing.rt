@@ -13,7 +13,7 @@ use crate::numbers::{row_number, whole_band};
 use crate::plain::{plain_schedule, plain_stops};
 use psr_base::Memory;
 use row_model::Source;
-use row_schedule::{Order, Schedule, Stores};
+use row_schedule::{Order, Schedule};
 use std::alloc::Global;
 use subband_plan::{Node, Plan, PlanRows};
 
@@ -32,8 +32,6 @@ pub struct Passing {
 }
 
 impl Passing {
-    ghost use Rattle.row_schedule.specs.Running.{HaveRoom};
-    ghost use Rattle.fdmt_carry.specs.Leaving.{IsRowBelow};
     ghost use Rattle.fdmt_carry.specs.Passing.{IsPass};
 
     /// The schedule of the rows of a plan over samples up to `limit`: the drafted one, or the plain one where that
@@ -114,19 +112,6 @@ impl Passing {
             can_leave_out: are_last(plan, rows),
         })
     }
-
-    /// Whether no sum of the row of an order, which is to be carried out next, reaches `least`, and the order can be
-    /// left out. It may say no where that holds.
-    pub fn can_pass_over(&self, order: usize, stores: &Stores, spectra: usize, least: u32) -> bool
-        requires order { order < length self.now.schedule.orders }
-        requires room { HaveRoom self.now.schedule stores.now }
-        requires short { spectra ≤ self.now.schedule.most }
-        ensures last { result ≡ true → self.now.can_leave_out ≡ true }
-        ensures below { result ≡ true
-            → IsRowBelow self.now.schedule spectra order stores.now least }
-    {
-        self.can_leave_out && self.schedule.bound(order, stores, spectra) < least
-    }
 }
 
 // Whether the row of a delay of node `k`, which is given, has 16 bits: where no sum of it passes them; those of the
@@ -143,8 +128,8 @@ fn is_low(k: usize, node: Node, delay: u32, limit: u32) -> bool
 }
 
 /// A limit of samples for a first pass: up to it the sums of all rows but those of the whole band have 16 bits. A limit
-/// that would be too low to last is raised, and then fewer rows have 16 bits. Nothing rests on it: a pass for samples up
-/// to any limit has the widths that these need.
+/// that would be too low to last is raised, and then fewer rows have 16 bits. Nothing rests on it: a pass for samples
+/// up to any limit has the widths that these need.
 pub fn narrow_limit(plan: &Plan) -> u32 {
     let nodes = plan.all_nodes();
     let mut cells = 1;

@@ -1,19 +1,21 @@
 // The tables of a plan: rows of all nodes, and passes over them.
-ghost use Rattle.std.specs.Prelude.{◌≡◌, ℕ, ◌+◌, ◌-◌, ◌*◌, ◌≤◌, ◌<◌, true, false, length, IfOk};
+ghost use Rattle.std.specs.Prelude.{◌≡◌, ℕ, ◌+◌, ◌-◌, ◌*◌, ◌≤◌, ◌<◌, length, IfOk, IfSome};
 ghost use Rattle.band_paths.specs.Edges.{channels_of};
-ghost use Rattle.row_schedule.specs.Running.{AreAsLong, HaveRoom};
+ghost use Rattle.search_model.specs.Samples.{Filterbank};
+ghost use Rattle.row_schedule.specs.Halves.{HaveLength};
+ghost use Rattle.row_schedule.specs.Running.{AreAsLong, HaveRoom, Stores as StoresSeen};
 ghost use Rattle.row_schedule.specs.Sizes.{AreEnough, AreEnoughForTables};
 ghost use Rattle.row_schedule.specs.Filling.{HaveTableRoom, WroteWide};
 ghost use Rattle.row_schedule.specs.Samples.{values_of};
 ghost use Rattle.subband_plan.specs.Nodes.{IsPlan, HasRow, root};
 ghost use Rattle.fdmt_carry.specs.Tables.{AreTables, MakesNode, MakesTables, node_of, node_count};
-ghost use Rattle.fdmt_carry.specs.Passing.{IsPassOf, stop_at};
-ghost use Rattle.fdmt_carry.specs.Making.{BandRowIsBelow, Fills, KeepsFor, MakesBandRow, GoesPastRow, ReadsBand, ReadsNode, ShowsRow};
+ghost use Rattle.fdmt_carry.specs.Passing.{HasDone, IsBefore, IsPassOf, stop_at};
+ghost use Rattle.fdmt_carry.specs.Making.{AddUpToRow, CanLeaveOut, Fills, CarriesOut, KeepsFor, MakesBandRow, ReadsBand, ReadsNode, ShowsRow};
 
 use crate::numbers::{row_number, whole_band};
 use crate::passing::{Passing, narrow_limit};
 use psr_base::Memory;
-use row_schedule::{Samples, Sizes, SpareStores, Stores, last_rows_are_left_out};
+use row_schedule::{Halves, Samples, Sizes, SpareStores, Stores, last_rows_are_left_out};
 use search_model::splits_fit;
 use std::alloc::Global;
 use std::marker::Model;
@@ -151,40 +153,48 @@ impl Tables {
         rows_add_up();
         rows_are_bounded();
         self.hold();
-        let widths = pass.schedule.narrow();
-        stores.widen_kept(&self.rows.rows, widths);
-        self.fill_nodes(stores, samples, spectra);
-        stores.keep_rows(&self.rows.rows, self.most as usize, spectra);
-        stores.narrow_kept(&self.rows.rows, widths);
+        self.fill_nodes(pass, stores, samples, spectra);
+        stores.keep_rows(&self.rows.rows, &pass.schedule, self.most as usize, spectra);
     }
 
     // Makes the rows of all nodes, from the last node to the first.
-    fn fill_nodes(&self, stores: &mut Stores, samples: Samples<'_>, spectra: usize)
+    fn fill_nodes(&self, pass: &Passing, stores: &mut Stores, samples: Samples<'_>, spectra: usize)
+        requires pass { (m : ℕ) × IsPassOf self.now m pass.now }
         requires room { HaveTableRoom self.now.rows.rows self.now.most stores.old }
+        requires pass_room { HaveRoom pass.now.schedule stores.old }
         requires samples { channels_of self.now.plan.edges * self.now.chunk
             ≤ length (values_of samples) + (self.now.chunk - spectra) }
         requires short { spectra ≤ self.now.most }
         ensures wrote { WroteWide stores.old stores.new }
-        ensures makes { MakesTables self.now spectra (values_of samples.entry) stores.old
-            stores.new }
+        ensures makes { MakesTables self.now pass.now.schedule.narrow spectra
+            (values_of samples.entry) stores.old stores.new }
     {
         self.hold();
         let count = self.plan.nodes();
         for done in 0..count {
-            self.fill_node(count - 1 - done, stores, samples, spectra);
+            self.fill_node(pass, count - 1 - done, stores, samples, spectra);
         }
     }
 
     // Makes the rows of node `k`, by their delays.
-    fn fill_node(&self, k: usize, stores: &mut Stores, samples: Samples<'_>, spectra: usize)
+    fn fill_node(
+        &self,
+        pass: &Passing,
+        k: usize,
+        stores: &mut Stores,
+        samples: Samples<'_>,
+        spectra: usize,
+    )
+        requires pass { (m : ℕ) × IsPassOf self.now m pass.now }
         requires node { k < node_count self.now }
         requires room { HaveTableRoom self.now.rows.rows self.now.most stores.old }
+        requires pass_room { HaveRoom pass.now.schedule stores.old }
         requires samples { channels_of self.now.plan.edges * self.now.chunk
             ≤ length (values_of samples) + (self.now.chunk - spectra) }
         requires short { spectra ≤ self.now.most }
         ensures wrote { WroteWide stores.old stores.new }
-        ensures makes { MakesNode self.now k spectra (values_of samples.entry) stores.old
-            stores.new }
+        ensures makes { MakesNode self.now pass.now.schedule.narrow k spectra
+            (values_of samples.entry) stores.old stores.new }
     {
         plans_are_laid();
         rows_are_numbered();
@@ -192,7 +202,15 @@ impl Tables {
         self.hold();
         let (room, chunk) = (self.most as usize, self.chunk as usize);
         for r in self.rows.starts[k]..self.rows.starts[k + 1] {
-            stores.fill_row(&self.rows.rows, r, room, samples, chunk, spectra);
+            stores.fill_row(
+                &self.rows.rows,
+                &pass.schedule,
+                r,
+                room,
+                samples,
+                chunk,
+                spectra,
+            );
         }
     }
 
@@ -208,81 +226,131 @@ impl Tables {
         ensures keeps { KeepsFor self.now pass.now next.now stores.old stores.new }
     {
         rows_are_bounded();
-        stores.widen_kept(&self.rows.rows, pass.schedule.narrow());
-        stores.go_over(spare);
-        stores.narrow_kept(&self.rows.rows, next.schedule.narrow());
+        stores.go_over(&self.rows.rows, &pass.schedule, &next.schedule, spare);
     }
 
-    /// Makes what comes before the row of delay `d` of the whole band in a pass, and this row.
+    /// A pass begins before the row of the first delay. It does nothing.
+    pub fn begins(&self, pass: &Passing)
+        requires { (m : ℕ) × IsPassOf self.now m pass.now }
+        ensures { IsBefore self.now pass.now self.now.plan.first 0 }
+    {
+        plans_are_laid();
+        rows_are_numbered();
+        self.hold();
+        let _ = &pass.stops;
+    }
+
+    /// Carries out the orders of a pass up to the one that makes the row of delay `d` of the whole band, without it. So
+    /// many were carried out before; gives how many are now.
+    pub fn reach_row(
+        &self,
+        pass: &Passing,
+        d: u32,
+        done: usize,
+        stores: &mut Stores,
+        samples: Samples<'_>,
+        spectra: usize,
+    ) -> usize
+        requires pass { (m : ℕ) × IsPassOf self.now m pass.now }
+        requires row { HasRow (root self.now.plan) d }
+        requires before { IsBefore self.now pass.now d done }
+        requires room { HaveRoom pass.now.schedule stores.old }
+        requires samples { channels_of self.now.plan.edges * self.now.chunk
+            ≤ length (values_of samples) + (self.now.chunk - spectra) }
+        requires short { spectra ≤ self.now.chunk }
+        ensures long { AreAsLong stores.old stores.new }
+        ensures before { IsBefore self.now pass.now d result }
+        ensures on { CarriesOut self.now pass.now done result spectra (values_of samples.entry)
+            stores.old stores.new }
+    {
+        rows_add_up();
+        rows_are_bounded();
+        plans_are_laid();
+        rows_are_numbered();
+        self.hold();
+        let order = self.shown(pass, d);
+        pass.schedule.run(done, order, stores, samples, spectra);
+        order
+    }
+
+    /// Goes on to the next row of the whole band after that of delay `d`, which it makes.
     pub fn make_row(
         &self,
         pass: &Passing,
         d: u32,
+        done: usize,
         stores: &mut Stores,
         samples: Samples<'_>,
         spectra: usize,
-    )
+    ) -> usize
         requires pass { (m : ℕ) × IsPassOf self.now m pass.now }
         requires row { HasRow (root self.now.plan) d }
+        requires before { IsBefore self.now pass.now d done }
         requires room { HaveRoom pass.now.schedule stores.old }
         requires samples { channels_of self.now.plan.edges * self.now.chunk
             ≤ length (values_of samples) + (self.now.chunk - spectra) }
         requires short { spectra ≤ self.now.chunk }
         ensures long { AreAsLong stores.old stores.new }
-        ensures past { GoesPastRow self.now pass.now d spectra (values_of samples.entry) stores.old
-            stores.new }
-        ensures made { MakesBandRow self.now pass.now d spectra (values_of samples.entry) stores.old
-            stores.new }
+        ensures before { IsBefore self.now pass.now (d + 1) result }
+        ensures on { CarriesOut self.now pass.now done result spectra (values_of samples.entry)
+            stores.old stores.new }
+        ensures made { MakesBandRow self.now pass.now d done spectra (values_of samples.entry)
+            stores.old stores.new }
     {
         rows_add_up();
         rows_are_bounded();
         plans_are_laid();
         rows_are_numbered();
         self.hold();
-        let (from, to) = (self.stop(pass, d), self.stop(pass, d + 1));
-        pass.schedule.run(from, to, stores, samples, spectra);
+        let to = self.stop(pass, d + 1);
+        pass.schedule.run(done, to, stores, samples, spectra);
+        to
     }
 
-    /// Does what `make_row` does, but makes the row of the whole band only where one of its sums may reach `least`, and
-    /// says whether it did. Where it didn't, none of them does.
-    pub fn make_reaching_row(
+    /// The two rows of 16 bits of which the row of delay `d` of the whole band is made by the next order, after so
+    /// many, where it can be left out.
+    pub fn halves<'a>(
         &self,
         pass: &Passing,
         d: u32,
-        stores: &mut Stores,
-        samples: Samples<'_>,
+        done: usize,
+        stores: &'a Stores,
         spectra: usize,
-        least: u32,
-    ) -> bool
+    ) -> Option<Halves<'a>>
         requires pass { (m : ℕ) × IsPassOf self.now m pass.now }
         requires row { HasRow (root self.now.plan) d }
-        requires room { HaveRoom pass.now.schedule stores.old }
-        requires samples { channels_of self.now.plan.edges * self.now.chunk
-            ≤ length (values_of samples) + (self.now.chunk - spectra) }
+        requires room { HaveRoom pass.now.schedule stores.now }
         requires short { spectra ≤ self.now.chunk }
-        ensures long { AreAsLong stores.old stores.new }
-        ensures past { GoesPastRow self.now pass.now d spectra (values_of samples.entry) stores.old
-            stores.new }
-        ensures made { result ≡ true → MakesBandRow self.now pass.now d spectra
-            (values_of samples.entry) stores.old stores.new }
-        ensures below { result ≡ false → BandRowIsBelow self.now pass.now d spectra
-            (values_of samples.entry) stores.old least }
+        ensures long { IfSome result (HaveLength spectra) }
+        ensures leave { IfSome result (λ halves. CanLeaveOut self.now pass.now d done) }
+        ensures sums { IfSome result
+            (AddUpToRow self.now pass.now d done spectra stores.now) }
     {
         rows_add_up();
         rows_are_bounded();
         band_rows_are_path_sums();
+        self.hold();
+        let order = self.shown(pass, d);
+        if done != order || !pass.can_leave_out {
+            return None;
+        }
+        pass.schedule.halves(order, stores, spectra)
+    }
+
+    /// Goes on to the next row of the whole band after that of delay `d`, which it leaves out.
+    pub fn leave_out(&self, pass: &Passing, d: u32, done: usize) -> usize
+        requires pass { (m : ℕ) × IsPassOf self.now m pass.now }
+        requires leave { CanLeaveOut self.now pass.now d done }
+        ensures before { IsBefore self.now pass.now (d + 1) result }
+        ensures left { (f : Filterbank) (u spectra : ℕ) (st : StoresSeen)
+            → HasDone self.now pass.now f u spectra done st
+            → HasDone self.now pass.now f u spectra result st }
+    {
         last_rows_are_left_out();
         plans_are_laid();
         rows_are_numbered();
         self.hold();
-        let (from, to) = (self.stop(pass, d), self.stop(pass, d + 1));
-        let order = self.shown(pass, d);
-        pass.schedule.run(from, order, stores, samples, spectra);
-        if pass.can_pass_over(order, stores, spectra, least) {
-            return false;
-        }
-        pass.schedule.run(order, to, stores, samples, spectra);
-        true
+        self.stop(pass, d + 1)
     }
 
     /// The row of delay `d` of the whole band, which a pass made last, and which stands.

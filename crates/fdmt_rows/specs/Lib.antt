@@ -1,4 +1,5 @@
 pub mod Capped
+pub mod Excess
 pub mod Lanes
 pub mod Rows
 pub mod Writes

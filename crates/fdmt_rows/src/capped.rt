@@ -7,16 +7,31 @@ ghost use Rattle.fdmt_rows.specs.Writes.{Writes};
 use crate::lanes::LANES;
 use std::simd::prelude::*;
 
-// Sixteen sums.
+/// The sums of lanes.
 #[inline(always)]
-fn sums_at(first: &[u16], second: &[u16], at: usize) -> u16x16
+pub fn add_capped(a: u16x16, b: u16x16) -> u16x16
+    requires first { length a ≡ 16 }
+    requires second { length b ≡ 16 }
+    ensures long { length result ≡ 16 }
+    ensures sums { (k : ℕ) → k < 16
+        → slice_index result k ≡ capped_sum (slice_index a k) (slice_index b k) }
+{
+    a.saturating_add(b)
+}
+
+/// Sixteen sums.
+#[inline(always)]
+pub fn sums_at(first: &[u16], second: &[u16], at: usize) -> u16x16
     requires first { at + LANES ≤ length first.now }
     requires second { at + LANES ≤ length second.now }
     ensures long { length result ≡ 16 }
     ensures sums { (k : ℕ) → k < 16 → slice_index result k
         ≡ capped_sum (slice_index first.now (at + k)) (slice_index second.now (at + k)) }
 {
-    u16x16::from_slice(&first[at..]).saturating_add(u16x16::from_slice(&second[at..]))
+    add_capped(
+        u16x16::from_slice(&first[at..]),
+        u16x16::from_slice(&second[at..]),
+    )
 }
 
 #[inline(always)]
@@ -44,9 +59,9 @@ pub fn add_capped_rows(out: &mut [u16], first: &[u16], second: &[u16], steps: us
     }
 }
 
-// The greater of each two lanes.
+/// The greater of each two lanes.
 #[inline(always)]
-fn greater(a: u16x16, b: u16x16) -> u16x16
+pub fn greater(a: u16x16, b: u16x16) -> u16x16
     requires first { length a ≡ 16 }
     requires second { length b ≡ 16 }
     ensures { AreRaised a result (LanesUpTo b) }

@@ -8,7 +8,7 @@ use crate::lanes::LANES;
 use std::simd::prelude::*;
 
 // How many values 16 bits have.
-const NARROW_VALUES: u32 = 65536;
+pub(crate) const NARROW_VALUES: u32 = 65536;
 
 #[inline(always)]
 fn add_lanes(out: &mut [u16], a: &[u16], b: &[u16], at: usize)

@@ -1,6 +1,6 @@
 -- How much is kept of each row.
 -- Source: this project's choice.
-use Rattle.std.specs.Prelude.{◌≡◌, ℕ, ◌+◌, ◌%◌, ◌≤◌, ◌<◌, ◌^◌, Some, length, slice_get, slice_index}
+use Rattle.std.specs.Prelude.{◌≡◌, ℕ, ◌%◌, ◌≤◌, ◌<◌, ◌^◌, Some, length, slice_get, slice_index}
 use Rattle.row_model.specs.declared.Merge.{Merge}
 use Rattle.row_model.specs.declared.Source.TheVariants.{Channel, Sum}
 use Rattle.row_model.specs.declared.Rows.{Rows}
@@ -15,16 +15,11 @@ pub record IsWithin (rows : Rows) (m : Merge) : Type 0 where
   pub lower : m.lower < row_count rows
   pub enough : m.late ≤ slice_index rows.tails.items m.upper
 
--- Rows of a band of so many channels: of each enough is kept, a multiple of 16 values, and what is
--- kept of all stands one after another.
+-- Rows of a band of so many channels: of each enough is kept, a multiple of 16 values.
 pub record AreRows (channels : ℕ) (rows : Rows) : Type 0 where
   pub few : row_count rows ≤ 2 ^ 27
   pub tails_entries : length rows.tails.items ≡ row_count rows
-  pub held_entries : length rows.held.items ≡ row_count rows + 1
   pub channel : (r c : ℕ) → slice_get rows.sources.items r ≡ Some (Channel c) → c < channels
   pub merge : (r : ℕ) (m : Merge) → slice_get rows.sources.items r ≡ Some (Sum m) → IsWithin rows m
   pub whole : (r : ℕ) → slice_index rows.tails.items r % 16 ≡ 0
   pub short : (r : ℕ) → slice_index rows.tails.items r ≤ 2 ^ 14
-  pub first : slice_index rows.held.items 0 ≡ 0
-  pub next : (r : ℕ) → r < row_count rows → slice_index rows.held.items (r + 1)
-      ≡ slice_index rows.held.items r + slice_index rows.tails.items r

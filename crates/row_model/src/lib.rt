@@ -27,6 +27,4 @@ pub struct Rows {
     pub sources: Vec<Source>,
     /// How many of its last values are kept of each row, a multiple of 16.
     pub tails: Vec<u32>,
-    /// Where these begin if all are kept one after another, and how many there are.
-    pub held: Vec<usize>,
 }

@@ -1,5 +1,5 @@
 -- What one step does to rows and to what is kept of them.
-use Rattle.std.proofs.Common.{◌≡◌, ◌≢◌, ℕ, ◌+◌, ◌-◌, ◌%◌, ◌^◌, ◌≤◌, ◌<◌, ◌⊎◌, true, false, Bool, List, Some, not, length, replicate, slice_get, slice_index, slice_index_or, refl, arith, sym, ap, subst, ◌∙◌, inl, inr, add-one}
+use Rattle.std.proofs.Common.{◌≡◌, ◌≢◌, ℕ, ◌+◌, ◌-◌, ◌%◌, ◌^◌, ◌≤◌, ◌<◌, true, false, Bool, List, Some, not, length, replicate, slice_get, slice_index, slice_index_or, refl, arith, sym, ap, subst, ◌∙◌, inl, inr, add-one}
 use Rattle.std.proofs.lemmas.Bool.{cases_lt, cases_eq}
 use Rattle.std.proofs.lemmas.List.{get_or-replicate, get_or_past, length-replicate}
 use Rattle.std.proofs.lemmas.Option.{slice_get-get_or}
@@ -16,14 +16,13 @@ use Rattle.row_schedule.specs.Orders.{holds, is_made}
 use Rattle.row_schedule.specs.Schedules.{Scheduled}
 use Rattle.row_schedule.specs.declared.step.Kind.TheVariants.{AddWidened}
 use Rattle.row_schedule.specs.Steps.{AreApart, copies, makes_narrow, upper_narrow, lower_narrow, step_at}
-use Rattle.row_schedule.specs.Layout.{hold_of, slot_narrow, tail_of, wide_hold}
+use Rattle.row_schedule.specs.Layout.{hold_of, slot_narrow, tail_of}
 use Rattle.row_schedule.specs.Follows.{Follows, IsStep, BeginsAt}
 use Rattle.row_schedule.specs.Running.{Stores, IsLast, IsUsed, Kept, KeepsRow, SlotHas, Running, Stands, kept_of, list_of, stores}
 use Rattle.row_schedule.specs.Making.{StepMade, next_value}
-use Rattle.row_schedule.specs.Moving.{AreWidened, AreNarrowed}
 use Rattle.row_schedule.specs.Laws.{BeginEmpty}
 use Rattle.row_schedule.proofs.Holding.{MakesIn, holds_here, holds_made, holds_none, holds_other, made_here, made_none, made_other, row_at, slot_at}
-use Rattle.row_schedule.proofs.Keeping.{kept_apart}
+use Rattle.row_schedule.proofs.Keeping.{kept_apart, same_or_not}
 use Rattle.row_schedule.proofs.Values.{value_at, value_later, value_now, summed_value, sampled_value}
 
 -- no order was carried out
@@ -76,12 +75,6 @@ zero_at n k = elim (cases_lt k n) [
   | inl there ↦ get_or-replicate n k 0 0 there
   | inr past ↦ get_or_past (replicate n 0) k 0 (rw length-replicate past)
 ]
-
-same_or_not : (v w : Bool) → (v ≡ w) ⊎ (v ≡ not w)
-same_or_not true true = inl refl
-same_or_not true false = inr refl
-same_or_not false true = inr refl
-same_or_not false false = inl refl
 
 -- before the first spectrum
 pub zeros : (rows : Rows) (narrow : List Bool) (y : Sums) (a b : List ℕ) (n m : ℕ) → BeginEmpty y →
@@ -221,10 +214,8 @@ module _ (rows : Rows) (s : Scheduled) (x : ℕ → ℕ → ℕ) (y : Sums) (u s
             let tail = is.tail in
             let hold : step.hold ≡ hold_of rows s.narrow w (row_at s.orders j) =
             is.hold ∙ ap (λ b. hold_of rows s.narrow b (row_at s.orders j)) (sym (on ∙ is.width)) in
-            let ready = o.follows.order j number in
             let apart : AreApart k 1 step.hold step.tail = elim
-            (kept_apart s.channels rows o.follows.rows_are s.narrow w r (row_at s.orders j) lt ready.row refl
-            (sym (on ∙ is.width)) (λ e. other (sym e))) [
+            (kept_apart rows s.narrow w r (row_at s.orders j) refl (sym (on ∙ is.width)) (λ e. other (sym e))) [
               | inl one ↦ inl (omega arith)
               | inr two ↦ inr (omega arith)
             ] in
@@ -356,20 +347,22 @@ row_read rows s x y u spectra order k st wide follows in_orders off adds wide_is
     ∙ value_now rows x y u r k adds
 
 -- a value of the row that is made of two rows of 16 bits
-pub row_bound : (rows : Rows) (s : Scheduled) (x : ℕ → ℕ → ℕ) (y : Sums) (u spectra j k bound : ℕ) (st : Stores) →
+pub halves_add_up : (rows : Rows) (s : Scheduled) (x : ℕ → ℕ → ℕ) (y : Sums) (u spectra j k : ℕ) (st : Stores) →
     (step_at s.steps j).kind ≡ AddWidened → j < length s.orders →
-    ((i : ℕ) → i < spectra → slice_index st.narrow ((step_at s.steps j).upper + i)
-    + slice_index st.narrow ((step_at s.steps j).lower + i) ≤ bound) →
     Follows rows s → AddUp rows.sources.items x y → Fit s.narrow y (u + spectra) →
-    Running rows s y u spectra j st → k < spectra → y (row_at s.orders j) (u + k) 0 ≤ bound
-row_bound rows s x y u spectra j k bound st kind_is number up follows adds fits running lt =
+    Running rows s y u spectra j st → k < spectra →
+    slice_index st.narrow ((step_at s.steps j).upper + k) + slice_index st.narrow ((step_at s.steps j).lower + k)
+    ≡ y (row_at s.orders j) (u + k) 0
+halves_add_up rows s x y u spectra j k st kind_is number follows adds fits running lt =
     let ready = follows.order j number in
     let entries = follows.entries in
     by_source (slice_index_or rows.sources.items (row_at s.orders j) (Channel 0)) (follows.steps_are j (omega arith))
     (slice_get-get_or rows.sources.items (row_at s.orders j) (Channel 0) ready.row)
   where
     by_source : (source : Source) → IsStep rows s.narrow s.orders s.places s.chunk j (step_at s.steps j) →
-        slice_get rows.sources.items (row_at s.orders j) ≡ Some source → y (row_at s.orders j) (u + k) 0 ≤ bound
+        slice_get rows.sources.items (row_at s.orders j) ≡ Some source →
+        slice_index st.narrow ((step_at s.steps j).upper + k) + slice_index st.narrow ((step_at s.steps j).lower + k)
+        ≡ y (row_at s.orders j) (u + k) 0
     by_source (Channel c) is e =
         let copy = (is.channel c e).copies_it in
         let adds_it : copies (step_at s.steps j).kind ≡ false = ap copies kind_is in
@@ -394,44 +387,4 @@ row_bound rows s x y u spectra j k bound st kind_is number up follows adds fits 
         let whole : y (row_at s.orders j) (u + k) 0 ≡ y m.upper (u + k) m.late + y m.lower (u + k) 0 =
         adds.sums (row_at s.orders j) (u + k) 0 m e
         ∙ ap (λ l. y m.upper (u + k) l + y m.lower (u + k) 0) none in
-        let least = up k lt in
         omega arith
-
--- what is kept of all rows, written in 32 bits
-pub widened : (rows : Rows) (narrow none : List Bool) (y : Sums) (u : ℕ) (a b kept_narrow old new : List ℕ) →
-    ((r : ℕ) → is_narrow none r ≡ false) → AreWidened rows narrow (row_count rows) kept_narrow old new →
-    Kept rows narrow y u (stores a b kept_narrow old) → Kept rows none y u (stores a b kept_narrow new)
-widened rows narrow none y u a b kept_narrow old new off moved kept r lt i small =
-    ap (λ v. slice_index (kept_of v (stores a b kept_narrow new)) (hold_of rows none v r + i)) (off r)
-    ∙ by_width (is_narrow narrow r) refl
-    ∙ kept r lt i small
-  where
-    by_width : (v : Bool) → is_narrow narrow r ≡ v → slice_index new (wide_hold rows r + i)
-        ≡ slice_index (kept_of v (stores a b kept_narrow old)) (hold_of rows narrow v r + i)
-    by_width true on = moved.moved r i lt small on
-    by_width false no_narrow = moved.stays r i lt small no_narrow
-
--- and in 16 bits
-pub narrowed : (rows : Rows) (narrow none : List Bool) (y : Sums) (u : ℕ) (a b kept_wide old new : List ℕ) →
-    ((r : ℕ) → is_narrow none r ≡ false) → Fit narrow y u →
-    AreNarrowed rows narrow (row_count rows) kept_wide new →
-    Kept rows none y u (stores a b old kept_wide) → Kept rows narrow y u (stores a b new kept_wide)
-unfolding value_of
-narrowed rows narrow none y u a b kept_wide old new off fits moved kept r lt i small =
-    by_width (is_narrow narrow r) refl
-  where
-    was : slice_index kept_wide (wide_hold rows r + i) ≡ value_of y rows.tails.items u r i
-    was =
-        sym (ap (λ v. slice_index (kept_of v (stores a b old kept_wide)) (hold_of rows none v r + i)) (off r))
-        ∙ kept r lt i small
-
-    by_width : (v : Bool) → is_narrow narrow r ≡ v →
-        slice_index (kept_of v (stores a b new kept_wide)) (hold_of rows narrow v r + i)
-        ≡ value_of y rows.tails.items u r i
-    by_width false _ = was
-    by_width true on =
-        let fit = fits r (u + i) (tail_of rows r) on (omega arith) in
-        let whole : y r (u + i) (tail_of rows r) % 2 ^ 32 ≡ y r (u + i) (tail_of rows r) = mod-eq_of_lt (omega arith) in
-        let low : y r (u + i) (tail_of rows r) % 2 ^ 16 ≡ y r (u + i) (tail_of rows r) = mod-eq_of_lt fit in
-        moved r i lt small on
-        ∙ ap (λ z. z % 2 ^ 16) (was ∙ whole) ∙ low ∙ sym whole

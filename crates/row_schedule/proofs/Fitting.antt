@@ -18,10 +18,10 @@ use Rattle.row_schedule.specs.Orders.{AreInOrder, MakeAll, StandsBeside, order_a
 use Rattle.row_schedule.specs.Marks.{AreMadeOnce, slot_of}
 use Rattle.row_schedule.specs.Schedules.{Scheduled}
 use Rattle.row_schedule.specs.Steps.{AreApart, IsSafe, PartFits, StepFits, copies, kept_size_of, lower_narrow, makes_narrow, size_of, step_at, upper_narrow}
-use Rattle.row_schedule.specs.Layout.{AreLaid, AreSizes, AreWithin, hold_of, slot_narrow, tail_of}
-use Rattle.row_schedule.specs.Follows.{AddsRows, AreKeptSizes, AreSteps, BeginsAt, Follows, IsStep, StandApart}
+use Rattle.row_schedule.specs.Layout.{AreHolds, AreLaid, AreSizes, AreWithin, hold_of, kept_room, slot_narrow, tail_of}
+use Rattle.row_schedule.specs.Follows.{AddsRows, AreSteps, BeginsAt, Follows, IsStep, StandApart}
 use Rattle.row_schedule.proofs.Holding.{MakesIn, holds_made, held_found, slot_at, row_at}
-use Rattle.row_schedule.proofs.Keeping.{held_within, narrow_within}
+use Rattle.row_schedule.proofs.Keeping.{hold_within}
 
 pub once_of : (rows : Rows) (narrow slots : List Bool) (orders : List Order) → AreInOrder rows narrow slots orders →
     AreMadeOnce orders
@@ -88,27 +88,24 @@ own_fits rows s sizes j step lt order laid are is =
     ap (size_of s) width in
     omega arith
 
+pub kept_size : (rows : Rows) (s : Scheduled) (w : Bool) →
+    AreHolds rows s.narrow s.held s.kept_narrow_size s.kept_wide_size → kept_size_of s w ≡ kept_room rows s.narrow w
+kept_size rows s true holds = holds.narrow_end
+kept_size rows s false holds = holds.wide_end
+
 -- and what is kept of its row
-kept_fits : (channels : ℕ) (rows : Rows) → AreRows channels rows → (s : Scheduled) (j : ℕ) (step : Step) →
-    j < length s.orders → AreInOrder rows s.narrow s.slots s.orders → AreKeptSizes rows s →
+kept_fits : (rows : Rows) (s : Scheduled) (j : ℕ) (step : Step) → j < length s.orders →
+    AreInOrder rows s.narrow s.slots s.orders →
+    AreHolds rows s.narrow s.held s.kept_narrow_size s.kept_wide_size →
     IsStep rows s.narrow s.orders s.places s.chunk j step → step.hold + step.tail ≤ kept_size_of s (makes_narrow step.kind)
-kept_fits channels rows are s j step lt order kept is =
+kept_fits rows s j step lt order holds is =
     let hold = is.hold in
     let tail = is.tail in
-    let within = by_width (is_narrow s.narrow (row_at s.orders j)) refl in
+    let within = hold_within rows s.narrow (is_narrow s.narrow (row_at s.orders j)) (row_at s.orders j)
+    (order j lt).row refl in
+    let room = kept_size rows s (is_narrow s.narrow (row_at s.orders j)) holds in
     let size = ap (kept_size_of s) is.width in
     omega arith
-  where
-    by_width : (w : Bool) → is_narrow s.narrow (row_at s.orders j) ≡ w →
-        hold_of rows s.narrow w (row_at s.orders j) + tail_of rows (row_at s.orders j) ≤ kept_size_of s w
-    by_width true on =
-        let within = narrow_within rows s.narrow (row_at s.orders j) (order j lt).row on in
-        let size = kept.narrow in
-        omega arith
-    by_width false off =
-        let within = held_within channels rows are (row_at s.orders j) (order j lt).row in
-        let size = kept.wide in
-        omega arith
 
 -- a row that is added is within its list, and apart from what the step makes
 part_fits : (rows : Rows) (s : Scheduled) (sizes : List ℕ) (j : ℕ) (step : Step) (r late place : ℕ) (width : Bool) →
@@ -154,7 +151,7 @@ channel_fits c channels chunk lt =
     omega arith
 
 pub step_fits : (rows : Rows) (s : Scheduled) → AreRows s.channels rows → (sizes : List ℕ) (j : ℕ) (step : Step) →
-    j < length s.orders → AreInOrder rows s.narrow s.slots s.orders → AreKeptSizes rows s →
+    j < length s.orders → AreInOrder rows s.narrow s.slots s.orders → AreHolds rows s.narrow s.held s.kept_narrow_size s.kept_wide_size →
     AreLaid s.slots sizes (length s.slots) s.places s.narrow_size s.wide_size →
     AreSizes rows s.orders (length s.slots) s.most sizes → IsStep rows s.narrow s.orders s.places s.chunk j step →
     StepFits s step
@@ -169,7 +166,7 @@ step_fits rows s rows_are sizes j step lt order kept laid are is =
         let some = channel_fits c s.channels s.chunk (rows_are.channel (row_at s.orders j) c e) in
         record {
           own = own_fits rows s sizes j step lt order laid are is;
-          kept = kept_fits s.channels rows rows_are s j step lt order kept is;
+          kept = kept_fits rows s j step lt order kept is;
           samples = λ _. omega arith;
           upper = λ not_copy. absurd (let both : true ≡ false = sym copy.copies_it ∙ not_copy in cc);
           lower = λ not_copy. absurd (let both : true ≡ false = sym copy.copies_it ∙ not_copy in cc);
@@ -180,7 +177,7 @@ step_fits rows s rows_are sizes j step lt order kept laid are is =
         let at = adds.lower in
         record {
           own = own_fits rows s sizes j step lt order laid are is;
-          kept = kept_fits s.channels rows rows_are s j step lt order kept is;
+          kept = kept_fits rows s j step lt order kept is;
           samples = λ copy. absurd (let both : true ≡ false = sym copy ∙ adds.adds in cc);
           upper = λ _. part_fits rows s sizes j step m.upper m.late step.upper (upper_narrow step.kind) lt order laid
               are is adds.upper_width merge.enough adds.upper;
@@ -283,7 +280,7 @@ steps_more rows narrow orders places chunk j steps steps' step are long items is
 
 -- what was laid is safe, and follows the orders
 pub is_safe : (rows : Rows) (s : Scheduled) → AreRows s.channels rows → (sizes : List ℕ) →
-    AreInOrder rows s.narrow s.slots s.orders → AreKeptSizes rows s →
+    AreInOrder rows s.narrow s.slots s.orders → AreHolds rows s.narrow s.held s.kept_narrow_size s.kept_wide_size →
     AreLaid s.slots sizes (length s.slots) s.places s.narrow_size s.wide_size →
     AreSizes rows s.orders (length s.slots) s.most sizes → length s.steps ≡ length s.orders →
     AreSteps rows s.narrow s.orders s.places s.chunk s.steps → s.most ≤ s.chunk → IsSafe s
@@ -296,7 +293,7 @@ is_safe rows s rows_are sizes order kept laid are entries steps within = record 
 }
 
 pub follows : (rows : Rows) (s : Scheduled) → AreRows s.channels rows → (sizes : List ℕ) →
-    AreInOrder rows s.narrow s.slots s.orders → MakeAll rows s.orders → AreKeptSizes rows s →
+    AreInOrder rows s.narrow s.slots s.orders → MakeAll rows s.orders → AreHolds rows s.narrow s.held s.kept_narrow_size s.kept_wide_size →
     AreLaid s.slots sizes (length s.slots) s.places s.narrow_size s.wide_size →
     AreSizes rows s.orders (length s.slots) s.most sizes → length s.steps ≡ length s.orders →
     AreSteps rows s.narrow s.orders s.places s.chunk s.steps → Follows rows s
@@ -307,5 +304,5 @@ follows rows s rows_are sizes order all kept laid are entries steps = record {
   entries = entries;
   steps_are = steps;
   apart = stand_apart rows s sizes laid are (within_of rows s.narrow s.slots s.orders order);
-  kept_are = kept;
+  holds_are = kept;
 }

@@ -8,4 +8,5 @@ pub mod Fitting
 pub mod Values
 pub mod Carrying
 pub mod Keeping
+pub mod Going
 pub mod Stepping

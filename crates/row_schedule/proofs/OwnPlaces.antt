@@ -1,19 +1,21 @@
 -- Rows that are made each at a place of its own.
-use Rattle.std.proofs.Common.{◌≡◌, ◌≢◌, ℕ, suc, ◌+◌, ◌-◌, ◌*◌, ◌%◌, ◌^◌, ◌≤◌, ◌<◌, List, Some, slice_get, slice_index, arith, sym, ap, subst, ◌∙◌, refl, inl, inr}
+use Rattle.std.proofs.Common.{◌≡◌, ◌≢◌, ℕ, suc, ◌+◌, ◌-◌, ◌*◌, ◌%◌, ◌^◌, ◌≤◌, ◌<◌, Bool, List, Some, slice_get, slice_index, arith, sym, ap, subst, ◌∙◌, refl, inl, inr}
 use Rattle.std.proofs.Math.Nat.{mul-le-mul_right, suc-mul}
 use Rattle.std.proofs.lemmas.Bool.{cases_lt, cases_eq}
 use Rattle.fdmt_rows.specs.Rows.{wrapping_sum}
 use Rattle.row_model.specs.declared.Merge.{Merge}
 use Rattle.row_model.specs.declared.Rows.{Rows}
 use Rattle.row_model.specs.declared.Source.TheVariants.{Channel, Sum}
-use Rattle.row_model.specs.Sums.{Sums, AddUp, value_of}
-use Rattle.row_model.specs.Tails.{AreRows, row_count}
+use Rattle.row_model.specs.Sums.{Sums, AddUp}
 use Rattle.row_schedule.specs.Steps.{AreApart}
-use Rattle.row_schedule.specs.Layout.{tail_of, wide_hold}
+use Rattle.row_schedule.specs.Layout.{tail_of}
 use Rattle.row_schedule.specs.Making.{Puts}
-use Rattle.row_schedule.specs.Filling.{AddsSources, AreGiven, AreKeptOn, GoesOnBy, KeepsOn, KeepsWide, StandsAtPlace, own_place}
-use Rattle.row_schedule.proofs.Keeping.{held_apart}
-use Rattle.row_schedule.proofs.Values.{value_at, value_later, value_now, wraps}
+use Rattle.row_schedule.specs.Moving.{IsHold}
+use Rattle.row_schedule.specs.Running.{Stores, KeepsRow, kept_of}
+use Rattle.row_schedule.specs.declared.kept.Hold.{Hold}
+use Rattle.row_schedule.specs.Filling.{AddsLate, AddsSources, AreGiven, StandsAtPlace, own_place}
+use Rattle.row_schedule.proofs.Going.{kept_here}
+use Rattle.row_schedule.proofs.Values.{value_at, wraps}
 
 -- the places of two rows have no place in common, and are all before the end
 times_next : (n room : ℕ) → (n + 1) * room ≡ n * room + room
@@ -59,16 +61,44 @@ others_stand room spectra q r u at y old new at_is short other stays stands i lt
     ])
     ∙ stands i lt
 
+-- the first values of the upper one are those that are kept
+pub adds_here : (rows : Rows) (narrow : List Bool) (st : Stores) (m : Merge) (r room spectra held at upper lower : ℕ)
+    (hold : Hold) (kept old new : List ℕ) → IsHold rows narrow m.upper hold → kept ≡ kept_of hold.narrow st →
+    held ≡ hold.at + (hold.size - m.late) → at ≡ own_place room r → upper ≡ own_place room m.upper →
+    lower ≡ own_place room m.lower →
+    AddsLate m.late (λ i. slice_index kept (held + i)) upper lower at spectra old new →
+    AddsSources rows narrow m r room spectra st old new
+adds_here rows narrow st m r room spectra held at upper lower hold kept old new is kept_is held_is at_is upper_is
+    lower_is added =
+    let late : ℕ = m.late in
+    let there : AddsLate late (λ i. slice_index kept (held + i)) (own_place room m.upper) (own_place room m.lower)
+    (own_place room r) spectra old new =
+    subst (λ a. AddsLate late (λ i. slice_index kept (held + i)) (own_place room m.upper) (own_place room m.lower) a
+    spectra old new) at_is
+    (subst (λ b. AddsLate late (λ i. slice_index kept (held + i)) (own_place room m.upper) b at spectra old new) lower_is
+    (subst (λ a. AddsLate late (λ i. slice_index kept (held + i)) a lower at spectra old new) upper_is added)) in
+    record {
+      early = λ i early lt.
+          let size = is.size_is in
+          let k : ℕ = tail_of rows m.upper - late + i in
+          there.early i early lt
+          ∙ ap (λ n. wrapping_sum n (slice_index old (own_place room m.lower + i)))
+          (ap (λ p. slice_index kept p) (let e : held + i ≡ hold.at + k = omega arith in e)
+          ∙ ap (λ xs. slice_index xs (hold.at + k)) kept_is
+          ∙ kept_here rows narrow m.upper k hold hold.narrow st is refl);
+      rest = there.rest;
+      stays = there.stays;
+    }
+
 -- a row of two others stands at its place
 pub sum_stands : (rows : Rows) (x : ℕ → ℕ → ℕ) (y : Sums) (u room spectra r : ℕ) (m : Merge)
-    (kept old new : List ℕ) →
+    (narrow : List Bool) (st : Stores) (old new : List ℕ) →
     AddUp rows.sources.items x y → slice_get rows.sources.items r ≡ Some (Sum m) →
-    m.late ≤ tail_of rows m.upper → KeepsWide rows y u kept m.upper → StandsAtPlace room y u spectra old m.upper →
-    StandsAtPlace room y u spectra old m.lower → AddsSources rows m r room spectra kept old new →
+    m.late ≤ tail_of rows m.upper → KeepsRow rows narrow y u st m.upper → StandsAtPlace room y u spectra old m.upper →
+    StandsAtPlace room y u spectra old m.lower → AddsSources rows narrow m r room spectra st old new →
     StandsAtPlace room y u spectra new r
-sum_stands rows x y u room spectra r m kept old new adds is le keeps upper lower added i lt =
+sum_stands rows x y u room spectra r m narrow st old new adds is le keeps upper lower added i lt =
     let late : ℕ = m.late in
-    let at : ℕ = wide_hold rows m.upper in
     let same : 0 + late ≡ late = omega arith in
     let below = lower i lt in
     let sum : y m.upper (u + i) late + y m.lower (u + i) 0 ≡ y r (u + i) 0 =
@@ -82,10 +112,8 @@ sum_stands rows x y u room spectra r m kept old new adds is le keeps upper lower
     elim (cases_lt i late) [
       | inl early ↦
           let k : ℕ = tail_of rows m.upper - late + i in
-          let place : at + (tail_of rows m.upper - late) + i ≡ at + k = omega arith in
           added.early i early lt
-          ∙ whole _ (ap (slice_index kept) place ∙ keeps k (omega arith)
-          ∙ value_at rows x y u m.upper i k late adds (omega arith) le)
+          ∙ whole _ (keeps k (omega arith) ∙ value_at rows x y u m.upper i k late adds (omega arith) le)
       | inr past ↦
           let j : ℕ = i - late in
           let later : u + j + late ≡ u + i = omega arith in
@@ -97,79 +125,12 @@ sum_stands rows x y u room spectra r m kept old new adds is le keeps upper lower
 
 -- and so does a row of samples
 pub samples_stand : (rows : Rows) (x : ℕ → ℕ → ℕ) (y : Sums) (u room chunk spectra r c at from : ℕ)
-    (samples kept old new : List ℕ) → AreGiven rows x y u chunk spectra samples kept →
+    (samples : List ℕ) (narrow : List Bool) (st : Stores) (old new : List ℕ) →
+    AreGiven rows narrow x y u chunk spectra samples st →
     slice_get rows.sources.items r ≡ Some (Channel c) → at ≡ own_place room r → from ≡ c * chunk →
     Puts old new at spectra (λ i. slice_index samples (from + i) % 2 ^ 32) → StandsAtPlace room y u spectra new r
-samples_stand rows x y u room chunk spectra r c at from samples kept old new given is at_is from_is puts i lt =
+samples_stand rows x y u room chunk spectra r c at from samples narrow st old new given is at_is from_is puts i lt =
     ap (λ p. slice_index new (p + i)) (sym at_is)
     ∙ puts.written i lt
     ∙ ap (λ p. slice_index samples (p + i) % 2 ^ 32) from_is
     ∙ ap (λ n. n % 2 ^ 32) (given.next c i (given.rows_are.channel r c is) lt ∙ sym (given.adds.samples r c (u + i) is))
-
--- the same by other names
-pub goes_here : (at size from at' size' from' count : ℕ) (others old new : List ℕ) → at ≡ at' → size ≡ size' →
-    from ≡ from' → GoesOnBy at size from count others old new → GoesOnBy at' size' from' count others old new
-goes_here at size from at' size' from' count others old new at_is size_is from_is goes =
-    subst (λ a. GoesOnBy a size' from' count others old new) at_is
-    (subst (λ n. GoesOnBy at n from' count others old new) size_is
-    (subst (λ b. GoesOnBy at size b count others old new) from_is goes))
-
--- no row is kept yet, one more is, all are
-pub none_kept_on : (rows : Rows) (room spectra : ℕ) (wide xs : List ℕ) → AreKeptOn rows room spectra 0 wide xs xs
-none_kept_on rows room spectra wide xs = record {
-  left = λ q i lt _. absurd (omega arith);
-  new_ones = λ q i lt _ _. absurd (omega arith);
-  stays = λ q i _ _ _. refl;
-}
-
-pub one_kept_on : (channels : ℕ) (rows : Rows) → AreRows channels rows → (room spectra r : ℕ)
-    (wide first mid new : List ℕ) → r < row_count rows →
-    GoesOnBy (wide_hold rows r) (tail_of rows r) (own_place room r) spectra wide mid new →
-    AreKeptOn rows room spectra r wide first mid → AreKeptOn rows room spectra (r + 1) wide first new
-one_kept_on channels rows are room spectra r wide first mid new in_r goes so_far =
-    let other : (q i : ℕ) → q < row_count rows → q ≢ r → i < tail_of rows q →
-    slice_index new (wide_hold rows q + i) ≡ slice_index mid (wide_hold rows q + i) = λ q i in_q not_r lt.
-    goes.stays (wide_hold rows q + i) (elim (held_apart channels rows are q r in_q in_r not_r) [
-      | inl before ↦ inl (omega arith)
-      | inr after ↦ inr (omega arith)
-    ]) in
-    record {
-      left = λ q i lt small. elim (cases_lt q r) [
-        | inl before ↦
-            other q i (omega arith) (λ e. absurd (omega arith)) (omega arith) ∙ so_far.left q i before small
-        | inr last ↦
-            let e : r ≡ q = omega arith in
-            let here : i + spectra < tail_of rows r = subst (λ q. i + spectra < tail_of rows q) (sym e) small in
-            subst (λ q. slice_index new (wide_hold rows q + i)
-            ≡ slice_index first (wide_hold rows q + (spectra + i))) e
-            (goes.left i here ∙ so_far.stays r (spectra + i) in_r (omega arith) (omega arith))
-      ];
-      new_ones = λ q i lt within past. elim (cases_lt q r) [
-        | inl before ↦
-            other q i (omega arith) (λ e. absurd (omega arith)) within ∙ so_far.new_ones q i before within past
-        | inr last ↦
-            let e : r ≡ q = omega arith in
-            let here : i < tail_of rows r = subst (λ q. i < tail_of rows q) (sym e) within in
-            let after : tail_of rows r ≤ i + spectra = subst (λ q. tail_of rows q ≤ i + spectra) (sym e) past in
-            subst (λ q. slice_index new (wide_hold rows q + i)
-            ≡ slice_index wide (own_place room q + (i + spectra - tail_of rows q))) e
-            (goes.new_ones i here after)
-      ];
-      stays = λ q i in_q past small.
-          other q i in_q (λ e. absurd (omega arith)) small ∙ so_far.stays q i in_q (omega arith) small;
-    }
-
-pub all_kept_on : (rows : Rows) (room spectra r : ℕ) (wide old new : List ℕ) → r ≡ row_count rows →
-    AreKeptOn rows room spectra r wide old new → KeepsOn rows room spectra wide old new
-all_kept_on rows room spectra count wide old new all on x y u adds kept stands r lt i small =
-    elim (cases_lt (i + spectra) (tail_of rows r)) [
-      | inl left ↦
-          on.left r i (omega arith) left ∙ kept r lt (spectra + i) (omega arith)
-          ∙ sym (value_later y rows.tails.items u spectra r i)
-      | inr past ↦
-          let j : ℕ = i + spectra - tail_of rows r in
-          let e : tail_of rows r + j ≡ spectra + i = omega arith in
-          on.new_ones r i (omega arith) small past ∙ stands r lt j (omega arith)
-          ∙ sym (value_now rows x y u r j adds) ∙ ap (λ k. value_of y rows.tails.items u r k) e
-          ∙ sym (value_later y rows.tails.items u spectra r i)
-    ]

@@ -1,5 +1,5 @@
 -- Values of a list of which a part was written.
-use Rattle.std.proofs.Common.{◌≡◌, ℕ, ◌+◌, ◌-◌, ◌<◌, ◌≤◌, List, length, slice_index, get_or, take, drop, ◌++◌, ◌∙◌, ap, sym, subst, arith, inl, inr, length-drop}
+use Rattle.std.proofs.Common.{◌≡◌, ℕ, ◌+◌, ◌-◌, ◌<◌, ◌≤◌, List, length, slice_index, get_or, take, drop, ◌++◌, ◌∙◌, ap, sym, subst, arith, inl, inr}
 use Rattle.std.proofs.lemmas.Bool.{cases_lt}
 use Rattle.std.proofs.lemmas.List.{get_or_append_left, get_or-append_right, get_or-take, get_or-drop, length-take-le}
 use borrow.Rule.Slice.PartMut.{put_mid, post_of}
@@ -29,12 +29,6 @@ put_after a n xs ys k past le long =
     ∙ get_or-drop n (drop a xs) (k - a - n) 0
     ∙ get_or-drop a xs (n + (k - a - n)) 0
     ∙ ap (λ i. slice_index xs i) (let whole : a + (n + (k - a - n)) ≡ k = omega arith in whole)
-
--- how long a part is
-pub part_length : (a n : ℕ) (xs : List ℕ) → a + n ≤ length xs → length (take n (drop a xs)) ≡ n
-part_length a n xs fits =
-    let long : n ≤ length (drop a xs) = rw length-drop (omega arith) in
-    length-take-le n (drop a xs) long
 
 -- a value of a part
 pub part_at : (a n : ℕ) (xs : List ℕ) (i : ℕ) → i < n → slice_index (take n (drop a xs)) i ≡ slice_index xs (a + i)

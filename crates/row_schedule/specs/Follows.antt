@@ -11,7 +11,7 @@ use Rattle.row_schedule.specs.declared.step.Step.{Step}
 use Rattle.row_schedule.specs.Orders.{AreInOrder, MakeAll, order_at, holds}
 use Rattle.row_schedule.specs.Schedules.{Scheduled}
 use Rattle.row_schedule.specs.Steps.{AreApart, copies, makes_narrow, upper_narrow, lower_narrow, step_at}
-use Rattle.row_schedule.specs.Layout.{hold_of, kept_room, narrow_kept_room, slot_narrow, tail_of}
+use Rattle.row_schedule.specs.Layout.{AreHolds, hold_of, slot_narrow, tail_of}
 
 -- after the first j orders another slot than that of order j has row r, and place p is where the
 -- values of the next spectra begin in it
@@ -63,11 +63,6 @@ StandApart rows s = (i j : ℕ) → i < length s.orders → j < length s.orders 
     (slice_index s.places (order_at s.orders j).slot)
     (tail_of rows (order_at s.orders j).row + s.most)
 
--- what is kept of its rows has as many values as are needed
-pub record AreKeptSizes (rows : Rows) (s : Scheduled) : Type 0 where
-  pub narrow : s.kept_narrow_size ≡ narrow_kept_room rows s.narrow
-  pub wide : s.kept_wide_size ≡ kept_room rows
-
 -- a schedule makes these rows
 pub record Follows (rows : Rows) (s : Scheduled) : Type 0 where
   pub rows_are : AreRows s.channels rows
@@ -76,4 +71,4 @@ pub record Follows (rows : Rows) (s : Scheduled) : Type 0 where
   pub entries : length s.steps ≡ length s.orders
   pub steps_are : AreSteps rows s.narrow s.orders s.places s.chunk s.steps
   pub apart : StandApart rows s
-  pub kept_are : AreKeptSizes rows s
+  pub holds_are : AreHolds rows s.narrow s.held s.kept_narrow_size s.kept_wide_size

@@ -1,6 +1,6 @@
 -- Where slots stand, and where what is kept of rows does.
 -- Source: this project's choice.
-use Rattle.std.specs.Prelude.{◌≡◌, ◌≢◌, ℕ, ◌+◌, ◌^◌, ◌≤◌, ◌<◌, false, Bool, List, zero, suc, length, slice_index, slice_index_or, if◌then◌else◌}
+use Rattle.std.specs.Prelude.{◌≡◌, ◌≢◌, ℕ, ◌+◌, ◌^◌, ◌≤◌, ◌<◌, true, false, Bool, List, zero, suc, length, slice_index, slice_index_or, if◌then◌else◌}
 use Rattle.row_model.specs.declared.Rows.{Rows}
 use Rattle.row_model.specs.Sums.{is_narrow}
 use Rattle.row_model.specs.Tails.{row_count}
@@ -18,36 +18,42 @@ slot_narrow slots slot = slice_index_or slots slot false
 abbrev pub tail_of : Rows → ℕ → ℕ
 tail_of rows r = slice_index rows.tails.items r
 
--- where they begin in 32 bits, behind those that are not used in front of all: all rows have room
-abbrev pub wide_hold : Rows → ℕ → ℕ
-wide_hold rows r = LEAD + slice_index rows.held.items r
+-- how many of them are kept in a width: all in that of the row, and none in the other
+abbrev pub kept_in : Rows → List Bool → Bool → ℕ → ℕ
+kept_in rows narrow width r =
+    if width then (if is_narrow narrow r then tail_of rows r else 0)
+    else (if is_narrow narrow r then 0 else tail_of rows r)
 
--- how many values are kept in 16 bits of the rows before row r
-unfoldable pub narrow_before : Rows → List Bool → ℕ → ℕ
-narrow_before rows narrow zero = 0
-narrow_before rows narrow (suc r) =
-    narrow_before rows narrow r + (if is_narrow narrow r then tail_of rows r else 0)
+-- how many values are kept in a width of the rows before row r
+unfoldable pub kept_before : Rows → List Bool → Bool → ℕ → ℕ
+kept_before rows narrow width zero = 0
+kept_before rows narrow width (suc r) =
+    kept_before rows narrow width r + kept_in rows narrow width r
 
--- where they begin in 16 bits: the rows of these alone have room
-abbrev pub narrow_hold : Rows → List Bool → ℕ → ℕ
-narrow_hold rows narrow r = NARROW_LEAD + narrow_before rows narrow r
+-- how many values stand in front of these, and are not used
+abbrev pub lead_of : Bool → ℕ
+lead_of width = if width then NARROW_LEAD else LEAD
 
--- where they begin in the list of a width
+-- where those of row r begin in the list of a width: the rows of this width alone have room
 abbrev pub hold_of : Rows → List Bool → Bool → ℕ → ℕ
-hold_of rows narrow width r = if width then narrow_hold rows narrow r else wide_hold rows r
+hold_of rows narrow width r = lead_of width + kept_before rows narrow width r
 
--- how much room there is for what is kept of all rows in 32 bits
-abbrev pub kept_room : Rows → ℕ
-kept_room rows = wide_hold rows (row_count rows)
+-- how much room there is for what is kept of all rows of a width
+abbrev pub kept_room : Rows → List Bool → Bool → ℕ
+kept_room rows narrow width = hold_of rows narrow width (row_count rows)
 
--- and in 16 bits
-abbrev pub narrow_kept_room : Rows → List Bool → ℕ
-narrow_kept_room rows narrow = narrow_hold rows narrow (row_count rows)
+-- a list says of each row where they begin in the list of its width
+pub record HasHolds (rows : Rows) (narrow : List Bool) (held : List ℕ) : Type 0 where
+  pub entries : length held ≡ row_count rows
+  pub each : (r : ℕ) → r < row_count rows →
+      slice_index held r ≡ hold_of rows narrow (is_narrow narrow r) r
 
--- a list says where they begin in 16 bits of each row, and then where those of the last end
-pub record AreNarrowHolds (rows : Rows) (narrow : List Bool) (held : List ℕ) : Type 0 where
-  pub entries : length held ≡ row_count rows + 1
-  pub each : (r : ℕ) → r ≤ row_count rows → slice_index held r ≡ narrow_hold rows narrow r
+-- and so long are the lists of both widths
+pub record AreHolds (rows : Rows) (narrow : List Bool) (held : List ℕ)
+    (narrow_size wide_size : ℕ) : Type 0 where
+  pub places : HasHolds rows narrow held
+  pub narrow_end : narrow_size ≡ kept_room rows narrow true
+  pub wide_end : wide_size ≡ kept_room rows narrow false
 
 -- orders speak of rows that there are, and of the first slots
 abbrev pub AreWithin : Rows → List Order → ℕ → Type 0

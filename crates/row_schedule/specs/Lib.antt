@@ -5,6 +5,7 @@ pub mod Schedules
 pub mod Steps
 pub mod Layout
 pub mod Follows
+pub mod Halves
 pub mod Running
 pub mod Sizes
 pub mod Making

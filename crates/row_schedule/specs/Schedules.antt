@@ -20,9 +20,9 @@ abbrev pub IsInOrder : Rows → Building → Type 0
 IsInOrder rows b = AreInOrder rows b.narrow b.slots b.orders
 
 -- Rows are made of up to `most` spectra at a time, over so many channels, of which the samples are
--- `chunk` places apart. `places` says where each slot begins in the list of its width. The lists have
--- so many values or more, also those of what is kept of the rows. `steps` says for each order which
--- values are read and written.
+-- `chunk` places apart. `places` says where each slot begins in the list of its width, and `held` so of
+-- what is kept of each row. The lists have so many values or more, also those of what is kept of the
+-- rows. `steps` says for each order which values are read and written.
 pub record Scheduled : Type 0 where
   pub channels : ℕ
   pub chunk : ℕ
@@ -31,15 +31,16 @@ pub record Scheduled : Type 0 where
   pub slots : List Bool
   pub orders : List Order
   pub places : List ℕ
+  pub held : List ℕ
   pub steps : List Step
   pub narrow_size : ℕ
   pub wide_size : ℕ
   pub kept_narrow_size : ℕ
   pub kept_wide_size : ℕ
 
-abbrev pub scheduled : ℕ → ℕ → ℕ → List Bool → List Bool → List Order → List ℕ → List Step →
-    ℕ → ℕ → ℕ → ℕ → Scheduled
-scheduled channels chunk most narrow slots orders places steps narrow_size wide_size
+abbrev pub scheduled : ℕ → ℕ → ℕ → List Bool → List Bool → List Order → List ℕ → List ℕ →
+    List Step → ℕ → ℕ → ℕ → ℕ → Scheduled
+scheduled channels chunk most narrow slots orders places held steps narrow_size wide_size
     kept_narrow_size kept_wide_size = record {
       channels = channels;
       chunk = chunk;
@@ -48,6 +49,7 @@ scheduled channels chunk most narrow slots orders places steps narrow_size wide_
       slots = slots;
       orders = orders;
       places = places;
+      held = held;
       steps = steps;
       narrow_size = narrow_size;
       wide_size = wide_size;

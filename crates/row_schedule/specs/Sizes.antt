@@ -3,7 +3,6 @@
 use Rattle.std.specs.Prelude.{◌≡◌, ℕ, ◌≤◌, length, replicate}
 use Rattle.row_model.specs.declared.Rows.{Rows}
 use Rattle.row_schedule.specs.declared.stores.Sizes.{Sizes}
-use Rattle.row_schedule.specs.Layout.{kept_room}
 use Rattle.row_schedule.specs.Running.{Stores}
 use Rattle.row_schedule.specs.Schedules.{Scheduled}
 use Rattle.row_schedule.specs.Filling.{table_size}
@@ -16,23 +15,22 @@ pub record AreEnough (s : Scheduled) (sizes : Sizes) : Type 0 where
   pub kept_wide : s.kept_wide_size ≤ sizes.kept_wide
 
 -- or as rows need that are made each at a place of its own
-pub record AreEnoughForTables (rows : Rows) (room : ℕ) (sizes : Sizes) : Type 0 where
-  pub wide : table_size rows room ≤ sizes.wide
-  pub kept : kept_room rows ≤ sizes.kept_wide
+abbrev pub AreEnoughForTables : Rows → ℕ → Sizes → Type 0
+AreEnoughForTables rows room sizes = table_size rows room ≤ sizes.wide
 
--- lists have memory for as many slots, and for as many values that are kept in 16 bits
-pub record AreReserved (sizes : Sizes) (narrow wide kept_narrow : ℕ) : Type 0 where
+-- lists have memory for as many values
+pub record AreReserved (sizes : Sizes) (narrow wide kept_narrow kept_wide : ℕ) : Type 0 where
   pub narrow_room : sizes.narrow ≤ narrow
   pub wide_room : sizes.wide ≤ wide
-  pub kept_room : sizes.kept_narrow ≤ kept_narrow
+  pub kept_narrow_room : sizes.kept_narrow ≤ kept_narrow
+  pub kept_wide_room : sizes.kept_wide ≤ kept_wide
 
--- the lists of slots, and of what is kept in 16 bits, are others of such lengths or longer, and what is
--- kept in 32 bits stays
-pub record HaveGoneOver (sizes : Sizes) (old new : Stores) : Type 0 where
-  pub narrow : sizes.narrow ≤ length new.narrow
-  pub wide : sizes.wide ≤ length new.wide
-  pub kept_narrow : sizes.kept_narrow ≤ length new.kept_narrow
-  pub kept_wide : new.kept_wide ≡ old.kept_wide
+-- lists are of such lengths, or longer
+pub record HaveSizes (sizes : Sizes) (st : Stores) : Type 0 where
+  pub narrow : sizes.narrow ≤ length st.narrow
+  pub wide : sizes.wide ≤ length st.wide
+  pub kept_narrow : sizes.kept_narrow ≤ length st.kept_narrow
+  pub kept_wide : sizes.kept_wide ≤ length st.kept_wide
 
 -- lists of as many zeros
 pub record AreZeros (sizes : Sizes) (st : Stores) : Type 0 where

@@ -1,18 +1,21 @@
 // Rows that are made each at a place of its own, and all stand there.
-ghost use Rattle.std.specs.Prelude.{◌≡◌, ◌≢◌, ℕ, ◌+◌, ◌*◌, ◌^◌, ◌<◌, ◌≤◌, List, length, slice_index};
+ghost use Rattle.std.specs.Prelude.{◌≡◌, ◌≢◌, ℕ, ◌+◌, ◌*◌, ◌^◌, ◌<◌, ◌≤◌, true, false, length, slice_index};
 ghost use Rattle.fdmt_rows.specs.Rows.{wrapping_sum};
-ghost use Rattle.row_model.specs.Sums.{Sums};
-ghost use Rattle.row_model.specs.Tails.{AreRows, IsWithin, row_count};
+ghost use Rattle.row_model.specs.Sums.{Sums, AddUp, Fit};
+ghost use Rattle.row_model.specs.Tails.{IsWithin, row_count};
 ghost use Rattle.row_schedule.specs.Samples.{values_of};
 ghost use Rattle.row_schedule.specs.Steps.{AreApart};
-ghost use Rattle.row_schedule.specs.Layout.{kept_room};
+ghost use Rattle.row_schedule.specs.Follows.{Follows};
 ghost use Rattle.row_schedule.specs.Making.{Puts};
-ghost use Rattle.row_schedule.specs.Filling.{AddsLate, AddsSources, AreGiven, AreKeptOn, GoesOnBy, HasSources, HaveSamples, IsOfOthers, KeepsOn, StandsAtPlace, own_place, table_size};
+ghost use Rattle.row_schedule.specs.Moving.{HaveKeptRoom, kept_lists, lent};
+ghost use Rattle.row_schedule.specs.Filling.{AddsLate, AddsSources, AreGiven, AreKeptOn, AreShort, GoesOnBy, HasSources, HaveSamples, IsOfOthers, KeepsOn, StandsAtPlace, own_place, table_size};
 
+use crate::kept::{KeptValues, narrow_part};
 use crate::lead::LEAD;
-use crate::making::{add_parts, beside, copy_part, copy_samples};
-use crate::reading::{source, tail, wide_hold};
+use crate::making::{add_mixed_parts, add_parts, beside, copy_part, copy_samples};
+use crate::reading::source;
 use crate::samples::Samples;
+use crate::schedule::Schedule;
 use fdmt_rows::add_rows;
 use row_model::{Merge, Rows, Source};
 
@@ -47,6 +50,28 @@ fn add_other_parts(
     add_rows(own, below, &other[place..place + count]);
 }
 
+// Adds a part of what is kept and a part of this list into another part of it.
+fn add_kept_parts(
+    list: &mut [u32],
+    at: usize,
+    lower: usize,
+    kept: KeptValues<'_>,
+    place: usize,
+    count: usize,
+)
+    requires own { at + count ≤ length list.old }
+    requires lower { lower + count ≤ length list.old }
+    requires kept { place + count ≤ length (lent kept) }
+    requires apart { AreApart lower count at count }
+    ensures { Puts list.old list.new at count (λ i. wrapping_sum (slice_index list.old (lower + i))
+        (slice_index (lent kept.entry) (place + i))) }
+{
+    match kept {
+        KeptValues::Narrow(values) => add_mixed_parts(list, at, lower, values, place, count),
+        KeptValues::Wide(values) => add_other_parts(list, at, lower, values, place, count),
+    }
+}
+
 // Adds so many values of two rows, of which the upper one ends `late` spectra earlier: its first values are kept, and
 // begin at `held`.
 fn add_late(
@@ -54,7 +79,7 @@ fn add_late(
     at: usize,
     upper: usize,
     lower: usize,
-    kept: &[u32],
+    kept: KeptValues<'_>,
     held: usize,
     late: usize,
     count: usize,
@@ -62,27 +87,30 @@ fn add_late(
     requires own { at + count ≤ length list.old }
     requires upper { upper + count ≤ length list.old }
     requires lower { lower + count ≤ length list.old }
-    requires kept { held + late ≤ length kept.now }
+    requires kept { held + late ≤ length (lent kept) }
     requires upper_apart { AreApart upper count at count }
     requires lower_apart { AreApart lower count at count }
-    ensures { AddsLate late held upper lower at count kept.now list.old list.new }
+    ensures { AddsLate late (λ i. slice_index (lent kept.entry) (held + i)) upper lower at count
+        list.old list.new }
 {
     let early = late.min(count);
-    add_other_parts(list, at, lower, kept, held, early);
+    add_kept_parts(list, at, lower, kept, held, early);
     add_parts(list, at + early, upper, lower + early, count - early);
 }
 
 // Makes a row of two others at its place.
 fn fill_sum(
     rows: &Rows,
+    schedule: &Schedule,
     merge: Merge,
     row: usize,
     room: usize,
     spectra: usize,
-    kept: &[u32],
+    kept_narrow: &[u16],
+    kept_wide: &[u32],
     wide: &mut [u32],
 )
-    requires rows { (c : ℕ) × AreRows c rows.now }
+    requires follows { Follows rows.now schedule.now }
     requires row { row < row_count rows.now }
     requires merge { IsWithin rows.now merge }
     requires upper { merge.upper ≢ row }
@@ -90,18 +118,21 @@ fn fill_sum(
     requires short { spectra ≤ room }
     requires few { room ≤ 65536 }
     requires wide { table_size rows.now room ≤ length wide.old }
-    requires kept { kept_room rows.now ≤ length kept.now }
-    ensures { AddsSources rows.now merge row room spectra kept.now wide.old wide.new }
+    requires kept { HaveKeptRoom rows.now schedule.now.narrow
+        (kept_lists kept_narrow.now kept_wide.now) }
+    ensures { AddsSources rows.now schedule.now.narrow merge row room spectra
+        (kept_lists kept_narrow.now kept_wide.now) wide.old wide.new }
 {
     let upper = merge.upper as usize;
     let late = merge.late as usize;
-    let held = wide_hold(rows, upper) + (tail(rows, upper) as usize - late);
+    let hold = schedule.hold(rows, upper);
+    let held = hold.at + (hold.size - late);
     add_late(
         wide,
         own_place(room, row),
         own_place(room, upper),
         own_place(room, merge.lower as usize),
-        kept,
+        KeptValues::of(hold.narrow, kept_narrow, kept_wide),
         held,
         late,
         spectra,
@@ -109,27 +140,30 @@ fn fill_sum(
 }
 
 /// Makes row `row` of the next spectra, so many, at its place: the samples of channel `c` begin at `c` times the chunk,
-/// the rows that it is made of stand at their places, and `kept` has what is kept of all rows, in 32 bits.
+/// the rows that it is made of stand at their places, and what is kept of all rows is there as the schedule keeps it.
 pub fn fill_row(
     rows: &Rows,
+    schedule: &Schedule,
     row: usize,
     room: usize,
     samples: Samples<'_>,
     chunk: usize,
     spectra: usize,
-    kept: &[u32],
+    kept_narrow: &[u16],
+    kept_wide: &[u32],
     wide: &mut [u32],
 )
+    requires follows { Follows rows.now schedule.now }
     requires samples { HaveSamples rows.now chunk spectra (values_of samples) }
     requires row { row < row_count rows.now }
     requires others { IsOfOthers rows.now row }
-    requires short { spectra ≤ room }
-    requires within { room ≤ chunk }
-    requires few { chunk ≤ 65536 }
+    requires short { AreShort spectra room chunk }
     requires wide { table_size rows.now room ≤ length wide.old }
-    requires kept { kept_room rows.now ≤ length kept.now }
+    requires kept { HaveKeptRoom rows.now schedule.now.narrow
+        (kept_lists kept_narrow.now kept_wide.now) }
     ensures stands { (x : ℕ → ℕ → ℕ) (y : Sums) (u : ℕ)
-        → AreGiven rows.now x y u chunk spectra (values_of samples.entry) kept.now
+        → AreGiven rows.now schedule.now.narrow x y u chunk spectra (values_of samples.entry)
+        (kept_lists kept_narrow.now kept_wide.now)
         → HasSources rows.now room y u spectra wide.old row
         → StandsAtPlace room y u spectra wide.new row }
     ensures others { (y : Sums) (u q : ℕ) → q ≢ row → StandsAtPlace room y u spectra wide.old q
@@ -140,7 +174,17 @@ pub fn fill_row(
             let from = channel as usize * chunk;
             copy_samples(wide, own_place(room, row), samples, from, spectra);
         }
-        Source::Sum(merge) => fill_sum(rows, merge, row, room, spectra, kept, wide),
+        Source::Sum(merge) => fill_sum(
+            rows,
+            schedule,
+            merge,
+            row,
+            room,
+            spectra,
+            kept_narrow,
+            kept_wide,
+            wide,
+        ),
     }
 }
 
@@ -148,7 +192,7 @@ pub fn fill_row(
 fn go_on(list: &mut [u32], at: usize, size: usize, others: &[u32], from: usize, count: usize)
     requires own { at + size ≤ length list.old }
     requires others { from + count ≤ length others.now }
-    ensures { GoesOnBy at size from count others.now list.old list.new }
+    ensures { GoesOnBy false at size from count others.now list.old list.new }
 {
     let new = size.min(count);
     let left = size - new;
@@ -156,38 +200,82 @@ fn go_on(list: &mut [u32], at: usize, size: usize, others: &[u32], from: usize, 
     copy_part(list, at + left, others, from + (count - new), new);
 }
 
+// The same in a list of 16 bits.
+fn go_on_narrow(list: &mut [u16], at: usize, size: usize, others: &[u32], from: usize, count: usize)
+    requires own { at + size ≤ length list.old }
+    requires others { from + count ≤ length others.now }
+    ensures { GoesOnBy true at size from count others.now list.old list.new }
+{
+    let new = size.min(count);
+    let left = size - new;
+    list.copy_within(at + new..at + size, at);
+    narrow_part(list, at + left, others, from + (count - new), new);
+}
+
 // Keeps row `row`, which stands at its place, for the spectra after these.
-fn keep_row(rows: &Rows, row: usize, room: usize, spectra: usize, wide: &[u32], kept: &mut [u32])
-    requires rows { (c : ℕ) × AreRows c rows.now }
+fn keep_row(
+    rows: &Rows,
+    schedule: &Schedule,
+    row: usize,
+    room: usize,
+    spectra: usize,
+    wide: &[u32],
+    kept_narrow: &mut [u16],
+    kept_wide: &mut [u32],
+)
+    requires follows { Follows rows.now schedule.now }
     requires row { row < row_count rows.now }
     requires short { spectra ≤ room }
     requires few { room ≤ 65536 }
     requires wide { table_size rows.now room ≤ length wide.now }
-    requires kept { kept_room rows.now ≤ length kept.old }
-    ensures { (first : List ℕ) → AreKeptOn rows.now room spectra row wide.now first kept.old
-        → AreKeptOn rows.now room spectra (row + 1) wide.now first kept.new }
+    requires kept { HaveKeptRoom rows.now schedule.now.narrow
+        (kept_lists kept_narrow.old kept_wide.old) }
+    ensures { (x : ℕ → ℕ → ℕ) (y : Sums) (u : ℕ) → AddUp rows.now.sources.items x y
+        → Fit schedule.now.narrow y (u + spectra)
+        → StandsAtPlace room y u spectra wide.now row
+        → AreKeptOn rows.now schedule.now.narrow y u spectra row
+        (kept_lists kept_narrow.old kept_wide.old)
+        → AreKeptOn rows.now schedule.now.narrow y u spectra (row + 1)
+        (kept_lists kept_narrow.new kept_wide.new) }
 {
-    let size = tail(rows, row) as usize;
-    go_on(
-        kept,
-        wide_hold(rows, row),
-        size,
-        wide,
-        own_place(room, row),
-        spectra,
-    );
+    let hold = schedule.hold(rows, row);
+    let from = own_place(room, row);
+    if hold.narrow {
+        go_on_narrow(kept_narrow, hold.at, hold.size, wide, from, spectra);
+        return;
+    }
+    go_on(kept_wide, hold.at, hold.size, wide, from, spectra);
 }
 
-/// Keeps all rows, which stand at their places, for the spectra after these, in 32 bits.
-pub fn keep_rows(rows: &Rows, room: usize, spectra: usize, wide: &[u32], kept: &mut [u32])
-    requires rows { (c : ℕ) × AreRows c rows.now }
+/// Keeps all rows, which stand at their places, for the spectra after these, as the schedule keeps them.
+pub fn keep_rows(
+    rows: &Rows,
+    schedule: &Schedule,
+    room: usize,
+    spectra: usize,
+    wide: &[u32],
+    kept_narrow: &mut [u16],
+    kept_wide: &mut [u32],
+)
+    requires follows { Follows rows.now schedule.now }
     requires short { spectra ≤ room }
     requires few { room ≤ 65536 }
     requires wide { table_size rows.now room ≤ length wide.now }
-    requires kept { kept_room rows.now ≤ length kept.old }
-    ensures { KeepsOn rows.now room spectra wide.now kept.old kept.new }
+    requires kept { HaveKeptRoom rows.now schedule.now.narrow
+        (kept_lists kept_narrow.old kept_wide.old) }
+    ensures { KeepsOn rows.now schedule.now.narrow room spectra wide.now
+        (kept_lists kept_narrow.old kept_wide.old) (kept_lists kept_narrow.new kept_wide.new) }
 {
     for row in 0..rows.sources.len() {
-        keep_row(rows, row, room, spectra, wide, kept);
+        keep_row(
+            rows,
+            schedule,
+            row,
+            room,
+            spectra,
+            wide,
+            kept_narrow,
+            kept_wide,
+        );
     }
 }

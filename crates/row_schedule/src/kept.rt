@@ -1,15 +1,15 @@
 // What is kept from one chunk to the next, in either width, and laws on it.
-ghost use Rattle.std.specs.Prelude.{◌≡◌, ℕ, ◌+◌, ◌^◌, ◌<◌, ◌≤◌, ◌%◌, false, Bool, List, length, slice_index};
-ghost use Rattle.row_model.specs.Sums.{Sums, Fit, is_narrow};
-ghost use Rattle.row_model.specs.Tails.{AreRows, row_count};
-ghost use Rattle.row_schedule.specs.Layout.{kept_room, narrow_hold, narrow_kept_room};
-ghost use Rattle.row_schedule.specs.Running.{Kept, stores};
+ghost use Rattle.std.specs.Prelude.{◌≡◌, ℕ, ◌+◌, ◌%◌, ◌^◌, ◌<◌, ◌≤◌, true, false, length, slice_index};
+ghost use Rattle.row_model.specs.Sums.{Sums, Fit};
+ghost use Rattle.row_model.specs.Tails.{row_count};
+ghost use Rattle.row_schedule.specs.Follows.{Follows};
+ghost use Rattle.row_schedule.specs.Running.{KeepsRow, kept_of};
 ghost use Rattle.row_schedule.specs.Making.{Puts};
-ghost use Rattle.row_schedule.specs.Moving.{AreWidened, AreNarrowed};
+ghost use Rattle.row_schedule.specs.Moving.{GoesOver, HaveKeptRoom, KeepFirst, PutsKept, kept_lists, lent};
 ghost use Rattle.row_schedule.specs.Laws.{RunningBegins, RunningEnds, LastRowsAreLeftOut, NothingKept};
 
-use crate::lead::NARROW_LEAD;
-use crate::reading::{next_hold, row_is_narrow, tail, wide_hold};
+use crate::making::{copy_narrow_part, copy_part};
+use crate::schedule::Schedule;
 use fdmt_rows::{narrow_row, widen_row};
 use row_model::Rows;
 
@@ -34,6 +34,59 @@ pub fn nothing_kept()
     ensures { NothingKept }
 {}
 
+/// Where what is kept of a row stands: so many values of the list of its width, from a place on.
+#[derive(Clone, Copy)]
+pub struct Hold {
+    pub narrow: bool,
+    pub at: usize,
+    pub size: usize,
+}
+
+/// What is kept of all rows of a width, lent.
+#[derive(Clone, Copy)]
+pub enum KeptValues<'a> {
+    /// In 16 bits.
+    Narrow(&'a [u16]),
+    /// In 32 bits.
+    Wide(&'a [u32]),
+}
+
+impl<'a> KeptValues<'a> {
+    /// What is kept in a width.
+    pub fn of(narrow: bool, kept_narrow: &'a [u16], kept_wide: &'a [u32]) -> KeptValues<'a>
+        ensures { lent result ≡ kept_of narrow (kept_lists kept_narrow.now kept_wide.now) }
+    {
+        if narrow {
+            return KeptValues::Narrow(kept_narrow);
+        }
+        KeptValues::Wide(kept_wide)
+    }
+
+    // Writes so many of these values in 16 bits.
+    fn narrow_to(self, out: &mut [u16], at: usize, place: usize, count: usize)
+        requires own { at + count ≤ length out.old }
+        requires from { place + count ≤ length (lent self) }
+        ensures { PutsKept true (lent self.entry) place out.old out.new at count }
+    {
+        match self {
+            KeptValues::Narrow(values) => copy_narrow_part(out, at, values, place, count),
+            KeptValues::Wide(values) => narrow_part(out, at, values, place, count),
+        }
+    }
+
+    // Writes so many of these values in 32 bits.
+    fn widen_to(self, out: &mut [u32], at: usize, place: usize, count: usize)
+        requires own { at + count ≤ length out.old }
+        requires from { place + count ≤ length (lent self) }
+        ensures { PutsKept false (lent self.entry) place out.old out.new at count }
+    {
+        match self {
+            KeptValues::Narrow(values) => widen_part(out, at, values, place, count),
+            KeptValues::Wide(values) => copy_part(out, at, values, place, count),
+        }
+    }
+}
+
 // Writes so many values of 16 bits as values of 32 bits.
 fn widen_part(out: &mut [u32], at: usize, from: &[u16], place: usize, count: usize)
     requires own { at + count ≤ length out.old }
@@ -43,8 +96,8 @@ fn widen_part(out: &mut [u32], at: usize, from: &[u16], place: usize, count: usi
     widen_row(&mut out[at..at + count], &from[place..place + count]);
 }
 
-// And of 32 bits in 16 bits.
-fn narrow_part(out: &mut [u16], at: usize, from: &[u32], place: usize, count: usize)
+/// Writes so many values of 32 bits as values of 16 bits.
+pub fn narrow_part(out: &mut [u16], at: usize, from: &[u32], place: usize, count: usize)
     requires own { at + count ≤ length out.old }
     requires from { place + count ≤ length from.now }
     ensures { Puts out.old out.new at count (λ i. slice_index from.now (place + i) % 2 ^ 16) }
@@ -52,86 +105,70 @@ fn narrow_part(out: &mut [u16], at: usize, from: &[u32], place: usize, count: us
     narrow_row(&mut out[at..at + count], &from[place..place + count]);
 }
 
-// Writes what is kept of row `r` in 32 bits, if the row has 16.
-fn widen_kept_row(
+// Writes what was kept of row `r` where another schedule keeps it.
+fn take_row(
     rows: &Rows,
-    narrow: &[bool],
+    before: &Schedule,
+    next: &Schedule,
     r: usize,
-    place: usize,
-    kept_narrow: &[u16],
+    old_narrow: &[u16],
+    old_wide: &[u32],
+    kept_narrow: &mut [u16],
     kept_wide: &mut [u32],
 )
-    requires rows { (c : ℕ) × AreRows c rows.now }
+    requires before { Follows rows.now before.now }
+    requires next { Follows rows.now next.now }
     requires row { r < row_count rows.now }
-    requires place { place ≡ narrow_hold rows.now narrow.now r }
-    requires narrow_room { narrow_kept_room rows.now narrow.now ≤ length kept_narrow.now }
-    requires wide_room { kept_room rows.now ≤ length kept_wide.old }
-    ensures { (first : List ℕ)
-        → AreWidened rows.now narrow.now r kept_narrow.now first kept_wide.old
-        → AreWidened rows.now narrow.now (r + 1) kept_narrow.now first kept_wide.new }
+    requires old_room { HaveKeptRoom rows.now before.now.narrow
+        (kept_lists old_narrow.now old_wide.now) }
+    requires room { HaveKeptRoom rows.now next.now.narrow
+        (kept_lists kept_narrow.old kept_wide.old) }
+    ensures { (y : Sums) (u : ℕ) → Fit next.now.narrow y u
+        → KeepsRow rows.now before.now.narrow y u (kept_lists old_narrow.now old_wide.now) r
+        → KeepFirst rows.now next.now.narrow y u (kept_lists kept_narrow.old kept_wide.old) r
+        → KeepFirst rows.now next.now.narrow y u (kept_lists kept_narrow.new kept_wide.new)
+        (r + 1) }
 {
-    if !row_is_narrow(narrow, r) {
+    let from = before.hold(rows, r);
+    let to = next.hold(rows, r);
+    let values = KeptValues::of(from.narrow, old_narrow, old_wide);
+    if to.narrow {
+        values.narrow_to(kept_narrow, to.at, from.at, to.size);
         return;
     }
-    let at = wide_hold(rows, r);
-    widen_part(kept_wide, at, kept_narrow, place, tail(rows, r) as usize);
+    values.widen_to(kept_wide, to.at, from.at, to.size);
 }
 
-/// Writes what is kept of the rows that have 16 bits as values of 32 bits.
-pub fn widen_rows(rows: &Rows, narrow: &[bool], kept_narrow: &[u16], kept_wide: &mut [u32])
-    requires rows { (c : ℕ) × AreRows c rows.now }
-    requires narrow_room { narrow_kept_room rows.now narrow.now ≤ length kept_narrow.now }
-    requires wide_room { kept_room rows.now ≤ length kept_wide.old }
-    ensures { (none : List Bool) (y : Sums) (u : ℕ) (a b : List ℕ)
-        → ((r : ℕ) → is_narrow none r ≡ false)
-        → Kept rows.now narrow.now y u (stores a b kept_narrow.now kept_wide.old)
-        → Kept rows.now none y u (stores a b kept_narrow.now kept_wide.new) }
-{
-    let mut place = NARROW_LEAD;
-    for r in 0..rows.sources.len() {
-        widen_kept_row(rows, narrow, r, place, kept_narrow, kept_wide);
-        place = next_hold(rows, narrow, r, place);
-    }
-}
-
-// Writes what is kept of row `r` in 16 bits, if the row has these.
-fn narrow_kept_row(
+/// Writes what was kept of all rows where another schedule keeps it. It stays the same where the values of rows of 16
+/// bits fit.
+pub fn take_rows(
     rows: &Rows,
-    narrow: &[bool],
-    r: usize,
-    place: usize,
-    kept_wide: &[u32],
+    before: &Schedule,
+    next: &Schedule,
+    old_narrow: &[u16],
+    old_wide: &[u32],
     kept_narrow: &mut [u16],
+    kept_wide: &mut [u32],
 )
-    requires rows { (c : ℕ) × AreRows c rows.now }
-    requires row { r < row_count rows.now }
-    requires place { place ≡ narrow_hold rows.now narrow.now r }
-    requires narrow_room { narrow_kept_room rows.now narrow.now ≤ length kept_narrow.old }
-    requires wide_room { kept_room rows.now ≤ length kept_wide.now }
-    ensures { AreNarrowed rows.now narrow.now r kept_wide.now kept_narrow.old
-        → AreNarrowed rows.now narrow.now (r + 1) kept_wide.now kept_narrow.new }
+    requires before { Follows rows.now before.now }
+    requires next { Follows rows.now next.now }
+    requires old_room { HaveKeptRoom rows.now before.now.narrow
+        (kept_lists old_narrow.now old_wide.now) }
+    requires room { HaveKeptRoom rows.now next.now.narrow
+        (kept_lists kept_narrow.old kept_wide.old) }
+    ensures { GoesOver rows.now before.now.narrow next.now.narrow
+        (kept_lists old_narrow.now old_wide.now) (kept_lists kept_narrow.new kept_wide.new) }
 {
-    if !row_is_narrow(narrow, r) {
-        return;
-    }
-    let from = wide_hold(rows, r);
-    narrow_part(kept_narrow, place, kept_wide, from, tail(rows, r) as usize);
-}
-
-/// Writes what is kept of the rows that have 16 bits, from the values of 32 bits. What is kept stays the same where the
-/// values of these rows fit into 16 bits.
-pub fn narrow_rows(rows: &Rows, narrow: &[bool], kept_wide: &[u32], kept_narrow: &mut [u16])
-    requires rows { (c : ℕ) × AreRows c rows.now }
-    requires narrow_room { narrow_kept_room rows.now narrow.now ≤ length kept_narrow.old }
-    requires wide_room { kept_room rows.now ≤ length kept_wide.now }
-    ensures { (none : List Bool) (y : Sums) (u : ℕ) (a b : List ℕ)
-        → ((r : ℕ) → is_narrow none r ≡ false) → Fit narrow.now y u
-        → Kept rows.now none y u (stores a b kept_narrow.old kept_wide.now)
-        → Kept rows.now narrow.now y u (stores a b kept_narrow.new kept_wide.now) }
-{
-    let mut place = NARROW_LEAD;
     for r in 0..rows.sources.len() {
-        narrow_kept_row(rows, narrow, r, place, kept_wide, kept_narrow);
-        place = next_hold(rows, narrow, r, place);
+        take_row(
+            rows,
+            before,
+            next,
+            r,
+            old_narrow,
+            old_wide,
+            kept_narrow,
+            kept_wide,
+        );
     }
 }

@@ -1,11 +1,11 @@
 // Where slots stand in the lists of their widths.
 ghost use Rattle.std.specs.Prelude.{◌≡◌, ℕ, ◌+◌, ◌*◌, ◌^◌, ◌<◌, ◌≤◌, ◌++◌, ◌∷◌, [], IfOk, OnOk, length, replicate, slice_index, if◌then◌else◌};
 ghost use Rattle.row_model.specs.Tails.{AreRows};
-ghost use Rattle.row_schedule.specs.Layout.{AreLaid, AreSizes, AreWithin};
+ghost use Rattle.row_schedule.specs.Layout.{AreHolds, AreLaid, AreSizes, AreWithin};
 
 use crate::builder::Order;
 use crate::lead::{LEAD, NARROW_LEAD};
-use crate::reading::tail;
+use crate::reading::{row_is_narrow, tail};
 use psr_base::Memory;
 use row_model::Rows;
 use std::alloc::Global;
@@ -13,7 +13,7 @@ use std::alloc::Global;
 // The places of rows are multiples of so many values.
 const STRIDE: usize = 16;
 
-/// Where slots begin, each in the list of its width, and how long these are.
+/// Where slots begin, or what is kept of rows, each in the list of its width, and how long these are.
 #[derive(Drop)]
 pub struct Layout {
     pub places: Vec<usize>,
@@ -22,7 +22,7 @@ pub struct Layout {
 }
 
 impl Layout {
-    // Places the next slot.
+    // Places the next one.
     fn place(&mut self, narrow: bool, size: usize) -> Result<(), Memory>
         requires narrow { self.old.narrow_size ≤ 2 ^ 62 }
         requires wide { self.old.wide_size ≤ 2 ^ 62 }
@@ -60,6 +60,23 @@ impl Layout {
         };
         for s in 0..slots.len() {
             layout.place(slots[s], sizes[s])?;
+        }
+        Ok(layout)
+    }
+
+    /// Places what is kept of all rows.
+    pub fn of_kept(alloc: Global, rows: &Rows, narrow: &[bool]) -> Result<Layout, Memory>
+        requires rows { (c : ℕ) × AreRows c rows.now }
+        ensures { IfOk result (λ l. AreHolds rows.now narrow.now l.places.items l.narrow_size
+            l.wide_size) }
+    {
+        let mut layout = Layout {
+            places: Vec::with_capacity(alloc, rows.sources.len())?,
+            narrow_size: NARROW_LEAD,
+            wide_size: LEAD,
+        };
+        for r in 0..rows.sources.len() {
+            layout.place(row_is_narrow(narrow, r), tail(rows, r) as usize)?;
         }
         Ok(layout)
     }

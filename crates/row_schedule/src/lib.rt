@@ -9,6 +9,7 @@
 
 mod builder;
 mod filling;
+mod halves;
 mod kept;
 mod layout;
 mod lead;
@@ -22,6 +23,7 @@ mod step;
 mod stores;
 
 pub use builder::{Builder, Order};
+pub use halves::Halves;
 pub use kept::{last_rows_are_left_out, nothing_kept, running_begins, running_ends};
 pub use samples::Samples;
 pub use schedule::Schedule;

@@ -1,5 +1,5 @@
 // How the row of a step is made: what is kept of it, then its values of the next spectra, of which the last are kept.
-ghost use Rattle.std.specs.Prelude.{◌≡◌, ℕ, ◌+◌, ◌-◌, ◌%◌, ◌^◌, ◌<◌, ◌≤◌, true, false, length, slice_index, take, drop};
+ghost use Rattle.std.specs.Prelude.{◌≡◌, ◌+◌, ◌-◌, ◌%◌, ◌^◌, ◌<◌, ◌≤◌, true, false, length, slice_index, take, drop};
 ghost use Rattle.fdmt_rows.specs.Rows.{narrow_sum, wrapping_sum};
 ghost use Rattle.row_schedule.specs.Samples.{values_of};
 ghost use Rattle.row_schedule.specs.Steps.{AreApart};
@@ -9,7 +9,6 @@ use crate::samples::Samples;
 use crate::step::Step;
 use fdmt_rows::{
     add_mixed_rows, add_narrow_rows, add_rows, add_widened_rows, copy_narrow_row, copy_row,
-    greatest_narrow_sum,
 };
 
 // So many values from a place of a list on, of which these parts stand before and after its values up to `past`.
@@ -48,7 +47,7 @@ pub(crate) fn copy_part(out: &mut [u32], at: usize, from: &[u32], place: usize, 
 }
 
 #[inline(always)]
-fn copy_narrow_part(out: &mut [u16], at: usize, from: &[u16], place: usize, count: usize)
+pub(crate) fn copy_narrow_part(out: &mut [u16], at: usize, from: &[u16], place: usize, count: usize)
     requires own { at + count ≤ length out.old }
     requires from { place + count ≤ length from.now }
     ensures { Puts out.old out.new at count (λ i. slice_index from.now (place + i)) }
@@ -124,7 +123,7 @@ fn add_narrow_parts(list: &mut [u16], at: usize, upper: usize, lower: usize, cou
 
 // Adds a part of a list and values of 16 bits into another part of it.
 #[inline(always)]
-fn add_mixed_parts(
+pub(crate) fn add_mixed_parts(
     list: &mut [u32],
     at: usize,
     wide: usize,
@@ -167,20 +166,6 @@ fn add_widened_parts(
         &narrow[upper..upper + count],
         &narrow[lower..lower + count],
     );
-}
-
-/// A bound of the sums of two parts of a list, or the greatest u32.
-pub fn bound_of_parts(list: &[u16], upper: usize, lower: usize, count: usize) -> u32
-    requires upper { upper + count ≤ length list.now }
-    requires lower { lower + count ≤ length list.now }
-    ensures { (i : ℕ) → i < count → result < 2 ^ 32 - 1
-        → slice_index list.now (upper + i) + slice_index list.now (lower + i) ≤ result }
-{
-    let most = greatest_narrow_sum(&list[upper..upper + count], &list[lower..lower + count]);
-    if most == u16::MAX {
-        return u32::MAX;
-    }
-    u32::from(most)
 }
 
 // What is kept of a row comes first.

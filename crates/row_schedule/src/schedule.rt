@@ -1,19 +1,23 @@
 // A schedule, and how it is carried out.
-ghost use Rattle.std.specs.Prelude.{◌≡◌, ℕ, ◌+◌, ◌-◌, ◌*◌, ◌%◌, ◌^◌, ◌<◌, ◌≤◌, false, length, slice_index};
+ghost use Rattle.std.specs.Prelude.{◌≡◌, ℕ, ◌+◌, ◌-◌, ◌*◌, ◌%◌, ◌^◌, ◌<◌, ◌≤◌, false, length, slice_index, IfSome};
 ghost use Rattle.row_model.specs.Sums.{Sums, AddUp, Fit, is_narrow};
+ghost use Rattle.row_model.specs.Tails.{row_count};
 ghost use Rattle.row_schedule.specs.Samples.{values_of, AreNext};
 ghost use Rattle.row_schedule.specs.Orders.{order_at};
 ghost use Rattle.row_schedule.specs.Steps.{IsSafe, step_at};
 ghost use Rattle.row_schedule.specs.Follows.{Follows};
 ghost use Rattle.row_schedule.specs.Running.{Stores, HaveRoom, AreAsLong, Running, Stands};
 ghost use Rattle.row_schedule.specs.Making.{StepMade};
+ghost use Rattle.row_schedule.specs.Halves.{HaveLength, half_sum};
+ghost use Rattle.row_schedule.specs.Moving.{IsHold};
 
 use crate::builder::Order;
+use crate::halves::Halves;
+use crate::kept::Hold;
 use crate::making::{
-    add_narrow, add_narrow_wide, add_wide, add_wide_narrow, add_widened, bound_of_parts,
-    copy_narrow, copy_wide,
+    add_narrow, add_narrow_wide, add_wide, add_wide_narrow, add_widened, copy_narrow, copy_wide,
 };
-use crate::reading::tail;
+use crate::reading::{row_is_narrow, tail};
 use crate::samples::Samples;
 use crate::step::{Kind, Step};
 use crate::stores::{Sizes, Stores};
@@ -30,6 +34,7 @@ pub struct Schedule {
     pub(crate) slots: Vec<bool>,
     pub(crate) orders: Vec<Order>,
     pub(crate) places: Vec<usize>,
+    pub(crate) held: Vec<usize>,
     pub(crate) steps: Vec<Step>,
     pub(crate) narrow_size: usize,
     pub(crate) wide_size: usize,
@@ -44,12 +49,12 @@ impl Model for Schedule {
     ghost Value = { Scheduled };
 
     ghost view = { λ s. scheduled s.channels s.chunk s.most s.narrow.items s.slots.items s.orders.items
-        s.places.items s.steps.items s.narrow_size s.wide_size s.kept_narrow_size
+        s.places.items s.held.items s.steps.items s.narrow_size s.wide_size s.kept_narrow_size
         s.kept_wide_size };
 
     ghost invariant = { λ s. IsSafe (scheduled s.channels s.chunk s.most s.narrow.items s.slots.items
-        s.orders.items s.places.items s.steps.items s.narrow_size s.wide_size s.kept_narrow_size
-        s.kept_wide_size) };
+        s.orders.items s.places.items s.held.items s.steps.items s.narrow_size s.wide_size
+        s.kept_narrow_size s.kept_wide_size) };
 }
 
 impl Schedule {
@@ -68,11 +73,17 @@ impl Schedule {
         }
     }
 
-    /// Which rows have 16 bits.
-    pub fn narrow(&self) -> &[bool]
-        ensures { result.now ≡ self.now.narrow }
+    // Where what is kept of row `row` stands.
+    pub(crate) fn hold(&self, rows: &Rows, row: usize) -> Hold
+        requires follows { Follows rows.now self.now }
+        requires row { row < row_count rows.now }
+        ensures { IsHold rows.now self.now.narrow row result }
     {
-        self.narrow.as_slice()
+        Hold {
+            narrow: row_is_narrow(&self.narrow, row),
+            at: self.held[row],
+            size: tail(rows, row) as usize,
+        }
     }
 
     /// How many rows are made.
@@ -170,21 +181,23 @@ impl Schedule {
         }
     }
 
-    /// A bound of the row of an order that is to be carried out next: none of its values that end at the next spectra
-    /// is greater. The greatest u32 bounds nothing.
-    pub fn bound(&self, order: usize, stores: &Stores, spectra: usize) -> u32
+    /// The two rows of 16 bits of which the row of an order, which is to be carried out next, is made in 32 bits: each
+    /// of its values that end at the next spectra is the sum of theirs. There are none where it is made of others.
+    pub fn halves<'a>(&self, order: usize, stores: &'a Stores, spectra: usize) -> Option<Halves<'a>>
         requires order { order < length self.now.orders }
         requires room { HaveRoom self.now stores.now }
         requires short { spectra ≤ self.now.most }
-        ensures { (rows : Rows) (x : ℕ → ℕ → ℕ) (y : Sums) (u k : ℕ) → Follows rows self.now
-            → AddUp rows.sources.items x y → Fit self.now.narrow y (u + spectra)
+        ensures long { IfSome result (HaveLength spectra) }
+        ensures sums { IfSome result (λ halves. (rows : Rows) (x : ℕ → ℕ → ℕ) (y : Sums) (u k : ℕ)
+            → Follows rows self.now → AddUp rows.sources.items x y
+            → Fit self.now.narrow y (u + spectra)
             → Running rows self.now y u spectra order stores.now → k < spectra
-            → result < 2 ^ 32 - 1 → y (order_at self.now.orders order).row (u + k) 0 ≤ result }
+            → half_sum halves k ≡ y (order_at self.now.orders order).row (u + k) 0) }
     {
         let step = self.steps[order];
         match step.kind {
-            Kind::AddWidened => bound_of_parts(stores.narrow(), step.upper, step.lower, spectra),
-            _ => u32::MAX,
+            Kind::AddWidened => Some(Halves::of(stores.narrow(), step.upper, step.lower, spectra)),
+            _ => None,
         }
     }
 

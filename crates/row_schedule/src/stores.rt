@@ -1,20 +1,20 @@
 // The lists that schedules work on.
-ghost use Rattle.std.specs.Prelude.{◌≡◌, ◌≢◌, ℕ, ◌+◌, ◌^◌, ◌<◌, ◌≤◌, false, List, Bool, length, replicate, slice_index, IfOk};
-ghost use Rattle.row_model.specs.Sums.{Sums, Fit, is_narrow};
+ghost use Rattle.std.specs.Prelude.{◌≡◌, ◌≢◌, ℕ, ◌+◌, ◌^◌, ◌<◌, ◌≤◌, length, replicate, slice_index, IfOk};
+ghost use Rattle.row_model.specs.Sums.{Sums};
 ghost use Rattle.row_model.specs.Tails.{AreRows, row_count};
 ghost use Rattle.row_schedule.specs.Samples.{values_of};
-ghost use Rattle.row_schedule.specs.Layout.{kept_room, narrow_kept_room};
-ghost use Rattle.row_schedule.specs.Running.{Kept};
-ghost use Rattle.row_schedule.specs.Moving.{SlotsStay};
-ghost use Rattle.row_schedule.specs.Filling.{AreGiven, HasSources, HaveSamples, HaveTableRoom, IsOfOthers, KeepsOn, StandsAtPlace, WroteKept, WroteWide, own_place};
+ghost use Rattle.row_schedule.specs.Follows.{Follows};
+ghost use Rattle.row_schedule.specs.Running.{HaveRoom};
+ghost use Rattle.row_schedule.specs.Moving.{GoesOver};
+ghost use Rattle.row_schedule.specs.Filling.{AreGiven, AreShort, HasSources, HaveSamples, HaveTableRoom, IsOfOthers, KeepsOn, StandsAtPlace, WroteKept, WroteWide, own_place};
 ghost use Rattle.row_schedule.specs.Schedules.{Scheduled};
-ghost use Rattle.row_schedule.specs.Sizes.{AreEnough, AreEnoughForTables, AreZeros, HaveGoneOver};
+ghost use Rattle.row_schedule.specs.Sizes.{AreEnough, AreEnoughForTables, AreZeros, HaveSizes};
 
 use crate::filling::{fill_row, keep_rows, own_place};
-use crate::kept::{narrow_rows, widen_rows};
-use crate::reading::kept_room;
+use crate::kept::take_rows;
 use crate::samples::Samples;
-use crate::spare::SpareStores;
+use crate::schedule::Schedule;
+use crate::spare::{SpareStores, fill_up};
 use psr_base::Memory;
 use row_model::Rows;
 use std::alloc::Global;
@@ -34,7 +34,8 @@ pub struct Sizes {
 }
 
 impl Sizes {
-    /// For rows that are made each at a place of its own, of `room` values.
+    /// For rows that are made each at a place of its own, of `room` values. What is kept of them has the sizes of a
+    /// schedule.
     pub fn of_tables(rows: &Rows, room: usize) -> Sizes
         requires rows { (c : ℕ) × AreRows c rows.now }
         requires few { room ≤ 65536 }
@@ -44,7 +45,7 @@ impl Sizes {
             narrow: 0,
             wide: own_place(room, rows.sources.len()),
             kept_narrow: 0,
-            kept_wide: kept_room(rows),
+            kept_wide: 0,
         }
     }
 
@@ -113,82 +114,69 @@ impl Stores {
         self.wide.as_slice()
     }
 
-    /// Writes what is kept of the rows that have 16 bits as values of 32 bits.
-    pub fn widen_kept(&mut self, rows: &Rows, narrow: &[bool])
-        requires rows { (c : ℕ) × AreRows c rows.now }
-        requires narrow_room { narrow_kept_room rows.now narrow.now ≤ length self.old.kept_narrow }
-        requires wide_room { kept_room rows.now ≤ length self.old.kept_wide }
-        ensures stays { SlotsStay self.old self.new }
-        ensures narrow_stays { self.new.kept_narrow ≡ self.old.kept_narrow }
-        ensures kept { (none : List Bool) (y : Sums) (u : ℕ)
-            → ((r : ℕ) → is_narrow none r ≡ false)
-            → Kept rows.now narrow.now y u self.old → Kept rows.now none y u self.new }
+    /// Goes over to the lists of another schedule: what is kept is written there as that keeps it, and stays the same
+    /// where the values of rows of 16 bits fit.
+    pub fn go_over(&mut self, rows: &Rows, before: &Schedule, next: &Schedule, spare: SpareStores)
+        requires before { Follows rows.now before.now }
+        requires next { Follows rows.now next.now }
+        requires room { HaveRoom before.now self.old }
+        requires next_room { AreEnough next.now spare }
+        ensures sizes { HaveSizes spare self.new }
+        ensures kept { GoesOver rows.now before.now.narrow next.now.narrow self.old self.new }
     {
-        widen_rows(
-            rows,
+        let SpareStores {
+            sizes,
             narrow,
-            self.kept_narrow.as_slice(),
-            self.kept_wide.as_mut_slice(),
-        );
-    }
-
-    /// Goes over to the lists of another schedule. What is kept in 32 bits stays.
-    pub fn go_over(&mut self, spare: SpareStores)
-        ensures over { HaveGoneOver spare self.old self.new }
-        ensures kept { (rows : Rows) (none : List Bool) (y : Sums) (u : ℕ)
-            → ((r : ℕ) → is_narrow none r ≡ false)
-            → Kept rows none y u self.old → Kept rows none y u self.new }
-    {
-        let (narrow, wide, kept_narrow) = spare.filled();
+            wide,
+            mut kept_narrow,
+            mut kept_wide,
+        } = spare;
+        // The old slots are dropped before a new list is touched, and new ones are touched last.
         self.narrow = narrow;
         self.wide = wide;
-        self.kept_narrow = kept_narrow;
-    }
-
-    /// Writes what is kept of the rows that have 16 bits, from the values of 32 bits. What is kept stays the same where
-    /// the values of these rows fit into 16 bits.
-    pub fn narrow_kept(&mut self, rows: &Rows, narrow: &[bool])
-        requires rows { (c : ℕ) × AreRows c rows.now }
-        requires narrow_room { narrow_kept_room rows.now narrow.now ≤ length self.old.kept_narrow }
-        requires wide_room { kept_room rows.now ≤ length self.old.kept_wide }
-        ensures stays { SlotsStay self.old self.new }
-        ensures wide_stays { self.new.kept_wide ≡ self.old.kept_wide }
-        ensures kept { (none : List Bool) (y : Sums) (u : ℕ)
-            → ((r : ℕ) → is_narrow none r ≡ false) → Fit narrow.now y u
-            → Kept rows.now none y u self.old → Kept rows.now narrow.now y u self.new }
-    {
-        narrow_rows(
+        fill_up(&mut kept_narrow, sizes.kept_narrow, 0);
+        fill_up(&mut kept_wide, sizes.kept_wide, 0);
+        take_rows(
             rows,
-            narrow,
+            before,
+            next,
+            self.kept_narrow.as_slice(),
             self.kept_wide.as_slice(),
-            self.kept_narrow.as_mut_slice(),
+            kept_narrow.as_mut_slice(),
+            kept_wide.as_mut_slice(),
         );
+        self.kept_narrow = kept_narrow;
+        self.kept_wide = kept_wide;
+        fill_up(&mut self.narrow, sizes.narrow, 0);
+        fill_up(&mut self.wide, sizes.wide, 0);
     }
 }
 
 impl Stores {
     /// Makes row `row` of the next spectra, so many, in 32 bits at its place, where each row has one of `room` values:
     /// the samples of channel `c` begin at `c` times the chunk, the rows that it is made of stand at their places, and
-    /// what is kept of all rows is there in 32 bits.
+    /// what is kept of all rows is there as the schedule keeps it.
     pub fn fill_row(
         &mut self,
         rows: &Rows,
+        schedule: &Schedule,
         row: usize,
         room: usize,
         samples: Samples<'_>,
         chunk: usize,
         spectra: usize,
     )
+        requires follows { Follows rows.now schedule.now }
         requires samples { HaveSamples rows.now chunk spectra (values_of samples) }
         requires row { row < row_count rows.now }
         requires others { IsOfOthers rows.now row }
-        requires short { spectra ≤ room }
-        requires within { room ≤ chunk }
-        requires few { chunk ≤ 65536 }
+        requires short { AreShort spectra room chunk }
         requires room { HaveTableRoom rows.now room self.old }
+        requires kept_room { HaveRoom schedule.now self.old }
         ensures wrote { WroteWide self.old self.new }
         ensures stands { (x : ℕ → ℕ → ℕ) (y : Sums) (u : ℕ)
-            → AreGiven rows.now x y u chunk spectra (values_of samples.entry) self.old.kept_wide
+            → AreGiven rows.now schedule.now.narrow x y u chunk spectra (values_of samples.entry)
+            self.old
             → HasSources rows.now room y u spectra self.old.wide row
             → StandsAtPlace room y u spectra self.new.wide row }
         ensures others { (y : Sums) (u q : ℕ) → q ≢ row
@@ -197,31 +185,37 @@ impl Stores {
     {
         fill_row(
             rows,
+            schedule,
             row,
             room,
             samples,
             chunk,
             spectra,
+            self.kept_narrow.as_slice(),
             self.kept_wide.as_slice(),
             self.wide.as_mut_slice(),
         );
     }
 
-    /// Keeps all rows, which stand at their places of `room` values, for the spectra after these, in 32 bits.
-    pub fn keep_rows(&mut self, rows: &Rows, room: usize, spectra: usize)
-        requires rows { (c : ℕ) × AreRows c rows.now }
+    /// Keeps all rows, which stand at their places of `room` values, for the spectra after these, as the schedule keeps
+    /// them. What is kept is right where the values of rows of 16 bits fit.
+    pub fn keep_rows(&mut self, rows: &Rows, schedule: &Schedule, room: usize, spectra: usize)
+        requires follows { Follows rows.now schedule.now }
         requires short { spectra ≤ room }
         requires few { room ≤ 65536 }
         requires room { HaveTableRoom rows.now room self.old }
+        requires kept_room { HaveRoom schedule.now self.old }
         ensures wrote { WroteKept self.old self.new }
-        ensures keeps { KeepsOn rows.now room spectra self.old.wide self.old.kept_wide
-            self.new.kept_wide }
+        ensures keeps { KeepsOn rows.now schedule.now.narrow room spectra self.old.wide self.old
+            self.new }
     {
         keep_rows(
             rows,
+            schedule,
             room,
             spectra,
             self.wide.as_slice(),
+            self.kept_narrow.as_mut_slice(),
             self.kept_wide.as_mut_slice(),
         );
     }

@@ -12,7 +12,7 @@ use Rattle.subband_plan.specs.declared.nodes.Node.{Node}
 use Rattle.subband_plan.specs.declared.rows.PlanRows.{PlanRows}
 use Rattle.subband_plan.specs.Nodes.{BandPlan, HasKept, least_row, nodes_of, node_at}
 use Rattle.subband_plan.specs.NodeLaws.{AreLaid}
-use Rattle.subband_plan.specs.Rows.{ArePlanRows, AreStarts, AreTails, AreHeld, IsLabelled, IsMade, IsRow, all_rows, row_at, source_at}
+use Rattle.subband_plan.specs.Rows.{ArePlanRows, AreStarts, AreTails, IsLabelled, IsMade, IsRow, all_rows, row_at, source_at}
 use Rattle.subband_plan.specs.RowLaws.{AreNumbered}
 use Rattle.subband_plan.specs.Making.{AreLabels, AreLabelled, AreSources, AreWithin, IsWithin}
 use Rattle.subband_plan.proofs.Numbers.{one_row, rows_fit}
@@ -106,16 +106,13 @@ short_tails channels rows sources tails within are r = are.least r 8192 refl (λ
 
 sources_are_rows : (channels : ℕ) (rows : PlanRows) → all_rows rows ≤ 2 ^ 26 →
     AreWithin channels (all_rows rows) rows.rows.sources.items →
-    AreTails rows.rows.sources.items (all_rows rows) rows.rows.tails.items →
-    AreHeld rows.rows.tails.items rows.rows.held.items → AreRows channels rows.rows
-sources_are_rows channels rows few within tails held =
+    AreTails rows.rows.sources.items (all_rows rows) rows.rows.tails.items → AreRows channels rows.rows
+sources_are_rows channels rows few within tails =
     let sources = rows.rows.sources.items in
     let entries = tails.entries in
-    let places = held.entries in
     record {
       few = omega arith;
       tails_entries = entries;
-      held_entries = omega arith;
       channel = λ r c is.
           (within r (slice_get_within sources r _ is)).channel c (get_or_from_slice_get sources r _ _ is);
       merge = λ r m is.
@@ -128,8 +125,6 @@ sources_are_rows channels rows few within tails held =
           };
       whole = tails.whole;
       short = λ r. let short = short_tails channels _ sources rows.rows.tails.items within tails r in omega arith;
-      first = held.first;
-      next = λ r h. held.next r (omega arith);
     }
 
 -- all lists together
@@ -140,9 +135,8 @@ lists_are_rows : (p : BandPlan) (rows : PlanRows) → AreLaid p.edges (nodes_of 
     AreLabelled (nodes_of p) rows.starts.items rows.nodes.items rows.delays.items →
     all_rows rows ≡ length rows.nodes.items →
     AreSources p.edges (nodes_of p) rows.starts.items rows.nodes.items rows.delays.items rows.rows.sources.items →
-    AreTails rows.rows.sources.items (all_rows rows) rows.rows.tails.items →
-    AreHeld rows.rows.tails.items rows.rows.held.items → ArePlanRows p rows
-lists_are_rows p rows laid numbered starts labels delays_long labelled long sources tails held =
+    AreTails rows.rows.sources.items (all_rows rows) rows.rows.tails.items → ArePlanRows p rows
+lists_are_rows p rows laid numbered starts labels delays_long labelled long sources tails =
     let nodes = nodes_of p in
     let entries = labels.entries in
     let fit = rows_fit p.edges nodes rows.starts.items laid numbered in
@@ -162,7 +156,7 @@ lists_are_rows p rows laid numbered starts labels delays_long labelled long sour
       made = sources.made;
       tails = tails;
       short = short_tails (channels_of p.edges) _ rows.rows.sources.items rows.rows.tails.items sources.within tails;
-      are_rows = sources_are_rows (channels_of p.edges) rows (omega arith) within tails held;
+      are_rows = sources_are_rows (channels_of p.edges) rows (omega arith) within tails;
     }
 
 -- how many sources there are, and that they are within their number
@@ -183,10 +177,8 @@ pub plan_rows : (p : BandPlan) (rows : PlanRows) (edges : List ℕ) (nodes : Lis
     AreLabelled nodes rows.starts.items rows.nodes.items rows.delays.items →
     all_rows rows ≡ length rows.nodes.items →
     AreSources edges nodes rows.starts.items rows.nodes.items rows.delays.items rows.rows.sources.items →
-    AreTails rows.rows.sources.items (all_rows rows) rows.rows.tails.items →
-    AreHeld rows.rows.tails.items rows.rows.held.items → ArePlanRows p rows
-plan_rows p rows edges nodes edges_is nodes_is laid numbered starts labels delays_long labelled long sources tails
-    held =
+    AreTails rows.rows.sources.items (all_rows rows) rows.rows.tails.items → ArePlanRows p rows
+plan_rows p rows edges nodes edges_is nodes_is laid numbered starts labels delays_long labelled long sources tails =
     lists_are_rows p rows (rw (edges_is, nodes_is) at laid) (rw (edges_is, nodes_is) at numbered)
     (rw nodes_is at starts) (rw nodes_is at labels) delays_long (rw nodes_is at labelled) long
-    (rw (edges_is, nodes_is) at sources) tails held
+    (rw (edges_is, nodes_is) at sources) tails

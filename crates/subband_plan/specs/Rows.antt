@@ -92,10 +92,6 @@ pub record AreTails (sources : List Source) (count : ℕ) (tails : List ℕ) : T
       ((r : ℕ) (m : Merge) → r < count → source_at sources r ≡ Sum m → m.upper ≡ x →
       m.late ≤ most) → slice_index tails x ≤ most
 
--- where the values that are kept of each row begin
-abbrev pub AreHeld : List ℕ → List ℕ → Type 0
-AreHeld tails held = ArePlaces (λ r. slice_index tails r) (length tails) held
-
 -- how many rows there are, the node of a row, and its delay
 abbrev pub all_rows : PlanRows → ℕ
 all_rows rows = length rows.rows.sources.items

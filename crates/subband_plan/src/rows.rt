@@ -1,8 +1,7 @@
 // The rows of the tables that are carried from chunk to chunk.
-ghost use Rattle.std.specs.Prelude.{◌≡◌, ℕ, ◌+◌, ◌^◌, ◌<◌, ◌≤◌, List, length, slice_index, IfOk};
-ghost use Rattle.dada_model.specs.Bounds.{most_delay};
+ghost use Rattle.std.specs.Prelude.{◌≡◌, ℕ, ◌+◌, ◌<◌, List, length, slice_index, IfOk};
 ghost use Rattle.subband_plan.specs.NodeLaws.{AreLaid};
-ghost use Rattle.subband_plan.specs.Rows.{AreStarts, AreTails, AreHeld};
+ghost use Rattle.subband_plan.specs.Rows.{AreStarts, AreTails};
 ghost use Rattle.subband_plan.specs.Making.{AreLabels, AreLabelled, AreWithin};
 
 use crate::laws::rows_are_numbered;
@@ -53,16 +52,11 @@ impl PlanRows {
             delays.as_slice(),
         )?;
         let tails = keep_tails(alloc, sources.as_slice())?;
-        let held = hold_tails(alloc, tails.as_slice())?;
         Ok(PlanRows {
             starts,
             nodes: labels,
             delays,
-            rows: Rows {
-                sources,
-                tails,
-                held,
-            },
+            rows: Rows { sources, tails },
         })
     }
 }
@@ -143,20 +137,4 @@ fn keep_tail(sources: &[Source], r: usize, tails: &mut Vec<u32>)
         let upper = merge.upper as usize;
         tails[upper] = tails[upper].max(merge.late.next_multiple_of(LANES));
     }
-}
-
-// Where these values are kept.
-fn hold_tails(alloc: Global, tails: &[u32]) -> Result<Vec<usize>, Memory>
-    requires few { length tails.now ≤ 2 ^ 26 }
-    requires short { (r : ℕ) → slice_index tails.now r ≤ most_delay }
-    ensures { IfOk result (λ held. AreHeld tails.now held.items) }
-{
-    let mut held = Vec::with_capacity(alloc, tails.len() + 1)?;
-    let mut place = 0;
-    held.push(place)?;
-    for tail in tails {
-        place += *tail as usize;
-        held.push(place)?;
-    }
-    Ok(held)
 }

@@ -6,14 +6,14 @@ ghost use Rattle.row_model.specs.Tails.{AreRows, row_count};
 ghost use Rattle.row_schedule.specs.Orders.{MakeAll, order_at};
 ghost use Rattle.row_schedule.specs.Marks.{slot_of};
 ghost use Rattle.row_schedule.specs.Schedules.{IsInOrder, HasParts};
-ghost use Rattle.row_schedule.specs.Layout.{AreNarrowHolds, IsLaid, hold_of, tail_of};
+ghost use Rattle.row_schedule.specs.Layout.{HasHolds, IsLaid, tail_of};
 ghost use Rattle.row_schedule.specs.Follows.{Follows, IsStep, AreSteps};
 ghost use Rattle.row_schedule.specs.Steps.{makes_narrow, copies, upper_narrow, lower_narrow};
 
 use super::{Builder, Order};
 use crate::layout::{Layout, slot_sizes};
 use crate::marks::slot_found;
-use crate::reading::{kept_room, narrow_holds, source, tail, wide_hold};
+use crate::reading::{source, tail};
 use crate::schedule::Schedule;
 use crate::step::{Kind, Step};
 use psr_base::Memory;
@@ -85,20 +85,6 @@ impl Builder {
         places[slot as usize] + tail(rows, row) as usize
     }
 
-    // Where the values begin that are kept of row `row` in its width; `held` says so of rows of 16 bits.
-    fn hold(&self, rows: &Rows, held: &[usize], row: u32) -> usize
-        requires rows { (c : ℕ) × AreRows c rows.now }
-        requires held { AreNarrowHolds rows.now self.now.narrow held.now }
-        requires row { row < row_count rows.now }
-        ensures { result
-            ≡ hold_of rows.now self.now.narrow (is_narrow self.now.narrow row) row }
-    {
-        if self.is_narrow(row) {
-            return held[row as usize];
-        }
-        wide_hold(rows, row as usize)
-    }
-
     // The step that carries out order `j`, which makes a row of two others.
     fn sum_step(
         &self,
@@ -112,7 +98,7 @@ impl Builder {
         requires order { IsInOrder rows.now self.now }
         requires places { length places.now ≡ length self.now.slots }
         requires near { (s : ℕ) → slice_index places.now s ≤ 2 ^ 50 }
-        requires held { AreNarrowHolds rows.now self.now.narrow held.now }
+        requires held { HasHolds rows.now self.now.narrow held.now }
         requires number { j < length self.now.orders }
         requires source { slice_get rows.now.sources.items (order_at self.now.orders j).row
             ≡ Some (Sum merge) }
@@ -128,7 +114,7 @@ impl Builder {
             kind: sum_kind(narrow, upper_narrow, lower_narrow),
             tail: tail(rows, row),
             out: places[order.slot as usize],
-            hold: self.hold(rows, held, order.row),
+            hold: held[row],
             upper: self.begins_at(rows, places, merge.upper as usize) - merge.late as usize,
             lower: self.begins_at(rows, places, merge.lower as usize),
         }
@@ -140,7 +126,7 @@ impl Builder {
         requires order { IsInOrder rows.now self.now }
         requires places { length places.now ≡ length self.now.slots }
         requires near { (s : ℕ) → slice_index places.now s ≤ 2 ^ 50 }
-        requires held { AreNarrowHolds rows.now self.now.narrow held.now }
+        requires held { HasHolds rows.now self.now.narrow held.now }
         requires short { chunk ≤ 65536 }
         requires number { j < length self.now.orders }
         ensures { IsStep rows.now self.now.narrow self.now.orders places.now chunk j result }
@@ -154,7 +140,7 @@ impl Builder {
                     kind: copy_kind(narrow),
                     tail: tail(rows, row),
                     out: places[order.slot as usize],
-                    hold: self.hold(rows, held, order.row),
+                    hold: held[row],
                     upper: channel as usize * chunk,
                     lower: 0,
                 }
@@ -176,7 +162,7 @@ impl Builder {
         requires order { IsInOrder rows.now self.now }
         requires places { length places.now ≡ length self.now.slots }
         requires near { (s : ℕ) → slice_index places.now s ≤ 2 ^ 50 }
-        requires held { AreNarrowHolds rows.now self.now.narrow held.now }
+        requires held { HasHolds rows.now self.now.narrow held.now }
         requires short { chunk ≤ 65536 }
         ensures entries { IfOk result (λ steps. length steps.items ≡ length self.now.orders) }
         ensures steps { IfOk result (λ steps. AreSteps rows.now self.now.narrow self.now.orders
@@ -217,7 +203,8 @@ impl Builder {
         requires short { chunk ≤ 65536 }
         requires within { most ≤ chunk }
         ensures all { IfOk result (λ made. IsSome made ↔ MakeAll rows.now self.orders) }
-        ensures parts { IfOk result (λ made. IfSome made (λ s. HasParts self channels chunk most s)) }
+        ensures parts { IfOk result
+            (λ made. IfSome made (λ s. HasParts self channels chunk most s)) }
         ensures follows { IfOk result (λ made. IfSome made (λ s. Follows rows.now s)) }
     {
         if !self.makes_all(rows) {
@@ -226,15 +213,18 @@ impl Builder {
         let apart = chunk as usize;
         let room = most as usize;
         let layout = self.lay(alloc, rows, room)?;
-        let held = narrow_holds(alloc, rows, &self.narrow)?;
-        let steps = self.steps(alloc, rows, &layout.places, &held, apart)?;
-        let kept_narrow_size = held[rows.sources.len()];
-        let kept_wide_size = kept_room(rows);
+        let kept = Layout::of_kept(alloc, rows, &self.narrow)?;
+        let steps = self.steps(alloc, rows, &layout.places, &kept.places, apart)?;
         let Layout {
             places,
             narrow_size,
             wide_size,
         } = layout;
+        let Layout {
+            places: held,
+            narrow_size: kept_narrow_size,
+            wide_size: kept_wide_size,
+        } = kept;
         let Builder {
             narrow,
             slots,
@@ -250,6 +240,7 @@ impl Builder {
             slots,
             orders,
             places,
+            held,
             steps,
             narrow_size,
             wide_size,

@@ -1,22 +1,30 @@
-use Rattle.std.proofs.Common.{arith}
-use Rattle.row_schedule.proofs.Keeping.{held_within}
-use Rattle.row_schedule.proofs.OwnPlaces.{goes_here, one_kept_on}
+use Rattle.std.proofs.Common.{true, false, refl}
+use Rattle.row_schedule.specs.Moving.{kept_lists}
+use Rattle.row_schedule.proofs.Going.{hold_room, kept_on_more}
 use Rattle.row_schedule.proofs.filling.keep_row.Goals as goal
+
+pub go_on_narrow-requires-clause-own : goal.go_on_narrow-requires-clause-own
+go_on_narrow-requires-clause-own c =
+    hold_room c.args.rows.now c.args.schedule.now.narrow c.args.row c.hold-hold.result true
+    (kept_lists c.args.kept_narrow.now c.args.kept_wide.now) c.hold-hold.ensures c.if-hold.true c.requires.kept
 
 pub go_on-requires-clause-own : goal.go_on-requires-clause-own
 go_on-requires-clause-own c =
-    let rows = c.requires.rows in
-    let within = held_within rows.0 c.args.rows.now rows.1 c.args.row c.requires.row in
-    let hold = c.wide_hold.ensures in
-    let tail = c.tail-size.ensures.value in
-    let room = c.requires.kept in
-    omega arith
+    hold_room c.args.rows.now c.args.schedule.now.narrow c.args.row c.hold-hold.result false
+    (kept_lists c.args.kept_narrow.now c.args.kept_wide.now) c.hold-hold.ensures c.if-hold.false c.requires.kept
+
+pub returns-then-hold : goal.returns-then-hold
+returns-then-hold c = λ x y u adds fits stands so_far.
+    kept_on_more c.args.rows.now c.args.schedule.now.narrow x y u c.args.room c.args.spectra c.args.row
+    c.own_place-from.result c.hold-hold.result true c.args.wide.now
+    (kept_lists c.args.kept_narrow.now c.args.kept_wide.now)
+    (kept_lists c.go_on_narrow.new.list c.args.kept_wide.now) c.requires.row c.hold-hold.ensures c.if-hold.true
+    c.own_place-from.ensures c.go_on_narrow.ensures refl adds fits stands so_far
 
 pub returns : goal.returns
-returns c = λ first so_far.
-    let rows = c.requires.rows in
-    one_kept_on rows.0 c.args.rows.now rows.1 c.args.room c.args.spectra c.args.row c.args.wide.now first
-    c.args.kept.now c.go_on.new.list c.requires.row
-    (goes_here c.wide_hold.result c.tail-size.result c.own_place.result _ _ _ c.args.spectra c.args.wide.now c.args.kept.now
-    c.go_on.new.list c.wide_hold.ensures c.tail-size.ensures.value c.own_place.ensures c.go_on.ensures)
-    so_far
+returns c = λ x y u adds fits stands so_far.
+    kept_on_more c.args.rows.now c.args.schedule.now.narrow x y u c.args.room c.args.spectra c.args.row
+    c.own_place-from.result c.hold-hold.result false c.args.wide.now
+    (kept_lists c.args.kept_narrow.now c.args.kept_wide.now)
+    (kept_lists c.args.kept_narrow.now c.go_on.new.list) c.requires.row c.hold-hold.ensures c.if-hold.false
+    c.own_place-from.ensures c.go_on.ensures refl adds fits stands so_far

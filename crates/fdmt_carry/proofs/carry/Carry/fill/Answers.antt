@@ -12,7 +12,7 @@ returns-clause-stands c = λ f stands next small.
     let spectra : ℕ = c.args.spectra in
     let samples = values_of c.args.samples in
     let new = c.fill.new.stores in
-    let inside : Carrying = carrying t s.pass s.limit s.max_sample s.fed s.last s.has_tables s.is_passing s.next
+    let inside : Carrying = carrying t s.pass s.limit s.max_sample s.fed s.last s.has_tables s.is_passing s.next s.done
     s.stores in
     let before : StandsForSamples inside f =
     subst (λ (x : Carrying). StandsForSamples x f) (sym c.self.view_is) stands in
@@ -21,5 +21,5 @@ returns-clause-stands c = λ f stands next small.
     let most : AreAtMost f (s.fed + spectra) s.limit =
     subst (λ (x : Carrying). AreAtMost f (x.fed + spectra) x.limit) (sym c.self.view_is) small in
     subst (λ (fed : ℕ). StandsForSamples (carrying t s.pass s.limit s.max_sample (s.fed + fed) spectra true
-    s.is_passing s.next new) f) (sym c.from.ensures)
+    s.is_passing s.next s.done new) f) (sym c.from.ensures)
     (taken_stands inside spectra new samples f c.self.invariant.0.pass_is c.fill.ensures.fills before given most)

@@ -8,7 +8,8 @@ returns-clause-stands c = λ f stands.
     let s = c.self.inside in
     let t = s.tables in
     let st = s.stores in
-    let inside : Carrying = carrying t s.pass s.limit s.max_sample s.fed s.last s.has_tables s.is_passing s.next st in
+    let inside : Carrying = carrying t s.pass s.limit s.max_sample s.fed s.last s.has_tables s.is_passing s.next s.done
+    st in
     let before : StandsMidway inside f = subst (λ (x : Carrying). StandsMidway x f) (sym c.self.view_is) stands in
     let all : s.next ≡ t.plan.last + 1 =
     subst (λ (x : Carrying). x.next ≡ x.tables.plan.last + 1) (sym c.self.view_is) c.requires.all in
@@ -16,7 +17,7 @@ returns-clause-stands c = λ f stands.
     subst (λ (x : Carrying). x.is_passing ≡ true) (sym c.self.view_is) c.requires.passing in
     let none : s.has_tables ≡ false = c.self.invariant.0.alone passing in
     let ended : ℕ → Bool → Carrying = λ fed has. carrying t s.pass s.limit s.max_sample (s.fed + fed) s.last has false
-    s.next st in
+    s.next s.done st in
     subst (λ (fed : ℕ). StandsForSamples (ended fed s.has_tables) f) (sym c.from.ensures)
     (subst (λ (has : Bool). StandsForSamples (ended s.last has) f) (sym none)
-    (ended_stands c.running_ends.ensures inside f c.hold.ensures c.self.invariant.0.pass_is all before))
+    (ended_stands c.running_ends.ensures inside f c.self.invariant.0.pass_is all (c.self.invariant.0.before passing) before))

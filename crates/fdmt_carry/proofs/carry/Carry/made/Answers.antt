@@ -6,7 +6,7 @@ use Rattle.fdmt_carry.proofs.carry.Carry.made.Goals as goal
 pub returns-clause-sums : goal.returns-clause-sums
 returns-clause-sums c = λ f k has lt.
     let s = c.self.inside in
-    let inside : Carrying = carrying s.tables s.pass s.limit s.max_sample s.fed s.last s.has_tables s.is_passing s.next
+    let inside : Carrying = carrying s.tables s.pass s.limit s.max_sample s.fed s.last s.has_tables s.is_passing s.next s.done
     s.stores in
     let row : HasMade inside f = subst (λ (x : Carrying). HasMade x f) (sym c.self.view_is) has in
     let within : k < s.last = subst (λ (x : Carrying). k < x.last) (sym c.self.view_is) lt in

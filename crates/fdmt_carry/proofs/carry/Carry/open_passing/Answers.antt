@@ -29,6 +29,7 @@ invariant_of-result c =
         alone = λ passing. absurd (false≢true passing);
         from = λ passing. absurd (false≢true passing);
         to = λ passing. absurd (false≢true passing);
+        before = λ passing. absurd (false≢true passing);
       },
       record {
         some = c.in_ok-passes.ensures.some;

@@ -9,7 +9,7 @@ pub returns-clause-stands : goal.returns-clause-stands
 returns-clause-stands c = λ f stands.
     let s = c.self.inside in
     let t = s.tables in
-    let inside : Carrying = carrying t s.pass s.limit s.max_sample s.fed s.last s.has_tables s.is_passing s.next
+    let inside : Carrying = carrying t s.pass s.limit s.max_sample s.fed s.last s.has_tables s.is_passing s.next s.done
     s.stores in
     let before : StandsForSamples inside f =
     subst (λ (x : Carrying). StandsForSamples x f) (sym c.self.view_is) stands in

@@ -9,7 +9,7 @@ returns-clause-sums c = λ f i stands lt.
     let s = c.self.inside in
     let k : ℕ = c.args.k in
     let d : ℕ = c.args.d in
-    let inside : Carrying = carrying s.tables s.pass s.limit s.max_sample s.fed s.last s.has_tables s.is_passing s.next
+    let inside : Carrying = carrying s.tables s.pass s.limit s.max_sample s.fed s.last s.has_tables s.is_passing s.next s.done
     s.stores in
     let before : StandsForSamples inside f =
     subst (λ (x : Carrying). StandsForSamples x f) (sym c.self.view_is) stands in

@@ -2,9 +2,10 @@ use Rattle.std.proofs.Common.{◌≡◌, ℕ, ◌+◌, ◌<◌, length, arith, a
 use Rattle.std.proofs.lemmas.List.{get_or_read}
 use Rattle.row_schedule.specs.Samples.{values_of}
 use Rattle.row_schedule.specs.Filling.{HaveTableRoom}
+use Rattle.row_schedule.specs.Follows.{Follows}
 use Rattle.fdmt_carry.specs.Orders.{start_of}
 use Rattle.fdmt_carry.specs.Tables.{Tables, MakesNode, node_count, tables}
-use Rattle.fdmt_carry.proofs.Rooms.{nothing_written, table_room_stays, wide_long, wrote_yet}
+use Rattle.fdmt_carry.proofs.Rooms.{nothing_written, pass_room_stays, table_room_stays, wide_long, wrote_yet}
 use Rattle.fdmt_carry.proofs.Starts.{is_start}
 use Rattle.fdmt_carry.proofs.Tabled.{MakesBefore, is_of_others, makes_more, node_begins, node_ends}
 use Rattle.fdmt_carry.proofs.tables.Tables.fill_node.Goals as goal
@@ -31,6 +32,16 @@ fill_row-requires-clause-room c =
     subst (λ (x : Tables). HaveTableRoom x.rows.rows x.most c.loop-r.stores) (sym c.self.view_is)
     (table_room_stays c.args.self.now.rows.rows c.args.self.now.most c.args.stores.now c.loop-r.stores
     (wide_long c.args.stores.now c.loop-r.stores c.loop-r.invariant.0) c.requires.room)
+
+pub fill_row-requires-clause-follows : goal.fill_row-requires-clause-follows
+fill_row-requires-clause-follows c =
+    subst (λ (x : Tables). Follows x.rows.rows c.args.pass.now.schedule) (sym c.self.view_is)
+    c.requires.pass.1.runs.follows
+
+pub fill_row-requires-clause-kept_room : goal.fill_row-requires-clause-kept_room
+fill_row-requires-clause-kept_room c =
+    pass_room_stays c.args.pass.now.schedule c.args.stores.now c.loop-r.stores
+    (wide_long c.args.stores.now c.loop-r.stores c.loop-r.invariant.0) c.requires.pass_room
 
 pub fill_row-requires-clause-row : goal.fill_row-requires-clause-row
 fill_row-requires-clause-row c =
@@ -63,6 +74,7 @@ loop-r-preserved c =
     let k : ℕ = c.args.k in
     let r : ℕ = c.loop-r.r in
     let spectra : ℕ = c.args.spectra in
+    let narrow = c.args.pass.now.schedule.narrow in
     let samples = values_of c.args.samples in
     let old = c.args.stores.now in
     let mid = c.loop-r.stores in
@@ -79,11 +91,10 @@ loop-r-preserved c =
     let from = c.loop-r.auto.r in
     let to = c.loop-r-test.true in (
       wrote_yet old mid new c.loop-r.invariant.0 c.fill_row.ensures.wrote,
-      subst (λ (x : Tables). MakesBefore x k (r + 1) spectra samples old new) c.self.view_is
-          (makes_more c.rows_are_numbered.ensures c.rows_come_after.ensures t k r spectra samples old mid new laid is in_k
-          (omega arith) (omega arith) c.loop-r.invariant.0.kept_wide c.fill_row.ensures.stands
-          c.fill_row.ensures.others
-          (subst (λ (x : Tables). MakesBefore x k r spectra samples old mid) (sym c.self.view_is)
+      subst (λ (x : Tables). MakesBefore x narrow k (r + 1) spectra samples old new) c.self.view_is
+          (makes_more c.rows_are_numbered.ensures c.rows_come_after.ensures t narrow k r spectra samples old mid new laid
+          is in_k (omega arith) (omega arith) c.loop-r.invariant.0 c.fill_row.ensures.stands c.fill_row.ensures.others
+          (subst (λ (x : Tables). MakesBefore x narrow k r spectra samples old mid) (sym c.self.view_is)
           c.loop-r.invariant.1)),
     )
 
@@ -94,6 +105,7 @@ returns-clause-makes c =
     let k : ℕ = c.args.k in
     let r : ℕ = c.loop-r.r in
     let spectra : ℕ = c.args.spectra in
+    let narrow = c.args.pass.now.schedule.narrow in
     let samples = values_of c.args.samples in
     let old = c.args.stores.now in
     let new = c.loop-r.stores in
@@ -110,7 +122,7 @@ returns-clause-makes c =
     let next = start.next in
     let past = c.loop-r-test.false in
     let most = c.loop-r.auto.r-end (omega arith) in
-    let makes = subst (λ (x : Tables). MakesBefore x k r spectra samples old new) (sym c.self.view_is)
+    let makes = subst (λ (x : Tables). MakesBefore x narrow k r spectra samples old new) (sym c.self.view_is)
     c.loop-r.invariant.1 in
-    subst (λ (x : Tables). MakesNode x k spectra samples old new) c.self.view_is
+    subst (λ (x : Tables). MakesNode x narrow k spectra samples old new) c.self.view_is
     (λ x y u given after. node_ends t k r u spectra y new.wide (omega arith) (makes x y u given after))

@@ -1,9 +1,8 @@
-use Rattle.std.proofs.Common.{◌≡◌, ℕ, ◌+◌, ◌-◌, ap, ◌∙◌, arith, sym, subst}
+use Rattle.std.proofs.Common.{◌≡◌, ℕ, ◌+◌, ◌-◌, ap, ◌∙◌, arith, subst}
 use Rattle.row_schedule.specs.Samples.{values_of}
-use Rattle.row_schedule.specs.Filling.{AreGiven}
 use Rattle.fdmt_carry.specs.Orders.{start_of}
 use Rattle.fdmt_carry.specs.Tables.{Tables, RowsStand, node_count}
-use Rattle.fdmt_carry.proofs.Rooms.{nothing_written, table_room_stays, wide_long, wrote_yet}
+use Rattle.fdmt_carry.proofs.Rooms.{given_stays, nothing_written, pass_room_stays, table_room_stays, wide_long, wrote_yet}
 use Rattle.fdmt_carry.proofs.Tabled.{none_stand}
 use Rattle.fdmt_carry.proofs.tables.Tables.fill_nodes.Goals as goal
 
@@ -21,6 +20,11 @@ fill_node-requires-clause-room c =
     table_room_stays c.args.self.now.rows.rows c.args.self.now.most c.args.stores.now c.loop-done.stores
     (wide_long c.args.stores.now c.loop-done.stores c.loop-done.invariant.0) c.requires.room
 
+pub fill_node-requires-clause-pass_room : goal.fill_node-requires-clause-pass_room
+fill_node-requires-clause-pass_room c =
+    pass_room_stays c.args.pass.now.schedule c.args.stores.now c.loop-done.stores
+    (wide_long c.args.stores.now c.loop-done.stores c.loop-done.invariant.0) c.requires.pass_room
+
 pub loop-done-preserved : goal.loop-done-preserved
 loop-done-preserved c =
     let t = c.args.self.now in
@@ -36,8 +40,8 @@ loop-done-preserved c =
       λ x y u given.
           subst (λ (k : ℕ). RowsStand t (start_of t.rows k) y u spectra new.wide) next
           (c.fill_node.ensures.makes x y u
-          (subst (λ xs. AreGiven t.rows.rows x y u t.chunk spectra (values_of c.args.samples) xs)
-          (sym c.loop-done.invariant.0.kept_wide) given)
+          (given_stays t.rows.rows c.args.pass.now.schedule.narrow x y u t.chunk spectra (values_of c.args.samples) old
+          mid c.loop-done.invariant.0 given)
           (subst (λ (k : ℕ). RowsStand t (start_of t.rows k) y u spectra mid.wide) here
           (c.loop-done.invariant.1 x y u given))),
     )

@@ -9,5 +9,5 @@ use Rattle.fdmt_carry.proofs.tables.Tables.fill_nodes.Given as goal
 abbrev pub invariant-loop-done : goal.invariant-loop-done
 invariant-loop-done l = WroteWide l.fn.stores l.stores
     × ((x : ℕ → ℕ → ℕ) (y : Sums) (u : ℕ) →
-    AreGiven l.self.rows.rows x y u l.self.chunk l.spectra (values_of l.samples) l.fn.stores.kept_wide →
+    AreGiven l.self.rows.rows l.pass.schedule.narrow x y u l.self.chunk l.spectra (values_of l.samples) l.fn.stores →
     RowsStand l.self (start_of l.self.rows (l.count - l.done)) y u l.spectra l.stores.wide)

@@ -78,11 +78,13 @@ returns c = λ chunk.
     let up_at = c.begins_at.ensures up.slot up.found in
     let low_at = c.begins_at-2.ensures low.slot low.found in
     let enough = (rows_are.1.merge _ m c.requires.source).enough in
+    let in_rows = ready.row in
+    let row = ap (λ (o : Order). o.row) c.order-order.ensures in
     sum_step_is rows b.narrow b.slots b.orders places chunk c.args.j c.order-order.result _ _ _ _ _ m up low
     c.order-order.ensures c.requires.source c.sum_kind.ensures.adds
     (c.sum_kind.ensures.width ∙ c.is_narrow-narrow.ensures)
     (c.sum_kind.ensures.upper ∙ c.is_narrow-upper_narrow.ensures)
     (c.sum_kind.ensures.lower ∙ c.is_narrow-lower_narrow.ensures)
     c.tail.ensures.value
-    c.hold.ensures
+    (c.requires.held.each c.order-order.result.row (omega arith))
     (omega arith) low_at

@@ -1,8 +1,6 @@
-use Rattle.std.proofs.Common.{arith}
 use Rattle.band_paths.specs.Edges.{channels_of}
 use Rattle.subband_plan.specs.NodeLaws.{AreLaid}
 use Rattle.subband_plan.proofs.Making.{plan_rows, sources_known}
-use Rattle.subband_plan.proofs.Numbers.{rows_fit}
 use Rattle.subband_plan.proofs.rows.PlanRows.of.Goals as goal
 
 pub keep_tails-requires : goal.keep_tails-requires
@@ -14,21 +12,6 @@ keep_tails-requires c =
     let known = sources_known edges c.all_nodes-nodes.result.now c.in_ok-starts.starts.items
     c.in_ok-labels.labels.items _ c.in_ok-sources.sources.items labels long made in
     rw c.as_slice-7.ensures.value (record { within = (channels_of edges, known.1) })
-
-pub hold_tails-requires-clause-few : goal.hold_tails-requires-clause-few
-hold_tails-requires-clause-few c =
-    let edges = c.edges-edges.result.now in
-    let nodes = c.all_nodes-nodes.result.now in
-    let starts = c.in_ok-starts.starts.items in
-    let labels = rw c.as_slice.ensures.value at c.in_ok-labels.ensures in
-    let long = rw c.as_slice-5.ensures.value at c.in_ok-sources.ensures.entries in
-    let tails = rw c.as_slice-7.ensures.value at c.in_ok-tails.ensures.tails in
-    let laid : AreLaid edges nodes = rw c.edges-edges.ensures.value c.all_nodes-nodes.ensures.laid in
-    let fit = rows_fit edges nodes starts laid (c.rows_are_numbered.ensures edges nodes starts laid
-    c.in_ok-starts.ensures) in
-    let entries = labels.entries in
-    let tails_entries = tails.entries in
-    rw c.as_slice-8.ensures.value (omega (arith, fit, entries, long, tails_entries))
 
 pub returns : goal.returns
 returns c =
@@ -46,4 +29,3 @@ returns c =
     (rw (c.as_slice-4.ensures.value, c.as_slice-5.ensures.value, c.as_slice-6.ensures.value)
     at c.in_ok-sources.ensures.made)
     (rw c.as_slice-7.ensures.value at c.in_ok-tails.ensures.tails)
-    (rw c.as_slice-8.ensures.value at c.in_ok-held.ensures)

@@ -1,0 +1,146 @@
+// What values have above a base, in 16 bits, and the greatest of it in the same pass. Each step takes sixteen values.
+// The last one takes the last sixteen, some of them again where it has to, so that no value is left for a loop of single
+// ones.
+ghost use Rattle.std.specs.Prelude.{◌≡◌, ℕ, ◌+◌, ◌-◌, ◌<◌, ◌≤◌, length, slice_index};
+ghost use Rattle.fdmt_rows.specs.Capped.{capped_sum, AreRaised, LanesUpTo};
+ghost use Rattle.fdmt_rows.specs.Excess.{excess, excess_of_two, IsLeastBound, AreValues};
+ghost use Rattle.fdmt_rows.specs.Writes.{Writes};
+
+use crate::capped::{add_capped, greater, greatest_lane, sums_at};
+use crate::lanes::LANES;
+use crate::narrow::NARROW_VALUES;
+use std::simd::prelude::*;
+
+// The greatest number of 16 bits, which stands for itself and for all that are greater.
+const MOST: u32 = 65535;
+
+// Stores lanes, and gives the greater of each and what a lane has.
+#[inline(always)]
+fn store_and_raise(most: u16x16, out: &mut [u16], lanes: u16x16, at: usize) -> u16x16
+    requires most { length most ≡ 16 }
+    requires lanes { length lanes ≡ 16 }
+    requires room { at + LANES ≤ length out.old }
+    ensures stored { Writes out.old out.new at (at + LANES) (λ k. slice_index lanes (k - at)) }
+    ensures raised { AreRaised most result (LanesUpTo lanes) }
+{
+    lanes.copy_to_slice(&mut out[at..]);
+    greater(most, lanes)
+}
+
+// What lanes have above a base.
+#[inline(always)]
+fn lanes_above(lanes: u16x16, base: u16) -> u16x16
+    requires { length lanes ≡ 16 }
+    ensures long { length result ≡ 16 }
+    ensures above { (k : ℕ) → k < 16 → slice_index result k ≡ slice_index lanes k - base }
+{
+    lanes.saturating_sub(u16x16::splat(base))
+}
+
+// What sixteen values of each of two rows have above a base each, together.
+#[inline(always)]
+fn excess_of_two_at(
+    upper: &[u16],
+    lower: &[u16],
+    upper_base: u16,
+    lower_base: u16,
+    at: usize,
+) -> u16x16
+    requires upper { at + LANES ≤ length upper.now }
+    requires lower { at + LANES ≤ length lower.now }
+    ensures long { length result ≡ 16 }
+    ensures excess { (k : ℕ) → k < 16 → slice_index result k
+        ≡ excess_of_two upper_base lower_base (slice_index upper.now (at + k))
+        (slice_index lower.now (at + k)) }
+{
+    let upper_above = lanes_above(u16x16::from_slice(&upper[at..]), upper_base);
+    let lower_above = lanes_above(u16x16::from_slice(&lower[at..]), lower_base);
+    add_capped(upper_above, lower_above)
+}
+
+// What sixteen values have above a base, in 32 bits.
+#[inline(always)]
+fn wide_excess_at(values: &[u32], base: u32, at: usize) -> u32x16
+    requires { at + LANES ≤ length values.now }
+    ensures long { length result ≡ 16 }
+    ensures excess { (k : ℕ) → k < 16 → slice_index result k
+        ≡ excess base (slice_index values.now (at + k)) }
+{
+    let above = u32x16::from_slice(&values[at..]).saturating_sub(u32x16::splat(base));
+    above.simd_min(u32x16::splat(MOST))
+}
+
+// The same in 16 bits.
+#[inline(always)]
+fn excess_at(values: &[u32], base: u32, at: usize) -> u16x16
+    requires { at + LANES ≤ length values.now }
+    ensures long { length result ≡ 16 }
+    ensures excess { (k : ℕ) → k < 16 → slice_index result k
+        ≡ excess base (slice_index values.now (at + k)) }
+{
+    let lanes = wide_excess_at(values, base, at) % u32x16::splat(NARROW_VALUES);
+    lanes.cast::<u16>()
+}
+
+/// Adds what the values of two rows have above a base each, in 16 bits, and gives the greatest sum. A value below its
+/// base counts as 0. A sum of 65535 stands for itself and for all that are greater.
+pub fn add_excess_greatest(
+    out: &mut [u16],
+    upper: &[u16],
+    lower: &[u16],
+    upper_base: u16,
+    lower_base: u16,
+) -> u16
+    requires some { LANES ≤ length out.old }
+    requires upper { length upper.now ≡ length out.old }
+    requires lower { length lower.now ≡ length out.old }
+    ensures excess { AreValues out.new
+        (λ k. excess_of_two upper_base lower_base (slice_index upper.now k)
+        (slice_index lower.now k)) }
+    ensures greatest { IsLeastBound out.new result }
+{
+    let mut most = u16x16::splat(0);
+    for step in 0..(out.len() - 1) / LANES {
+        let at = step * LANES;
+        let lanes = excess_of_two_at(upper, lower, upper_base, lower_base, at);
+        most = store_and_raise(most, out, lanes, at);
+    }
+    let last = out.len() - LANES;
+    let lanes = excess_of_two_at(upper, lower, upper_base, lower_base, last);
+    greatest_lane(store_and_raise(most, out, lanes, last))
+}
+
+/// Adds two rows in 16 bits, and gives the greatest sum. A sum of 65535 stands for itself and for all that are greater.
+pub fn add_capped_greatest(out: &mut [u16], first: &[u16], second: &[u16]) -> u16
+    requires some { LANES ≤ length out.old }
+    requires first { length first.now ≡ length out.old }
+    requires second { length second.now ≡ length out.old }
+    ensures sums { AreValues out.new
+        (λ k. capped_sum (slice_index first.now k) (slice_index second.now k)) }
+    ensures greatest { IsLeastBound out.new result }
+{
+    let mut most = u16x16::splat(0);
+    for step in 0..(out.len() - 1) / LANES {
+        let at = step * LANES;
+        most = store_and_raise(most, out, sums_at(first, second, at), at);
+    }
+    let last = out.len() - LANES;
+    greatest_lane(store_and_raise(most, out, sums_at(first, second, last), last))
+}
+
+/// Writes what values of 32 bits have above a base, in 16 bits, and gives the greatest of it. A value below the base
+/// counts as 0. What is written as 65535 stands for itself and for all that is greater.
+pub fn write_excess_greatest(out: &mut [u16], values: &[u32], base: u32) -> u16
+    requires some { LANES ≤ length out.old }
+    requires same { length values.now ≡ length out.old }
+    ensures excess { AreValues out.new (λ k. excess base (slice_index values.now k)) }
+    ensures greatest { IsLeastBound out.new result }
+{
+    let mut most = u16x16::splat(0);
+    for step in 0..(out.len() - 1) / LANES {
+        let at = step * LANES;
+        most = store_and_raise(most, out, excess_at(values, base, at), at);
+    }
+    let last = out.len() - LANES;
+    greatest_lane(store_and_raise(most, out, excess_at(values, base, last), last))
+}
