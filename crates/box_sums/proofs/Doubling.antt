@@ -27,7 +27,7 @@ wider_sums row k n m le =
     omega (arith, h, e)
 
 -- a sum of one value
-single : (row : List ℕ) (i : ℕ) → i < length row → sum_from row i 1 ≡ slice_index row i
+pub single : (row : List ℕ) (i : ℕ) → i < length row → sum_from row i 1 ≡ slice_index row i
 single row i inside =
     let cut = sum_by_more (λ x. x) (drop i row) 0 0 (let l : 0 < length (drop i row) = rw length-drop
     (omega arith) in l) in
@@ -169,28 +169,34 @@ made_more old new line greatest stride known prior level width total most is mor
     }
 
 -- twice a multiple
-twice_as_many : (g x y : ℕ) → y ≡ x + x → g * y ≡ g * x + g * x
+pub twice_as_many : (g x y : ℕ) → y ≡ x + x → g * y ≡ g * x + g * x
 twice_as_many g x y is = ap (λ z. g * z) is ∙ mul-add g x x
 
 -- a box is so many narrower boxes, of which none is above their bound
-pub boxes_bounded : (bounds line : List ℕ) (made known k total i : ℕ) → 1 ≤ known → known ≤ made
-    → AreBounds bounds made line total → i + 2 ^ (known + k) ≤ total
-    → sum_from line i (2 ^ (known + k)) ≤ slice_index bounds known * 2 ^ k
-boxes_bounded bounds line made known zero total i some le are room =
+pub so_many : (line : List ℕ) (bound known k total i : ℕ)
+    → ((i : ℕ) → i + 2 ^ known ≤ total → sum_from line i (2 ^ known) ≤ bound) → i + 2 ^ (known + k) ≤ total
+    → sum_from line i (2 ^ (known + k)) ≤ bound * 2 ^ k
+so_many line bound known zero total i are room =
     let same : 2 ^ (known + zero) ≡ 2 ^ known = ap (λ n. 2 ^ n) (omega arith) in
     let sum_is = ap (λ n. sum_from line i n) same in
-    let most = are known i some le (omega (arith, same, room)) in
-    let once : slice_index bounds known * 2 ^ zero ≡ slice_index bounds known = omega arith in
+    let most = are i (omega (arith, same, room)) in
+    let once : bound * 2 ^ zero ≡ bound = omega arith in
     omega (arith, sum_is, most, once)
-boxes_bounded bounds line made known (suc k) total i some le are room =
+so_many line bound known (suc k) total i are room =
     let half : ℕ = 2 ^ (known + k) in
     let twice : 2 ^ (known + suc k) ≡ half + half =
     ap (λ n. 2 ^ n) (let e : known + suc k ≡ known + k + 1 = omega arith in e) ∙ pow-add 2 (known + k) 1 ∙ omega arith in
     let factor : 2 ^ suc k ≡ 2 ^ k + 2 ^ k =
     ap (λ n. 2 ^ n) (let e : suc k ≡ k + 1 = omega arith in e) ∙ pow-add 2 k 1 ∙ omega arith in
-    let first = boxes_bounded bounds line made known k total i some le are (omega (arith, twice, room)) in
-    let second = boxes_bounded bounds line made known k total (i + half) some le are (omega (arith, twice, room)) in
+    let first = so_many line bound known k total i are (omega (arith, twice, room)) in
+    let second = so_many line bound known k total (i + half) are (omega (arith, twice, room)) in
     let both = two_boxes line i half half in
     let sum_is = ap (λ n. sum_from line i n) twice in
-    let most = twice_as_many (slice_index bounds known) (2 ^ k) (2 ^ suc k) factor in
+    let most = twice_as_many bound (2 ^ k) (2 ^ suc k) factor in
     omega (arith, first, second, both, sum_is, most)
+
+pub boxes_bounded : (bounds line : List ℕ) (made known k total i : ℕ) → 1 ≤ known → known ≤ made
+    → AreBounds bounds made line total → i + 2 ^ (known + k) ≤ total
+    → sum_from line i (2 ^ (known + k)) ≤ slice_index bounds known * 2 ^ k
+boxes_bounded bounds line made known k total i some le are room =
+    so_many line (slice_index bounds known) known k total i (λ j inside. are known j some le inside) room

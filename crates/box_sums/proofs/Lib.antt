@@ -6,3 +6,4 @@ pub mod Values
 pub mod Zeros
 pub mod Worked
 pub mod Filling
+pub mod Above

@@ -1,5 +1,5 @@
 -- Rows of which none is fed.
-use Rattle.std.proofs.Common.{◌≡◌, ℕ, ◌+◌, ◌-◌, ◌*◌, ◌^◌, ◌<◌, ◌≤◌, inl, inr, List, [], length, slice_index, take, drop, replicate, ◌++◌, ◌∙◌, sym, ap, arith}
+use Rattle.std.proofs.Common.{◌≡◌, refl, ℕ, ◌+◌, ◌-◌, ◌*◌, ◌^◌, ◌<◌, ◌≤◌, inl, inr, List, [], length, slice_index, take, drop, replicate, ◌++◌, ◌∙◌, sym, ap, arith}
 use Rattle.std.proofs.lemmas.Bool.{cases_lt}
 use Rattle.std.proofs.lemmas.List.{length-replicate, get_or-replicate, get_or_past, get_or-take, append-nil}
 use Rattle.dada_model.specs.Bounds.{most_delay}
@@ -82,12 +82,12 @@ some_level level w power wide = elim (cases_lt level 1) [
 
 pub zeros_sound : (first last chunk widest bound reach levels memory : ℕ)
     → (last - first + 1) * (reach + chunk) ≤ memory → first ≤ last → last ≤ most_delay → 1 ≤ chunk → chunk ≤ longest_chunk → IsWidth widest → bound * widest < 2 ^ 32
-    → widest ≤ reach + 1 → reach ≤ 32 → (widest ≤ 1 → reach ≡ 0) → 2 ^ levels ≡ widest
+    → widest ≤ reach + 1 → reach ≤ 32 → (widest ≤ 1 → reach ≡ 0) → (1 < widest → 16 ≤ reach) → 2 ^ levels ≡ widest
     → TablesAreSound (opened first last chunk widest bound reach (replicate ((last - first + 1) * reach) 0)
     (replicate (reach + chunk) 0) [])
-    (replicate (5 * (reach + chunk)) 0) (replicate 6 0) levels memory
+    (replicate (5 * (reach + chunk)) 0) (replicate 6 0) levels memory (reach + chunk)
 zeros_sound first last chunk widest bound reach levels memory room order few some most width fits enough near alone
-    power =
+    lanes power =
     let stride : ℕ = reach + chunk in
     let rows : ℕ = last - first + 1 in
     record {
@@ -99,6 +99,7 @@ zeros_sound first last chunk widest bound reach levels memory room order few som
       enough = enough;
       near = near;
       alone = alone;
+      lanes = lanes;
       fits = fits;
       above = omega arith;
       below = order;
@@ -108,6 +109,7 @@ zeros_sound first last chunk widest bound reach levels memory room order few som
       kept_room = room;
       boxes_room = length-replicate {A = ℕ} (5 * stride) 0;
       greatest_room = length-replicate {A = ℕ} 6 0;
+      excess_fits = refl;
       small_tails = zeros_are_small bound (rows * reach);
       small_line = zeros_are_small bound stride;
       small_kept = zeros_are_small bound 0;

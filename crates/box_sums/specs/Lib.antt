@@ -1,3 +1,4 @@
 pub mod Tails
 pub mod Rows
 pub mod Tables
+pub mod Excess

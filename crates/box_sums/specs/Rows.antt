@@ -8,6 +8,10 @@ use Rattle.search_model.specs.Search.{box_widths}
 abbrev pub sum_ending : List ℕ → ℕ → ℕ → ℕ
 sum_ending xs k w = sum (drop (k + 1 - w) (take (k + 1) xs))
 
+-- the sum of the w values that end at place k of a feed behind a list
+abbrev pub ending_in_feed : List ℕ → List ℕ → ℕ → ℕ → ℕ
+ending_in_feed xs feed k w = sum_ending (xs ++ feed) (length (xs ++ feed) - length feed + k) w
+
 -- the same, value by value: the i-th before place k, or 0 before the first
 abbrev pub value_before : List ℕ → ℕ → ℕ → ℕ
 value_before xs k i = if nat_le i k then slice_index xs (k - i) else 0

@@ -36,8 +36,9 @@ pub record AreMade
   pub bounds : AreBounds greatest made line total
 
 -- what stands behind is as large as it has to be; of the row that was fed last, boxes are made up to a width that is no
--- wider than the widest, those of two values at least; there is memory for the lines of all rows that may be kept
-pub record TablesAreSound (b : RowTails) (boxes greatest : List ℕ) (made memory : ℕ)
+-- wider than the widest, those of two values at least; there is memory for the lines of all rows that may be kept, and
+-- room for what a line has above a base
+pub record TablesAreSound (b : RowTails) (boxes greatest : List ℕ) (made memory excess_room : ℕ)
     : Type 0 where
   pub order : b.first ≤ b.last
   pub few_rows : b.last ≤ most_delay
@@ -47,6 +48,7 @@ pub record TablesAreSound (b : RowTails) (boxes greatest : List ℕ) (made memor
   pub enough : b.widest ≤ b.reach + 1
   pub near : b.reach ≤ 32
   pub alone : b.widest ≤ 1 → b.reach ≡ 0
+  pub lanes : 1 < b.widest → 16 ≤ b.reach
   pub fits : b.bound * b.widest < 2 ^ 32
   pub above : b.first ≤ b.newest
   pub below : b.newest ≤ b.last
@@ -56,6 +58,7 @@ pub record TablesAreSound (b : RowTails) (boxes greatest : List ℕ) (made memor
   pub kept_room : (b.last - b.first + 1) * (b.reach + b.chunk) ≤ memory
   pub boxes_room : length boxes ≡ 5 * (b.reach + b.chunk)
   pub greatest_room : length greatest ≡ 6
+  pub excess_fits : excess_room ≡ b.reach + b.chunk
   pub small_tails : AreUpTo b.bound b.tails
   pub small_line : AreUpTo b.bound b.line
   pub small_kept : AreUpTo b.bound b.kept

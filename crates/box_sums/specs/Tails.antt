@@ -1,6 +1,8 @@
 -- What is kept of the rows that are fed.
 -- Source: this project's choice.
-use Rattle.std.specs.Prelude.{ℕ, ◌+◌, ◌-◌, ◌*◌, ◌≡◌, ◌≤◌, List, take, drop}
+use Rattle.std.specs.Prelude.{ℕ, ◌+◌, ◌-◌, ◌*◌, ◌^◌, ◌≡◌, ◌<◌, ◌≤◌, List, Option, length, take, drop}
+use Rattle.std.specs.List.{All}
+use Rattle.box_sums.specs.Excess.{plain_sums}
 use Rattle.box_sums.specs.Rows.{Keeps}
 
 -- What contracts see: the rows are those from `first` to `last`, a feed has at most `chunk` values of at most `bound`.
@@ -56,6 +58,18 @@ pub record AreAlike (b c : RowTails) : Type 0 where
   pub chunk : b.chunk ≡ c.chunk
   pub widest : b.widest ≡ c.widest
   pub bound : b.bound ≡ c.bound
+
+-- the sums of two rows can be fed to row d, where boxes are wider than one value, and be judged by
+-- least sums, which are there, or not, for the widths 1, 2, 4 and so on up to some width
+pub record CanFeedHalves (b : RowTails) (d : ℕ) (upper lower : List ℕ)
+    (leasts : List (Option ℕ)) : Type 0 where
+  pub row : KeepsRow b d
+  pub wide : 1 < b.widest
+  pub same : length lower ≡ length upper
+  pub short : length upper ≤ b.chunk
+  pub small : All (λ x. x ≤ b.bound) (plain_sums upper lower)
+  pub few : length leasts ≤ 6
+  pub within : (level : ℕ) → level < length leasts → 2 ^ level ≤ b.widest
 
 -- opened with these
 pub record IsOpened (b : RowTails) (first last chunk widest bound : ℕ) : Type 0 where

@@ -1,13 +1,15 @@
 // Rows that are fed, and boxes over them.
-ghost use Rattle.std.specs.Prelude.{◌≡◌, ℕ, ◌+◌, ◌-◌, ◌*◌, ◌^◌, ◌<◌, ◌≤◌, ◌≢◌, ◌++◌, false, List, [], length, sum, take, drop, replicate, vec_capacity, IfOk};
+ghost use Rattle.std.specs.Prelude.{◌≡◌, ℕ, ◌+◌, ◌-◌, ◌*◌, ◌^◌, ◌<◌, ◌≤◌, ◌≢◌, ◌++◌, true, false, List, Some, [], slice_get, length, sum, take, drop, replicate, vec_capacity, IfOk};
 ghost use Rattle.std.specs.List.{All};
 ghost use Rattle.dada_model.specs.Bounds.{most_delay};
 ghost use Rattle.search_model.specs.Search.{longest_chunk};
-ghost use Rattle.box_sums.specs.Tails.{RowTails, StandsForRow, IsNewest, IsKept, HasLastFeed, KeepsRow, AreAlike, IsOpened};
-ghost use Rattle.box_sums.specs.Rows.{IsWidth, SumsAddValues, sum_ending};
+ghost use Rattle.box_sums.specs.Tails.{RowTails, StandsForRow, IsNewest, IsKept, HasLastFeed, KeepsRow, AreAlike, CanFeedHalves, IsOpened};
+ghost use Rattle.box_sums.specs.Rows.{IsWidth, SumsAddValues, ending_in_feed, sum_ending};
+ghost use Rattle.box_sums.specs.Excess.{plain_sums};
 ghost use Rattle.box_sums.specs.Tables.{TablesAreSound};
 
-use crate::keep::{fill_up, join, write_row};
+use crate::excess::ExcessBoxes;
+use crate::keep::{fill_up, join, write_row, write_sums};
 use crate::sums::{add_pairs, boxes_may_reach, double_up_to};
 use psr_base::Memory;
 use std::alloc::Global;
@@ -21,7 +23,8 @@ const LANES: usize = 16;
 
 /// Rows that are fed in pieces, with the sums of the values that end at each place of the last feed. `feed_row` and
 /// `sum` serve all rows. A search that looks at few of them calls `feed_unkept` and `may_reach`, and only for these
-/// `keep_newest` and then `kept_sum`. Memory for kept rows is used only up to the kept row with the highest
+/// `keep_newest` and then `kept_sum`. Where a row is the sums of two rows of 16 bits, `feed_quiet` feeds it without
+/// making it, unless a box may reach a least sum. Memory for kept rows is used only up to the kept row with the highest
 /// number.
 ///
 /// `boxes` is where the sums of the row that was fed last are added up, of two values, four and so on, and `greatest`
@@ -42,6 +45,7 @@ pub struct Boxes {
     boxes: Vec<u32>,
     greatest: Vec<u32>,
     made: usize,
+    excess: ExcessBoxes,
 }
 
 impl Model for Boxes {
@@ -73,7 +77,7 @@ impl Model for Boxes {
       fed = b.fed;
       line = b.line.items;
       kept = b.kept.items;
-    }) b.boxes.items b.greatest.items b.made (vec_capacity b.kept) };
+    }) b.boxes.items b.greatest.items b.made (vec_capacity b.kept) b.excess };
 }
 
 impl Boxes {
@@ -114,6 +118,7 @@ impl Boxes {
             boxes: zeros(alloc, (LEVELS - 1) * stride)?,
             greatest: zeros(alloc, LEVELS)?,
             made: level_of(widest),
+            excess: ExcessBoxes::open(alloc, stride)?,
         })
     }
 
@@ -179,6 +184,50 @@ impl Boxes {
         );
         self.newest = d;
         self.fed = row.len() as u32;
+    }
+
+    /// Feeds row `d` with its next values, which are the sums of two rows, where no box that ends at one of them
+    /// reaches the least sum of its width; `leasts` has those of the widths 1, 2, 4 and so on. Gives whether it did.
+    /// Where not, nothing is fed: a box may reach its least sum, or the feed is short.
+    pub fn feed_quiet(
+        &mut self,
+        d: u32,
+        upper: &[u16],
+        lower: &[u16],
+        leasts: &[Option<u32>],
+    ) -> bool
+        requires { CanFeedHalves self.old d upper.now lower.now leasts.now }
+        ensures same { self.new ≡ record self.old { tails = self.new.tails } }
+        ensures own { result ≡ true → (xs : List ℕ) → StandsForRow self.old d xs
+            → StandsForRow self.new d (xs ++ plain_sums upper.now lower.now) }
+        ensures others { (e : ℕ) (xs : List ℕ) → KeepsRow self.old e → e ≢ d
+            → StandsForRow self.old e xs → StandsForRow self.new e xs }
+        ensures below { result ≡ true → (xs : List ℕ) (level least k : ℕ)
+            → StandsForRow self.old d xs → level < length leasts.now
+            → slice_get leasts.now level ≡ Some (Some least) → k < length upper.now
+            → ending_in_feed xs (plain_sums upper.now lower.now) k (2 ^ level) < least }
+        ensures fits { result ≡ true → (xs : List ℕ) (k w : ℕ) → StandsForRow self.old d xs
+            → k < length upper.now → w ≤ self.old.widest
+            → ending_in_feed xs (plain_sums upper.now lower.now) k w < 2 ^ 32 }
+        ensures unfed { result ≡ false → self.new ≡ self.old }
+    {
+        if upper.len() < self.reach {
+            return false;
+        }
+        let at = (d - self.first) as usize;
+        let tail = front_of(self.tails.as_slice(), at * self.reach, self.reach);
+        if self.excess.may_reach(tail, upper, lower, leasts) {
+            return false;
+        }
+        let from = upper.len() - self.reach;
+        write_sums(
+            self.tails.as_mut_slice(),
+            self.reach,
+            at,
+            &upper[from..],
+            &lower[from..],
+        );
+        true
     }
 
     /// Keeps the row that was fed last, so that `kept_sum` can be asked for its boxes until it is kept again.
@@ -268,6 +317,7 @@ fn in_whole_lanes(count: u32) -> usize
     ensures enough { count ≤ result }
     ensures near { result ≤ 32 }
     ensures none { count ≡ 0 → result ≡ 0 }
+    ensures some { 0 < count → 16 ≤ result }
 {
     (count as usize).div_ceil(LANES) * LANES
 }

@@ -2,8 +2,9 @@
 ghost use Rattle.std.specs.Prelude.{◌≡◌, ℕ, ◌+◌, ◌*◌, ◌≤◌, ◌≢◌, ◌++◌, length, take, vec_capacity};
 ghost use Rattle.box_sums.specs.Tails.{row_at};
 ghost use Rattle.box_sums.specs.Tables.{AreUpTo, IsFilledUp};
+ghost use Rattle.box_sums.specs.Excess.{plain_sums};
 
-use fdmt_rows::copy_row;
+use fdmt_rows::{add_widened_rows, copy_row};
 
 /// Writes the values before a feed, and then the feed.
 pub fn join(line: &mut [u32], tail: &[u32], feed: &[u32])
@@ -39,4 +40,28 @@ pub fn write_row(table: &mut [u32], stride: usize, at: usize, values: &[u32])
 {
     let start = at * stride;
     copy_row(&mut table[start..start + values.len()], values);
+}
+
+// Adds two rows of 16 bits.
+fn add_part(out: &mut [u32], upper: &[u16], lower: &[u16])
+    requires room { length upper.now ≡ length out.old }
+    requires same { length lower.now ≡ length upper.now }
+    ensures { out.new ≡ plain_sums upper.now lower.now }
+{
+    add_widened_rows(out, upper, lower);
+}
+
+/// Writes the sums of two rows of 16 bits to the front of row `at` of a table.
+pub fn write_sums(table: &mut [u32], stride: usize, at: usize, upper: &[u16], lower: &[u16])
+    requires row { (at + 1) * stride ≤ length table.old }
+    requires short { length upper.now ≤ stride }
+    requires same { length lower.now ≡ length upper.now }
+    ensures own { take (length upper.now) (row_at table.new stride at)
+        ≡ plain_sums upper.now lower.now }
+    ensures others { (e : ℕ) → e ≢ at → row_at table.new stride e ≡ row_at table.old stride e }
+    ensures small { (bound : ℕ) → AreUpTo bound table.old
+        → AreUpTo bound (plain_sums upper.now lower.now) → AreUpTo bound table.new }
+{
+    let start = at * stride;
+    add_part(&mut table[start..start + upper.len()], upper, lower);
 }

@@ -2,6 +2,7 @@
 #![tactic(auto)]
 
 mod boxes;
+mod excess;
 mod keep;
 mod sums;
 

@@ -33,8 +33,8 @@ fn double(boxes: &mut [u32], stride: usize, level: usize, width: usize, count: u
     add_neighbours(high, &low[level * stride..], width, count)
 }
 
-/// Makes the boxes of two of the first `total` values of a line, where boxes may be that wide, and their greatest. Gives
-/// how many widths are made.
+/// Makes the boxes of two of the first `total` values of a line, where boxes may be that wide, and their greatest.
+/// Gives how many widths are made.
 pub fn add_pairs(
     boxes: &mut [u32],
     greatest: &mut [u32],
@@ -108,8 +108,8 @@ pub fn boxes_may_reach(greatest: &[u32], known: usize, level: usize, least: u32)
     u64::from(greatest[known]) * width_of(level - known) as u64 >= u64::from(least)
 }
 
-// How many values a box of a level has.
-fn width_of(level: usize) -> usize
+/// How many values a box of a level has.
+pub fn width_of(level: usize) -> usize
     requires { level ≤ 5 }
     ensures value { result ≡ 2 ^ level }
     ensures bound { result ≤ 32 }

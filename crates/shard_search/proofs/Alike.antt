@@ -1,6 +1,7 @@
 -- Two that search for the same as a third.
-use Rattle.std.proofs.Common.{◌≡◌, ℕ, ◌+◌, ◌≤◌, length, sym, ◌∙◌, subst, arith}
+use Rattle.std.proofs.Common.{◌≡◌, ℕ, ◌+◌, ◌≤◌, List, length, sym, ◌∙◌, ap, subst, arith}
 use Rattle.fold_search.specs.FoldSearch.{Fronts, FoldsAlike}
+use Rattle.shard_search.specs.declared.thresholds.Hit.{Hit}
 use Rattle.shard_search.specs.PulseSearch.{PulseState, SearchAlike}
 use Rattle.shard_search.specs.Sums.{GoOnAlike}
 
@@ -31,13 +32,14 @@ on_alike p q r f g h first d from before pulses folds few = record {
   few = let all = before.few in omega (arith, few, all, from);
 }
 
--- or it was left out
-pub still_alike : (p q : PulseState) (f g : Fronts) (first d : ℕ) → GoOnAlike p q f g first d →
-    GoOnAlike p q f g first (d + 1)
-still_alike p q f g first d before = record {
-  pulses = before.pulses;
+-- or it was taken without being made
+pub still_alike : (p q r : PulseState) (f g : Fronts) (first d : ℕ) → GoOnAlike p q f g first d → SearchAlike r q →
+    r.hits ≡ q.hits → GoOnAlike p r f g first (d + 1)
+still_alike p q r f g first d before pulses hits = record {
+  pulses = pulses_alike p q r pulses before.pulses;
   folds = before.folds;
-  few = let all = before.few in omega (arith, all);
+  few = let all = before.few in
+      let same = ap (λ (xs : List Hit). length xs) hits in omega (arith, all, same);
 }
 
 -- what is known of the parts that a branch leaves

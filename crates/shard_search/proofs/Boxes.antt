@@ -1,9 +1,9 @@
 -- Boxes over the sums of a stream, and which of them are detected.
-use Rattle.std.proofs.Common.{◌≡◌, ℕ, ◌+◌, ◌-◌, ◌*◌, ◌<◌, ◌^◌, ◌&&◌, Bool, true, false, cond, IsTrue, [], ◌∷◌, zero, suc, Option, Some, None, slice_index, nat_le, ◌∙◌, ap, arith, refl}
+use Rattle.std.proofs.Common.{◌≡◌, ℕ, ◌+◌, ◌-◌, ◌*◌, ◌<◌, ◌^◌, ◌&&◌, List, length, Bool, true, false, cond, IsTrue, [], ◌∷◌, zero, suc, Option, Some, None, slice_index, nat_le, ◌∙◌, ap, arith, refl}
 use Rattle.std.specs.Option.{unwrap_or}
 use Rattle.std.proofs.lemmas.Bool.{false≢true, le-leb}
 use Rattle.std.proofs.lemmas.List.FromFn.{length-map-range_with_len, get_or-map-range_with_len}
-use Rattle.box_sums.specs.Rows.{IsWidth, SumsAddValues, sum_ending, value_before}
+use Rattle.box_sums.specs.Rows.{IsWidth, SumsAddValues, ending_in_feed, sum_ending, value_before}
 use Rattle.detect_rule.specs.Noise.{StandOutFrom}
 use Rattle.search_model.specs.declared.search.Search.{Search}
 use Rattle.search_model.specs.declared.candidate.Candidate.TheVariants.{Pulse}
@@ -11,8 +11,9 @@ use Rattle.search_model.specs.Candidates.{if_detected}
 use Rattle.search_model.specs.Detection.{IsDetected, is_detected}
 use Rattle.search_model.specs.Laws.{TestsDetection}
 use Rattle.fold_search.specs.Judging.{noise_of}
-use Rattle.shard_search.specs.Pulses.{first_sums, box_of, pulse_of}
+use Rattle.shard_search.specs.Pulses.{IsRowOf, first_sums, box_of, pulse_of}
 use Rattle.shard_search.specs.Sought.{Sought, cells_in, is_sought_end}
+use Rattle.shard_search.proofs.Rows.{sums_more}
 use Rattle.shard_search.proofs.Terms.{one_term, same_terms}
 
 pub not_true : (b : Bool) → ¬ IsTrue b → b ≡ false
@@ -34,6 +35,17 @@ box_is adds y d m u w lt =
     adds (first_sums y d m) u w (omega arith)
     ∙ same_terms (λ i. value_before (first_sums y d m) u i) (λ i. cond (nat_le i u) (y d (u - i)) 0) w
     (λ i below. value_is y d m u i (nat_le i u) lt)
+
+-- and so it is where the row is fed behind the sums before it
+pub box_in_feed : SumsAddValues → (y : ℕ → ℕ → ℕ) (d m k w : ℕ) (row : List ℕ) → IsRowOf y d m row → k < length row →
+    ending_in_feed (first_sums y d m) row k w ≡ box_of y d (m + k) w
+box_in_feed adds y d m k w row is lt =
+    let n : ℕ = length row in
+    let long = length-map-range_with_len (y d) 0 (m + n) in
+    ap (λ xs. sum_ending xs (length xs - n + k) w) (sums_more y d m row is)
+    ∙ ap (λ i. sum_ending (first_sums y d (m + n)) i w)
+    (let e : length (first_sums y d (m + n)) - n + k ≡ m + k = omega (arith, long) in e)
+    ∙ box_is adds y d (m + n) (m + k) w (omega arith)
 
 pub width_one : (w : ℕ) → IsWidth w → w < 2 → w ≡ 1
 width_one zero is lt = absurd (false≢true is)

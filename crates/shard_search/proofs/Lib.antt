@@ -10,6 +10,7 @@ pub mod LeftOut
 pub mod Passing
 pub mod Pieces
 pub mod PulseLists
+pub mod Quiet
 pub mod Ranges
 pub mod Reports
 pub mod Rows

@@ -1,7 +1,7 @@
 -- The least sums of widths and delays, of one more.
-use Rattle.std.proofs.Common.{◌≡◌, ℕ, ◌+◌, ◌-◌, ◌*◌, ◌<◌, ◌≤◌, ◌++◌, suc, inl, inr, Bool, true, false, cond, List, [], ◌∷◌, Option, Some, length, filter, take, get_or, slice_get, slice_index, sym, ◌∙◌, ap, subst, arith, length-append, append-nil}
+use Rattle.std.proofs.Common.{◌≡◌, ℕ, ◌+◌, ◌-◌, ◌*◌, ◌<◌, ◌≤◌, ◌++◌, suc, inl, inr, Bool, true, false, cond, List, [], ◌∷◌, Option, Some, length, filter, take, drop, get_or, slice_get, slice_index, sym, ◌∙◌, ap, subst, arith, length-append, length-take, length-drop, append-nil}
 use Rattle.std.proofs.lemmas.Bool.{cases_lt}
-use Rattle.std.proofs.lemmas.List.{get_or_append_left}
+use Rattle.std.proofs.lemmas.List.{get_or_append_left, get_or-take, get_or-drop}
 use Rattle.std.proofs.lemmas.List.Elements.{filter_more}
 use Rattle.std.proofs.Math.Nat.{mul-le-mul_left, mul-suc}
 use Rattle.std.proofs.Math.Seq.{get_or-append_seam}
@@ -99,6 +99,27 @@ least_at s c first end d at place least thresholds are above inside is within re
     subst P delay (are.least_sums (d - first) at least inside
     (ap (slice_get thresholds.least_sums.items) (sym is)
     ∙ slice_get-get_or thresholds.least_sums.items place least within ∙ ap Some (sym read)))
+
+-- those of a delay stand together
+pub least_in_part : (s : Search) (c : Sought) (first end d at from m : ℕ) (least : Option ℕ)
+    (thresholds : BoxThresholds) (sums : List (Option ℕ)) → AreThresholds s c first end thresholds → first ≤ d →
+    sums ≡ thresholds.least_sums.items → m ≡ length thresholds.widths.items → from ≡ m * (d - first) →
+    slice_get (take m (drop from sums)) at ≡ Some least →
+    StandOutFrom (noise_of s) (slice_index thresholds.widths.items at * cells_in c d) least
+least_in_part s c first end d at from m least thresholds sums are above all long start e =
+    let part : List (Option ℕ) = take m (drop from sums) in
+    let reached = slice_get_within part at least e in
+    let count = length-take m (drop from sums) in
+    let rest = length-drop from sums in
+    let inside : at < m = omega (arith, reached, count) in
+    let within : from + at < length sums = omega (arith, reached, count, rest) in
+    let value = sym (get_or-take m (drop from sums) at least inside ∙ get_or-drop from sums at least)
+    ∙ get_or_from_slice_get part at least least e in
+    let place : from + at ≡ length thresholds.widths.items * (d - first) + at =
+    ap (λ n. n + at) (start ∙ ap (λ n. n * (d - first)) long) in
+    least_at s c first end d at (from + at) least thresholds are above (subst (λ n. at < n) long inside) place
+    (subst (λ (xs : List (Option ℕ)). from + at < length xs) all within)
+    (sym (subst (λ (xs : List (Option ℕ)). get_or xs (from + at) least ≡ least) all value))
 
 -- ---- widths
 

@@ -2,7 +2,10 @@
 -- Source: this project's choice.
 use Rattle.std.specs.Prelude.{◌≡◌, ℕ, ◌+◌, ◌-◌, ◌*◌, ◌≤◌, ◌<◌, ◌++◌, All, List, length}
 use Rattle.box_sums.specs.Tails.{RowTails, StandsForRow, IsNewest, IsKept}
+use Rattle.box_sums.specs.Excess.{plain_sums}
 use Rattle.box_sums.specs.Rows.{IsWidth}
+use Rattle.row_schedule.specs.declared.halves.Halves.{Halves}
+use Rattle.row_schedule.specs.Halves.{HaveLength}
 use Rattle.search_model.specs.declared.search.Search.{Search}
 use Rattle.search_model.specs.Search.{SettingsInRange}
 use Rattle.shard_search.specs.declared.thresholds.Hit.{Hit}
@@ -85,6 +88,17 @@ pub record AddsHitsOf (d : ℕ) (old new : List Hit) : Type 0 where
   pub more : List Hit
   pub grown : new ≡ old ++ more
   pub own : All (λ hit. hit.delay ≡ d) more
+
+-- the sums of two halves
+abbrev pub half_row : Halves → List ℕ
+half_row halves = plain_sums halves.upper.now halves.lower.now
+
+-- they can be taken as the next path sums of delay d
+pub record CanTakeHalves (p : PulseState) (d : ℕ) (halves : Halves) : Type 0 where
+  pub delay : SearchesDelay p d
+  pub long : HaveLength (length halves.upper.now) halves
+  pub short : length halves.upper.now ≤ p.boxes.chunk
+  pub small : All (λ x. x ≤ p.boxes.bound) (half_row halves)
 
 -- boxes can be so wide
 pub record CanBeWide (b : RowTails) (w : ℕ) : Type 0 where

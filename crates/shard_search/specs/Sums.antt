@@ -78,12 +78,6 @@ pub record HaveTaken (y : ℕ → ℕ → ℕ) (p : PulseState) (g : Fronts) (m 
       ≡ pulses_of_end y p.search p.sought p.first d (m + k)
   pub kept : All (IsHitBelow y p.boxes m n d) p.hits
 
--- Where all sums of the row of delay d are below `least`, the row may be left out: what is kept is then as if it had
--- been taken.
-abbrev pub CanLeaveOut : PulseState → Fronts → ℕ → ℕ → Type 0
-CanLeaveOut p g d least = (y : ℕ → ℕ → ℕ) (m n : ℕ) → ((k : ℕ) → k < n → y d (m + k) < least) →
-    HaveTaken y p g m n d → HaveTaken y p g m n (d + 1)
-
 -- all parts were fed the first spectra of a stream
 pub record StandsForStream (s : ShardState) (f : Filterbank) : Type 0 where
   pub carry : carry.StandsForSamples s.carry f
@@ -114,6 +108,16 @@ pub record IsAtRow (c : Carrying) (d start : ℕ) : Type 0 where
   pub next_is : c.next ≡ d
   pub short : c.last ≤ c.tables.chunk
   pub start_is : start ≡ c.fed
+
+-- a pass over a stream has come to the row of delay d, whose sums are small enough to be taken
+pub record HasSmallRow (c : Carrying) (p : PulseState) (d : ℕ) : Type 0 where
+  pub at : IsAtRow c d c.fed
+  pub within : d ≤ c.tables.plan.last
+  pub short : c.last ≤ p.boxes.chunk
+  pub stream : Filterbank
+  pub stands : carry.StandsMidway c stream
+  pub small : (k : ℕ) → k < c.last →
+      sums_of stream c.tables.plan.edges d (c.fed + k) ≤ p.boxes.bound
 
 -- the pass goes on, and has come to the row of delay d
 pub record IsPassedTo (before after : Carrying) (d : ℕ) : Type 0 where

@@ -1,11 +1,11 @@
 // The search for pulses in the path sums of a shard.
-ghost use Rattle.std.specs.Prelude.{◌≡◌, ◌≢◌, ℕ, ◌+◌, ◌-◌, ◌*◌, ◌^◌, ◌≤◌, ◌<◌, ◌++◌, [], true, All, List, IfOk, length, vec_len, vec_capacity, option_to_list};
+ghost use Rattle.std.specs.Prelude.{◌≡◌, ◌≢◌, ℕ, ◌+◌, ◌-◌, ◌*◌, ◌^◌, ◌≤◌, ◌<◌, ◌++◌, [], true, false, All, List, IfOk, length, vec_len, vec_capacity, option_to_list};
 ghost use Rattle.std.specs.List.{flat_map, range_with_len};
 ghost use Rattle.box_sums.specs.Tails.{KeepsRow, AreAlike, IsNewest, IsKept};
 ghost use Rattle.search_model.specs.Search.{SettingsInRange};
 ghost use Rattle.fold_search.specs.Judging.{Adds};
 ghost use Rattle.shard_search.specs.Thresholds.{IsHit, AreThresholds, pulses_of_hits, pulse_of_hit};
-ghost use Rattle.shard_search.specs.PulseSearch.{PulseState, PulsesAreSound, SearchesDelay, SearchesFor, SearchAlike, RowsStandFor, CanJudge, WideRowHas, IsTakenRow, HitIsKept, IsHitBelow, AddsHitsOf};
+ghost use Rattle.shard_search.specs.PulseSearch.{PulseState, PulsesAreSound, SearchesDelay, SearchesFor, SearchAlike, RowsStandFor, CanJudge, WideRowHas, IsTakenRow, HitIsKept, IsHitBelow, AddsHitsOf, CanTakeHalves, half_row};
 ghost use Rattle.search_model.specs.declared.search.Search.{Search};
 ghost use Rattle.shard_search.specs.Pulses.{first_sums, IsRowOf, pulses_of_delay};
 ghost use Rattle.shard_search.specs.Sought.{Sought as Described, CanBeSought, is_sought_end};
@@ -15,6 +15,7 @@ use crate::thresholds::{BoxThresholds, Hit, find_hit};
 use box_sums::Boxes;
 use candidate_book::Book;
 use psr_base::Memory;
+use row_schedule::Halves;
 use search_model::{Candidate, Search};
 use std::alloc::Global;
 use std::marker::Model;
@@ -109,20 +110,33 @@ impl PulseSearch {
         self.hits.clear();
     }
 
-    /// The least path sum for which the row of a delay has to be taken: 0 where boxes are wider than one sum, and the
-    /// greatest u32 where no sum is detected. No pulse ends at a lesser one.
-    pub(crate) fn least_needed(&self, d: u32) -> u32
-        requires { SearchesDelay self.now d }
-        ensures wide { 1 < self.now.boxes.widest → result ≡ 0 }
-        ensures quiet { (y : ℕ → ℕ → ℕ) (u : ℕ) → y d u < result
-            → pulses_of_delay y self.now.search self.now.sought u d ≡ [] }
+    /// Takes the next path sums of a delay, which are the sums of two halves, where no pulse ends at any of them, and
+    /// says whether it did. Where not, a pulse may end at one, or that was not found out, and nothing is taken.
+    pub(crate) fn take_quiet(&mut self, d: u32, halves: Halves<'_>) -> bool
+        requires { CanTakeHalves self.old d halves }
+        ensures same { self.new ≡ record self.old { boxes = self.new.boxes } }
+        ensures alike { SearchAlike self.new self.old }
+        ensures own { result ≡ true → (xs : List ℕ) → WideRowHas self.old.boxes d xs
+            → WideRowHas self.new.boxes d (xs ++ half_row halves.entry) }
+        ensures others { (e : ℕ) (xs : List ℕ) → SearchesDelay self.old e → e ≢ d
+            → WideRowHas self.old.boxes e xs → WideRowHas self.new.boxes e xs }
+        ensures kept { (e n : ℕ) (xs : List ℕ) → IsKept self.old.boxes e n xs
+            → IsKept self.new.boxes e n xs }
+        ensures quiet { result ≡ true → (y : ℕ → ℕ → ℕ) (m k : ℕ)
+            → IsRowOf y d m (half_row halves.entry)
+            → WideRowHas self.old.boxes d (first_sums y d m)
+            → k < length (half_row halves.entry)
+            → pulses_of_delay y self.old.search self.old.sought (m + k) d ≡ [] }
+        ensures untaken { result ≡ false → self.new ≡ self.old }
     {
         tests_detection();
+        sums_add_values();
         if self.search.widest > 1 {
-            return 0;
+            let leasts = self.thresholds.leasts(self.first, d);
+            return self.boxes.feed_quiet(d, halves.upper, halves.lower, leasts);
         }
         let least = self.thresholds.least(self.first, d, 0);
-        least.unwrap_or(u32::MAX)
+        halves.bound() < least.unwrap_or(u32::MAX)
     }
 
     /// Takes the next path sums of a delay, and notes the widths at which a box that ends at one of them may be

@@ -2,6 +2,7 @@
 ghost use Rattle.std.specs.Prelude.{◌≡◌, ℕ, ◌+◌, ◌-◌, ◌*◌, ◌^◌, ◌≤◌, ◌<◌, ◌≢◌, ◌++◌, [], true, false, All, List, IfOk, length, drop, min};
 ghost use Rattle.band_paths.specs.Edges.{channels_of};
 ghost use Rattle.fdmt_carry.specs.Carrying.{AreNext, AreThere, IsOpened, IsStream, StandsForSamples, StandsMidway};
+ghost use Rattle.fdmt_carry.specs.Making.{CanLeaveOut};
 ghost use Rattle.row_schedule.specs.Samples.{values_of};
 ghost use Rattle.search_model.specs.Samples.{Filterbank};
 ghost use Rattle.search_model.specs.Search.{SettingsInRange};
@@ -15,7 +16,7 @@ ghost use Rattle.shard_search.specs.Opening.{SumsFit, IsOpenedShard};
 ghost use Rattle.shard_search.specs.PulseSearch.{SearchesDelay, SearchAlike};
 ghost use Rattle.shard_search.specs.Pulses.{IsRowOf};
 ghost use Rattle.shard_search.specs.Sought.{CanBeSought, cells_in};
-ghost use Rattle.shard_search.specs.Sums.{ShardState, FitTogether, StandsForStream, HasStream, ContinuesStream, PassesStream, AreDelaysOf, IsAtRow, GoOnAlike, IsPassedTo, HaveTaken, CanLeaveOut, HasTakenNext, sums_of, folds_of_plan};
+ghost use Rattle.shard_search.specs.Sums.{ShardState, FitTogether, StandsForStream, HasStream, ContinuesStream, PassesStream, AreDelaysOf, IsAtRow, GoOnAlike, IsPassedTo, HaveTaken, HasSmallRow, HasTakenNext, sums_of, folds_of_plan};
 
 use crate::pulse_search::PulseSearch;
 use crate::sought::Sought;
@@ -258,23 +259,40 @@ fn pass_rows(
 {
     sums_are_bounded();
     for d in first..end {
-        let least = least_needed(pulses, folds, d);
-        if carry.make_reaching_row(samples, least) {
+        carry.reach_row(samples);
+        if take_quiet(pulses, folds, carry, d) {
+            carry.leave_out();
+        } else {
+            carry.make_row(samples);
             take_row(pulses, folds, carry.made(), start, d);
         }
     }
 }
 
-// The least path sum for which the row of a delay has to be taken: 0 where it has to be whatever its sums are.
-fn least_needed(pulses: &PulseSearch, folds: &FoldSearch, d: u32) -> u32
-    requires delay { SearchesDelay pulses.now d }
+// Takes the row of the next delay of a pass, without making it, where no pulse ends at its sums and no fold needs it,
+// and says whether it did.
+fn take_quiet(pulses: &mut PulseSearch, folds: &FoldSearch, carry: &Carry, d: u32) -> bool
+    requires delay { SearchesDelay pulses.old d }
     requires fold { HasDelay folds.now d }
-    ensures { CanLeaveOut pulses.now folds.now d result }
+    requires row { HasSmallRow carry.now pulses.old d }
+    ensures alike { SearchAlike pulses.new pulses.old }
+    ensures hits { pulses.new.hits ≡ pulses.old.hits }
+    ensures leave { result ≡ true → CanLeaveOut carry.now.tables carry.now.pass carry.now.next
+        carry.now.done }
+    ensures taken { result ≡ true → (f : Filterbank) → StandsMidway carry.now f
+        → HaveTaken (sums_of f carry.now.tables.plan.edges) pulses.old folds.now carry.now.fed
+        carry.now.last d
+        → HaveTaken (sums_of f carry.now.tables.plan.edges) pulses.new folds.now carry.now.fed
+        carry.now.last (d + 1) }
+    ensures untaken { result ≡ false → pulses.new ≡ pulses.old }
 {
     if folds.is_folded(d) {
-        return 0;
+        return false;
     }
-    pulses.least_needed(d)
+    match carry.halves() {
+        Some(halves) => pulses.take_quiet(d, halves),
+        None => false,
+    }
 }
 
 // Takes the rows of all delays of a carry, whose sums end at spectrum `start` and after it.

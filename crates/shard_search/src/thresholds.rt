@@ -1,5 +1,5 @@
 // The least detected sums of boxes.
-ghost use Rattle.std.specs.Prelude.{◌≡◌, ℕ, ◌+◌, ◌-◌, ◌*◌, ◌^◌, ◌≤◌, ◌<◌, false, All, IfOk, OnOk, IfSome, length, slice_index, option_to_list};
+ghost use Rattle.std.specs.Prelude.{◌≡◌, ℕ, ◌+◌, ◌-◌, ◌*◌, ◌^◌, ◌≤◌, ◌<◌, false, All, IfOk, OnOk, IfSome, length, slice_get, slice_index, option_to_list, Option, Some};
 ghost use Rattle.box_sums.specs.Rows.{IsWidth};
 ghost use Rattle.detect_rule.specs.Noise.{StandOutFrom};
 ghost use Rattle.fold_search.specs.Judging.{noise_of};
@@ -74,6 +74,21 @@ impl BoxThresholds {
             result }
     {
         self.least_sums[self.widths.len() * (d - first) as usize + at]
+    }
+
+    /// Those of all widths, from the narrowest on.
+    pub(crate) fn leasts(&self, first: u32, d: u32) -> &[Option<u32>]
+        requires above { first ≤ d }
+        requires inside { length self.now.widths.items * (d - first)
+            + length self.now.widths.items ≤ length self.now.least_sums.items }
+        ensures long { length result.now ≡ length self.now.widths.items }
+        ensures least { (s : Search) (c : Described) (end at : ℕ) (least : Option ℕ)
+            → AreThresholds s c first end self.now → slice_get result.now at ≡ Some least
+            → StandOutFrom (noise_of s) (slice_index self.now.widths.items at * cells_in c d)
+            least }
+    {
+        let from = self.widths.len() * (d - first) as usize;
+        &self.least_sums[from..from + self.widths.len()]
     }
 }
 
@@ -211,7 +226,8 @@ fn may_reach(boxes: &mut Boxes, row: &[u32], width: u32, least: u32) -> bool
     requires width { IsWidth width }
     requires within { width ≤ boxes.old.widest }
     ensures same { boxes.new ≡ boxes.old }
-    ensures below { result ≡ false → (y : ℕ → ℕ → ℕ) (d m k : ℕ) → IsTakenRow y boxes.old d m row.now
+    ensures below { result ≡ false → (y : ℕ → ℕ → ℕ) (d m k : ℕ)
+        → IsTakenRow y boxes.old d m row.now
         → k < length row.now → box_of y d (m + k) width < least }
 {
     if width < 2 {

@@ -77,6 +77,7 @@ invariant_of-self c =
       enough = c.self.invariant.enough;
       near = c.self.invariant.near;
       alone = c.self.invariant.alone;
+      lanes = c.self.invariant.lanes;
       fits = c.self.invariant.fits;
       above = omega (arith, above, first);
       below = omega (arith, below, last);
@@ -90,6 +91,7 @@ invariant_of-self c =
           ∙ c.self.invariant.boxes_room;
       greatest_room = ap length greatest_is ∙ c.add_pairs-self-inside.auto.greatest ∙ ap length c.as_mut_slice-4.ensures.value
           ∙ c.self.invariant.greatest_room;
+      excess_fits = c.self.invariant.excess_fits;
       small_tails = subst (AreUpTo f.bound) (sym tails_is) (c.write_row.ensures.small f.bound
           (subst (AreUpTo f.bound) (sym c.as_mut_slice-2.ensures.value) c.self.invariant.small_tails) last_values);
       small_line = subst (AreUpTo f.bound) (sym line_is) line;

@@ -28,6 +28,7 @@ invariant_of-self c =
       enough = c.self.invariant.enough;
       near = c.self.invariant.near;
       alone = c.self.invariant.alone;
+      lanes = c.self.invariant.lanes;
       fits = c.self.invariant.fits;
       above = c.self.invariant.above;
       below = c.self.invariant.below;
@@ -39,6 +40,7 @@ invariant_of-self c =
           ∙ c.self.invariant.boxes_room;
       greatest_room = ap length greatest_is ∙ made.auto.greatest ∙ ap length c.as_mut_slice-2.ensures.value
           ∙ c.self.invariant.greatest_room;
+      excess_fits = c.self.invariant.excess_fits;
       small_tails = c.self.invariant.small_tails;
       small_line = c.self.invariant.small_line;
       small_kept = c.self.invariant.small_kept;

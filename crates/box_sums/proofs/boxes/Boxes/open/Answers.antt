@@ -16,24 +16,28 @@ invariant_of-result c =
     let kept = c.in_ok-with_capacity.field-0 in
     let memory : ℕ = vec_capacity kept in
     let level : ℕ = c.level_of.result in
+    let room : ℕ = c.in_ok-open.field-0 in
+    let U : ℕ → Type 0 = λ room. TablesAreSound (O (replicate (rows * reach) 0) (replicate stride 0)
+    []) (replicate (5 * stride) 0) (replicate 6 0) level memory room in
     let P : List ℕ → Type 0 = λ tails. TablesAreSound (O tails c.in_ok-zeros-2.field-0.items
-    kept.items) c.in_ok-zeros-3.field-0.items c.in_ok-zeros-4.field-0.items level memory in
+    kept.items) c.in_ok-zeros-3.field-0.items c.in_ok-zeros-4.field-0.items level memory room in
     let Q : List ℕ → Type 0 = λ line. TablesAreSound (O (replicate (rows * reach) 0) line
-    kept.items) c.in_ok-zeros-3.field-0.items c.in_ok-zeros-4.field-0.items level memory in
+    kept.items) c.in_ok-zeros-3.field-0.items c.in_ok-zeros-4.field-0.items level memory room in
     let R : List ℕ → Type 0 = λ kept. TablesAreSound (O (replicate (rows * reach) 0) (replicate stride 0) kept)
-    c.in_ok-zeros-3.field-0.items c.in_ok-zeros-4.field-0.items level memory in
+    c.in_ok-zeros-3.field-0.items c.in_ok-zeros-4.field-0.items level memory room in
     let S : List ℕ → Type 0 = λ boxes. TablesAreSound (O (replicate (rows * reach) 0) (replicate stride 0)
-    []) boxes c.in_ok-zeros-4.field-0.items level memory in
+    []) boxes c.in_ok-zeros-4.field-0.items level memory room in
     let T : List ℕ → Type 0 = λ greatest. TablesAreSound (O (replicate (rows * reach) 0) (replicate stride 0)
-    []) (replicate (5 * stride) 0) greatest level memory in
+    []) (replicate (5 * stride) 0) greatest level memory room in
     let enough = c.in_whole_lanes-reach.ensures.enough in
     subst P (sym c.in_ok-zeros.ensures) (subst Q (sym c.in_ok-zeros-2.ensures) (subst R
     (sym c.in_ok-with_capacity.ensures.items)
-    (subst S (sym c.in_ok-zeros-3.ensures) (subst T (sym c.in_ok-zeros-4.ensures)
+    (subst S (sym c.in_ok-zeros-3.ensures) (subst T (sym c.in_ok-zeros-4.ensures) (subst U (sym c.in_ok-open.ensures)
     (zeros_sound a.first a.last a.chunk a.widest a.bound reach level memory c.in_ok-with_capacity.ensures.capacity
     c.requires.order c.requires.rows c.requires.some c.requires.most c.requires.width c.requires.fits
     (omega (arith, enough)) c.in_whole_lanes-reach.ensures.near
-    (λ one. c.in_whole_lanes-reach.ensures.none (omega arith)) c.level_of.ensures.power)))))
+    (λ one. c.in_whole_lanes-reach.ensures.none (omega arith))
+    (λ wide. c.in_whole_lanes-reach.ensures.some (omega arith)) c.level_of.ensures.power))))))
 
 pub returns-clause-none : goal.returns-clause-none
 returns-clause-none c = λ d has.
