@@ -1,5 +1,5 @@
 -- How many spectra some bytes have.
-use Rattle.std.proofs.Common.{◌≡◌, ℕ, ◌+◌, ◌*◌, ◌/◌, ◌<◌, ◌≤◌, true, false, Bool, List, length, Option, sym, ◌∙◌, ap, subst, arith, min, nat_lt, if◌then◌else◌}
+use Rattle.std.proofs.Common.{◌≡◌, ℕ, ◌+◌, ◌*◌, ◌/◌, ◌<◌, ◌≤◌, List, length, Option, sym, ◌∙◌, ap, subst, arith}
 use Rattle.std.proofs.Math.Nat.{mul-le-mul, mul-le-mul_right, div-div-eq-div-mul}
 use Rattle.std.proofs.lemmas.Nat.{le-div}
 use Rattle.std.proofs.lemmas.List.FromFn.{length-map-range_with_len}
@@ -10,7 +10,6 @@ use Rattle.search_engine.specs.Scope.{spectrum_size}
 use Rattle.search_model.specs.Samples.{sample_at, sample_bytes, samples_of}
 use Rattle.shard_search.specs.Sought.{Sought}
 use Rattle.search_model.specs.declared.search.Search.{Search}
-use Rattle.search_engine.specs.declared.chunk.TheConstants.{LONG_DELAY, MOST_CHUNK, MOST_LONG_CHUNK}
 use Rattle.search_engine.specs.Engine.{KnowsSizes, chunk_of}
 use Rattle.search_engine.specs.Scope.{limit_in_bytes}
 use Rattle.spectra_rows.specs.Unpacking.{OpenedAlike, Unpacking, StandsForBytes, held_bytes, spectrum_bytes}
@@ -60,11 +59,7 @@ room_left u part short =
 
 -- a chunk has some spectra
 pub chunk_has_some : (s : Search) → 1 ≤ s.chunk → 1 ≤ chunk_of s
-chunk_has_some s some = by_delay (nat_lt s.max_delay LONG_DELAY)
-  where
-    by_delay : (short : Bool) → 1 ≤ min s.chunk (if short then MOST_CHUNK else MOST_LONG_CHUNK)
-    by_delay true = omega (arith, some)
-    by_delay false = omega (arith, some)
+chunk_has_some s some = omega (arith, some)
 
 -- no whole spectrum is left where all were given up
 pub none_left : (u v : Unpacking) → v ≡ record u { whole = 0 } → 1 ≤ u.chunk → v.whole < v.chunk

@@ -1,6 +1,6 @@
 -- What contracts see of an engine, and the data bytes that it stands for.
 -- Source: this project's choice.
-use Rattle.std.specs.Prelude.{◌≡◌, ℕ, ◌+◌, ◌-◌, ◌*◌, ◌/◌, ◌%◌, ◌^◌, ◌≤◌, ◌<◌, All, Bool, true, false, List, Option, None, length, min, nat_lt, if◌then◌else◌}
+use Rattle.std.specs.Prelude.{◌≡◌, ℕ, ◌+◌, ◌-◌, ◌*◌, ◌/◌, ◌%◌, ◌^◌, ◌≤◌, ◌<◌, All, Bool, true, false, List, Option, None, length, min}
 use Rattle.dada_model.specs.Bounds.{ObservationInRange}
 use Rattle.dada_model.specs.Observation.{Observation, edges, max_sample}
 use Rattle.search_model.specs.declared.search.Search.{Search}
@@ -19,7 +19,7 @@ use Rattle.shard_search.specs.declared.tables.TheConstants.{MOST_TABLES}
 use Rattle.shard_search.specs.Pulses.{pulses_of_ends}
 use Rattle.shard_search.specs.Sought.{Sought, cells_in, sought_of}
 use Rattle.shard_search.specs.Sums.{ShardState, StandsForStream, sums_of}
-use Rattle.search_engine.specs.declared.chunk.TheConstants.{LONG_DELAY, MOST_CHUNK, MOST_LONG_CHUNK}
+use Rattle.search_engine.specs.declared.chunk.TheConstants.{MOST_CHUNK}
 use Rattle.search_engine.specs.Scope.{Scope, bytes_in, candidates_in, kept_samples, limit_in_bytes, searched, whole_scope}
 
 -- The search of one shard: which channels are masked, how many bytes it was fed, and whether it ended; what stands
@@ -54,9 +54,9 @@ pub record KnowsSizes
 abbrev pub most_fed : ℕ
 most_fed = 2 ^ 48 + 2 ^ 28
 
--- how many spectra are searched at a time at most: more where delays are long
+-- how many spectra are searched at a time at most
 abbrev pub chunk_of : Search → ℕ
-chunk_of s = min s.chunk (if nat_lt s.max_delay LONG_DELAY then MOST_CHUNK else MOST_LONG_CHUNK)
+chunk_of s = min s.chunk MOST_CHUNK
 
 -- a stream of an observation's samples that begins with the first u spectra of the samples g
 pub record BeginsWith (o : Observation) (g : Filterbank) (u : ℕ) (f : Filterbank) : Type 0 where

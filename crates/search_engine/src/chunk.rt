@@ -5,17 +5,10 @@ ghost use Rattle.search_engine.specs.Engine.{chunk_of as chunk_of_search};
 
 use search_model::Search;
 
-/// The most spectra that are searched at a time where the greatest delay is below `LONG_DELAY`. A block of 524288 bytes
-/// has 512, 256 or 128 spectra of 1024, 2048 or 4096 channels of 8 bits, so that a chunk of so many ends where a block
-/// does. This is tuning alone, and no clause asks for this number.
+/// The most spectra that are searched at a time. A block of 524288 bytes has 512, 256 or 128 spectra of 1024, 2048 or
+/// 4096 channels of 8 bits, so that a chunk of so many ends where a block does. This is tuning alone, and no clause
+/// asks for this number.
 pub const MOST_CHUNK: u32 = 512;
-
-/// The same from `LONG_DELAY` on: what is kept of rows for later spectra is copied once for each chunk, which then takes
-/// a good part of the time.
-pub const MOST_LONG_CHUNK: u32 = 1024;
-
-/// The least greatest delay of a search, in spectra, that is long.
-pub const LONG_DELAY: u32 = 4096;
 
 /// How many spectra of a search are searched at a time.
 pub(crate) fn chunk_of(search: &Search) -> u32
@@ -24,10 +17,5 @@ pub(crate) fn chunk_of(search: &Search) -> u32
     ensures some { 1 ≤ result }
     ensures short { result ≤ search.now.chunk }
 {
-    let most = if search.max_delay < LONG_DELAY {
-        MOST_CHUNK
-    } else {
-        MOST_LONG_CHUNK
-    };
-    search.chunk.min(most)
+    search.chunk.min(MOST_CHUNK)
 }
