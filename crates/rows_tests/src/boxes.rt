@@ -1,6 +1,6 @@
 // Boxes over rows that are fed in pieces.
 ghost use Rattle.std.specs.Prelude.{◌≡◌, ◌≤◌, length};
-ghost use Rattle.box_sums.specs.Tails.{KeepsRow};
+ghost use Rattle.box_sums.specs.Tails.{AreAlike, KeepsRow};
 ghost use Rattle.box_sums.specs.Rows.{IsWidth};
 
 use crate::values::values;
@@ -34,6 +34,29 @@ fn kept_rows_are_summed(rt: HostRuntime) -> Result<(), Memory> {
     let second = [before, boxes.kept_sum(1, 0, 2), boxes.kept_sum(1, 0, 1)];
     let are = first.as_slice() == [50_u32, 0].as_slice() && reached;
     assert!(rt; are && second.as_slice() == [50_u32, 27, 7].as_slice());
+    Ok(())
+}
+
+// Feeds 16 sums of 50000 where no box of two values reaches a least sum, and says whether it did.
+fn is_fed_quietly(boxes: &mut Boxes, least: u32) -> bool
+    requires row { KeepsRow boxes.old 1 }
+    requires chunk { boxes.old.chunk ≡ 16 }
+    requires widest { boxes.old.widest ≡ 2 }
+    requires bound { boxes.old.bound ≡ 60000 }
+    ensures { AreAlike boxes.new boxes.old }
+{
+    boxes.feed_quiet(1, &[30_000; 16], &[20_000; 16], &[None, Some(least)])
+}
+
+#[test]
+fn sums_are_fed_where_no_box_reaches(rt: HostRuntime) -> Result<(), Memory> {
+    let mut boxes = Boxes::open(rt.alloc(), 1, 1, 16, 2, 60_000)?;
+    let alone = !is_fed_quietly(&mut boxes, 100_000) && is_fed_quietly(&mut boxes, 100_001);
+    boxes.feed_row(1, &[50_095]);
+    let across = !is_fed_quietly(&mut boxes, 100_095) && boxes.sum(1, 0, 2) == 100_095;
+    let near = is_fed_quietly(&mut boxes, 100_096);
+    boxes.feed_row(1, &[7]);
+    assert!(rt; alone && across && near && boxes.sum(1, 0, 2) == 50_007);
     Ok(())
 }
 

@@ -12,17 +12,17 @@ const THREE: [u32; 4] = [1_600_000, 1_500_000, 1_400_000, 1_300_000];
 
 // Of each plan its channels and delays; the rows of its nodes, and their values with tails in chunks of 10 spectra;
 // the nodes: channels, delays, tail, the number of the first row that is kept; and the rows that are kept: node and
-// delay, what they are made of, how much is kept of them and where that begins.
+// delay, what they are made of, and how much is kept of them.
 const PLANS: &str = "
 2 0 1 | 5 51 | 0-2 0-1 0 0; 0-1 0-0 1 2; 1-2 0-1 0 3; \
-    | 0/0 2+3@0 16/0; 0/1 0+3@1 0/16; 1/0 c0 0/16; 2/0 c1 16/16; 2/1 3+3@1 0/32;
+    | 0/0 2+3@0 16; 0/1 0+3@1 0; 1/0 c0 0; 2/0 c1 16; 2/1 3+3@1 0;
 2 2 4 | 7 74 | 0-2 2-4 0 0; 0-1 1-2 2 5; 1-2 1-2 0 8; \
-    | 0/0 5+8@0 16/0; 0/1 0+8@1 0/16; 0/2 5+1@2 16/16; 0/3 2+8@1 0/32; 0/4 5+3@4 0/32; \
-    1/0 c0 16/32; 1/1 5+5@1 0/48; 1/2 5+6@2 0/48; 2/0 c1 16/48; 2/1 8+8@1 0/64; 2/2 8+9@2 0/64;
+    | 0/0 5+8@0 16; 0/1 0+8@1 0; 0/2 5+1@2 16; 0/3 2+8@1 0; 0/4 5+3@4 0; \
+    1/0 c0 16; 1/1 5+5@1 0; 1/2 5+6@2 0; 2/0 c1 16; 2/1 8+8@1 0; 2/2 8+9@2 0;
 3 6 6 | 5 56 | 0-3 6-6 0 0; 0-1 2-2 4 1; 1-3 4-4 0 4; 1-2 2-2 2 9; 2-3 2-2 0 12; \
-    | 0/6 3+8@4 0/0; 1/0 c0 16/0; 1/1 1+1@1 0/16; 1/2 1+2@2 16/16; \
-    2/0 9+12@0 16/32; 2/1 4+12@1 0/48; 2/2 9+5@2 16/48; 2/3 6+12@1 0/64; 2/4 9+7@4 0/64; \
-    3/0 c1 16/64; 3/1 9+9@1 0/80; 3/2 9+10@2 0/80; 4/0 c2 16/80; 4/1 12+12@1 0/96; 4/2 12+13@2 0/96;
+    | 0/6 3+8@4 0; 1/0 c0 16; 1/1 1+1@1 0; 1/2 1+2@2 16; \
+    2/0 9+12@0 16; 2/1 4+12@1 0; 2/2 9+5@2 16; 2/3 6+12@1 0; 2/4 9+7@4 0; \
+    3/0 c1 16; 3/1 9+9@1 0; 3/2 9+10@2 0; 4/0 c2 16; 4/1 12+12@1 0; 4/2 12+13@2 0;
 ";
 
 // The fields of a line, which `|` parts. Those that it doesn't have are empty.
@@ -79,7 +79,7 @@ fn rows_of(alloc: Global, plan: &Plan, rows: &PlanRows) -> Result<String, AllocE
     for r in 0..rows.rows.sources.len() {
         let label = format!(in alloc; "{}/{} ", rows.nodes[r], rows.delays[r])?;
         let source = source_of(alloc, rows.rows.sources[r])?;
-        let tail = format!(in alloc; " {}/{}; ", rows.rows.tails[r], rows.rows.held[r])?;
+        let tail = format!(in alloc; " {}; ", rows.rows.tails[r])?;
         text.push_str(label.as_str())?;
         text.push_str(source.as_str())?;
         text.push_str(tail.as_str())?;

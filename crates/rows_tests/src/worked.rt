@@ -89,3 +89,30 @@ fn a_row_that_reaches_no_least_sum(rt: HostRuntime) -> Result<(), Memory> {
     assert!(rt; is);
     Ok(())
 }
+
+// Whether the row of a delay over four channels has the sums of its halves, and the next one is made without it.
+fn are_halves(alloc: Global) -> Result<bool, Memory> {
+    let edges = [1_500_000, 1_400_000, 1_300_000, 1_200_000, 1_100_000];
+    let plan = Plan::open(alloc, &edges, 0, 1)?;
+    let mut carry = Carry::open(alloc, plan, 1, 255)?;
+    carry.pass(Samples::Words(&[5, 6, 7, 8]), 1);
+    let samples = Samples::Words(&[1, 2, 3, 4]);
+    carry.begin(samples, 1);
+    carry.reach_row(samples);
+    let Some(halves) = carry.halves() else {
+        return Ok(false);
+    };
+    let are = halves.upper == [3].as_slice() && halves.lower == [7].as_slice();
+    carry.leave_out();
+    carry.make_row(samples);
+    let made = carry.made() == [30].as_slice();
+    carry.finish();
+    Ok(are && made)
+}
+
+#[test]
+fn the_halves_of_a_row(rt: HostRuntime) -> Result<(), Memory> {
+    let are = are_halves(rt.alloc())?;
+    assert!(rt; are);
+    Ok(())
+}
