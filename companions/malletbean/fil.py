@@ -12,12 +12,16 @@ from typing import BinaryIO
 import numpy as np
 
 from .headers import LEAST_SIZE, fields_of, header_of, refused
+from .level import LEVELS
+from .masks import is_far, mask_text
 from .output import new_file
 from .program import Words
 from .refusal import READ, WORDS, Refusal
 
 # how many values are turned at a time: few enough for the caches
 VALUES_AT_A_TIME = 2**20
+# floats: the first so many, at least, say where their values of 8 bits lie
+VALUES_TO_LEVEL_BY = 2**23
 # the kind of each keyword's number; some keywords have a string, and some nothing
 KINDS = {keyword: "i" for keyword in (
     "machine_id", "telescope_id", "data_type", "barycentric", "pulsarcentric", "nbits", "nsamples", "nchans", "nifs",
@@ -57,7 +61,7 @@ class Filterbank:
 def psr_fil(words: Sequence[str]) -> None:
     """Writes the DADA file that the words ask for."""
     asked = parsed(words)
-    first, count = None, 0
+    first, count, levels = None, 0, Levels()
     with ExitStack() as stack:
         for path in asked.files:
             source = Source(path, stack.enter_context(opened(path)))
@@ -70,10 +74,13 @@ def psr_fil(words: Sequence[str]) -> None:
                 out.write(text.ljust(LEAST_SIZE, b"\0"))
             else:
                 check_follows(source, bank, first, count)
-            written = write_spectra(out, source, bank, chosen)
+            written = write_spectra(out, source, bank, chosen, levels)
             if bank.spectra not in (None, written):
                 print(f"psr_fil: {path} has {written} spectra, where nsamples says {bank.spectra}")
             count += written
+    if first.bits == 32:
+        print(f"psr_fil: by the first spectra, each channel of floats has the mean {LEVELS[8].mean} and the deviation "
+              f"{LEVELS[8].deviation} in 8 bits now; mask to try: {levels.mask}")
     print(f"psr_fil: {count} spectra of {first.channels} channels; psr_look {asked.output} prints a first search")
 
 
@@ -89,7 +96,7 @@ def parsed(words: Sequence[str]) -> argparse.Namespace:
     """The words of the command."""
     parser = Words(prog="psr_fil", description="Makes the DADA file of a SIGPROC filterbank.")
     parser.add_argument("files", metavar="FIL", nargs="+",
-                        help="a SIGPROC filterbank of 1, 2, 4, 8 or 16 bits, or several that follow one another")
+                        help="a SIGPROC filterbank of 1, 2, 4, 8, 16 or 32 bits, or several that follow one another")
     parser.add_argument("output", metavar="OUT", help="the DADA file, which must not be there")
     parser.add_argument("--if", metavar="K", dest="only", type=int,
                         help="this IF alone, counted from 0; else all of one or two")
@@ -164,9 +171,8 @@ def bank_of(source: Source, values: dict[str, list]) -> Filterbank:
         if len(centres) != channels or np.abs(even - centres).max() > 0.0005:
             raise source.refused("its channels don't lie evenly")
         values = values | {"fch1": [centres[0]], "foff": [step]}
-    if first("nbits") not in (1, 2, 4, 8, 16):
-        raise source.refused(f"it has {first('nbits')} bits, and only 1, 2, 4, 8 and 16 are taken: "
-                             "turn them into 8 bits first")
+    if first("nbits") not in (1, 2, 4, 8, 16, 32):
+        raise source.refused(f"it has {first('nbits')} bits, and only 1, 2, 4, 8, 16 and 32 are taken")
     for keyword in ("tsamp", "fch1", "foff", "tstart"):
         if keyword in values and not np.isfinite(values[keyword][0]):
             raise source.refused(f"its {keyword} is no number")
@@ -174,7 +180,7 @@ def bank_of(source: Source, values: dict[str, list]) -> Filterbank:
         channels=channels,
         bits=first("nbits"),
         ifs=first("nifs", 1),
-        is_signed=first("signed", 0) != 0 and first("nbits") >= 8,
+        is_signed=first("signed", 0) != 0 and first("nbits") in (8, 16),
         seconds=first("tsamp"),
         first=first("fch1"),
         step=first("foff"),
@@ -213,7 +219,7 @@ def dada_text(bank: Filterbank, polarisations: int) -> bytes:
         "HDR_VERSION 1.0",
         f"HDR_SIZE {LEAST_SIZE}",
         f"NCHAN {bank.channels}",
-        f"NBIT {max(bank.bits, 8)}",
+        f"NBIT {written_bits(bank)}",
         f"NPOL {polarisations}",
         "NDIM 1",
         f"TSAMP {bank.seconds * 1e6:.3f}",
@@ -227,6 +233,11 @@ def dada_text(bank: Filterbank, polarisations: int) -> bytes:
     return "".join(line + "\n" for line in lines).encode()
 
 
+def written_bits(bank: Filterbank) -> int:
+    """How many bits a value has in the DADA file."""
+    return 16 if bank.bits == 16 else 8
+
+
 def start_lines(start: float | None) -> list[str]:
     """The time of the first spectrum, from its MJD: the second, and what lies past it, to a microsecond."""
     if start is None or not 0 < start < 200_000:
@@ -236,22 +247,54 @@ def start_lines(start: float | None) -> list[str]:
     return [f"UTC_START {time:%Y-%m-%d-%H:%M:%S}", f"PICOSECONDS {microseconds % 1_000_000 * 1_000_000}"]
 
 
-def write_spectra(out: BinaryIO, source: Source, bank: Filterbank, chosen: Sequence[int]) -> int:
+def write_spectra(out: BinaryIO, source: Source, bank: Filterbank, chosen: Sequence[int], levels: Levels) -> int:
     """Writes all whole spectra, and answers how many."""
     count = 0
     for values in spectra_of(source, bank):
-        ordered = values[:, chosen, :].transpose(0, 2, 1)
-        out.write(np.ascontiguousarray(ordered).astype(f"<u{max(bank.bits, 8) // 8}").tobytes())
+        ordered = np.ascontiguousarray(values[:, chosen, :].transpose(0, 2, 1))
+        if bank.bits == 32:
+            ordered = levels.of(ordered)
+        out.write(ordered.astype(f"<u{written_bits(bank) // 8}").tobytes())
         count += len(values)
     return count
 
 
+class Levels:
+    """How floats become values of 8 bits: by the mean and the deviation that each channel of each IF has at first."""
+
+    def __init__(self) -> None:
+        self.means: np.ndarray | None = None
+        # the channels that lie far off the others
+        self.mask = "none"
+
+    def of(self, values: np.ndarray) -> np.ndarray:
+        """The values, with the mean and the deviation of a level. What is no number has the mean."""
+        mean, deviation = LEVELS[8].mean, LEVELS[8].deviation
+        known = np.isfinite(values)
+        values = np.where(known, values, 0).astype(np.float64)
+        if self.means is None:
+            count = np.maximum(known.sum(axis=0), 1)
+            self.means = values.sum(axis=0) / count
+            deviations = np.sqrt(((values - self.means)**2).sum(axis=0, where=known) / count)
+            self.gains = np.divide(deviation, deviations, out=np.zeros_like(deviations), where=deviations > 0)
+            self.mask = mask_text(np.flatnonzero(are_far(self.means, deviations, len(values))))
+        level = np.where(known, values - self.means, 0) * self.gains + mean
+        return np.rint(np.clip(level, 0, LEVELS[8].most))
+
+
+def are_far(means: np.ndarray, deviations: np.ndarray, spectra: int) -> np.ndarray:
+    """Which channels lie far off the others in any IF, by mean or by deviation."""
+    error = np.median(deviations) / np.sqrt(spectra)
+    return np.any([is_far(values, error) for values in (*means.T, *deviations.T)], axis=0)
+
+
 def spectra_of(source: Source, bank: Filterbank) -> Iterator[np.ndarray]:
-    """The values in pieces, by spectrum, IF and channel: unsigned, one to an entry."""
+    """The values in pieces, by spectrum, IF and channel: unsigned or floats, one to an entry."""
     values_in_one = bank.ifs * bank.channels
+    at_a_time = VALUES_TO_LEVEL_BY if bank.bits == 32 else VALUES_AT_A_TIME
     # a spectrum may end within a byte, so that only several of them fill whole bytes
     together = next(n for n in (1, 2, 4, 8) if n * values_in_one * bank.bits % 8 == 0)
-    pieces = max(1, VALUES_AT_A_TIME // (values_in_one * together)) * together
+    pieces = max(1, at_a_time // (values_in_one * together)) * together
     size = pieces * values_in_one * bank.bits // 8
     while some := source.some(size):
         values = unpacked(np.frombuffer(some, np.uint8), bank)
@@ -261,10 +304,11 @@ def spectra_of(source: Source, bank: Filterbank) -> Iterator[np.ndarray]:
 
 
 def unpacked(raw: np.ndarray, bank: Filterbank) -> np.ndarray:
-    """The values of some bytes, unsigned: the first in the low bits."""
+    """The values of some bytes: unsigned, the first in the low bits, or floats."""
     if bank.bits < 8:
         shifts = np.arange(0, 8, bank.bits, dtype=np.uint8)
         return (raw[:, None] >> shifts & np.uint8(2**bank.bits - 1)).reshape(-1)
-    values = raw[:len(raw) // (bank.bits // 8) * (bank.bits // 8)].view(f"<u{bank.bits // 8}")
+    kind = "f" if bank.bits == 32 else "u"
+    values = raw[:len(raw) // (bank.bits // 8) * (bank.bits // 8)].view(f"<{kind}{bank.bits // 8}")
     # the least signed value becomes 0
     return values ^ values.dtype.type(2 ** (bank.bits - 1)) if bank.is_signed else values

@@ -11,8 +11,8 @@ import numpy as np
 
 from .candidates import cells_by_delay, pulse_noise_cells
 from .headers import Header, refused
-from .level import LEVELS
-from .masks import mask_text
+from .level import FAST, LEVELS, Level
+from .masks import is_far, mask_text
 from .number import scaled
 from .paths import path_cells
 from .program import Words
@@ -29,16 +29,12 @@ USUAL_FILE_SIZE = 2**30
 MOST_STRETCH, TIMES_PULSE = 2048, 16
 # in how many pieces the data are held against each other
 PIECES = 8
-# a channel stands out that lies so many deviations of the channels off their median
-STANDS_OUT = 6
 # the forms that values may have; psr_search takes the first
 FORMS = {"<u": "unsigned, the low byte first", "<i": "signed", ">u": "unsigned, the high byte first",
          ">i": "signed, the high byte first"}
 FORM_WORDS = {"<i": "--signed", ">u": "--high-byte-first", ">i": "--signed --high-byte-first"}
 # how many values tell the form
 FORM_VALUES = 2**20
-# deviations of a normal distribution in the median of the distances from its median
-MEDIAN_DISTANCE = 0.6745
 
 
 @dataclass(frozen=True)
@@ -228,11 +224,15 @@ def level_lines(asked: argparse.Namespace, head: Header, measured: Measured, max
 
 def is_level(head: Header, measured: Measured) -> bool:
     """Whether all channels are as psr_level makes them."""
-    mean, deviation = LEVELS[head.bits]
-    far_means = np.abs(measured.means - mean * head.polarisations)
-    far_deviations = np.abs(measured.deviations - deviation * math.sqrt(head.polarisations))
-    is_near = (far_means < deviation / 4) & ((far_deviations < deviation / 4) | (measured.deviations == 0))
-    return bool(is_near.all())
+    return any(are_at(level, head, measured) for level in (LEVELS[head.bits], FAST) if level.bits == head.bits)
+
+
+def are_at(level: Level, head: Header, measured: Measured) -> bool:
+    """Whether all channels have this level."""
+    far_means = np.abs(measured.means - level.mean * head.polarisations)
+    far_deviations = np.abs(measured.deviations - level.deviation * math.sqrt(head.polarisations))
+    near = level.deviation / 4
+    return bool(((far_means < near) & ((far_deviations < near) | (measured.deviations == 0))).all())
 
 
 def stretch_to_level(head: Header, measured: Measured, max_delay: int, drift: float) -> int:
@@ -273,13 +273,6 @@ def stand_out(measured: Measured) -> np.ndarray:
 def file_numbers(head: Header, are_named: np.ndarray) -> np.ndarray:
     """The numbers of channels, which stand the highest first, in the order of the file."""
     return np.flatnonzero(are_named if head.is_falling else are_named[::-1])
-
-
-def is_far(values: np.ndarray, error: float) -> np.ndarray:
-    """Which values lie far off their median, by the usual distance from it, but no less than the error of each."""
-    distances = np.abs(values - np.median(values))
-    usual = max(float(np.median(distances)) / MEDIAN_DISTANCE, error)
-    return distances > STANDS_OUT * usual
 
 
 def delay_to_search(head: Header, dm: float | None) -> int:

@@ -7,6 +7,10 @@ import numpy as np
 
 from .refusal import WORDS, Refusal
 
+# a value that is so many deviations off the median of all lies far off
+STANDS_OUT = 6
+# deviations of a normal distribution in the median of the distances from its median
+MEDIAN_DISTANCE = 0.6745
 ITEM = re.compile(r"([0-9]{1,9})(?:-([0-9]{1,9}))?")
 
 
@@ -31,3 +35,10 @@ def masked_channels(text: str, channels: int) -> np.ndarray:
     if is_masked.all():
         raise Refusal(WORDS, "mask refused: it leaves no channel")
     return np.flatnonzero(is_masked)
+
+
+def is_far(values: np.ndarray, error: float) -> np.ndarray:
+    """Which values lie far off their median, by the usual distance from it, but no less than the error of each."""
+    distances = np.abs(values - np.median(values))
+    usual = max(float(np.median(distances)) / MEDIAN_DISTANCE, error)
+    return distances > STANDS_OUT * usual

@@ -26,3 +26,20 @@ def new_file(path: str) -> Iterator[BinaryIO]:
         if isinstance(fault, OSError):
             raise Refusal(OUTPUT, f"can't write {path}: {fault.strerror}") from fault
         raise
+
+
+@contextmanager
+def whole_file(path: str) -> Iterator[str]:
+    """The name of a file that takes the place of the one at the path once it is written. Where what writes it fails,
+    the one at the path stays as it was."""
+    place = os.path.realpath(path)
+    beside = os.path.join(os.path.dirname(place), f".{os.getpid()}.{os.path.basename(path)}")
+    try:
+        yield beside
+        os.replace(beside, place)
+    except BaseException as fault:
+        if os.path.exists(beside):
+            os.unlink(beside)
+        if isinstance(fault, OSError):
+            raise Refusal(OUTPUT, f"can't write {path}: {fault.strerror}") from fault
+        raise

@@ -13,6 +13,7 @@ from matplotlib.figure import Figure
 
 from .candidates import check_fits, fold_table, pulse_table
 from .headers import Header
+from .output import whole_file
 from .program import Words, add_search_words, entries_by, found_by
 from .refusal import OUTPUT, TEXT, WORDS, Refusal
 from .samples import Samples, fold_profile, path_sums_of
@@ -63,7 +64,8 @@ def psr_plot(words: Sequence[str]) -> None:
 def finish(figure: Figure, asked: argparse.Namespace) -> None:
     """Writes the picture, or shows it."""
     if asked.output is not None:
-        figure.savefig(asked.output)
+        with whole_file(asked.output) as name:
+            figure.savefig(name)
     if asked.show:
         matplotlib.pyplot.show()
 

@@ -10,6 +10,7 @@ import numpy as np
 
 from .candidates import fold_table, pulse_table, strongest, top_spectra, with_columns
 from .headers import Header, header
+from .output import whole_file
 from .program import Words, add_search_words, found_by
 from .refusal import WORDS, Refusal
 
@@ -32,11 +33,13 @@ def psr_table(words: Sequence[str]) -> None:
         pulses, folds = best_of(pulses, asked.best), best_of(folds, asked.best)
     if asked.output is None:
         write_csv(sys.stdout, folds if asked.folds else pulses, asked.best is not None)
-    elif asked.output.endswith(".npz"):
-        np.savez(asked.output, pulses=pulses, folds=folds)
-    else:
-        with open(asked.output, "w", encoding="ascii") as file:
-            if asked.output.endswith(".csv"):
+        return
+    with whole_file(asked.output) as name:
+        if name.endswith(".npz"):
+            np.savez(name, pulses=pulses, folds=folds)
+            return
+        with open(name, "w", encoding="ascii") as file:
+            if name.endswith(".csv"):
                 write_csv(file, folds if asked.folds else pulses, asked.best is not None)
             else:
                 write_singlepulse(file, pulses, head)

@@ -80,6 +80,20 @@ def test_signed_values(tmp_path: Path, bits: int) -> None:
     assert written.tolist() == (values.astype(int) + 2 ** (bits - 1)).tolist()
 
 
+def test_floats(tmp_path: Path, monkeypatch: pytest.MonkeyPatch, capsys: pytest.CaptureFixture[str]) -> None:
+    monkeypatch.setattr(fil, "VALUES_TO_LEVEL_BY", 64 * 2000)
+    noise = np.random.default_rng(3).normal(size=(4000, 64)).astype(np.float32)
+    values = noise * np.linspace(1e-3, 2e-3, 64, dtype=np.float32) + 5
+    values[:, 9] *= 40
+    values[0, 7], values[1, 7], values[:, 8] = np.nan, np.inf, 3
+    psr_fil([write(tmp_path / "a.fil", values.tobytes(), nbits=32), str(tmp_path / "out.dada")])
+    written = Samples([str(tmp_path / "out.dada")]).read(0, 4000)
+    assert written[:2, 7].tolist() == [64, 64] and np.all(written[:, 8] == 64)
+    usual = np.delete(np.arange(64), (7, 8))
+    assert np.abs(written[:, usual] - (64 + 8 * noise[:, usual])).max() < 2.5
+    assert "the mean 64 and the deviation 8 in 8 bits now; mask to try: 8-9\n" in capsys.readouterr().out
+
+
 def test_a_table_of_frequencies(tmp_path: Path) -> None:
     table = [entry("fchannel", 1400.0 - 0.5 * channel) for channel in range(4)]
     other = word("FREQUENCY_START") + b"".join(table) + word("FREQUENCY_END")
@@ -88,7 +102,7 @@ def test_a_table_of_frequencies(tmp_path: Path) -> None:
 
 
 @pytest.mark.parametrize("changed, status, line", [
-    ({"nbits": 32}, 3, "it has 32 bits, and only 1, 2, 4, 8 and 16 are taken"),
+    ({"nbits": 64}, 3, "it has 64 bits, and only 1, 2, 4, 8, 16 and 32 are taken"),
     ({"nifs": 4}, 3, "it has 4 IFs: choose one with --if K, K from 0 on"),
     ({"nchans": 1}, 3, "OutOfRange NCHAN"),
     ({"tsamp": None}, 3, "it has no tsamp"),

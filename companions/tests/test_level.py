@@ -8,6 +8,7 @@ import pytest
 
 import made
 from malletbean import level
+from malletbean.headers import header
 from malletbean.level import psr_level
 from malletbean.look import psr_look
 from malletbean.samples import Samples
@@ -44,6 +45,22 @@ def test_a_tilted_band_that_drifts(tmp_path: Path, monkeypatch: pytest.MonkeyPat
         assert stretch.mean(axis=0) == pytest.approx(mean, abs=0.05 * deviation)
         assert stretch.std(axis=0) == pytest.approx(deviation, rel=0.1)
     assert samples.mean() == pytest.approx(mean, abs=0.003 * deviation)
+
+
+@pytest.mark.parametrize("bits", [8, 16])
+def test_values_that_are_searched_faster(tmp_path: Path, bits: int) -> None:
+    path, out = tmp_path / "made.dada", tmp_path / "out.dada"
+    made.make(path, height=0, bits=bits)
+    head, data = path.read_bytes()[:4096].rstrip(b"\0"), path.read_bytes()[4096:]
+    head = head.replace(b"OBS_OFFSET 0", b"OBS_OFFSET %d" % (64 * bits)) + b"RESOLUTION 1024 # of the ring\n"
+    path.write_bytes(head.ljust(4096, b"\0") + data)
+    psr_level([str(path), str(out), "--fast"])
+    after = header(str(out))
+    assert (after.bits, after.offset, after.fields["RESOLUTION"]) == (8, 64 * 8, str(1024 * 8 // bits))
+    assert (after.spectra, after.fields["NCHAN"]) == (4096, "64")
+    samples = Samples([str(out)]).read(0, 4096)
+    assert samples.max() <= 40
+    assert samples.mean(axis=0) == pytest.approx(14, abs=0.1) and samples.std(axis=0) == pytest.approx(2.83, rel=0.03)
 
 
 def test_a_pulse_keeps_its_strength(tmp_path: Path) -> None:
@@ -88,7 +105,7 @@ def test_other_forms_are_known_and_turned(tmp_path: Path, capsys: pytest.Capture
     assert form_line(path, capsys).endswith(f": psr_level FILE OUT {words} turns them")
     psr_level([str(path), str(out), *words.split()])
     assert form_line(out, capsys) == ""
-    mean, deviation = level.LEVELS[bits]
+    mean, deviation = level.LEVELS[bits].mean, level.LEVELS[bits].deviation
     samples = Samples([str(out)]).read(0, 2048)
     assert samples.mean() == pytest.approx(2 * mean, abs=0.01 * deviation)
     assert samples.std() == pytest.approx(2**0.5 * deviation, rel=0.02)
