@@ -11,7 +11,7 @@ import numpy as np
 from .headers import Header, header_text, refused
 from .output import new_file
 from .program import Words
-from .refusal import WORDS, Refusal
+from .refusal import WORDS, Refusal, bytes_of
 from .samples import Samples
 
 # how many values are worked on at a time: few enough for the caches
@@ -85,10 +85,11 @@ def write_levelled(file: BinaryIO, samples: Samples, asked: argparse.Namespace, 
 
 def header_with(path: str, head: Header, level: Level) -> bytes:
     """The header of a file, with the bits of a level: then what counts its bytes counts fewer."""
+    if level.bits == head.bits:
+        return bytes_of(path, head.size)
     text, size = header_text(path)
-    if level.bits != head.bits:
-        text = b"\n".join(in_fewer_bytes(line, head.bits // level.bits) for line in text.split(b"\n"))
-    return text.ljust(size, b"\0")
+    lines = (in_fewer_bytes(line, head.bits // level.bits) for line in text.split(b"\n"))
+    return b"\n".join(lines).ljust(size, b"\0")
 
 
 def in_fewer_bytes(line: bytes, times: int) -> bytes:
