@@ -4,6 +4,7 @@ use Rattle.std.proofs.lemmas.List.{get_or-map, take-map, drop-map}
 use Rattle.std.proofs.Math.Nat.{mod-add-mod, mod-lt}
 use Rattle.search_model.specs.Folds.{shift, fold_sum}
 use Rattle.fdmt_rows.specs.Capped.{capped, capped_sum}
+use Rattle.fdmt_rows.specs.Excess.{excess}
 use Rattle.fast_fold.specs.Excess.{excesses, excess_sum, IsGreatestExcess}
 use Rattle.fast_fold.proofs.Halves.{fold_halves, of_rows}
 use Rattle.fast_fold.proofs.Ranges.{same_terms}
@@ -48,7 +49,7 @@ nothing_and p x = omega arith
 
 -- of one row
 pub excess_of_row : (base : ℕ) (values : List ℕ) (p j q : ℕ) → length values ≡ p → 0 < p
-    → excess_sum base values p 0 j q ≡ capped (slice_index values (q % p) - base)
+    → excess_sum base values p 0 j q ≡ excess base (slice_index values (q % p))
 excess_of_row base values p j q long phases =
     let inside : q % p < length values = omega (arith, mod-lt q phases) in
     let none : q + 0 ≡ q = omega arith in

@@ -6,6 +6,7 @@ use Rattle.std.proofs.lemmas.Nat.{mul-add-lt}
 use Rattle.std.proofs.Math.Nat.{mod-lt, mod-eq_of_lt, mod-add-mod, mod-eq-sub-mod, mul-le-mul_right}
 use borrow.Rule.Slice.PartMut.{put_mid}
 use Rattle.fdmt_rows.specs.Capped.{capped, capped_sum, AreRaised, LanesUpTo, SumsUpTo}
+use Rattle.fdmt_rows.specs.Excess.{excess}
 use Rattle.fast_fold.specs.Excess.{excesses, excess_sum, ExcessUpTo, IsGreatestExcess}
 use Rattle.fast_fold.specs.Merging.{at}
 use Rattle.fast_fold.specs.Tiles.{merged_sum, AreMergedTrials, MergedUpTo, AreTrials, AreTrialsOfHalves, TrialsUpTo}
@@ -21,10 +22,10 @@ use Rattle.fast_fold.proofs.Parts.{put_before, put_within}
 pub row_further : (old new values : List ℕ) (base start p from done count n n' : ℕ)
     → length values ≡ p → done + count ≤ length old → from + count ≤ p → length new ≡ n → n ≡ count → count ≤ n'
     → (start + done) % p ≡ from
-    → ((k : ℕ) → k < count → slice_index new k ≡ capped (slice_index (take n' (drop from values)) k - base))
-    → ((x : ℕ) → x < done → slice_index old x ≡ capped (slice_index values ((start + x) % length values) - base))
+    → ((k : ℕ) → k < count → slice_index new k ≡ excess base (slice_index (take n' (drop from values)) k))
+    → ((x : ℕ) → x < done → slice_index old x ≡ excess base (slice_index values ((start + x) % length values)))
     → (x : ℕ) → x < done + count
-    → slice_index (put_mid done n old new) x ≡ capped (slice_index values ((start + x) % length values) - base)
+    → slice_index (put_mid done n old new) x ≡ excess base (slice_index values ((start + x) % length values))
 row_further old new values base start p from done count n n' is_period room inside long is_count le is_from part so_far
     x lt = elim (cases_lt x done) [
       | inl h ↦ put_before done n old new x h (omega arith) ∙ so_far x h
@@ -39,7 +40,7 @@ row_further old new values base start p from done count n n' is_period room insi
           ∙ mod-eq_of_lt small in
           put_within done n old new x k (omega arith) (omega arith) (omega arith) long
           ∙ part k (omega arith)
-          ∙ ap (λ y. capped (y - base))
+          ∙ ap (λ y. excess base y)
           (get_or-take n' (drop from values) k 0 (omega arith)
           ∙ get_or-drop from values k 0
           ∙ ap (λ i. slice_index values i) (sym place))
@@ -62,7 +63,7 @@ round_again start p from done count phases is_from whole =
 -- a row is all trials of itself
 pub trials_of_row : (row values : List ℕ) (base p start width stride r rows n : ℕ) → r ≡ 0 → rows ≡ 2 ^ r
     → rows * p ≡ length values → rows * stride ≡ n → 0 < p → width ≤ stride
-    → ((x : ℕ) → x < n → slice_index row x ≡ capped (slice_index values ((start + x) % length values) - base))
+    → ((x : ℕ) → x < n → slice_index row x ≡ excess base (slice_index values ((start + x) % length values)))
     → AreTrials row base values p start width stride r
 trials_of_row row values base p start width stride r rows n level are whole size phases le filled =
     let one : rows ≡ 1 = are ∙ ap (λ n. 2 ^ n) level in
@@ -74,7 +75,7 @@ trials_of_row row values base p start width stride r rows n level are whole size
     let first : j * stride + x ≡ x = ap (λ n. n * stride + x) (let e : j ≡ 0 = omega arith in e) ∙ omega arith in
     ap (λ k. slice_index row k) first
     ∙ filled x (omega arith)
-    ∙ ap (λ m. capped (slice_index values ((start + x) % m) - base)) long
+    ∙ ap (λ m. excess base (slice_index values ((start + x) % m))) long
     ∙ sym (excess_of_row base values p j (start + x) long phases))
 
 -- ---- trials that are merged of both halves

@@ -3,7 +3,6 @@
 #![tactic(auto)]
 
 mod folder;
-mod lanes;
 mod merge;
 mod powers;
 mod tiles;

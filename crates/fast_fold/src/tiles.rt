@@ -1,13 +1,13 @@
 // The greatest sum of all trials of a period, by halves, some phases of all trials at a time: so few that the rows of a
 // tile stay in the first cache. The last halving is not stored.
 ghost use Rattle.std.specs.Prelude.{◌≡◌, ℕ, ◌+◌, ◌-◌, ◌*◌, ◌%◌, ◌^◌, ◌<◌, ◌≤◌, length, slice_index};
-ghost use Rattle.fdmt_rows.specs.Capped.{capped, capped_sum, AreRaised};
+ghost use Rattle.fdmt_rows.specs.Capped.{capped_sum, AreRaised};
+ghost use Rattle.fdmt_rows.specs.Excess.{excess};
 ghost use Rattle.fast_fold.specs.Excess.{IsGreatestExcess};
 ghost use Rattle.fast_fold.specs.Tiles.{AreMergedTrials, MergedUpTo, AreTrials, AreTrialsOfHalves, TrialsUpTo};
 
-use crate::lanes::write_excess;
 use crate::powers::power;
-use fdmt_rows::{LANES, add_capped_rows, greatest_lane, raise_to_sums};
+use fdmt_rows::{LANES, add_capped_rows, greatest_lane, raise_to_sums, write_excess};
 use std::simd::prelude::*;
 
 /// The most halvings of a tile.
@@ -33,7 +33,7 @@ struct Tile {
 fn load_row(out: &mut [u16], values: &[u32], base: u32, start: usize)
     requires start { start < length values.now }
     ensures { (x : ℕ) → x < length out.old → slice_index out.new x
-        ≡ capped (slice_index values.now ((start + x) % length values.now) - base) }
+        ≡ excess base (slice_index values.now ((start + x) % length values.now)) }
 {
     let mut done = 0;
     let mut from = start;

@@ -6,10 +6,10 @@ use lib.Lanes.{sel_l, top}
 use mir.Syntax.{Width}
 use mir.Val.{bits, hbits}
 use Rattle.std.proofs.lemmas.Simd.{tops_compared, length-zip2, get_or-zip2, length-sel_l, get_or-sel_l}
-use Rattle.std.proofs.lemmas.List.{get_or_past}
 use Rattle.fdmt_rows.specs.Capped.{AreRaised, LanesUpTo}
-use Rattle.fdmt_rows.specs.Excess.{IsLeastBound}
+use Rattle.fdmt_rows.specs.Rows.{IsGreatest}
 use Rattle.fdmt_rows.specs.Writes.{Writes}
+use Rattle.fdmt_rows.proofs.GreatestValues.{least_bound_is_greatest}
 use Rattle.fdmt_rows.proofs.Raising.{lanes_up_to, lesser_is_min, raised_twice, zero_lanes}
 use Rattle.fdmt_rows.proofs.Steps.{greater_is_max}
 
@@ -92,16 +92,12 @@ more_looked old mid new start lanes most raised value done at next begins within
     }
 
 -- and the greatest lane is the greatest of them, where lanes began at 0
-pub least_bound : (old new lanes : List ℕ) (value : ℕ → ℕ) (done most : ℕ) → length new ≡ done
+pub greatest_looked : (old new lanes : List ℕ) (value : ℕ → ℕ) (done most : ℕ) → length new ≡ done
     → Looked old new (replicate 16 0) lanes value done → LanesUpTo lanes most
-    → ((bound : ℕ) → LanesUpTo lanes bound → most ≤ bound) → IsLeastBound new most
-least_bound old new lanes value done most long looked enough least = record {
-  enough = λ k. elim (cases_lt k (length new)) [
-    | inl lt ↦ subst (λ (x : ℕ). x ≤ most) (sym (looked.written.written k (omega arith) (omega arith)))
-        (looked.raised.enough most enough k (omega arith))
-    | inr past ↦ subst (λ (x : ℕ). x ≤ most) (sym (get_or_past new k 0 past)) (omega arith)
-  ];
-  least = λ bound up. least bound (looked.raised.least bound
-      (λ lane. let zero_lane = zero_lanes lane in omega arith)
-      (λ k lt. subst (λ (x : ℕ). x ≤ bound) (looked.written.written k (omega arith) lt) (up k)));
-}
+    → ((bound : ℕ) → LanesUpTo lanes bound → most ≤ bound) → IsGreatest new most
+greatest_looked old new lanes value done most long looked enough least = least_bound_is_greatest new most
+    (λ k lt. subst (λ (x : ℕ). x ≤ most) (sym (looked.written.written k (omega arith) (omega arith)))
+    (looked.raised.enough most enough k (omega arith)))
+    (λ bound up. least bound (looked.raised.least bound
+    (λ lane. let zero_lane = zero_lanes lane in omega arith)
+    (λ k lt. subst (λ (x : ℕ). x ≤ bound) (looked.written.written k (omega arith) lt) (up k))))

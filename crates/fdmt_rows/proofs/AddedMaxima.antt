@@ -1,10 +1,9 @@
 -- The greatest of the sums of two rows.
-use Rattle.std.proofs.Common.{◌≡◌, ℕ, ◌+◌, ◌<◌, ◌≤◌, inl, inr, List, length, slice_index, max, ◌∙◌, sym, ap, subst, arith}
-use Rattle.std.proofs.lemmas.Bool.{cases_lt}
-use Rattle.std.proofs.lemmas.List.{get_or_past, get_or_default, same_lists}
+use Rattle.std.proofs.Common.{◌≡◌, ℕ, ◌+◌, ◌<◌, ◌≤◌, List, length, slice_index, max, ◌∙◌, sym, ap, arith}
+use Rattle.std.proofs.lemmas.List.{get_or_default, same_lists}
 use Rattle.std.proofs.lemmas.Simd.{get_or-zip2, length-zip2}
-use Rattle.fdmt_rows.specs.Lanes.{AreLaneGreatest, IsZeroOrIn}
-use Rattle.fdmt_rows.specs.Rows.{IsGreatest, sums_of, wrapping_sum}
+use Rattle.fdmt_rows.specs.Lanes.{AreLaneGreatest}
+use Rattle.fdmt_rows.specs.Rows.{sums_of, wrapping_sum}
 use Rattle.fdmt_rows.specs.Writes.{Writes}
 use Rattle.fdmt_rows.proofs.GreatestValues.{lanes_more}
 
@@ -22,27 +21,6 @@ pub sums_more : (a b lanes new : List ℕ) (done : ℕ) → length a ≡ length 
 sums_more a b lanes new done same room so_far long is =
     lanes_more (sums_of a b) lanes new done so_far long
     (λ j lt. is j lt ∙ ap (λ y. max (slice_index lanes j) y) (sym (sum_at a b (done + j) same (omega arith))))
-
--- a bound of all values that is one of them
-pub is_greatest : (row : List ℕ) (x : ℕ) → ((k : ℕ) → k < length row → slice_index row k ≤ x) → IsZeroOrIn row x
-    → IsGreatest row x
-is_greatest row x bound found = record {
-  bound = λ k. elim (cases_lt k (length row)) [
-    | inl lt ↦ bound k lt
-    | inr ge ↦ subst (λ (y : ℕ). y ≤ x) (sym (get_or_past row k 0 ge)) (omega arith)
-  ];
-  empty = λ none. elim found [
-    | inl zero ↦ zero
-    | inr (k, lt, is) ↦ absurd (omega arith)
-  ];
-  attained = λ some. elim found [
-    | inl zero ↦
-        let b = bound 0 some in
-        let first : slice_index row 0 ≡ x = omega arith in
-        (0, some, get_or_default row 0 x 0 some ∙ first)
-    | inr there ↦ there
-  ];
-}
 
 -- all sums are written
 pub all_written : (old new a b : List ℕ) (end : ℕ) → length new ≡ length a → length a ≡ length b → length new ≤ end

@@ -1,9 +1,10 @@
-// What values have above a base, in 16 bits, and the greatest of it in the same pass. Each step takes sixteen values.
-// The last one takes the last sixteen, some of them again where it has to, so that no value is left for a loop of single
-// ones.
+// What values have above a base, in 16 bits, sixteen values a step. Where the greatest of it is found in the same pass,
+// the last step takes the last sixteen values, some of them again where it has to, so that no value is left for a loop of
+// single ones.
 ghost use Rattle.std.specs.Prelude.{◌≡◌, ℕ, ◌+◌, ◌-◌, ◌<◌, ◌≤◌, length, slice_index};
 ghost use Rattle.fdmt_rows.specs.Capped.{capped_sum, AreRaised, LanesUpTo};
-ghost use Rattle.fdmt_rows.specs.Excess.{excess, excess_of_two, IsLeastBound, AreValues};
+ghost use Rattle.fdmt_rows.specs.Excess.{excess, excess_of_two, AreValues};
+ghost use Rattle.fdmt_rows.specs.Rows.{IsGreatest};
 ghost use Rattle.fdmt_rows.specs.Writes.{Writes};
 
 use crate::capped::{add_capped, greater, greatest_lane, sums_at};
@@ -82,6 +83,41 @@ fn excess_at(values: &[u32], base: u32, at: usize) -> u16x16
     lanes.cast::<u16>()
 }
 
+#[inline(always)]
+fn write_excess_lanes(out: &mut [u16], values: &[u32], base: u32, at: usize)
+    requires room { at + LANES ≤ length out.old }
+    requires same { length values.now ≡ length out.old }
+    ensures { Writes out.old out.new at (at + LANES) (λ k. excess base (slice_index values.now k)) }
+{
+    excess_at(values, base, at).copy_to_slice(&mut out[at..]);
+}
+
+#[inline(always)]
+fn write_excess_whole_lanes(out: &mut [u16], values: &[u32], base: u32) -> usize
+    requires { length values.now ≡ length out.old }
+    ensures within { result ≤ length out.new }
+    ensures whole { length out.new < result + LANES }
+    ensures written { Writes out.old out.new 0 result
+        (λ k. excess base (slice_index values.now k)) }
+{
+    let steps = out.len() / LANES;
+    for step in 0..steps {
+        write_excess_lanes(out, values, base, step * LANES);
+    }
+    steps * LANES
+}
+
+/// Writes what values of 32 bits have above a base, in 16 bits. A value below the base counts as 0. What is written as
+/// 65535 stands for itself and for all that is greater.
+pub fn write_excess(out: &mut [u16], values: &[u32], base: u32)
+    requires { length values.now ≡ length out.old }
+    ensures { AreValues out.new (λ k. excess base (slice_index values.now k)) }
+{
+    for k in write_excess_whole_lanes(out, values, base)..out.len() {
+        out[k] = values[k].saturating_sub(base).min(MOST) as u16;
+    }
+}
+
 /// Adds what the values of two rows have above a base each, in 16 bits, and gives the greatest sum. A value below its
 /// base counts as 0. A sum of 65535 stands for itself and for all that are greater.
 pub fn add_excess_greatest(
@@ -97,7 +133,7 @@ pub fn add_excess_greatest(
     ensures excess { AreValues out.new
         (λ k. excess_of_two upper_base lower_base (slice_index upper.now k)
         (slice_index lower.now k)) }
-    ensures greatest { IsLeastBound out.new result }
+    ensures greatest { IsGreatest out.new result }
 {
     let mut most = u16x16::splat(0);
     for step in 0..(out.len() - 1) / LANES {
@@ -117,7 +153,7 @@ pub fn add_capped_greatest(out: &mut [u16], first: &[u16], second: &[u16]) -> u1
     requires second { length second.now ≡ length out.old }
     ensures sums { AreValues out.new
         (λ k. capped_sum (slice_index first.now k) (slice_index second.now k)) }
-    ensures greatest { IsLeastBound out.new result }
+    ensures greatest { IsGreatest out.new result }
 {
     let mut most = u16x16::splat(0);
     for step in 0..(out.len() - 1) / LANES {
@@ -128,13 +164,12 @@ pub fn add_capped_greatest(out: &mut [u16], first: &[u16], second: &[u16]) -> u1
     greatest_lane(store_and_raise(most, out, sums_at(first, second, last), last))
 }
 
-/// Writes what values of 32 bits have above a base, in 16 bits, and gives the greatest of it. A value below the base
-/// counts as 0. What is written as 65535 stands for itself and for all that is greater.
+/// Does what `write_excess` does, and gives the greatest of it.
 pub fn write_excess_greatest(out: &mut [u16], values: &[u32], base: u32) -> u16
     requires some { LANES ≤ length out.old }
     requires same { length values.now ≡ length out.old }
     ensures excess { AreValues out.new (λ k. excess base (slice_index values.now k)) }
-    ensures greatest { IsLeastBound out.new result }
+    ensures greatest { IsGreatest out.new result }
 {
     let mut most = u16x16::splat(0);
     for step in 0..(out.len() - 1) / LANES {

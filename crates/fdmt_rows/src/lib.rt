@@ -16,7 +16,7 @@ mod narrow;
 pub use adding_maxima::add_rows_greatest;
 pub use capped::{add_capped_rows, greatest_lane, greatest_narrow_sum, raise_to_sums};
 pub use copies::{copy_narrow_row, copy_row};
-pub use excess::{add_capped_greatest, add_excess_greatest, write_excess_greatest};
+pub use excess::{add_capped_greatest, add_excess_greatest, write_excess, write_excess_greatest};
 pub use lanes::LANES;
 use lanes::{add_to_whole_lanes, add_whole_lanes, widen_whole_lanes};
 use maxima::{greatest_lanes, greatest_of_lanes};

@@ -23,5 +23,5 @@ loop-done-preserved c =
       filled = row_further c.loop-done.out c.write_excess.new.out c.args.values.now c.args.base c.args.start
           (length c.args.values.now) from done count n (from + count - from) refl room (omega (arith, least)) long
           (omega arith) (omega arith) (before.at (omega (arith, least)))
-          (λ k lt. c.write_excess.ensures k (omega (arith, part, lt))) before.filled;
+          (λ k lt. c.write_excess.ensures k (omega (arith, long, lt))) before.filled;
     }

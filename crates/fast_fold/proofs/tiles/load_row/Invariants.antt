@@ -1,5 +1,5 @@
 use Rattle.std.proofs.Common.{◌≡◌, ℕ, ◌+◌, ◌-◌, ◌%◌, ◌<◌, ◌≤◌, length, slice_index}
-use Rattle.fdmt_rows.specs.Capped.{capped}
+use Rattle.fdmt_rows.specs.Excess.{excess}
 use Rattle.fast_fold.proofs.tiles.load_row.Given as goal
 
 -- the places so far are filled
@@ -9,7 +9,7 @@ invariant-loop-done l = record {
   phase : l.from < length l.values;
   at : l.done < length l.out → (l.start + l.done) % length l.values ≡ l.from;
   filled : (x : ℕ) → x < l.done
-      → slice_index l.out x ≡ capped (slice_index l.values ((l.start + x) % length l.values) - l.base);
+      → slice_index l.out x ≡ excess l.base (slice_index l.values ((l.start + x) % length l.values));
 }
 
 abbrev pub decreases-loop-done : goal.decreases-loop-done

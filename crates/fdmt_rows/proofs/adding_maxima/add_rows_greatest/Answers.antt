@@ -1,7 +1,7 @@
 use Rattle.std.proofs.Common.{rules, ℕ, ◌≡◌, List, length, max, ◌∙◌, ap, sym, subst, arith}
 use Rattle.fdmt_rows.specs.Rows.{IsGreatest, sums_of}
-use Rattle.fdmt_rows.proofs.GreatestValues.{one_more, at_is_in, greater_is_in}
-use Rattle.fdmt_rows.proofs.AddedMaxima.{sum_at, is_greatest, all_written}
+use Rattle.fdmt_rows.proofs.GreatestValues.{one_more, at_is_in, greater_is_in, is_greatest}
+use Rattle.fdmt_rows.proofs.AddedMaxima.{sum_at, all_written}
 use Rattle.fdmt_rows.proofs.adding_maxima.add_rows_greatest.Goals as goal
 
 pub loop-k-preserved : goal.loop-k-preserved

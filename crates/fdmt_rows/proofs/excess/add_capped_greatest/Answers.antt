@@ -1,6 +1,6 @@
 use Rattle.std.proofs.Common.{ℕ, ◌+◌, ◌-◌, ◌*◌, length, slice_index, replicate, arith}
 use Rattle.fdmt_rows.specs.Capped.{capped_sum}
-use Rattle.fdmt_rows.proofs.Above.{Looked, least_bound, more_looked}
+use Rattle.fdmt_rows.proofs.Above.{Looked, greatest_looked, more_looked}
 use Rattle.fdmt_rows.proofs.excess.add_capped_greatest.Goals as goal
 
 pub loop-step-preserved : goal.loop-step-preserved
@@ -24,5 +24,5 @@ returns-clause-greatest c =
     c.loop-step.most c.store_and_raise.result value done (count - 16) count (omega arith) (omega arith) (omega arith)
     c.sums_at-2.ensures.long c.sums_at-2.ensures.sums c.loop-step.invariant c.store_and_raise.ensures.stored
     c.store_and_raise.ensures.raised in
-    least_bound c.args.out.now c.store_and_raise.new.out c.store_and_raise.result value count c.greatest_lane.result
+    greatest_looked c.args.out.now c.store_and_raise.new.out c.store_and_raise.result value count c.greatest_lane.result
     (omega arith) looked c.greatest_lane.ensures.enough c.greatest_lane.ensures.least

@@ -1,7 +1,0 @@
-use Rattle.std.proofs.Common.{◌-◌, ◌*◌, slice_index}
-use Rattle.fdmt_rows.specs.Capped.{capped}
-use Rattle.fdmt_rows.specs.Writes.{Writes}
-use Rattle.fast_fold.proofs.lanes.excess_whole_lanes.Given as goal
-
-abbrev pub invariant-loop-step : goal.invariant-loop-step
-invariant-loop-step l = Writes l.fn.out l.out 0 (l.step * 16) (λ k. capped (slice_index l.values k - l.base))
