@@ -112,10 +112,7 @@ all_below line rows stride base total level greatest wide least order small belo
     let sum_is = ap (λ n. sum_from line i n) whole in
     omega (arith, most, sum_is, below)
 
--- none yet, and one width more
-pub none_below : (line : List ℕ) (total : ℕ) (leasts : List (Option ℕ)) → AreAllBelow line total leasts 0
-none_below line total leasts level least lt is = absurd (omega arith)
-
+-- one width more
 pub one_below : (line : List ℕ) (total : ℕ) (leasts : List (Option ℕ)) (levels : ℕ)
     → AreAllBelow line total leasts levels
     → ((least : ℕ) → slice_get leasts levels ≡ Some (Some least) → AreBelow line total levels least)

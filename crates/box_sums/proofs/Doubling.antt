@@ -143,6 +143,13 @@ bounds_more boxes line bounds stride level width total most is inside are bound 
           (omega (arith, same, box, same_sum, b))
     ]
 
+-- the next width is no wider than the widest that is asked for
+pub next_width : (known wide width : ℕ) → known < wide → width ≡ 2 ^ known → 2 * width ≤ 2 ^ wide
+next_width known wide width more is =
+    let fewer : 2 ^ (known + 1) ≤ 2 ^ wide = pow_mono (let l : known + 1 ≤ wide = omega arith in l) in
+    let twice : 2 ^ (known + 1) ≡ 2 ^ known * 2 = pow-add 2 known 1 in
+    omega arith
+
 -- one width more is made
 pub made_more : (old new line greatest : List ℕ) (stride known prior level width total most : ℕ)
     → prior + 1 ≡ known → known < level → width ≡ 2 ^ known → total ≤ stride → known + 1 < length greatest

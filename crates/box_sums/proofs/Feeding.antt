@@ -1,5 +1,5 @@
 -- What a feed leaves, and what boxes read of it.
-use Rattle.std.proofs.Common.{◌≡◌, refl, ℕ, ◌+◌, ◌-◌, ◌*◌, ◌^◌, ◌<◌, ◌≤◌, inl, inr, List, length, slice_index, sum, take, drop, replicate, ◌++◌, ◌∙◌, sym, ap, subst, arith, length-append, length-take, append_assoc}
+use Rattle.std.proofs.Common.{◌≡◌, ◌≢◌, refl, ℕ, ◌+◌, ◌-◌, ◌*◌, ◌^◌, ◌<◌, ◌≤◌, inl, inr, List, length, slice_index, sum, take, drop, replicate, ◌++◌, ◌∙◌, sym, ap, subst, arith, length-append, length-take, append_assoc}
 use Rattle.std.specs.List.{All}
 use Rattle.std.proofs.lemmas.Bool.{cases_lt}
 use Rattle.std.proofs.lemmas.List.{drop_all, take-take, drop-drop, drop-take, drop-append-le, length-replicate, get_or_past}
@@ -8,7 +8,7 @@ use Rattle.std.proofs.lemmas.List.Sums.{sum_by-le}
 use Rattle.std.proofs.Math.Nat.{mul-le-mul_right}
 use Rattle.std.proofs.Math.Pow.{pow_mono}
 use Rattle.fdmt_rows.specs.Rows.{sum_from}
-use Rattle.box_sums.specs.Tails.{row_at}
+use Rattle.box_sums.specs.Tails.{FeedsRow, KeepsRow, LeavesOthers, RowTails, StandsForRow, row_at}
 use Rattle.box_sums.specs.Rows.{sum_ending, Keeps}
 use Rattle.box_sums.specs.Tables.{AreBounds, AreMade, AreUpTo}
 use Rattle.box_sums.proofs.Doubling.{boxes_bounded}
@@ -117,6 +117,33 @@ pub same_row : (old given new kept : List ℕ) (stride e : ℕ) → given ≡ ol
     → row_at new stride e ≡ row_at given stride e → row_at old stride e ≡ row_at kept stride e
 same_row old given new kept stride e same_old same_new same =
     sym (ap (λ ys. row_at ys stride e) same_old) ∙ sym same ∙ sym (ap (λ ys. row_at ys stride e) same_new)
+
+-- where row d of the table was written, the other rows stand for what they stood for
+pub others_left : (b old : RowTails) (given new kept : List ℕ) (d : ℕ) → b ≡ old → given ≡ b.tails → kept ≡ new
+    → KeepsRow old d
+    → ((k : ℕ) → k ≢ d - b.first → row_at new b.reach k ≡ row_at given b.reach k)
+    → LeavesOthers old (record b { tails = kept }) d
+others_left b old given new kept d same_view same_given same_kept row others =
+    subst (λ (o : RowTails). KeepsRow o d → LeavesOthers o (record b { tails = kept }) d) same_view
+    (λ row e xs has other stands.
+    let above = row.above in
+    let mine = has.above in
+    subst (λ (ys : List ℕ). Keeps ys b.reach 0 xs)
+    (same_row b.tails given new kept b.reach (e - b.first) same_given same_kept
+    (others (e - b.first) (λ same. other (omega (arith, above, mine, same)))))
+    stands)
+    row
+
+-- and where the last values of the line of a feed were written there, row d was fed with it
+pub row_fed : (b old : RowTails) (line new kept feed : List ℕ) (d : ℕ) → b ≡ old → kept ≡ new
+    → ((xs : List ℕ) → StandsForRow b d xs → Keeps line b.reach (length feed) (xs ++ feed))
+    → take b.reach (row_at new b.reach (d - b.first)) ≡ take b.reach (drop (length feed) line)
+    → FeedsRow old (record b { tails = kept }) d feed
+row_fed b old line new kept feed d same_view same_kept fed last =
+    subst (λ (o : RowTails). FeedsRow o (record b { tails = kept }) d feed) same_view
+    (λ xs stands.
+    subst (λ (ys : List ℕ). Keeps (row_at ys b.reach (d - b.first)) b.reach 0 (xs ++ feed)) (sym same_kept)
+    (tail_keeps line (row_at new b.reach (d - b.first)) (xs ++ feed) b.reach (length feed) (fed xs stands) last))
 
 -- what is made is no wider than the widest
 pub made_narrow : (made level result widest : ℕ) → 2 ^ made ≤ widest → 2 ^ level ≤ widest

@@ -1,6 +1,6 @@
 -- What is kept of the rows that are fed.
 -- Source: this project's choice.
-use Rattle.std.specs.Prelude.{ℕ, ◌+◌, ◌-◌, ◌*◌, ◌^◌, ◌≡◌, ◌<◌, ◌≤◌, List, Option, length, take, drop}
+use Rattle.std.specs.Prelude.{ℕ, ◌+◌, ◌-◌, ◌*◌, ◌^◌, ◌≡◌, ◌≢◌, ◌<◌, ◌≤◌, ◌++◌, List, Option, length, take, drop}
 use Rattle.std.specs.List.{All}
 use Rattle.box_sums.specs.Excess.{plain_sums}
 use Rattle.box_sums.specs.Rows.{Keeps}
@@ -50,6 +50,14 @@ pub record HasLastFeed (b : RowTails) (d n : ℕ) (xs : List ℕ) : Type 0 where
 pub record KeepsRow (b : RowTails) (d : ℕ) : Type 0 where
   pub above : b.first ≤ d
   pub below : d ≤ b.last
+
+-- row d was fed with these values, behind those that were fed of it before
+abbrev pub FeedsRow : RowTails → RowTails → ℕ → List ℕ → Type 0
+FeedsRow b c d feed = (xs : List ℕ) → StandsForRow b d xs → StandsForRow c d (xs ++ feed)
+
+-- each row but row d stands for what it stood for before
+abbrev pub LeavesOthers : RowTails → RowTails → ℕ → Type 0
+LeavesOthers b c d = (e : ℕ) (xs : List ℕ) → KeepsRow b e → e ≢ d → StandsForRow b e xs → StandsForRow c e xs
 
 -- both are opened alike
 pub record AreAlike (b c : RowTails) : Type 0 where

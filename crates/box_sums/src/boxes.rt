@@ -3,7 +3,7 @@ ghost use Rattle.std.specs.Prelude.{◌≡◌, ℕ, ◌+◌, ◌-◌, ◌*◌, �
 ghost use Rattle.std.specs.List.{All};
 ghost use Rattle.dada_model.specs.Bounds.{most_delay};
 ghost use Rattle.search_model.specs.Search.{longest_chunk};
-ghost use Rattle.box_sums.specs.Tails.{RowTails, StandsForRow, IsNewest, IsKept, HasLastFeed, KeepsRow, AreAlike, CanFeedHalves, IsOpened};
+ghost use Rattle.box_sums.specs.Tails.{RowTails, StandsForRow, IsNewest, IsKept, HasLastFeed, KeepsRow, FeedsRow, LeavesOthers, AreAlike, CanFeedHalves, IsOpened};
 ghost use Rattle.box_sums.specs.Rows.{IsWidth, SumsAddValues, ending_in_feed, sum_ending};
 ghost use Rattle.box_sums.specs.Excess.{plain_sums};
 ghost use Rattle.box_sums.specs.Tables.{TablesAreSound};
@@ -132,8 +132,7 @@ impl Boxes {
             → HasLastFeed self.new d (length row.now) (xs ++ row.now) }
         ensures newest { (xs : List ℕ) → StandsForRow self.old d xs
             → IsNewest self.new d (length row.now) (xs ++ row.now) }
-        ensures others { (e : ℕ) (xs : List ℕ) → KeepsRow self.old e → e ≢ d
-            → StandsForRow self.old e xs → StandsForRow self.new e xs }
+        ensures others { LeavesOthers self.old self.new d }
         ensures kept { (e n : ℕ) (xs : List ℕ) → KeepsRow self.old e → e ≢ d
             → IsKept self.old e n xs → IsKept self.new e n xs }
     {
@@ -161,13 +160,11 @@ impl Boxes {
         requires short { length row.now ≤ self.old.chunk }
         requires small { All (λ x. x ≤ self.old.bound) row.now }
         ensures alike { AreAlike self.new self.old }
-        ensures own { (xs : List ℕ) → StandsForRow self.old d xs
-            → StandsForRow self.new d (xs ++ row.now) }
+        ensures own { FeedsRow self.old self.new d row.now }
         ensures last { self.new.newest ≡ d }
         ensures newest { (xs : List ℕ) → (1 < self.old.widest → StandsForRow self.old d xs)
             → IsNewest self.new d (length row.now) (xs ++ row.now) }
-        ensures others { (e : ℕ) (xs : List ℕ) → KeepsRow self.old e → e ≢ d
-            → StandsForRow self.old e xs → StandsForRow self.new e xs }
+        ensures others { LeavesOthers self.old self.new d }
         ensures kept { (e n : ℕ) (xs : List ℕ) → IsKept self.old e n xs → IsKept self.new e n xs }
     {
         let at = (d - self.first) as usize;
@@ -198,10 +195,9 @@ impl Boxes {
     ) -> bool
         requires { CanFeedHalves self.old d upper.now lower.now leasts.now }
         ensures same { self.new ≡ record self.old { tails = self.new.tails } }
-        ensures own { result ≡ true → (xs : List ℕ) → StandsForRow self.old d xs
-            → StandsForRow self.new d (xs ++ plain_sums upper.now lower.now) }
-        ensures others { (e : ℕ) (xs : List ℕ) → KeepsRow self.old e → e ≢ d
-            → StandsForRow self.old e xs → StandsForRow self.new e xs }
+        ensures own { result ≡ true
+            → FeedsRow self.old self.new d (plain_sums upper.now lower.now) }
+        ensures others { LeavesOthers self.old self.new d }
         ensures below { result ≡ true → (xs : List ℕ) (level least k : ℕ)
             → StandsForRow self.old d xs → level < length leasts.now
             → slice_get leasts.now level ≡ Some (Some least) → k < length upper.now

@@ -2,7 +2,7 @@
 ghost use Rattle.std.specs.Prelude.{◌≡◌, ℕ, ◌+◌, ◌-◌, ◌*◌, ◌^◌, ◌<◌, ◌≤◌, ◌++◌, false, List, Some, IfOk, length, slice_index};
 ghost use Rattle.fdmt_rows.specs.Capped.{capped_sum};
 ghost use Rattle.fdmt_rows.specs.Excess.{excess, excess_of_two};
-ghost use Rattle.box_sums.specs.Excess.{AreAllBelow, AreBelow, AreExcess, plain_sums};
+ghost use Rattle.box_sums.specs.Excess.{AreAllBelow, AreExcess, plain_sums};
 
 use crate::sums::width_of;
 use fdmt_rows::{add_capped_greatest, add_excess_greatest, write_excess_greatest};
@@ -142,92 +142,68 @@ fn double(rows: &mut [u16], stride: usize, level: usize, width: usize, count: us
     )
 }
 
-// How great a box of 2^level values is at most, which is no further above its bases than this.
-fn most_of(base: u32, level: usize, greatest: u16) -> u64
-    requires { level ≤ 5 }
-    ensures value { result ≡ base * 2 ^ level + greatest }
-    ensures bound { result < 2 ^ 38 }
-{
-    u64::from(base) * width_of(level) as u64 + u64::from(greatest)
+// The row of boxes that was made last, each of 2^level values, and the greatest value of it.
+#[derive(Clone, Copy)]
+struct Made {
+    level: usize,
+    greatest: u16,
 }
 
-// Whether a box of 2^wide values may reach `least`, where boxes of 2^level values are no further above their bases than
-// `greatest`: it is so many of these.
-fn may_reach_by(base: u32, level: usize, greatest: u16, wide: usize, least: u32) -> bool
-    requires order { level ≤ wide }
-    requires few { wide ≤ 5 }
-    ensures known { result ≡ false → greatest < 65535 }
-    ensures below { result ≡ false
-        → (base * 2 ^ level + greatest) * 2 ^ (wide - level) < least }
-{
-    if greatest == u16::MAX {
-        return true;
+impl Made {
+    // How great a box of 2^level values is at most, as none is further above its bases than `greatest`.
+    fn most(self, base: u32) -> u64
+        requires { self.level ≤ 5 }
+        ensures value { result ≡ base * 2 ^ self.level + self.greatest }
+        ensures bound { result < 2 ^ 38 }
+    {
+        u64::from(base) * width_of(self.level) as u64 + u64::from(self.greatest)
     }
-    most_of(base, level, greatest) * width_of(wide - level) as u64 >= u64::from(least)
+
+    // Whether a box of 2^wide values may reach `least`: it is 2^(wide - level) boxes of this row.
+    fn may_reach(self, base: u32, wide: usize, least: u32) -> bool
+        requires order { self.level ≤ wide }
+        requires few { wide ≤ 5 }
+        ensures known { result ≡ false → self.greatest < 65535 }
+        ensures below { result ≡ false
+            → (base * 2 ^ self.level + self.greatest) * 2 ^ (wide - self.level) < least }
+    {
+        if self.greatest == u16::MAX {
+            return true;
+        }
+        self.most(base) * width_of(wide - self.level) as u64 >= u64::from(least)
+    }
 }
 
 // Makes boxes of further widths, up to those of 2^wide values, but none past the width whose greatest shows that they
-// are below `least`. Row `level` is made, with this greatest value; gives the row that is made last, and its own.
+// are below `least`. Gives the row that is made last.
 fn refine(
     rows: &mut [u16],
     stride: usize,
     base: u32,
     total: usize,
-    level: usize,
-    greatest: u16,
+    mut made: Made,
     wide: usize,
     least: u32,
-) -> (usize, u16)
-    requires order { level ≤ wide }
+) -> Made
+    requires order { made.level ≤ wide }
     requires few { wide ≤ 5 }
     requires rows { length rows.old ≡ 6 * stride }
     requires short { total ≤ stride }
     requires room { 2 ^ wide + 15 ≤ total }
-    ensures more { level ≤ result.0 }
-    ensures within { result.0 ≤ wide }
-    ensures excess { (line : List ℕ) → AreExcess line rows.old stride base total level greatest
-        → AreExcess line rows.new stride base total result.0 result.1 }
+    ensures more { made.level ≤ result.level }
+    ensures within { result.level ≤ wide }
+    ensures excess { (line : List ℕ)
+        → AreExcess line rows.old stride base total made.level made.greatest
+        → AreExcess line rows.new stride base total result.level result.greatest }
 {
-    let mut most = greatest;
-    for known in level..wide {
-        if !may_reach_by(base, known, most, wide, least) {
-            return (known, most);
-        }
-        let width = width_of(known);
-        most = double(rows, stride, known, width, total + 1 - 2 * width);
+    while made.level < wide && made.may_reach(base, wide, least) {
+        let width = width_of(made.level);
+        made = Made {
+            level: made.level + 1,
+            greatest: double(rows, stride, made.level, width, total + 1 - 2 * width),
+        };
     }
-    (wide, most)
-}
-
-// Whether a box of 2^wide values may reach `least`, if that is there. Row `level` is made, with this greatest value;
-// gives the row that is made last, and its own, before the answer.
-fn judge(
-    rows: &mut [u16],
-    stride: usize,
-    base: u32,
-    total: usize,
-    level: usize,
-    greatest: u16,
-    wide: usize,
-    least: Option<u32>,
-) -> (usize, u16, bool)
-    requires order { level ≤ wide }
-    requires few { wide ≤ 5 }
-    requires rows { length rows.old ≡ 6 * stride }
-    requires short { total ≤ stride }
-    requires room { 2 ^ wide + 15 ≤ total }
-    ensures within { result.0 ≤ wide }
-    ensures excess { (line : List ℕ) → AreExcess line rows.old stride base total level greatest
-        → AreExcess line rows.new stride base total result.0 result.1 }
-    ensures below { result.2 ≡ false → (line : List ℕ) (sum : ℕ)
-        → AreExcess line rows.old stride base total level greatest → least ≡ Some sum
-        → AreBelow line total wide sum }
-{
-    let Some(least) = least else {
-        return (level, greatest, false);
-    };
-    let (known, most) = refine(rows, stride, base, total, level, greatest, wide, least);
-    (known, most, may_reach_by(base, known, most, wide, least))
+    made
 }
 
 // Whether a box of any width may reach the least sum of its width. Row 0 is made, with this greatest value.
@@ -247,15 +223,15 @@ fn any_may_reach(
         → AreExcess line rows.old stride base total 0 greatest
         → AreAllBelow line total leasts.now (length leasts.now) }
 {
-    let (mut known, mut most) = (0, greatest);
-    for level in 0..leasts.len() {
-        let least = leasts[level];
-        let judged = judge(rows, stride, base, total, known, most, level, least);
-        if judged.2 {
+    let mut made = Made { level: 0, greatest };
+    for wide in 0..leasts.len() {
+        let Some(least) = leasts[wide] else {
+            continue;
+        };
+        made = refine(rows, stride, base, total, made, wide, least);
+        if made.may_reach(base, wide, least) {
             return true;
         }
-        known = judged.0;
-        most = judged.1;
     }
     false
 }

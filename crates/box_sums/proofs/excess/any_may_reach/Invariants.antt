@@ -2,11 +2,11 @@ use Rattle.std.proofs.Common.{ℕ, ◌≤◌, List}
 use Rattle.box_sums.specs.Excess.{AreAllBelow, AreExcess}
 use Rattle.box_sums.proofs.excess.any_may_reach.Given as goal
 
-abbrev pub invariant-loop-level : goal.invariant-loop-level
-invariant-loop-level l = record {
-  order : l.known ≤ l.level;
+abbrev pub invariant-loop-wide : goal.invariant-loop-wide
+invariant-loop-wide l = record {
+  order : l.made.level ≤ l.wide;
   excess : (line : List ℕ) → AreExcess line l.fn.rows l.stride l.base l.total 0 l.greatest
-      → AreExcess line l.rows l.stride l.base l.total l.known l.most;
+      → AreExcess line l.rows l.stride l.base l.total l.made.level l.made.greatest;
   below : (line : List ℕ) → AreExcess line l.fn.rows l.stride l.base l.total 0 l.greatest
-      → AreAllBelow line l.total l.leasts l.level;
+      → AreAllBelow line l.total l.leasts l.wide;
 }

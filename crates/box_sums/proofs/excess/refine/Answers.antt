@@ -1,52 +1,38 @@
-use Rattle.std.proofs.Common.{ℕ, ◌≡◌, ◌+◌, ◌-◌, ◌*◌, ◌^◌, ◌≤◌, refl, subst, arith}
-use Rattle.std.proofs.lemmas.Nat.{pow-add, pow_pos}
-use Rattle.std.proofs.Math.Pow.{pow_mono}
-use Rattle.box_sums.specs.Excess.{AreExcess}
+use Rattle.std.proofs.Common.{◌+◌, ◌-◌, ◌*◌, refl, arith}
+use Rattle.std.proofs.lemmas.Nat.{pow_pos}
 use Rattle.box_sums.proofs.Above.{doubled}
+use Rattle.box_sums.proofs.Doubling.{next_width}
 use Rattle.box_sums.proofs.excess.refine.Goals as goal
-
--- the next width is no wider than the widest that is asked for
-next_width : (known wide width total : ℕ) → known + 1 ≤ wide → width ≡ 2 ^ known → 2 ^ wide + 15 ≤ total
-    → 2 * width + 15 ≤ total
-next_width known wide width total more is room =
-    let fewer : 2 ^ (known + 1) ≤ 2 ^ wide = pow_mono more in
-    let twice : 2 ^ (known + 1) ≡ 2 ^ known * 2 = pow-add 2 known 1 in
-    omega arith
 
 pub overflow_sub-total : goal.overflow_sub-total
 overflow_sub-total c =
-    let next = next_width c.loop-known.known c.args.wide c.width_of-width.result c.args.total (omega arith)
-    c.width_of-width.ensures.value c.requires.room in
+    let next = next_width c.loop-made.made.level c.args.wide c.width_of-width.result (omega arith)
+    c.width_of-width.ensures.value in
     omega (arith, next)
 
-pub double-most-requires-clause-inside : goal.double-most-requires-clause-inside
-double-most-requires-clause-inside c =
-    let next = next_width c.loop-known.known c.args.wide c.width_of-width.result c.args.total (omega arith)
-    c.width_of-width.ensures.value c.requires.room in
-    let short = c.requires.short in
-    let some = pow_pos c.loop-known.known in
+pub double-requires-clause-inside : goal.double-requires-clause-inside
+double-requires-clause-inside c =
     let width = c.width_of-width.ensures.value in
-    omega (arith, next, short, some, width)
+    let next = next_width c.loop-made.made.level c.args.wide c.width_of-width.result (omega arith) width in
+    let some = pow_pos c.loop-made.made.level in
+    omega (arith, next, some, width)
 
-pub double-most-requires-clause-some : goal.double-most-requires-clause-some
-double-most-requires-clause-some c =
-    let next = next_width c.loop-known.known c.args.wide c.width_of-width.result c.args.total (omega arith)
-    c.width_of-width.ensures.value c.requires.room in
+pub double-requires-clause-some : goal.double-requires-clause-some
+double-requires-clause-some c =
+    let next = next_width c.loop-made.made.level c.args.wide c.width_of-width.result (omega arith)
+    c.width_of-width.ensures.value in
     omega (arith, next)
 
-pub loop-known-preserved : goal.loop-known-preserved
-loop-known-preserved c = record {
-  excess = λ line before.
-      doubled c.loop-known.rows c.double-most.new.rows line c.args.stride c.args.base c.args.total c.loop-known.known
-      c.width_of-width.result (c.args.total + 1 - 2 * c.width_of-width.result) c.loop-known.most c.double-most.result
-      c.width_of-width.ensures.value refl c.double-most.ensures.doubled c.double-most.ensures.bound
-      (c.loop-known.invariant.excess line before);
-}
-
-pub returns-clause-excess : goal.returns-clause-excess
-returns-clause-excess c = λ line before.
-    let end = c.loop-known.auto.known-end c.requires.order in
-    let done = c.loop-known-test.false in
-    let same : c.loop-known.known ≡ c.args.wide = omega (arith, end, done) in
-    subst (λ (known : ℕ). AreExcess line c.loop-known.rows c.args.stride c.args.base c.args.total known
-    c.loop-known.most) same (c.loop-known.invariant.excess line before)
+pub loop-made-preserved : goal.loop-made-preserved
+loop-made-preserved c =
+    let made = c.loop-made.made in
+    let before = c.loop-made.invariant in
+    let first = before.more in
+    record {
+      more = omega (arith, first);
+      within = omega arith;
+      excess = λ line are.
+          doubled c.loop-made.rows c.double.new.rows line c.args.stride c.args.base c.args.total made.level
+          c.width_of-width.result (c.args.total + 1 - 2 * c.width_of-width.result) made.greatest c.double.result
+          c.width_of-width.ensures.value refl c.double.ensures.doubled c.double.ensures.bound (before.excess line are);
+    }

@@ -1,12 +1,11 @@
-use Rattle.std.proofs.Common.{ℕ, ◌≡◌, ◌≢◌, ◌+◌, ◌-◌, ◌*◌, ◌^◌, ◌++◌, List, length, take, drop, ◌∙◌, sym, ap, subst, arith}
+use Rattle.std.proofs.Common.{ℕ, ◌≡◌, ◌+◌, ◌-◌, ◌*◌, ◌^◌, ◌++◌, length, take, drop, ◌∙◌, sym, ap, subst, arith}
 use Rattle.std.proofs.lemmas.List.{take_at}
 use Rattle.box_sums.specs.Excess.{plain_sums}
-use Rattle.box_sums.specs.Rows.{Keeps}
 use Rattle.box_sums.specs.Tables.{AreUpTo, TablesAreSound}
 use Rattle.box_sums.specs.Tails.{RowTails, StandsForRow, row_at}
 use Rattle.box_sums.proofs.Above.{last_small, last_sums, sums_line, sums_long}
 use Rattle.box_sums.proofs.Ending.{box_is_ending}
-use Rattle.box_sums.proofs.Feeding.{all_up_to, ending_fits, same_row, tail_keeps}
+use Rattle.box_sums.proofs.Feeding.{all_up_to, ending_fits, others_left, row_fed}
 use Rattle.box_sums.proofs.Parts.{append_small, part_length, part_small}
 use Rattle.box_sums.proofs.boxes.Boxes.feed_quiet.Goals as goal
 
@@ -94,7 +93,7 @@ invariant_of-self-2 c =
     }
 
 pub returns-clause-own : goal.returns-clause-own
-returns-clause-own c = λ yes xs stands.
+returns-clause-own c = λ yes.
     let f = c.self.inside in
     let at : ℕ = c.args.d - f.first in
     let upper = c.args.upper.now in
@@ -102,36 +101,25 @@ returns-clause-own c = λ yes xs stands.
     let sums = plain_sums upper lower in
     let tail = c.front_of-tail.result.now in
     let same = c.requires.same in
-    let many = sums_long upper lower same in
     let from : ℕ = length upper - f.reach in
     let enough = c.if-upper-self.false in
     let last_long : length (take (length upper - from) (drop from upper)) ≡ f.reach =
     part_length from (length upper - from) upper (omega arith) ∙ omega (arith, enough) in
-    let row = subst (λ (b : RowTails). StandsForRow b c.args.d xs) (sym c.self.view_is) stands in
-    let line = sums_line f.tails.items tail upper lower xs f.reach at c.front_of-tail.ensures.long row
-    (c.front_of-tail.ensures.values ∙ ap (λ ys. row_at ys f.reach at) c.as_slice.ensures.value) in
-    subst (λ (ys : List ℕ). Keeps (row_at ys f.reach at) f.reach 0 (xs ++ sums))
-    (sym (take_at c.write_sums.new.table _ f.tails.len (c.write_sums.auto.table ∙ c.as_mut_slice.ensures.len)))
-    (tail_keeps (tail ++ sums) (row_at c.write_sums.new.table f.reach at) (xs ++ sums) f.reach (length sums) line
+    row_fed _ c.args.self.now (tail ++ sums) c.write_sums.new.table _ sums c.args.d c.self.view_is
+    (take_at c.write_sums.new.table _ f.tails.len (c.write_sums.auto.table ∙ c.as_mut_slice.ensures.len))
+    (λ xs row. sums_line f.tails.items tail upper lower xs f.reach at c.front_of-tail.ensures.long row
+    (c.front_of-tail.ensures.values ∙ ap (λ ys. row_at ys f.reach at) c.as_slice.ensures.value))
     (ap (λ k. take k (row_at c.write_sums.new.table f.reach at)) (sym last_long)
     ∙ c.write_sums.ensures.own
     ∙ sym (last_sums tail upper lower f.reach from same c.front_of-tail.ensures.long (omega (arith, enough)))
-    ∙ ap (λ k. take f.reach (drop k (tail ++ sums))) (sym many)))
+    ∙ ap (λ k. take f.reach (drop k (tail ++ sums))) (sym (sums_long upper lower same)))
 
 pub returns-clause-others : goal.returns-clause-others
-returns-clause-others c = λ e xs has other stands.
-    let f = c.self.inside in
-    let first : f.first ≡ c.args.self.now.first = ap (λ (b : RowTails). b.first) c.self.view_is in
-    let above = c.requires.row.above in
-    let mine = has.above in
-    let apart : e - f.first ≢ c.args.d - f.first = λ same. other (omega (arith, above, mine, same, first)) in
-    let row = subst (λ (b : RowTails). StandsForRow b e xs) (sym c.self.view_is) stands in
-    subst (λ (ys : List ℕ). Keeps ys f.reach 0 xs)
-    (same_row f.tails.items c.as_mut_slice.result.now c.write_sums.new.table _ f.reach (e - f.first)
+returns-clause-others c =
+    others_left _ c.args.self.now c.as_mut_slice.result.now c.write_sums.new.table _ c.args.d c.self.view_is
     c.as_mut_slice.ensures.value
-    (take_at c.write_sums.new.table _ f.tails.len (c.write_sums.auto.table ∙ c.as_mut_slice.ensures.len))
-    (c.write_sums.ensures.others (e - f.first) apart))
-    row
+    (take_at c.write_sums.new.table _ c.self.inside.tails.len (c.write_sums.auto.table ∙ c.as_mut_slice.ensures.len))
+    c.requires.row c.write_sums.ensures.others
 
 pub returns-clause-below : goal.returns-clause-below
 returns-clause-below c = λ yes xs level least k stands lt is inside.

@@ -1,11 +1,11 @@
-use Rattle.std.proofs.Common.{inl, inr, ℕ, ◌≡◌, ◌≢◌, ◌+◌, ◌-◌, ◌≤◌, ◌++◌, List, length, take, drop, ◌∙◌, sym, ap, subst, refl, arith}
+use Rattle.std.proofs.Common.{inl, inr, ℕ, ◌≡◌, ◌+◌, ◌-◌, ◌≤◌, ◌++◌, List, length, take, drop, ◌∙◌, sym, ap, subst, refl, arith}
 use Rattle.std.proofs.lemmas.Bool.{cases_lt}
 use Rattle.std.proofs.lemmas.List.{take_at}
 use Rattle.std.specs.List.{All}
 use Rattle.box_sums.specs.Tails.{RowTails, StandsForRow, row_at}
 use Rattle.box_sums.specs.Rows.{Keeps}
 use Rattle.box_sums.specs.Tables.{AreUpTo}
-use Rattle.box_sums.proofs.Feeding.{none_kept, line_keeps, tail_keeps, same_row, made_seen, sum_fits, all_up_to}
+use Rattle.box_sums.proofs.Feeding.{none_kept, line_keeps, others_left, row_fed, made_seen, sum_fits, all_up_to}
 use Rattle.box_sums.proofs.Parts.{part_small, drop_small}
 use Rattle.box_sums.proofs.boxes.Boxes.feed_unkept.Goals as goal
 
@@ -127,38 +127,26 @@ returns-clause-newest c = λ xs stands.
     }
 
 pub returns-clause-own : goal.returns-clause-own
-returns-clause-own c = λ xs stands.
+returns-clause-own c =
     let f = c.self.inside in
     let at : ℕ = c.args.d - f.first in
-    let tail = subst (λ (b : RowTails). StandsForRow b c.args.d xs) (sym c.self.view_is) stands in
-    let line : Keeps c.join.new.line f.reach (length c.args.row.now) (xs ++ c.args.row.now) =
-    line_keeps f.tails.items c.join.new.line c.front_of-tail.result.now c.args.row.now xs f.reach at tail
-    (c.front_of-tail.ensures.values ∙ ap (λ ys. row_at ys f.reach at) c.as_slice.ensures.value)
-    (ap (λ k. take (k + length c.args.row.now) c.join.new.line) (sym c.front_of-tail.ensures.long)
-    ∙ c.join.ensures.values) in
+    let feed = c.args.row.now in
     let line_is : c.as_slice-2.result.now ≡ c.join.new.line =
     c.as_slice-2.ensures.value
     ∙ take_at c.join.new.line _ f.line.len (c.join.auto.line ∙ c.as_mut_slice.ensures.len) in
-    subst (λ (ys : List ℕ). Keeps (row_at ys f.reach at) f.reach 0 (xs ++ c.args.row.now))
-    (sym (take_at c.write_row.new.table _ f.tails.len (c.write_row.auto.table ∙ c.as_mut_slice-2.ensures.len)))
-    (tail_keeps c.join.new.line (row_at c.write_row.new.table f.reach at) (xs ++ c.args.row.now) f.reach
-    (length c.args.row.now) line
+    row_fed _ c.args.self.now c.join.new.line c.write_row.new.table _ feed c.args.d c.self.view_is
+    (take_at c.write_row.new.table _ f.tails.len (c.write_row.auto.table ∙ c.as_mut_slice-2.ensures.len))
+    (λ xs row. line_keeps f.tails.items c.join.new.line c.front_of-tail.result.now feed xs f.reach at row
+    (c.front_of-tail.ensures.values ∙ ap (λ ys. row_at ys f.reach at) c.as_slice.ensures.value)
+    (ap (λ k. take (k + length feed) c.join.new.line) (sym c.front_of-tail.ensures.long) ∙ c.join.ensures.values))
     (ap (λ k. take k (row_at c.write_row.new.table f.reach at)) (sym c.front_of-last.ensures.long)
     ∙ c.write_row.ensures.own
     ∙ c.front_of-last.ensures.values
-    ∙ ap (λ ys. take f.reach (drop (length c.args.row.now) ys)) line_is))
+    ∙ ap (λ ys. take f.reach (drop (length feed) ys)) line_is)
 
 pub returns-clause-others : goal.returns-clause-others
-returns-clause-others c = λ e xs has other stands.
-    let f = c.self.inside in
-    let first : f.first ≡ c.args.self.now.first = ap (λ (b : RowTails). b.first) c.self.view_is in
-    let above = c.requires.row.above in
-    let mine = has.above in
-    let apart : e - f.first ≢ c.args.d - f.first = λ same. other (omega (arith, above, mine, same, first)) in
-    let row = subst (λ (b : RowTails). StandsForRow b e xs) (sym c.self.view_is) stands in
-    subst (λ (ys : List ℕ). Keeps ys f.reach 0 xs)
-    (same_row f.tails.items c.as_mut_slice-2.result.now c.write_row.new.table _ f.reach (e - f.first)
+returns-clause-others c =
+    others_left _ c.args.self.now c.as_mut_slice-2.result.now c.write_row.new.table _ c.args.d c.self.view_is
     c.as_mut_slice-2.ensures.value
-    (take_at c.write_row.new.table _ f.tails.len (c.write_row.auto.table ∙ c.as_mut_slice-2.ensures.len))
-    (c.write_row.ensures.others (e - f.first) apart))
-    row
+    (take_at c.write_row.new.table _ c.self.inside.tails.len (c.write_row.auto.table ∙ c.as_mut_slice-2.ensures.len))
+    c.requires.row c.write_row.ensures.others
