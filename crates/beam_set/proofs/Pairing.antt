@@ -18,15 +18,6 @@ module _ {A : Type 0} (xs zs : List A) where
       ap (λ (j : ℕ). get_or zs j d) (sym back) ∙ sym (right_at (n + k) d n is (omega arith))
 
 module _ {A B : Type 0} (P : A → B → Type 0) (xs zs : List A) (us vs : List B) (same : length us ≡ length xs) where
-  pub pairs_left : EachPair P (xs ++ zs) (us ++ vs) → EachPair P xs us
-  pairs_left pairs = record {
-    count = omega (arith, same);
-    each = λ k x u near.
-        subst (λ (w : B). P (get_or xs k x) w) (left_at us vs k u (omega (arith, same)))
-        (subst (λ (z : A). P z (get_or (us ++ vs) k u)) (left_at xs zs k x near)
-        (pairs.each k x u (omega (arith, length-append xs zs))));
-  }
-
   pub pairs_right : EachPair P (xs ++ zs) (us ++ vs) → EachPair P zs vs
   pairs_right pairs =
       let all = pairs.count in
@@ -36,22 +27,6 @@ module _ {A B : Type 0} (P : A → B → Type 0) (xs zs : List A) (us vs : List 
             subst (λ (w : B). P (get_or zs k z) w) (sym (right_from us vs k v (length xs) same))
             (subst (λ (y : A). P y (get_or (us ++ vs) (length xs + k) v)) (sym (right_from xs zs k z (length xs) refl))
             (pairs.each (length xs + k) z v (omega (arith, length-append xs zs))));
-      }
-
-  pub pairs_join : EachPair P xs us → EachPair P zs vs → EachPair P (xs ++ zs) (us ++ vs)
-  pairs_join left right =
-      let less = right.count in
-      record {
-        count = omega (arith, less, same, length-append xs zs, length-append us vs);
-        each = λ k z v near. elim (cases_lt k (length xs)) [
-          | inl below ↦
-              subst (λ (w : B). P (get_or (xs ++ zs) k z) w) (sym (left_at us vs k v (omega (arith, same))))
-              (subst (λ (y : A). P y (get_or us k v)) (sym (left_at xs zs k z below)) (left.each k z v below))
-          | inr above ↦
-              subst (λ (w : B). P (get_or (xs ++ zs) k z) w) (sym (right_at us vs k v (length xs) same above))
-              (subst (λ (y : A). P y (get_or vs (k - length xs) v)) (sym (right_at xs zs k z (length xs) refl above))
-              (right.each (k - length xs) z v (omega (arith, length-append xs zs))))
-        ];
       }
 
 -- ---- moves

@@ -2,7 +2,7 @@
 use Rattle.std.proofs.Common.{◌≡◌, ℕ, ◌%◌, ◌<◌, ◌≤◌, inl, inr, List, [], ◌∷◌, ◌++◌, length, get_or, Option, Some, None, refl, sym, ap, subst, ◌∙◌, arith}
 use Rattle.std.specs.Prelude.{All, Contains}
 use Rattle.std.proofs.lemmas.List.{get_or-map, length-map}
-use Rattle.std.proofs.lemmas.List.Elements.{All-nil, All-push, All-contains, All-from_get_or, Contains-get_or, Contains-push_cases}
+use Rattle.std.proofs.lemmas.List.Elements.{All-push, All-contains, All-from_get_or, Contains-get_or, Contains-push_cases}
 use Rattle.std.proofs.lemmas.List.Quantifiers.{all_pairs_push}
 use Rattle.search_model.specs.declared.candidate.Candidate.{Candidate}
 use Rattle.search_model.specs.Candidates.{delay_of}
@@ -14,13 +14,6 @@ use Rattle.book_bench.specs.Parts.{IsPart, Continues, EndsWith}
 
 no_member : {X : Type 0} (x : X) → Contains {X = X} [] x → ⊥
 no_member x (k, h, e) = absurd (omega arith)
-
-pub part_begins : (n k : ℕ) → IsPart n k []
-part_begins n k = record {
-  rises = λ i j d below small. absurd (omega arith);
-  searched = All-nil IsSearched;
-  shared = All-nil (λ c. delay_of c % n ≡ k);
-}
 
 -- each candidate of the list precedes one that may stand behind its last
 all_precede : (list : List Candidate) (last : Option Candidate) (x : Candidate) → OrderIsStrict →

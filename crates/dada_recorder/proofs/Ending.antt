@@ -10,7 +10,7 @@ use Rattle.stream_model.specs.BlockLaws.{EndsAreCounted, EntriesAreOfTransfers}
 use Rattle.stream_model.specs.Recorded.{recorded_file}
 use Rattle.dada_recorder.specs.Making.{Outset, HasMade, IsFileFront}
 use Rattle.dada_recorder.specs.Blocks.{RecordPlan, PlanInRange, files_of_blocks}
-use Rattle.dada_recorder.specs.Recording.{GoesOn, IsWhole, IsGivenUp, IsBrokenOff}
+use Rattle.dada_recorder.specs.Recording.{GoesOn, IsWhole, IsGivenUp}
 use Rattle.dada_recorder.specs.declared.transfers.Transfers.{Transfers}
 use Rattle.dada_recorder.specs.TransferFiles.{recording_in, first_files}
 use Rattle.dada_recorder.specs.Transfers.{plan_in, files_of_first, IsRunning, HasAppended}
@@ -74,17 +74,6 @@ cut_is_given_up law counts t t' headers blocks bytes has same finished =
       cut = cut_more counts blocks (entry Cut bytes) has.goes_on.uncut;
       begun = omega (arith, ends, begun);
       count = finished ∙ count_all law t headers blocks (entry Cut bytes) has;
-    })
-
-pub end_breaks_off : EndsAreCounted → (t t' : Transfers) (headers blocks : List Entry) (block : Entry) →
-    HasAppended t headers blocks block → plan_in t' ≡ plan_in t →
-    IsBrokenOff (plan_in t') headers (blocks ++ block ∷ [])
-end_breaks_off counts t t' headers blocks block has same =
-    let ends = ended_more counts blocks block in
-    let begun = has.goes_on.begun in
-    plan_stays t t' (λ p. IsBrokenOff p headers (blocks ++ block ∷ [])) same (record {
-      in_limits = in_limits_with t headers blocks block has;
-      begun = omega (arith, ends, begun);
     })
 
 -- what stays where a transfer's files are closed

@@ -12,9 +12,6 @@ use Rattle.dada_recorder.proofs.Fronts.{front_follows, front_longer, front_befor
 
 -- ---- lists of files
 
-new_file : List ℕ → NamedBytes
-new_file name = record { name = name; bytes = [] }
-
 opened : List NamedBytes → NamedBytes → Made
 opened files file = record { finished = files; unfinished = Some file }
 

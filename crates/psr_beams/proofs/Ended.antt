@@ -13,9 +13,7 @@ use Rattle.beam_set.specs.Beams.{CanBeWritten, found_in}
 use Rattle.beam_set.specs.Laws.{HoldsData, BeamsHoldData, SearchedBeamsAreFound}
 use Rattle.beam_set.specs.Searched.{found_by, searched_beams_text}
 use Rattle.beam_set.specs.Text.{beams_text}
-use Rattle.run_stop.specs.declared.stop.Stop.{Stop}
-use Rattle.run_stop.specs.declared.stop.Stop.TheVariants.{TooMany}
-use Rattle.psr_beams.specs.Ends.{slot_stop, stop_in, slot_count, counted_in, StopsFirst, CountsTooMany, NoneCountsTooMany}
+use Rattle.psr_beams.specs.Ends.{slot_stop, stop_in, slot_count, counted_in, NoneCountsTooMany}
 
 module _ (ends : List (Option BeamEnd)) where
   -- what stands at a place
@@ -34,35 +32,6 @@ module _ (ends : List (Option BeamEnd)) where
       stop_in ends k ≡ None
   none_more n slot before is within none =
       more (λ k. stop_in ends k ≡ None) n before (ap (slot_stop n) (here n slot is within) ∙ none)
-
-  pub stops_here : (n : ℕ) (slot : Option BeamEnd) (stop : Stop) → ((k : ℕ) → k < n → stop_in ends k ≡ None) →
-      slot ≡ get_or ends n slot → n < length ends → slot_stop n slot ≡ Some stop → StopsFirst ends stop
-  stops_here n slot stop before is within some = record {
-    beam = n;
-    there = within;
-    is = ap (slot_stop n) (here n slot is within) ∙ some;
-    earlier = before;
-  }
-
-  pub few_more : (limit n : ℕ) (slot : Option BeamEnd) (count : ℕ) → ((k : ℕ) → k < n → counted_in ends k ≤ limit) →
-      slot ≡ get_or ends n slot → n < length ends → count ≡ slot_count slot → count ≤ limit → (k : ℕ) → k < n + 1 →
-      counted_in ends k ≤ limit
-  few_more limit n slot count before is within counted few =
-      more (λ k. counted_in ends k ≤ limit) n before
-      (subst (λ m. m ≤ limit) (counted ∙ ap slot_count (sym (here n slot is within))) few)
-
-  pub many_here : (limit n : ℕ) (slot : Option BeamEnd) (count : ℕ) → ((k : ℕ) → k < n → counted_in ends k ≤ limit) →
-      slot ≡ get_or ends n slot → n < length ends → count ≡ slot_count slot → limit < count →
-      CountsTooMany ends limit (TooMany count limit)
-  many_here limit n slot count before is within counted many =
-      let same = counted ∙ ap slot_count (sym (here n slot is within)) in
-      record {
-        beam = n;
-        there = within;
-        is = ap (λ m. TooMany m limit) same;
-        many = subst (λ m. limit < m) same many;
-        earlier = before;
-      }
 
   -- ---- the lists
 

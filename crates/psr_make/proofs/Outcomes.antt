@@ -3,7 +3,7 @@ use Rattle.std.proofs.Common.{◌≡◌, ℕ, inl, inr, List, Result, Ok, Err, r
 use Rattle.psr_base.specs.Made.{FilesSeen}
 use Rattle.psr_base.specs.Written.{SinkSeen, Wrote, Noted}
 use Rattle.psr_make.specs.Stop.{status_of, note_of}
-use Rattle.psr_make.specs.Outcome.{ForAsked, Outcome, EndsAtWords, EndsMaking, EndsWhole, EndsBy}
+use Rattle.psr_make.specs.Outcome.{ForAsked, Outcome, EndsAtWords, EndsMaking, EndsBy}
 use Rattle.psr_make.specs.declared.stop.Stop.{Stop}
 use Rattle.psr_make.specs.declared.stop.Stop.TheVariants.{Words, Value, Memory, RecordFault}
 
@@ -57,20 +57,6 @@ module _ (words : List (List ℕ)) (old new : FilesSeen) (notes_old notes_new : 
     untouched = λ e f. absurd (f refl);
     silent = λ e. absurd (omega arith);
     noted = λ e. record { stop = RecordFault; answered = refl; cause = tt; line = line };
-  }
-
-  pub whole_outcome : EndsWhole words old new → notes_new ≡ notes_old → Outcome words old new notes_old notes_new 0
-  whole_outcome ends silent = record {
-    known = (0, lit< tt, refl);
-    made = λ e. ends.made;
-    asked = λ e f. ends.asked;
-    words_refused = λ e. absurd (omega arith);
-    record_fault = λ e. absurd (omega arith);
-    front = λ e. absurd (omega arith);
-    files_quiet = λ e. ends.quiet;
-    untouched = λ e f. absurd (e refl);
-    silent = λ e. silent;
-    noted = λ e. absurd (e refl);
   }
 
   pub stop_outcome : (stop : Stop) → EndsBy words old new stop → Noted (note_of stop) notes_old notes_new

@@ -72,21 +72,6 @@ word_apart word.Memory h = (later_apart 5 h).1 refl
 no_checkpoint : Checkpoint
 no_checkpoint = record { place = 0; pulses = 0 }
 
--- a run's own stops have no status of 13
-pub no_thirteen : (stop : Stop) → status_of stop ≢ 13
-no_thirteen Words e = omega (arith, e)
-no_thirteen (Value opt) e = omega (arith, e)
-no_thirteen (Header file cause) e = omega (arith, e)
-no_thirteen (Plan cause) e = omega (arith, e)
-no_thirteen (Recording cause) e = omega (arith, e)
-no_thirteen Memory e = omega (arith, e)
-no_thirteen ReadFault e = omega (arith, e)
-no_thirteen (Gap file expected found) e = omega (arith, e)
-no_thirteen (TooLong limit) e = omega (arith, e)
-no_thirteen (TooMany count limit) e = omega (arith, e)
-no_thirteen SinkFault e = omega (arith, e)
-no_thirteen FileFault e = omega (arith, e)
-
 -- ---- parts of the outcome
 
 module _ (words : List (List ℕ)) where

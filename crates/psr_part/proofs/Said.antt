@@ -1,7 +1,6 @@
 -- The words of the search of a part.
-use Rattle.std.proofs.Common.{◌≡◌, ℕ, ◌<◌, List, Bool, true, Option, Some, refl, sym, ap, length, inl, inr}
-use Rattle.std.specs.Prelude.{nat_lt, is_some, unwrap_or, ◌&&◌}
-use Rattle.std.proofs.lemmas.Bool.{lt-ltb}
+use Rattle.std.proofs.Common.{◌≡◌, ℕ, List, true, Option, Some, sym, ap, inl, inr}
+use Rattle.std.specs.Prelude.{unwrap_or}
 use Rattle.search_words.specs.declared.fault.WordFault.{WordFault}
 use Rattle.search_words.specs.declared.fault.WordFault.TheVariants.{Refused, OutOfRange, Memory}
 use Rattle.warm_restart.specs.declared.checkpoint.Checkpoint.{Checkpoint}
@@ -12,15 +11,6 @@ use Rattle.psr_part.specs.Part.{until_in, until_word, has_form, part_search}
 -- what the words say where they have the form
 pub until_is : (words : List (List ℕ)) (until : ℕ) → until_of (until_word words) ≡ Some until → until ≡ until_in words
 until_is words until e = sym (ap (λ (o : Option ℕ). unwrap_or o 0) e)
-
-both : (a b : Bool) → a ≡ true → b ≡ true → (a && b) ≡ true
-both a b ea eb = rw (ea, eb) refl
-
-pub form_is : (words : List (List ℕ)) (until : ℕ) → 2 < length words → until_of (until_word words) ≡ Some until →
-    has_form words ≡ true
-form_is words until there e =
-    both (nat_lt 2 (length words)) (is_some (until_of (until_word words))) (lt-ltb 2 (length words) there)
-    (ap (λ (o : Option ℕ). is_some o) e)
 
 -- what a fault says of the words of a search that stand after their form
 pub explains : (words : List (List ℕ)) (from : Checkpoint) (fault : WordFault) → has_form words ≡ true →

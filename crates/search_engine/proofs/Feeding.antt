@@ -14,8 +14,8 @@ use Rattle.search_model.specs.SampleLaws.{SamplesOfBytes}
 use Rattle.search_model.specs.Samples.{Filterbank, filterbank, samples_of}
 use Rattle.spectra_rows.specs.Unpacking.{OpenedAlike, Unpacking, StandsForBytes, spectrum_bytes, unpacked}
 use Rattle.subband_plan.specs.Nodes.{BandPlan}
-use Rattle.search_engine.specs.Engine.{EngineState, Searches, HoldsData, HasTakenChunks, StandsForPart, BeginsWith, most_fed, scope_of}
-use Rattle.search_engine.specs.Scope.{Scope, bytes_in, kept_by, kept_samples, spectrum_size}
+use Rattle.search_engine.specs.Engine.{EngineState, Searches, HoldsData, HasTakenChunks, BeginsWith, most_fed}
+use Rattle.search_engine.specs.Scope.{kept_by, kept_samples, spectrum_size}
 use Rattle.shard_search.specs.Sums.{ShardState, StandsForStream, ContinuesStream, SumsAlike}
 use Rattle.search_engine.proofs.Data.{begins_before, data_begin}
 use Rattle.search_engine.proofs.Sizes.{size_some, whole_are, given_fit, held_fit}
@@ -268,17 +268,3 @@ searched_holds o bytes rows e u t b h r holds is_alike whole given alike fed sam
           (omega arith) later))
           (next_spectra o bytes rows e r holds few samples f later);
     }
-
--- ---- what was fed
-
--- an engine that took as much, and searched more of it, was fed the same bytes
-pub fed_still : (o : Observation) (bytes : List ℕ) (e f : EngineState) → scope_of f ≡ scope_of e → f.fed ≡ e.fed →
-    ((taken : List ℕ) → HasTakenChunks o taken e → HasTakenChunks o taken f) → StandsForPart o bytes e →
-    StandsForPart o bytes f
-fed_still o bytes e f scope fed more stands = record {
-  numbers = stands.numbers;
-  count = stands.count ∙ sym fed;
-  chunks = subst (λ taken. HasTakenChunks o taken f)
-      (sym (ap (λ (c : Scope). bytes_in o c.sought bytes) scope))
-      (more (bytes_in o e.sums.pulses.sought bytes) stands.chunks);
-}

@@ -68,25 +68,6 @@ grown b word [] = refl
 grown true word (names ∷ more) = refl
 grown false word (names ∷ more) = ap (λ v. v && list_all has_names more) (lt-ltb 0 (suc (length names)) (omega arith))
 
--- a name comes
-pub name_comes : (b : Bool) (word : List ℕ) (files : List (List ℕ)) → is_plus word ≡ false →
-    all_from b (transfers_in (word ∷ files)) ≡ all_from true (transfers_in files)
-name_comes b word files e =
-    ap (λ v. all_from b (cond v ([] ∷ transfers_in files) (with_first word (transfers_in files)))) e
-    ∙ grown b word (transfers_in files)
-
--- a transfer ends, which has a name or not
-pub transfer_ends : (word : List ℕ) (files : List (List ℕ)) → is_plus word ≡ true →
-    all_from true (transfers_in (word ∷ files)) ≡ all_from false (transfers_in files)
-transfer_ends word files e =
-    ap (λ v. all_from true (cond v ([] ∷ transfers_in files) (with_first word (transfers_in files)))) e
-    ∙ sym (none_yet (transfers_in files))
-
-pub nameless_ends : (word : List ℕ) (files : List (List ℕ)) → is_plus word ≡ true →
-    all_from false (transfers_in (word ∷ files)) ≡ false
-nameless_ends word files e =
-    ap (λ v. all_from false (cond v ([] ∷ transfers_in files) (with_first word (transfers_in files)))) e
-
 pub last_ends : (b : Bool) → all_from b (transfers_in []) ≡ b
 last_ends true = refl
 last_ends false = refl

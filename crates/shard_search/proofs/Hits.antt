@@ -1,5 +1,5 @@
 -- The hits of a row.
-use Rattle.std.proofs.Common.{◌≡◌, ◌≢◌, ℕ, ◌+◌, ◌<◌, ◌≤◌, ◌++◌, All, List, [], Option, length, get_or, sym, ◌∙◌, ap, subst, arith, append_assoc, append-nil, length-append}
+use Rattle.std.proofs.Common.{◌≡◌, ◌≢◌, ℕ, ◌+◌, ◌<◌, ◌≤◌, ◌++◌, All, List, Option, length, get_or, sym, ◌∙◌, ap, subst, arith, append_assoc, length-append}
 use Rattle.std.specs.Prelude.{option_to_list, IfSome}
 use Rattle.std.proofs.lemmas.List.Elements.{All-append}
 use Rattle.box_sums.specs.Tails.{RowTails, IsKept, KeepsRow}
@@ -27,14 +27,6 @@ can_judge s c first end d thresholds b are widest from below = record {
     width = are_widths s i w inside;
     within = (let narrow = are_narrow s i w inside in omega (arith, narrow, widest));
   });
-}
-
--- none so far
-pub none_noted : (d : ℕ) (hits : List Hit) → AddsHitsOf d hits hits
-none_noted d hits = record {
-  more = [];
-  grown = sym (append-nil hits);
-  own = λ i h inside. absurd (omega arith);
 }
 
 -- one more, or none

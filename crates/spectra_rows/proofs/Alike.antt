@@ -21,12 +21,6 @@ pub some_bytes : (nbit npol : ℕ) → AreValues nbit npol → 0 < sample_bytes 
 some_bytes = four_kinds (λ nbit npol. 0 < sample_bytes nbit npol) (omega arith) (omega arith) (omega arith)
     (omega arith)
 
--- bytes of 8 bits and one polarisation are the samples
-pub plain_sample : (bytes : List ℕ) (i : ℕ) → slice_index bytes i ≡ sample_at 8 1 bytes i
-plain_sample bytes i =
-    let place : i * 1 + 0 ≡ i = omega arith in
-    rw place (omega arith)
-
 -- the sample of two lists whose bytes agree there
 module _ (a b : List ℕ) (i j : ℕ) where
   byte : (n : ℕ) → ((k : ℕ) → k < n → slice_index a (i * n + k) ≡ slice_index b (j * n + k))

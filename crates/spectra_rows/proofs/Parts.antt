@@ -168,13 +168,6 @@ module _ (row : ℕ → ℕ) (channels chunk : ℕ) (value : ℕ → ℕ → ℕ
     beside = λ p t here small side. refl;
   }
 
-  pub no_spectrum : (xs : List ℕ) (lo hi from : ℕ) → WritesCells xs xs row channels chunk lo hi from from value
-  no_spectrum xs lo hi from = record {
-    written = λ p t low high after before. absurd (omega arith);
-    lower = λ p t lt small. refl;
-    beside = λ p t here small side. refl;
-  }
-
   pub same_values : (old new : List ℕ) (lo hi from to : ℕ) (step : ℕ → ℕ → ℕ)
       → WritesCells old new row channels chunk lo hi from to step
       → ((p t : ℕ) → lo ≤ p → p < hi → from ≤ t → t < to → step p t ≡ value p t)
@@ -196,22 +189,6 @@ module _ (row : ℕ → ℕ) (channels chunk : ℕ) (value : ℕ → ℕ → ℕ
     ];
     lower = λ p t lt small. second.lower p t (omega arith) small ∙ first.lower p t lt small;
     beside = λ p t here small side. second.beside p t here small side ∙ first.beside p t here small side;
-  }
-
-  pub more_spectra : (old mid new : List ℕ) (lo hi from m to : ℕ) → hi ≤ channels → from ≤ m → m ≤ to
-      → to ≤ chunk → WritesCells old mid row channels chunk lo hi from m value
-      → WritesCells mid new row channels chunk lo hi m to value
-      → WritesCells old new row channels chunk lo hi from to value
-  more_spectra old mid new lo hi from m to inside order up fits first second = record {
-    written = λ p t low high after before. elim (cases_lt t m) [
-      | inl lt ↦ second.beside p t (omega arith) (omega arith) (inl lt) ∙ first.written p t low high after lt
-      | inr ge ↦ second.written p t low high ge before
-    ];
-    lower = λ p t lt small. second.lower p t lt small ∙ first.lower p t lt small;
-    beside = λ p t here small side. elim side [
-      | inl before ↦ second.beside p t here small (inl (omega arith)) ∙ first.beside p t here small (inl before)
-      | inr after ↦ second.beside p t here small (inr after) ∙ first.beside p t here small (inr (omega arith))
-    ];
   }
 
 -- ---- rows that begin further on
