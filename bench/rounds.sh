@@ -1,8 +1,9 @@
 # What speed.sh and shapes.sh share: programs, and the least times of commands that take turns in rounds. It is sourced.
+# Files are made in TMPDIR, and in memory (/dev/shm) where that is not set.
 rounds=${ROUNDS:-9}
 crates=$(cd "$(dirname "${BASH_SOURCE[0]}")/../crates" && pwd)
 cpu=$(grep -qw avx2 /proc/cpuinfo && echo --cpu=x86-64-v3 || true)
-folder=$(mktemp -d /dev/shm/speed.XXXXXX)
+folder=$(mktemp -d "${TMPDIR:-/dev/shm}/speed.XXXXXX")
 trap 'rm -rf "$folder"' EXIT
 
 build() { # build PROGRAM WORD..: proves and builds a program, runs it once, and tells its path

@@ -5,8 +5,9 @@ Pulses follow the exact dispersion law, are swept within each channel, last some
 begin anywhere within a spectrum, and have any delay within half a spectrum of a whole one. The strongest sum that a
 search takes of them, over its delays and boxes, each by its true noise, is divided by the greatest S/N that any
 weighted sum of the samples can have, which is that of weights like the pulse itself. Then the same with noise: pulses
-whose greatest S/N is 15, and how far off the delay of the strongest sum is. Last, one narrow pulse as it is found where
-neighbouring channels were added, or where spectra are shorter.
+whose greatest S/N is 15, and how far off the delay of the strongest sum is. Then one narrow pulse as it is found where
+neighbouring channels were added, or where spectra are shorter. Last, pulses of a long delay as they are found where
+neighbouring spectra were averaged.
 """
 from __future__ import annotations
 
@@ -30,6 +31,10 @@ SNR = 15.0
 # a band as it can be recorded: how many channels it has, and how many spectra stand for one
 FORMS = ((1024, 1), (512, 1), (256, 1), (1024, 2), (1024, 4))
 NARROW = ((100, 0.5), (100, 1), (400, 0.5), (400, 1))
+# a long delay, how many spectra are averaged into one, and channels and widths
+LONG_DELAY = 12000
+AVERAGED = (1, 2, 4, 8)
+LONG = ((256, 1), (1024, 1), (1024, 4), (1024, 16), (4096, 1), (4096, 4), (4096, 16))
 # into how many parts a channel is cut to sweep a pulse within it
 PARTS = 64
 
@@ -146,7 +151,8 @@ def miss(found: np.ndarray, search: Searched, true_delay: float) -> float:
     return abs(float(search.delays[found.max(axis=1).argmax()]) - true_delay)
 
 
-def strength(form: tuple[int, int], delay: int, width: float, generator: np.random.Generator) -> tuple[float, float]:
+def strength(form: tuple[int, float], delay: int, width: float,
+             generator: np.random.Generator) -> tuple[float, float]:
     """The S/N of the strongest sum of one pulse in a form of the third receiver, and the greatest there is, on average.
 
     Delay and width are in spectra of the first form, in which a sample has a deviation of 1, and a pulse the height 1.
@@ -156,7 +162,7 @@ def strength(form: tuple[int, int], delay: int, width: float, generator: np.rand
     height = np.sqrt(RECEIVERS[2].channels / channels / spectra)
     reach = int(np.ceil(width * spectra)) + 4
     margin = reach + int(np.ceil(width * spectra)) + 2
-    search = searched(receiver, delay * spectra, reach)
+    search = searched(receiver, round(delay * spectra), reach)
     found, greatest = [], []
     for begin in (np.arange(BEGINNINGS) + 0.5) / BEGINNINGS:
         true_delay = delay * spectra + generator.uniform(-0.5, 0.5)
@@ -177,6 +183,20 @@ def print_forms(generator: np.random.Generator) -> None:
         print(f"| {delay} | {width:g} | " + " | ".join(cells) + " |")
 
 
+def print_averaged(generator: np.random.Generator) -> None:
+    """Prints how much is found of pulses of a long delay where spectra were averaged, 1 being the greatest S/N before.
+
+    Without averaging, no search reaches this delay.
+    """
+    print(f"\nOf one pulse in that band, of a delay of {LONG_DELAY}, by how many spectra are averaged into one:\n")
+    print("| Channels | Width | " + " | ".join(map(str, AVERAGED)) + " |")
+    print("|---|---|" + "---|" * len(AVERAGED))
+    for channels, width in LONG:
+        results = [strength((channels, 1 / times), LONG_DELAY, width, generator) for times in AVERAGED]
+        cells = [f"{found / results[0][1]:.2f}" for found, _ in results]
+        print(f"| {channels} | {width:g} | " + " | ".join(cells) + " |")
+
+
 def main() -> None:
     """Prints tables in Markdown: a row for each receiver and delay, a column for each width of a pulse."""
     generator = np.random.default_rng(1)
@@ -189,6 +209,7 @@ def main() -> None:
     print(f"\nWith noise, at S/N {SNR:g}: the part on average, and how many spectra the delay is off at most:\n")
     print_table(rows, lambda result: f"{result.noisy_parts.mean():.2f}, {result.noisy_misses.max():.1f}")
     print_forms(np.random.default_rng(2))
+    print_averaged(np.random.default_rng(3))
 
 
 def print_table(rows: list[tuple[str, list[Result]]], cell: Callable[[Result], str]) -> None:

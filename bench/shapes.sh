@@ -1,7 +1,8 @@
 #!/usr/bin/env bash
 # The table of other shapes, as markdown rows: shapes.sh [PSR_SEARCH [PSR_MAKE]]
-# Searches of bands of 16 to 4096 channels by one thread, and by four shards in four hands. The files lie in memory
-# (/dev/shm), one at a time. Each figure is the best of ROUNDS rounds (9), in which all commands take turns.
+# Searches of bands of 16 to 4096 channels by one thread, by four shards in four hands and in five, by three shards in four
+# hands, and by seven in eight. The files lie in TMPDIR (/dev/shm), one at a time. Each figure is the best of ROUNDS
+# rounds (9), in which all commands take turns.
 # PEERS=DIR is a folder of C programs, as in speed.sh: the peer runs on one thread, and on four that part the delays;
 # ratios are of wall times to its one thread, and each text is compared with its text.
 set -eu
@@ -18,6 +19,9 @@ shapes=(
     '1024 65536 8192 8'
     '4096 32768 8192 8'
 )
+several=('4 4' '4 5' '3 4' '7 8') # shards, hands
+first=one # whose text all others have to be
+[ -z "$peer" ] || first=peer
 rows=()
 for shape in "${shapes[@]}"; do
     read -r channels spectra delays widths <<<"$shape"
@@ -28,21 +32,24 @@ for shape in "${shapes[@]}"; do
     wall=() cpu_time=() last=() text=()
     for ((round = 0; round < rounds; round++)); do
         once one "$search" "${words[@]}"
-        once four "$search" --shards 4 --hands 4 "${words[@]}"
+        for hands in "${several[@]}"; do
+            once "$hands" "$search" --shards "${hands% *}" --hands "${hands#* }" "${words[@]}"
+        done
         if [ -n "$peer" ]; then
             once peer "$peer" "${words[@]}"
             once 'peer by delays' "$peer" --threads 4 --split delay "${words[@]}"
             once 'four peers' beside_each_other "$peer" "${words[@]}"
         fi
     done
-    line="| $channels | $spectra | $delays | $widths | ${wall[one]} s | ${wall[four]} s"
+    line="| $channels | $spectra | $delays | $widths"
+    for name in one "${several[@]}"; do
+        line+=" | ${wall[$name]} s"
+        [ -z "$peer" ] || line+=", $(quotient "${wall[$name]}" "${wall[peer]}")"
+        [ "${text[$name]}" = "${text[$first]}" ] || line+=' ANOTHER TEXT'
+    done
     if [ -n "$peer" ]; then
-        line+=" | $(quotient "${wall[one]}" "${wall[peer]}") | $(quotient "${wall[four]}" "${wall[peer]}")"
         line+=" | $(quotient "${wall[peer by delays]}" "${wall[peer]}")"
         line+=" | $(quotient "${wall[four peers]}" "${wall[peer]}")"
-        [ "${text[one]}" = "${text[peer]}" ] && [ "${text[four]}" = "${text[peer]}" ] || line+=' ANOTHER TEXT'
-    else
-        [ "${text[one]}" = "${text[four]}" ] || line+=' ANOTHER TEXT'
     fi
     rows+=("$line | $(memory "$search" "${words[@]}") |")
     rm -f "$file"
@@ -50,8 +57,10 @@ done
 
 tell_machine
 echo
-echo -n '| Channels | Spectra | Delays to | Widths to | One thread | Four shards in four hands'
-[ -z "$peer" ] || echo -n ' | One, to the peer | Four, to the peer | The peer by delays | Four peers at once'
+[ -z "$peer" ] || echo 'Behind each time stands its ratio to one thread of the peer.'
+echo -n '| Channels | Spectra | Delays to | Widths to | One thread'
+for hands in "${several[@]}"; do echo -n " | ${hands% *} shards, ${hands#* } hands"; done
+[ -z "$peer" ] || echo -n ' | The peer by delays | Four peers at once'
 echo ' | Memory of one |'
-echo "|---|---|---|---|---|---${peer:+|---|---|---|---}|---|"
+echo "|---|---|---|---|---|---|---|---|---${peer:+|---|---}|---|"
 printf '%s\n' "${rows[@]}"

@@ -1,9 +1,10 @@
 #!/usr/bin/env bash
 # The whole table of speed, as markdown rows: speed.sh [PSR_SEARCH [PSR_MAKE [BOOK_BENCH]]]
-# Searches of a large observation (1024 channels, 131072 spectra, 134 MB, delays of 0 to 1024) by one thread and by
-# four, and of one of 8 times as many spectra; their memory; how fast candidates are written and observations are made.
-# The files lie in memory (/dev/shm). Each figure is the best of ROUNDS rounds (9), in which all programs take turns. A
-# program that is not given is proved and built first, for AVX2 where there is that.
+# Searches of a large observation (1024 channels, 131072 spectra, 134 MB, delays of 0 to 1024) by one thread, by four
+# shards in four hands and in five, and by three shards in four hands; a search of 8 times as many spectra; their memory;
+# how fast candidates are written and observations are made. The files lie in TMPDIR (/dev/shm). Each figure is the best
+# of ROUNDS rounds (9), in which all programs take turns. A program that is not given is proved and built first, for AVX2
+# where there is that.
 # PEERS=DIR is a folder of C programs that do the same searches, with a build.sh that builds peer_fdmt.v3 and
 # bandwidth.v3 into a folder: they run in the same rounds, ratios are to one thread of peer_fdmt.v3, each text is
 # compared with its text, and what the machine can do is told first. Without it our own figures stand alone.
@@ -25,8 +26,14 @@ kinds=('widths to 1' 'widths to 8' folds)
 for ((round = 0; round < rounds; round++)); do
     for kind in "${kinds[@]}"; do
         once "$kind" "$search" "${words[@]}" ${options[$kind]} "$large"
-        once "$kind, four" "$search" "${words[@]}" ${options[$kind]} --shards 4 --hands 4 "$large"
-        [ -n "$peer" ] && once "$kind, peer" "$peer" "${words[@]}" ${options[$kind]} "$large"
+        for hands in '4 4' '4 5' '3 4'; do
+            once "$kind, $hands" "$search" "${words[@]}" ${options[$kind]} --shards "${hands% *}" --hands "${hands#* }" \
+                "$large"
+        done
+        if [ -n "$peer" ]; then
+            once "$kind, peer" "$peer" "${words[@]}" ${options[$kind]} "$large"
+            once "$kind, peer by delays" "$peer" "${words[@]}" ${options[$kind]} --threads 4 --split delay "$large"
+        fi
     done
     [ -n "$peer" ] && once 'four peers' beside_each_other "$peer" "${words[@]}" --widths 1 "$large"
     rm -f "$folder/made.dada"
@@ -37,23 +44,28 @@ rm -f "$folder/made.dada"
 tell_machine 'widths to 1, peer' 'four peers'
 [ -z "$peer" ] || "$folder/peers/bandwidth.v3" | sed 's/^/    /'
 echo
-echo '| What | threads | processor time | wall time | to the peer: processor, wall | memory | last line, text |'
+echo '| What | shards, hands | processor time | wall time | to the peer: processor, wall | memory | last line, text |'
 echo '|---|---|---|---|---|---|---|'
-row() { # row KIND NAME THREADS WORD..
-    local kind=$1 name=$2 threads=$3 ratio=- same=
+row() { # row KIND NAME HANDS WORD..
+    local kind=$1 name=$2 hands=$3 ratio=- same=
     shift 3
     if [ -n "$peer" ]; then
         ratio="$(quotient "${cpu_time[$name]}" "${cpu_time[$kind, peer]}"), "
         ratio+=$(quotient "${wall[$name]}" "${wall[$kind, peer]}")
         [ "${text[$name]}" = "${text[$kind, peer]}" ] && same=', the same text' || same=', ANOTHER TEXT'
     fi
-    printf '| %s | %s | %s s | %s s | %s | %s | `%s`%s |\n' "$name" "$threads" "${cpu_time[$name]}" "${wall[$name]}" \
+    printf '| %s | %s | %s s | %s s | %s | %s | `%s`%s |\n' "$name" "$hands" "${cpu_time[$name]}" "${wall[$name]}" \
         "$ratio" "$(memory "$@" "${words[@]}" ${options[$kind]} "$large")" "${last[$name]}" "$same"
 }
 for kind in "${kinds[@]}"; do
-    row "$kind" "$kind" 1 "$search"
-    row "$kind" "$kind, four" 4 "$search" --shards 4 --hands 4
-    [ -n "$peer" ] && row "$kind" "$kind, peer" 1 "$peer"
+    row "$kind" "$kind" '1, 1' "$search"
+    for hands in '4 4' '4 5' '3 4'; do
+        row "$kind" "$kind, $hands" "${hands/ /, }" "$search" --shards "${hands% *}" --hands "${hands#* }"
+    done
+    if [ -n "$peer" ]; then
+        row "$kind" "$kind, peer" 'the peer' "$peer"
+        row "$kind" "$kind, peer by delays" 'the peer by delays' "$peer" --threads 4 --split delay
+    fi
 done
 
 rm -f "$large"
