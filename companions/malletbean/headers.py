@@ -74,6 +74,17 @@ class Header:
         return np.setdiff1d(np.arange(self.channels), np.array(self.masked, int))
 
     @property
+    def are_masked(self) -> np.ndarray:
+        """Which channels are left out, the highest first."""
+        return np.isin(np.arange(self.channels), self.masked)
+
+    @property
+    def masked_in_file(self) -> np.ndarray:
+        """The channels that are left out, counted in the order of the file."""
+        masked = np.array(self.masked, int)
+        return masked if self.is_falling else self.channels - 1 - masked
+
+    @property
     def spectrum_bytes(self) -> int:
         """Bytes of one spectrum."""
         return self.channels * self.polarisations * self.bits // 8

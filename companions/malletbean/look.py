@@ -11,8 +11,8 @@ import numpy as np
 
 from .candidates import cells_by_delay, pulse_noise_cells
 from .headers import Header, refused
-from .level import FAST, LEVELS, Level
-from .masks import is_far, mask_text
+from .level import FAST, LEVELS, MOST_AVERAGED, Level
+from .masks import is_far, mask_text, usual_distance
 from .number import scaled
 from .paths import path_cells
 from .program import Words
@@ -23,6 +23,8 @@ USUAL_DELAY, GREATEST_DELAY = 256, 8192
 USUAL_WIDTH = 8
 # a threshold that keeps the text of a first search short, and the one of a search where none is said
 FIRST_SNR, USUAL_SNR = 15, 7
+# to delays above the first a search may have so many lines, the most there are: a bright pulse gives many thousands
+FEW_LINES_DELAY, MOST_LINES = 1024, 2**20
 # the usual and greatest size of recorded files
 USUAL_FILE_SIZE = 2**30
 # stretches to level by: at most so many spectra, and at least so many times as long as a pulse in a channel
@@ -33,6 +35,9 @@ PIECES = 8
 FORMS = {"<u": "unsigned, the low byte first", "<i": "signed", ">u": "unsigned, the high byte first",
          ">i": "signed, the high byte first"}
 FORM_WORDS = {"<i": "--signed", ">u": "--high-byte-first", ">i": "--signed --high-byte-first"}
+# deviations follow the means where their ratio spreads so many times less; then so many channels have about the same
+# mean, and ratios that are alike up to such a part
+TIMES_EVEN, ABOUT_SAME, RATIO_ERROR = 5, 17, 0.02
 # how many values tell the form
 FORM_VALUES = 2**20
 
@@ -63,6 +68,11 @@ class Measured:
     def of_channels(self, are_kept: np.ndarray) -> Measured:
         """The same of some channels alone, but for the means of pieces."""
         return replace(self, means=self.means[are_kept], deviations=self.deviations[are_kept])
+
+    def averaged(self, times: int) -> Measured:
+        """The same where so many neighbouring spectra are averaged into one, if their noise is white."""
+        return replace(self, spectra=self.spectra // times, reach=self.reach // times,
+                       deviations=self.deviations / math.sqrt(times))
 
 
 def psr_look(words: Sequence[str]) -> None:
@@ -139,25 +149,30 @@ def form_of(samples: Samples) -> str:
 def said(asked: argparse.Namespace, head: Header, measured: Measured, form: str) -> list[tuple[str, str]]:
     """What is said of the file, line by line."""
     max_delay = delay_to_search(head, asked.dm)
-    masked = head if asked.mask is None else head.without(asked.mask)
+    threshold = wide_threshold(head, max_delay)
+    are_kept = ~stand_out(measured) if asked.mask is None else ~head.without(asked.mask).are_masked
     lines = header_lines(head)
     if form != "<u":
         lines.append(("values", f"they look {FORMS[form]}; psr_search would take them as {FORMS['<u']}: "
                                 f"psr_level FILE OUT {FORM_WORDS[form]} turns them"))
     lines += noise_lines(head, measured, max_delay)
-    lines.append(("threshold", threshold_text(head, max_delay)))
+    lines.append(("threshold", f"a true S/N of {USUAL_SNR} is --snr {threshold} at widths to {USUAL_WIDTH} and delays "
+                               f"to {max_delay}, and --snr {USUAL_SNR} at --widths 1"))
     if asked.dm is not None:
         lines.append(("delay", delay_text(head, asked.dm)))
     lines.append(("reach", ", ".join(
         f"{delay} spectra across the band are DM {head.dm(delay):.3f}" for delay in (USUAL_DELAY, GREATEST_DELAY))))
-    lines.append(("file size", f"--file-size {USUAL_FILE_SIZE // head.spectrum_bytes * head.spectrum_bytes} "
-                               "cuts recorded files between spectra"))
-    lines += level_lines(asked, head, measured, max_delay, form)
-    if asked.dm is not None and head.delay(asked.dm) > GREATEST_DELAY:
-        return lines
-    rest = f"--snr {FIRST_SNR} --max-delay {max_delay} {shlex.quote(asked.file)}"
-    lines.append(("words", f"psr_search {noise_words(measured)} {rest}"))
-    are_kept = ~stand_out(measured) if asked.mask is None else np.isin(np.arange(head.channels), masked.kept)
+    lines.append(("file size", file_size_text(head, asked.dm)))
+    lines += level_lines(asked, head, measured, form)
+    if times_to_average(head, asked.dm) == 1 and not is_past_data(head, asked.dm):
+        rest = f"{limit_words(threshold, max_delay)} {shlex.quote(asked.file)}"
+        lines += search_lines(head, measured, are_kept, rest)
+    return lines
+
+
+def search_lines(head: Header, measured: Measured, are_kept: np.ndarray, rest: str) -> list[tuple[str, str]]:
+    """The commands of a first search: of all channels, and of those that are kept."""
+    lines = [("words", f"psr_search {noise_words(measured)} {rest}")]
     if not are_kept.all():
         mask = mask_text(file_numbers(head, ~are_kept))
         lines.append(("masked", f"psr_mask {mask} {noise_words(measured.of_channels(are_kept))} {rest}"))
@@ -167,6 +182,12 @@ def said(asked: argparse.Namespace, head: Header, measured: Measured, form: str)
 def noise_words(measured: Measured) -> str:
     """The words of a search that say its noise."""
     return f"--mean {measured.mean:.3f} --sd {max(measured.deviation, 0.001):.3f}"
+
+
+def limit_words(threshold: float, max_delay: int) -> str:
+    """The words of a first search that keep its text short, and yet let a bright pulse have all its lines."""
+    most = f" --max-candidates {MOST_LINES}" if max_delay > FEW_LINES_DELAY else ""
+    return f"--snr {max(FIRST_SNR, threshold)} --max-delay {max_delay}{most}"
 
 
 def header_lines(head: Header) -> list[tuple[str, str]]:
@@ -203,23 +224,41 @@ def noise_lines(head: Header, measured: Measured, max_delay: int) -> list[tuple[
     return lines
 
 
-def level_lines(asked: argparse.Namespace, head: Header, measured: Measured, max_delay: int,
-                form: str) -> list[tuple[str, str]]:
-    """What to do before a search where the band is uneven or the mean drifts, by what is printed of them."""
-    if measured.deviation == 0:
+def level_lines(asked: argparse.Namespace, head: Header, measured: Measured, form: str) -> list[tuple[str, str]]:
+    """What psr_level has to do before a search.
+
+    It averages where none reaches the dispersion measure, and levels where the band is uneven or the mean drifts, by
+    what psr_look prints of them once the file is averaged.
+    """
+    times = times_to_average(head, asked.dm)
+    later, averaged = averaged_header(head, times), measured.averaged(times)
+    max_delay = delay_to_search(later, asked.dm)
+    drift = drift_ratio(later, averaged, max_delay)
+    is_steady = max(round(uneven_ratio(later, averaged, max_delay), 1), round(drift, 1)) < 1
+    if is_steady and times == 1:
         return []
-    drift = drift_ratio(head, measured, max_delay)
-    if max(round(uneven_ratio(head, measured, max_delay), 1), round(drift, 1)) < 1:
-        return []
-    why = "searched as it is, this file gives false lines, or too many (status 9)"
-    if is_level(head, measured):
-        return [("level first", "psr_level again, from the file as it was and with fewer --spectra than before: "
-                                f"{why}")]
-    words = f"{shlex.quote(asked.file)} OUT --spectra {stretch_to_level(head, measured, max_delay, drift)}"
+    name, why = "level first", ": searched as it is, this file gives false lines, or too many (status 9)"
+    if times == 1 and is_level(head, measured):
+        return [(name, "psr_level again, from the file as it was, with fewer --spectra than before (and with the same "
+                       f"--average and --mask, where there were any){why}")]
+    words = f"{shlex.quote(asked.file)} OUT"
+    if times > 1:
+        name, why, words = "average", "", f"{words} --average {times}"
+    if not is_steady:
+        words += f" --spectra {stretch_to_level(later, averaged, max_delay, drift)}"
     forms = "" if form == "<u" else f" {FORM_WORDS[form]}"
-    dm = "" if asked.dm is None else f" {asked.dm:g}"
-    mask = f" --mask {mask_text(file_numbers(head, stand_out(measured)))}" if stand_out(measured).any() else ""
-    return [("level first", f"psr_level {words}{forms}, then psr_look OUT{dm}{mask}: {why}")]
+    if times_to_average(later, asked.dm) > 1:
+        why = f", which says a further one, since {times} is the most at a time"
+    return [(name, f"psr_level {words}{forms}, then {look_words(asked, head, measured)}{why}")]
+
+
+def look_words(asked: argparse.Namespace, head: Header, measured: Measured) -> str:
+    """How to look at the file that psr_level makes: with the same mask, which may not stand out there any more."""
+    mask = asked.mask
+    if mask is None and stand_out(measured).any():
+        mask = mask_text(file_numbers(head, stand_out(measured)))
+    dm = "" if asked.dm is None else f" {dm_text(asked.dm)}"
+    return f"psr_look OUT{dm}" + ("" if mask is None else f" --mask {mask}")
 
 
 def is_level(head: Header, measured: Measured) -> bool:
@@ -252,22 +291,71 @@ def uneven_ratio(head: Header, measured: Measured, max_delay: int) -> float:
     64 delays at the most are tried.
     """
     delays = np.unique(np.linspace(0, max_delay, 64).astype(int))
+    if measured.deviation == 0:
+        return 0.0
     excess = (measured.means - measured.mean) @ path_cells(head.edges_khz, delays)
     ratios = math.sqrt(USUAL_WIDTH) * excess / (measured.deviation * np.sqrt(head.channels + delays))
     return float(np.abs(ratios).max())
 
 
 def drift_ratio(head: Header, measured: Measured, max_delay: int) -> float:
-    """By how many of its stated deviations a box of the usual width is moved at most by the means of pieces."""
+    """By how many of its stated deviations a box of the usual width is moved at most by the means of pieces.
+
+    Of each mean, three times its own error is no drift.
+    """
+    if measured.deviation == 0:
+        return 0.0
     cells = USUAL_WIDTH * (head.channels + max_delay)
-    drift = np.abs(measured.piece_means - measured.mean).max()
+    error = measured.deviation / math.sqrt(head.channels * measured.spectra / len(measured.piece_means))
+    farthest = np.abs(measured.piece_means - measured.mean).max()
+    drift = math.sqrt(max(0, farthest**2 - (3 * error)**2))
     return float(drift * math.sqrt(cells) / measured.deviation)
 
 
 def stand_out(measured: Measured) -> np.ndarray:
-    """Which channels lie far off the others, by mean or by deviation: by each of them fewer than half."""
+    """Which channels lie far off the others, by mean, by deviation or by their ratio: by each of them fewer than half.
+
+    Those that never change stand out as well, and the others are held against one another alone.
+    """
+    are_out = measured.deviations == 0
+    if not are_out.all():
+        are_out[~are_out] = are_far(measured.of_channels(~are_out))
+    return are_out & ~are_out.all()
+
+
+def are_far(measured: Measured) -> np.ndarray:
+    """Which channels, all of which change, lie far off the others, by mean, by deviation or by their ratio."""
     error = float(np.median(measured.deviations)) / math.sqrt(measured.spectra)
-    return is_far(measured.means, error) | is_far(measured.deviations, error)
+    return is_far(measured.means, error) | is_far(measured.deviations, error) | have_other_ratio(measured)
+
+
+def have_other_ratio(measured: Measured) -> np.ndarray:
+    """Which channels have a ratio of deviation to mean far off that of channels with about the same mean.
+
+    It tells only where deviations follow the means over the band, so that ratios spread less by far, and where values
+    aren't rounded too coarsely.
+    """
+    ratios = measured.deviations / measured.means
+    if TIMES_EVEN * spread(ratios) > spread(measured.deviations):
+        return np.zeros(len(ratios), bool)
+    error = max(RATIO_ERROR, 1 / math.sqrt(measured.spectra))
+    return is_far(ratios / usual_ratios(measured), error) & (measured.deviations >= 1)
+
+
+def spread(values: np.ndarray) -> float:
+    """By what part of their median values usually lie off it."""
+    return usual_distance(values) / float(np.median(values))
+
+
+def usual_ratios(measured: Measured) -> np.ndarray:
+    """For each channel the median ratio of deviation to mean of those that have about the same mean."""
+    order = np.argsort(measured.means)
+    ratios = (measured.deviations / measured.means)[order]
+    count = min(ABOUT_SAME, len(ratios))
+    firsts = np.clip(np.arange(len(ratios)) - count // 2, 0, len(ratios) - count)
+    usual = np.empty(len(ratios))
+    usual[order] = np.median(ratios[firsts[:, None] + np.arange(count)], axis=1)
+    return usual
 
 
 def file_numbers(head: Header, are_named: np.ndarray) -> np.ndarray:
@@ -282,10 +370,27 @@ def delay_to_search(head: Header, dm: float | None) -> int:
     return min(GREATEST_DELAY, math.ceil(head.delay(dm) * 9 / 8) + 1)
 
 
-def threshold_text(head: Header, max_delay: int) -> str:
+def times_to_average(head: Header, dm: float | None) -> int:
+    """How many spectra psr_level has to average into one, so that a search reaches a dispersion measure; 1 if none."""
+    if dm is None or is_past_data(head, dm):
+        return 1
+    return min(MOST_AVERAGED, max(1, math.ceil(head.delay(dm) / GREATEST_DELAY)))
+
+
+def averaged_header(head: Header, times: int) -> Header:
+    """The header where so many neighbouring spectra are averaged into one."""
+    return replace(head, sample_ns=head.sample_ns * times, data_bytes=head.spectra // times * head.spectrum_bytes)
+
+
+def is_past_data(head: Header, dm: float | None) -> bool:
+    """Whether a pulse of a dispersion measure takes longer across the band than the data of the file."""
+    return dm is not None and head.delay(dm) >= head.spectra
+
+
+def wide_threshold(head: Header, max_delay: int) -> float:
     """Which threshold a true S/N is, where wide boxes have more noise than the search reckons with.
 
-    64 delays at the most are tried.
+    It is rounded up to a decimal. 64 delays at the most are tried.
     """
     delays = np.unique(np.linspace(0, max_delay, 64).astype(int))
     widths = np.array([2**level for level in range(USUAL_WIDTH.bit_length())])
@@ -293,18 +398,35 @@ def threshold_text(head: Header, max_delay: int) -> str:
     lines["delay"], lines["width"] = np.repeat(delays, len(widths)), np.tile(widths, len(delays))
     cells = cells_by_delay(head, lines["delay"]) * lines["width"]
     greatest = math.sqrt((pulse_noise_cells(lines, head) / cells).max())
-    return (f"a true S/N of {USUAL_SNR} is --snr {USUAL_SNR * greatest:.1f} at widths to {USUAL_WIDTH} and delays to "
-            f"{max_delay}, and --snr {USUAL_SNR} at --widths 1")
+    return math.ceil(10 * USUAL_SNR * greatest) / 10
+
+
+def file_size_text(head: Header, dm: float | None) -> str:
+    """The greatest size of recorded files that lets each be searched alone, or averaged, as often as it has to be."""
+    times = times_in_all(head, dm)
+    unit = times * head.spectrum_bytes
+    text = f"--file-size {max(1, USUAL_FILE_SIZE // unit) * unit} cuts recorded files between spectra"
+    return text if times == 1 else f"{text}, each of a multiple of {times}, so that they can be averaged one by one"
+
+
+def times_in_all(head: Header, dm: float | None) -> int:
+    """How many spectra become one by all averaging that a dispersion measure needs."""
+    times = times_to_average(head, dm)
+    return 1 if times == 1 else times * times_in_all(averaged_header(head, times), dm)
+
+
+def dm_text(dm: float) -> str:
+    """A dispersion measure as it can be said to psr_look again."""
+    return f"{dm:.6f}".rstrip("0").rstrip(".")
 
 
 def delay_text(head: Header, dm: float) -> str:
-    """The delay of a dispersion measure, and what to do where no search reaches it."""
+    """The delay of a dispersion measure, and whether any search reaches it."""
     delay = head.delay(dm)
-    text = f"DM {dm:g} takes {delay:.1f} spectra across the band, {delay * head.seconds * 1000:.3f} ms"
-    if delay <= GREATEST_DELAY:
-        return text
-    times = math.ceil(delay / GREATEST_DELAY)
-    return f"{text}: average {times} spectra into one first, since {GREATEST_DELAY} are the most"
+    text = f"DM {dm_text(dm)} takes {delay:.1f} spectra across the band, {delay * head.seconds * 1000:.3f} ms"
+    if is_past_data(head, dm):
+        return f"{text}, longer than the data: no pulse of it can be found in this file alone"
+    return text if delay <= GREATEST_DELAY else f"{text}; a search takes {GREATEST_DELAY} at most"
 
 
 def print_channels(head: Header, measured: Measured) -> None:

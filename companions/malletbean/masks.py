@@ -37,8 +37,11 @@ def masked_channels(text: str, channels: int) -> np.ndarray:
     return np.flatnonzero(is_masked)
 
 
+def usual_distance(values: np.ndarray) -> float:
+    """How far off their median values usually lie, as a deviation, whatever a few of them do."""
+    return float(np.median(np.abs(values - np.median(values)))) / MEDIAN_DISTANCE
+
+
 def is_far(values: np.ndarray, error: float) -> np.ndarray:
     """Which values lie far off their median, by the usual distance from it, but no less than the error of each."""
-    distances = np.abs(values - np.median(values))
-    usual = max(float(np.median(distances)) / MEDIAN_DISTANCE, error)
-    return distances > STANDS_OUT * usual
+    return np.abs(values - np.median(values)) > STANDS_OUT * max(usual_distance(values), error)

@@ -2,10 +2,13 @@
 from __future__ import annotations
 
 import re
+from fractions import Fraction
 
 NUMBER = re.compile(r"([+-]?)([0-9]*)(?:\.([0-9]*))?")
 # more digits than any value that is taken has; the others would only make it greater
 ENOUGH_DIGITS = 40
+# more decimals than any value that is written needs
+ENOUGH_DECIMALS = 12
 
 
 def scaled(text: str, decimals: int) -> int | None:
@@ -19,3 +22,17 @@ def scaled(text: str, decimals: int) -> int | None:
     digits = whole.lstrip("0")[:ENOUGH_DIGITS] + fraction[:decimals].ljust(decimals, "0")
     value = int(digits or "0")
     return -value if sign == "-" else value
+
+
+def multiplied(text: str, factor: Fraction) -> str | None:
+    """The number times a factor, with as many decimals as it has, further ones dropped.
+
+    None if it is no number, or below 0.
+    """
+    match = NUMBER.fullmatch(text)
+    decimals = min(len(match[3] or ""), ENOUGH_DECIMALS) if match else 0
+    value = scaled(text, decimals)
+    if value is None or value < 0:
+        return None
+    whole, rest = divmod(value * factor.numerator // factor.denominator, 10**decimals)
+    return f"{whole}.{rest:0{decimals}}" if decimals else str(whole)

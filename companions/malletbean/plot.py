@@ -128,9 +128,12 @@ def new_figure(is_shown: bool) -> Figure:
 
 
 def draw(figure: Figure, picture: Picture) -> None:
-    """Draws the panels: those of PULSE lines always, those of FOLD lines and of a profile where there are any."""
-    rows = [["snr", "number"], ["time", "time"]]
-    heights = [1.0, 1.3]
+    """Draws the panels: those of PULSE lines where there are any or no others, of FOLD lines, and of a profile."""
+    are_pulses = len(picture.pulses) > 0 or len(picture.folds) == 0
+    rows, heights = [], []
+    if are_pulses:
+        rows += [["snr", "number"], ["time", "time"]]
+        heights += [1.0, 1.3]
     if len(picture.folds):
         rows.append(["periods", "fold_dms"])
         heights.append(1.0)
@@ -140,9 +143,10 @@ def draw(figure: Figure, picture: Picture) -> None:
     figure.set_size_inches(10, 2.6 * sum(heights))
     figure.suptitle(picture.title, fontsize=9, parse_math=False)
     panels = figure.subplot_mosaic(rows, gridspec_kw={"height_ratios": heights})
-    draw_snr(panels["snr"], picture.pulses, "PULSE")
-    draw_number(panels["number"], picture.pulses)
-    draw_time(panels["time"], picture.pulses)
+    if are_pulses:
+        draw_snr(panels["snr"], picture.pulses, "PULSE")
+        draw_number(panels["number"], picture.pulses)
+        draw_time(panels["time"], picture.pulses)
     if len(picture.folds):
         draw_periods(panels["periods"], picture.folds)
         draw_snr(panels["fold_dms"], picture.folds, "FOLD")

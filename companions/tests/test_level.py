@@ -8,10 +8,13 @@ import pytest
 
 import made
 from malletbean import level
+from malletbean.candidates import cells_by_delay
 from malletbean.headers import header
 from malletbean.level import psr_level
 from malletbean.look import psr_look
-from malletbean.samples import Samples
+from malletbean.paths import delay_paths
+from malletbean.refusal import Refusal
+from malletbean.samples import Samples, path_sums
 
 
 def form_line(path: Path, capsys: pytest.CaptureFixture[str]) -> str:
@@ -82,6 +85,39 @@ def test_a_dead_channel_has_the_mean(tmp_path: Path) -> None:
     assert set(Samples([str(out)]).read(0, 4096)[:, 5].tolist()) == {64}
 
 
+@pytest.mark.parametrize("bits, polarisations, width, words, mean", [
+    (8, 1, -400, [], 64), (16, 2, 400, [], 1000), (16, 1, 400, ["--fast", "--average", "4"], 14),
+])
+def test_masked_channels_have_the_mean(tmp_path: Path, capsys: pytest.CaptureFixture[str], bits: int,
+                                       polarisations: int, width: int, words: list[str], mean: int) -> None:
+    path, out, other = (tmp_path / f"{name}.dada" for name in ("made", "out", "other"))
+    made.make(path, bits=bits, polarisations=polarisations, width=width)
+    psr_level([str(path), str(other), *words])
+    psr_level([str(path), str(out), "--mask", "3,19-17", *words])
+    assert "in each polarisation now, but 3,19-17 the mean alone; psr_look" in capsys.readouterr().out
+    wanted = Samples([str(other)]).values(0, header(str(other)).spectra).copy()
+    wanted[:, [3, 17, 18, 19]] = mean
+    assert (Samples([str(out)]).values(0, len(wanted)) == wanted).all()
+    psr_look([str(out)])
+    assert "\nmask to try: 3,17-19\n" in capsys.readouterr().out
+
+
+def test_a_masked_search_and_a_levelled_mask_are_alike(tmp_path: Path) -> None:
+    """Masked channels count as cells without noise, and the deviation of all of them makes up for that."""
+    path, out = tmp_path / "made.dada", tmp_path / "out.dada"
+    made.make(path, delay=64, period=4096, height=6)
+    psr_level([str(path), str(out), "--mask", "3,17-19,40,60"])
+    ratios = []
+    for mask in ("none", "3,17-19,40,60"):
+        samples = Samples([str(out)], mask)
+        spectra, head = samples.read(0, 4096), samples.header
+        kept = spectra[:, head.kept]
+        cells = int(cells_by_delay(head, np.array([64]))[0])
+        first = path_sums(spectra, delay_paths(head.edges_khz, np.array([64]))[:, 0])[0]
+        ratios.append((first - 64 * cells) / (np.sqrt(kept.var(axis=0).mean()) * np.sqrt(cells)))
+    assert 20 < ratios[1] and ratios[0] == pytest.approx(ratios[1], rel=0.02)
+
+
 def test_an_incomplete_last_spectrum_is_left_out(tmp_path: Path) -> None:
     path, out = tmp_path / "cut.dada", tmp_path / "out.dada"
     made.make(path)
@@ -109,3 +145,83 @@ def test_other_forms_are_known_and_turned(tmp_path: Path, capsys: pytest.Capture
     samples = Samples([str(out)]).read(0, 2048)
     assert samples.mean() == pytest.approx(2 * mean, abs=0.01 * deviation)
     assert samples.std() == pytest.approx(2**0.5 * deviation, rel=0.02)
+
+
+@pytest.mark.parametrize("bits, polarisations, words, used", [
+    (8, 1, [], level.LEVELS[8]), (16, 2, ["--signed"], level.LEVELS[16]), (16, 1, ["--fast"], level.FAST),
+])
+def test_averaged_values(tmp_path: Path, monkeypatch: pytest.MonkeyPatch, bits: int, polarisations: int,
+                         words: list[str], used: level.Level) -> None:
+    monkeypatch.setattr(level, "VALUES_AT_A_TIME", 500)
+    path, out = tmp_path / "made.dada", tmp_path / "out.dada"
+    made.make(path, channels=16, spectra=1003, delay=8, bits=bits, polarisations=polarisations)
+    if "--signed" in words:
+        changed(path, "<u2", np.full((16, 2), [-300, 7]), "<i2")
+    kind = f"<{'i' if '--signed' in words else 'u'}{bits // 8}"
+    values = np.frombuffer(path.read_bytes()[4096:], kind).reshape(1003, 16, polarisations)
+    means = values[:1000].reshape(200, 5, 16, polarisations).mean(axis=1)
+    expected = np.concatenate([(part - part.mean(axis=0)) / part.std(axis=0) for part in np.split(means, [60, 120])])
+    expected = np.clip(expected * used.deviation + used.mean, 0, used.most)
+    psr_level([str(path), str(out), "--average", "5", "--spectra", "60", *words])
+    written = Samples([str(out)]).values(0, 200)
+    assert header(str(out)).spectra == 200 and np.abs(written - expected).max() < 1.001
+
+
+@pytest.mark.parametrize("words, each", [([], 4), (["--fast"], 8)])
+def test_a_header_of_averaged_spectra(tmp_path: Path, words: list[str], each: int) -> None:
+    path, out = tmp_path / "made.dada", tmp_path / "out.dada"
+    made.make(path, bits=16)
+    text, data = path.read_bytes()[:4096].rstrip(b"\0"), path.read_bytes()[4096:]
+    text = text.replace(b"TSAMP 64", b"TSAMP  64.0625 # 64.0625 us").replace(b"OBS_OFFSET 0", b"OBS_OFFSET 1536")
+    text += b"PICOSECONDS 250000\nBYTES_PER_SECOND 1998048.0\nFILE_SIZE 0000000000524288\nRESOLUTION 128\n"
+    path.write_bytes(text.ljust(4096, b"\0") + data)
+    psr_level([str(path), str(out), "--average", "4", *words])
+    before, after = header(str(path)), header(str(out))
+    assert b"\nTSAMP  256.2500 # 64.0625 us\n" in out.read_bytes()[:4096]
+    assert (after.sample_ns, after.offset) == (256250, 1536 // each)
+    # TSAMP is taken to a nanosecond, so 12 spectra before these are taken as 6 ns too short
+    assert after.start == before.start + np.timedelta64(6, "ns")
+    assert after.fields["BYTES_PER_SECOND"] == f"{1998048 // each}.0"
+    assert after.fields["FILE_SIZE"] == str(524288 // each) and int(after.fields["RESOLUTION"]) == 512 // each
+    assert (after.spectra, after.edges_khz) == (1024, before.edges_khz)
+
+
+def test_spectra_that_are_too_few_to_average(tmp_path: Path, capsys: pytest.CaptureFixture[str]) -> None:
+    path, out = tmp_path / "made.dada", tmp_path / "out.dada"
+    made.make(path, channels=4, spectra=11, delay=1)
+    psr_level([str(path), str(out), "--average", "4"])
+    assert "psr_level: left out at the end: 3 of 11 spectra, fewer than 4\n" in capsys.readouterr().out
+    assert header(str(out)).spectra == 2
+    psr_level([str(path), str(tmp_path / "other.dada"), "--average", "1"])
+    assert "left out" not in capsys.readouterr().out
+    with pytest.raises(Refusal, match="44 bytes, fewer than the 12 spectra that --average 6 needs") as refusal:
+        psr_level([str(path), str(tmp_path / "none.dada"), "--average", "6"])
+    assert refusal.value.status == 3
+
+
+@pytest.mark.parametrize("tsamp, more, line", [
+    (b"999999.25", b"", "OutOfRange TSAMP"), (b"99", b"#" * 4000, "Overfull 4097 4096"),
+])
+def test_a_header_without_room(tmp_path: Path, tsamp: bytes, more: bytes, line: str) -> None:
+    path, out = tmp_path / "made.dada", tmp_path / "out.dada"
+    made.make(path)
+    text, data = path.read_bytes()[:4096].rstrip(b"\0"), path.read_bytes()[4096:]
+    text = text.replace(b"TSAMP 64", b"TSAMP " + tsamp)
+    path.write_bytes((text + more)[:4096].ljust(4096, b"\0" if b"9999" in tsamp else b"#") + data)
+    with pytest.raises(Refusal, match=f"header of {out} refused: {line}") as refusal:
+        psr_level([str(path), str(out), "--average", "2"])
+    assert refusal.value.status == 3 and not out.exists()
+
+
+def test_a_dispersed_pulse_wider_than_what_is_averaged(tmp_path: Path) -> None:
+    path, out = tmp_path / "made.dada", tmp_path / "out.dada"
+    made.make(path, channels=16, spectra=30000, delay=12000, period=6667, height=1)
+    psr_level([str(path), str(out), "--average", "2"])
+    strengths = []
+    for file, delay, deviation, starts in ((path, 12000, 8**0.5, (0, 6667, 13334)), (out, 6000, 8, (0, 3333, 6667))):
+        samples = Samples([str(file)])
+        entries = delay_paths(samples.header.edges_khz, np.array([delay]))[:, 0]
+        sums = path_sums(samples.read(0, samples.spectra), entries)
+        heights = (sums - np.median(sums)) / (deviation * (16 + delay)**0.5)
+        strengths.append([heights[max(0, start - 2):start + 3].max() for start in starts])
+    assert min(strengths[0]) > 25 and strengths[1] == pytest.approx(strengths[0], rel=0.03)

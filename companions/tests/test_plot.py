@@ -50,7 +50,8 @@ def test_panels_of_folds_and_a_profile(files: dict[str, str]) -> None:
     pulses, folds = tables(files, "folds", FOLDS, 0, 16)
     panels = drawn(pulses, folds, np.arange(100.0))
     assert len(panels) == 6
-    periods, dms, profile = panels[3:]
+    assert len(drawn(pulses[:0], folds)) == 2 and len(drawn(pulses[:0], folds[:0])) == 3
+    periods, dms, profile = panels[-3:]
     assert "period" in periods.get_xlabel() and "DM" in dms.get_xlabel() and "phase" in profile.get_xlabel()
     assert len(periods.collections[0].get_offsets()) == 32
     assert len(profile.lines[0].get_xdata()) == 100
