@@ -1,8 +1,8 @@
 #!/usr/bin/env bash
 # The table of other shapes, as markdown rows: shapes.sh [PSR_SEARCH [PSR_MAKE]]
-# Searches of bands of 16 to 4096 channels by one thread, by four shards in four hands and in five, by three shards in four
-# hands, and by seven in eight. The files lie in TMPDIR (/dev/shm), one at a time. Each figure is the best of ROUNDS
-# rounds (9), in which all commands take turns.
+# Searches of bands of 16 to 4096 channels by one thread, by four shards in four hands and in five, by three shards in
+# four hands, and by seven in eight. The files lie in TMPDIR, or in memory (/dev/shm) where that is not set, one at a
+# time. Each figure is the best of ROUNDS rounds (9), in which all commands take turns.
 # PEERS=DIR is a folder of C programs, as in speed.sh: the peer runs on one thread, and on four that part the delays;
 # ratios are of wall times to its one thread, and each text is compared with its text.
 set -eu
