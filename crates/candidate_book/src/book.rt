@@ -57,6 +57,14 @@ impl Book {
         }
     }
 
+    /// Forgets all candidates. Its memory stays.
+    pub fn clear(&mut self)
+        ensures { self.new ≡ book_of self.old.limit [] }
+    {
+        self.first.clear();
+        self.added = 0;
+    }
+
     /// How many candidates were added.
     pub fn count(&self) -> u64
         ensures { result ≡ self.now.count }

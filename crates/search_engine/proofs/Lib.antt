@@ -1,8 +1,10 @@
+pub mod Beginnings
 pub mod Data
 pub mod Feeding
 pub mod Less
 pub mod Opening
 pub mod PartFound
+pub mod PartsFound
 pub mod PartLists
 pub mod PartSamples
 pub mod PlanFits
@@ -12,3 +14,4 @@ pub mod Sizes
 pub mod Slices
 pub mod Whole
 pub mod WholeChunks
+pub mod Windows

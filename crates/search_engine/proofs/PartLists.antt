@@ -106,7 +106,7 @@ nothing_flat g none [] = refl
 nothing_flat g none (k ∷ ks) = ap (λ xs. xs ++ flat_map g ks) (none k) ∙ nothing_flat g none ks
 
 -- where nothing is folded
-no_folds : (f : Filterbank) (edges : List ℕ) (cells : ℕ → ℕ) (s : Search) → s.fold_max < s.fold_min →
+pub no_folds : (f : Filterbank) (edges : List ℕ) (cells : ℕ → ℕ) (s : Search) → s.fold_max < s.fold_min →
     folds f edges cells s ≡ []
 no_folds f edges cells s off =
     let none : s.fold_max + 1 - s.fold_min ≡ 0 = omega arith in

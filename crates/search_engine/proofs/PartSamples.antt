@@ -11,7 +11,7 @@ use Rattle.search_model.specs.Samples.{sample_at, sample_bytes, samples_of, valu
 
 -- ---- how many spectra a part has
 
-rest_is : (z n a : ℕ) → 0 < z → (n - a * z) / z ≡ n / z - a
+pub rest_is : (z n a : ℕ) → 0 < z → (n - a * z) / z ≡ n / z - a
 rest_is z n a some = elim (cases_lt (n / z) a) [
   | inl less ↦
       let next : (n / z + 1) * z ≤ a * z = mul-le-mul_right z (let l : n / z + 1 ≤ a = omega arith in l) in

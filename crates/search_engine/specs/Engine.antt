@@ -42,6 +42,10 @@ scope_of e = record { masked = e.masked; sought = e.sums.pulses.sought }
 abbrev pub spectra_fed : EngineState → ℕ
 spectra_fed e = e.fed / spectrum_bytes e.unpacker
 
+-- before which spectrum of the observation all pulses were judged
+abbrev pub searched_to : EngineState → ℕ
+searched_to e = e.sums.pulses.sought.first + e.sums.carry.fed
+
 -- the sizes in bytes that an engine keeps
 pub record KnowsSizes
     (chunk spectrum skipped : ℕ) (stop : Option ℕ) (u : Unpacking) (c : Sought) : Type 0 where

@@ -8,7 +8,7 @@ use Rattle.search_model.specs.Samples.{Filterbank, sample_bytes}
 use Rattle.search_model.specs.Candidates.{candidates}
 use Rattle.search_model.specs.Masks.{kept_of}
 use Rattle.search_model.specs.Observed.{filterbank_of}
-use Rattle.shard_search.specs.Sought.{Sought, CanBeSought, cells_in, counted_of, part_of, sought_of, whole_of}
+use Rattle.shard_search.specs.Sought.{Sought, CanBeSought, cells_in, counted_of, part_of, sought_from, sought_of, whole_of}
 use Rattle.search_engine.specs.declared.hiding.Masked.{Masked}
 use Rattle.search_engine.specs.declared.hiding.Masked.TheVariants.{Nothing, Marked}
 
@@ -35,6 +35,10 @@ marks_of (Marked marks) = marks.items
 abbrev pub scope_of_part : ℕ → ℕ → ℕ → ℕ → Scope
 scope_of_part n first place until =
     record { masked = []; sought = part_of n first place until }
+
+-- a scope without the ends before `place`
+abbrev pub scope_from : ℕ → Scope → Scope
+scope_from place c = record { masked = c.masked; sought = sought_from place c.sought }
 
 -- which channels are kept: those without a mark
 abbrev pub kept_by : List Bool → ℕ → Bool

@@ -6,8 +6,8 @@ ghost use Rattle.search_model.specs.Plan.{plan_refusal};
 ghost use Rattle.search_engine.specs.Plan.{Explains};
 ghost use Rattle.row_schedule.specs.Samples.{values_of};
 ghost use Rattle.spectra_rows.specs.Unpacking.{StandsForBytes};
-ghost use Rattle.search_engine.specs.Engine.{EngineState, EngineIsSound, IsOpenedSums, StandsForData, StandsForPart, HasTakenChunks, HoldsNoFullChunk, KnowsSizes, HasSearched, HasFoundPart, IsOpenedEngine, IsOpenedUnpacker, SameShard, most_fed, scope_of, spectra_fed};
-ghost use Rattle.search_engine.specs.Scope.{FitsObservation, marks_of, count_before as count_before_of, limit_in_bytes as limit_in_bytes_of, spectrum_size as spectrum_size_of};
+ghost use Rattle.search_engine.specs.Engine.{EngineState, EngineIsSound, IsOpenedSums, StandsForData, StandsForPart, HasTakenChunks, HoldsNoFullChunk, KnowsSizes, HasSearched, HasFoundPart, IsOpenedEngine, IsOpenedUnpacker, SameShard, most_fed, scope_of, searched_to as searched_to_of, spectra_fed};
+ghost use Rattle.search_engine.specs.Scope.{FitsObservation, marks_of, scope_from, count_before as count_before_of, limit_in_bytes as limit_in_bytes_of, spectrum_size as spectrum_size_of};
 ghost use Rattle.search_model.specs.Observed.{filterbank_of};
 ghost use Rattle.shard_search.specs.Sought.{CanBeSought, cells_in};
 
@@ -242,6 +242,30 @@ impl Engine {
     {
         self.search_full();
         self.end_part();
+    }
+
+    /// Before which spectrum of the observation all pulses were judged.
+    pub fn searched_to(&self) -> u64
+        ensures { result ≡ searched_to_of self.now }
+    {
+        self.sums.searched_to()
+    }
+
+    /// Begins a part: the book forgets its pulses, and those that end at the spectra that are not yet searched are
+    /// looked for. `parts_are_found` says which pulses the book had, and which it comes to have.
+    pub fn begin_part(&mut self)
+        ensures same { SameShard self.new self.old }
+        ensures scope { scope_of self.new ≡ scope_from (searched_to_of self.old) (scope_of self.old) }
+        ensures ended { self.new.has_ended ≡ self.old.has_ended }
+        ensures fed { self.new.fed ≡ self.old.fed }
+        ensures carry { self.new.sums.carry ≡ self.old.sums.carry }
+        ensures unpacker { self.new.unpacker ≡ self.old.unpacker }
+        ensures part { (o : Described) (bytes : List ℕ) → StandsForPart o bytes self.old
+            → StandsForPart o bytes self.new }
+    {
+        let place = self.sums.searched_to();
+        self.sums.leave_out(place);
+        self.book.clear();
     }
 
     /// How many bytes were fed.

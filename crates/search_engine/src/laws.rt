@@ -1,7 +1,8 @@
-// A law of what is found in a scope, which the contract of a function that does nothing carries.
-ghost use Rattle.search_engine.specs.Laws.{ScopesAreFound};
+// Laws of what is found in a scope, which the contracts of functions that do nothing carry.
+ghost use Rattle.search_engine.specs.Laws.{PartsAreFound, ScopesAreFound};
 
-// Laws: they do nothing when they run, and the proof uses what they ensure.
+// Laws: they do nothing when they run, and the proofs use what they ensure.
+use dada_model::edges_fall;
 use search_model::{cells_agree, samples_of_bytes};
 use shard_search::shards_are_listed;
 
@@ -10,6 +11,15 @@ pub fn scopes_are_found()
     ensures { ScopesAreFound }
 {
     cells_agree();
+    samples_of_bytes();
+    shards_are_listed();
+}
+
+/// An engine that looks for a part has in its book what it has found of the part so far, and at its end all of it.
+pub fn parts_are_found()
+    ensures { PartsAreFound }
+{
+    edges_fall();
     samples_of_bytes();
     shards_are_listed();
 }

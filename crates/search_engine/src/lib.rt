@@ -11,6 +11,6 @@ mod scope;
 
 pub use engine::Engine;
 pub use fault::PlanFault;
-pub use laws::scopes_are_found;
+pub use laws::{parts_are_found, scopes_are_found};
 pub use plan::check_plan;
 pub use scope::Scope;

@@ -6,6 +6,7 @@ pub mod Chunks
 pub mod Ends
 pub mod Hits
 pub mod Lasting
+pub mod Leaving
 pub mod LeftOut
 pub mod Passing
 pub mod Pieces

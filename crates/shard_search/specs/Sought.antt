@@ -1,6 +1,6 @@
 -- What is sought in the rows of a shard.
 -- Source: this project's choice.
-use Rattle.std.specs.Prelude.{◌≡◌, ℕ, ◌+◌, ◌^◌, ◌≤◌, ◌<◌, ◌&&◌, Bool, true, false, List, Option, Some, None, map, filter, nat_le, nat_lt}
+use Rattle.std.specs.Prelude.{◌≡◌, ℕ, ◌+◌, ◌^◌, ◌≤◌, ◌<◌, ◌&&◌, Bool, true, false, List, Option, Some, None, map, filter, max, nat_le, nat_lt}
 use Rattle.search_model.specs.declared.candidate.Candidate.{Candidate}
 use Rattle.search_model.specs.declared.candidate.Candidate.TheVariants.{Pulse, Fold}
 use Rattle.search_model.specs.Parts.{later}
@@ -31,6 +31,15 @@ counted_of counts =
 abbrev pub part_of : ℕ → ℕ → ℕ → ℕ → Sought
 part_of n first place until =
     record { counts = Plain n; first = first; place = place; until = Some until }
+
+-- the same, without the ends before `place`
+abbrev pub sought_from : ℕ → Sought → Sought
+sought_from place c = record {
+  counts = c.counts;
+  first = c.first;
+  place = max c.place place;
+  until = c.until;
+}
 
 -- whether a spectrum comes before a limit, where there is one
 abbrev pub is_before : Option ℕ → ℕ → Bool

@@ -8,7 +8,7 @@ ghost use Rattle.shard_search.specs.Thresholds.{IsHit, AreThresholds, pulses_of_
 ghost use Rattle.shard_search.specs.PulseSearch.{PulseState, PulsesAreSound, SearchesDelay, SearchesFor, SearchAlike, RowsStandFor, CanJudge, WideRowHas, IsTakenRow, HitIsKept, IsHitBelow, AddsHitsOf, CanTakeHalves, half_row};
 ghost use Rattle.search_model.specs.declared.search.Search.{Search};
 ghost use Rattle.shard_search.specs.Pulses.{first_sums, IsRowOf, pulses_of_delay};
-ghost use Rattle.shard_search.specs.Sought.{Sought as Described, CanBeSought, is_sought_end};
+ghost use Rattle.shard_search.specs.Sought.{Sought as Described, CanBeSought, is_sought_end, sought_from};
 
 use crate::sought::Sought;
 use crate::thresholds::{BoxThresholds, Hit, find_hit};
@@ -107,6 +107,17 @@ impl PulseSearch {
     pub(crate) fn begin(&mut self)
         ensures { self.new ≡ record self.old { hits = [] } }
     {
+        self.hits.clear();
+    }
+
+    /// Leaves out the pulses that end before spectrum `place` of the observation too.
+    pub(crate) fn leave_out(&mut self, place: u64)
+        ensures { self.new ≡ record self.old {
+          sought = sought_from place self.old.sought;
+          hits = [];
+        } }
+    {
+        self.sought.leave_out(place);
         self.hits.clear();
     }
 

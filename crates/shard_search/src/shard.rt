@@ -15,7 +15,7 @@ ghost use Rattle.fold_search.specs.Judging.{Adds};
 ghost use Rattle.shard_search.specs.Opening.{SumsFit, IsOpenedShard};
 ghost use Rattle.shard_search.specs.PulseSearch.{SearchesDelay, SearchAlike};
 ghost use Rattle.shard_search.specs.Pulses.{IsRowOf};
-ghost use Rattle.shard_search.specs.Sought.{CanBeSought, cells_in};
+ghost use Rattle.shard_search.specs.Sought.{CanBeSought, cells_in, sought_from};
 ghost use Rattle.shard_search.specs.Sums.{ShardState, FitTogether, StandsForStream, HasStream, ContinuesStream, PassesStream, AreDelaysOf, IsAtRow, GoOnAlike, IsPassedTo, HaveTaken, HasSmallRow, HasTakenNext, sums_of, folds_of_plan};
 
 use crate::pulse_search::PulseSearch;
@@ -185,6 +185,25 @@ impl ShardSearch {
             self.old.pulses.sought) }
     {
         self.folds.end(self.pulses.sought().counts(), book);
+    }
+
+    /// Before which spectrum of the observation all pulses were judged.
+    pub fn searched_to(&self) -> u64
+        requires { self.now.carry.fed ≤ 2 ^ 48 }
+        ensures { result ≡ self.now.pulses.sought.first + self.now.carry.fed }
+    {
+        self.pulses.sought().first() + self.carry.fed()
+    }
+
+    /// Leaves out the pulses that end before spectrum `place` of the observation too. All that was taken stays.
+    pub fn leave_out(&mut self, place: u64)
+        ensures sought { self.new.pulses.sought ≡ sought_from place self.old.pulses.sought }
+        ensures search { self.new.pulses.search ≡ self.old.pulses.search }
+        ensures carry { self.new.carry ≡ self.old.carry }
+        ensures stands { (f : Filterbank) → StandsForStream self.old f
+            → StandsForStream self.new f }
+    {
+        self.pulses.leave_out(place);
     }
 
     /// How many spectra were taken.

@@ -1,6 +1,6 @@
 // What is sought in the rows of a shard.
 ghost use Rattle.std.specs.Prelude.{◌≡◌, ℕ, ◌+◌, ◌^◌, ◌≤◌, ◌<◌, true, false, Option};
-ghost use Rattle.shard_search.specs.Sought.{whole_of, counted_of, part_of, cells_in, is_before, AreSoughtEnds};
+ghost use Rattle.shard_search.specs.Sought.{whole_of, counted_of, part_of, sought_from, cells_in, is_before, AreSoughtEnds};
 
 use fold_search::Cells;
 use std::marker::Model;
@@ -71,6 +71,13 @@ impl Sought {
             place,
             until: Some(until),
         }
+    }
+
+    /// Leaves out the ends before spectrum `place` of the observation too.
+    pub(crate) fn leave_out(&mut self, place: u64)
+        ensures { self.new ≡ sought_from place self.old }
+    {
+        self.place = self.place.max(place);
     }
 
     /// How many cells a path sum of a delay adds up.
