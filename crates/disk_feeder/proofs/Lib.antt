@@ -17,6 +17,7 @@ pub mod Missing
 pub mod Unopened
 pub mod Sealings
 pub mod Runs
+pub mod Lasts
 pub mod Turning
 pub mod Standing
 pub mod Endings

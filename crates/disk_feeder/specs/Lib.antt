@@ -8,6 +8,7 @@ pub mod Sources
 pub mod Filling
 pub mod Streams
 pub mod Turns
+pub mod Handing
 pub mod Feeding
 pub mod Beginning
 pub mod Feeder

@@ -1,4 +1,5 @@
 //! What a feeder answers.
+use dada_hdu::Mark;
 use dada_header::HeaderFault;
 use obs_plan::ObsFault;
 use thiserror::Error;
@@ -59,4 +60,14 @@ pub enum FeedTurn {
     Waiting { reader: u32, cleared: u64 },
     /// It sealed the last block.
     Ended(FeedEnd),
+}
+
+/// A block of data that a feeder hands out.
+#[derive(Clone, Copy, Debug, PartialEq, Eq)]
+pub struct Handed {
+    pub mark: Mark,
+    /// How many bytes it has: the first of the space of the feeder's block.
+    pub used: usize,
+    /// How the feeder ended, if this block is the last.
+    pub end: Option<FeedEnd>,
 }

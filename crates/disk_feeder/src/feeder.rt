@@ -1,5 +1,5 @@
 //! The feeder.
-ghost use Rattle.std.specs.Prelude.{◌≡◌, ◌≢◌, ℕ, ◌^◌, ◌<◌, ◌≤◌, List, length, map, string_bytes, None, Some, Ok, Err, [], take, IfOk, IfErr, OnOk, slice_get};
+ghost use Rattle.std.specs.Prelude.{◌≡◌, ◌≢◌, ℕ, ◌^◌, ◌<◌, ◌≤◌, ◌++◌, ◌∷◌, List, length, map, string_bytes, None, Some, Ok, Err, [], take, IfOk, IfErr, OnOk, slice_get};
 ghost use Rattle.dada_model.specs.Fields.{fields_of};
 ghost use Rattle.dada_model.specs.Observation.{observation_of};
 ghost use Rattle.psr_base.specs.Inputs.{HasReadFrom};
@@ -8,7 +8,7 @@ ghost use Rattle.dada_hdu.specs.Passes.{WritesBoth};
 ghost use Rattle.disk_feeder.specs.Filling.{HoldsAll};
 ghost use Rattle.disk_feeder.specs.Turns.{TurnAnswers, sealed_headers, sealed_blocks};
 
-use crate::answers::{FeedFault, FeedTurn};
+use crate::answers::{FeedFault, FeedTurn, Handed};
 use crate::laws::{feeders_begin, headers_are_first};
 use crate::stream::Stream;
 use dada_hdu::{Hdu, HduWriter};
@@ -150,6 +150,8 @@ impl<'a, I: Inputs> Feeder<'a, I> {
     ghost use Rattle.disk_feeder.specs.Feeder.{stream_at, HasPlan, SamePlan, IsSpaceFor, IsFresh, IsBegun, ReadsFirstHeaders, BreaksFirstHeaders, HasOpenFile, has_end, FeederFeeds, headers_of, KeepsBegun, AcceptsAt, AllAccepted, names_at, FeederBegins, RefusesAt};
     ghost use Rattle.disk_feeder.specs.Feeding.{header_entries, HeadersKeepUp};
     ghost use Rattle.disk_feeder.specs.Resting.{stream_in, FeederStands, FeederKept};
+    ghost use Rattle.disk_feeder.specs.Handing.{FeederHands, handed_entry, block_of};
+    ghost use Rattle.ring_blocks.specs.declared.Entry.{Entry};
 
     /// The feeder of a space, over borrowed inputs. Nothing is read.
     pub fn over(inputs: &'a mut I, space: FeederSpace<'a>) -> Feeder<'a, I>
@@ -233,6 +235,33 @@ impl<'a, I: Inputs> Feeder<'a, I> {
         feeders_begin::<I>();
         headers_are_first::<I>();
         self.stream.turn(self.inputs, hdu, pass)
+    }
+
+    /// Reads until a block is full, the transfer's data end or the stream stops, and hands the block out, which takes no
+    /// ring. `block` has its bytes.
+    pub fn next(&mut self) -> Handed
+        requires running { has_end self.old ≡ None }
+        requires file { HasOpenFile self.old → I.is_open self.old.inputs.now }
+        requires stands { (blocks : List Entry)
+            × FeederHands (I.told self.old.inputs.now) self.old blocks }
+        ensures same_reference { self.new.inputs.ghost_name ≡ self.old.inputs.ghost_name }
+        ensures file { HasOpenFile self.new → I.is_open self.new.inputs.now }
+        ensures hands { (blocks : List Entry)
+            → FeederHands (I.told self.old.inputs.now) self.old blocks
+            → FeederHands (I.told self.new.inputs.now) self.new
+            (blocks ++ handed_entry result (block_of self.new) ∷ []) }
+        ensures within { result.used ≤ length (block_of self.new) }
+        ensures kept { FeederKept I.told I.is_calm I.faults self.old self.new }
+        ensures end { result.end ≡ has_end self.new }
+    {
+        self.stream.next(self.inputs)
+    }
+
+    /// The space of the block that was handed out last, which begins with its bytes.
+    pub fn block(&self) -> &[u8]
+        ensures { result.now ≡ block_of self.now }
+    {
+        self.stream.block()
     }
 
     /// Gives the inputs and the space back: the feeder rests where it is.

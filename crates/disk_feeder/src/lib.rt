@@ -13,6 +13,6 @@ mod source;
 mod stream;
 mod writing;
 
-pub use answers::{FeedEnd, FeedFault, FeedTurn, HeaderCause};
+pub use answers::{FeedEnd, FeedFault, FeedTurn, Handed, HeaderCause};
 pub use feeder::{Feeder, FeederSpace, Lent};
 pub use laws::{faults_leave, feeders_begin, feeders_end, headers_are_first};

@@ -18,6 +18,8 @@ use std::alloc::Global;
 // Laws: they do nothing when they run, and the proofs use what they ensure.
 use stream_model::{data_none, no_stop_is_whole, streams_are_short, streams_grow};
 
+mod handing;
+
 // Reads on into a block, behind the bytes that it holds.
 fn read_behind<I: Inputs>(
     source: &mut Source,

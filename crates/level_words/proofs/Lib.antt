@@ -1,0 +1,2 @@
+pub mod Clap
+pub mod Ranges

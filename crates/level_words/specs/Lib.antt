@@ -1,0 +1,5 @@
+pub mod Table
+pub mod Command
+pub mod Values
+pub mod Settings
+pub mod Worked

@@ -1,0 +1,14 @@
+//! The settings of `psr_level`, read from its words by clap. The table of options, what the words say and why they are
+//! refused are defined in `specs/`.
+#![tactic(auto)]
+
+mod command;
+mod fault;
+mod opt;
+mod reading;
+mod settings;
+mod values;
+
+pub use fault::LevelFault;
+pub use opt::{Flag, Opt};
+pub use settings::{LevelOptions, LevelSettings};
