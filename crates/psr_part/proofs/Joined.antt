@@ -1,57 +1,48 @@
--- Two searches of parts, one after the other, write the text of the whole search.
-use Rattle.std.proofs.Common.{◌≡◌, ◌<◌, ◌≤◌, ℕ, List, Bool, true, false, Option, Some, None, refl, sym, ◌∙◌, subst, length, drop, lit<, arith}
-use Rattle.std.specs.Prelude.{unwrap_or, if◌then◌else◌}
-use Rattle.std.specs.Str.{bytes_eq}
-use Rattle.std.proofs.lemmas.Bool.{ltb-true}
-use Rattle.std.proofs.lemmas.Slice.Eq.{bytes_eq-Decides}
-use Rattle.psr_base.specs.Told.{Told}
+-- Searches of parts, one after another, write the text of the whole search.
+use Rattle.std.proofs.Common.{◌≡◌, ◌<◌, ◌≤◌, ◌+◌, ◌++◌, [], ◌∷◌, ℕ, List, Some, refl, sym, ap, ◌∙◌, subst, length, lit<, arith}
+use Rattle.std.proofs.Math.Bool.{and-false}
+use Rattle.std.proofs.lemmas.Bool.{ltb-true, le-ltb}
+use Rattle.std.proofs.lemmas.Grind.{flat_map-append}
+use Rattle.std.proofs.lemmas.List.{length-append}
+use Rattle.std.specs.Prelude.{◌&&◌, false, nat_le, nat_lt}
 use Rattle.psr_base.specs.Written.{WroteAll}
-use Rattle.search_model.specs.Parts.{check_line, within_part}
-use Rattle.search_model.specs.Observed.{candidates_of, search_text}
-use Rattle.search_words.specs.Settings.{SettingsSeen, SaidIsInRange}
+use Rattle.dada_model.specs.Observation.{Observation, edges}
+use Rattle.search_model.specs.declared.candidate.Candidate.{Candidate}
+use Rattle.search_model.specs.declared.candidate.Candidate.TheVariants.{Pulse, Fold}
+use Rattle.search_model.specs.CandidateLaws.{CandidatesRise}
+use Rattle.search_model.specs.CandidateText.{candidate_line, candidate_lines}
+use Rattle.search_model.specs.Candidates.{plain_cells}
+use Rattle.search_model.specs.Observed.{candidates_of, filterbank_of, labels_of}
+use Rattle.search_model.specs.Parts.{PartsJoin, check_line, within_part}
+use Rattle.search_words.specs.Settings.{SettingsSeen}
 use Rattle.stream_model.specs.Walk.{FileStream, transfer_data}
-use Rattle.dada_model.specs.Observation.{Observation}
 use Rattle.warm_restart.specs.declared.checkpoint.Checkpoint.{Checkpoint}
-use Rattle.warm_restart.specs.Counts.{greatest_count, until_of}
+use Rattle.warm_restart.specs.Checkpoint.{CanBeSaid}
 use Rattle.warm_restart.specs.Laws.{TextsSayOne, LinesAreReadBack}
 use Rattle.warm_restart.specs.Joins.{PartTextsJoin, lines_of_part, checkpoint_at}
-use Rattle.warm_restart.specs.Named.{new_word}
 use Rattle.warm_restart.specs.Warm.{text_of_part}
 use Rattle.run_stop.specs.Runs.{stream_for, first_observation}
-use Rattle.psr_part.specs.Part.{until_in, until_word, check_word, check_text_of, spectra_in, text_in_part}
+use Rattle.psr_part.specs.Part.{until_in, check_text_of, spectra_in, text_in_part, GoesOnFrom}
+use Rattle.psr_part.specs.Outcome.{HasText}
 use Rattle.psr_part.specs.Causes.{PartSeen}
-use Rattle.psr_part.specs.Joins.{HasEnded, WriteWhole, PartsAreJoined}
+use Rattle.psr_part.specs.Joins.{HasEnded, AreLinesUpTo, WritesNext, WritesRest, PartsAreJoined, first_spectrum}
 use Rattle.psr_part.proofs.Causes.{one_said}
 
-abbrev first_spectrum : Checkpoint
-first_spectrum = record { place = 0; pulses = 0 }
+-- no pulse ends before the first spectrum
+none_before : (list : List Candidate) → within_part 0 0 list ≡ []
+none_before [] = refl
+none_before (Pulse end delay width sum ∷ list) =
+    let late : nat_lt end 0 ≡ false = le-ltb end 0 (omega arith) in
+    rw late (rw (and-false (nat_le 0 end)) (none_before list))
+none_before (Fold delay period halvings trial phase sum ∷ list) = none_before list
 
--- `new` stands for the line of the first spectrum
-new_text : (is_new : Bool) (file : Option (List ℕ)) → is_new ≡ true →
-    (if is_new then Some (check_line 0 0) else file) ≡ Some (check_line 0 0)
-new_text true file e = refl
-new_text false file e = absurd cc
-
-check_is_new : (told : Told) (words : List (List ℕ)) → check_word words ≡ new_word →
-    check_text_of told words ≡ Some (check_line 0 0)
-check_is_new told words is =
-    new_text (bytes_eq (check_word words) new_word) (told.bytes_under (check_word words))
-    ((bytes_eq-Decides (check_word words) new_word).1 is)
-
--- UNTIL is a number that a checkpoint says
-bound_of : TextsSayOne → (word : List ℕ) (o : Option ℕ) → until_of word ≡ o → unwrap_or o 0 ≤ greatest_count
-bound_of law word (Some n) e = ((law.until word n).1 e).count.bound
-bound_of law word None e = omega arith
-
-until_bound : TextsSayOne → (words : List (List ℕ)) → until_in words ≤ greatest_count
-until_bound law words = bound_of law (until_word words) (until_of (until_word words)) refl
-
-module _ (ranged : SaidIsInRange) (law : TextsSayOne) (back : LinesAreReadBack) (join : PartTextsJoin)
-    (is_calm : Type 0) (words second_words : List (List ℕ)) (first second : PartSeen) (s : SettingsSeen)
-    (files : List (List ℕ))
-    (a : HasEnded is_calm words first s files) (b : HasEnded is_calm second_words second s files)
-    (new : check_word words ≡ new_word) (short : until_in words < spectra_in (stream_for s files))
-    (long : spectra_in (stream_for s files) ≤ until_in second_words) where
+module _ (law : TextsSayOne) (back : LinesAreReadBack) (join : PartTextsJoin) (parts : PartsJoin) (rise : CandidatesRise)
+    (is_calm : Type 0)
+    (words : List (List ℕ)) (seen : PartSeen) (s : SettingsSeen) (files : List (List ℕ)) (lines : List ℕ)
+    (at : Checkpoint)
+    (ended : HasEnded is_calm words seen s files) (so_far : AreLinesUpTo s (stream_for s files) lines at)
+    (said : CanBeSaid at)
+    (check : check_text_of seen.inputs.told words ≡ Some (check_line at.place at.pulses)) where
   abbrev w : FileStream
   w = stream_for s files
 
@@ -64,62 +55,99 @@ module _ (ranged : SaidIsInRange) (law : TextsSayOne) (back : LinesAreReadBack) 
   abbrev cut : ℕ
   cut = until_in words
 
-  abbrev next : Checkpoint
-  next = checkpoint_at o s.search first_spectrum cut bytes
+  accepted : GoesOnFrom seen.inputs.told words ended.outcome.from
+  accepted = ended.outcome.accepted (0, lit< tt, sym ended.all)
 
-  -- the first part begins with the first spectrum
-  began : a.outcome.from ≡ first_spectrum
-  began =
-      one_said law (check_line 0 0) a.outcome.from first_spectrum
-      ((a.outcome.accepted (0, lit< tt, sym a.all)).text (check_line 0 0) (check_is_new first.inputs.told words new))
-      (back.line first_spectrum (record { place = omega arith; pulses = omega arith }))
+  -- the search went on from the checkpoint
+  went_on : ended.outcome.from ≡ at
+  went_on =
+      one_said law (check_line at.place at.pulses) ended.outcome.from at
+      (accepted.text (check_line at.place at.pulses) check) (back.line at said)
 
-  wrote_first : WroteAll (text_of_part o s.search first_spectrum cut bytes) first.out_before first.out_after
-  wrote_first =
-      subst (λ c. WroteAll (text_in_part words c s w) first.out_before first.out_after) began
-      (a.outcome.written.text a.all s files (a.says a.outcome.from) a.told).1
+  before : at.place < cut
+  before = subst (λ (c : Checkpoint). c.place < cut) went_on accepted.before
 
-  few : next.pulses ≤ s.search.max_candidates
+  searched : HasText words ended.outcome.from
+      (λ text. WroteAll text seen.out_before seen.out_after) s w
+  searched = ended.outcome.written.text ended.all s files (ended.says ended.outcome.from) ended.told
+
+  wrote : WroteAll (text_of_part o s.search at cut bytes) seen.out_before seen.out_after
+  wrote = subst (λ c. WroteAll (text_in_part words c s w) seen.out_before seen.out_after) went_on searched.1
+
+  few : length (within_part at.place cut (candidates_of o s.search bytes)) ≤ s.search.max_candidates
   few =
-      let most : length (within_part a.outcome.from.place cut (candidates_of o s.search bytes))
-      ≤ s.search.max_candidates =
-      (a.outcome.written.text a.all s files (a.says a.outcome.from) a.told).0.finds.total in
-      let count : length (within_part 0 cut (candidates_of o s.search bytes)) ≤ s.search.max_candidates =
       subst (λ (c : Checkpoint). length (within_part c.place cut (candidates_of o s.search bytes))
-      ≤ s.search.max_candidates) began most in
-      omega (arith, count)
-
-  -- the second goes on from the line of the first
-  went_on : check_text_of second.inputs.told second_words ≡ Some (check_line cut next.pulses) → b.outcome.from ≡ next
-  went_on line =
-      let range = ranged.search (drop 2 words) s (a.says first_spectrum).search.says in
-      let most : s.search.max_candidates ≤ 1048576 = range.search.parts.most_candidates in
-      one_said law (check_line cut next.pulses) b.outcome.from next
-      ((b.outcome.accepted (0, lit< tt, sym b.all)).text (check_line cut next.pulses) line)
-      (back.line next (record { place = until_bound law words; pulses = omega (arith, few, most) }))
+      ≤ s.search.max_candidates) went_on searched.0.finds.total
 
   -- nothing is folded
   unfolded : s.search.fold_max < s.search.fold_min
-  unfolded = ltb-true s.search.fold_max s.search.fold_min (a.says first_spectrum).made
+  unfolded = ltb-true s.search.fold_max s.search.fold_min (ended.says first_spectrum).made
 
-  whole : WriteWhole first second cut s.search.max_candidates (search_text o s.search bytes) second_words
-  whole = record {
-    lines = lines_of_part o s.search first_spectrum cut bytes;
-    count = next.pulses;
-    few = few;
-    stops = subst (λ text. WroteAll text first.out_before first.out_after)
-        (join.stops o s.search first_spectrum cut bytes short) wrote_first;
-    goes_on = λ line. (
-      text_of_part o s.search next (until_in second_words) bytes,
-      subst (λ c. WroteAll (text_in_part second_words c s w) second.out_before second.out_after)
-          (went_on line) (b.outcome.written.text b.all s files (b.says b.outcome.from) b.told).1,
-      join.goes_on o s.search first_spectrum cut (until_in second_words) bytes (omega arith)
-          (omega (arith, short, long))
-          ∙ join.whole o s.search (until_in second_words) bytes unfolded long,
-    );
+  -- the text from the checkpoint on is what its lines lack of the text from the first spectrum on
+  joined : (until : ℕ) → at.place ≤ until →
+      lines ++ text_of_part o s.search at until bytes ≡ text_of_part o s.search first_spectrum until bytes
+  joined until within =
+      ap (λ (l : List ℕ). l ++ text_of_part o s.search at until bytes) so_far.lines_are
+      ∙ ap (λ (c : Checkpoint). lines_of_part o s.search first_spectrum at.place bytes
+      ++ text_of_part o s.search c until bytes) so_far.at_is
+      ∙ join.goes_on o s.search first_spectrum at.place until bytes (omega arith) within
+
+  abbrev all : List Candidate
+  all = candidates_of o s.search bytes
+
+  -- the pulses up to the checkpoint and those of the part are those up to its end
+  pulses_join : within_part 0 at.place all ++ within_part at.place cut all ≡ within_part 0 cut all
+  pulses_join =
+      parts.parts all 0 at.place cut (rise (filterbank_of o bytes) (edges o) (plain_cells o.channels) s.search)
+      (omega arith) (omega (arith, before))
+
+  next_lines : AreLinesUpTo s w (lines ++ lines_of_part o s.search at cut bytes)
+      (record { place = cut; pulses = at.pulses + length (within_part at.place cut all) })
+  next_lines = record {
+    lines_are =
+        ap (λ (l : List ℕ). l ++ lines_of_part o s.search at cut bytes) so_far.lines_are
+        ∙ sym (flat_map-append (candidate_line (labels_of o)) (within_part 0 at.place all)
+        (within_part at.place cut all))
+        ∙ ap (candidate_lines (labels_of o)) pulses_join;
+    at_is =
+        let so_many : at.pulses ≡ 0 + length (within_part 0 at.place all) =
+        ap (λ (c : Checkpoint). c.pulses) so_far.at_is in
+        let both : length (within_part 0 at.place all) + length (within_part at.place cut all)
+        ≡ length (within_part 0 cut all) =
+        sym (length-append (within_part 0 at.place all) (within_part at.place cut all)) ∙ ap length pulses_join in
+        let count : at.pulses + length (within_part at.place cut all) ≡ 0 + length (within_part 0 cut all) =
+        omega (arith, so_many, both) in
+        ap (λ (n : ℕ). record { place = cut; pulses = n }) count;
   }
 
-pub parts_are_joined : SaidIsInRange → TextsSayOne → LinesAreReadBack → PartTextsJoin → (is_calm : Type 0) →
-    PartsAreJoined is_calm
-parts_are_joined ranged law back join is_calm words second_words first second s files a b new short long =
-    whole ranged law back join is_calm words second_words first second s files a b new short long
+  next : cut < spectra_in w → WritesNext s w lines at cut seen
+  next short = record {
+    more = lines_of_part o s.search at cut bytes;
+    pulses = (checkpoint_at o s.search at cut bytes).pulses;
+    wrote = subst (λ text. WroteAll text seen.out_before seen.out_after)
+        (join.stops o s.search at cut bytes short) wrote;
+    few = omega (arith, few);
+    next = next_lines;
+  }
+
+  rest : spectra_in w ≤ cut → WritesRest s w lines seen
+  rest long = record {
+    rest = text_of_part o s.search at cut bytes;
+    wrote = wrote;
+    whole = joined cut (omega (arith, before)) ∙ join.whole o s.search cut bytes unfolded long;
+  }
+
+pub parts_are_joined : TextsSayOne → LinesAreReadBack → PartTextsJoin → PartsJoin → CandidatesRise →
+    (is_calm : Type 0) → PartsAreJoined is_calm
+parts_are_joined law back join parts rise is_calm = record {
+  begins = λ s w.
+      let none = none_before (candidates_of (first_observation w 0) s.search (transfer_data w 0)) in
+      record {
+        lines_are = sym (ap (candidate_lines (labels_of (first_observation w 0))) none);
+        at_is = sym (ap (λ (list : List Candidate). record { place = 0; pulses = 0 + length list }) none);
+      };
+  goes_on = λ words seen s files lines at ended so_far said check. (
+    next law back join parts rise is_calm words seen s files lines at ended so_far said check,
+    rest law back join parts rise is_calm words seen s files lines at ended so_far said check,
+  );
+}

@@ -7,7 +7,7 @@ ghost use Rattle.psr_part.specs.Sample.{SampleIsFound};
 use psr_base::Inputs;
 // Laws: they do nothing when they run, and the proofs use what they ensure.
 use run_stop::{accepted_goes_on, accepted_is_not_refused};
-use search_words::said_is_in_range;
+use search_model::{candidates_rise, parts_join};
 use warm_restart::{lines_are_read_back, part_texts_join, texts_say_one};
 
 /// Words, a checkpoint, headers and data that are accepted are searched, or there is no memory, where neither the
@@ -37,15 +37,16 @@ pub fn told_room_is_enough<I: Inputs>()
     texts_say_one();
 }
 
-/// The lines of a part from the first spectrum on, and then the text of the part from its CHECK line on, are the text
-/// of the whole search.
+/// Searches of parts, each of which goes on from the CHECK line of the one before it, write the text of the whole search,
+/// but for these lines: any number of them, of which the first begins with `new`.
 pub fn parts_are_joined<I: Inputs>()
     ensures { (inputs : I) → PartsAreJoined (I.is_calm inputs) }
 {
-    said_is_in_range();
     texts_say_one();
     lines_are_read_back();
     part_texts_join();
+    parts_join();
+    candidates_rise();
 }
 
 /// The sample of this crate is found: a search of it that ends with status 0 has written its two lines.
