@@ -1,18 +1,19 @@
 -- What contracts see of a search that writes while the data come.
 -- Source: this project's choice.
-use Rattle.std.specs.Prelude.{◌≡◌, ℕ, ◌+◌, ◌*◌, ◌<◌, ◌≤◌, ◌++◌, All, Bool, true, false, List, [], length}
+use Rattle.std.specs.Prelude.{◌≡◌, ℕ, ◌+◌, ◌*◌, ◌<◌, ◌≤◌, ◌++◌, ◌&&◌, All, Bool, true, false, List, [], length, min, take, nat_lt, if◌then◌else◌}
 use Rattle.dada_model.specs.Bounds.{ObservationInRange}
 use Rattle.dada_model.specs.Observation.{Observation}
+use Rattle.psr_base.specs.Written.{SinkSeen, WroteAll, WroteFront}
 use Rattle.search_model.specs.declared.search.Search.{Search}
 use Rattle.search_model.specs.Observed.{candidates_of, filterbank_of}
-use Rattle.search_model.specs.Parts.{first_needed}
+use Rattle.search_model.specs.Parts.{check_line, first_needed}
 use Rattle.search_model.specs.Search.{SettingsInRange}
-use Rattle.search_engine.specs.Engine.{EngineState, HoldsNoFullChunk, IsOpenedEngine, StandsForPart, scope_of}
-use Rattle.search_engine.specs.Scope.{scope_of_part, spectrum_size}
+use Rattle.search_engine.specs.Engine.{EngineState, HoldsNoFullChunk, IsOpenedEngine, SameShard, StandsForPart, scope_of, searched_to, spectra_fed}
+use Rattle.search_engine.specs.Scope.{scope_from, scope_of_part, spectrum_size}
 use Rattle.warm_restart.specs.Checkpoint.{CanBeSaid}
 use Rattle.warm_restart.specs.Counts.{greatest_count}
 use Rattle.warm_restart.specs.declared.checkpoint.Checkpoint.{Checkpoint}
-use Rattle.live_search.specs.LiveText.{after_parts, layout_of, next_end, parts_before}
+use Rattle.live_search.specs.LiveText.{after_parts, counted, greatest_number, layout_of, next_end, text_so_far}
 use Rattle.live_search.specs.declared.live.TheConstants.{STEP}
 use Rattle.live_search.specs.declared.live.LiveSearch.{LiveSearch}
 
@@ -61,18 +62,19 @@ pub record SearchesFrom (o : Observation) (t : Task) (place : ℕ) (e : EngineSt
   pub begins : BeginsFor t.search t.from.place first
   pub scope : scope_of e ≡ scope_of_part o.channels first place greatest_count
 
--- Where it stands once so many spectra came. Its place is that of the checkpoint after the first n parts, whatever data
--- follow. The CHECK line of that checkpoint is due where no spectrum came after it.
-pub record IsPlaced (o : Observation) (t : Task) (bytes : List ℕ) (n : ℕ) (w : LiveSearch)
-    : Type 0 where
-  pub at : (more : List ℕ) → All (λ byte. byte < 256) more →
-      w.from ≡ after_parts (layout_of o t.search t.every) t.from
-      (candidates_of o t.search (bytes ++ more)) n
+-- Where it stands once so many spectra came. Its place is that of the checkpoint after the first n parts. The CHECK line
+-- of that checkpoint is due where no spectrum came after it.
+pub record IsPlaced (t : Task) (n spectra : ℕ) (w : LiveSearch) : Type 0 where
   pub until : w.until ≡ next_end t.every w.from.place
-  pub before : (filterbank_of o bytes).spectra < w.until
-  pub due : w.due ≡ true → (filterbank_of o bytes).spectra ≡ w.from.place
-  pub some : w.due ≡ true → 1 ≤ n
-  pub past : w.due ≡ false → 1 ≤ n → w.from.place < (filterbank_of o bytes).spectra
+  pub before : spectra < w.until
+  pub due : w.due ≡ true → (spectra ≡ w.from.place) × (1 ≤ n)
+  pub past : w.due ≡ false → 1 ≤ n → w.from.place < spectra
+
+-- its checkpoint is that after the first n parts, whatever data follow
+abbrev pub IsAfter : Observation → Task → List ℕ → ℕ → Checkpoint → Type 0
+IsAfter o t bytes n at = (more : List ℕ) → All (λ byte. byte < 256) more →
+    at ≡ after_parts (layout_of o t.search t.every) t.from
+    (candidates_of o t.search (bytes ++ more)) n
 
 -- a search of this task was fed these data bytes of an observation
 pub record WasFed (o : Observation) (t : Task) (bytes : List ℕ) (w : LiveSearch) : Type 0 where
@@ -83,13 +85,61 @@ pub record WasFed (o : Observation) (t : Task) (bytes : List ℕ) (w : LiveSearc
   pub fed : StandsForPart o bytes w.engine
   pub full : HoldsNoFullChunk w.engine
   pub parts : ℕ
-  pub placed : IsPlaced o t bytes parts w
+  pub placed : IsPlaced t parts (filterbank_of o bytes).spectra w
+  pub at : IsAfter o t bytes parts w.from
 
 -- there is a task that it does, and there are bytes that it was fed
 pub record IsLive (o : Observation) (w : LiveSearch) : Type 0 where
   pub task : Task
   pub bytes : List ℕ
   pub was : WasFed o task bytes w
+
+-- the text so far of a task over these data bytes, once the first of them came
+abbrev pub so_far : Observation → Task → List ℕ → List ℕ → List ℕ
+so_far o t all first =
+    text_so_far (layout_of o t.search t.every) t.from (filterbank_of o first).spectra
+    (candidates_of o t.search all)
+
+-- Data bytes came after others: if the text so far was written before, it was written after them, whatever data follow.
+abbrev pub WroteOn : Observation → Task → List ℕ → List ℕ → SinkSeen → SinkSeen → Type 0
+WroteOn o t before piece old new =
+    (more : List ℕ) (start : SinkSeen) → All (λ byte. byte < 256) more →
+    WroteAll (so_far o t (before ++ piece ++ more) before) start old →
+    WroteAll (so_far o t (before ++ piece ++ more) (before ++ piece)) start new
+
+-- a call failed: the front was written of the text so far after some of the bytes
+abbrev pub BrokeOff : Observation → Task → List ℕ → List ℕ → SinkSeen → SinkSeen → Type 0
+BrokeOff o t before bytes old new =
+    (more : List ℕ) (start : SinkSeen) → All (λ byte. byte < 256) more →
+    WroteAll (so_far o t (before ++ bytes ++ more) before) start old →
+    (n : ℕ) × (n ≤ length bytes)
+    × WroteFront (so_far o t (before ++ bytes ++ more) (before ++ take n bytes)) start new
+
+-- ---- the steps of a search
+
+-- a CHECK line is due, and a spectrum came after its place
+abbrev pub is_overdue : ℕ → LiveSearch → Bool
+is_overdue spectra w = w.due && nat_lt w.from.place spectra
+
+abbrev pub due_line : ℕ → LiveSearch → List ℕ
+due_line spectra w =
+    if is_overdue spectra w then check_line w.from.place w.from.pulses else []
+
+-- the search of a part ended, of which so many pulses were printed, and the next one began
+pub record HasBegun (pulses : ℕ) (old new : LiveSearch) : Type 0 where
+  pub every : new.every ≡ old.every
+  pub size : new.spectrum ≡ old.spectrum
+  pub place : new.from.place ≡ old.until
+  pub pulses_are : new.from.pulses ≡ counted old.from.pulses pulses
+  pub until : new.until ≡ min (old.until + old.every) greatest_number
+  pub due : new.due ≡ true
+  pub same : SameShard new.engine old.engine
+  pub scope : scope_of new.engine ≡ scope_from (searched_to old.engine) (scope_of old.engine)
+  pub running : new.engine.has_ended ≡ old.engine.has_ended
+  pub fed : new.engine.fed ≡ old.engine.fed
+  pub unpacker : new.engine.unpacker ≡ old.engine.unpacker
+  pub stands : (o : Observation) (bytes : List ℕ) → StandsForPart o bytes old.engine →
+      StandsForPart o bytes new.engine
 
 -- how many bytes it was fed
 abbrev pub fed_of : LiveSearch → ℕ

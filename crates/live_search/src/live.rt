@@ -1,7 +1,7 @@
 // A search that writes while the data come.
-ghost use Rattle.std.specs.Prelude.{◌≡◌, ◌×◌, ℕ, ◌+◌, ◌^◌, ◌++◌, ◌≤◌, ◌<◌, [], All, List, OnOk, IfOk, IfErr, true, false, None, length, take, drop};
+ghost use Rattle.std.specs.Prelude.{◌≡◌, ℕ, ◌+◌, ◌*◌, ◌^◌, ◌++◌, ◌≤◌, ◌<◌, [], All, List, OnOk, OnErr, IfOk, IfErr, not, ◌&&◌, true, false, None, length, take, drop};
 ghost use Rattle.dada_model.specs.Observation.{Observation as Described};
-ghost use Rattle.psr_base.specs.Written.{SinkSeen, Wrote, WroteAll};
+ghost use Rattle.psr_base.specs.Written.{Wrote};
 ghost use Rattle.search_model.specs.Observed.{candidates_of, filterbank_of};
 ghost use Rattle.search_model.specs.Plan.{plan_refusal};
 ghost use Rattle.search_model.specs.Search.{SettingsInRange};
@@ -10,7 +10,7 @@ ghost use Rattle.search_engine.specs.Plan.{Explains};
 ghost use Rattle.search_engine.specs.Scope.{spectrum_size as spectrum_size_of};
 ghost use Rattle.warm_restart.specs.Checkpoint.{CanBeSaid};
 ghost use Rattle.live_search.specs.LiveText.{layout_of, live_text, text_so_far};
-ghost use Rattle.live_search.specs.Live.{BeginsFor, IsEvery, IsLive, IsOpenedFrom, IsTask, WasFed, fed_of, settings_of};
+ghost use Rattle.live_search.specs.Live.{BeginsFor, BrokeOff, HasBegun, IsLive, IsOpenedFrom, IsTask, Task, WasFed, WroteOn, due_line, fed_of, is_overdue, settings_of};
 
 use crate::lines::write_pulses;
 use candidate_book::SinkStop;
@@ -128,5 +128,130 @@ impl LiveSearch {
             }),
             Err(_memory) => Err(PlanFault::Memory),
         }
+    }
+
+    /// Takes the next data bytes, and writes what the parts are that they end: see `WasFed` and `text_so_far`.
+    pub fn feed<K: Sink>(
+        &mut self,
+        observation: &Observation,
+        bytes: &[u8],
+        sink: &mut K,
+    ) -> Result<(), SinkStop>
+        requires live { IsLive observation.now self.old }
+        requires few { fed_of self.old + length bytes.now ≤ most_fed }
+        ensures live { OnOk result (IsLive observation.now self.new) }
+        ensures count { OnOk result (fed_of self.new ≡ fed_of self.old + length bytes.now) }
+        ensures fed { OnOk result ((t : Task) (before : List ℕ)
+            → WasFed observation.now t before self.old
+            → WasFed observation.now t (before ++ bytes.now) self.new) }
+        ensures wrote { OnOk result ((t : Task) (before : List ℕ)
+            → WasFed observation.now t before self.old
+            → WroteOn observation.now t before bytes.now (K.seen sink.old) (K.seen sink.new)) }
+        ensures broke { OnErr result ((t : Task) (before : List ℕ)
+            → WasFed observation.now t before self.old
+            → BrokeOff observation.now t before bytes.now (K.seen sink.old) (K.seen sink.new)) }
+    {
+        let mut done = 0;
+        while done < bytes.len() {
+            match self.step(observation, &bytes[done..], sink) {
+                Ok(count) => done += count,
+                Err(stop) => return Err(stop),
+            }
+        }
+        Ok(())
+    }
+
+    // Takes bytes up to the end of the part at most, and writes what is due then. Answers how many it took.
+    fn step<K: Sink>(
+        &mut self,
+        observation: &Observation,
+        bytes: &[u8],
+        sink: &mut K,
+    ) -> Result<usize, SinkStop>
+        requires live { IsLive observation.now self.old }
+        requires some { 0 < length bytes.now }
+        requires few { fed_of self.old + length bytes.now ≤ most_fed }
+        ensures live { OnOk result (IsLive observation.now self.new) }
+        ensures taken { IfOk result (λ n. (0 < n) × (n ≤ length bytes.now)
+            × (fed_of self.new ≡ fed_of self.old + n)) }
+        ensures fed { IfOk result (λ n. (t : Task) (before : List ℕ)
+            → WasFed observation.now t before self.old
+            → WasFed observation.now t (before ++ take n bytes.now) self.new) }
+        ensures wrote { IfOk result (λ n. (t : Task) (before : List ℕ)
+            → WasFed observation.now t before self.old
+            → WroteOn observation.now t before (take n bytes.now) (K.seen sink.old)
+            (K.seen sink.new)) }
+        ensures broke { OnErr result ((t : Task) (before : List ℕ)
+            → WasFed observation.now t before self.old
+            → BrokeOff observation.now t before bytes.now (K.seen sink.old) (K.seen sink.new)) }
+    {
+        pieces_join();
+        parts_are_found();
+        candidates_are_listed();
+        one_shard_is_all();
+        let count = self.room(bytes);
+        self.engine.feed(&bytes[..count]);
+        let spectra = self.engine.whole_spectra();
+        match self.write_due(spectra, sink) {
+            Ok(()) => {}
+            Err(stop) => return Err(stop),
+        }
+        if self.engine.searched_to() < self.until {
+            return Ok(count);
+        }
+        match write_pulses(self.engine.book(), observation, self.until, sink) {
+            Ok(pulses) => {
+                self.begin_next(pulses);
+                Ok(count)
+            }
+            Err(stop) => Err(stop),
+        }
+    }
+
+    // How many of some bytes lie before the end of the part, or one.
+    fn room(&self, bytes: &[u8]) -> usize
+        requires { 0 < length bytes.now }
+        ensures some { 0 < result }
+        ensures most { result ≤ length bytes.now }
+        ensures within { self.now.engine.fed < 2 ^ 63
+            → self.now.engine.fed < self.now.until * self.now.spectrum
+            → self.now.engine.fed + result ≤ self.now.until * self.now.spectrum }
+    {
+        let end = self.until.saturating_mul(self.spectrum);
+        let room = end.saturating_sub(self.engine.fed()).max(1);
+        room.min(bytes.len() as u64) as usize
+    }
+
+    // Writes the CHECK line that is due, if so many spectra came, one after its place among them.
+    fn write_due<K: Sink>(&mut self, spectra: u64, sink: &mut K) -> Result<(), SinkStop>
+        ensures state { OnOk result (self.new
+            ≡ record self.old { due = self.old.due && not (is_overdue spectra self.old) }) }
+        ensures wrote { Wrote (due_line spectra self.old) (K.seen sink.old) (K.seen sink.new)
+            result }
+    {
+        pieces_join();
+        if !self.due || spectra <= self.from.place {
+            return Ok(());
+        }
+        match self.from.write(sink) {
+            Ok(()) => {
+                self.due = false;
+                Ok(())
+            }
+            Err(stop) => Err(stop),
+        }
+    }
+
+    // Begins the next part, after one of which so many pulses were printed.
+    fn begin_next(&mut self, pulses: u64)
+        ensures { HasBegun pulses self.old self.new }
+    {
+        self.from = Checkpoint {
+            place: self.until,
+            pulses: self.from.pulses.saturating_add(pulses),
+        };
+        self.until = self.until.saturating_add(self.every);
+        self.due = true;
+        self.engine.begin_part();
     }
 }

@@ -1,0 +1,7 @@
+pub mod Begun
+pub mod Counts
+pub mod Reaching
+pub mod Searched
+pub mod Sizes
+pub mod Steps
+pub mod Texts
