@@ -3,5 +3,6 @@ pub mod Counts
 pub mod Reaching
 pub mod Searched
 pub mod Sizes
+pub mod Stepping
 pub mod Steps
 pub mod Texts

@@ -70,23 +70,23 @@ pub record Came (o : Observation) (t : Task) (before piece : List ℕ) (w : Live
 
 module _ (found : PartsAreFound) (one : OneShardIsAll) (o : Observation) (t : Task) (before piece : List ℕ)
     (w : LiveSearch) (e : EngineState) (came : Came o t before piece w e) where
-  abbrev layout : Layout
+  abbrev pub layout : Layout
   layout = layout_of o t.search t.every
 
   abbrev some : 1 ≤ layout.every
   some = came.was.task.every.some
 
-  abbrev n : ℕ
+  abbrev pub n : ℕ
   n = came.was.parts
 
   -- how many spectra had come, and how many have
-  abbrev had : ℕ
+  abbrev pub had : ℕ
   had = (filterbank_of o before).spectra
 
-  abbrev have : ℕ
+  abbrev pub have : ℕ
   have = (filterbank_of o (before ++ piece)).spectra
 
-  abbrev due : Bool
+  abbrev pub due : Bool
   due = w.due && not (w.due && nat_lt w.from.place have)
 
   grows : had ≤ have
@@ -191,10 +191,10 @@ module _ (found : PartsAreFound) (one : OneShardIsAll) (o : Observation) (t : Ta
   }
 
   module _ (more : List ℕ) (numbers : All (λ byte. byte < 256) more) where
-    abbrev list : List Candidate
+    abbrev pub list : List Candidate
     list = candidates_of o t.search (before ++ piece ++ more)
 
-    abbrev at : Checkpoint
+    abbrev pub at : Checkpoint
     at = after_parts layout t.from list n
 
     is_at : w.from ≡ at
@@ -241,7 +241,7 @@ module _ (found : PartsAreFound) (one : OneShardIsAll) (o : Observation) (t : Ta
         off_if false c is = refl
 
     -- the pulses of the part
-    abbrev part : List Candidate
+    abbrev pub part : List Candidate
     part = part_at layout at list
 
     pub book_has : have ≡ w.until → e.book ≡ book_of t.search.max_candidates part
