@@ -1,5 +1,6 @@
 pub mod Begun
 pub mod Counts
+pub mod Feeding
 pub mod Reaching
 pub mod Searched
 pub mod Sizes
