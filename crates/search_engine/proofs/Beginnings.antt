@@ -1,11 +1,10 @@
 -- An engine that begins a part.
-use Rattle.std.proofs.Common.{◌≡◌, ℕ, ◌+◌, ◌*◌, ◌%◌, ◌≤◌, ◌<◌, ◌&&◌, Bool, false, leb, List, [], max, refl, sym, ◌∙◌, ap, subst, arith}
+use Rattle.std.proofs.Common.{◌≡◌, ℕ, ◌+◌, ◌%◌, ◌<◌, ◌&&◌, false, List, [], max, sym, ◌∙◌, ap, subst, arith}
 use Rattle.std.specs.Prelude.{Option}
 use Rattle.std.proofs.lemmas.Bool.{lt-leb}
 use Rattle.candidate_book.specs.Book.{BookContents, book_of}
 use Rattle.dada_model.specs.Observation.{Observation, edges}
 use Rattle.fdmt_carry.specs.Carrying.{Carrying}
-use Rattle.fdmt_carry.specs.Tables.{Tables}
 use Rattle.search_model.specs.Samples.{Filterbank}
 use Rattle.search_model.specs.Search.{shard_start}
 use Rattle.shard_search.specs.Pulses.{pulses_of_ends}

@@ -6,14 +6,13 @@ use Rattle.std.proofs.lemmas.Bool.{cases_lt, le-leb, lt-leb, lt-ltb}
 use Rattle.std.proofs.lemmas.Nat.{le-div}
 use Rattle.std.proofs.lemmas.List.{append-nil, take_all}
 use Rattle.std.proofs.lemmas.List.Elements.{All-append}
-use Rattle.candidate_book.specs.Book.{BookContents, book_of}
+use Rattle.candidate_book.specs.Book.{book_of}
 use Rattle.dada_model.specs.Bounds.{ObservationInRange}
 use Rattle.dada_model.specs.Edges.{AreEdges}
 use Rattle.dada_model.specs.Laws.{EdgesFall}
 use Rattle.dada_model.specs.Observation.{Observation, edges}
 use Rattle.fold_search.specs.Cells.{CellCounts, cells_by}
 use Rattle.fold_search.specs.Cells.CellCounts.{Plain}
-use Rattle.search_model.specs.declared.candidate.Candidate.{Candidate}
 use Rattle.search_model.specs.declared.search.Search.{Search}
 use Rattle.search_model.specs.Candidates.{plain_cells, candidates, folds, shard_part, within_delays}
 use Rattle.search_model.specs.Observed.{candidates_of, filterbank_of}
@@ -24,17 +23,16 @@ use Rattle.search_model.specs.Samples.{Filterbank, samples_of}
 use Rattle.search_model.specs.Search.{SettingsInRange, shard_start}
 use Rattle.shard_search.specs.Laws.{ShardsAreListed}
 use Rattle.shard_search.specs.Pulses.{pulses_of_ends}
-use Rattle.shard_search.specs.Sought.{Sought, is_sought_end, part_of, sought_of}
+use Rattle.shard_search.specs.Sought.{Sought, part_of, sought_of}
 use Rattle.shard_search.specs.Sums.{sums_of}
-use Rattle.spectra_rows.specs.Unpacking.{spectrum_bytes}
 use Rattle.search_engine.specs.Engine.{BeginsWith, EngineState, HasFoundIn, HoldsNoFullChunk, SameShard, Searches, StandsForPart, chunk_of, scope_of, searched_to}
-use Rattle.search_engine.specs.Scope.{Scope, bytes_before, bytes_in, kept_samples, limit_in_bytes, scope_of_part, searched, spectrum_size}
+use Rattle.search_engine.specs.Scope.{Scope, bytes_before, bytes_in, kept_samples, limit_in_bytes, scope_of_part, spectrum_size}
 use Rattle.search_engine.proofs.Data.{bits, data_begin, place_in_spectrum, sample_is_there}
 use Rattle.search_engine.proofs.Feeding.{size_is}
 use Rattle.search_engine.proofs.PartFound.{begins, long, part_values}
 use Rattle.search_engine.proofs.PartFound.{needed as wanted}
 use Rattle.search_engine.proofs.PartLists.{cut_part, no_folds}
-use Rattle.search_engine.proofs.PartSamples.{length_take, part_spectra, rest_is}
+use Rattle.search_engine.proofs.PartSamples.{length_take, rest_is}
 use Rattle.search_engine.proofs.PlanFits.{shard_delays}
 use Rattle.search_engine.proofs.Sizes.{given_fit, size_some, spectra_are}
 use Rattle.search_engine.proofs.WholeChunks.{rest_of}

@@ -1,7 +1,7 @@
-use Rattle.std.proofs.Common.{◌≡◌, sym, ◌∙◌, ap, subst, arith}
-use Rattle.shard_search.specs.Sought.{Sought, sought_from}
+use Rattle.std.proofs.Common.{sym, ◌∙◌, ap, subst, arith}
+use Rattle.shard_search.specs.Sought.{sought_from}
 use Rattle.search_engine.specs.Engine.{EngineState, StandsForPart, scope_of, searched_to}
-use Rattle.search_engine.specs.Scope.{Scope, marks_of, scope_from}
+use Rattle.search_engine.specs.Scope.{marks_of, scope_from}
 use Rattle.search_engine.proofs.Feeding.{few_spectra}
 use Rattle.search_engine.proofs.Beginnings.{Begins, begun_part, begun_sizes, begun_sound}
 use Rattle.search_engine.proofs.Whole.{scope_at}

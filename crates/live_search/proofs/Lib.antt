@@ -1,0 +1,9 @@
+pub mod Begun
+pub mod Counts
+pub mod Feeding
+pub mod Reaching
+pub mod Searched
+pub mod Sizes
+pub mod Stepping
+pub mod Steps
+pub mod Texts
