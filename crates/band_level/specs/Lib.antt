@@ -1,0 +1,11 @@
+pub mod Values
+pub mod Moments
+pub mod Scales
+pub mod Levelled
+pub mod Ranges
+pub mod Levelling
+pub mod Laws
+pub mod Columns
+pub mod Sizes
+pub mod Rows
+pub mod Sound
