@@ -1,8 +1,8 @@
 -- The sums that are kept of each cell while a stretch is gone through, spectrum by spectrum.
 -- Source: this project's choice.
-use Rattle.std.specs.Prelude.{ℕ, ◌≡◌, ◌+◌, ◌*◌, ◌<◌, ◌≤◌, ◌&&◌, Bool, List, length, map, filter, sum_by, slice_index, nat_le, cond}
+use Rattle.std.specs.Prelude.{ℕ, ◌≡◌, ◌+◌, ◌*◌, ◌^◌, ◌<◌, ◌≤◌, ◌&&◌, Bool, List, length, map, filter, sum_by, slice_index, nat_le, cond}
 use Rattle.std.specs.List.{range_with_len}
-use Rattle.band_level.specs.Moments.{Moments}
+use Rattle.band_level.specs.Moments.{Moments, is_near}
 
 -- the values of a cell in the first n spectra
 abbrev pub column : (ℕ → ℕ → ℕ) → ℕ → ℕ → List ℕ
@@ -42,11 +42,11 @@ pub record AreSums (value : ℕ → ℕ → ℕ) (cells n : ℕ) (lows highs cou
   pub square : (i : ℕ) → i < cells
       → slice_index squares i ≡ sum_by (λ x. x * x) (counted value lows highs n i)
 
--- no sum is larger than those of so many greatest values
+-- no more than n values were counted, and none is above 4194303
 pub record AreSmall (n : ℕ) (counts totals squares : List ℕ) : Type 0 where
   pub count : (i : ℕ) → slice_index counts i ≤ n
-  pub total : (i : ℕ) → slice_index totals i ≤ n * 4194303
-  pub square : (i : ℕ) → slice_index squares i ≤ n * 17592177655809
+  pub total : (i : ℕ) → slice_index totals i ≤ slice_index counts i * 4194303
+  pub square : (i : ℕ) → slice_index squares i ≤ slice_index counts i * 17592177655809
 
 -- the moments of a cell
 abbrev pub moments_held : List ℕ → List ℕ → List ℕ → ℕ → Moments
@@ -55,3 +55,9 @@ moments_held counts totals squares i = record {
   total = slice_index totals i;
   squares = slice_index squares i;
 }
+
+-- the bounds of a cell hold what lies near the mean of its moments
+pub record AreNear (cells : ℕ) (counts totals squares lows highs : List ℕ) : Type 0 where
+  pub near : (i x : ℕ) → i < cells → x < 2 ^ 32
+      → is_between (slice_index lows i) (slice_index highs i) x
+      ≡ is_near (moments_held counts totals squares i) x

@@ -15,8 +15,11 @@ pub record Task : Type 0 where
   pub masked : List Bool
 
 -- whether the channel of a cell is masked
+abbrev pub marks_cell : List Bool → ℕ → ℕ → Bool
+marks_cell masked polarisations i = slice_index_or masked (i / polarisations) false
+
 abbrev pub is_masked : Task → ℕ → Bool
-is_masked k i = slice_index_or k.masked (i / k.format.polarisations) false
+is_masked k i = marks_cell k.masked k.format.polarisations i
 
 -- ---- scales
 

@@ -2,7 +2,8 @@
 -- Source: this project's choice.
 use Rattle.std.specs.Prelude.{ℕ, ◌≡◌, ◌+◌, ◌-◌, ◌*◌, ◌/◌, ◌%◌, ◌<◌, ◌≤◌, ◌⊎◌, ◌++◌, Bool, true, false, List, length, drop, slice_index}
 use Rattle.band_level.specs.Values.{Band, band, cells, spectrum_bytes}
-use Rattle.band_level.specs.Scales.{Scale, unit}
+use Rattle.band_level.specs.Scales.{unit}
+use Rattle.band_level.specs.Rows.{HoldScales}
 use Rattle.band_level.specs.Levelled.{Task, scale_by, stretch_for, fine_before, first_levels, levelled}
 
 -- A stretch, as the bytes that came of it. Its spectra from `first` up to, but without, `last` are to be levelled next:
@@ -23,14 +24,6 @@ pub record Levelling : Type 0 where
 -- how many spectra are to be levelled next
 abbrev pub pending : Levelling → ℕ
 pending l = l.last - l.first
-
--- the scale of a cell
-abbrev pub scale_held : Levelling → ℕ → Scale
-scale_held l i = record {
-  gain = slice_index l.gains i;
-  base = slice_index l.bases i;
-  lift = slice_index l.lifts i;
-}
 
 abbrev pub band_of : Levelling → List ℕ → Band
 band_of l bytes = band l.task.format bytes
@@ -69,8 +62,8 @@ pub record StandsFor (l : Levelling) (bytes : List ℕ) (start stretch : ℕ) : 
   pub order : l.first ≤ l.last
   pub carried : (i : ℕ) → i < cells l.task.format → slice_index l.fractions i
       ≡ fine_before l.task (band_of l bytes) i (start + l.first) % unit
-  pub scales : l.is_scaled ≡ true → (i : ℕ) → i < cells l.task.format
-      → scale_held l i ≡ scale_by l.task (band_of l bytes) stretch i
+  pub scales : l.is_scaled ≡ true → HoldScales (cells l.task.format)
+      (scale_by l.task (band_of l bytes) stretch) l.gains l.bases l.lifts
   pub stage : Waits l start stretch ⊎ IsWhole l start stretch ⊎ Ends l bytes start stretch
 
 -- These bytes were taken, and these were made of them.

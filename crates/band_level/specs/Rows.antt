@@ -1,7 +1,9 @@
 -- How a row of values is levelled and written.
 -- Source: this project's choice.
-use Rattle.std.specs.Prelude.{ℕ, ◌≡◌, ◌+◌, ◌-◌, ◌*◌, ◌/◌, ◌%◌, ◌<◌, ◌≤◌, List, length, min, slice_index}
-use Rattle.band_level.specs.Scales.{unit, most_gain}
+use Rattle.std.specs.Prelude.{ℕ, ◌≡◌, ◌+◌, ◌-◌, ◌*◌, ◌/◌, ◌%◌, ◌<◌, ◌≤◌, Bool, List, length, min, slice_index}
+use Rattle.band_level.specs.declared.plan.Plan.{Plan}
+use Rattle.band_level.specs.Moments.{Moments}
+use Rattle.band_level.specs.Scales.{Scale, scale_of, unit, most_gain}
 
 -- what a cell comes to, in units, with what was carried on
 abbrev pub units_at : List ℕ → List ℕ → List ℕ → List ℕ → ℕ → ℕ
@@ -23,3 +25,33 @@ pub record ScalesFit (cells : ℕ) (gains bases lifts : List ℕ) : Type 0 where
   pub lifts_long : length lifts ≡ cells
   pub gain : (i : ℕ) → slice_index gains i ≤ most_gain
   pub base : (i : ℕ) → slice_index bases i ≤ 68719476736
+
+-- the scale of a cell
+abbrev pub scale_held : List ℕ → List ℕ → List ℕ → ℕ → Scale
+scale_held gains bases lifts i = record {
+  gain = slice_index gains i;
+  base = slice_index bases i;
+  lift = slice_index lifts i;
+}
+
+-- the scales of cells are these
+abbrev pub HoldScales : ℕ → (ℕ → Scale) → List ℕ → List ℕ → List ℕ → Type 0
+HoldScales cells scale gains bases lifts =
+    (i : ℕ) → i < cells → scale_held gains bases lifts i ≡ scale i
+
+-- each cell of which values were counted has the scale of its moments; others keep theirs
+pub record SetsScales (cells : ℕ) (p : Plan) (is_masked : ℕ → Bool) (moments : ℕ → Moments)
+    (gains bases lifts gains' bases' lifts' : List ℕ) : Type 0 where
+  pub set : (i : ℕ) → i < cells → 0 < (moments i).count
+      → scale_held gains' bases' lifts' i ≡ scale_of p (is_masked i) (moments i)
+  pub kept : (i : ℕ) → (moments i).count ≡ 0
+      → scale_held gains' bases' lifts' i ≡ scale_held gains bases lifts i
+
+-- lists of working space have a value for each cell
+pub record AreLong (cells : ℕ) (row lows highs counts totals squares : List ℕ) : Type 0 where
+  pub row : length row ≡ cells
+  pub lows : length lows ≡ cells
+  pub highs : length highs ≡ cells
+  pub counts : length counts ≡ cells
+  pub totals : length totals ≡ cells
+  pub squares : length squares ≡ cells

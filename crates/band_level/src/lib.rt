@@ -4,6 +4,7 @@
 mod format;
 mod leveller;
 mod levels;
+mod measure;
 mod moments;
 mod plan;
 mod row;

@@ -53,8 +53,9 @@ fn add_spectrum(row: &mut [u32], bytes: &[u8], format: Format, spectrum: usize)
     requires cells { length row.old ≡ cells format }
     requires inside { (spectrum + 1) * read_bytes format ≤ length bytes.now }
     requires small { (i : ℕ) → slice_index row.old i ≤ 4194304 }
-    ensures { (i : ℕ) → i < cells format → slice_index row.new i
+    ensures added { (i : ℕ) → i < cells format → slice_index row.new i
         ≡ slice_index row.old i + value_at format bytes.now (spectrum * cells format + i) }
+    ensures few { (i : ℕ) → slice_index row.new i ≤ slice_index row.old i + 65535 }
 {
     let start = spectrum * row.len();
     for i in 0..row.len() {

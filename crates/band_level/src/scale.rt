@@ -43,13 +43,14 @@ fn spread_of(m: Moments) -> u128
     ensures spread { result ≡ spread (moments_of m) }
     ensures small { result < 2 ^ 84 }
 {
-    (u128::from(m.count) * u128::from(m.squares))
-        .saturating_sub(u128::from(m.total) * u128::from(m.total))
+    (m.count as u128 * m.squares as u128).saturating_sub(m.total as u128 * m.total as u128)
 }
 
 // The square root, rounded down.
 fn root_of(v: u128) -> u64
-    ensures { result ≡ root v }
+    ensures root { result ≡ root v }
+    ensures low { result * result ≤ v }
+    ensures high { v < (result + 1) * (result + 1) }
 {
     v.isqrt() as u64
 }
@@ -61,14 +62,10 @@ pub fn near_bounds(m: Moments) -> Bounds
     ensures { (x : ℕ) → x < 2 ^ 32
         → is_between result.low result.high x ≡ is_near (moments_of m) x }
 {
-    let count = u64::from(m.count);
+    let count = m.count as u64;
     let far = root_of(16 * spread_of(m));
+    let low = m.total.saturating_sub(far).div_ceil(count);
     let high = ((m.total + far) / count).min(u64::from(u32::MAX));
-    let low = m
-        .total
-        .saturating_sub(far)
-        .div_ceil(count)
-        .min(u64::from(u32::MAX));
     Bounds {
         low: low as u32,
         high: high as u32,
@@ -86,7 +83,7 @@ fn gain_of(plan: Plan, m: Moments) -> u64
     if deviation == 0 {
         return 0;
     }
-    (u64::from(plan.deviation) * u64::from(m.count) * UNIT / (1000 * deviation)).min(MOST_GAIN)
+    (plan.deviation as u64 * m.count as u64 * UNIT / (1000 * deviation)).min(MOST_GAIN)
 }
 
 // The scale with a gain.
@@ -97,11 +94,12 @@ fn with_gain(plan: Plan, m: Moments, gain: u64) -> Scale
     requires gain { gain ≤ most_gain }
     ensures { IsScaleOf result (scale_for plan (moments_of m) gain) }
 {
-    let units = u128::from(m.count) * u128::from(UNIT);
-    let mean = u128::from(plan.mean) * units / 1000;
-    let part = u128::from(gain) * u128::from(m.total);
-    let lift = part / units + 1;
-    let base = (mean + units * lift - part) / u128::from(m.count);
+    let count = m.count as u128;
+    let unit = UNIT as u128;
+    let mean = plan.mean as u128 * count * unit / 1000;
+    let part = gain as u128 * m.total as u128;
+    let lift = part / (count * unit) + 1;
+    let base = (mean + count * unit * lift - part) / count;
     Scale {
         gain,
         base: base as u64,

@@ -1,0 +1,6 @@
+pub mod Fills
+pub mod Ranges
+pub mod Values
+pub mod Columns
+pub mod Roots
+pub mod Scales
