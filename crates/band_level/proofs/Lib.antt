@@ -4,3 +4,4 @@ pub mod Values
 pub mod Columns
 pub mod Roots
 pub mod Scales
+pub mod Measured

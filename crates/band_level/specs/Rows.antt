@@ -49,9 +49,9 @@ pub record SetsScales (cells : ℕ) (p : Plan) (is_masked : ℕ → Bool) (momen
 
 -- lists of working space have a value for each cell
 pub record AreLong (cells : ℕ) (row lows highs counts totals squares : List ℕ) : Type 0 where
-  pub row : length row ≡ cells
-  pub lows : length lows ≡ cells
-  pub highs : length highs ≡ cells
-  pub counts : length counts ≡ cells
-  pub totals : length totals ≡ cells
-  pub squares : length squares ≡ cells
+  pub row_long : length row ≡ cells
+  pub lows_long : length lows ≡ cells
+  pub highs_long : length highs ≡ cells
+  pub counts_long : length counts ≡ cells
+  pub totals_long : length totals ≡ cells
+  pub squares_long : length squares ≡ cells
