@@ -5,3 +5,4 @@ pub mod Columns
 pub mod Roots
 pub mod Scales
 pub mod Measured
+pub mod SpectraLevelled

@@ -9,3 +9,4 @@ pub mod Columns
 pub mod Sizes
 pub mod Rows
 pub mod Sound
+pub mod Spectra

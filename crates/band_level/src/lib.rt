@@ -9,6 +9,7 @@ mod moments;
 mod plan;
 mod row;
 mod scale;
+mod spectra;
 
 pub use format::Format;
 pub use leveller::Leveller;
