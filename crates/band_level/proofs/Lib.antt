@@ -6,3 +6,6 @@ pub mod Roots
 pub mod Scales
 pub mod Measured
 pub mod SpectraLevelled
+pub mod Shifts
+pub mod Agreeing
+pub mod Standing

@@ -54,17 +54,21 @@ pub record Ends (l : Levelling) (bytes : List ℕ) (start stretch : ℕ) : Type 
   pub here : (t : ℕ) → start ≤ t → t < start + l.last
       → stretch_for l.task (band_of l bytes) t ≡ stretch
 
--- These bytes were taken since the opening, the stretch begins at spectrum `start`, and the scales are those of a
--- stretch. What each cell has carried on is that of the spectra before.
-pub record StandsFor (l : Levelling) (bytes : List ℕ) (start stretch : ℕ) : Type 0 where
+-- These bytes were taken since the opening, and those from spectrum `start` on are held. What each cell has carried on is
+-- that of the spectra before those to be levelled.
+pub record IsAt (l : Levelling) (bytes : List ℕ) (start : ℕ) : Type 0 where
   pub size : start * spectrum_bytes l.task.format + length l.held ≡ length bytes
   pub held : l.held ≡ drop (start * spectrum_bytes l.task.format) bytes
-  pub order : l.first ≤ l.last
   pub carried : (i : ℕ) → i < cells l.task.format → slice_index l.fractions i
       ≡ fine_before l.task (band_of l bytes) i (start + l.first) % unit
+
+-- and the scales, once there are some, are those of a stretch
+pub record StandsFor (l : Levelling) (bytes : List ℕ) (start stretch : ℕ) : Type 0 where
+  pub place : IsAt l bytes start
+  pub order : l.first ≤ l.last
   pub scales : l.is_scaled ≡ true → HoldScales (cells l.task.format)
       (scale_by l.task (band_of l bytes) stretch) l.gains l.bases l.lifts
-  pub stage : Waits l start stretch ⊎ IsWhole l start stretch ⊎ Ends l bytes start stretch
+  pub stage : Waits l start stretch ⊎ (IsWhole l start stretch ⊎ Ends l bytes start stretch)
 
 -- These bytes were taken, and these were made of them.
 abbrev pub Levels : Levelling → List ℕ → List ℕ → Type 0

@@ -2,7 +2,6 @@
 #![tactic(auto)]
 
 mod format;
-mod leveller;
 mod levels;
 mod measure;
 mod moments;
@@ -12,5 +11,4 @@ mod scale;
 mod spectra;
 
 pub use format::Format;
-pub use leveller::Leveller;
 pub use plan::Plan;
