@@ -9,3 +9,5 @@ pub mod SpectraLevelled
 pub mod Shifts
 pub mod Agreeing
 pub mod Standing
+pub mod Giving
+pub mod Ending

@@ -156,7 +156,7 @@ HeldScales l held count gains bases lifts = HoldScales (cells l.task.format)
     gains bases lifts
 
 -- they are those of a stretch, where the first spectra that are held are its own
-held_scales : (l : Levelling) (bytes : List ℕ) (start stretch count : ℕ) (gains bases lifts : List ℕ)
+pub held_scales : (l : Levelling) (bytes : List ℕ) (start stretch count : ℕ) (gains bases lifts : List ℕ)
     → FormatInRange l.task.format → IsAt l bytes start → start ≡ stretch * l.task.plan.spectra
     → count * spectrum_bytes l.task.format ≤ length l.held
     → min l.task.plan.spectra (band_of l bytes).spectra ≡ count
