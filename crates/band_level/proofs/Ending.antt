@@ -6,7 +6,8 @@ use Rattle.band_level.specs.Values.{Band, cells, spectrum_bytes}
 use Rattle.band_level.specs.Scales.{unit}
 use Rattle.band_level.specs.Levelled.{Task, stretch_for, fine_before, first_levels, levelled}
 use Rattle.band_level.specs.Levelling.{Levelling, IsAt, StandsFor, Waits, IsWhole, Ends, Levels, IsDone, band_of, pending}
-use Rattle.band_level.proofs.Standing.{HeldScales, held_scales, is_waiting, some_bytes}
+use Rattle.band_level.specs.Steps.{HeldScales}
+use Rattle.band_level.proofs.Standing.{held_scales, is_waiting, some_bytes}
 use Rattle.band_level.proofs.Giving.{quotient, short_of}
 
 -- ---- the beginning
@@ -69,9 +70,9 @@ few l start stretch range waits = div_below (length l.held) (spectrum_bytes l.ta
 
 -- with the scales that are there
 pub ends_scaled : (l : Levelling) (count : ℕ) (bytes out : List ℕ) → FormatInRange l.task.format
-    → 0 < l.task.plan.spectra → l.has_ended ≡ false → l.last ≡ 0
+    → 0 < l.task.plan.spectra → l.has_ended ≡ false → pending l ≡ 0
     → count ≡ length l.held / spectrum_bytes l.task.format → (0 < count → l.is_scaled ≡ true)
-    → Levels l bytes out → Levels (record l { last = count; has_ended = true }) bytes out
+    → Levels l bytes out → Levels (record l { first = 0; last = count; has_ended = true }) bytes out
 ends_scaled l count bytes out range some goes_on none is_count scaled (start, stretch, stands, is_out) =
     let n = l.task.plan.spectra in
     let waits = is_waiting l bytes start stretch stands goes_on none in
@@ -82,9 +83,10 @@ ends_scaled l count bytes out range some goes_on none is_count scaled (start, st
         place = record {
           size = stands.place.size;
           held = stands.place.held;
-          carried = stands.place.carried;
+          carried = λ i lt. stands.place.carried i lt
+              ∙ ap (λ n. fine_before l.task (band_of l bytes) i (start + n) % unit) waits.first;
         };
-        order = let e = waits.first in omega arith;
+        order = omega arith;
         scales = stands.scales;
         stage = inr (inr record {
           ended = refl;
@@ -98,11 +100,11 @@ ends_scaled l count bytes out range some goes_on none is_count scaled (start, st
               omega arith;
         });
       }
-    , is_out )
+    , is_out ∙ ap (λ n. first_levels l.task (band_of l bytes) (start + n)) waits.first )
 
 -- with the scales of what is held, where there are none
 pub ends_short : (l : Levelling) (count : ℕ) (bytes out gains bases lifts : List ℕ) → FormatInRange l.task.format
-    → 0 < l.task.plan.spectra → l.has_ended ≡ false → l.last ≡ 0
+    → 0 < l.task.plan.spectra → l.has_ended ≡ false → pending l ≡ 0
     → count ≡ length l.held / spectrum_bytes l.task.format → count * spectrum_bytes l.task.format ≤ length l.held
     → l.is_scaled ≡ false → HeldScales l l.held count gains bases lifts
     → Levels l bytes out
@@ -111,6 +113,7 @@ pub ends_short : (l : Levelling) (count : ℕ) (bytes out gains bases lifts : Li
         bases = bases;
         lifts = lifts;
         is_scaled = true;
+        first = 0;
         last = count;
         has_ended = true;
       }) bytes out
@@ -126,9 +129,10 @@ ends_short l count bytes out gains bases lifts range some goes_on none is_count 
         place = record {
           size = stands.place.size;
           held = stands.place.held;
-          carried = stands.place.carried;
+          carried = λ i lt. stands.place.carried i lt
+              ∙ ap (λ n. fine_before l.task (band_of l bytes) i (start + n) % unit) waits.first;
         };
-        order = let e = waits.first in omega arith;
+        order = omega arith;
         scales = λ is_scaled. held_scales l bytes start 0 count gains bases lifts range stands.place (omega arith) fits
             (omega arith) scales;
         stage = inr (inr record {
@@ -141,7 +145,7 @@ ends_short l count bytes out gains bases lifts range some goes_on none is_count 
               omega arith;
         });
       }
-    , is_out )
+    , is_out ∙ ap (λ n. first_levels l.task (band_of l bytes) (start + n)) waits.first )
 
 -- all is levelled
 pub all_done : (l : Levelling) → l.has_ended ≡ true → pending l ≡ 0 → IsDone l

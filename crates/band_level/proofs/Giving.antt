@@ -13,7 +13,8 @@ use Rattle.band_level.specs.Levelled.{Task, scale_by, scale_at, stretch_for, fin
 use Rattle.band_level.specs.Spectra.{AreHeld, AreLevelled, LevelsSpectra}
 use Rattle.band_level.specs.Levelling.{Levelling, IsAt, StandsFor, Waits, IsWhole, Ends, Levels, IsDone, band_of, pending}
 use Rattle.band_level.proofs.Agreeing.{own_stretch}
-use Rattle.band_level.proofs.Standing.{HeldScales, held_cells, held_scales, is_waiting, some_bytes}
+
+use Rattle.band_level.proofs.Standing.{held_cells, held_scales, is_waiting, some_bytes}
 
 -- ---- levels behind others
 
@@ -115,13 +116,13 @@ held_spectra l bytes start stretch count range stands is_ready few = record {
 -- ---- what a piece leaves
 
 -- the next spectra are levelled
-pub record MakesPiece (l : Levelling) (count : ℕ) (fractions piece : List ℕ) : Type 0 where
+pub record MakesSpectra (l : Levelling) (count : ℕ) (fractions piece : List ℕ) : Type 0 where
   pub few : l.first + count ≤ l.last
   pub levels : LevelsSpectra l.task.format l.task.plan l.held l.gains l.bases l.lifts l.first count l.fractions fractions
       [] piece
 
 module _ (l : Levelling) (count : ℕ) (fractions piece : List ℕ) (range : FormatInRange l.task.format)
-    (some : 0 < l.task.plan.spectra) (next : 0 < pending l) (makes : MakesPiece l count fractions piece)
+    (some : 0 < l.task.plan.spectra) (next : 0 < pending l) (makes : MakesSpectra l count fractions piece)
     (bytes out : List ℕ) (start stretch : ℕ) (stands : StandsFor l bytes start stretch)
     (is_out : out ≡ first_levels l.task (band_of l bytes) (start + l.first)) where
 
@@ -151,7 +152,7 @@ short_of n size some wide = let h : 1 * 1 ≤ n * size = mul-le-mul some wide in
 
 -- some spectra of the stretch are left, or the data have ended
 pub gives_on : (l : Levelling) (count : ℕ) (fractions piece bytes out : List ℕ) → FormatInRange l.task.format
-    → 0 < l.task.plan.spectra → 0 < pending l → MakesPiece l count fractions piece
+    → 0 < l.task.plan.spectra → 0 < pending l → MakesSpectra l count fractions piece
     → (l.has_ended ≡ false → l.first + count < l.last) → Levels l bytes out
     → Levels (record l { fractions = fractions; piece = piece; first = l.first + count }) bytes (out ++ piece)
 gives_on l count fractions piece bytes out range some next makes left (start, stretch, stands, is_out) =
@@ -191,7 +192,7 @@ gives_on l count fractions piece bytes out range some next makes left (start, st
 
 -- a stretch is over: the next one begins
 pub gives_last : (l : Levelling) (count : ℕ) (fractions piece bytes out : List ℕ) → FormatInRange l.task.format
-    → 0 < l.task.plan.spectra → 0 < pending l → MakesPiece l count fractions piece
+    → 0 < l.task.plan.spectra → 0 < pending l → MakesSpectra l count fractions piece
     → l.has_ended ≡ false → l.first + count ≡ l.last → Levels l bytes out
     → Levels (record l { fractions = fractions; piece = piece; held = []; first = 0; last = 0 }) bytes (out ++ piece)
 gives_last l count fractions piece bytes out range some next makes goes_on all (start, stretch, stands, is_out) =

@@ -11,3 +11,4 @@ pub mod Agreeing
 pub mod Standing
 pub mod Giving
 pub mod Ending
+pub mod Written

@@ -14,6 +14,7 @@ use Rattle.band_level.specs.Rows.{HoldScales, scale_held}
 use Rattle.band_level.specs.Levelled.{Task, is_masked, stretch_values, scale_by, scale_at, stretch_for, fine_before, first_levels, spectrum_levels, levelled}
 use Rattle.band_level.specs.Spectra.{AreHeld, AreLevelled, Carried, LevelsSpectra}
 use Rattle.band_level.specs.Levelling.{Levelling, IsAt, StandsFor, Waits, IsWhole, Ends, Levels, band_of, pending}
+use Rattle.band_level.specs.Steps.{HeldScales}
 use Rattle.band_level.proofs.Shifts.{cell_shift}
 use Rattle.band_level.proofs.Agreeing.{Agree, before_agrees, levels_agree, scales_agree, maps_agree, own_stretch}
 
@@ -97,7 +98,7 @@ levels_more l bytes piece start stretches range some is_start first place =
 
 -- which stage it is
 pub is_waiting : (l : Levelling) (bytes : List ℕ) (start stretch : ℕ) → StandsFor l bytes start stretch
-    → l.has_ended ≡ false → l.last ≡ 0 → Waits l start stretch
+    → l.has_ended ≡ false → pending l ≡ 0 → Waits l start stretch
 is_waiting l bytes start stretch stands goes_on none = elim stands.stage [
   | inl waits ↦ waits
   | inr other ↦ elim other [
@@ -118,7 +119,7 @@ begins l start stretch waits = begins_on l start stretch l.is_scaled refl waits
 -- ---- bytes that leave the stretch short
 
 pub takes_short : (l : Levelling) (bytes piece out : List ℕ) → FormatInRange l.task.format → 0 < l.task.plan.spectra
-    → l.has_ended ≡ false → l.last ≡ 0
+    → l.has_ended ≡ false → pending l ≡ 0
     → length (l.held ++ piece) < l.task.plan.spectra * spectrum_bytes l.task.format
     → Levels l bytes out → Levels (record l { held = l.held ++ piece }) (bytes ++ piece) out
 takes_short l bytes piece out range some goes_on none short (start, stretch, stands, is_out) =
@@ -138,7 +139,7 @@ takes_short l bytes piece out range some goes_on none short (start, stretch, sta
         stage = inl record {
           goes_on = goes_on;
           first = waits.first;
-          last = none;
+          last = waits.last;
           short = short;
           scaled = waits.scaled;
           begins = waits.begins;
@@ -148,14 +149,7 @@ takes_short l bytes piece out range some goes_on none short (start, stretch, sta
 
 -- ---- bytes that fill it
 
--- the scales of what is held
-abbrev pub HeldScales : Levelling → List ℕ → ℕ → List ℕ → List ℕ → List ℕ → Type 0
-HeldScales l held count gains bases lifts = HoldScales (cells l.task.format)
-    (λ i. scale_of l.task.plan (is_masked l.task i)
-      (fair_moments (column (cell_value l.task.format held) count i)))
-    gains bases lifts
-
--- they are those of a stretch, where the first spectra that are held are its own
+-- the scales of what is held are those of a stretch, where the first spectra that are held are its own
 pub held_scales : (l : Levelling) (bytes : List ℕ) (start stretch count : ℕ) (gains bases lifts : List ℕ)
     → FormatInRange l.task.format → IsAt l bytes start → start ≡ stretch * l.task.plan.spectra
     → count * spectrum_bytes l.task.format ≤ length l.held
@@ -182,11 +176,12 @@ with_stretch l held gains bases lifts = record l {
   bases = bases;
   lifts = lifts;
   is_scaled = true;
+  first = 0;
   last = l.task.plan.spectra;
 }
 
 pub takes_whole : (l : Levelling) (bytes piece out gains bases lifts : List ℕ) → FormatInRange l.task.format
-    → 0 < l.task.plan.spectra → l.has_ended ≡ false → l.last ≡ 0
+    → 0 < l.task.plan.spectra → l.has_ended ≡ false → pending l ≡ 0
     → length (l.held ++ piece) ≡ l.task.plan.spectra * spectrum_bytes l.task.format
     → HeldScales l (l.held ++ piece) l.task.plan.spectra gains bases lifts
     → Levels l bytes out → Levels (with_stretch l (l.held ++ piece) gains bases lifts) (bytes ++ piece) out
@@ -200,17 +195,23 @@ takes_whole l bytes piece out gains bases lifts range some goes_on none long sca
     le-div (start + l.task.plan.spectra) _ _ (some_bytes l.task.format range) (omega arith) in
     ( start, on.0
     , record {
-        place = record { size = place.size; held = place.held; carried = place.carried };
-        order = let e = waits.first in omega arith;
+        place = record {
+          size = place.size;
+          held = place.held;
+          carried = λ i lt. place.carried i lt
+              ∙ ap (λ n. fine_before l.task (band_of l (bytes ++ piece)) i (start + n) % unit) waits.first;
+        };
+        order = omega arith;
         scales = λ is_scaled. held_scales (record l { held = l.held ++ piece }) (bytes ++ piece) start on.0
             l.task.plan.spectra gains bases lifts range place on.1 (omega arith) (omega arith) scales;
         stage = inr (inl record {
           goes_on = goes_on;
           last = refl;
-          some = let e = waits.first in omega arith;
+          some = some;
           long = long;
           scaled = refl;
           begins = on.1;
         });
       }
-    , is_out ∙ levels_more l bytes piece start on.0 range some on.1 waits.first stands.place )
+    , is_out ∙ levels_more l bytes piece start on.0 range some on.1 waits.first stands.place
+      ∙ ap (λ n. first_levels l.task (band_of l (bytes ++ piece)) (start + n)) waits.first )

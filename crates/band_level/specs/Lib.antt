@@ -4,6 +4,7 @@ pub mod Scales
 pub mod Levelled
 pub mod Ranges
 pub mod Levelling
+pub mod Steps
 pub mod Laws
 pub mod Columns
 pub mod Sizes

@@ -2,6 +2,7 @@
 #![tactic(auto)]
 
 mod format;
+mod leveller;
 mod levels;
 mod measure;
 mod moments;
@@ -11,4 +12,5 @@ mod scale;
 mod spectra;
 
 pub use format::Format;
+pub use leveller::Leveller;
 pub use plan::Plan;
