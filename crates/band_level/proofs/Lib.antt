@@ -12,3 +12,4 @@ pub mod Standing
 pub mod Giving
 pub mod Ending
 pub mod Written
+pub mod Stepping

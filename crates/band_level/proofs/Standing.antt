@@ -5,6 +5,7 @@ use Rattle.std.proofs.Math.Nat.{mul-le-mul, mul-le-mul_right}
 use Rattle.std.proofs.lemmas.Nat.{le-div, div-mul-add, div-add-mod', mod_below}
 use Rattle.std.proofs.lemmas.List.{get_or_append_left, get_or-drop, drop-append-le}
 use Rattle.band_level.specs.declared.format.Format.{Format}
+use Rattle.band_level.specs.declared.plan.Plan.{Plan}
 use Rattle.band_level.specs.Ranges.{FormatInRange, PlanInRange}
 use Rattle.band_level.specs.Values.{Band, band, cells, spectrum_bytes, cell_value}
 use Rattle.band_level.specs.Moments.{fair_moments}
@@ -12,7 +13,7 @@ use Rattle.band_level.specs.Columns.{column}
 use Rattle.band_level.specs.Scales.{scale_of, unit}
 use Rattle.band_level.specs.Rows.{HoldScales, scale_held}
 use Rattle.band_level.specs.Levelled.{Task, is_masked, stretch_values, scale_by, scale_at, stretch_for, fine_before, first_levels, spectrum_levels, levelled}
-use Rattle.band_level.specs.Spectra.{AreHeld, AreLevelled, Carried, LevelsSpectra}
+use Rattle.band_level.specs.Spectra.{written_bytes}
 use Rattle.band_level.specs.Levelling.{Levelling, IsAt, StandsFor, Waits, IsWhole, Ends, Levels, band_of, pending}
 use Rattle.band_level.specs.Steps.{HeldScales}
 use Rattle.band_level.proofs.Shifts.{cell_shift}
@@ -20,7 +21,7 @@ use Rattle.band_level.proofs.Agreeing.{Agree, before_agrees, levels_agree, scale
 
 -- ---- sizes
 
-product_some : (a b : ℕ) → 0 < a → 0 < b → 0 < a * b
+pub product_some : (a b : ℕ) → 0 < a → 0 < b → 0 < a * b
 product_some a b x y = let h : 1 * 1 ≤ a * b = mul-le-mul x y in omega (arith, h)
 
 pub some_bytes : (f : Format) → FormatInRange f → 0 < spectrum_bytes f
@@ -35,6 +36,18 @@ some_bytes f range =
     ] in
     product_some f.average (cells f * (f.bits / 8)) range.some_average
     (product_some (cells f) (f.bits / 8) (product_some f.channels f.polarisations range.some_channels pols) width)
+
+pub some_written : (f : Format) (p : Plan) → FormatInRange f → PlanInRange p → 0 < written_bytes f p
+some_written f p range plan =
+    let width : 0 < p.bits / 8 = elim plan.most [
+      | inl e ↦ let bits = e.0 in omega arith
+      | inr e ↦ let bits = e.0 in omega arith
+    ] in
+    let pols : 0 < f.polarisations = elim range.polarisations [
+      | inl e ↦ omega arith
+      | inr e ↦ omega arith
+    ] in
+    product_some (cells f) (p.bits / 8) (product_some f.channels f.polarisations range.some_channels pols) width
 
 -- ---- more bytes
 

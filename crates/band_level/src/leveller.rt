@@ -1,5 +1,5 @@
 // Bytes that are fed, as levelled bytes.
-ghost use Rattle.std.specs.Prelude.{◌≡◌, ◌+◌, ◌*◌, ◌/◌, ◌<◌, ◌≤◌, ◌⊎◌, ◌++◌, Bool, List, [], true, false, length, take, IfOk};
+ghost use Rattle.std.specs.Prelude.{◌≡◌, ◌+◌, ◌*◌, ◌/◌, ◌<◌, ◌≤◌, ◌⊎◌, ◌++◌, Bool, List, [], true, false, length, replicate, take, IfOk};
 ghost use Rattle.band_level.specs.Values.{cells, spectrum_bytes};
 ghost use Rattle.band_level.specs.Ranges.{FormatInRange, PlanInRange};
 ghost use Rattle.band_level.specs.Levelling.{Levelling, Levels, Takes, Gives, EndsAs, IsDone, pending};
@@ -103,26 +103,26 @@ impl Leveller {
         Ok(Leveller {
             format,
             plan,
-            masked: masked.to_vec(alloc)?,
+            masked: marks(alloc, masked)?,
             spectrum,
-            held: vec![in alloc; 0; plan.spectra as usize * spectrum]?,
+            held: bytes(alloc, plan.spectra as usize * spectrum)?,
             filled: 0,
             first: 0,
             last: 0,
             is_scaled: false,
             has_ended: false,
-            gains: vec![in alloc; 0; cells]?,
-            bases: vec![in alloc; 0; cells]?,
-            lifts: vec![in alloc; 0; cells]?,
-            fractions: vec![in alloc; 0; cells]?,
-            row: vec![in alloc; 0; cells]?,
-            levels: vec![in alloc; 0; cells]?,
-            lows: vec![in alloc; 0; cells]?,
-            highs: vec![in alloc; 0; cells]?,
-            counts: vec![in alloc; 0; cells]?,
-            totals: vec![in alloc; 0; cells]?,
-            squares: vec![in alloc; 0; cells]?,
-            piece: vec![in alloc; 0; (PIECE / written).max(1) * written]?,
+            gains: longs(alloc, cells)?,
+            bases: longs(alloc, cells)?,
+            lifts: longs(alloc, cells)?,
+            fractions: longs(alloc, cells)?,
+            row: words(alloc, cells)?,
+            levels: words(alloc, cells)?,
+            lows: words(alloc, cells)?,
+            highs: words(alloc, cells)?,
+            counts: words(alloc, cells)?,
+            totals: longs(alloc, cells)?,
+            squares: longs(alloc, cells)?,
+            piece: bytes(alloc, (PIECE / written).max(1) * written)?,
             made: 0,
         })
     }
@@ -146,6 +146,7 @@ impl Leveller {
         ensures rest { self.old.has_ended ≡ false → result < length bytes.now
             → 0 < pending self.new }
     {
+        self.bounds();
         if self.first < self.last || self.has_ended {
             return 0;
         }
@@ -294,10 +295,25 @@ impl Leveller {
             return;
         }
         let count = self.whole_spectra();
-        if count > 0 && !self.is_scaled {
-            self.measure(count);
-        }
+        self.scale_rest(count);
         self.stop(count);
+    }
+
+    // Makes the scales of the spectra that are held, where there are none.
+    fn scale_rest(&mut self, count: usize)
+        requires few { count ≤ self.old.task.plan.spectra }
+        requires inside { count * spectrum_bytes self.old.task.format ≤ length self.old.held }
+        ensures task { self.new.task ≡ self.old.task }
+        ensures held { self.new.held ≡ self.old.held }
+        ensures kept { (count ≡ 0) ⊎ (self.old.is_scaled ≡ true) → self.new ≡ self.old }
+        ensures made { 0 < count → self.old.is_scaled ≡ false
+            → Measures self.old self.new count }
+    {
+        self.bounds();
+        if count == 0 || self.is_scaled {
+            return;
+        }
+        self.measure(count);
     }
 
     // How many whole spectra are held.
@@ -327,4 +343,32 @@ fn put(held: &mut [u8], filled: usize, bytes: &[u8])
     ensures { take (filled + length bytes.now) held.new ≡ take filled held.old ++ bytes.now }
 {
     held[filled..filled + bytes.len()].copy_from_slice(bytes);
+}
+
+// A copy of marks.
+fn marks(alloc: Global, masked: &[bool]) -> Result<Vec<bool>, Memory>
+    ensures { IfOk result (λ v. v.items ≡ masked.now) }
+{
+    Ok(masked.to_vec(alloc)?)
+}
+
+// So many bytes that are 0.
+fn bytes(alloc: Global, count: usize) -> Result<Vec<u8>, Memory>
+    ensures { IfOk result (λ v. v.items ≡ replicate count 0) }
+{
+    Ok(vec![in alloc; 0; count]?)
+}
+
+// So many values of 32 bits that are 0.
+fn words(alloc: Global, count: usize) -> Result<Vec<u32>, Memory>
+    ensures { IfOk result (λ v. v.items ≡ replicate count 0) }
+{
+    Ok(vec![in alloc; 0; count]?)
+}
+
+// So many values of 64 bits that are 0.
+fn longs(alloc: Global, count: usize) -> Result<Vec<u64>, Memory>
+    ensures { IfOk result (λ v. v.items ≡ replicate count 0) }
+{
+    Ok(vec![in alloc; 0; count]?)
 }

@@ -1,9 +1,10 @@
-use Rattle.std.proofs.Common.{◌≡◌, refl, length, take, drop, ◌++◌, ◌∙◌, sym, ap, subst, arith}
+use Rattle.std.proofs.Common.{◌≡◌, ℕ, List, refl, length, take, drop, ◌++◌, ◌∙◌, sym, ap, subst, arith}
 use Rattle.band_level.specs.Values.{cells}
 use Rattle.band_level.specs.Rows.{ScalesFit}
 use Rattle.band_level.specs.Levelling.{Levelling}
 use Rattle.band_level.specs.Steps.{Measures}
 use Rattle.band_level.proofs.Written.{written, long_written, scales_in}
+use Rattle.band_level.proofs.Stepping.{measures}
 use Rattle.band_level.proofs.leveller.Leveller.measure.Goals as goal
 
 pub invariant_of-self : goal.invariant_of-self
@@ -38,4 +39,12 @@ invariant_of-self c =
 
 pub returns : goal.returns
 returns c =
-    let h = c.measure.ensures.scales in ?
+    let g = written c.measure.new.gains c.self.inside.gains.items c.self.inside.gains.len
+        (c.measure.auto.gains ∙ c.as_mut_slice-7.ensures.len) in
+    let b = written c.measure.new.bases c.self.inside.bases.items c.self.inside.bases.len
+        (c.measure.auto.bases ∙ c.as_mut_slice-8.ensures.len) in
+    let l = written c.measure.new.lifts c.self.inside.lifts.items c.self.inside.lifts.len
+        (c.measure.auto.lifts ∙ c.as_mut_slice-9.ensures.len) in
+    measures _ c.args.self.now c.args.count _ _ c.measure.new.gains c.measure.new.bases c.measure.new.lifts _ _ _
+    c.self.view_is c.as_slice-2.ensures.value
+    (ap (λ (xs : List ℕ). take c.self.inside.filled xs) c.as_slice.ensures.value) g b l c.measure.ensures.scales
