@@ -1,0 +1,16 @@
+//! Data bytes, cut anywhere, as levelled bytes: a flat and steady band, stretch by stretch.
+#![tactic(auto)]
+
+mod format;
+mod leveller;
+mod levels;
+mod measure;
+mod moments;
+mod plan;
+mod row;
+mod scale;
+mod spectra;
+
+pub use format::Format;
+pub use leveller::Leveller;
+pub use plan::Plan;
