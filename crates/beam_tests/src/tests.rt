@@ -8,7 +8,7 @@ use crate::sets::run_three;
 use arrayvec::ArrayVec;
 use beam_set::{BeamEnd, MOST_BEAMS};
 use disk_feeder::FeedEnd;
-use meeting_gate::Meeting;
+use meeting_gate::{Meeting, TurnCount};
 use search_model::Candidate;
 use search_session::{Gate, NoGate};
 use std::alloc::Global;
@@ -63,6 +63,18 @@ fn beams_run_beside_each_other(rt: HostRuntime) -> Result<(), Fail> {
             "{line} {one} {other}"
         );
     }
+    Ok(())
+}
+
+#[test]
+fn turns_of_each_beam_are_told(rt: HostRuntime) -> Result<(), Fail> {
+    let alloc = rt.alloc();
+    let line = "--size 1 --turns 2 pulse zeros pulse pulse pulse pulse pulse";
+    let words = words_of(alloc, "0 2", line)?;
+    let mut inputs = all_inputs(alloc, line, &ENOUGH)?;
+    let count = TurnCount::new();
+    let ended = run_past(&rt, alloc, words.as_slice(), &mut inputs, &ENOUGH, &count)?;
+    assert!(rt; ended.status == 0 && count.took_turns(&[0, 1, 2, 3, 4, 5, 6]));
     Ok(())
 }
 

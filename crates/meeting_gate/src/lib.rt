@@ -1,8 +1,9 @@
-//! A gate at which two actors of a session wait for each other: whether their hands run at the same time.
+//! Gates for tests: one at which two actors of a session wait for each other, which shows whether their hands run at the
+//! same time; and one that counts the turns of each actor.
 #![tactic(auto)]
 
 use search_session::Gate;
-use std::sync::atomic::{AtomicBool, Ordering};
+use std::sync::atomic::{AtomicBool, AtomicU64, Ordering};
 
 /// How often one of them looks for the other.
 const LOOKS: u32 = 100_000_000;
@@ -69,5 +70,57 @@ impl Gate for Meeting {
         } else if actor == self.other.actor {
             self.other.look_for(&self.one);
         }
+    }
+}
+
+/// A gate that counts the turns of each actor, by its number, and sees whether each turn is told with the number of
+/// turns before it.
+#[derive(Drop)]
+pub struct TurnCount {
+    turns: [AtomicU64; 9],
+    is_wrong: AtomicBool,
+}
+
+impl TurnCount {
+    /// No turn was told.
+    pub fn new() -> TurnCount {
+        TurnCount {
+            turns: [
+                AtomicU64::new(0),
+                AtomicU64::new(0),
+                AtomicU64::new(0),
+                AtomicU64::new(0),
+                AtomicU64::new(0),
+                AtomicU64::new(0),
+                AtomicU64::new(0),
+                AtomicU64::new(0),
+                AtomicU64::new(0),
+            ],
+            is_wrong: AtomicBool::new(false),
+        }
+    }
+
+    /// Whether each turn was told with its own number, and exactly these actors took any.
+    pub fn took_turns(&self, actors: &[u32]) -> bool {
+        for (actor, turns) in self.turns.iter().enumerate() {
+            let has_turns = turns.load(Ordering::SeqCst) > 0;
+            if has_turns != actors.contains(&(actor as u32)) {
+                return false;
+            }
+        }
+        !self.is_wrong.load(Ordering::SeqCst)
+    }
+}
+
+impl Gate for TurnCount {
+    fn pass(&self, actor: u32, turn: u64) {
+        let Some(turns) = self.turns.get(actor as usize) else {
+            self.is_wrong.store(true, Ordering::SeqCst);
+            return;
+        };
+        if turns.load(Ordering::SeqCst) != turn {
+            self.is_wrong.store(true, Ordering::SeqCst);
+        }
+        turns.store(turn.saturating_add(1), Ordering::SeqCst);
     }
 }

@@ -7,7 +7,7 @@ use crate::running::{ENOUGH, Ended, Limits, NEVER, Program, run_past, words_of};
 use crate::searches::SEARCHES;
 use band_paths::{edge_delays, path_sum};
 use detect_rule::Rule;
-use meeting_gate::Meeting;
+use meeting_gate::{Meeting, TurnCount};
 use psr_base::{CalmFiles, CalmInputs, CalmSink, MemFiles, MemInputs, MemSink};
 use psr_make::run_make;
 use psr_search::run;
@@ -71,6 +71,41 @@ fn hands_run_beside_each_other(rt: HostRuntime) -> Result<(), Fail> {
     for (program, words, actor) in meetings {
         assert!(rt; do_meet(&rt, rt.alloc(), program, words, actor)?, "{words}");
     }
+    Ok(())
+}
+
+// Whether exactly these actors of a run take turns, and each turn is told with its number.
+fn take_turns<R: Threads + Wait + Clock + Sync>(
+    rt: &R,
+    alloc: Global,
+    program: Program,
+    words: &str,
+    actors: &[u32],
+) -> Result<bool, Fail> {
+    let mut inputs = inputs_for(alloc, "pulse", NEVER)?;
+    let words = words_of(alloc, words, "pulse")?;
+    let count = TurnCount::new();
+    let ended = run_past(
+        rt,
+        alloc,
+        program,
+        words.as_slice(),
+        &mut inputs,
+        &ENOUGH,
+        &count,
+    )?;
+    Ok(ended.status == 0 && count.took_turns(actors))
+}
+
+#[test]
+fn turns_of_each_actor_are_told(rt: HostRuntime) -> Result<(), Fail> {
+    let alone = "--mean 1 --sd 2 --max-delay 1 --size 4 --turns 1";
+    let shared = "--mean 1 --sd 2 --max-delay 1 --size 4 --turns 2 --shards 2 --hands 3 --record";
+    let recording = "--file-size 4 --max-bytes 1000 --hands 2 --turns 1";
+    // 0 is the feeder, 1 and 2 are shards, and 8 is the recorder.
+    assert!(rt; take_turns(&rt, rt.alloc(), Search, alone, &[0, 1])?);
+    assert!(rt; take_turns(&rt, rt.alloc(), Search, shared, &[0, 1, 2, 8])?);
+    assert!(rt; take_turns(&rt, rt.alloc(), Record, recording, &[0, 8])?);
     Ok(())
 }
 
