@@ -17,6 +17,8 @@ BETWEEN = re.compile(r"(?P<least>[0-9.]+) to (?P<greatest>[0-9.]+|[a-z-]+)\b")
 CHOICES = re.compile(r"(?P<choices>[0-9]+(?:, [0-9]+)* or [0-9]+)\b")
 DECIMALS = re.compile(r"(\w+) decimals?\b")
 DIGITS = re.compile(r"at most ([0-9]+) digits")
+# a list of names behind the word `order`
+ORDER = re.compile(r"\border\b[^.]*?((?:[a-z-]+, ){2,}[A-Za-z-]+)")
 HEADING = re.compile(r"(#+) (.*)")
 
 
@@ -129,13 +131,11 @@ class Reference:
         return [Status(*(row[head] for head in row if head != "Programs")) for row in self.rows("Status", program)]
 
     def order(self, program: str) -> list[str]:
-        """The names of options in the order in which a program judges their values."""
-        own = self.sections[program]
-        for section in (own, *self.sections.values()):
-            match = re.search(r"judged in the order ([^.]*)\.", " ".join(section))
-            if match:
-                return plain(match[1]).replace(",", " ").replace(" and ", " ").split()
-        return []
+        """The names of options in the order in which a program judges their values: the list that has most of them."""
+        names = {option.name.lstrip("-") for option in self.options(program)}
+        text = plain(" ".join(line for section in self.sections.values() for line in section))
+        lists = [match[1].split(", ") for match in ORDER.finditer(text)]
+        return max(lists, key=lambda found: len(names & set(found)), default=[])
 
     def rows(self, head: str, program: str) -> Iterator[dict[str, str]]:
         """The rows of a program in the tables whose first column has this head.
@@ -148,7 +148,7 @@ class Reference:
                     continue
                 names = plain(row.get("Programs", name if name in self.programs else ""))
                 said = {part.strip() for part in names.split(",")}
-                short = program.removeprefix("psr_")
+                short = program.split("_")[1]
                 if said & {"all", program, short}:
                     yield {**row, "Programs": program}
                 elif said & {f"({program})", f"({short})"}:

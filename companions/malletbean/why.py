@@ -107,7 +107,7 @@ def walked(program: str, arguments: Sequence[str]) -> Given:
     if len(arguments) < len(leading):
         raise Wrong(f"{leading[len(arguments)]} is missing: {reference().synopsis(program)}")
     words = list(arguments[len(leading):])
-    are_names = "--mean" not in options and "--number" not in options and "--size" not in options
+    are_names = not any(name.startswith("--") for name in options)
     while words:
         word = words.pop(0)
         if are_names or word == "-" or not word.startswith("-"):
@@ -211,8 +211,9 @@ def check_values(program: str, given: Given) -> None:
 
 def options_with(options: dict[str, Option], given: Given) -> dict[str, tuple[str, str]]:
     """The value of each option, and how it is told: as given, or as it is without."""
-    return {name: (given.options[name], f"{name} {given.options[name]}") if name in given.options
-            else (option.default, f"{name}, which is {option.default} unless given") for name, option in options.items()}
+    usual = {name: (option.default, f"{name}, which is {option.default} unless given")
+             for name, option in options.items()}
+    return usual | {name: (value, f"{name} {value}") for name, value in given.options.items()}
 
 
 def check_value(option: Option, value: str, others: dict[str, tuple[str, str]]) -> None:
@@ -418,14 +419,15 @@ def check_next(program: str, name: str, heads: Sequence[headers.Header]) -> None
         ("BW", (first.width_hz, first.is_falling), (last.width_hz, last.is_falling)),
     ):
         if one != other:
-            raise Wrong(f"{name} has another {keyword} than the first file: {'beams' if program == 'psr_beams' else 'files'}"
-                        " of one observation have the same; + stands before the first file of another one")
+            parts = "beams" if program == "psr_beams" else "files"
+            raise Wrong(f"{name} has another {keyword} than the first file, and {parts} of one observation have the"
+                        " same; + stands before the first file of another one")
     expected = first.offset
     if program != "psr_beams":
         expected += sum(head.data_bytes for head in heads[:-1])
     if last.offset != expected:
-        raise Wrong(f"{name} has OBS_OFFSET {last.offset} where {expected} is expected: a file is missing before it, the"
-                    " order is another, or it begins another observation and lacks a + before it")
+        raise Wrong(f"{name} has OBS_OFFSET {last.offset} where {expected} is expected: a file is missing before it,"
+                    " the order is another, or it begins another observation and lacks a + before it")
 
 
 def main(words: Sequence[str]) -> int:

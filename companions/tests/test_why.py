@@ -26,7 +26,7 @@ MISTYPED = [
     ("psr_search SEARCH --snrr 8 obs.dada", 2, "no option --snrr: did you mean --snr?"),
     ("psr_search SEARCH --max-dealy 8 obs.dada", 2, "did you mean --max-delay?"),
     ("psr_search SEARCH --width 8 obs.dada", 2, "names are written whole, as --widths"),
-    ("psr_search SEARCH --max 8 obs.dada", 2, "names are written whole, as --max-delay, --max-candidates or --max-bytes"),
+    ("psr_search SEARCH --max 8 obs.dada", 2, "are written whole, as --max-delay, --max-candidates or --max-bytes"),
     ("psr_search SEARCH --maxdelay 8 obs.dada", 2, "did you mean --max-delay?"),
     ("psr_search SEARCH --max_delay 8 obs.dada", 2, "did you mean --max-delay?"),
     ("psr_search SEARCH --SNR 8 obs.dada", 2, "no option --SNR"),
@@ -51,7 +51,7 @@ MISTYPED = [
     ("psr_search --mean -0 --sd 2.828 obs.dada", 2, "a value that begins with - is joined to its option, as --mean=-0"),
     ("psr_search SEARCH --record=yes obs.dada", 2, "--record takes no value, and yes is given"),
     ("psr_search SEARCH -- --snr 8 obs.dada", 6, "--snr is not there"),
-    ("psr_record --snr 8 obs.dada", 2, "psr_record has no option --snr: it is one of psr_search, psr_mask, psr_part and"),
+    ("psr_record --snr 8 obs.dada", 2, "has no option --snr: it is one of psr_search, psr_mask, psr_part and"),
     ("psr_record --record obs.dada", 2, "psr_record has no option --record: it is one of psr_search"),
     ("psr_record", 2, "FILE is missing"),
     ("psr_make", 2, "NAME is missing"),
@@ -95,7 +95,7 @@ MISTYPED = [
     ("psr_search SEARCH --max-delay 12.5 obs.dada", 2, "--max-delay is 12.5, and a whole number without a sign"),
     ("psr_search SEARCH --max-delay 20ms obs.dada", 2, "--max-delay is 20ms, with a unit"),
     ("psr_search SEARCH --max-delay +20 obs.dada", 2, "--max-delay is +20, and a whole number without a sign"),
-    ("psr_search SEARCH --min-delay 300 obs.dada", 2, "--min-delay is 300, above --max-delay, which is 256 unless given"),
+    ("psr_search SEARCH --min-delay 300 obs.dada", 2, "is 300, above --max-delay, which is 256 unless given"),
     ("psr_search SEARCH --min-delay 30 --max-delay 20 obs.dada", 2, "--min-delay is 30, above --max-delay 20"),
     ("psr_search SEARCH --shards 8 obs.dada", 2, "--shards is 8, and takes 1 to 7"),
     ("psr_search SEARCH --hands 10 --shards 8 obs.dada", 2, "--shards is 8, and takes 1 to 7"),
@@ -123,7 +123,7 @@ MISTYPED = [
     ("ring_trace nothing.trace", 6, "nothing.trace is not there"),
     # what other lines name, said with the name of the file
     ("psr_search SEARCH short.dada", 3, "header of short.dada refused: Short 9"),
-    ("psr_search SEARCH own.fil", 3, "header of own.fil refused: it is a SIGPROC filterbank: psr_fil makes a DADA file"),
+    ("psr_search SEARCH own.fil", 3, "own.fil refused: it is a SIGPROC filterbank: psr_fil makes a DADA file"),
     ("psr_search SEARCH obs.dada other.dada", 3, "other.dada has another NCHAN than the first file"),
     ("psr_search SEARCH obs.dada obs.dada", 7, "obs.dada has OBS_OFFSET 0 where 8192 is expected"),
     ("psr_record obs.dada other.dada", 3, "other.dada has another NCHAN than the first file"),
@@ -238,8 +238,8 @@ def test_the_forms_of_a_table() -> None:
 | `--b` | 0.5 to 7, two decimals | 1 | all | b \\| c |
 | `--c` | flag | off | record | c |
 
-Values are judged in the order b,
-a and c.
+Values are judged in the order b, a,
+c, FILE.
 
 ## psr_search
 
@@ -256,7 +256,7 @@ a and c.
     tables = Reference(text)
     assert tables.programs == ["psr_search", "psr_mask"]
     assert tables.leading("psr_search") == ["A"] and tables.leading("psr_mask") == ["B", "C"]
-    assert tables.order("psr_search") == ["b", "a", "c"]
+    assert tables.order("psr_search") == ["b", "a", "c", "FILE"]
     a, b, own = tables.options("psr_mask")
     assert a == Option("--a", "1, 2 or 4 things", "1", "a", False) and a.choices == ("1", "2", "4")
     assert b.decimals == 2 and b.meaning == "b | c" and b.is_used
