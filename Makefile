@@ -41,4 +41,4 @@ deb: build
 	@CPU='$(CPU)' packaging/deb $(PROGRAMS)
 
 check:
-	@bench/check.sh $(if $(wildcard $(PREFIX)/bin/psr_search),$(PREFIX)/bin)
+	@tests/check.sh $(if $(filter file,$(origin PREFIX)),,$(PREFIX)/bin)

@@ -1,6 +1,7 @@
 """Says in one sentence why a program refuses its arguments, as the tables of REFERENCE.md have them."""
 from __future__ import annotations
 
+import argparse
 import os
 import re
 import sys
@@ -8,7 +9,7 @@ from collections.abc import Iterable, Sequence
 from dataclasses import dataclass, field
 from difflib import get_close_matches
 from fractions import Fraction
-from typing import TYPE_CHECKING
+from typing import TYPE_CHECKING, NoReturn
 
 from .reference import Option, reference
 from .refusal import Refusal
@@ -16,7 +17,6 @@ from .refusal import Refusal
 if TYPE_CHECKING:
     from . import headers
 
-USAGE = "usage: psr_why PROGRAM ARGUMENT .. (a command that was refused, with psr_why before it)"
 FOUND, NOT_FOUND, REFUSED = 0, 1, 2
 MOST_OBSERVATIONS = 8
 NO_HYPHENS = "\u2010\u2011\u2012\u2013\u2014\u2212"
@@ -430,13 +430,22 @@ def check_next(program: str, name: str, heads: Sequence[headers.Header]) -> None
                     " the order is another, or it begins another observation and lacks a + before it")
 
 
+class Arguments(argparse.ArgumentParser):
+    """A parser that says in one line what is wrong with the arguments of psr_why."""
+
+    def error(self, message: str) -> NoReturn:
+        """Ends with the status of arguments."""
+        print(f"psr_why: {message}; --help lists them", file=sys.stderr)
+        sys.exit(REFUSED)
+
+
 def main(words: Sequence[str]) -> int:
     """Says why the command that the words are is refused, and answers the status of psr_why."""
-    if not words or words[0] in ("-h", "--help"):
-        print(USAGE, file=sys.stdout if words else sys.stderr)
-        return FOUND if words else REFUSED
-    program, *arguments = words
-    said = why(program, arguments)
-    name = os.path.basename(program)
+    parser = Arguments("psr_why", description="Says in one sentence why a proved program refuses its arguments.")
+    parser.add_argument("program", metavar="PROGRAM", help="the program, as psr_search")
+    parser.add_argument("arguments", metavar="ARGUMENT", nargs=argparse.REMAINDER, help="what it was given")
+    asked = parser.parse_args(words)
+    said = why(asked.program, asked.arguments)
+    name = os.path.basename(asked.program)
     print(f"{name}: {said}" if said else f"{name}: nothing is seen here that is refused before the data are read")
     return FOUND if said else NOT_FOUND

@@ -204,8 +204,11 @@ def test_an_argument_that_is_not_utf_8() -> None:
 
 
 @pytest.mark.parametrize("words, status, line", [
-    ([], 2, "usage: psr_why PROGRAM ARGUMENT .."),
-    (["--help"], 0, "usage: psr_why PROGRAM ARGUMENT .."),
+    ([], 2, "psr_why: the following arguments are required: PROGRAM"),
+    (["--mean", "16"], 2, "psr_why: "),
+    (["--help"], 0, "usage: psr_why [-h] PROGRAM"),
+    (["psr_search", "--help"], 0, "psr_search: psr_search has no option --help"),
+    (["psr_serch"], 0, "psr_serch: psr_serch is none of the proved programs"),
     (["psr_search", "--mean", "16"], 0, "psr_search: --sd is missing"),
     (["psr_make", "new.dada"], 1, "psr_make: nothing is seen here that is refused"),
 ])
