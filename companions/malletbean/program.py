@@ -2,9 +2,14 @@
 from __future__ import annotations
 
 import argparse
+import io
 import os
+import signal
 import sys
-from collections.abc import Callable, Sequence
+from collections.abc import Callable, Iterator, Sequence
+from contextlib import contextmanager
+from types import FrameType
+from typing import NoReturn
 
 from .candidates import check_fits
 from .headers import Header
@@ -12,22 +17,33 @@ from .number import scaled
 from .refusal import MEMORY, OUTPUT, TEXT, WORDS, Refusal
 from .texts import Found, read
 
+# the signals that ask a program to end: of a scheduler, of a terminal that closes, and of Ctrl-C
+STOPS = (signal.SIGTERM, signal.SIGHUP, signal.SIGINT)
+
 
 class Words(argparse.ArgumentParser):
     """A parser that says in one line what is wrong with the words."""
 
-    def error(self, message: str) -> None:
+    def error(self, message: str) -> NoReturn:
         """Ends with the status of words."""
         raise Refusal(WORDS, f"{message}; --help lists the words")
 
 
 def run(name: str, program: Callable[[Sequence[str]], None]) -> int:
     """Runs a program over the words of the command, and answers its status."""
-    # a name of a file need not be text
-    sys.stdout.reconfigure(errors="surrogateescape")
+    if isinstance(sys.stdout, io.TextIOWrapper):
+        # a name of a file need not be text
+        sys.stdout.reconfigure(errors="surrogateescape")
     try:
-        program(sys.argv[1:])
-        sys.stdout.flush()
+        with stopped_by_signals():
+            program(sys.argv[1:])
+            sys.stdout.flush()
+    except Stopped as stopped:
+        say(name, 0, f"stopped by {stopped.signal.name}")
+        # who waits for the program has to see that a signal ended it
+        signal.signal(stopped.signal, signal.SIG_DFL)
+        os.kill(os.getpid(), stopped.signal)
+        return 128 + stopped.signal
     except Refusal as refusal:
         return say(name, refusal.status, refusal.line)
     except MemoryError:
@@ -39,6 +55,35 @@ def run(name: str, program: Callable[[Sequence[str]], None]) -> int:
         named = "" if fault.filename is None else f" {fault.filename}"
         return say(name, OUTPUT, f"can't write{named}: {fault.strerror}")
     return 0
+
+
+class Stopped(BaseException):
+    """A signal that asks the program to end."""
+
+    def __init__(self, number: int) -> None:
+        super().__init__(number)
+        self.signal = signal.Signals(number)
+
+
+@contextmanager
+def stopped_by_signals() -> Iterator[None]:
+    """Within it, the signals that ask a program to end raise `Stopped`, so that what is half written is removed."""
+    # nohup ignores SIGHUP, and a shell ignores SIGINT for jobs in the background
+    before = {number: signal.getsignal(number) for number in STOPS}
+    caught = [number for number in STOPS if before[number] != signal.SIG_IGN]
+
+    def stop(number: int, _: FrameType | None) -> None:
+        for caught_one in caught:
+            signal.signal(caught_one, signal.SIG_IGN)
+        raise Stopped(number)
+
+    for number in caught:
+        signal.signal(number, stop)
+    try:
+        yield
+    finally:
+        for number in caught:
+            signal.signal(number, before[number])
 
 
 def say(name: str, status: int, line: str) -> int:
