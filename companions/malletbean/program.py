@@ -15,10 +15,13 @@ from .candidates import check_fits
 from .headers import Header
 from .number import scaled
 from .refusal import MEMORY, OUTPUT, TEXT, WORDS, Refusal
+from .settings import check_settings
 from .texts import Found, read
 
 # the signals that ask a program to end: of a scheduler, of a terminal that closes, and of Ctrl-C
 STOPS = (signal.SIGTERM, signal.SIGHUP, signal.SIGINT)
+# of so many parts with too many pulses it is said where they end
+MOST_NAMED = 8
 
 
 class Words(argparse.ArgumentParser):
@@ -126,11 +129,23 @@ def entries_by(words: argparse.Namespace) -> list[Found]:
     return entries
 
 
-def found_by(words: argparse.Namespace, head: Header) -> Found:
+def only_entry(words: argparse.Namespace, entries: Sequence[Found]) -> Found:
     """What the search found in the one observation or beam that the words name."""
-    entries = entries_by(words)
     if len(entries) > 1:
         kind, word = ("beams", "--beam") if entries[0].is_beam else ("observations", "--obs")
         raise Refusal(TEXT, f"{words.text} has {len(entries)} {kind}: choose one with {word} K, K from 0 on")
-    check_fits(words.text, entries[0], head, words.mean, words.deviation)
     return entries[0]
+
+
+def check_entries(name: str, words: argparse.Namespace, entries: Sequence[Found], head: Header) -> None:
+    """Refuses what isn't of this header and noise, and says on standard error what the text leaves out."""
+    check_settings(words.text, head, words.mean, words.deviation)
+    for found in entries:
+        check_fits(words.text, found, head, words.mean, words.deviation)
+        if found.is_growing:
+            say(name, 0, f"{words.text} goes on behind its last CHECK line: it was read up to spectrum {found.spectra}")
+        if len(found.many):
+            ends = ", ".join(map(str, found.many["until"][:MOST_NAMED]))
+            more = " .." if len(found.many) > MOST_NAMED else ""
+            say(name, 0, f"{words.text} has no pulses of {len(found.many)} parts that had too many: those up to the "
+                         f"spectra {ends}{more}")
