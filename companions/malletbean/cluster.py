@@ -167,7 +167,7 @@ def plan_by_delays(folder: str, count: int, program: str, asked: Asked) -> int:
     jobs = []
     for low, high in zip(bounds, bounds[1:]):
         part = f"delays-{low:04}-{high - 1:04}"
-        words = [os.path.join(scripts(), "part"), os.path.join(place, part), "--", program,
+        words = [os.path.join(scripts(), "part"), os.path.join(place, f"{part}.text"), "--", program,
                  *asked.words("spectra", "min-delay", "max-delay"), f"--min-delay={low}", f"--max-delay={high - 1}",
                  "--", *asked.files]
         jobs.append(Job(part, shlex.join(words)))

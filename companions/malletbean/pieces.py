@@ -81,7 +81,7 @@ def jobs_by_time(folder: str, cluster: str, program: str, options: Sequence[str]
     for part in parts:
         place = os.path.join(folder, part.name)
         pieces = [str(one) for cut in cuts(samples, part) for one in cut]
-        words = [os.path.join(cluster, "part"), place, str(part.first), *pieces, "--",
+        words = [os.path.join(cluster, "part"), f"{place}.text", str(part.first), *pieces, "--",
                  program, part.stop, f"{place}.check", *options, "/dev/stdin"]
         found.append(Job(part.name, shlex.join(words)))
     return found
