@@ -15,12 +15,13 @@ import numpy as np
 
 from .candidates import cells_by_delay, pulse_noise_cells
 from .headers import Header
-from .level import FAST, MOST_AVERAGED
 from .look import GREATEST_DELAY
 from .manifest import LevelFile, SearchPass
 from .paths import path_cells
 from .refusal import WORDS, Refusal
 
+# what psr_level --fast makes: the mean and deviation of a value, and its bits; and the most spectra that it averages
+LEVEL_MEAN, LEVEL_DEVIATION, LEVEL_BITS, MOST_AVERAGED = 14.0, 2.8, 8, 64
 # levels that are searched from the least DM on: each averages so many times as many spectra as the one before
 WIDE_STEP = 4
 # the widest box of them, and of the longer delays
@@ -64,8 +65,8 @@ class Range:
 
 def level_header(head: Header, average: int) -> Header:
     """The header of a level: values of 8 bits, and so many spectra averaged into one."""
-    spectrum_bytes = head.channels * head.polarisations * FAST.bits // 8
-    return replace(head, bits=FAST.bits, sample_ns=head.sample_ns * average,
+    spectrum_bytes = head.channels * head.polarisations * LEVEL_BITS // 8
+    return replace(head, bits=LEVEL_BITS, sample_ns=head.sample_ns * average,
                    data_bytes=head.spectra // average * spectrum_bytes)
 
 
@@ -205,5 +206,5 @@ def pass_of(head: Header, sought: Sought, one: Range, passes: Sequence[Range]) -
     return SearchPass(
         name=label, average=one.average, zero_dm=one.zero_dm, level=f"levels/{name}.dada",
         output=f"{label}.text", widths=one.widths, min_delay=one.min_delay, max_delay=one.max_delay,
-        dm_low=level.dm(one.min_delay), dm_high=level.dm(one.max_delay), mean=FAST.mean * head.polarisations,
-        sd=FAST.deviation * math.sqrt(head.polarisations * kept), snr=sought.snr, spectra=level.spectra)
+        dm_low=level.dm(one.min_delay), dm_high=level.dm(one.max_delay), mean=LEVEL_MEAN * head.polarisations,
+        sd=LEVEL_DEVIATION * math.sqrt(head.polarisations * kept), snr=sought.snr, spectra=level.spectra)
