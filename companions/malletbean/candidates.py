@@ -6,6 +6,7 @@ from collections.abc import Iterator
 import numpy as np
 
 from .headers import Header
+from .arrays import Array
 from .paths import box_noise_cells, fold_noise_cells, fold_places, path_cells, shared_cells
 from .texts import Found, refused
 

@@ -11,10 +11,10 @@ import numpy as np
 from matplotlib.axes import Axes
 from matplotlib.figure import Figure
 
-from .candidates import check_fits, fold_table, pulse_table
+from .candidates import fold_table, pulse_table
 from .headers import Header
 from .output import whole_file
-from .program import Words, add_search_words, entries_by, found_by
+from .program import Words, add_search_words, check_entries, entries_by, only_entry
 from .refusal import OUTPUT, TEXT, WORDS, Refusal
 from .samples import Samples, fold_profile, path_sums_of
 from .texts import Found
@@ -48,9 +48,11 @@ def psr_plot(words: Sequence[str]) -> None:
     samples = Samples([asked.file, *asked.next], asked.mask)
     entries = entries_by(asked)
     if entries[0].is_beam and len(entries) > 1 and asked.fold is None:
+        check_entries("psr_plot", asked, entries, samples.header)
         finish(draw_beams(new_figure(asked.show), asked, samples.header, entries), asked)
         return
-    found = found_by(asked, samples.header)
+    found = only_entry(asked, entries)
+    check_entries("psr_plot", asked, [found], samples.header)
     pulses = pulse_table(found.pulses, samples.header, asked.mean, asked.deviation)
     folds = fold_table(found.folds, samples.header, asked.mean, asked.deviation)
     fold = chosen(folds, asked) if asked.fold is not None else None
@@ -160,7 +162,6 @@ def draw_beams(figure: Figure, asked: argparse.Namespace, head: Header, beams: S
     figure.suptitle(title_of(asked, head, max(beam.spectra for beam in beams)), fontsize=9, parse_math=False)
     panels = figure.subplots(1, len(beams), sharex=True, sharey=True, squeeze=False)[0]
     for panel, beam in zip(panels, beams):
-        check_fits(asked.text, beam, head, asked.mean, asked.deviation)
         pulses = by_strength(pulse_table(beam.pulses, head, asked.mean, asked.deviation))
         draw_beam(panel, pulses, f"beam {beam.number}: {len(pulses)} lines, {int(beam.are_marked.sum())} RFI")
     panels[0].set_ylabel("DM / (pc/cm$^3$)")
