@@ -52,6 +52,9 @@ def program_at(name: str) -> str:
 
 def plan(words: Sequence[str]) -> None:
     """Makes the plan that the words ask for, and says how to run it."""
+    if list(words) == ["--help"]:
+        print(f"usage: {USAGE.removeprefix('words refused: ')}")
+        return
     if len(words) < 3:
         raise Refusal(WORDS, USAGE)
     folder, count, *rest = words
