@@ -43,6 +43,11 @@ def entry(tag: str, text: str) -> list[str]:
     return [".TP", tag, inline(text)]
 
 
+def dense(made: list[str]) -> list[str]:
+    """Entries without blank lines between them."""
+    return [".PD 0", *made, ".PD"] if made else []
+
+
 def table(rows: list[dict[str, str]]) -> list[str]:
     """A table: columns side by side, or an entry for each row if a cell is long."""
     heads = list(rows[0])
@@ -52,11 +57,10 @@ def table(rows: list[dict[str, str]]) -> list[str]:
         return code(["  ".join(cell.ljust(width) for cell, width in zip(row, widths)).rstrip() for row in plain])
     made = []
     for row in rows:
-        first, *middle, last = row.values()
-        rest = "; ".join(f"{head.lower()} {cell}" for head, cell in zip(heads[1:-1], middle) if cell)
-        made += entry(inline(f"{first} ({rest})" if rest else first),
-                      last if len(heads) == 2 else f"{heads[-1].lower()}: {last}")
-    return made
+        first, second, *rest = row.values()
+        told = [f"{head}: {cell}" for head, cell in zip(heads[2:], rest) if cell]
+        made += entry(inline(first), ". ".join([second, *told]))
+    return dense(made)
 
 
 def blocks(lines: list[str]) -> list[tuple[str, list[str]]]:

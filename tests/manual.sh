@@ -1,27 +1,25 @@
 #!/usr/bin/env bash
-# Runs the documents: manual.sh [BINDIR]
-# Each line of README.md and docs/MANUAL.md that begins with `$` in a code block is run with the programs in BINDIR, or
-# those that were last built here, and what follows it is compared with what it prints. A command goes on over the next
-# line as long as it isn't complete. A line `..` stands for any lines. Each document has a fresh folder, and each
-# command must end with status 0. Commands of the companions (psr_fil, psr_look, psr_level ..) run where numpy
-# and matplotlib are there, and else it is told that they were left out. The pages of man/ must be those that man/pages
-# makes, so their examples are the manual's, and `man` must show them without a warning; the completions must offer the
-# options of the manual's tables. Statuses: 0; 1 where something differs; 2 where a program is missing.
+# Runs the documents: manual.sh [BINDIR] [DOCUMENT ..], with the programs in BINDIR or those that were last built here.
+# Each line of a document (README.md and docs/) that begins with `$` in a code block is run, and what follows it is
+# compared with what it prints. A command goes on over the next line as long as it isn't complete. A line `..` stands for
+# any lines. Each document has a fresh folder, and each command must end with status 0. Commands of the companions run if
+# numpy and matplotlib are there; if not, a line tells how many were left out.
+# Statuses: 0; 1 if something differs; 2 if a program is missing.
 set -u
-root=$(cd "$(dirname "$0")/.." && pwd) || exit 2
-folder=$(mktemp -d) || exit 2
-trap 'rm -rf "$folder"' EXIT
+. "$(dirname "$0")/../bench/common.bash"
+programs=(psr_search psr_mask psr_part psr_beams psr_record psr_make psr_demo ring_trace)
+find_programs "${1:-}" "${programs[@]}"
+documents=("${@:2}")
+[ ${#documents[@]} -gt 0 ] || mapfile -t documents < <(cd "$root" && grep -lE '^ {4,}\$ ' README.md docs/*.md)
+make_folder
 mkdir "$folder/bin"
-for program in psr_search psr_mask psr_part psr_beams psr_record psr_make psr_demo ring_trace; do
-    built=${1:+$(cd "$1" && pwd)/$program}
-    built=${built:-$root/crates/${program}_main/out/${program}_main}
-    [ -x "$built" ] || { echo "$built is not there: make install builds it" >&2; exit 2; }
-    ln -s "$built" "$folder/bin/$program"
-done
-companions=
-if /usr/bin/python3 -c 'import numpy, matplotlib' 2>/dev/null; then companions=$root/companions:; fi
-export PATH=$folder/bin:$companions$PATH LC_ALL=C.UTF-8 TZ=UTC
-failed=0 ran=0 left_out=0
+for program in "${programs[@]}"; do ln -s "${at[$program]}" "$folder/bin/$program"; done
+# a program that is proved stands in place of the companion of its name
+companions=$(cd "$root/companions" && printf '%s\n' psr_* | grep -vxFf <(printf '%s\n' "${programs[@]}") | paste -sd '|')
+beside=
+if /usr/bin/python3 -c 'import numpy, matplotlib' 2>/dev/null; then beside=$root/companions:$root/cluster:; fi
+export PATH=$folder/bin:$beside$PATH LC_ALL=C.UTF-8 TZ=UTC
+ran=0 left_out=0
 
 differs() { # differs WHERE COMMAND: shows what was wanted and what came
     printf '%s: %s\n' "$1" "$2" >&2
@@ -33,7 +31,7 @@ pattern() { # the lines of a file as a pattern of the shell, in which `..` stand
 }
 run_command() { # run_command WHERE COMMAND: in the folder `here`, compared with the file `wanted`
     local status
-    if [ -z "$companions" ] && [[ $2 =~ (^|[ \|\(])psr_(look|level|plot|table)' ' ]]; then
+    if [ -z "$beside" ] && [[ $2 =~ (^|[ \|\(])($companions)' ' ]]; then
         ((left_out++))
         return
     fi
@@ -75,47 +73,6 @@ run_document() { # run_document FILE
     done <"$1"
     finish
 }
-run_document "$root/README.md"
-run_document "$root/docs/MANUAL.md"
-
-same() { # same WHAT: whether the files `wanted` and `found` are alike
-    cmp -s "$folder/wanted" "$folder/found" || differs "$1" 'differs'
-}
-mkdir "$folder/man"
-"$root/man/pages" "$folder/man"
-for page in "$folder/man"/*.1; do
-    cp "$page" "$folder/wanted"
-    cp "$root/man/${page##*/}" "$folder/found"
-    same "man/${page##*/}, which man/pages makes"
-    if command -v man >/dev/null; then
-        : >"$folder/wanted"
-        man --warnings -l "$page" 2>"$folder/found" >/dev/null
-        same "warnings of man on ${page##*/}"
-    fi
-done
-
-options_under() { # options_under HEADING [OPTION ..]: those that the manual names in code under it, but for these
-    awk -v heading="$1" '/^#/ { inside = $0 == heading } inside' "$root/docs/MANUAL.md" |
-        grep -oE '`--[a-z-]+`' | tr -d '`' | sort -u | grep -vxF "$(printf '%s\n' '' "${@:2}")"
-}
-# shellcheck source=/dev/null
-. "$root/completions/malletbean.bash"
-unused='--record --file-size --shards --hands' # by programs that search one observation alone
-while IFS=: read -r program heading others; do
-    # shellcheck disable=SC2086
-    options_under "$heading" $others >"$folder/wanted"
-    COMP_WORDS=("$program" word word --) COMP_CWORD=3 COMPREPLY=()
-    _malletbean "$program" -- "$program"
-    printf '%s\n' "${COMPREPLY[@]}" | sort >"$folder/found"
-    same "completions of $program"
-done <<HEADINGS
-psr_search:### Options of a search:
-psr_mask:### Options of a search:$unused --turns
-psr_part:### Options of a search:$unused --turns --fold-min --fold-max --fold-rows --fold-step
-psr_beams:### Options of a search:$unused
-psr_record:### Options of psr_record:
-psr_make:### Options of psr_make:
-HEADINGS
-
+for document in "${documents[@]}"; do run_document "$root/$document"; done
 echo "$ran commands ran; $left_out were left out, which need numpy and matplotlib"
 exit "$failed"
