@@ -125,8 +125,7 @@ def test_floats_whose_beginning_tells_nothing(tmp_path: Path, capsys: pytest.Cap
     assert warning == (front in ("zeros", "ten of interference"))
 
 
-@pytest.mark.parametrize("place", [0.1, 0.5, 0.9])
-@pytest.mark.parametrize("step", [0.2, 3])
+@pytest.mark.parametrize("place, step", [(0.1, 3), (0.5, 3), (0.9, 3), (0.5, 0.2), (0.9, 0.2)])
 def test_a_step_of_gain(tmp_path: Path, capsys: pytest.CaptureFixture[str], place: float, step: float) -> None:
     """Few values are cut, and each part keeps enough digits; so that it can be levelled."""
     noise, values = noise_and_file(tmp_path)
