@@ -12,8 +12,9 @@ make_folder() { # make_folder [PARENT]: a new `folder`, in TMPDIR or PARENT, whi
 
 declare -A at # where programs are, by their names
 find_programs() { # find_programs BINDIR PROGRAM ..: in BINDIR, or if that is empty, as they were last built here
-    local bindir=${1:+$(cd "$1" && pwd)} program
-    [ -z "$1" ] || [ -n "$bindir" ] || exit 2
+    local bindir program
+    [ -z "$1" ] || [ -d "$1" ] || { echo "there is no folder $1" >&2; exit 2; }
+    bindir=${1:+$(cd "$1" && pwd)}
     for program in "${@:2}"; do
         at[$program]=${bindir:+$bindir/$program}
         at[$program]=${at[$program]:-$root/crates/${program}_main/out/${program}_main}
