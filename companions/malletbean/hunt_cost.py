@@ -12,6 +12,7 @@ from collections.abc import Sequence
 
 import numpy as np
 
+from .arrays import Array
 from .headers import Header
 from .hunt_plan import level_header
 from .manifest import LevelFile, SearchPass
@@ -29,11 +30,11 @@ LEVEL_RATE, CONVERT_RATE, LEVEL_MEGABYTES = 5e8, 2.5e8, 16
 OWN_MEGABYTES, OWN_DISK = 400, 50_000_000
 
 
-def at(table: np.ndarray, channels: int, delay: int) -> float:
+def at(table: Array, channels: int, delay: int) -> float:
     """The value of a table between its rows and columns, beyond them that at its edge."""
-    row = np.interp(math.log(channels), np.log(RATE_CHANNELS), np.arange(len(RATE_CHANNELS)))
-    column = np.interp(math.log(max(delay, 1)), np.log(RATE_DELAYS), np.arange(len(RATE_DELAYS)))
-    low, left = int(min(row, len(RATE_CHANNELS) - 2)), int(min(column, len(RATE_DELAYS) - 2))
+    row = float(np.interp(math.log(channels), np.log(RATE_CHANNELS), np.arange(len(RATE_CHANNELS))))
+    column = float(np.interp(math.log(max(delay, 1)), np.log(RATE_DELAYS), np.arange(len(RATE_DELAYS))))
+    low, left = min(int(row), len(RATE_CHANNELS) - 2), min(int(column), len(RATE_DELAYS) - 2)
     down, right = row - low, column - left
     corners = np.log(table[low:low + 2, left:left + 2])
     return float(np.exp(np.array([1 - down, down]) @ corners @ np.array([1 - right, right])))

@@ -13,6 +13,7 @@ from dataclasses import dataclass, replace
 
 import numpy as np
 
+from .arrays import Array
 from .candidates import cells_by_delay, pulse_noise_cells
 from .headers import Header
 from .look import GREATEST_DELAY
@@ -136,11 +137,12 @@ def power_above(value: float) -> int:
     return 1 << max(0, math.ceil(math.log2(value))) if value > 1 else 1
 
 
-def overstatement(level: Header, delays: np.ndarray, width: int) -> np.ndarray:
+def overstatement(level: Header, delays: Array, width: int) -> Array:
     """By how many times the printed ratio of a box is greater than the true one, at each delay."""
     lines = np.zeros(len(delays), [("delay", int), ("width", int)])
     lines["delay"], lines["width"] = delays, width
-    return np.sqrt(pulse_noise_cells(lines, level) / (cells_by_delay(level, delays) * width))
+    ratios: Array = np.sqrt(pulse_noise_cells(lines, level) / (cells_by_delay(level, delays) * width))
+    return ratios
 
 
 def noise_lines(level: Header, low: int, high: int, widths: int, snr: float) -> float:
@@ -176,11 +178,9 @@ def level_name(average: int, zero_dm: bool) -> str:
     return f"k{average}" if zero_dm else f"k{average}-plain"
 
 
-def planned(head: Header, sought: Sought, command: str) -> tuple[tuple[LevelFile, ...], tuple[SearchPass, ...]]:
-    """The levels and the passes over an observation whose header counts all its spectra.
-
-    `command` is that of psr_level, with places for `average`, `stretch`, `zero_dm` and `path`.
-    """
+def planned(head: Header, sought: Sought) -> tuple[tuple[LevelFile, ...], tuple[SearchPass, ...]]:
+    """The levels, still without their commands, and the passes over an observation whose header counts all its
+    spectra."""
     if sought.dm_high > greatest_dm(head):
         raise Refusal(WORDS, f"--dm: {sought.dm_high:g} is above {greatest_dm(head):.0f}, the greatest that is reached "
                              f"by {MOST_AVERAGED} averaged spectra and delays to {GREATEST_DELAY}")
@@ -192,8 +192,7 @@ def planned(head: Header, sought: Sought, command: str) -> tuple[tuple[LevelFile
         level, path = level_header(head, average), f"levels/{level_name(average, zero_dm)}.dada"
         mine = [one for one in passes if (one.average, one.zero_dm) == (average, zero_dm)]
         stretch = stretch_of(level, max(one.max_delay for one in mine), max(one.widths for one in mine))
-        words = command.format(average=average, stretch=stretch, path=path, zero_dm=" --zero-dm" if zero_dm else "")
-        levels.append(LevelFile(average, zero_dm, path, words, stretch, level.spectra))
+        levels.append(LevelFile(average, zero_dm, path, "", stretch, level.spectra))
     return tuple(levels), tuple(pass_of(head, sought, one, passes) for one in passes)
 
 

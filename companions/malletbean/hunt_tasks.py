@@ -32,12 +32,14 @@ STRETCH_NAME = re.compile(r"spectra-([0-9]{15})")
 
 @dataclass(frozen=True)
 class Task:
-    """A job: what it is called, the file that it leaves, its line, and how many seconds of a core it may take."""
+    """A job: what it is called, the file that it leaves, its line, how many seconds of a core it may take, and the
+    folder of the plan that lists it."""
 
     name: str
     output: str
     line: str
     seconds: float
+    plan: str
 
     @property
     def is_done(self) -> bool:
@@ -61,12 +63,20 @@ def searches_at(folder: str, search: SearchPass) -> str:
 def level_task(folder: str, hunt: Hunt, level: LevelFile, head: Header) -> Task:
     """The job that makes a level."""
     output = os.path.join(folder, level.path)
-    words = [os.path.join(scripts(), "part"), output, "--", program_at("psr_level"), *level_words(hunt, level)]
-    return Task(level.path, output, shlex.join(words), level_seconds(head))
+    words = [os.path.join(scripts(), "part"), output, "--", program_at("psr_level"), *level_words(folder, hunt, level)]
+    return Task(level.path, output, shlex.join(words), level_seconds(head), os.path.dirname(output))
 
 
-def level_words(hunt: Hunt, level: LevelFile) -> list[str]:
-    """The words of psr_level for a level."""
+def level_tasks(folder: str, hunt: Hunt, head: Header) -> list[Task]:
+    """The jobs that make the levels."""
+    tasks = [level_task(folder, hunt, level, head) for level in hunt.levels]
+    os.makedirs(os.path.join(folder, "levels"), exist_ok=True)
+    write_jobs(os.path.join(folder, "levels"), [Job(task.name, task.line) for task in tasks])
+    return tasks
+
+
+def level_words(folder: str, hunt: Hunt, level: LevelFile) -> list[str]:
+    """The words of psr_level for a level, where the observation is seen from a folder."""
     words = ["--fast", "--average", str(level.average), "--spectra", str(level.stretch)]
     if hunt.mask != "none":
         words += ["--mask", hunt.mask]
@@ -74,7 +84,7 @@ def level_words(hunt: Hunt, level: LevelFile) -> list[str]:
         words += ["--clip", f"{hunt.clip:g}"]
     if level.zero_dm:
         words.append("--zero-dm")
-    return [*words, *hunt.form, *hunt.observation.paths]
+    return [*words, *hunt.form, *(os.path.join(folder, path) for path in hunt.observation.paths)]
 
 
 def measured(folder: str, hunt: Hunt, level: LevelFile) -> LevelFile:
@@ -135,7 +145,7 @@ def search_tasks(folder: str, hunt: Hunt, search: SearchPass, head: Header, core
         write_jobs(place, pass_jobs(folder, search, parts, search.snr))
     jobs = jobs_in(place)
     seconds = search_seconds(head, search, search.spectra) / len(jobs)
-    return [Task(f"{search.name}/{job.part}", os.path.join(place, f"{job.part}.text"), job.line, seconds)
+    return [Task(f"{search.name}/{job.part}", os.path.join(place, f"{job.part}.text"), job.line, seconds, place)
             for job in jobs]
 
 
@@ -163,7 +173,10 @@ def fold_task(folder: str, search: SearchPass, head: Header) -> Task:
              str(samples.header.size + spectra * size), "--", program_at("psr_search"),
              *search_options(search, search.snr), f"--fold-min={search.fold_min}", f"--fold-max={search.fold_max}",
              f"--fold-rows={search.fold_rows}", f"--fold-step={search.fold_step}", "/dev/stdin"]
-    return Task(search.name, output, shlex.join(words), fold_seconds(search, head))
+    task = Task(search.name, output, shlex.join(words), fold_seconds(search, head), searches_at(folder, search))
+    os.makedirs(task.plan, exist_ok=True)
+    write_jobs(task.plan, [Job(search.name, task.line)])
+    return task
 
 
 def folded_spectra(search: SearchPass) -> int:
@@ -175,7 +188,7 @@ def fold_seconds(search: SearchPass, head: Header) -> float:
     """Seconds of a core that folds take: some two thousand million values are added in a second."""
     delays = (search.max_delay - search.min_delay) // search.fold_step + 1
     periods = search.fold_max - search.fold_min + 1
-    values = delays * periods * 2**search.fold_rows * (search.fold_min + search.fold_max) / 2 * search.fold_rows
+    values = delays * periods * (1 << search.fold_rows) * (search.fold_min + search.fold_max) / 2 * search.fold_rows
     return values / 2e9 + search_seconds(head, search, folded_spectra(search))
 
 

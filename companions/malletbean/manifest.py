@@ -187,7 +187,9 @@ def hunt_of(found: Mapping[str, Any]) -> Hunt:
 
 def search_of(found: Mapping[str, Any]) -> SearchPass:
     """The pass of a decoded description."""
-    return SearchPass(**{**found, "raised": tuple(Raised(**one) for one in found["raised"])})
+    values = dict(found)
+    values["raised"] = tuple(Raised(**one) for one in found["raised"])
+    return SearchPass(**values)
 
 
 def listed(found: Mapping[str, Any], *names: str) -> dict[str, Any]:
