@@ -5,12 +5,15 @@ import sys
 from collections.abc import Iterator, Mapping, Sequence
 from dataclasses import dataclass, field
 from datetime import datetime, timedelta
+from fractions import Fraction
 from typing import Protocol
 
 import numpy as np
 
 from .arrays import Array
-from .headers import LEAST_SIZE, TAKEN, fields_of, header_of, refused
+from .headers import LEAST_SIZE, TAKEN, fields_of, header_of, refused, with_value
+from .level import COUNT_BYTES
+from .number import multiplied
 from .output import new_file
 from .scaling import Scaler
 
@@ -41,6 +44,10 @@ class Observed:
     start: int | None
     # further fields, of which those without a value are left out
     others: Mapping[str, str] = field(default_factory=dict)
+    # the header that is changed, where there is one, and how many bits a spectrum has under it
+    text: bytes = b""
+    size: int = LEAST_SIZE
+    spectrum_bits: int = 0
 
 
 class Values(Protocol):
@@ -100,22 +107,33 @@ def with_joined(values: Array, joined: int) -> Array:
 
 def header_bytes(path: str, observed: Observed, joined: int, bits: int) -> bytes:
     """The header of a DADA file, which is one that a search takes."""
-    fields = {
-        "HDR_VERSION": "1.0",
-        "HDR_SIZE": str(LEAST_SIZE),
-        "NCHAN": str(observed.channels // joined),
-        "NBIT": str(bits),
-        "NPOL": str(observed.polarisations),
-        "NDIM": "1",
+    form = {"NCHAN": str(observed.channels // joined), "NBIT": str(bits), "NPOL": str(observed.polarisations), "NDIM": "1"}
+    text = changed_text(observed, form, joined, bits) if observed.text else new_text(observed, form)
+    if len(text) >= observed.size:
+        raise refused(path, f"Overfull {len(text)} {observed.size}")
+    header_of(path, fields_of(text), observed.size, 0)
+    return text.ljust(observed.size, b"\0")
+
+
+def new_text(observed: Observed, form: Mapping[str, str]) -> bytes:
+    """The text of a header that says what is known of an observation."""
+    fields = {"HDR_VERSION": "1.0", "HDR_SIZE": str(observed.size)} | dict(form) | {
         "TSAMP": f"{observed.seconds * 1e6:.3f}",
         "FREQ": f"{observed.centre:.6f}",
         "BW": f"{observed.width:.6f}",
     } | start_fields(observed.start) | {keyword: word(value) for keyword, value in observed.others.items()}
-    text = "".join(f"{keyword} {value}\n" for keyword, value in fields.items() if value).encode()
-    if len(text) >= LEAST_SIZE:
-        raise refused(path, f"Overfull {len(text)} {LEAST_SIZE}")
-    header_of(path, fields_of(text), LEAST_SIZE, 0)
-    return text.ljust(LEAST_SIZE, b"\0")
+    return "".join(f"{keyword} {value}\n" for keyword, value in fields.items() if value).encode()
+
+
+def changed_text(observed: Observed, form: Mapping[str, str], joined: int, bits: int) -> bytes:
+    """The text of the header of an observation, with the form of its values changed, and what counts bytes."""
+    text, fields = observed.text, fields_of(observed.text)
+    factor = Fraction(observed.channels // joined * observed.polarisations * bits, observed.spectrum_bits)
+    counts = {keyword: multiplied(fields.get(keyword, ""), factor) for keyword in COUNT_BYTES}
+    for keyword, value in (dict(form) | dict(observed.others) | counts).items():
+        if value is not None and fields.get(keyword) != value:
+            text = with_value(text, keyword, value)
+    return text
 
 
 def word(text: str) -> str:
