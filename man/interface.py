@@ -1,5 +1,5 @@
-"""The programs with their synopses and options: of the proved ones as REFERENCE.md has them, of companions and scripts of
-cluster/ as `--help` prints them."""
+"""The programs with their synopses and options: those of the proved ones as REFERENCE.md has them, those of companions
+and of scripts of cluster/ as `--help` prints them."""
 from __future__ import annotations
 
 import os
@@ -60,12 +60,20 @@ def of_help(name: str, text: str) -> Interface:
     """The program whose `--help` is this text: `usage:`, a sentence, and options with their meanings."""
     usage, *rest = re.split(r"\n\n+", text.strip())
     command = re.sub(r"\s+", " ", usage.removeprefix("usage:")).strip()
-    command, _, line = command.partition(": ")
     command = command.replace(" [-h]", "").replace(" ...]", " ..]").replace(" ...", " ARGUMENT ..")
     said = [block for block in rest if not re.match(r"(positional arguments|options):", block)]
-    does = (said[0] if said else line).strip()
-    does = re.split(r"(?<=\.)\s", " ".join(does.split()))[0].rstrip(".")
+    does = " ".join(said[0].split()) if said else " ".join(head_of(SCRIPTS[name])).split(": ")[0]
+    does = re.split(r"(?<=\.)\s", does)[0].rstrip(".")
     return Interface(name, does, re.sub(r"^\S+", name, command), options_in(rest))
+
+
+def head_of(script: Path) -> list[str]:
+    """The lines of the comment at the head of a script."""
+    text = script.read_text(encoding="utf-8")
+    docstring = re.search(r'^"""(.*?)"""', text, re.S | re.M)
+    if docstring:
+        return docstring[1].split("\n")
+    return [line.lstrip("# ") for line in re.findall(r"^#(?!!).*$", text.split("\nset ")[0], re.M)]
 
 
 def options_in(blocks: list[str]) -> list[Option]:

@@ -21,7 +21,7 @@ case $1 in
     run)
         program=$(basename "$PWD")
         mkdir -p out && printf 'int main(int n, char **v) { (void)v; return n > 1 ? %d : 0; }\n' "$(cat status 2>/dev/null || echo 0)" |
-            cc -O2 -g0 -s -x c -o "out/$program" - && exit "$(cat status 2>/dev/null || echo 0)"
+            cc -O2 -x c -o "out/$program" - && exit "$(cat status 2>/dev/null || echo 0)"
         ;;
 esac
 EOF
@@ -79,7 +79,7 @@ same 'what uninstall left' "$(find "$folder/own" -type f)" "$folder/own/share/do
 
 run 1 check PREFIX=/typo
 same 'make check PREFIX=/typo' "$(head -n 1 said)" 'there is no folder /typo/bin'
-echo 'int main(void) { return 1; }' | cc -x c -o crates/psr_make_main/out/psr_make_main -
+echo 'int main(void) { return 1; }' | cc -x c -o out/psr_make -
 packaging/copy '' "$folder/other" psr_make >said 2>&1
 same 'status of copy of what was built by other means' "$?" 1
 lines 'copy of what was built by other means' 1
