@@ -79,8 +79,8 @@ def psr_fil(words: Sequence[str]) -> None:
                 print(f"psr_fil: {path} has {written} spectra, where nsamples says {bank.spectra}")
             count += written
     if first.bits == 32:
-        print(f"psr_fil: by the first spectra, each channel of floats has the mean {LEVELS[8].mean} and the deviation "
-              f"{LEVELS[8].deviation} in 8 bits now; mask to try: {levels.mask}")
+        print(f"psr_fil: by the first spectra, each channel of floats has the mean {LEVELS[8].mean // 1000} and the deviation "
+              f"{LEVELS[8].deviation // 1000} in 8 bits now; mask to try: {levels.mask}")
     print(f"psr_fil: {count} spectra of {first.channels} channels; psr_look {asked.output} prints a first search")
 
 
@@ -269,7 +269,7 @@ class Levels:
 
     def of(self, values: np.ndarray) -> np.ndarray:
         """The values, with the mean and the deviation of a level. What is no number has the mean."""
-        mean, deviation = LEVELS[8].mean, LEVELS[8].deviation
+        mean, deviation = LEVELS[8].mean / 1000, LEVELS[8].deviation / 1000
         known = np.isfinite(values)
         values = np.where(known, values, 0).astype(np.float64)
         if self.means is None:

@@ -5,12 +5,13 @@ import os
 import re
 from dataclasses import dataclass, replace
 from functools import cached_property
+from typing import BinaryIO
 
 import numpy as np
 
 from .masks import masked_channels
 from .number import scaled
-from .refusal import HEADER, READ, Refusal, bytes_of
+from .refusal import GAP, HEADER, READ, Refusal, opened, some_of
 
 LEAST_SIZE = 4096
 MOST_SIZE = 65536
@@ -20,6 +21,8 @@ OTHER_FORMS = (
     (4, b"HEADER_START", "a SIGPROC filterbank: psr_fil makes a DADA file of it"),
     (0, b"SIMPLE  =", "a FITS file, and has to be turned into a DADA file first"),
 )
+# the value of a line is its second word
+SECOND_WORD = re.compile(rb"\s*[^\s#]+\s+([^\s#]+)")
 UTC_FORM = re.compile(r"(\d{4}-\d\d-\d\d)-(\d\d:\d\d:\d\d)")
 # each keyword with its decimals, and what it is where it is missing; they are judged in this order
 KEYWORDS: dict[str, tuple[int, int | None]] = {
@@ -42,6 +45,9 @@ TAKEN: dict[str, range | tuple[int, ...]] = {
     "FREQ": range(1000, 16_000_000_001),
     "OBS_OFFSET": range(10**15 + 1),
 }
+# what the files of one observation have in common, in the order in which it is judged
+IN_COMMON = {"channels": "NCHAN", "bits": "NBIT", "polarisations": "NPOL", "sample_ns": "TSAMP", "centre_hz": "FREQ",
+             "width_hz": "BW", "is_falling": "BW"}
 
 
 @dataclass(frozen=True)
@@ -159,7 +165,14 @@ def header(path: str) -> Header:
 
 def header_text(path: str) -> tuple[bytes, int]:
     """The text of a file's header, and how many bytes the header has."""
-    front = bytes_of(path, LEAST_SIZE)
+    with opened(path) as file:
+        text, whole = read_header(path, file)
+    return text, len(whole)
+
+
+def read_header(path: str, file: BinaryIO) -> tuple[bytes, bytes]:
+    """The text of the header with which an open file or pipe begins, and all bytes of it."""
+    front = some_of(path, file, LEAST_SIZE)
     for place, mark, form in OTHER_FORMS:
         if front[place:].startswith(mark):
             raise refused(path, f"it is {form}")
@@ -168,14 +181,14 @@ def header_text(path: str) -> tuple[bytes, int]:
     size = scaled(fields_of(before_nul(front)).get("HDR_SIZE", str(LEAST_SIZE)), 0)
     if size is None or not LEAST_SIZE <= size <= MOST_SIZE:
         raise refused(path, "BadSize")
-    whole = bytes_of(path, size)
+    whole = front + some_of(path, file, size - LEAST_SIZE)
     if len(whole) < size:
         raise refused(path, f"Short {len(whole)}")
     text = before_nul(whole)
     for place, byte in enumerate(text):
         if byte > 127:
             raise refused(path, f"NotText {place}")
-    return text, size
+    return text, whole
 
 
 def before_nul(some: bytes) -> bytes:
@@ -191,6 +204,29 @@ def fields_of(text: bytes) -> dict[str, str]:
         if len(words) >= 2:
             fields.setdefault(words[0].decode("latin-1"), words[1].decode("latin-1"))
     return fields
+
+
+def with_value(text: bytes, key: str, value: str) -> bytes:
+    """The text of a header in which a keyword has another value: in the place of its first one, where that is at least
+    as long, and else in a line at the end."""
+    lines = text.split(b"\n")
+    at = [number for number, line in enumerate(lines) if fields_of(line).keys() == {key}]
+    if at and len(fields_of(lines[at[0]])[key]) >= len(value):
+        lines[at[0]] = overwritten(lines[at[0]], value.encode())
+        return b"\n".join(lines)
+    for number in at:
+        shown = len(lines[number].split(b"#", 1)[0])
+        lines[number] = b" " * shown + lines[number][shown:]
+    text = b"\n".join(lines)
+    line_end = b"" if text.endswith(b"\n") or not text else b"\n"
+    return text + line_end + f"{key} {value}\n".encode()
+
+
+def overwritten(line: bytes, value: bytes) -> bytes:
+    """A line of a header with another value, which is no longer than that of the line."""
+    match = SECOND_WORD.match(line)
+    assert match is not None
+    return line[:match.start(1)] + value.ljust(len(match[1])) + line[match.end(1):]
 
 
 def header_of(path: str, fields: dict[str, str], size: int, data_bytes: int) -> Header:
@@ -245,6 +281,17 @@ def is_taken(keyword: str, numbers: dict[str, int]) -> bool:
 def edge_khz(centre_hz: int, width_hz: int, channels: int, number: int) -> int:
     """The edge of that number in kHz: 0 is the top of the band, and the number of channels its foot."""
     return (2 * centre_hz * channels + width_hz * channels - 2 * width_hz * number) // (2000 * channels)
+
+
+def check_follows(path: str, first: Header, later: Header, number: int, data_bytes: int) -> None:
+    """Refuses file `number` of an observation, of which the files before it have so many bytes, if it is no part of it.
+    """
+    for name, keyword in IN_COMMON.items():
+        if getattr(later, name) != getattr(first, name):
+            raise refused(path, f"Differs {keyword}")
+    if later.offset != first.offset + data_bytes:
+        expected = first.offset + data_bytes
+        raise Refusal(GAP, f"file {number} ({path}) has OBS_OFFSET {later.offset} where {expected} was expected")
 
 
 def refused(path: str, why: str) -> Refusal:

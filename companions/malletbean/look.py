@@ -154,7 +154,7 @@ def said(asked: argparse.Namespace, head: Header, measured: Measured, form: str)
     lines = header_lines(head)
     if form != "<u":
         lines.append(("values", f"they look {FORMS[form]}; psr_search would take them as {FORMS['<u']}: "
-                                f"psr_level FILE OUT {FORM_WORDS[form]} turns them"))
+                                f"psr_level {FORM_WORDS[form]} FILE > OUT turns them"))
     lines += noise_lines(head, measured, max_delay)
     lines.append(("threshold", f"a true S/N of {USUAL_SNR} is --snr {threshold} at widths to {USUAL_WIDTH} and delays "
                                f"to {max_delay}, and --snr {USUAL_SNR} at --widths 1"))
@@ -241,15 +241,17 @@ def level_lines(asked: argparse.Namespace, head: Header, measured: Measured, for
     if times == 1 and is_level(head, measured):
         return [(name, "psr_level again, from the file as it was, with fewer --spectra than before (and with the same "
                        f"--average and --mask, where there were any){why}")]
-    words = f"{shlex.quote(asked.file)} OUT"
+    words = []
     if times > 1:
-        name, why, words = "average", "", f"{words} --average {times}"
+        name, why, words = "average", "", [f"--average {times}"]
     if not is_steady:
-        words += f" --spectra {stretch_to_level(later, averaged, max_delay, drift)}"
-    forms = "" if form == "<u" else f" {FORM_WORDS[form]}"
+        words.append(f"--spectra {stretch_to_level(later, averaged, max_delay, drift)}")
+    if form != "<u":
+        words.append(FORM_WORDS[form])
     if times_to_average(later, asked.dm) > 1:
         why = f", which says a further one, since {times} is the most at a time"
-    return [(name, f"psr_level {words}{forms}, then {look_words(asked, head, measured)}{why}")]
+    command = " ".join(["psr_level", *words, shlex.quote(asked.file), "> OUT"])
+    return [(name, f"{command}, then {look_words(asked, head, measured)}{why}")]
 
 
 def look_words(asked: argparse.Namespace, head: Header, measured: Measured) -> str:
@@ -268,9 +270,9 @@ def is_level(head: Header, measured: Measured) -> bool:
 
 def are_at(level: Level, head: Header, measured: Measured) -> bool:
     """Whether all channels have this level."""
-    far_means = np.abs(measured.means - level.mean * head.polarisations)
-    far_deviations = np.abs(measured.deviations - level.deviation * math.sqrt(head.polarisations))
-    near = level.deviation / 4
+    far_means = np.abs(measured.means - level.mean / 1000 * head.polarisations)
+    far_deviations = np.abs(measured.deviations - level.deviation / 1000 * math.sqrt(head.polarisations))
+    near = level.deviation / 4000
     return bool(((far_means < near) & ((far_deviations < near) | (measured.deviations == 0))).all())
 
 

@@ -5,7 +5,7 @@ import re
 
 import numpy as np
 
-from .refusal import WORDS, Refusal
+from .refusal import MASK, Refusal
 
 # a value that is so many deviations off the median of all lies far off
 STANDS_OUT = 6
@@ -27,13 +27,13 @@ def masked_channels(text: str, channels: int) -> np.ndarray:
     for item in [] if text == "none" else text.split(","):
         match = ITEM.fullmatch(item)
         if match is None:
-            raise Refusal(WORDS, f"mask refused: {text} is no mask")
+            raise Refusal(MASK, f"mask refused: {text} is no mask")
         first, last = sorted((int(match[1]), int(match[2] or match[1])))
         if last >= channels:
-            raise Refusal(WORDS, f"mask refused: there are {channels} channels, and it names {last}")
+            raise Refusal(MASK, f"mask refused: there are {channels} channels, and it names {last}")
         is_masked[first:last + 1] = True
     if is_masked.all():
-        raise Refusal(WORDS, "mask refused: it leaves no channel")
+        raise Refusal(MASK, "mask refused: it leaves no channel")
     return np.flatnonzero(is_masked)
 
 

@@ -2,11 +2,20 @@
 from __future__ import annotations
 
 import os
+import sys
 from collections.abc import Iterator
 from contextlib import contextmanager, suppress
 from typing import BinaryIO
 
 from .refusal import OUTPUT, Refusal
+
+
+def to_standard_output(some: bytes) -> None:
+    """Writes all of some bytes to standard output, also where Python doesn't buffer it."""
+    view = memoryview(some)
+    while view:
+        view = view[sys.stdout.buffer.write(view):]
+    sys.stdout.buffer.flush()
 
 
 @contextmanager

@@ -5,14 +5,12 @@ from collections.abc import Sequence
 
 import numpy as np
 
-from .headers import Header, header, refused
+from .headers import Header, check_follows, header
 from .paths import delay_paths, fold_shifts
 from .refusal import READ, TEXT, Refusal
 
 # how many samples are worked on at a time
 SAMPLES_AT_A_TIME = 2**24
-# what the files of one observation have in common
-COMMON = ("channels", "bits", "polarisations", "sample_ns", "centre_hz", "width_hz", "is_falling")
 
 
 class Samples:
@@ -22,8 +20,8 @@ class Samples:
         self.paths = list(paths)
         self.headers = [header(path).without(mask) for path in self.paths]
         self.begins = [0]
-        for path, later in zip(self.paths, self.headers):
-            self._check(path, later)
+        for number, (path, later) in enumerate(zip(self.paths, self.headers)):
+            check_follows(path, self.headers[0], later, number, self.begins[-1])
             self.begins.append(self.begins[-1] + later.data_bytes)
 
     @property
@@ -49,15 +47,6 @@ class Samples:
         size = head.spectrum_bytes
         data = b"".join(self._bytes(first * size, (first + count) * size))
         return np.frombuffer(data, f"{kind}{head.bits // 8}").reshape(-1, head.channels, head.polarisations)
-
-    def _check(self, path: str, later: Header) -> None:
-        first = self.headers[0]
-        for name in COMMON:
-            if getattr(later, name) != getattr(first, name):
-                raise refused(path, f"its {name} differs from that of {self.paths[0]}")
-        expected = first.offset + self.begins[-1]
-        if later.offset != expected:
-            raise refused(path, f"it has OBS_OFFSET {later.offset} where {expected} was expected")
 
     def _bytes(self, first: int, stop: int) -> list[bytes]:
         """The data bytes from one place up to another, file by file."""

@@ -10,7 +10,6 @@ import pytest
 import made
 from malletbean import Refusal, header
 from malletbean.candidates import shared_by_delay
-from malletbean.level import psr_level
 from malletbean.look import psr_look
 from malletbean.paths import box_noise_cells
 
@@ -96,21 +95,19 @@ def test_what_is_to_be_levelled_first(tmp_path: Path, capsys: pytest.CaptureFixt
     assert "level first" not in said(capsys, drifted(tmp_path / "flat.dada", bits, 0), "5")
     lines = said(capsys, drifted(tmp_path / "a drift.dada", bits, 1), "5")
     assert list(lines).index("level first") == list(lines).index("words") - 1
-    command, *words = shlex.split(lines["level first"].split(",")[0])
-    assert (command, words) == ("psr_level", [f"{tmp_path}/a drift.dada", "OUT", "--spectra", "512"])
+    words = shlex.split(lines["level first"].split(",")[0])
+    assert words == ["psr_level", "--spectra", "512", f"{tmp_path}/a drift.dada", ">", "OUT"]
     assert ", then psr_look OUT 5: " in lines["level first"]
-    psr_level([words[0], str(tmp_path / "level.dada"), *words[2:]])
-    capsys.readouterr()
+    made.level(words[3], tmp_path / "level.dada", *words[1:3])
     assert "level first" not in said(capsys, str(tmp_path / "level.dada"), "5")
-    psr_level([words[0], str(tmp_path / "less.dada"), "--spectra", "10000"])
-    capsys.readouterr()
+    made.level(words[3], tmp_path / "less.dada", "--spectra", "10000")
     assert said(capsys, str(tmp_path / "less.dada"), "5")["level first"].startswith("psr_level again, from the file as")
 
 
 def test_a_stretch_is_longer_than_a_pulse(tmp_path: Path, capsys: pytest.CaptureFixture[str]) -> None:
     file = drifted(tmp_path / "drift.dada", 8, 12)
-    assert "--spectra 256," in said(capsys, file, "5")["level first"]
-    assert "--spectra 4096," in said(capsys, file, "390")["level first"]
+    assert " --spectra 256 " in said(capsys, file, "5")["level first"]
+    assert " --spectra 4096 " in said(capsys, file, "390")["level first"]
 
 
 def band_of(path: Path, means: np.ndarray, deviations: np.ndarray) -> str:
@@ -126,7 +123,7 @@ def wavy(least: float, most: float) -> np.ndarray:
     return least + (most - least) * (1 + np.sin(np.linspace(0, 9, 256))) / 2
 
 
-@pytest.mark.parametrize("least, channels, mask", [(15, [], "none"), (2, [], "none"), (15, [100], "100"),
+@pytest.mark.parametrize("least, channels, mask", [(15, [], "none"), (3, [], "none"), (15, [100], "100"),
                                                    (4, [100, 101, 200], "100-101,200")])
 def test_interference_in_an_uneven_band(tmp_path: Path, capsys: pytest.CaptureFixture[str], least: float,
                                         channels: list[int], mask: str) -> None:
@@ -135,8 +132,7 @@ def test_interference_in_an_uneven_band(tmp_path: Path, capsys: pytest.CaptureFi
     deviations[channels] *= 1.4
     file = band_of(tmp_path / "band.dada", means, deviations)
     assert said(capsys, file)["mask to try:"] == f" {mask}"
-    psr_level([file, str(tmp_path / "level.dada")])
-    capsys.readouterr()
+    made.level(file, tmp_path / "level.dada")
     assert said(capsys, str(tmp_path / "level.dada"))["mask to try:"] == " none"
 
 
@@ -178,9 +174,9 @@ def test_channels_are_counted_in_the_order_of_the_file(tmp_path: Path, capsys: p
 
 def averaged(tmp_path: Path, text: str) -> str:
     """The file that the command of a line makes."""
-    command, file, out, *words = shlex.split(text.split(", then ")[0])
-    assert (command, out) == ("psr_level", "OUT")
-    psr_level([file, str(tmp_path / "averaged.dada"), *words])
+    command, *words, into, out = shlex.split(text.split(", then ")[0])
+    assert (command, into, out) == ("psr_level", ">", "OUT")
+    (tmp_path / "averaged.dada").write_bytes(made.levelled(*words))
     return str(tmp_path / "averaged.dada")
 
 
@@ -189,7 +185,7 @@ def test_a_delay_past_every_search(tmp_path: Path, capsys: pytest.CaptureFixture
     made.make(path, spectra=32768, height=0)
     lines = said(capsys, str(path), "1000")
     assert lines["delay"].endswith(" ms; a search takes 8192 at most")
-    assert lines["average"] == f"psr_level '{path}' OUT --average 3, then psr_look OUT 1000"
+    assert lines["average"] == f"psr_level --average 3 '{path}' > OUT, then psr_look OUT 1000"
     assert "words" not in lines and "level first" not in lines
     out = averaged(tmp_path, lines["average"])
     capsys.readouterr()
@@ -201,13 +197,14 @@ def test_a_delay_past_every_search(tmp_path: Path, capsys: pytest.CaptureFixture
 def test_a_delay_that_is_averaged_twice(tmp_path: Path, capsys: pytest.CaptureFixture[str]) -> None:
     path = tmp_path / "made.dada"
     made.make(path, channels=4, spectra=2**20, height=0, delay=0)
-    assert said(capsys, str(path), "25575")["average"].endswith(" OUT --average 64, then psr_look OUT 25575")
+    command = f"psr_level --average 64 {path} > OUT"
+    assert said(capsys, str(path), "25575")["average"] == f"{command}, then psr_look OUT 25575"
     lines = said(capsys, str(path), "26000")
-    assert lines["average"].endswith(" OUT --average 64, then psr_look OUT 26000, which says a further one, since 64 "
-                                     "is the most at a time")
+    assert lines["average"] == (f"{command}, then psr_look OUT 26000, which says a further one, since 64 is the most "
+                                "at a time")
     out = averaged(tmp_path, lines["average"])
     capsys.readouterr()
-    assert said(capsys, out, "26000")["average"].endswith(" OUT --average 2, then psr_look OUT 26000")
+    assert said(capsys, out, "26000")["average"] == f"psr_level --average 2 {out} > OUT, then psr_look OUT 26000"
 
 
 @pytest.mark.parametrize("spectra, dm", [(4000, "196"), (4000, "1000"), (20000, "1000")])
@@ -221,15 +218,14 @@ def test_a_delay_past_the_data(tmp_path: Path, capsys: pytest.CaptureFixture[str
 
 def test_a_drift_past_every_search(tmp_path: Path, capsys: pytest.CaptureFixture[str]) -> None:
     lines = said(capsys, drifted(tmp_path / "drift.dada", 8, 1), "700")
-    assert " OUT --average 2 --spectra " in lines["average"] and "level first" not in lines
+    assert lines["average"].startswith("psr_level --average 2 --spectra ") and "level first" not in lines
 
 
 def test_a_level_file_is_averaged_as_any_other(tmp_path: Path, capsys: pytest.CaptureFixture[str]) -> None:
     drifted(tmp_path / "drift.dada", 8, 1)
-    psr_level([str(tmp_path / "drift.dada"), str(tmp_path / "level.dada"), "--spectra", "10000"])
-    capsys.readouterr()
+    made.level(tmp_path / "drift.dada", tmp_path / "level.dada", "--spectra", "10000")
     lines = said(capsys, str(tmp_path / "level.dada"), "700")
-    assert lines["average"].startswith(f"psr_level {tmp_path / 'level.dada'} OUT --average 2 --spectra ")
+    assert lines["average"].startswith("psr_level --average 2 --spectra ")
     assert " then psr_look OUT 712.3456" in said(capsys, str(tmp_path / "level.dada"), "712.3456")["average"]
 
 
@@ -247,7 +243,7 @@ def test_a_drift_at_the_end_of_a_long_file(tmp_path: Path, capsys: pytest.Captur
     path.write_bytes(raw.tobytes())
     lines = said(capsys, str(path), "--megabytes", "0.5")
     assert lines["first"].startswith("psr_look estimates, from 8 pieces of the data (0.5 MB)")
-    assert lines["level first"].startswith(f"psr_level {path} OUT --spectra ")
+    assert lines["level first"].startswith("psr_level --spectra ")
 
 
 def test_the_threshold_of_wide_boxes(files: dict[str, str], capsys: pytest.CaptureFixture[str]) -> None:
