@@ -15,7 +15,7 @@ from .candidates import check_fits
 from .headers import Header
 from .number import scaled
 from .refusal import MEMORY, OUTPUT, TEXT, WORDS, Refusal
-from .settings import check_settings
+from .settings import SUFFIX, check_settings
 from .texts import Found, read
 
 # the signals that ask a program to end: of a scheduler, of a terminal that closes, and of Ctrl-C
@@ -107,6 +107,17 @@ def add_search_words(words: Words) -> None:
     words.add_argument("--part", action="store_true", help="the text is of a part, whose last line counts those before")
 
 
+def check_output(words: argparse.Namespace, suffixes: tuple[str, ...]) -> None:
+    """Refuses an output that ends in none of these, or that is one of the files which the words name as input."""
+    if words.output is None:
+        return
+    if not words.output.endswith(suffixes):
+        raise Refusal(WORDS, f"argument -o: {words.output} ends in none of {', '.join(suffixes)}")
+    for path in (words.file, words.text, words.text + SUFFIX):
+        if os.path.exists(path) and os.path.exists(words.output) and os.path.samefile(path, words.output):
+            raise Refusal(WORDS, f"argument -o: {words.output} is what is read")
+
+
 def noise_value(text: str) -> float:
     """A mean or a deviation of a sample, with three decimals."""
     value = scaled(text, 3)
@@ -146,6 +157,5 @@ def check_entries(name: str, words: argparse.Namespace, entries: Sequence[Found]
             say(name, 0, f"{words.text} goes on behind its last CHECK line: it was read up to spectrum {found.spectra}")
         if len(found.many):
             ends = ", ".join(map(str, found.many["until"][:MOST_NAMED]))
-            more = " .." if len(found.many) > MOST_NAMED else ""
-            say(name, 0, f"{words.text} has no pulses of {len(found.many)} parts that had too many: those up to the "
-                         f"spectra {ends}{more}")
+            more = f" and {len(found.many) - MOST_NAMED} more" if len(found.many) > MOST_NAMED else ""
+            say(name, 0, f"{words.text} has no pulses of parts that had too many: those that end at {ends}{more}")
