@@ -9,7 +9,7 @@ import dataclasses
 import json
 import os
 from collections.abc import Mapping
-from dataclasses import dataclass, field
+from dataclasses import dataclass
 from typing import Any
 
 from .output import whole_file
@@ -136,12 +136,14 @@ class Hunt:
     dm_high: float
     levels: tuple[LevelFile, ...]
     searches: tuple[SearchPass, ...]
+    # the words by which psr_level reads values that are signed, or have their high byte first
+    form: tuple[str, ...] = ()
     # the plan as `--dry-run` prints it
     plan: str = ""
     programs: tuple[Program, ...] = ()
     commands: tuple[Command, ...] = ()
     # what was read from the observation and is told apart from one that was changed: path, bytes, time of change in ns
-    states: tuple[tuple[str, int, int], ...] = field(default=())
+    states: tuple[tuple[str, int, int], ...] = ()
 
     def level(self, search: SearchPass) -> LevelFile:
         """The levelled file that a pass searched."""
@@ -180,12 +182,14 @@ def hunt_of(found: Mapping[str, Any]) -> Hunt:
     values["programs"] = tuple(Program(**one) for one in found["programs"])
     values["commands"] = tuple(Command(**one) for one in found["commands"])
     values["states"] = tuple((str(path), int(size), int(time)) for path, size, time in found["states"])
-    return Hunt(**listed(values, "arguments", "inputs"))
+    return Hunt(**listed(values, "arguments", "inputs", "form"))
 
 
 def search_of(found: Mapping[str, Any]) -> SearchPass:
     """The pass of a decoded description."""
-    return SearchPass(**{**found, "raised": tuple(Raised(**one) for one in found["raised"])})
+    values = dict(found)
+    values["raised"] = tuple(Raised(**one) for one in found["raised"])
+    return SearchPass(**values)
 
 
 def listed(found: Mapping[str, Any], *names: str) -> dict[str, Any]:

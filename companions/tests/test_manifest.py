@@ -19,7 +19,7 @@ PASS = SearchPass(name="k2", average=2, zero_dm=True, level="k2.dada", output="k
 HUNT = Hunt(version=1, arguments=("a.dada", "--dm", "0", "25"), inputs=("/data/a.dada",), observation=SKY, mask="3,5-7",
             zero_dm=True, clip=None, snr=6.3, dm_low=0.0, dm_high=25.0, levels=(LEVEL,), searches=(PASS,),
             programs=(Program("psr_search", "/usr/bin/psr_search", "00"),), commands=(Command("k2", "line", 1.5, 0),),
-            states=(("/data/a.dada", 5096, 17),))
+            form=("--signed",), states=(("/data/a.dada", 5096, 17),))
 
 
 def test_it_is_read_as_it_was_written(tmp_path: Path) -> None:
