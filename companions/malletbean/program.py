@@ -15,7 +15,7 @@ from .candidates import check_fits
 from .headers import Header
 from .number import scaled
 from .refusal import MEMORY, OUTPUT, TEXT, WORDS, Refusal
-from .settings import check_settings
+from .settings import SUFFIX, check_settings
 from .texts import Found, read
 
 # the signals that ask a program to end: of a scheduler, of a terminal that closes, and of Ctrl-C
@@ -105,6 +105,71 @@ def add_search_words(words: Words) -> None:
     words.add_argument("--beam", metavar="K", type=int, help="which beam of a text of psr_beams")
     words.add_argument("--mask", metavar="MASK", default="none", help="the mask that psr_mask was given")
     words.add_argument("--part", action="store_true", help="the text is of a part, whose last line counts those before")
+
+
+def check_output(words: argparse.Namespace, suffixes: tuple[str, ...]) -> None:
+    """Refuses an output that ends in none of these, or that is one of the files which the words name as input."""
+    if words.output is None:
+        return
+    if not words.output.endswith(suffixes):
+        raise Refusal(WORDS, f"argument -o: {words.output} ends in none of {', '.join(suffixes)}")
+    for path in (words.file, words.text, words.text + SUFFIX):
+        if os.path.exists(path) and os.path.exists(words.output) and os.path.samefile(path, words.output):
+            raise Refusal(WORDS, f"argument -o: {words.output} is what is read")
+
+
+def noise_value(text: str) -> float:
+    """A mean or a deviation of a sample, with three decimals."""
+    value = scaled(text, 3)
+    if value is None or not 0 <= value <= 200_000_000:
+        raise argparse.ArgumentTypeError(f"{text} is no number from 0 to 200000")
+    return value / 1000
+
+
+def entries_by(words: argparse.Namespace) -> list[Found]:
+    """What the search found in the observations or beams that the words name: in all of them where none is named."""
+    if words.deviation == 0:
+        raise Refusal(WORDS, "argument SD: it is 0")
+    entries = read(words.text, words.part)
+    for kind, number, is_kind in (("observation", words.obs, False), ("beam", words.beam, True)):
+        if number is None:
+            continue
+        if entries[0].is_beam != is_kind or not 0 <= number < len(entries):
+            raise Refusal(TEXT, f"{words.text} has no {kind} {number}")
+        return [entries[number]]
+    return entries
+
+
+def only_entry(words: argparse.Namespace, entries: Sequence[Found]) -> Found:
+    """What the search found in the one observation or beam that the words name."""
+    if len(entries) > 1:
+        kind, word = ("beams", "--beam") if entries[0].is_beam else ("observations", "--obs")
+        raise Refusal(TEXT, f"{words.text} has {len(entries)} {kind}: choose one with {word} K, K from 0 on")
+    return entries[0]
+
+
+def check_entries(name: str, words: argparse.Namespace, entries: Sequence[Found], head: Header) -> None:
+    """Refuses what isn't of this header and noise, and says on standard error what the text leaves out."""
+    check_settings(words.text, head, words.mean, words.deviation)
+    for found in entries:
+        check_fits(words.text, found, head, words.mean, words.deviation)
+        if found.is_growing:
+            say(name, 0, f"{words.text} goes on behind its last CHECK line: it was read up to spectrum {found.spectra}")
+        if len(found.many):
+            ends = ", ".join(map(str, found.many["until"][:MOST_NAMED]))
+            more = f" and {len(found.many) - MOST_NAMED} more" if len(found.many) > MOST_NAMED else ""
+            say(name, 0, f"{words.text} has no pulses of parts that had too many: those that end at {ends}{more}")
+
+
+def check_output(words: argparse.Namespace, suffixes: tuple[str, ...]) -> None:
+    """Refuses an output that ends in none of these, or that is one of the files which the words name as input."""
+    if words.output is None:
+        return
+    if not words.output.endswith(suffixes):
+        raise Refusal(WORDS, f"argument -o: {words.output} ends in none of {', '.join(suffixes)}")
+    for path in (words.file, words.text, words.text + SUFFIX):
+        if os.path.exists(path) and os.path.exists(words.output) and os.path.samefile(path, words.output):
+            raise Refusal(WORDS, f"argument -o: {words.output} is what is read")
 
 
 def noise_value(text: str) -> float:

@@ -16,7 +16,7 @@ from malletbean.table import psr_table
 @pytest.fixture
 def text(tmp_path: Path) -> str:
     """A text that can have a file beside it."""
-    return shutil.copy(DATA / "made.txt", tmp_path / "text")
+    return str(shutil.copy(DATA / "made.txt", tmp_path / "text"))
 
 
 def test_settings_are_read_as_they_were_written(text: str) -> None:
