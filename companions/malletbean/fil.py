@@ -2,42 +2,50 @@
 from __future__ import annotations
 
 import argparse
+import os
 import struct
+import sys
 from collections.abc import Iterator, Sequence
 from contextlib import ExitStack
 from dataclasses import dataclass
-from datetime import datetime, timedelta
 from typing import BinaryIO
 
 import numpy as np
 
-from .headers import LEAST_SIZE, fields_of, header_of, refused
-from .level import LEVELS
-from .masks import is_far, mask_text
-from .output import new_file
+from .arrays import Array
+from .conversion import PICOSECONDS, VALUES_AT_A_TIME, VALUES_TO_LEVEL_BY, Observed, convert, even_pieces
+from .headers import refused
 from .program import Words
-from .refusal import READ, WORDS, Refusal
+from .refusal import WORDS, Refusal, opened, some_of
 
-# how many values are turned at a time: few enough for the caches
-VALUES_AT_A_TIME = 2**20
-# floats: the first so many, at least, say where their values of 8 bits lie
-VALUES_TO_LEVEL_BY = 2**23
 # the kind of each keyword's number; some keywords have a string, and some nothing
 KINDS = {keyword: "i" for keyword in (
     "machine_id", "telescope_id", "data_type", "barycentric", "pulsarcentric", "nbits", "nsamples", "nchans", "nifs",
-    "nbeams", "ibeam",
+    "nbeams", "ibeam", "nbins",
 )} | {keyword: "d" for keyword in (
     "az_start", "za_start", "src_raj", "src_dej", "tstart", "tsamp", "fch1", "foff", "fchannel", "refdm", "period",
-)} | {"signed": "b"}
-STRINGS = ("source_name", "rawdatafile")
-MARKS = ("FREQUENCY_START", "FREQUENCY_END")
-LONGEST_WORD = 80
+)} | {"signed": "b", "npuls": "q"} | dict.fromkeys(("source_name", "rawdatafile"), "s") | dict.fromkeys(
+    ("FREQUENCY_START", "FREQUENCY_END"), "")
+# the kinds that --keyword names
+KIND_NAMES = {"int": "i", "long": "q", "double": "d", "byte": "b", "string": "s", "none": ""}
+LONGEST_KEYWORD, LONGEST_STRING = 80, 4096
 # what files of one observation have in common
 COMMON = ("channels", "bits", "ifs", "is_signed", "seconds", "first", "step")
 # two numbers of days tell how far they are apart to so many seconds
 TSTART_ERROR = 2e-6
-# day 0 of MJD
-DAY_ZERO = datetime(1858, 11, 17)
+# the numbers that SIGPROC and its users gave telescopes
+TELESCOPES = {0: "Fake", 1: "Arecibo", 2: "Ooty", 3: "Nancay", 4: "Parkes", 5: "Jodrell", 6: "GBT", 7: "GMRT",
+              8: "Effelsberg", 9: "ATA", 10: "SRT", 11: "LOFAR", 12: "VLA", 20: "CHIME", 21: "FAST", 64: "MeerKAT",
+              65: "KAT-7"}
+# what the kinds of data are, where they aren't filterbanks
+DATA_TYPES = {2: "a time series", 3: "profiles of pulses", 6: "dedispersed sub-bands"}
+# numbers that become fields, with the keyword of DADA
+KEPT = {"data_type": "DATA_TYPE", "barycentric": "BARYCENTRIC", "pulsarcentric": "PULSARCENTRIC", "refdm": "REFDM",
+        "machine_id": "MACHINE_ID", "telescope_id": "TELESCOPE_ID", "nbeams": "NBEAM", "ibeam": "IBEAM",
+        "az_start": "AZ_START", "za_start": "ZA_START"}
+
+Number = int | float
+Entries = dict[str, list[Number | str]]
 
 
 @dataclass(frozen=True)
@@ -53,43 +61,35 @@ class Filterbank:
     first: float
     step: float
     start: float | None
-    source: str | None
     # how many spectra there are, where the header says it
     spectra: int | None
+    others: dict[str, str]
+    # what is said of the data on standard error
+    warnings: tuple[str, ...]
+
+    @property
+    def in_one(self) -> int:
+        """How many values a spectrum has."""
+        return self.ifs * self.channels
+
+    @property
+    def together(self) -> int:
+        """How many spectra fill whole bytes."""
+        return next(count for count in (1, 2, 4, 8) if count * self.in_one * self.bits % 8 == 0)
 
 
 def psr_fil(words: Sequence[str]) -> None:
     """Writes the DADA file that the words ask for."""
     asked = parsed(words)
-    first, count, levels = None, 0, Levels()
+    kinds = KINDS | dict(asked.keyword or [])
     with ExitStack() as stack:
-        for path in asked.files:
-            source = Source(path, stack.enter_context(opened(path)))
-            bank = bank_of(source, values_of(source))
-            if first is None:
-                first, chosen = bank, chosen_ifs(source, bank, asked.only)
-                text = dada_text(bank, len(chosen))
-                header_of(path, fields_of(text), LEAST_SIZE, 0)
-                out = stack.enter_context(new_file(asked.output))
-                out.write(text.ljust(LEAST_SIZE, b"\0"))
-            else:
-                check_follows(source, bank, first, count)
-            written = write_spectra(out, source, bank, chosen, levels)
-            if bank.spectra not in (None, written):
-                print(f"psr_fil: {path} has {written} spectra, where nsamples says {bank.spectra}")
-            count += written
-    if first.bits == 32:
-        print(f"psr_fil: by the first spectra, each channel of floats has the mean {LEVELS[8].mean // 1000} and the deviation "
-              f"{LEVELS[8].deviation // 1000} in 8 bits now; mask to try: {levels.mask}")
-    print(f"psr_fil: {count} spectra of {first.channels} channels; psr_look {asked.output} prints a first search")
-
-
-def opened(path: str) -> BinaryIO:
-    """A file to read."""
-    try:
-        return open(path, "rb")
-    except OSError as fault:
-        raise Refusal(READ, f"can't read {path}: {fault.strerror}") from fault
+        source = Source(asked.files[0], stack.enter_context(opened(asked.files[0])), kinds)
+        banks = Filterbanks(asked.files, source, asked.only, stack)
+        for line in banks.bank.warnings:
+            print(f"psr_fil: {line}", file=sys.stderr)
+        convert("psr_fil", asked.output, banks.observed(), banks)
+    for line in banks.notes:
+        print(f"psr_fil: {line}")
 
 
 def parsed(words: Sequence[str]) -> argparse.Namespace:
@@ -100,7 +100,18 @@ def parsed(words: Sequence[str]) -> argparse.Namespace:
     parser.add_argument("output", metavar="OUT", help="the DADA file, which must not be there")
     parser.add_argument("--if", metavar="K", dest="only", type=int,
                         help="this IF alone, counted from 0; else all of one or two")
+    parser.add_argument("--keyword", metavar="NAME=KIND", type=keyword_kind, action="append",
+                        help=f"a keyword that SIGPROC doesn't have, which is passed over: its value is one of "
+                             f"{', '.join(KIND_NAMES)}")
     return parser.parse_args(words)
+
+
+def keyword_kind(text: str) -> tuple[str, str]:
+    """A keyword of a header, and the kind of its value."""
+    name, _, kind = text.partition("=")
+    if kind not in KIND_NAMES:
+        raise argparse.ArgumentTypeError(f"{text} is no NAME=KIND, with one of {', '.join(KIND_NAMES)}")
+    return name, KIND_NAMES[kind]
 
 
 @dataclass(frozen=True)
@@ -109,85 +120,181 @@ class Source:
 
     path: str
     file: BinaryIO
+    kinds: dict[str, str]
 
     def some(self, count: int) -> bytes:
         """The next bytes, fewer only at the end."""
-        try:
-            return self.file.read(count)
-        except OSError as fault:
-            raise Refusal(READ, f"can't read {self.path}: {fault.strerror}") from fault
+        return some_of(self.path, self.file, count)
 
     def refused(self, why: str) -> Refusal:
         """The refusal of the header."""
         return refused(self.path, why)
 
-    def number(self, kind: str) -> float | int:
+    def part(self, count: int) -> bytes:
+        """The next bytes of the header."""
+        some = self.some(count)
+        if len(some) < count:
+            raise self.refused("it ends before HEADER_END")
+        return some
+
+    def number(self, kind: str) -> Number:
         """The next number of the header, the low byte first."""
-        size = struct.calcsize(f"<{kind}")
-        some = self.some(size)
-        if len(some) < size:
-            raise self.refused("it ends before HEADER_END")
-        return struct.unpack(f"<{kind}", some)[0]
+        value: Number = struct.unpack(f"<{kind}", self.part(struct.calcsize(f"<{kind}")))[0]
+        return value
 
-    def word(self) -> str:
+    def word(self, longest: int) -> str:
         """The next word of the header: how many bytes it has, and these."""
-        length = self.number("i")
-        if not 0 <= length <= LONGEST_WORD:
+        length = int(self.number("i"))
+        if not 0 <= length <= longest:
             raise self.refused("it is no header of a SIGPROC filterbank")
-        some = self.some(length)
-        if len(some) < length:
-            raise self.refused("it ends before HEADER_END")
-        return some.decode("latin-1")
+        return self.part(length).decode("latin-1")
+
+    def entries(self) -> Entries:
+        """The values of each keyword of the header, behind which the data begin."""
+        entries: Entries = {}
+        if self.word(LONGEST_KEYWORD) != "HEADER_START":
+            raise self.refused("it does not begin with HEADER_START")
+        while (keyword := self.word(LONGEST_KEYWORD)) != "HEADER_END":
+            kind = self.kinds.get(keyword)
+            if kind is None:
+                raise self.refused(f"{ascii(keyword)} is no keyword that is known: if you know the kind of its value, "
+                                   f"pass it over by --keyword {keyword}=KIND, with one of {', '.join(KIND_NAMES)}")
+            if kind:
+                value = self.word(LONGEST_STRING) if kind == "s" else self.number(kind)
+                entries.setdefault(keyword, []).append(value)
+        return entries
+
+    def bank(self) -> Filterbank:
+        """The filterbank of the header."""
+        return bank_of(self, self.entries())
 
 
-def values_of(source: Source) -> dict[str, list]:
-    """The values of each keyword of a header, behind which the data begin."""
-    values: dict[str, list] = {}
-    if source.word() != "HEADER_START":
-        raise source.refused("it does not begin with HEADER_START")
-    while (keyword := source.word()) != "HEADER_END":
-        if keyword in KINDS:
-            values.setdefault(keyword, []).append(source.number(KINDS[keyword]))
-        elif keyword in STRINGS:
-            values.setdefault(keyword, []).append(source.word())
-        elif keyword not in MARKS:
-            raise source.refused(f"{ascii(keyword)} is no keyword that is known")
-    return values
-
-
-def bank_of(source: Source, values: dict[str, list]) -> Filterbank:
+def bank_of(source: Source, entries: Entries) -> Filterbank:
     """The filterbank of a header's values."""
-    def first(keyword: str, default: object = None) -> object:
-        if keyword not in values and default is None:
+    def number(keyword: str, default: Number | None = None) -> Number:
+        value = entries[keyword][0] if keyword in entries else default
+        if not isinstance(value, (int, float)):
             raise source.refused(f"it has no {keyword}")
-        return values.get(keyword, [default])[0]
+        if not np.isfinite(value):
+            raise source.refused(f"its {keyword} is no number")
+        return value
 
-    centres = values.get("fchannel")
-    channels = first("nchans", len(centres) if centres else None)
-    if centres and len(centres) > 1:
+    def text(keyword: str) -> str:
+        return str(entries.get(keyword, [""])[0])
+
+    centres = [float(value) for value in entries.get("fchannel", [])]
+    channels = int(number("nchans", len(centres) or None))
+    if len(centres) > 1:
         step = (centres[-1] - centres[0]) / (len(centres) - 1)
         even = centres[0] + step * np.arange(len(centres))
         # the edges of channels are taken to a kHz
         if len(centres) != channels or np.abs(even - centres).max() > 0.0005:
             raise source.refused("its channels don't lie evenly")
-        values = values | {"fch1": [centres[0]], "foff": [step]}
-    if first("nbits") not in (1, 2, 4, 8, 16, 32):
-        raise source.refused(f"it has {first('nbits')} bits, and only 1, 2, 4, 8, 16 and 32 are taken")
-    for keyword in ("tsamp", "fch1", "foff", "tstart"):
-        if keyword in values and not np.isfinite(values[keyword][0]):
-            raise source.refused(f"its {keyword} is no number")
+        entries = entries | {"fch1": [centres[0]], "foff": [step]}
+    bits = int(number("nbits"))
+    if bits not in (1, 2, 4, 8, 16, 32):
+        raise source.refused(f"it has {bits} bits, and only 1, 2, 4, 8, 16 and 32 are taken")
+    kept = {field: f"{entries[keyword][0]}" for keyword, field in KEPT.items() if keyword in entries}
+    named = {
+        "SOURCE": text("source_name"),
+        "TELESCOPE": TELESCOPES.get(int(number("telescope_id", -1)), ""),
+        "RA": sexagesimal(number("src_raj")) if "src_raj" in entries else "",
+        "DEC": sexagesimal(number("src_dej")) if "src_dej" in entries else "",
+        "RAW_FILE": os.path.basename(text("rawdatafile")),
+    }
     return Filterbank(
         channels=channels,
-        bits=first("nbits"),
-        ifs=first("nifs", 1),
-        is_signed=first("signed", 0) != 0 and first("nbits") in (8, 16),
-        seconds=first("tsamp"),
-        first=first("fch1"),
-        step=first("foff"),
-        start=values.get("tstart", [None])[0],
-        source=values.get("source_name", [None])[0],
-        spectra=values.get("nsamples", [None])[0] or None,
+        bits=bits,
+        ifs=int(number("nifs", 1)),
+        is_signed=number("signed", 0) != 0 and bits in (8, 16),
+        seconds=number("tsamp"),
+        first=number("fch1"),
+        step=number("foff"),
+        start=number("tstart") if "tstart" in entries else None,
+        spectra=int(number("nsamples", 0)) or None,
+        others=named | kept,
+        warnings=tuple(warnings_of(source.path, entries)),
     )
+
+
+def warnings_of(path: str, entries: Entries) -> Iterator[str]:
+    """What a search of these data has to know, and doesn't by itself."""
+    def value(keyword: str) -> Number | str:
+        return entries.get(keyword, [0])[0]
+
+    if value("barycentric") or value("pulsarcentric"):
+        where = "barycentre" if value("barycentric") else "pulsar"
+        yield f"{path} was corrected to the {where}: times in it are no times of a telescope"
+    kind = value("data_type")
+    if kind in DATA_TYPES:
+        yield f"{path} has {DATA_TYPES[int(kind)]} (data_type {kind}), and is taken as a filterbank"
+    if value("refdm") and kind != 1:
+        yield f"{path} was dedispersed, by its header, at DM {value('refdm')}: what is found lies that much higher"
+
+
+def sexagesimal(value: Number) -> str:
+    """Hours or degrees, minutes and seconds, with colons, of a number as 43715.81: 4 h, 37 min and 15.81 s."""
+    whole, fraction = divmod(round(abs(value) * 1000), 1000)
+    rest, seconds = divmod(whole, 100)
+    upper, minutes = divmod(rest, 100)
+    return f"{'-' if value < 0 else ''}{upper:02}:{minutes:02}:{seconds:02}.{fraction:03}"
+
+
+class Filterbanks:
+    """The values of one observation in one or more filterbanks that follow one another."""
+
+    def __init__(self, paths: Sequence[str], source: Source, only: int | None, stack: ExitStack) -> None:
+        self._paths, self._source, self._stack = paths, source, stack
+        self.bank = source.bank()
+        self._chosen = chosen_ifs(source, self.bank, only)
+        self.bits = {16: 16, 32: None}.get(self.bank.bits, 8)
+        self.notes: list[str] = []
+
+    def observed(self) -> Observed:
+        """What the header of the DADA file says."""
+        bank = self.bank
+        is_dated = bank.start is not None and 0 < bank.start < 200_000
+        # a number of days tells microseconds, and no more
+        start = round(bank.start * 86_400_000_000) * (PICOSECONDS // 10**6) if is_dated and bank.start else None
+        return Observed(bank.channels, len(self._chosen), bank.seconds, bank.first + bank.step * (bank.channels - 1) / 2,
+                        bank.step * bank.channels, start, bank.others)
+
+    def pieces(self) -> Iterator[Array]:
+        """All values, file by file."""
+        count = 0
+        for number, path in enumerate(self._paths):
+            source, bank = self._source, self.bank
+            if number:
+                source, bank = self._opened(path)
+                check_follows(source, bank, self.bank, count)
+            before = count
+            for values in spectra_of(source, bank):
+                count += len(values)
+                yield self._ordered(values)
+            if bank.spectra not in (None, count - before):
+                self.notes.append(f"{path} has {count - before} spectra, where nsamples says {bank.spectra}")
+
+    def sampled(self) -> Sequence[Array] | None:
+        """Pieces that lie evenly in each file; None where one is a pipe."""
+        if not all(map(os.path.isfile, self._paths)):
+            return None
+        pieces = []
+        for path in self._paths:
+            source, bank = self._opened(path)
+            begin, unit = source.file.tell(), bank.together * bank.in_one * bank.bits // 8
+            units = (os.path.getsize(path) - begin) // unit
+            most = VALUES_TO_LEVEL_BY // (len(self._paths) * bank.together * bank.in_one)
+            for first, count in even_pieces(units, most):
+                source.file.seek(begin + first * unit)
+                pieces.append(self._ordered(values_of(source.some(count * unit), bank)))
+        return pieces or None
+
+    def _opened(self, path: str) -> tuple[Source, Filterbank]:
+        source = Source(path, self._stack.enter_context(opened(path)), self._source.kinds)
+        return source, source.bank()
+
+    def _ordered(self, values: Array) -> Array:
+        return values[:, self._chosen, :].transpose(0, 2, 1)
 
 
 def chosen_ifs(source: Source, bank: Filterbank, only: int | None) -> tuple[int, ...]:
@@ -213,102 +320,34 @@ def check_follows(source: Source, bank: Filterbank, first: Filterbank, count: in
         raise source.refused(f"by its tstart it begins {apart:.1f} spectra after the end of the file before it")
 
 
-def dada_text(bank: Filterbank, polarisations: int) -> bytes:
-    """The text of the DADA header."""
-    lines = [
-        "HDR_VERSION 1.0",
-        f"HDR_SIZE {LEAST_SIZE}",
-        f"NCHAN {bank.channels}",
-        f"NBIT {written_bits(bank)}",
-        f"NPOL {polarisations}",
-        "NDIM 1",
-        f"TSAMP {bank.seconds * 1e6:.3f}",
-        f"FREQ {bank.first + bank.step * (bank.channels - 1) / 2:.6f}",
-        f"BW {bank.step * bank.channels:.6f}",
-        *start_lines(bank.start),
-    ]
-    name = "_".join((bank.source or "").split("\0")[0].split())
-    if name and name.isascii() and name.isprintable():
-        lines.append(f"SOURCE {name}")
-    return "".join(line + "\n" for line in lines).encode()
-
-
-def written_bits(bank: Filterbank) -> int:
-    """How many bits a value has in the DADA file."""
-    return 16 if bank.bits == 16 else 8
-
-
-def start_lines(start: float | None) -> list[str]:
-    """The time of the first spectrum, from its MJD: the second, and what lies past it, to a microsecond."""
-    if start is None or not 0 < start < 200_000:
-        return []
-    microseconds = round(start * 86_400_000_000)
-    time = DAY_ZERO + timedelta(seconds=microseconds // 1_000_000)
-    return [f"UTC_START {time:%Y-%m-%d-%H:%M:%S}", f"PICOSECONDS {microseconds % 1_000_000 * 1_000_000}"]
-
-
-def write_spectra(out: BinaryIO, source: Source, bank: Filterbank, chosen: Sequence[int], levels: Levels) -> int:
-    """Writes all whole spectra, and answers how many."""
-    count = 0
-    for values in spectra_of(source, bank):
-        ordered = np.ascontiguousarray(values[:, chosen, :].transpose(0, 2, 1))
-        if bank.bits == 32:
-            ordered = levels.of(ordered)
-        out.write(ordered.astype(f"<u{written_bits(bank) // 8}").tobytes())
-        count += len(values)
-    return count
-
-
-class Levels:
-    """How floats become values of 8 bits: by the mean and the deviation that each channel of each IF has at first."""
-
-    def __init__(self) -> None:
-        self.means: np.ndarray | None = None
-        # the channels that lie far off the others
-        self.mask = "none"
-
-    def of(self, values: np.ndarray) -> np.ndarray:
-        """The values, with the mean and the deviation of a level. What is no number has the mean."""
-        mean, deviation = LEVELS[8].mean / 1000, LEVELS[8].deviation / 1000
-        known = np.isfinite(values)
-        values = np.where(known, values, 0).astype(np.float64)
-        if self.means is None:
-            count = np.maximum(known.sum(axis=0), 1)
-            self.means = values.sum(axis=0) / count
-            deviations = np.sqrt(((values - self.means)**2).sum(axis=0, where=known) / count)
-            self.gains = np.divide(deviation, deviations, out=np.zeros_like(deviations), where=deviations > 0)
-            self.mask = mask_text(np.flatnonzero(are_far(self.means, deviations, len(values))))
-        level = np.where(known, values - self.means, 0) * self.gains + mean
-        return np.rint(np.clip(level, 0, LEVELS[8].most))
-
-
-def are_far(means: np.ndarray, deviations: np.ndarray, spectra: int) -> np.ndarray:
-    """Which channels lie far off the others in any IF, by mean or by deviation."""
-    error = np.median(deviations) / np.sqrt(spectra)
-    return np.any([is_far(values, error) for values in (*means.T, *deviations.T)], axis=0)
-
-
-def spectra_of(source: Source, bank: Filterbank) -> Iterator[np.ndarray]:
+def spectra_of(source: Source, bank: Filterbank) -> Iterator[Array]:
     """The values in pieces, by spectrum, IF and channel: unsigned or floats, one to an entry."""
-    values_in_one = bank.ifs * bank.channels
     at_a_time = VALUES_TO_LEVEL_BY if bank.bits == 32 else VALUES_AT_A_TIME
-    # a spectrum may end within a byte, so that only several of them fill whole bytes
-    together = next(n for n in (1, 2, 4, 8) if n * values_in_one * bank.bits % 8 == 0)
-    pieces = max(1, at_a_time // (values_in_one * together)) * together
-    size = pieces * values_in_one * bank.bits // 8
+    units = max(1, at_a_time // (bank.in_one * bank.together))
+    size = units * bank.together * bank.in_one * bank.bits // 8
     while some := source.some(size):
-        values = unpacked(np.frombuffer(some, np.uint8), bank)
-        whole = len(values) // values_in_one
-        if whole:
-            yield values[:whole * values_in_one].reshape(whole, bank.ifs, bank.channels)
+        values = values_of(some, bank)
+        if len(values):
+            yield values
 
 
-def unpacked(raw: np.ndarray, bank: Filterbank) -> np.ndarray:
+def values_of(some: bytes, bank: Filterbank) -> Array:
+    """The values of some bytes, by spectrum, IF and channel; those of an incomplete last spectrum are left out."""
+    values = unpacked(np.frombuffer(some, np.uint8), bank)
+    whole = len(values) // bank.in_one
+    spectra: Array = values[:whole * bank.in_one].reshape(whole, bank.ifs, bank.channels)
+    return spectra
+
+
+def unpacked(raw: Array, bank: Filterbank) -> Array:
     """The values of some bytes: unsigned, the first in the low bits, or floats."""
     if bank.bits < 8:
         shifts = np.arange(0, 8, bank.bits, dtype=np.uint8)
-        return (raw[:, None] >> shifts & np.uint8(2**bank.bits - 1)).reshape(-1)
+        low_first: Array = (raw[:, None] >> shifts & np.uint8(2**bank.bits - 1)).reshape(-1)
+        return low_first
     kind = "f" if bank.bits == 32 else "u"
-    values = raw[:len(raw) // (bank.bits // 8) * (bank.bits // 8)].view(f"<{kind}{bank.bits // 8}")
-    # the least signed value becomes 0
-    return values ^ values.dtype.type(2 ** (bank.bits - 1)) if bank.is_signed else values
+    values: Array = raw[:len(raw) // (bank.bits // 8) * (bank.bits // 8)].view(f"<{kind}{bank.bits // 8}")
+    if bank.is_signed:
+        # the least value becomes 0
+        values = values ^ values.dtype.type(2 ** (bank.bits - 1))
+    return values

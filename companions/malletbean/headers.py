@@ -19,7 +19,7 @@ TOP_KHZ = 2**24
 # how files of other forms begin
 OTHER_FORMS = (
     (4, b"HEADER_START", "a SIGPROC filterbank: psr_fil makes a DADA file of it"),
-    (0, b"SIMPLE  =", "a FITS file, and has to be turned into a DADA file first"),
+    (0, b"SIMPLE  =", "a FITS file: psr_fits makes a DADA file of it, if it is a PSRFITS file in search mode"),
 )
 # the value of a line is its second word
 SECOND_WORD = re.compile(rb"\s*[^\s#]+\s+([^\s#]+)")
@@ -236,7 +236,9 @@ def header_of(path: str, fields: dict[str, str], size: int, data_bytes: int) -> 
         numbers[keyword] = number_of(path, fields, keyword)
         if not is_taken(keyword, numbers):
             fault = "OutOfProfile" if keyword in ("NBIT", "NPOL", "NDIM") else "OutOfRange"
-            raise refused(path, f"{fault} {keyword}")
+            can_be_turned = fault == "OutOfProfile" or keyword == "NCHAN" and numbers[keyword] > TAKEN["NCHAN"][-1]
+            raise refused(path, f"{fault} {keyword}" + (": psr_dada may turn it into a file that is searched"
+                                                       if can_be_turned else ""))
     width, channels = abs(numbers["BW"]), numbers["NCHAN"]
     if width < 1000 * channels:
         raise refused(path, f"TooNarrow {width} {channels}")

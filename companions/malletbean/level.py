@@ -9,19 +9,16 @@ import math
 from collections.abc import Iterator, Sequence
 from dataclasses import dataclass
 from fractions import Fraction
-from typing import Any
 
 import numpy as np
-import numpy.typing as npt
 
+from .arrays import Array
 from .headers import Header, fields_of, header_of, refused, with_value
 from .number import multiplied, scaled
 from .output import to_standard_output
 from .program import Words
 from .refusal import WORDS, Refusal
 from .stream import Stream
-
-Array = npt.NDArray[Any]
 
 # of the value that is carried on, so many bits are its fraction; they fill an unsigned number
 FRACTION_BITS = 16
@@ -272,7 +269,7 @@ class Leveller:
 
     def _take_mean_out(self, values: Array) -> None:
         """Takes the mean of each spectrum out of it, as whole numbers whose sum is that of what is taken out."""
-        kept_before = np.concatenate(([0], self._is_kept.cumsum())).astype(np.uint32)
+        kept_before = np.append(0, self._is_kept.cumsum()).astype(np.uint32)
         count = int(kept_before[-1])
         each, rest = np.divmod(-(-self._above(values) // 1000), count)
         ends = rest.astype(np.uint32)[:, None] * kept_before // np.uint32(count)

@@ -1,0 +1,354 @@
+"""`psr_fits`: the DADA file of search-mode PSRFITS files."""
+from __future__ import annotations
+
+import argparse
+import os
+import sys
+import warnings
+from collections.abc import Iterator, Sequence
+from dataclasses import dataclass
+from fractions import Fraction
+from typing import Any
+
+import numpy as np
+from astropy.io import fits  # type: ignore[import]
+from astropy.utils.exceptions import AstropyWarning  # type: ignore[import]
+
+from .arrays import Array
+from .conversion import PICOSECONDS, VALUES_AT_A_TIME, VALUES_TO_LEVEL_BY, Observed, convert, even_pieces
+from .headers import refused
+from .masks import mask_text
+from .program import Words
+from .refusal import WORDS, Refusal, opened, some_of, unread
+
+# which polarisations a search adds, by POL_TYPE and NPOL: the first of IQUV is the intensity, and of AABBCRCI the first
+# two are powers
+POWERS = {"AABB": 2, "XXYY": 2, "LLRR": 2, "PPQQ": 2, "AABBCRCI": 2, "XXYYCRCI": 2, "IQUV": 1, "AA+BB": 1,
+          "INTEN": 1, "I": 1}
+# bits of values, with the kind of numbers in which they are stored
+BITS = {1: "u", 2: "u", 4: "u", 8: "u", 16: "i", 32: "f"}
+# fields of the header of DADA that those of PSRFITS become
+KEPT = {"SOURCE": "SRC_NAME", "TELESCOPE": "TELESCOP", "RECEIVER": "FRONTEND", "INSTRUMENT": "BACKEND", "RA": "RA",
+        "DEC": "DEC"}
+SECONDS_IN_DAY = 86400
+# channels lie evenly to so much of their width, and a row follows another to so much of a spectrum
+EVEN, FOLLOWS = 0.1, 0.5
+# what files of one observation have in common
+COMMON = ("channels", "polarisations", "pol_type", "bits", "is_signed", "in_row", "seconds", "first", "step")
+
+
+@dataclass(frozen=True)
+class Layout:
+    """What the headers of a PSRFITS file say of its data. Frequencies are in MHz."""
+
+    path: str
+    channels: int
+    polarisations: int
+    pol_type: str
+    bits: int
+    # in two's complement, or as FITS has 16 bits
+    is_signed: bool
+    # what stands for 0
+    zero: float
+    # spectra of a row
+    in_row: int
+    seconds: float
+    # of the first channel's centre, and from one channel to the next
+    first: float
+    step: float
+    # of the file's first spectrum, in picoseconds after the beginning of day 0 of MJD
+    start: int
+    others: dict[str, str]
+
+
+class Rows:
+    """The rows of one PSRFITS file."""
+
+    def __init__(self, path: str) -> None:
+        self.path = path
+        primary, table, columns, place = headers_of(path)
+        self._table = table
+        size = int(table["NAXIS1"])
+        rows = min(int(table["NAXIS2"]), max(os.path.getsize(path) - place, 0) // size)
+        self.is_cut = rows < int(table["NAXIS2"])
+        if rows == 0:
+            raise refused(path, "its SUBINT table has no whole row")
+        try:
+            self._rows = np.memmap(path, columns.dtype.newbyteorder(">"), "r", place, (rows,))
+        except (OSError, ValueError) as fault:
+            raise refused(path, f"its rows can't be read: {fault}") from fault
+        self.layout = self._layout(primary)
+        self._check_size()
+
+    def __len__(self) -> int:
+        return len(self._rows)
+
+    def starts(self) -> Array:
+        """When the rows begin, in spectra after the first one of the file; counted where the table doesn't say it."""
+        layout = self.layout
+        counted = np.arange(len(self)) * float(layout.in_row)
+        if "OFFS_SUB" not in (self._rows.dtype.names or ()):
+            return counted
+        middles = np.array(self._rows["OFFS_SUB"], float)
+        starts: Array = (middles - middles[0]) / layout.seconds
+        return starts if middles.any() else counted
+
+    def raw(self, number: int) -> Array:
+        """The values of a row as they are stored, by spectrum, polarisation and channel."""
+        layout = self.layout
+        data = np.array(self._rows["DATA"][number]).reshape(-1)
+        if layout.bits < 8:
+            # the first value is in the high bits
+            shifts = np.arange(8 - layout.bits, -1, -layout.bits, dtype=np.uint8)
+            data = (data.view(np.uint8)[:, None] >> shifts & np.uint8(2**layout.bits - 1)).reshape(-1)
+        elif layout.bits == 8:
+            data = data.view(np.int8 if layout.is_signed else np.uint8)
+        shaped: Array = data.reshape(layout.in_row, layout.polarisations, layout.channels)
+        return shaped
+
+    def scales(self, number: int) -> tuple[Array, Array, Array]:
+        """Scale and offset of each polarisation and channel of a row, and the weight of each channel."""
+        layout, names = self.layout, self._rows.dtype.names or ()
+        shape = layout.polarisations, layout.channels
+
+        def column(name: str, default: float) -> Array:
+            values = np.full(shape, default)
+            if name in names:
+                values = np.array(self._rows[name][number], float).reshape(-1)[:shape[0] * shape[1]].reshape(shape)
+            return values
+
+        weights = np.ones(layout.channels)
+        if "DAT_WTS" in names:
+            weights = np.array(self._rows["DAT_WTS"][number], float).reshape(-1)
+        return column("DAT_SCL", 1), column("DAT_OFFS", 0), weights
+
+    def _check_size(self) -> None:
+        layout, data = self.layout, self._rows["DATA"][0]
+        bits = layout.in_row * layout.channels * layout.polarisations * layout.bits
+        if 8 * data.nbytes != bits or data.dtype.base.kind != BITS[layout.bits]:
+            raise refused(self.path, f"DATA has {data.nbytes} bytes of type {data.dtype.base} in a row, where {bits / 8:g} "
+                                     f"of {layout.bits} bits are expected")
+
+    def _layout(self, primary: fits.Header) -> Layout:
+        table, path = self._table, self.path
+        bits = int(self._number("NBITS", self._number("NBIT", 8)))
+        if bits not in BITS:
+            raise refused(path, f"it has {bits} bits, and only {', '.join(map(str, BITS))} are taken")
+        channels, seconds = int(self._number("NCHAN")), float(self._number("TBIN"))
+        if not seconds > 0:
+            raise refused(path, f"its TBIN is {seconds}")
+        first, step = self._frequencies(primary, channels)
+        start = Fraction(int(primary.get("STT_IMJD", 0)) * SECONDS_IN_DAY + int(primary.get("STT_SMJD", 0)))
+        start += Fraction(float(primary.get("STT_OFFS", 0))) + Fraction(self._first_offset(seconds))
+        return Layout(
+            path=path,
+            channels=channels,
+            polarisations=int(self._number("NPOL", 1)),
+            pol_type=str(table.get("POL_TYPE", "")).strip().upper(),
+            bits=bits,
+            is_signed=bool(int(self._number("SIGNINT", 0))) or bits == 16,
+            zero=float(self._number("ZERO_OFF", 0)),
+            in_row=int(self._number("NSBLK")),
+            seconds=seconds,
+            first=first,
+            step=step,
+            start=round(start * PICOSECONDS),
+            others={field: str(primary.get(keyword, "")).strip() for field, keyword in KEPT.items()},
+        )
+
+    def _number(self, keyword: str, default: float | None = None) -> float | int:
+        value = self._table.get(keyword, default)
+        if isinstance(value, str) and value.strip() in ("*", ""):
+            value = default
+        try:
+            return value if isinstance(value, (int, float)) else float(str(value))
+        except ValueError:
+            raise refused(self.path, f"its {keyword} is {'missing' if value is None else 'no number'}") from None
+
+    def _frequencies(self, primary: fits.Header, channels: int) -> tuple[float, float]:
+        """The centre of the first channel, and how far the next ones lie apart."""
+        if "DAT_FREQ" in (self._rows.dtype.names or ()):
+            centres = np.array(self._rows["DAT_FREQ"][0], float).reshape(-1)[:channels]
+            if len(centres) == channels and channels > 1:
+                step = float(centres[-1] - centres[0]) / (channels - 1)
+                if np.abs(centres - centres[0] - step * np.arange(channels)).max() > EVEN * abs(step):
+                    raise refused(self.path, "its channels don't lie evenly (DAT_FREQ)")
+                return float(centres[0]), step
+        width = float(primary.get("OBSBW", 0))
+        if not width:
+            raise refused(self.path, "it has neither DAT_FREQ nor OBSBW")
+        return float(primary["OBSFREQ"]) - width / 2 + width / channels / 2, width / channels
+
+    def _first_offset(self, seconds: float) -> float:
+        """When the first row begins, in seconds after STT."""
+        in_row = float(self._number("NSBLK")) * seconds
+        if "OFFS_SUB" in (self._rows.dtype.names or ()) and float(self._rows["OFFS_SUB"][0]):
+            return float(self._rows["OFFS_SUB"][0]) - in_row / 2
+        return float(self._number("NSUBOFFS", 0)) * in_row
+
+
+def headers_of(path: str) -> tuple[fits.Header, fits.Header, Any, int]:
+    """The headers of a PSRFITS file and of its table of data, the columns of this, and where its rows begin."""
+    with opened(path) as file:
+        front = some_of(path, file, 9)
+    if front != b"SIMPLE  =":
+        raise refused(path, "it is no FITS file")
+    try:
+        with warnings.catch_warnings(), fits.open(path, memmap=True) as whole:
+            # a file that was cut is said in one line
+            warnings.simplefilter("ignore", AstropyWarning)
+            primary = whole[0].header
+            if str(primary.get("FITSTYPE", "PSRFITS")).strip() != "PSRFITS" or "SUBINT" not in whole:
+                raise refused(path, "it is a FITS file, but no PSRFITS file with a SUBINT table")
+            mode = str(primary.get("OBS_MODE", "SEARCH")).strip().upper()
+            if mode not in ("SEARCH", "SRCH"):
+                raise refused(path, f"its OBS_MODE is {mode}, and not SEARCH")
+            table = whole["SUBINT"]
+            if "DATA" not in table.columns.names:
+                raise refused(path, "its SUBINT table has no DATA")
+            return primary, table.header, table.columns, int(table.fileinfo()["datLoc"])
+    except OSError as fault:
+        raise (unread(path, fault) if fault.strerror else refused(path, f"it is no whole FITS file: {fault}")) from fault
+
+
+def psr_fits(words: Sequence[str]) -> None:
+    """Writes the DADA file that the words ask for."""
+    asked = parsed(words)
+    files = [Rows(path) for path in asked.files]
+    observation = Observation(files, chosen_polarisations(files[0].layout, asked.only))
+    for rows in files:
+        if rows.is_cut:
+            print(f"psr_fits: {rows.path} was cut: only {len(rows)} of its rows are there", file=sys.stderr)
+    for line in observation.said():
+        print(f"psr_fits: {line}")
+    convert("psr_fits", asked.output, observation.observed(), observation)
+
+
+def parsed(words: Sequence[str]) -> argparse.Namespace:
+    """The words of the command."""
+    parser = Words(prog="psr_fits", description="Makes the DADA file of search-mode PSRFITS files.")
+    parser.add_argument("files", metavar="FITS", nargs="+",
+                        help="a search-mode PSRFITS file, or several of one observation that follow one another")
+    parser.add_argument("output", metavar="OUT", help="the DADA file, which must not be there")
+    parser.add_argument("--pol", metavar="K", dest="only", type=int,
+                        help="this polarisation alone, counted from 0; else those that a search adds, by POL_TYPE")
+    return parser.parse_args(words)
+
+
+def chosen_polarisations(layout: Layout, only: int | None) -> tuple[int, ...]:
+    """Which polarisations are written: the intensity, or the two whose powers a search adds."""
+    count = layout.polarisations
+    if only is not None:
+        if not 0 <= only < count:
+            raise Refusal(WORDS, f"argument --pol: {layout.path} has {count} polarisations, counted from 0")
+        return (only,)
+    powers = POWERS.get(layout.pol_type, count)
+    if powers > 2 or powers > count:
+        raise refused(layout.path, f"it has {count} polarisations of POL_TYPE {layout.pol_type or 'none'}: choose one by "
+                                   "--pol K, K from 0 on")
+    return tuple(range(powers))
+
+
+class Observation:
+    """The values of one observation in PSRFITS files that follow one another."""
+
+    def __init__(self, files: Sequence[Rows], chosen: tuple[int, ...]) -> None:
+        self._files, self._chosen = files, chosen
+        count = 0
+        for rows in files:
+            check_follows(rows, files[0], count)
+            count += len(rows) * rows.layout.in_row
+        self._uniform = self._uniform_scales()
+        bits = files[0].layout.bits
+        self.bits = None if self._uniform is None or bits == 32 else max(bits, 8)
+
+    def observed(self) -> Observed:
+        """What the header of the DADA file says."""
+        layout = self._files[0].layout
+        return Observed(layout.channels, len(self._chosen), layout.seconds,
+                        layout.first + layout.step * (layout.channels - 1) / 2, layout.step * layout.channels,
+                        layout.start, layout.others)
+
+    def said(self) -> Iterator[str]:
+        """What was made of scales, offsets and weights."""
+        layout = self._files[0].layout
+        names = [layout.pol_type or "no POL_TYPE", f"{len(self._chosen)} of {layout.polarisations} polarisations"]
+        yield ", ".join(names)
+        if self._uniform is None:
+            yield "DAT_SCL, DAT_OFFS or DAT_WTS change from row to row: they were applied"
+            return
+        yield "DAT_SCL and DAT_OFFS of a channel are the same in all rows: its values stay as they are in the file"
+        without = np.flatnonzero(self._uniform == 0)
+        if len(without):
+            yield f"without weight in all rows, so 0 or the mean: mask to try: {mask_text(without)}"
+
+    def pieces(self) -> Iterator[Array]:
+        """All values, row by row."""
+        for rows in self._files:
+            for number in range(len(rows)):
+                yield from self._row(rows, number)
+
+    def sampled(self) -> Sequence[Array]:
+        """Rows that lie evenly in the observation, or parts of them."""
+        places = [(rows, number) for rows in self._files for number in range(len(rows))]
+        layout = self._files[0].layout
+        in_row = layout.in_row * layout.channels * len(self._chosen)
+        several = even_pieces(len(places), max(VALUES_TO_LEVEL_BY // in_row, 1))
+        taken = [places[place] for first, count in several for place in range(first, first + count)]
+        most = max(1, VALUES_TO_LEVEL_BY // len(taken) // (layout.channels * len(self._chosen)))
+        return [np.concatenate(list(self._row(*place)))[:most] for place in taken]
+
+    def _row(self, rows: Rows, number: int) -> Iterator[Array]:
+        """The values of a row in pieces, by spectrum, channel and polarisation."""
+        raw = rows.raw(number)[:, self._chosen, :]
+        at_a_time = max(1, VALUES_AT_A_TIME // raw[0].size)
+        scales, offsets, weights = rows.scales(number)
+        for begin in range(0, len(raw), at_a_time):
+            values = raw[begin:begin + at_a_time]
+            if self._uniform is None:
+                values = (values - rows.layout.zero) * scales[self._chosen, :] + offsets[self._chosen, :]
+                values[:, :, weights == 0] = np.nan
+            elif self.bits is None:
+                values = np.where(self._uniform == 0, np.nan, values)
+            else:
+                values = self._unsigned(values, rows.layout)
+                values[:, :, self._uniform == 0] = 0
+            yield values.transpose(0, 2, 1)
+
+    def _unsigned(self, values: Array, layout: Layout) -> Array:
+        """Whole numbers, of which the least becomes 0."""
+        if layout.bits < 16 and not layout.is_signed:
+            return values.copy()
+        kind = f"u{values.dtype.itemsize}"
+        unsigned: Array = values.astype(f"i{values.dtype.itemsize}").view(kind) ^ np.dtype(kind).type(2 ** (layout.bits - 1))
+        return unsigned
+
+    def _uniform_scales(self) -> Array | None:
+        """The weights of channels, where scales, offsets and whether there is a weight are the same in all rows."""
+        first = self._files[0].scales(0)
+        for rows in self._files:
+            for number in range(len(rows)):
+                scales, offsets, weights = rows.scales(number)
+                is_same = (np.array_equal(scales, first[0]) and np.array_equal(offsets, first[1])
+                           and np.array_equal(weights == 0, first[2] == 0))
+                if not is_same:
+                    return None
+        return None if (first[0] <= 0).any() else first[2]
+
+
+def check_follows(rows: Rows, first: Rows, count: int) -> None:
+    """Refuses a file that doesn't go on where so many spectra of the first one and those after it end, and rows between
+    which some are missing."""
+    layout = rows.layout
+    for name in COMMON:
+        if getattr(layout, name) != getattr(first.layout, name):
+            raise refused(rows.path, f"its {name} differs from that of the first file")
+    early = (layout.start - first.layout.start) / PICOSECONDS / layout.seconds - count
+    if abs(early) > FOLLOWS:
+        raise refused(rows.path, f"it begins {early:.1f} spectra after the end of the file before it")
+    apart = rows.starts() - np.arange(len(rows)) * float(layout.in_row)
+    gaps = np.flatnonzero(np.abs(np.diff(apart)) > FOLLOWS)
+    if len(gaps):
+        row = int(gaps[0])
+        raise refused(rows.path, f"between its rows {row} and {row + 1}, counted from 0, {apart[row + 1] - apart[row]:.1f} "
+                                 "spectra are missing")
