@@ -30,6 +30,8 @@ def write_candidates(folder: str) -> Array:
     hunt = read_manifest(folder)
     searches = searches_of(folder, hunt)
     table = candidate_table(searches)
+    # lines of wide boxes have a greater ratio than their true S/N
+    table = table[table["snr"] >= hunt.snr]
     finest = min(searches, key=lambda search: search.averaged).head
     for suffix, write in FORMS.items():
         with whole_file(os.path.join(folder, f"candidates{suffix}")) as name:
@@ -39,8 +41,8 @@ def write_candidates(folder: str) -> Array:
 
 
 def searches_of(folder: str, hunt: Hunt) -> list[Searched]:
-    """The lines of all searches of a hunt."""
-    return [searched(folder, hunt, search) for search in hunt.searches]
+    """The lines of all searches of a hunt. Those that fold have the pulses of others once more."""
+    return [searched(folder, hunt, search) for search in hunt.searches if not search.fold_max]
 
 
 def searched(folder: str, hunt: Hunt, search: SearchPass) -> Searched:
