@@ -30,7 +30,7 @@ toolchain:
 	@command -v rt >/dev/null || { echo 'this needs rt, the command of the Rattle toolchain, on the PATH' >&2; exit 1; }
 
 demo: toolchain
-	@bench/demo.sh
+	@packaging/demo
 
 test: toolchain
 	@.ci/run
