@@ -16,9 +16,8 @@ import numpy as np
 from .arrays import Array
 from .candidates import cells_by_delay, pulse_noise_cells
 from .headers import Header
-from .look import GREATEST_DELAY
 from .manifest import LevelFile, SearchPass
-from .paths import path_cells
+from .paths import GREATEST_DELAY, path_cells
 from .refusal import WORDS, Refusal
 
 # what psr_level --fast makes: the mean and deviation of a value, and its bits; and the most spectra that it averages
