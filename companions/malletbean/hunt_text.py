@@ -66,8 +66,7 @@ def width_range(hunt: Hunt) -> str:
 def pass_line(head: Header, search: SearchPass) -> str:
     """A line of the plan for a pass."""
     level = level_header(head, search.average)
-    delays = np.unique(np.array([search.min_delay, search.max_delay]))
-    most = max(float(overstatement(level, delays, search.widths).max()), 1.0)
+    most = float(overstatement(level, np.array([search.max_delay]), search.widths)[0])
     lines = noise_count(level, search)
     return (f"{search.name:<9} {f'{search.min_delay}-{search.max_delay}':<12} "
             f"{f'{search.dm_low:.1f} to {search.dm_high:.1f}':<19} {f'1-{search.widths}':<6} {search.snr:>5.2f}  "
