@@ -185,7 +185,7 @@ same 'plan of a file that is not there: status, lines, folders' "$? $(wc -l <not
 same 'plan without a deviation: status, lines, folders' "$? $(wc -l <notes) $(ls -d none 2>/dev/null)" '2 1 '
 "$plan" none 4 "${words[@]}" --snrr 8 first.dada >said 2>notes
 same 'plan of a misspelt option: status, line, folders' "$? $(cat notes) $(ls -d none 2>/dev/null)" \
-    "2 plan: ${PSR_SEARCH##*/}: words refused "
+    '2 plan: psr_search has no option --snrr: did you mean --snr? '
 "$plan" short 4 --spectra 8192 --mean 16 --sd 2.828 --max-delay 2048 first.dada >said 2>notes
 same 'plan of short stretches: status, lines, jobs' "$? $(wc -l <notes) $(wc -l <short/jobs)" '0 1 4'
 "$plan" limited 4 "${words[@]}" --max-candidates 1 first.dada >said
