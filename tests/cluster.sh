@@ -151,7 +151,7 @@ for pieces in 1 2 4 8; do
 done
 # A job reads its own piece alone: the last number before its command is how many bytes, but in the last job.
 bytes=$(sed '$d; s/ -- .*//' '8 pieces/jobs' | awk '{ sum += $NF } END { printf "%.0f", sum }')
-same '8 pieces: bytes that all but the last job read' "$bytes" $(((131072 / 8 * 7 + 7 + 6 * 1032) * 1024))
+same '8 pieces: bytes that all but the last job read' "$bytes" $(((131072 * 7 / 8 + 7 + 6 * 1032) * 1024))
 
 # Two observations in one array, ranges that begin at multiples of an odd step from an odd delay, and two files.
 small=(--nchan 64 --spectra 8192 --delay 100 --period 512 --height 2)
