@@ -10,10 +10,11 @@ from dataclasses import dataclass, replace
 
 import numpy as np
 
+from .bad_channels import file_numbers, stand_out
 from .cluster import scripts
 from .headers import Header
-from .look import FORM_WORDS, file_numbers, form_of, measure, stand_out
 from .masks import mask_text
+from .noise import FORM_WORDS, form_of, measure
 from .refusal import HEADER, OUTPUT, Refusal, bytes_of, opened
 from .samples import Samples
 
@@ -95,9 +96,7 @@ def looked_at(samples: Samples, mask: str | None) -> Look:
     form = form_of(samples)
     words = tuple(FORM_WORDS[form].split()) if form in FORM_WORDS else ()
     if mask is None:
-        # values that are read in another form than theirs tell nothing of channels
-        measured = measure(samples, max(2, LOOKED_AT // head.spectrum_bytes)) if not words else None
-        mask = "none" if measured is None else mask_text(file_numbers(head, stand_out(measured)))
+        mask = mask_text(file_numbers(head, stand_out(measure(samples, LOOKED_AT // head.spectrum_bytes, form))))
     return Look(head.without(mask), mask, words)
 
 

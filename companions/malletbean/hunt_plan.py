@@ -16,9 +16,8 @@ import numpy as np
 
 from .arrays import Array
 from .headers import Header
-from .look import GREATEST_DELAY
 from .manifest import LevelFile, SearchPass
-from .paths import box_noise_cells, path_cells, shared_cells
+from .paths import GREATEST_DELAY, box_noise_cells, path_cells, shared_cells
 from .refusal import WORDS, Refusal
 
 # what psr_level --fast makes: the mean and deviation of a value, and its bits; and the most spectra that it averages
