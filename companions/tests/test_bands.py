@@ -35,7 +35,7 @@ def test_what_is_narrow() -> None:
     part = noise.copy()
     part[:, 300:364] += 8 / 8
     assert sum(is_narrow(one, variances) for one in whole) <= 4
-    assert sum(is_narrow(one, variances) for one in part) >= 396
+    assert sum(is_narrow(one, variances) for one in part) >= 370
     # half of the band
     half = noise.copy()
     half[:, 512:] += 12 / np.sqrt(512)
