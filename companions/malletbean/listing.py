@@ -9,6 +9,7 @@ from typing import IO, Any
 import numpy as np
 
 from .arrays import Array
+from .bands import are_narrow, with_flag
 from .candidates import check_fits
 from .grouping import DAY, DAY_ZERO, Searched, candidate_table
 from .headers import Header, header
@@ -32,6 +33,7 @@ def write_candidates(folder: str) -> Array:
     table = candidate_table(searches)
     # lines of wide boxes have a greater ratio than their true S/N
     table = table[table["snr"] >= hunt.snr]
+    table["flag"] = with_flag(table["flag"], are_narrow(folder, hunt, table), "narrow")
     finest = min(searches, key=lambda search: search.averaged).head
     for suffix, write in FORMS.items():
         with whole_file(os.path.join(folder, f"candidates{suffix}")) as name:
