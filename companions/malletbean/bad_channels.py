@@ -13,6 +13,8 @@ from .noise import Measured
 # deviations follow the means where their ratio spreads so many times less; then so many channels have about the same
 # mean, and ratios that are alike up to such a part
 TIMES_EVEN, ABOUT_SAME, RATIO_ERROR = 5, 17, 0.02
+# means that lie a part of a deviation off do no harm; a zero-DM filter moves some by half a value
+MEAN_ERROR = 0.05
 # a channel is held against so many on either side of it; those nearer to an edge of the band than so many against those
 # on one side
 BESIDE, FEW_BESIDE = 8, 3
@@ -42,10 +44,11 @@ def are_far(measured: Measured) -> Array:
 
     Low ones only count if they lie far off those beside them as well: a band falls off at its edges.
     """
-    error = float(np.median(measured.deviations)) / math.sqrt(measured.spectra)
+    usual = float(np.median(measured.deviations))
     far = have_other_ratio(measured)
-    for values in (measured.means, measured.deviations):
-        far = far | is_far(values, error) & ((values > np.median(values)) | are_below_neighbours(values))
+    for values, error in ((measured.means, MEAN_ERROR), (measured.deviations, RATIO_ERROR)):
+        counts = (values > np.median(values)) | are_below_neighbours(values)
+        far = far | is_far(values, usual * max(error, 1 / math.sqrt(measured.spectra))) & counts
     for deviations in (measured.deviations, measured.within):
         far = far | are_above_neighbours(deviations, measured)
     return far
