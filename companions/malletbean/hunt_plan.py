@@ -22,6 +22,9 @@ from .refusal import WORDS, Refusal
 
 # what psr_level --fast makes: the mean and deviation of a value, and its bits; and the most spectra that it averages
 LEVEL_MEAN, LEVEL_DEVIATION, LEVEL_BITS, MOST_AVERAGED = 14.0, 2.8, 8, 64
+# the greatest value of a level: five deviations above the mean, as 0 is below it. In a pulse of S/N 150 no sample of
+# 1024 channels is as great, but interference in some channels is
+LEVEL_MOST = 28
 # levels that are searched from the least DM on: each averages so many times as many spectra as the one before
 WIDE_STEP = 4
 # the widest box of them, and of the longer delays

@@ -13,7 +13,7 @@ import numpy as np
 from .cluster import program_at, scripts
 from .headers import Header
 from .hunt_cost import MOST_LINES, level_seconds, search_seconds
-from .hunt_plan import LEVEL_MEAN, level_header
+from .hunt_plan import LEVEL_MEAN, LEVEL_MOST, level_header
 from .manifest import Hunt, LevelFile, Raised, SearchPass
 from .number import scaled
 from .pieces import Job, Stretch, jobs_by_time, stretches, write_checks, write_jobs
@@ -77,7 +77,7 @@ def level_tasks(folder: str, hunt: Hunt, head: Header) -> list[Task]:
 
 def level_words(folder: str, hunt: Hunt, level: LevelFile) -> list[str]:
     """The words of psr_level for a level, where the observation is seen from a folder."""
-    words = ["--fast", "--average", str(level.average), "--spectra", str(level.stretch)]
+    words = ["--fast", "--most", str(LEVEL_MOST), "--average", str(level.average), "--spectra", str(level.stretch)]
     if hunt.mask != "none":
         words += ["--mask", hunt.mask]
     if hunt.clip is not None:
