@@ -17,6 +17,7 @@ BETWEEN = re.compile(r"(?P<least>[0-9.]+) to (?P<greatest>[0-9.]+|[a-z-]+)\b")
 CHOICES = re.compile(r"(?P<choices>[0-9]+(?:, [0-9]+)* or [0-9]+)\b")
 DECIMALS = re.compile(r"(\w+) decimals?\b")
 DIGITS = re.compile(r"at most ([0-9]+) digits")
+MULTIPLE = re.compile(r"multiples? of ([0-9]+)")
 # a list of names behind the word `order`
 ORDER = re.compile(r"\border\b[^.]*?((?:[a-z-]+, ){2,}[A-Za-z-]+)")
 HEADING = re.compile(r"(#+) (.*)")
@@ -59,6 +60,12 @@ class Option:
         """How many digits a whole number may have."""
         match = DIGITS.search(self.values)
         return int(match[1]) if match else MOST_DIGITS
+
+    @property
+    def step(self) -> int:
+        """The number of which a value has to be a multiple."""
+        match = MULTIPLE.search(self.values)
+        return int(match[1]) if match else 1
 
     @property
     def limits(self) -> tuple[Fraction, Fraction | str] | None:

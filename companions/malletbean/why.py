@@ -241,7 +241,7 @@ def value_fault(option: Option, value: str, others: dict[str, tuple[str, str]]) 
         if text.isdigit() and number > int(text):
             return f"{name} is {value}, above {told}"
         return None
-    if not least <= number <= greatest:
+    if not least <= number <= greatest or option.decimals is None and number % option.step:
         return f"{name} is {value}, and takes {option.values}"
     return None
 
@@ -376,8 +376,9 @@ def check_checkpoint(given: Given, path: str) -> None:
     match = CHECKPOINT.fullmatch(text)
     if match is None or max(int(match[1]), int(match[2])) > MOST_COUNT:
         raise Wrong(f"{path} is not one line CHECK P C: take the last line of the part before (tail -n 1)")
-    if int(given.leading["UNTIL"]) <= int(match[1]):
-        raise Wrong(f"UNTIL is {given.leading['UNTIL']}, and {path} goes on at spectrum {match[1].decode()}: give more")
+    until = given.leading.get("UNTIL")
+    if until is not None and int(until) <= int(match[1]):
+        raise Wrong(f"UNTIL is {until}, and {path} goes on at spectrum {match[1].decode()}: give more")
 
 
 # the headers

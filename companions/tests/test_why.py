@@ -13,7 +13,7 @@ import pytest
 import made
 from conftest import HERE
 from malletbean.reference import Option, Reference, reference
-from malletbean.why import why
+from malletbean.why import value_fault, why
 
 # in each command SEARCH stands for these options
 SEARCH = "--mean 16 --sd 2.828"
@@ -229,6 +229,13 @@ def test_every_row_can_be_read() -> None:
                 assert option.value_of(option.default) is not None, (program, option)
         assert {option.name[2:] for option in options if not option.is_flag and option.name.startswith("--")} \
             <= set(reference().order(program)), program
+
+
+def test_a_multiple() -> None:
+    option = Option("EVERY", "512 to 281474976710656 spectra, a multiple of 512", "required", "")
+    assert option.step == 512
+    assert value_fault(option, "1024", {}) is None
+    assert value_fault(option, "1000", {}) == f"EVERY is 1000, and takes {option.values}"
 
 
 def test_the_forms_of_a_table() -> None:
