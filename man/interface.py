@@ -14,6 +14,8 @@ sys.path.insert(0, str(ROOT / "companions"))
 
 from malletbean.reference import Option, reference  # noqa: E402
 
+__all__ = ["Interface", "Option", "head_of", "others", "proved", "reference"]
+
 # scripts that are installed under another name
 SCRIPTS = {"psr_plan": ROOT / "cluster" / "plan", "psr_join": ROOT / "cluster" / "join"}
 

@@ -37,7 +37,8 @@ def main() -> int:
         if package == "malletbean":
             raise
         return without(name, package)
-    return run(name, program)
+    status: int = run(name, program)
+    return status
 
 
 def without(name: str, package: str) -> int:

@@ -265,23 +265,22 @@ def form_hint(option: Option, value: str) -> str:
 def check_names(program: str, given: Given) -> None:
     """Whether there are as many names as the program takes."""
     options = {option.name: option for option in reference().options(program)}
-    name = next((name for name in ("FILE", "NAME", "NUMBER") if name in options), "")
-    if not name:
+    name = next((name for name in ("FILE", "NAME", "NUMBER") if name in options), None)
+    if name is None:
         return
     if not given.names:
         raise Wrong(f"{name} is missing: {reference().synopsis(program)}")
-    if options[name].limits is None or name == "NUMBER":
-        if len(given.names) > 1:
-            raise Wrong(f"there is one {name}, and {given.names[1]} stands behind it")
-        if options[name].limits:
-            check_value(options[name], given.names[0], {})
-        return
-    check_observations(given.names)
-    count = sum(name != "+" for name in given.names)
-    least, greatest = options[name].limits
-    if count < least or (isinstance(greatest, Fraction) and count > greatest):
-        named = "1 file is" if count == 1 else f"{count} files are"
-        raise Wrong(f"{named} named, and {program} takes {options[name].values}")
+    limits = options[name].limits
+    if name == "FILE" and limits is not None:
+        check_observations(given.names)
+        count = sum(name != "+" for name in given.names)
+        if not limits[0] <= count <= Fraction(limits[1]):
+            named = "1 file is" if count == 1 else f"{count} files are"
+            raise Wrong(f"{named} named, and {program} takes {options[name].values}")
+    elif len(given.names) > 1:
+        raise Wrong(f"there is one {name}, and {given.names[1]} stands behind it")
+    elif limits is not None:
+        check_value(options[name], given.names[0], {})
 
 
 def check_observations(names: list[str]) -> None:
