@@ -3,7 +3,7 @@ prefix ?= /usr/local
 PREFIX ?= $(prefix)
 # A folder in front of PREFIX, for those who make packages; installed files don't name it.
 DESTDIR ?=
-PROGRAMS ?= psr_search psr_mask psr_part psr_beams psr_record psr_make psr_demo ring_trace
+PROGRAMS ?= $(patsubst crates/%_main,%,$(wildcard crates/*_main))
 # The processors that programs are built for: those with AVX2 if this is one; CPU= stands for any x86-64.
 CPU := $(shell grep -qw avx2 /proc/cpuinfo 2>/dev/null && echo x86-64-v3)
 # The command by which files are copied and removed again, if that needs another user.

@@ -28,7 +28,7 @@ EOF
 chmod +x tools/rt
 printf 'tools/\n' >>.git/info/exclude
 export PATH=$folder/tools:$PATH GIT_CONFIG_GLOBAL=/dev/null
-programs=(psr_search psr_mask psr_part psr_beams psr_record psr_make psr_demo ring_trace)
+mapfile -t programs < <(cd "$root/crates" && printf '%s\n' *_main | sed 's/_main$//')
 
 run() { # run STATUS MAKE-ARGUMENT ..: make ends with this status, 0 or other; its output is left in `said`
     local status=0

@@ -7,7 +7,7 @@
 # Statuses: 0; 1 if something differs; 2 if a program is missing.
 set -u
 . "$(dirname "$0")/../bench/common.bash"
-programs=(psr_search psr_mask psr_part psr_beams psr_record psr_make psr_demo ring_trace)
+mapfile -t programs < <(cd "$root/crates" && printf '%s\n' *_main | sed 's/_main$//')
 find_programs "${1:-}" "${programs[@]}"
 documents=("${@:2}")
 [ ${#documents[@]} -gt 0 ] || mapfile -t documents < <(cd "$root" && grep -lE '^ {4,}\$ ' README.md docs/*.md)
