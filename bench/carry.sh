@@ -1,8 +1,8 @@
 #!/usr/bin/env bash
 # How long the tables of 1024 channels and delays from 0 to 1024 take over 131072 spectra, with the tables of all nodes
 # after each chunk (feed) and with the rows of the whole band alone (pass), and how much memory that needs: carry.sh
-# [COMMAND ..]. Each time is the least of seven, in turns. COMMAND is another program that prints `tables MS` on standard
-# error; its time is measured in the same turns.
+# [COMMAND ..]. Each time is the least of seven, in turns. COMMAND is another program that prints `tables MS` on
+# standard error; its time is measured in the same turns.
 set -eu
 . "$(dirname "$0")/common.bash"
 search_bench=$(build search_bench)

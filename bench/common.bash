@@ -1,6 +1,6 @@
 # shellcheck shell=bash disable=SC2034
-# What the scripts of bench/ and tests/ share: they source it. It sets `root`, the folder of the repository, and `cpu`, the
-# processors that programs are built for (those with AVX2 if this is one); all else are functions.
+# What the scripts of bench/ and tests/ share: they source it. It sets `root`, the folder of the repository, and `cpu`,
+# the processors that programs are built for (those with AVX2 if this is one); all else are functions.
 root=$(cd "$(dirname "${BASH_SOURCE[0]}")/.." && pwd) || exit 2
 cpu=x86-64
 if grep -qw avx2 /proc/cpuinfo; then cpu=x86-64-v3; fi
@@ -21,7 +21,7 @@ find_programs() { # find_programs BINDIR PROGRAM ..: in BINDIR, or if that is em
         [ -x "${at[$program]}" ] || { echo "${at[$program]} is not there: make install builds it" >&2; exit 2; }
     done
 }
-build() { # build CRATE [ARGUMENT ..]: proves and builds a program, runs it once with these arguments, and prints its path
+build() { # build CRATE [ARGUMENT ..]: proves and builds a program, runs it once with these arguments, prints its path
     local log
     log=$(cd "$root/crates/$1" && rt run --cpu="$cpu" ${2:+--} "${@:2}" 2>&1 >/dev/null) || { echo "$log" >&2; exit 1; }
     echo "$root/crates/$1/out/$1"

@@ -1,6 +1,6 @@
 # shellcheck shell=bash disable=SC2034
-# What speed.sh and shapes.sh share beside common.bash, with the same arguments: the folder, the programs, the rounds, and
-# the C programs of the folder PEERS. It is sourced behind common.bash.
+# What speed.sh and shapes.sh share beside common.bash, with the same arguments: the folder, the programs, the rounds,
+# and the C programs of the folder PEERS. It is sourced behind common.bash.
 rounds=${ROUNDS:-9}
 make_folder "${TMPDIR:-/dev/shm}"
 psr_search=${1:-$(build psr_search_main --mean 1 --sd 2 --snr 7 --max-delay 1 --widths 1 data/pulse.dada)}

@@ -1,14 +1,14 @@
 #!/usr/bin/env bash
 # What masks, parts and beams cost beside a plain search: reach.sh [BINDIR]
-# BINDIR has psr_search, psr_mask, psr_part, psr_beams and psr_make, built for AVX2 where there is that; else those that
-# were last built here. The observation of bench/speed.sh (1024 channels, 131072 spectra, 134 MB, delays of 0 to 1024)
-# is searched by one thread: by psr_mask without a mask and with a tenth of the channels masked, and by psr_part in its
-# second half. psr_beams searches four such beams on four threads, and seven small ones with four million pulses. Beside
-# the four beams stand four runs of psr_search beside each other, one for each file: where four cores are free, they take
-# little longer than one. Each figure is the best of ROUNDS rounds (9; 3 for the seven beams), in which all take turns,
-# and stands beside its goal.
-# Texts are compared with those of psr_search. The files lie in memory (/dev/shm), 0.6 GB of it.
-# Statuses: 0, though a goal be missed; 1 where a text is another; 2 where a program is missing.
+# BINDIR has psr_search, psr_mask, psr_part, psr_beams and psr_make, built for AVX2 where there is that; else those
+# that were last built here. The observation of bench/speed.sh (1024 channels, 131072 spectra, 134 MB, delays of 0 to
+# 1024) is searched by one thread: by psr_mask without a mask and with a tenth of the channels masked, and by psr_part
+# in its second half. psr_beams searches four such beams on four threads, and seven small ones with four million
+# pulses. Beside the four beams stand four runs of psr_search beside each other, one for each file: where four cores
+# are free, they take little longer than one. Each figure is the best of ROUNDS rounds (9; 3 for the seven beams), in
+# which all take turns, and stands beside its goal.
+# Texts are compared with those of psr_search. The files lie in memory (/dev/shm), 0.6 GB of it. Statuses: 0, though a
+# goal be missed; 1 where a text is another; 2 where a program is missing.
 set -u
 . "$(dirname "$0")/common.bash"
 rounds=${ROUNDS:-9}

@@ -1,10 +1,10 @@
 #!/usr/bin/env bash
 # The whole table of speed, as markdown rows: speed.sh [PSR_SEARCH [PSR_MAKE [BOOK_BENCH]]]
 # Searches of a large observation (1024 channels, 131072 spectra, 134 MB, delays of 0 to 1024) by one thread, by four
-# shards in four hands and in five, and by three shards in four hands; a search of 8 times as many spectra; their memory;
-# how fast candidates are written and observations are made. The files lie in TMPDIR, or in memory (/dev/shm) where that
-# is not set: a slow disk changes the figures. Each figure is the best of ROUNDS rounds (9), in which all programs take
-# turns. A program that is not given is proved and built first, for AVX2 where there is that.
+# shards in four hands and in five, and by three shards in four hands; a search of 8 times as many spectra; their
+# memory; how fast candidates are written and observations are made. The files lie in TMPDIR, or in memory (/dev/shm)
+# where that is not set: a slow disk changes the figures. Each figure is the best of ROUNDS rounds (9), in which all
+# programs take turns. A program that is not given is proved and built first, for AVX2 where there is that.
 # PEERS=DIR is a folder of C programs that do the same searches, with a build.sh that builds peer_fdmt.v3 and
 # bandwidth.v3 into a folder: they run in the same rounds, ratios are to one thread of peer_fdmt.v3, each output is
 # compared with its output, and what the machine can do is told first. Without it our own figures stand alone.

@@ -1,8 +1,8 @@
 #!/usr/bin/env bash
-# Tries make install, uninstall, check and deb: install.sh, on a copy of the repository in which small programs of C stand
-# for the proved ones, and `rt` does nothing. What is installed must be complete and name its place; nothing may be left
-# after uninstall; programs that were built by other means are refused; and lintian finds no error in the package.
-# Statuses: 0; 1 if something is not as it should be; 2 if a tool is missing.
+# Tries make install, uninstall, check and deb: install.sh, on a copy of the repository in which small programs of C
+# stand for the proved ones, and `rt` does nothing. What is installed must be complete and name its place; nothing may
+# be left after uninstall; programs that were built by other means are refused; and lintian finds no error in the
+# package. Statuses: 0; 1 if something is not as it should be; 2 if a tool is missing.
 set -u
 . "$(dirname "$0")/../bench/common.bash"
 for tool in make cc git man lintian dpkg-deb; do
@@ -19,9 +19,9 @@ cat >tools/rt <<'EOF'
 case $1 in
     version) echo 'rt of a test' ;;
     run)
-        program=$(basename "$PWD")
-        mkdir -p out && printf 'int main(int n, char **v) { (void)v; return n > 1 ? %d : 0; }\n' "$(cat status 2>/dev/null || echo 0)" |
-            cc -O2 -x c -o "out/$program" - && exit "$(cat status 2>/dev/null || echo 0)"
+        status=$(cat status 2>/dev/null || echo 0)
+        mkdir -p out && printf 'int main(int n, char **v) { (void)v; return n > 1 ? %d : 0; }\n' "$status" |
+            cc -O2 -x c -o "out/$(basename "$PWD")" - && exit "$status"
         ;;
 esac
 EOF
@@ -93,8 +93,8 @@ for kind in '' x86-64-v3; do
     dpkg-deb -x "$deb" "$folder/$package"
     same "links of $package that are broken" "$(find "$folder/$package" -xtype l)" ''
     same "folders of documents of $package" "$(ls "$folder/$package/usr/share/doc")" "$package"
-    same "place that the pages of $package name" \
-        "$(zcat "$folder/$package"/usr/share/man/man1/psr_search.1.gz | tr -d '\134' | grep -o '/usr/[a-z/]*doc/[a-z0-9-]*')" \
+    page=$(zcat "$folder/$package"/usr/share/man/man1/psr_search.1.gz | tr -d '\134')
+    same "place that the pages of $package name" "$(grep -o '/usr/[a-z/]*doc/[a-z0-9-]*' <<<"$page")" \
         "/usr/share/doc/$package"
 done
 [ "$failed" = 0 ] && echo 'what make installs and packages is complete, and goes again'

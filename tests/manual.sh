@@ -1,9 +1,9 @@
 #!/usr/bin/env bash
 # Runs the documents: manual.sh [BINDIR] [DOCUMENT ..], with the programs in BINDIR or those that were last built here.
 # Each line of a document (README.md and docs/) that begins with `$` in a code block is run, and what follows it is
-# compared with what it prints. A command goes on over the next line as long as it isn't complete. A line `..` stands for
-# any lines. Each document has a fresh folder, and each command must end with status 0. Commands of the companions run if
-# numpy and matplotlib are there; if not, a line tells how many were left out.
+# compared with what it prints. A command goes on over the next line as long as it isn't complete. A line `..` stands
+# for any lines. Each document has a fresh folder, and each command must end with status 0. Commands of the companions
+# run if numpy and matplotlib are there; if not, a line tells how many were left out.
 # Statuses: 0; 1 if something differs; 2 if a program is missing.
 set -u
 . "$(dirname "$0")/../bench/common.bash"
@@ -15,7 +15,8 @@ make_folder
 mkdir "$folder/bin"
 for program in "${programs[@]}"; do ln -s "${at[$program]}" "$folder/bin/$program"; done
 # a program that is proved stands in place of the companion of its name
-companions=$(cd "$root/companions" && printf '%s\n' psr_* | grep -vxFf <(printf '%s\n' "${programs[@]}") | paste -sd '|')
+companions=$(cd "$root/companions" && printf '%s\n' psr_* | grep -vxFf <(printf '%s\n' "${programs[@]}") |
+    paste -sd '|')
 beside=
 if /usr/bin/python3 -c 'import numpy, matplotlib' 2>/dev/null; then beside=$root/companions:$root/cluster:; fi
 export PATH=$folder/bin:$beside$PATH LC_ALL=C.UTF-8 TZ=UTC

@@ -10,7 +10,8 @@ set -u
     { echo 'pages: not tried; they need numpy and matplotlib' >&2; exit 0; }
 make_folder
 mkdir "$folder/man"
-/usr/bin/python3 -B "$root/man/pages" "$folder/man" && /usr/bin/python3 -B "$root/completions/make" "$folder/bash" || exit 1
+/usr/bin/python3 -B "$root/man/pages" "$folder/man" || exit 1
+/usr/bin/python3 -B "$root/completions/make" "$folder/bash" || exit 1
 
 diff -r -x '[!p]*' -x 'pages' "$root/man" "$folder/man" >&2 || { echo 'man/pages makes other pages' >&2; failed=1; }
 diff "$root/completions/malletbean.bash" "$folder/bash" >&2 ||

@@ -1,7 +1,7 @@
 #!/usr/bin/env bash
-# Lack of memory: refused.sh [BINDIR], with the programs in BINDIR or those that were last built here. A search of a small
-# observation by two shards, with folds, that records, has each of its allocations refused in turn. It has to end with
-# status 5 and `no memory`, and to write no output and no file; or to do without, as it does if no thread can be
+# Lack of memory: refused.sh [BINDIR], with the programs in BINDIR or those that were last built here. A search of a
+# small observation by two shards, with folds, that records, has each of its allocations refused in turn. It has to end
+# with status 5 and `no memory`, and to write no output and no file; or to do without, as it does if no thread can be
 # started, and to write all. Statuses: 0; 1 if it does anything else; 2 if a program is missing.
 set -u
 . "$(dirname "$0")/../bench/common.bash"
@@ -15,7 +15,8 @@ arguments=(--mean 16 --sd 2.828 --max-delay 32 --fold-min 60 --fold-max 68 --sha
 
 search() { # search N: its status if allocation N is refused; the file `mark` is there if there were N
     rm -f mark 2024-*
-    LD_PRELOAD=$folder/refused.so REFUSED=$1 REFUSED_MARK=$folder/mark "${at[psr_search]}" "${arguments[@]}" >text 2>line
+    LD_PRELOAD=$folder/refused.so REFUSED=$1 REFUSED_MARK=$folder/mark "${at[psr_search]}" "${arguments[@]}" \
+        >text 2>line
 }
 written() { # the output and the recorded files
     md5sum text 2024-* 2>/dev/null
@@ -41,5 +42,6 @@ while :; do
     fi
     n=$((n + 1))
 done
-echo "$((n - 1)) allocations, each refused in turn: $stopped times 5 with nothing written, $without times all was written"
+echo "$((n - 1)) allocations, each refused in turn: $stopped times 5 with nothing written, $without times all was" \
+    written
 [ "$((stopped + without))" = "$((n - 1))" ]
