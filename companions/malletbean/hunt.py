@@ -123,8 +123,8 @@ def first_plan(asked: argparse.Namespace, paths: Sequence[str], converter: str |
         samples = Samples(paths)
         look = looked_at(samples, mask_of(asked))
         return hunt_of(asked, paths, paths, look), look.head
-    head, look = planned_header(converter, paths)
-    return hunt_of(asked, paths, [CONVERTED], replace(look, head=head)), head
+    look = planned_header(converter, paths, mask_of(asked))
+    return hunt_of(asked, paths, [CONVERTED], look), look.head
 
 
 def mask_of(asked: argparse.Namespace) -> str | None:
