@@ -154,6 +154,18 @@ same 'parallel by time: status' $? 0
 whole_and_joined 'GNU parallel by time' 'time by parallel'
 echo "8 jobs of GNU parallel by time: $took"
 
+# Pieces of the time on the cores of this machine, without an engine.
+for pieces in 1 2 4 8; do
+    "$plan" "$pieces pieces" "$pieces" --spectra 131072 "${words[@]}" >said
+    timed xargs -d '\n' -P "$(nproc)" -I LINE bash -c LINE <"$pieces pieces/jobs"
+    same "$pieces pieces: status" $? 0
+    whole_and_joined "$pieces pieces" "$pieces pieces"
+    echo "$pieces pieces on $(nproc) processors: $took"
+done
+# A job reads its own piece alone: the last number before its command is how many bytes, but in the last job.
+bytes=$(sed '$d; s/ -- .*//' '8 pieces/jobs' | awk '{ sum += $NF } END { printf "%.0f", sum }')
+same '8 pieces: bytes that all but the last job read' "$bytes" $(((131072 / 8 * 7 + 7 + 6 * 1032) * 1024))
+
 # Two observations in one array, ranges that begin at multiples of an odd step from an odd delay, and two files.
 small=(--nchan 64 --spectra 8192 --delay 100 --period 512 --height 2)
 "$psr_make" "${small[@]}" --number 3 first.dada && "$psr_make" "${small[@]}" --number 4 second.dada &&

@@ -4,8 +4,8 @@
 Filterbanks of three receivers are made in FOLDER (a temporary one): noise in an uneven band that drifts, with bad
 channels, bursts of interference in all channels and in some, thirty pulses and two pulsars. Pulses follow the exact
 dispersion law, are swept within each channel, and last as long at each frequency. Their S/N is the greatest that any
-weighted sum of the good channels has. psr_hunt searches each file, and a pulse counts as found if a candidate has its
-DM and time. A candidate without a flag that is none of these is false. The programs are those on the PATH.
+weighted sum of the good channels has. psr_hunt searches each file, and a pulse counts as found if a candidate without a
+flag has its DM and time. A candidate without a flag that is none of these is false. The programs are those on the PATH.
 """
 from __future__ import annotations
 
@@ -199,6 +199,8 @@ class Score:
     """
 
     found: dict[int, tuple[int, int]]
+    # among them those that have a flag alone
+    flagged_pulses: int
     false: dict[float, int]
     flagged: int
     candidates: int
@@ -217,14 +219,15 @@ def hunted(receiver: Receiver, sky: Sky, path: str, folder: str, words: list[str
         sys.exit(f"psr_hunt ended with status {answer.returncode}")
     with open(os.path.join(folder, "candidates.csv"), encoding="utf-8", newline="") as file:
         rows = list(csv.DictReader(line for line in file if not line.startswith("#")))
-    are_found = [any(fits(receiver, pulse, row) for row in rows) for pulse in sky.pulses]
-    single = [(pulse, found) for pulse, found in zip(sky.pulses, are_found) if not pulse.is_pulsar]
-    false = [row for row in rows if not row["flag"] and not any(fits(receiver, pulse, row) for pulse in sky.pulses)]
+    clean, flagged = [row for row in rows if not row["flag"]], [row for row in rows if row["flag"]]
+    single = [(pulse, any(fits(receiver, pulse, row) for row in clean)) for pulse in sky.pulses if not pulse.is_pulsar]
+    false = [row for row in clean if not any(fits(receiver, pulse, row) for pulse in sky.pulses)]
     return Score(
         found={least: (sum(found for pulse, found in single if pulse.ratio >= least),
                        sum(pulse.ratio >= least for pulse, _ in single)) for least in (8, 10)},
         false={least: sum(float(row["snr"]) >= least for row in false) for least in (0.0, 8.0)},
-        flagged=sum(bool(row["flag"]) for row in rows), candidates=len(rows), seconds=seconds,
+        flagged_pulses=sum(any(fits(receiver, pulse, row) for row in flagged) for pulse, found in single if not found),
+        flagged=len(flagged), candidates=len(rows), seconds=seconds,
         megabytes=resource.getrusage(resource.RUSAGE_CHILDREN).ru_maxrss / 1000,
         missed=[pulse for pulse, found in single if not found and pulse.ratio >= 8])
 
@@ -248,8 +251,9 @@ def main() -> None:
     asked, words = parser.parse_known_args()
     with tempfile.TemporaryDirectory(prefix="hunt.") as made:
         folder = asked.folder or made
-        print("| Receiver | S/N 10 and more | 8 and more | false candidates an hour | of S/N 8 | flagged | time | memory |")
-        print("|---|---|---|---|---|---|---|---|")
+        print("| Receiver | S/N 10 and more | 8 and more | flagged alone | false candidates an hour | of S/N 8 | flagged |"
+              " time | memory |")
+        print("|---|---|---|---|---|---|---|---|---|")
         missed = []
         for number in asked.receivers:
             for seed in asked.seeds:
@@ -257,7 +261,8 @@ def main() -> None:
                 score = tried(receiver, folder, f"{number}-{seed}", np.random.default_rng([seed, number]), words)
                 hours = receiver.length / 3600
                 print(f"| {receiver.name}, {receiver.length:g} s | {score.found[10][0]} of {score.found[10][1]} | "
-                      f"{score.found[8][0]} of {score.found[8][1]} | {score.false[0.0] / hours:.0f} | "
+                      f"{score.found[8][0]} of {score.found[8][1]} | {score.flagged_pulses} | "
+                      f"{score.false[0.0] / hours:.0f} | "
                       f"{score.false[8.0] / hours:.0f} | {score.flagged} of {score.candidates} | {score.seconds:.0f} s | "
                       f"{score.megabytes:.0f} MB |", flush=True)
                 missed += [(receiver.name, pulse) for pulse in score.missed]

@@ -2,7 +2,7 @@
 from __future__ import annotations
 
 import sys
-from collections.abc import Iterator, Mapping, Sequence
+from collections.abc import Iterable, Iterator, Mapping, Sequence
 from dataclasses import dataclass, field
 from datetime import datetime, timedelta
 from fractions import Fraction
@@ -65,8 +65,8 @@ class Values(Protocol):
         ...
 
 
-def convert(program: str, output: str, observed: Observed, values: Values) -> int:
-    """Writes a DADA file, says what is worth knowing of it, and answers how many spectra it has."""
+def convert(program: str, output: str, observed: Observed, values: Values, said: Iterable[str] = ()) -> None:
+    """Writes a DADA file, and then says what is worth knowing of it."""
     joined = channels_to_join(output, observed.channels)
     scaler, count = None, 0
     head = header_bytes(output, observed, joined, 8 if joined > 1 else values.bits or 8)
@@ -79,12 +79,11 @@ def convert(program: str, output: str, observed: Observed, values: Values) -> in
             written = piece if scaler is None else scaler.of(with_joined(piece, joined))
             out.write(written.astype(f"<u{written.dtype.itemsize}", copy=False).tobytes())
             count += len(piece)
-    for line in notes(observed, joined) + ([] if scaler is None else scaler.said()):
+    for line in (*said, *notes(observed, joined), *([] if scaler is None else scaler.said())):
         print(f"{program}: {line}")
     for line in [] if scaler is None else scaler.warned():
         print(f"{program}: {line}", file=sys.stderr)
     print(f"{program}: {count} spectra of {observed.channels // joined} channels; psr_look {output} prints a first search")
-    return count
 
 
 def channels_to_join(path: str, channels: int) -> int:

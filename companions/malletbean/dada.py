@@ -52,9 +52,7 @@ def psr_dada(words: Sequence[str]) -> None:
     """Writes the DADA file that the words ask for."""
     asked = parsed(words)
     observation = Observation(asked)
-    for line in observation.said():
-        print(f"psr_dada: {line}")
-    convert("psr_dada", asked.output, observation.observed(), observation)
+    convert("psr_dada", asked.output, observation.observed(), observation, [observation.said()])
 
 
 def parsed(words: Sequence[str]) -> argparse.Namespace:
@@ -98,12 +96,13 @@ class Observation:
                         numbers["BW"] / 1e6, None, {"ORDER": USUAL_ORDER} if "ORDER" in self._fields else {},
                         self._text, self._size, form.in_one * form.bits)
 
-    def said(self) -> Iterator[str]:
+    def said(self) -> str:
         """How the files were taken."""
         form = self.form
         kind = "floats" if form.kind == "f" else "signed whole numbers" if self._sign == "i" else "whole numbers"
-        yield (f"{kind} of {form.bits} bits in the order {form.order}, {form.state.capitalize()}: {len(self._chosen)} of "
-               f"{form.polarisations * form.dimensions} values of a channel")
+        state = f", {form.state.capitalize()}" if form.state else ""
+        return (f"{kind} of {form.bits} bits in the order {form.order}{state}: {len(self._chosen)} of "
+                f"{form.polarisations * form.dimensions} values of a channel")
 
     def pieces(self) -> Iterator[Array]:
         """All values, file by file."""

@@ -87,9 +87,7 @@ def psr_fil(words: Sequence[str]) -> None:
         banks = Filterbanks(asked.files, source, asked.only, stack)
         for line in banks.bank.warnings:
             print(f"psr_fil: {line}", file=sys.stderr)
-        convert("psr_fil", asked.output, banks.observed(), banks)
-    for line in banks.notes:
-        print(f"psr_fil: {line}")
+        convert("psr_fil", asked.output, banks.observed(), banks, banks.notes)
 
 
 def parsed(words: Sequence[str]) -> argparse.Namespace:

@@ -219,9 +219,7 @@ def psr_fits(words: Sequence[str]) -> None:
     for rows in files:
         if rows.is_cut:
             print(f"psr_fits: {rows.path} was cut: only {len(rows)} of its rows are there", file=sys.stderr)
-    for line in observation.said():
-        print(f"psr_fits: {line}")
-    convert("psr_fits", asked.output, observation.observed(), observation)
+    convert("psr_fits", asked.output, observation.observed(), observation, observation.said())
 
 
 def parsed(words: Sequence[str]) -> argparse.Namespace:

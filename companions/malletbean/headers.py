@@ -9,6 +9,7 @@ from typing import BinaryIO
 
 import numpy as np
 
+from .arrays import Array
 from .masks import masked_channels
 from .number import scaled
 from .refusal import GAP, HEADER, READ, Refusal, opened, some_of
@@ -23,7 +24,7 @@ OTHER_FORMS = (
 )
 # the value of a line is its second word
 SECOND_WORD = re.compile(rb"\s*[^\s#]+\s+([^\s#]+)")
-UTC_FORM = re.compile(r"(\d{4}-\d\d-\d\d)-(\d\d:\d\d:\d\d)")
+UTC_FORM = re.compile(r"(\d{4}-\d\d-\d\d)-(\d\d:\d\d:\d\d)(\.\d{1,12})?")
 # each keyword with its decimals, and what it is where it is missing; they are judged in this order
 KEYWORDS: dict[str, tuple[int, int | None]] = {
     "NCHAN": (0, None),
@@ -75,17 +76,17 @@ class Header:
         return replace(self, masked=tuple(sorted(ordered.tolist())))
 
     @property
-    def kept(self) -> np.ndarray:
+    def kept(self) -> Array:
         """The channels that are not left out, counted from the highest frequency."""
         return np.setdiff1d(np.arange(self.channels), np.array(self.masked, int))
 
     @property
-    def are_masked(self) -> np.ndarray:
+    def are_masked(self) -> Array:
         """Which channels are left out, the highest first."""
         return np.isin(np.arange(self.channels), self.masked)
 
     @property
-    def masked_in_file(self) -> np.ndarray:
+    def masked_in_file(self) -> Array:
         """The channels that are left out, counted in the order of the file."""
         masked = np.array(self.masked, int)
         return masked if self.is_falling else self.channels - 1 - masked
@@ -132,14 +133,16 @@ class Header:
 
     @property
     def start(self) -> np.datetime64:
-        """The time of the file's first spectrum: PICOSECONDS after UTC_START begins the observation.
+        """The time of the file's first spectrum: PICOSECONDS after UTC_START begins the observation, unless UTC_START has
+        a fraction of its own.
 
         NaT where the header has no UTC_START of the usual form, or the time is none that numpy counts in nanoseconds.
         """
         match = UTC_FORM.fullmatch(self.fields.get("UTC_START", ""))
         if match is None:
             return np.datetime64("NaT", "ns")
-        picoseconds = scaled(self.fields.get("PICOSECONDS", "0"), 0) or 0
+        later = match[3].ljust(13, "0")[1:] if match[3] else self.fields.get("PICOSECONDS", "0")
+        picoseconds = scaled(later, 0) or 0
         nanoseconds = picoseconds // 1000 + self.offset * self.sample_ns // self.spectrum_bytes
         if not 1970 <= int(match[1][:4]) < 2200 or not 0 <= nanoseconds < 2**61:
             return np.datetime64("NaT", "ns")

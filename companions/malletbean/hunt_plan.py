@@ -10,19 +10,21 @@ from __future__ import annotations
 import math
 from collections.abc import Sequence
 from dataclasses import dataclass, replace
+from functools import lru_cache
 
 import numpy as np
 
 from .arrays import Array
-from .candidates import cells_by_delay, pulse_noise_cells
 from .headers import Header
-from .look import GREATEST_DELAY
 from .manifest import LevelFile, SearchPass
-from .paths import path_cells
+from .paths import GREATEST_DELAY, box_noise_cells, path_cells, shared_cells
 from .refusal import WORDS, Refusal
 
 # what psr_level --fast makes: the mean and deviation of a value, and its bits; and the most spectra that it averages
 LEVEL_MEAN, LEVEL_DEVIATION, LEVEL_BITS, MOST_AVERAGED = 14.0, 2.8, 8, 64
+# the greatest value of a level: five deviations above the mean, as 0 is below it. In a pulse of S/N 150 no sample of
+# 1024 channels is as great, but interference in some channels is
+LEVEL_MOST = 28
 # levels that are searched from the least DM on: each averages so many times as many spectra as the one before
 WIDE_STEP = 4
 # the widest box of them, and of the longer delays
@@ -35,8 +37,8 @@ LONG_DELAYS = 12
 DELAYS_OFF = 6
 # how many lines noise alone may give for a spectrum
 NOISE_LINES = 0.02
-# at how many delays of a pass the noise is judged
-JUDGED_DELAYS = 16
+# at how many delays the noise is judged
+JUDGED_DELAYS = 40
 # levelled stretches: so many seconds, but at least so many times as long as a pulse in a channel, and so many spectra
 LEVEL_SECONDS, TIMES_PULSE, LEAST_STRETCH, MOST_STRETCH = 0.5, 16, 128, 2**20
 # pulses that a zero-DM filter takes away sweep the band in less than so many of their widths
@@ -110,7 +112,7 @@ def ranges(head: Header, sought: Sought) -> list[Range]:
     """The passes of the plan, level by level."""
     native = head.delay(sought.dm_high)
     levels = averages(head, sought)
-    found = []
+    found = list[Range]()
     for average, first in levels:
         level, last = level_header(head, average), reach(head, average, native)
         wide = WIDE_BOX
@@ -119,9 +121,12 @@ def ranges(head: Header, sought: Sought) -> list[Range]:
         wide = min(wide, max(1, power_above(sought.widest / average)))
         narrow = min(wide, NARROW_BOX)
         near = near_delay(head, first, last)
-        for low, high, box in ((first, min(near, last), wide), (max(first, near + 1), last, narrow)):
-            if low <= high:
-                found.append(Range(average, low, high, quiet_box(level, low, high, box, sought.snr)))
+        mine = [Range(average, low, high, quiet_box(level, low, high, box, sought.snr))
+                for low, high, box in ((first, min(near, last), wide), (max(first, near + 1), last, narrow))
+                if low <= high]
+        if len({one.widths for one in mine}) == 1:
+            mine = [replace(mine[0], max_delay=mine[-1].max_delay)]
+        found += mine
     return found
 
 
@@ -139,15 +144,23 @@ def power_above(value: float) -> int:
 
 def overstatement(level: Header, delays: Array, width: int) -> Array:
     """By how many times the printed ratio of a box is greater than the true one, at each delay."""
-    lines = np.zeros(len(delays), [("delay", int), ("width", int)])
-    lines["delay"], lines["width"] = delays, width
-    ratios: Array = np.sqrt(pulse_noise_cells(lines, level) / (cells_by_delay(level, delays) * width))
-    return ratios
+    grid, ratios = overstatements(level.edges_khz, level.masked)
+    return np.interp(delays, grid, ratios[:, width.bit_length() - 1])
+
+
+@lru_cache(maxsize=4)
+def overstatements(edges_khz: tuple[int, ...], masked: tuple[int, ...]) -> tuple[Array, Array]:
+    """Delays over all that are searched, and by how many times printed ratios are too great there, by box."""
+    grid = np.unique(np.geomspace(1, GREATEST_DELAY, JUDGED_DELAYS).astype(int) - 1)
+    cells = np.delete(path_cells(edges_khz, grid), list(masked), axis=0)
+    boxes = [1 << place for place in range(WIDEST_BOX.bit_length())]
+    noise = np.array([[box_noise_cells(shared_cells(some), box) for box in boxes] for some in cells.T])
+    return grid, np.sqrt(noise / (cells.sum(axis=0)[:, None] * boxes))
 
 
 def noise_lines(level: Header, low: int, high: int, widths: int, snr: float) -> float:
     """How many lines noise alone gives for a spectrum, in boxes of up to some spectra."""
-    delays = np.unique(np.linspace(low, high, JUDGED_DELAYS).astype(int))
+    delays = np.linspace(low, high, JUDGED_DELAYS)
     boxes = [1 << place for place in range(widths.bit_length())]
     chances = [math.erfc(snr / ratio / math.sqrt(2)) / 2
                for box in boxes for ratio in overstatement(level, delays, box)]

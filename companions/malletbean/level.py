@@ -20,9 +20,10 @@ from .program import Words
 from .refusal import WORDS, Refusal
 from .stream import Stream
 
-# of the value that is carried on, so many bits are its fraction; they fill an unsigned number
-FRACTION_BITS = 16
-Fractions = np.uint16
+# gains, offsets and what is carried on are counted in units, of which a written value has so many
+UNIT = 2**20
+# the greatest gain
+MOST_GAIN = 2**40
 # how many values are worked on at a time: few enough for the caches
 VALUES_AT_A_TIME = 2**20
 # from so many cells on, a sum along time is faster spectrum by spectrum
@@ -36,6 +37,8 @@ STRETCHES = range(2, 2**20 + 1)
 MOST_AVERAGED = 64
 # values that lie farther off than so many deviations have no part in the moments
 REACH = 4
+# the greatest mean and deviation, in thousandths
+MOST_MEAN, MOST_DEVIATION = 65_535_000, 1_000_000
 # the most data bytes that are read, and the usual number
 MOST_BYTES, USUAL_BYTES = 2**48, 2**40
 
@@ -73,7 +76,7 @@ class Moments:
 
 @dataclass(frozen=True)
 class Scale:
-    """By which gain and which offset a value of each cell is levelled, in fractions of FRACTION_BITS."""
+    """By which gain and which offset a value of each cell is levelled, in units."""
 
     gains: Array
     offsets: Array
@@ -149,11 +152,10 @@ def level_of(asked: argparse.Namespace, head: Header) -> Level:
     values = {name: getattr(asked, name) for name in ("mean", "deviation", "most")}
     given = {name: value for name, value in values.items() if value is not None}
     level = Level(**{"bits": usual.bits, "mean": usual.mean, "deviation": usual.deviation, "most": usual.most} | given)
-    if not 1 <= level.most < 2**level.bits:
-        raise Refusal(WORDS, f"argument --most: it is not from 1 to {2**level.bits - 1}")
-    for name, value in (("--mean", level.mean), ("--deviation", level.deviation)):
-        if value > 1000 * level.most:
-            raise Refusal(WORDS, f"argument {name}: it is above the greatest value, {level.most}")
+    for name, value, most in (("--mean", level.mean, MOST_MEAN), ("--deviation", level.deviation, MOST_DEVIATION),
+                              ("--most", 1000 * level.most, 1000 * (2**level.bits - 1))):
+        if value > most:
+            raise Refusal(WORDS, f"argument {name}: it is above {most // 1000}")
     return level
 
 
@@ -223,7 +225,7 @@ class Leveller:
         is_kept = np.ones((head.channels, head.polarisations), bool)
         is_kept[head.masked_in_file] = False
         self._is_kept = is_kept.reshape(-1)
-        self._fractions = np.zeros(len(self._is_kept), Fractions)
+        self._carried = np.zeros(len(self._is_kept), np.uint32)
         self._scale: Scale | None = None
 
     def levelled(self, stretch: Array, is_whole: bool) -> Iterator[bytes]:
@@ -242,16 +244,17 @@ class Leveller:
 
     def _scaled(self, values: Array, scale: Scale) -> Array:
         """The values by gain and offset, with what the ones before them left over: whole parts, which aren't cut."""
-        raised = raised_by(values, scale)
-        carried = np.empty((len(values) + 1, values.shape[1]), Fractions)
-        carried[0] = self._fractions
+        units = units_of(values, scale)
+        carried = np.empty((len(values) + 1, values.shape[1]), np.uint32)
+        carried[0] = self._carried
         # the low bits of sums are those of the sums of low bits
-        carried[1:] = raised & Fractions(2**FRACTION_BITS - 1) if raised.dtype == object else raised
+        carried[1:] = units
         add_along_time(carried)
-        self._fractions = carried[-1].copy()
-        raised += carried[:-1]
-        raised >>= FRACTION_BITS
-        return raised
+        carried &= np.uint32(UNIT - 1)
+        self._carried = carried[-1].copy()
+        units += carried[:-1].view(np.int32)
+        units >>= UNIT.bit_length() - 1
+        return units
 
     def _above(self, values: Array) -> Array:
         """By how much the sum of each spectrum over all cells that are kept is above its mean, in thousandths."""
@@ -278,24 +281,22 @@ class Leveller:
         np.clip(values, 0, self._level.most, out=values)
 
 
-def raised_by(values: Array, scale: Scale) -> Array:
-    """Gain times value plus offset, of as many bits as it needs."""
-    bounds = [int(values.min()), int(values.max())]
-    most = max(abs(gain * bound + offset) for gain, offset in zip(scale.gains.tolist(), scale.offsets.tolist())
-               for bound in bounds)
-    kind = next(kind for kind, bits in ((np.int32, 31), (np.int64, 63), (object, math.inf))
-                if max(most, int(scale.gains.max())) + 2**FRACTION_BITS < 2**bits)
-    raised: Array = np.multiply(values, scale.gains.astype(kind), dtype=kind)
-    raised += scale.offsets.astype(kind)
-    return raised
+def units_of(values: Array, scale: Scale) -> Array:
+    """Gain times value plus offset, with 32 bits where they are enough, and else with 64."""
+    edges = [scale.gains * int(edge) + scale.offsets for edge in (values.min(), values.max())]
+    kind = np.int32 if max(int(np.abs(edge).max()) for edge in edges) + UNIT < 2**31 else np.int64
+    # sums that wrap around are right, since the whole fits
+    units: Array = np.multiply(values, scale.gains.astype(np.int64).astype(kind), dtype=kind)
+    units += scale.offsets.astype(np.int64).astype(kind)
+    return units
 
 
-def add_along_time(fractions: Array) -> None:
+def add_along_time(spectra: Array) -> None:
     """Each spectrum becomes the sum of those up to it."""
-    if fractions.shape[1] < CELLS_FOR_ROWS:
-        np.cumsum(fractions, axis=0, dtype=fractions.dtype, out=fractions)
+    if spectra.shape[1] < CELLS_FOR_ROWS:
+        np.cumsum(spectra, axis=0, dtype=spectra.dtype, out=spectra)
         return
-    for before, row in zip(fractions, fractions[1:]):
+    for before, row in zip(spectra, spectra[1:]):
         row += before
 
 
@@ -344,13 +345,11 @@ def pieces_of(stretch: Array) -> Iterator[Array]:
 
 def scale_of(moments: Moments, level: Level, is_kept: Array) -> Scale:
     """Gain and offset of each cell: in cells that never change and those that aren't kept the mean alone."""
-    one = 2**FRACTION_BITS
     counts, sums = moments.counts, moments.sums
     deviations = square_roots(moments.spreads)
-    is_level = (deviations > 0) & is_kept
-    gains = np.where(is_level, level.deviation * counts * one // (1000 * np.maximum(deviations, 1)), 0)
-    offsets = (level.mean * one * counts // 1000 - gains * sums) // counts
-    return Scale(gains, np.where(is_level, offsets, level.mean * one // 1000))
+    gains = np.minimum(level.deviation * counts * UNIT // (1000 * np.maximum(deviations, 1)), MOST_GAIN)
+    gains[(deviations == 0) | ~is_kept] = 0
+    return Scale(gains, (level.mean * counts * UNIT // 1000 - gains * sums) // counts)
 
 
 def square_roots(values: Array) -> Array:

@@ -9,6 +9,7 @@ from typing import IO, Any
 import numpy as np
 
 from .arrays import Array
+from .bands import are_narrow, with_flag
 from .candidates import check_fits
 from .grouping import DAY, DAY_ZERO, Searched, candidate_table
 from .headers import Header, header
@@ -30,6 +31,9 @@ def write_candidates(folder: str) -> Array:
     hunt = read_manifest(folder)
     searches = searches_of(folder, hunt)
     table = candidate_table(searches)
+    # lines of wide boxes have a greater ratio than their true S/N
+    table = table[table["snr"] >= hunt.snr]
+    table["flag"] = with_flag(table["flag"], are_narrow(folder, hunt, table), "narrow")
     finest = min(searches, key=lambda search: search.averaged).head
     for suffix, write in FORMS.items():
         with whole_file(os.path.join(folder, f"candidates{suffix}")) as name:
@@ -39,8 +43,8 @@ def write_candidates(folder: str) -> Array:
 
 
 def searches_of(folder: str, hunt: Hunt) -> list[Searched]:
-    """The lines of all searches of a hunt."""
-    return [searched(folder, hunt, search) for search in hunt.searches]
+    """The lines of all searches of a hunt. Those that fold have the pulses of others once more."""
+    return [searched(folder, hunt, search) for search in hunt.searches if not search.fold_max]
 
 
 def searched(folder: str, hunt: Hunt, search: SearchPass) -> Searched:

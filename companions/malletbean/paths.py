@@ -7,6 +7,9 @@ import numpy as np
 
 from .arrays import Array
 
+# the greatest delay that a search takes, in spectra
+GREATEST_DELAY = 8192
+
 
 def split(high: int, middle: int, low: int, delay: int) -> int:
     """Of a delay between two edges of the band, the part above a third, rounded to whole spectra, halves up."""

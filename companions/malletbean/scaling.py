@@ -6,8 +6,10 @@ from collections.abc import Sequence
 import numpy as np
 
 from .arrays import Array
+from .bad_channels import stand_out
 from .level import LEVELS
-from .masks import is_far, mask_text
+from .masks import mask_text
+from .noise import Piece, estimate
 
 MEAN, DEVIATION, MOST = LEVELS[8].mean // 1000, LEVELS[8].deviation // 1000, LEVELS[8].most
 # what has to fit between 0 and the greatest value: so many deviations below and above the median of each piece
@@ -75,7 +77,8 @@ class Scaler:
     def _fit(self, pieces: Sequence[Array]) -> None:
         """Gain and offset of each channel and polarisation, by the medians and deviations of pieces of values."""
         medians, deviations = (np.array(several) for several in zip(*map(noise_of, pieces)))
-        self._look_for_a_mask(pieces, medians, deviations)
+        if not self._has_mask:
+            self.mask, self._has_mask = mask_by(pieces, medians, deviations), True
         # what never changes in a piece tells nothing there
         changes = deviations > 0
         has_any = changes.any(axis=0)
@@ -89,17 +92,20 @@ class Scaler:
         self._gains = np.where(has_any, gains, self._gains)
         self._offsets = np.where(has_any, offsets, self._offsets)
 
-    def _look_for_a_mask(self, pieces: Sequence[Array], medians: Array, deviations: Array) -> None:
-        if not self._has_mask:
-            far = are_far(np.median(medians, axis=0), np.median(deviations, axis=0), sum(map(len, pieces)))
-            self.mask, self._has_mask = mask_text(np.flatnonzero(far)), True
 
-
-def are_far(means: Array, deviations: Array, spectra: int) -> Array:
-    """Which channels lie far off the others in any polarisation, by mean or by deviation."""
-    error = np.median(deviations) / np.sqrt(spectra)
-    far: Array = np.any([is_far(values, error) for values in (*means.T, *deviations.T)], axis=0)
-    return far
+def mask_by(pieces: Sequence[Array], medians: Array, deviations: Array) -> str:
+    """The mask of the channels that stand out in any polarisation of pieces with these medians and deviations."""
+    sums = []
+    for values, median, deviation in zip(pieces, medians, deviations):
+        # a few values that lie far off say nothing of a channel
+        known = np.where(np.isfinite(values), values, median).astype(np.float64)
+        near = np.clip(known, median - ABOVE * deviation, median + ABOVE * deviation)
+        sums.append(Piece(len(values), near.sum(axis=0), (near**2).sum(axis=0)))
+    standing_out = np.zeros(medians.shape[1], bool)
+    for polarisation in range(medians.shape[2]):
+        mine = [Piece(one.spectra, one.sums[:, polarisation], one.squares[:, polarisation]) for one in sums]
+        standing_out |= stand_out(estimate(mine, sum(one.spectra for one in mine)))
+    return mask_text(np.flatnonzero(standing_out))
 
 
 def noise_of(values: Array) -> tuple[Array, Array]:

@@ -5,8 +5,10 @@ import math
 from collections.abc import Iterator, Sequence
 from dataclasses import dataclass, field
 
-FRACTION_BITS = 16
-ONE = 2**FRACTION_BITS
+# gains, offsets and what is carried on are counted in units, of which a written value has so many
+UNIT = 2**20
+MOST_GAIN = 2**40
+# values farther off than so many deviations have no part in the moments
 REACH = 4
 
 
@@ -43,15 +45,13 @@ class Reference:
         within = [x for x in values if (n * x - s)**2 <= REACH**2 * spread]
         n, s, spread = moments(within or values)
         d = math.isqrt(spread)
-        if d == 0 or not is_kept:
-            return 0, self.mean * ONE // 1000
-        gain = self.deviation * n * ONE // (1000 * d)
-        return gain, (self.mean * ONE * n // 1000 - gain * s) // n
+        gain = min(self.deviation * n * UNIT // (1000 * d), MOST_GAIN) if d and is_kept else 0
+        return gain, (self.mean * n * UNIT // 1000 - gain * s) // n
 
     def levelled(self, spectrum: Sequence[int], scales: Sequence[tuple[int, int]]) -> Iterator[int]:
         """The values of a spectrum; what a cell's value leaves over is carried on to its next one."""
         for cell, (x, (gain, offset)) in enumerate(zip(spectrum, scales)):
-            whole, self.carried[cell] = divmod(gain * x + offset + self.carried[cell], ONE)
+            whole, self.carried[cell] = divmod(gain * x + offset + self.carried[cell], UNIT)
             yield self.cut(whole)
 
     def finished(self, values: list[int]) -> list[int]:

@@ -249,3 +249,11 @@ def test_files_that_follow_one_another(tmp_path: Path) -> None:
     with pytest.raises(Refusal, match="its bits differs from that of the first file"):
         psr_fil([parts[0], write(tmp_path / "wide.fil", b"", nbits=16), str(tmp_path / "other.dada")])
     assert not (tmp_path / "other.dada").exists()
+
+
+def test_coarse_floats(tmp_path: Path, capsys: pytest.CaptureFixture[str]) -> None:
+    """Values of a few steps have medians and deviations of a few steps, and no channel stands out for that."""
+    steps = np.random.default_rng(6).choice([-3.0, -1.0, 1.0, 3.0], (4000, 64), p=[0.16, 0.34, 0.34, 0.16])
+    written = turned(tmp_path / "a.fil", steps)
+    assert len(np.unique(written)) <= 4 * 64 and "mask to try: none\n" in capsys.readouterr().out
+    assert written.std(axis=0) == pytest.approx(8, rel=0.4)

@@ -51,6 +51,7 @@ CASES: dict[str, tuple[dict[str, object], list[str]]] = {
                  ["--mean", "20.333", "--deviation", "3.007", "--most", "99"]),
     "clipped": ({"clip": 1500}, ["--clip", "1.5"]),
     "zero dm": ({"zero_dm": True}, ["--zero-dm"]),
+    "steep": ({"mean": 65535000, "deviation": 1000000}, ["--mean", "65535", "--deviation", "1000"]),
     "both": ({"mean": 20333, "deviation": 9000, "most": 50, "clip": 2250, "zero_dm": True},
              ["--clip", "2.25", "--zero-dm", "--mean", "20.333", "--deviation", "9", "--most", "50"]),
 }
@@ -365,8 +366,9 @@ def test_data_that_stop_early(tmp_path: Path, second: tuple[str, str] | None, mo
 
 
 @pytest.mark.parametrize("words, status, line", [
-    (["--most", "256"], 2, "argument --most: it is not from 1 to 255"),
-    (["--fast", "--mean", "40.001"], 2, "argument --mean: it is above the greatest value, 40"),
+    (["--most", "256"], 2, "argument --most: it is above 255"),
+    (["--mean", "65535.001"], 2, "argument --mean: it is above 65535"),
+    (["--deviation", "1000.001"], 2, "argument --deviation: it is above 1000"),
     (["--clip", "-1"], 2, "argument --clip"),
     (["--mean", "1e3"], 2, "argument --mean: 1e3 is no number from 0 on"),
     (["--max-bytes", "281474976710657"], 2, "argument --max-bytes: it is above 281474976710656"),

@@ -8,14 +8,16 @@ from pathlib import Path
 import pytest
 
 from conftest import DATA, HERE
+from malletbean.dada import psr_dada
 from malletbean.fil import psr_fil
+from malletbean.fits import psr_fits
 from malletbean.level import psr_level
 from malletbean.look import psr_look
 from malletbean.plot import psr_plot
 from malletbean.program import run
 from malletbean.table import psr_table
 
-PROGRAMS = {one.__name__: one for one in (psr_fil, psr_level, psr_look, psr_plot, psr_table)}
+PROGRAMS = {one.__name__: one for one in (psr_dada, psr_fil, psr_fits, psr_level, psr_look, psr_plot, psr_table)}
 MADE, TWO = str(DATA / "made.txt"), str(DATA / "two.txt")
 
 
@@ -35,9 +37,15 @@ def test_the_commands(program: str) -> None:
     ("psr_look", ["FILE", "1e3"], 2, "1e3 is no dispersion measure"),
     ("psr_look", ["/nowhere/a.dada"], 6, "can't read /nowhere/a.dada"),
     ("psr_look", [MADE], 3, f"header of {MADE} refused: Short"),
-    ("psr_look", ["/dev/null"], 6, "can't read /dev/null: it is a pipe or a device, and has to be a file"),
+    ("psr_look", ["/dev/null"], 3, "header of /dev/null refused: Short 0"),
+    ("psr_look", ["/"], 6, "can't read /: Is a directory"),
     ("psr_fil", ["FILE", "OUT"], 3, "refused: it is no header of a SIGPROC filterbank"),
     ("psr_fil", ["/nowhere/a.fil", "OUT"], 6, "can't read /nowhere/a.fil"),
+    ("psr_fits", ["FILE", "OUT"], 3, "refused: it is no FITS file"),
+    ("psr_fits", ["/nowhere/a.fits", "OUT"], 6, "can't read /nowhere/a.fits"),
+    ("psr_dada", ["FILE"], 2, "the following arguments are required: OUT"),
+    ("psr_dada", ["FILE", MADE], 10, f"can't write {MADE}: it is there already"),
+    ("psr_dada", ["FILE", "OUT", "--pol", "1"], 2, "argument --pol: "),
     ("psr_level", [], 2, "the following arguments are required: FILE"),
     ("psr_level", ["FILE", "--spectra", "1"], 2, "argument --spectra: it is not from 2 to 1048576"),
     ("psr_level", ["FILE", "--average", "0"], 2, "argument --average: it is not from 1 to 64"),
