@@ -14,6 +14,7 @@ import time
 from collections.abc import Iterator, Sequence
 from contextlib import contextmanager, suppress
 from dataclasses import dataclass, replace
+from operator import attrgetter
 
 import numpy as np
 
@@ -21,9 +22,10 @@ from .cluster import program_at, scripts
 from .headers import Header
 from .hunt_folds import folds_planned
 from .hunt_input import (Look, companion, conversion, converted, converter_of, looked_at, planned_header)
+from .hunt_pieces import fewer_lines, search_tasks, searches_at
 from .hunt_plan import Sought, planned, power_above
 from .hunt_run import Cores, Engine, Failure, Progress, clear_unfinished, parallel, slurm
-from .hunt_tasks import Task, level_tasks, level_words, measured, raised_task, search_tasks, searches_at, with_noise
+from .hunt_tasks import Task, level_tasks, level_words, measured, with_noise
 from .hunt_text import plan_text, predicted_seconds, room_missing, summary_lines
 from .manifest import NAME, VERSION, Command, Hunt, LevelFile, Observation, Program, read_manifest, write_manifest
 from .number import scaled
@@ -265,17 +267,19 @@ class Running:
         return [task for search in self.hunt.searches if search.level == level.path and not self.is_joined(search.name)
                 for task in search_tasks(self.folder, self.hunt, search, self.head, self.cores)]
 
-    def again(self, task: Task) -> Task | None:
-        """A piece that had too many lines is searched with a higher threshold."""
+    def again(self, task: Task) -> list[Task]:
+        """A piece that had too many lines is searched in shorter ones, or with a higher threshold."""
         search = next((one for one in self.hunt.searches if task.plan == searches_at(self.folder, one)), None)
-        other = None if search is None else raised_task(self.folder, search, task)
-        if search is None or other is None:
-            return None
-        raised = replace(search, raised=(*(one for one in search.raised if one.first != other[1].first), other[1]))
-        self.hunt = replace(self.hunt, searches=tuple(raised if one.name == search.name else one
-                                                      for one in self.hunt.searches))
-        write_manifest(self.folder, self.hunt)
-        return other[0]
+        fewer = None if search is None else fewer_lines(self.folder, self.hunt, search, task)
+        if search is None or fewer is None:
+            return []
+        if fewer.raised is not None:
+            others = [one for one in search.raised if one.first != fewer.raised.first]
+            raised = replace(search, raised=tuple(sorted([*others, fewer.raised], key=attrgetter("first"))))
+            self.hunt = replace(self.hunt, searches=tuple(raised if one.name == search.name else one
+                                                          for one in self.hunt.searches))
+            write_manifest(self.folder, self.hunt)
+        return fewer.tasks
 
     def note(self, task: Task, seconds: float, status: int) -> None:
         """A job was run."""

@@ -13,7 +13,7 @@ from contextlib import suppress
 from dataclasses import dataclass, field
 from typing import Any, Protocol
 
-from tqdm import tqdm
+from tqdm import tqdm  # type: ignore[import]
 
 from .cluster import scripts
 from .hunt_tasks import Task
@@ -41,8 +41,8 @@ class Flow(Protocol):
     def done(self, task: Task, seconds: float) -> Sequence[Task]:
         """The jobs that can begin since this one is done."""
 
-    def again(self, task: Task) -> Task | None:
-        """The job that is run in place of one that failed, if there is one."""
+    def again(self, task: Task) -> Sequence[Task]:
+        """The jobs that are run in place of one that failed, if there are any."""
 
 
 class Progress:
@@ -100,8 +100,8 @@ class Cores:
                     if task.is_done:
                         later = longest_last([*later, *flow.done(task, time.monotonic() - begun)])
                         progress.add(task)
-                    elif other := flow.again(task):
-                        later.append(other)
+                    elif others := flow.again(task):
+                        later = longest_last([*later, *others])
                     else:
                         failures.append(Failure(task, f"status {process.returncode}: {task.fault}"))
                 now = time.monotonic()
@@ -138,8 +138,8 @@ class Cluster:
             for task in waiting:
                 if task.is_done:
                     following += flow.done(task, time.monotonic() - begun if task in left else 0.0)
-                elif other := flow.again(task):
-                    following.append(other)
+                elif others := flow.again(task):
+                    following += others
                 else:
                     failures.append(Failure(task, task.fault + said))
             waiting = following

@@ -9,14 +9,14 @@ from collections.abc import Sequence
 import numpy as np
 
 from .headers import Header
-from .hunt_cost import (disk_bytes, free_disk, free_memory, level_seconds, memory_bytes, search_seconds)
+from .hunt_cost import disk_bytes, free_disk, free_memory, level_seconds, memory_bytes
 from .hunt_input import masked_megahertz
 from .hunt_plan import level_header, noise_lines, overstatement
-from .hunt_tasks import fold_seconds
+from .hunt_pieces import seconds_of
 from .manifest import Hunt, SearchPass
 from .masks import masked_channels
 
-# how many ranges of frequencies, and how many raised thresholds, are named
+# how many ranges of frequencies are named
 MOST_NAMED = 8
 
 
@@ -70,7 +70,7 @@ def pass_line(head: Header, search: SearchPass) -> str:
     lines = noise_count(level, search)
     return (f"{search.name:<9} {f'{search.min_delay}-{search.max_delay}':<12} "
             f"{f'{search.dm_low:.1f} to {search.dm_high:.1f}':<19} {f'1-{search.widths}':<6} {search.snr:>5.2f}  "
-            f"{f'1.00 to {most:.2f}':<15}  {lines:>14.0f}  {search_seconds(head, search, search.spectra):>6.1f}")
+            f"{f'1.00 to {most:.2f}':<15}  {lines:>14.0f}  {seconds_of(search, head):>6.1f}")
 
 
 def noise_count(level: Header, search: SearchPass) -> float:
@@ -88,15 +88,13 @@ def fold_lines(hunt: Hunt, head: Header, not_folded: Sequence[str]) -> list[str]
         seconds = level_header(head, one.average).seconds
         periods = f"{one.fold_min * seconds:.5g} to {one.fold_max * seconds:.5g}"
         lines.append(f"{one.name:<9} {periods:<19} {2**one.fold_rows:<6} "
-                     f"{f'{one.dm_low:.1f} to {one.dm_high:.1f}':<19} {one.snr:>5.2f}  {fold_seconds(one, head):>6.1f}")
+                     f"{f'{one.dm_low:.1f} to {one.dm_high:.1f}':<19} {one.snr:>5.2f}  {seconds_of(one, head):>6.1f}")
     return [*lines, *(f"not folded: {one}" for one in not_folded)]
 
 
 def predicted_seconds(hunt: Hunt, head: Header) -> float:
     """Seconds of a core for all jobs."""
-    searches = sum(fold_seconds(one, head) if one.fold_max else search_seconds(head, one, one.spectra)
-                   for one in hunt.searches)
-    return searches + level_seconds(head) * len(hunt.levels)
+    return sum(seconds_of(one, head) for one in hunt.searches) + level_seconds(head) * len(hunt.levels)
 
 
 def cost_lines(hunt: Hunt, head: Header, cores: int, converted: bool) -> list[str]:
@@ -171,10 +169,10 @@ def cut_line(hunt: Hunt) -> str:
     """What the hunt left out."""
     left = [f"spectra farther than {hunt.clip:g} deviations off"] if hunt.clip is not None else []
     for search in hunt.searches:
-        left += [f"{search.name}: spectra {one.first} to {one.until} had too many lines, and were searched from S/N "
-                 f"{one.snr:g} on" for one in search.raised]
-    if len(left) > MOST_NAMED:
-        left = [*left[:MOST_NAMED], f"and {len(left) - MOST_NAMED} more"]
+        if search.raised:
+            seconds = sum(one.until - one.first for one in search.raised) * search.average * hunt.observation.tsamp
+            least, most = min(one.snr for one in search.raised), max(one.snr for one in search.raised)
+            left.append(f"{search.name}: {seconds:.1f} s had too many lines: searched from S/N {least:g} to {most:g} on")
     return "; ".join(left) or "nothing"
 
 

@@ -14,10 +14,10 @@ import pytest
 
 import made
 from conftest import HERE
-from malletbean import hunt_tasks, hunt_text
+from malletbean import hunt_pieces, hunt_text
 from malletbean.cluster import scripts
 from malletbean.hunt import FAILED, psr_hunt
-from malletbean.manifest import read_manifest
+from malletbean.manifest import SearchPass, read_manifest
 from malletbean.program import run
 
 PROGRAMS = ("psr_search", "psr_part")
@@ -43,7 +43,7 @@ def observation(tmp_path_factory: pytest.TempPathFactory) -> str:
 def programs(tmp_path: Path, monkeypatch: pytest.MonkeyPatch) -> None:
     """psr_level on the PATH, and three pieces of each pass."""
     monkeypatch.setenv("PATH", f"{os.environ['PATH']}:{HERE.parent}")
-    monkeypatch.setattr(hunt_tasks, "piece_count", lambda *_: 3)
+    monkeypatch.setattr(hunt_pieces, "piece_count", lambda *_: 3)
 
 
 def hunted(monkeypatch: pytest.MonkeyPatch, *words: str) -> int:
@@ -65,6 +65,14 @@ def texts(folder: Path) -> dict[str, bytes]:
     return {path.name: path.read_bytes() for path in folder.glob("*.text")}
 
 
+def one_search(folder: Path, search: SearchPass) -> bytes:
+    """The output of one search of the whole level of a pass."""
+    words = [f"--mean={search.mean:.3f}", f"--sd={search.sd:.3f}", f"--snr={search.snr:.2f}",
+             f"--min-delay={search.min_delay}", f"--max-delay={search.max_delay}", f"--widths={search.widths}",
+             "--max-candidates=1048576", str(folder / search.level)]
+    return subprocess.run(["psr_search", *words], capture_output=True, check=True).stdout
+
+
 @needs_search
 def test_a_hunt(observation: str, tmp_path: Path, monkeypatch: pytest.MonkeyPatch,
                 capsys: pytest.CaptureFixture[str]) -> None:
@@ -82,11 +90,7 @@ def test_a_hunt(observation: str, tmp_path: Path, monkeypatch: pytest.MonkeyPatc
         assert level.mean is not None and abs(level.mean - 14) < 0.1
         parts = (folder / "searches" / search.name / "parts").read_text().split()
         assert len(parts) == 3
-        whole = subprocess.run(
-            ["psr_search", f"--mean={search.mean:.3f}", f"--sd={search.sd:.3f}", f"--snr={search.snr:.2f}",
-             f"--min-delay={search.min_delay}", f"--max-delay={search.max_delay}", f"--widths={search.widths}",
-             "--max-candidates=1048576", str(folder / search.level)], capture_output=True, check=True).stdout
-        assert (folder / search.output).read_bytes() == whole
+        assert (folder / search.output).read_bytes() == one_search(folder, search)
     assert sum(text.count(b"PULSE") for text in texts(folder).values()) > 50
     # the same words again say the same, and do nothing
     before = {path: path.stat().st_mtime_ns for path in folder.rglob("*")}
@@ -135,11 +139,20 @@ def test_a_job_that_fails(observation: str, tmp_path: Path, monkeypatch: pytest.
 def test_too_many_lines(observation: str, tmp_path: Path, monkeypatch: pytest.MonkeyPatch,
                         capsys: pytest.CaptureFixture[str]) -> None:
     folder = tmp_path / "hunt"
-    monkeypatch.setattr(hunt_tasks, "MOST_LINES", 40)
-    assert hunted(monkeypatch, observation, "--dm", "0", "20", "-o", str(folder)) == 0
-    raised = [one for search in read_manifest(str(folder)).searches for one in search.raised]
+    monkeypatch.setattr(hunt_pieces, "most_lines", lambda _: 60)
+    assert hunted(monkeypatch, observation, "--dm", "0", "20", "-o", str(folder), "--keep") == 0
+    searches = read_manifest(str(folder)).searches
+    raised = [one for search in searches for one in search.raised]
     assert raised and all(one.snr > 6.5 and one.first < one.until for one in raised)
-    assert "had too many lines, and were searched from S/N" in capsys.readouterr().out
+    pieces = {one.name: len((folder / "searches" / one.name / "parts").read_text().split()) for one in searches}
+    assert max(pieces.values()) > 3
+    for search in searches:
+        whole, found = one_search(folder, search).splitlines(), (folder / search.output).read_bytes().splitlines()
+        assert set(found[:-1]) <= set(whole)
+        # what is missing lies where the threshold was raised
+        ends = [int(line.split()[1]) for line in set(whole[:-1]) - set(found[:-1])]
+        assert all(any(one.first <= end < one.until for one in search.raised) for end in ends)
+    assert "had too many lines: searched from S/N " in capsys.readouterr().out
     # the lists of jobs say how it was searched
     jobs = "".join(path.read_text() for path in folder.glob("searches/*/jobs"))
     assert f"--snr={raised[0].snr:.2f}" in jobs
